@@ -1,0 +1,30 @@
+use Rattle.std.proofs.Common.{◌≡◌, ℕ, ◌+◌, ◌*◌, ◌<◌, ◌∙◌, arith, ℤ, pos, ◌+ℤ◌, ◌*ℤ◌, to_z, of_z, to_z-of_z, FitsSigned, w32, w64, refl, rules}
+use Rattle.std.proofs.lemmas.Int.{to_z_pos}
+use Rattle.jiff.proofs.SpanFacts.{signed_arith}
+use Rattle.jiff.specs.Words.{IsEpochDay}
+use Rattle.bson_datetime.proofs.builder.DateTimeBuilder+Year+Month+Day.build.Goals as goal
+
+-- no step of the sum wraps
+exact : (day : ℤ) (time : ℕ) → IsEpochDay day → time < 86_400_000
+    → to_z w64 (of_z w64 (to_z w64 (of_z w64 (to_z w64 (of_z w64 day) *ℤ pos 86_400_000)) +ℤ to_z w64 time)) ≡ day *ℤ pos 86_400_000 +ℤ pos time
+exact day time dr tr =
+    let fd : FitsSigned w64 day = omega (arith, signed_arith) in
+    let f1 : FitsSigned w64 (day *ℤ pos 86_400_000) = omega (arith, signed_arith) in
+    let et : to_z w64 time ≡ pos time = to_z_pos w64 time (omega arith) in
+    let f2 : FitsSigned w64 (day *ℤ pos 86_400_000 +ℤ pos time) = omega (arith, signed_arith) in
+    rw (to_z-of_z fd, to_z-of_z f1, et, to_z-of_z f2) refl
+
+pub returns-clause-succeeds : goal.returns-clause-succeeds
+returns-clause-succeeds c =
+    let fy : FitsSigned w32 c.args.self.year.value = search rules in
+    let date = rw (to_z-of_z fy) at (c.in_ok-day.ensures.succeeds.0 refl) in
+    (λ ok. (date, omega arith, omega arith, omega arith, omega arith), λ built. refl)
+
+pub returns-clause-value : goal.returns-clause-value
+returns-clause-value c =
+    let fy : FitsSigned w32 c.args.self.year.value = search rules in
+    let day = rw (to_z-of_z fy) at c.in_ok-day.ensures.value in
+    let hour = c.unwrap_or-hour.ensures in
+    let time = (c.unwrap_or-hour.result * 3600 + c.unwrap_or-minute.result * 60 + c.unwrap_or-second.result) * 1000 + c.unwrap_or-millisecond.result in
+    let sum = exact c.in_ok-day.day time c.in_ok-day.ensures.bound (omega arith) in
+    rw (← day, ← c.unwrap_or-hour.ensures, ← c.unwrap_or-minute.ensures, ← c.unwrap_or-second.ensures, ← c.unwrap_or-millisecond.ensures) (c.from_millis.ensures ∙ sum)

@@ -1,0 +1,23 @@
+use Rattle.std.proofs.Common.{arith, inl, pos, ◌<ℤ◌, ◌≤ℤ◌, sym, ◌∙◌}
+use Rattle.jiff.proofs.SpanFacts.{signed_arith}
+use Rattle.jiff.proofs.Family.{civil_nanos_range}
+use Rattle.bson_datetime.proofs.ShownLemmas.{rfc-moment}
+use Rattle.bson_datetime.proofs.MomentLemmas.{moment-negative, moment-natural}
+use Rattle.bson_datetime.proofs.datetime.DateTime.try_to_rfc3339_string.Goals as goal
+
+pub returns-then-year-lt0-clause-err : goal.returns-then-year-lt0-clause-err
+returns-then-year-lt0-clause-err c =
+    let low : c.in-Some.at.date.year <ℤ pos 0 = omega (arith, signed_arith) in
+    let below = moment-negative c.args.self c.in-Some.at c.in-Some.ensures.value low in
+    inl (tt, λ h. omega (arith, signed_arith, h.0))
+
+pub returns-in-Ok-clause-ok : goal.returns-in-Ok-clause-ok
+returns-in-Ok-clause-ok c = c.in-Ok.ensures.ok ∙ sym (rfc-moment c.args.self c.in-Some.at c.in-Some.ensures.value)
+
+pub returns-in-Ok-clause-in_years : goal.returns-in-Ok-clause-in_years
+returns-in-Ok-clause-in_years c =
+    let high : pos 0 ≤ℤ c.in-Some.at.date.year = omega (arith, signed_arith) in
+    let is = c.in-Some.ensures.value in
+    let above = moment-natural c.args.self c.in-Some.at is high in
+    let range = civil_nanos_range c.in-Some.at in
+    (above, omega (arith, signed_arith))

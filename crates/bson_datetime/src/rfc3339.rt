@@ -1,0 +1,210 @@
+//! Reads RFC 3339 texts. Each function takes the front of a text, and gives the value and the rest.
+ghost use Rattle.std.specs.Prelude.{◌≡◌, ◌<◌, ◌≤◌, ℕ, pos, length, slice_index, IfSome, option_map, int_div, ◌^◌};
+ghost use Rattle.std.specs.Char.{IsAsciiDigit, is_ascii_digit};
+ghost use Rattle.std.specs.List.{prefix_len};
+ghost use Rattle.jiff.specs.Words.{IsEpochDay, IsWithin, IsBetween};
+ghost use Rattle.bson_datetime.specs.Rfc3339 as spec;
+
+use jiff::civil::Date;
+
+#[tactic(auto, unfolding(crate::specs::Rfc3339::two_digits))]
+fn two_digits(s: &[u8]) -> Option<(u8, &[u8])>
+    ensures value { spec.read_view result ≡ spec.two_digits s.now }
+    ensures bound { IfSome result (λ p. p.0 < 100) }
+{
+    match s {
+        [high @ b'0'..=b'9', low @ b'0'..=b'9', rest @ ..] => {
+            Some(((*high - b'0') * 10 + (*low - b'0'), rest))
+        }
+        _ => None,
+    }
+}
+
+#[tactic(auto, unfolding(crate::specs::Rfc3339::four_digits))]
+fn four_digits(s: &[u8]) -> Option<(u16, &[u8])>
+    ensures value { spec.read_view result ≡ spec.four_digits s.now }
+    ensures bound { IfSome result (λ p. p.0 < 10_000) }
+{
+    let (century, s) = two_digits(s)?;
+    let (year, s) = two_digits(s)?;
+    Some((century as u16 * 100 + year as u16, s))
+}
+
+#[tactic(auto, unfolding(crate::specs::Rfc3339::digits_below))]
+fn digits_below(s: &[u8], bound: u8) -> Option<(u8, &[u8])>
+    ensures value { spec.read_view result ≡ spec.digits_below bound s.now }
+    ensures bound { IfSome result (λ p. p.0 < bound) }
+{
+    let (n, s) = two_digits(s)?;
+    if n >= bound {
+        return None;
+    }
+    Some((n, s))
+}
+
+#[tactic(auto, unfolding(crate::specs::Rfc3339::after))]
+fn after(s: &[u8], byte: u8) -> Option<&[u8]>
+    ensures { spec.rest_view result ≡ spec.after byte s.now }
+{
+    match s {
+        [first, rest @ ..] if *first == byte => Some(rest),
+        _ => None,
+    }
+}
+
+#[tactic(auto, unfolding(crate::specs::Rfc3339::after_letter))]
+fn after_letter(s: &[u8], upper: u8) -> Option<&[u8]>
+    requires { upper < 128 }
+    ensures { spec.rest_view result ≡ spec.after_letter upper s.now }
+{
+    match s {
+        [first, rest @ ..] if *first == upper || *first == upper + 32 => Some(rest),
+        _ => None,
+    }
+}
+
+#[tactic(auto, unfolding(crate::specs::Rfc3339::day_number))]
+fn day_number(year: u16, month: u8, day: u8) -> Option<i64>
+    requires year { year < 10_000 }
+    requires month { month < 100 }
+    requires day { day < 100 }
+    ensures value { result ≡ spec.day_number year month day }
+    ensures bound { IfSome result IsEpochDay }
+{
+    match Date::new(year as i16, month as i8, day as i8) {
+        Ok(date) => Some(date.to_plain().to_unix_epoch_day() as i64),
+        Err(_) => None,
+    }
+}
+
+#[tactic(auto, unfolding(crate::specs::Rfc3339::date_part))]
+fn date_part(s: &[u8]) -> Option<(i64, &[u8])>
+    ensures value { spec.read_view result ≡ spec.date_part s.now }
+    ensures bound { IfSome result (λ p. IsEpochDay p.0) }
+{
+    let (year, s) = four_digits(s)?;
+    let s = after(s, b'-')?;
+    let (month, s) = two_digits(s)?;
+    let s = after(s, b'-')?;
+    let (day, s) = two_digits(s)?;
+    let number = day_number(year, month, day)?;
+    Some((number, s))
+}
+
+#[tactic(auto, unfolding(crate::specs::Rfc3339::time_part))]
+fn time_part(s: &[u8]) -> Option<(u32, &[u8])>
+    ensures value { spec.read_view result ≡ spec.time_part s.now }
+    ensures bound { IfSome result (λ p. p.0 < 86_400) }
+{
+    let (hour, s) = digits_below(s, 24)?;
+    let s = after(s, b':')?;
+    let (minute, s) = digits_below(s, 60)?;
+    let s = after(s, b':')?;
+    let (second, s) = digits_below(s, 60)?;
+    Some((hour as u32 * 3600 + minute as u32 * 60 + second as u32, s))
+}
+
+// What digits are worth as the first nine places of a fraction.
+fn nanoseconds(digits: &[u8]) -> u32
+    requires { (k : ℕ) → k < length digits.now → IsAsciiDigit (slice_index digits.now k) }
+    ensures value { result ≡ spec.fraction_value 9 digits.now }
+    ensures bound { result < 1_000_000_000 }
+{
+    let mut nanosecond = 0;
+    let mut place = 1_000_000_000;
+    let counted = &digits[..digits.len().min(9)];
+    'digits: for digit in counted {
+        place /= 10;
+        nanosecond += (digit - b'0') as u32 * place;
+    }
+    nanosecond
+}
+
+fn digits_len(s: &[u8]) -> usize
+    ensures len { result ≡ prefix_len is_ascii_digit s.now }
+    ensures within { result ≤ length s.now }
+    ensures digits { (k : ℕ) → k < result → IsAsciiDigit (slice_index s.now k) }
+{
+    s.iter().take_while(|b| b.is_ascii_digit()).count()
+}
+
+#[tactic(auto, unfolding(crate::specs::Rfc3339::fraction_part))]
+fn fraction_part(s: &[u8]) -> Option<(u32, &[u8])>
+    ensures value { spec.read_view result ≡ spec.fraction_part s.now }
+    ensures bound { IfSome result (λ p. p.0 < 1_000_000_000) }
+{
+    match s {
+        [b'.', rest @ ..] => {
+            let len = digits_len(rest);
+            if len == 0 {
+                return None;
+            }
+            let (digits, rest) = rest.split_at(len);
+            Some((nanoseconds(digits), rest))
+        }
+        _ => Some((0, s)),
+    }
+}
+
+#[tactic(auto, unfolding(crate::specs::Rfc3339::hours_minutes))]
+fn hours_minutes(s: &[u8]) -> Option<(i32, &[u8])>
+    ensures value { spec.read_view result ≡ option_map (λ n. (pos n.0, n.1)) (spec.hours_minutes s.now) }
+    ensures bound { IfSome result (λ p. IsBetween (pos 0) (pos 86_399) p.0) }
+{
+    let (hour, s) = digits_below(s, 24)?;
+    let s = after(s, b':')?;
+    let (minute, s) = digits_below(s, 60)?;
+    Some((hour as i32 * 3600 + minute as i32 * 60, s))
+}
+
+#[tactic(auto, unfolding(crate::specs::Rfc3339::offset_part))]
+fn offset_part(s: &[u8]) -> Option<(i32, &[u8])>
+    ensures value { spec.read_view result ≡ spec.offset_part s.now }
+    ensures bound { IfSome result (λ p. IsWithin 86_399 p.0) }
+{
+    match s {
+        [b'Z' | b'z', rest @ ..] => Some((0, rest)),
+        [b'+', rest @ ..] => hours_minutes(rest),
+        [b'-', rest @ ..] => {
+            let (seconds, rest) = hours_minutes(rest)?;
+            Some((-seconds, rest))
+        }
+        _ => None,
+    }
+}
+
+fn nanos_of(day: i64, seconds: u32, nanos: u32, offset: i32) -> i128
+    requires day { IsEpochDay day }
+    requires seconds { seconds < 86_400 }
+    requires nanos { nanos < 1_000_000_000 }
+    requires offset { IsWithin 86_399 offset }
+    ensures value { result ≡ spec.nanos_of day seconds nanos offset }
+    ensures bound { IsWithin (10 ^ 21) result }
+{
+    let second = day * 86_400 + seconds as i64 - offset as i64;
+    second as i128 * 1_000_000_000 + nanos as i128
+}
+
+// Whole milliseconds, rounded towards zero.
+fn whole_millis(nanos: i128) -> i64
+    requires { IsWithin (10 ^ 21) nanos }
+    ensures { result ≡ int_div nanos (pos 1_000_000) }
+{
+    (nanos / 1_000_000) as i64
+}
+
+/// The milliseconds that a text denotes.
+#[tactic(auto, unfolding(crate::specs::Rfc3339::denoted))]
+pub(crate) fn parse(text: &[u8]) -> Option<i64>
+    ensures { result ≡ spec.denoted text.now }
+{
+    let (day, s) = date_part(text)?;
+    let s = after_letter(s, b'T')?;
+    let (seconds, s) = time_part(s)?;
+    let (nanos, s) = fraction_part(s)?;
+    let (offset, s) = offset_part(s)?;
+    if !s.is_empty() {
+        return None;
+    }
+    Some(whole_millis(nanos_of(day, seconds, nanos, offset)))
+}

@@ -1,0 +1,20 @@
+-- A finite decimal is read back from its first form.
+use Rattle.std.proofs.Common.{◌≡◌, ℕ, ◌+◌, ◌*◌, ◌/◌, ◌%◌, ◌^◌, ◌<◌, Bool, true, false, List, refl, ap, ◌∙◌, arith}
+use Rattle.std.proofs.lemmas.Bool.Decides.{nat_tests}
+use Rattle.std.specs.Int.{w128, from_le_bytes, to_le_bytes}
+use Rattle.bson_decimal.specs.declared.Decoded.{Decoded}
+use Rattle.bson_decimal.specs.declared.Decoded.TheVariants.{Nan, Infinity, Finite}
+use Rattle.bson_decimal.specs.Pattern.{decoded, dec, first_form, canon, canon_number}
+use Rattle.bson_decimal.proofs.Bytes.{from_le_bytes-to_le_bytes_16}
+
+pub decoded-first_form : (negative : Bool) (c e : ℕ) → c < 10 ^ 34 → e < 12288 → decoded (first_form negative c e) ≡ Finite negative c e
+decoded-first_form true c e small low = grind (arith, nat_tests)
+decoded-first_form false c e small low = grind (arith, nat_tests)
+
+pub first_form-lt : (negative : Bool) (c e : ℕ) → c < 10 ^ 34 → e < 12288 → first_form negative c e < 2 ^ 128
+first_form-lt true c e small low = omega arith
+first_form-lt false c e small low = omega arith
+
+pub dec-first_form : (negative : Bool) (c e : ℕ) → c < 10 ^ 34 → e < 12288 → dec (to_le_bytes w128 (first_form negative c e)) ≡ Finite negative c e
+dec-first_form negative c e small low =
+    ap decoded (from_le_bytes-to_le_bytes_16 _ (first_form-lt negative c e small low)) ∙ decoded-first_form negative c e small low

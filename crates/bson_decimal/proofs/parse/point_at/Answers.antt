@@ -1,0 +1,14 @@
+use Rattle.std.proofs.Common.{◌≡◌, ◌<◌, ℕ, length, get_or, sym, ◌∙◌, arith}
+use Rattle.std.specs.List.{position_or_len}
+use Rattle.bson_decimal.specs.Steps.{is_point}
+use Rattle.bson_decimal.proofs.TextLemmas.{position-or, position_or_len-le}
+use Rattle.bson_decimal.proofs.parse.point_at.Goals as goal
+
+pub returns : goal.returns
+returns c =
+    let xs = c.args.text.now in
+    let value : c.unwrap_or.result ≡ position_or_len is_point xs = rw c.find_point.ensures at c.unwrap_or.ensures ∙ position-or is_point xs in
+    record {
+      value = value;
+      within = rw value (position_or_len-le is_point xs);
+    }

@@ -1,0 +1,124 @@
+-- Why a text is refused: the first step that finds a fault.
+-- An exponent x is kept as x + 32768.
+use Rattle.std.specs.Prelude.{ℕ, ◌+◌, ◌-◌, ◌*◌, ◌^◌, Bool, true, false, not, ◌&&◌, ◌||◌, List, [], ◌∷◌, ◌++◌, length, take, drop, Option, Some, None, Result, Ok, Err, nat_lt, nat_le, ◌==◌, if◌then◌else◌, slice_index, min}
+use Rattle.std.specs.Option.{ok_or}
+use Rattle.std.specs.List.{list_all, position_or_len, before_first, after_first}
+use Rattle.std.specs.Str.{all_ascii_digits}
+use Rattle.std.specs.Str.Parse.{digits_value, without_leading_sign, starts_with_minus}
+use Rattle.bson_decimal.specs.declared.ParseError.{ParseError}
+use Rattle.bson_decimal.specs.declared.ParseError.TheVariants.{EmptyExponent, InvalidExponent, InvalidCoefficient, Overflow, Underflow, InexactRounding, Unparseable}
+use Rattle.bson_decimal.specs.Text.{is_zero, without_leading_zeros}
+
+abbrev pub is_mark : ℕ → Bool
+is_mark b = b == 101 || b == 69
+
+abbrev pub is_point : ℕ → Bool
+is_point b = b == 46
+
+-- a character goes on at this byte
+abbrev pub is_inside : ℕ → Bool
+is_inside b = nat_le 128 b && nat_lt b 192
+
+-- the digits of a coefficient, and its exponent
+abbrev pub Scaled : Type 0
+Scaled = List ℕ × ℕ
+
+-- at most 34 bytes are kept
+unfoldable pub cut_at_34 : List ℕ → ℕ → Result Scaled ParseError
+cut_at_34 ds x =
+    if nat_le (length ds) 34 then Ok (ds, x)
+    else (if is_inside (slice_index ds 34) then Err Unparseable
+    else (if not (list_all is_zero (drop 34 ds)) then Err InexactRounding
+    else (if nat_lt 32767 (length ds - 34) then Err Overflow
+    else (if nat_lt 65535 (x + (length ds - 34)) then Err Overflow
+    else Ok (take 34 ds, x + (length ds - 34))))))
+
+-- the exponent is raised to the least one, for zeros dropped
+unfoldable pub raise_to_least : List ℕ → ℕ → Result Scaled ParseError
+raise_to_least ds x =
+    if nat_le 26592 x then Ok (ds, x)
+    else (if length ds == 0 then Ok (ds, 26592)
+    else (if nat_lt (length ds) (26592 - x) then Err Underflow
+    else (if is_inside (slice_index ds (length ds - (26592 - x))) then Err Unparseable
+    else (if not (list_all is_zero (drop (length ds - (26592 - x)) ds)) then Err InexactRounding
+    else Ok (take (length ds - (26592 - x)) ds, 26592)))))
+
+-- the exponent is lowered to the greatest one, for so many zeros added
+unfoldable pub zeros_to_add : List ℕ → ℕ → Result ℕ ParseError
+zeros_to_add ds x =
+    if nat_le x 38879 then Ok 0
+    else (if length ds == 0 then Ok 0
+    else (if nat_lt 34 (length ds + (x - 38879)) then Err Overflow
+    else Ok (x - 38879)))
+
+-- the bytes after a leading sign
+abbrev pub unsigned : List ℕ → List ℕ
+unsigned bs = without_leading_sign bs
+
+abbrev pub has : (ℕ → Bool) → List ℕ → Bool
+has p bs = nat_lt (position_or_len p bs) (length bs)
+
+-- a sign and digits, of a value from -32768 to 32767
+abbrev pub is_exponent : List ℕ → Bool
+is_exponent bs = nat_lt 0 (length (unsigned bs)) && (all_ascii_digits (unsigned bs) && nat_le (digits_value 10 (unsigned bs)) (if starts_with_minus bs then 32768 else 32767))
+
+-- that value, with 32768 added
+abbrev pub biased_exponent : List ℕ → ℕ
+biased_exponent bs = if starts_with_minus bs then 32768 - digits_value 10 (unsigned bs) else 32768 + digits_value 10 (unsigned bs)
+
+unfoldable pub exponent_value : List ℕ → Option ℕ
+exponent_value bs = if is_exponent bs then Some (biased_exponent bs) else None
+
+-- the written exponent, with 32768 added
+unfoldable pub written_exponent : List ℕ → Result ℕ ParseError
+written_exponent rest =
+    if not (has is_mark rest) then Ok 32768
+    else (if length (after_first is_mark rest) == 0 then Err EmptyExponent
+    else ok_or (exponent_value (after_first is_mark rest)) InvalidExponent)
+
+-- the exponent, less one for each byte after the point
+unfoldable pub scaled_exponent : ℕ → List ℕ → Result ℕ ParseError
+scaled_exponent x fraction =
+    if nat_lt 32767 (length fraction) then Err Underflow
+    else (if nat_lt x (length fraction) then Err Underflow
+    else Ok (x - length fraction))
+
+-- the digits that are kept, the exponent, and the number of zeros to add
+abbrev pub bind : {A B : Type 0} → Result A ParseError → (A → Result B ParseError) → Result B ParseError
+bind (Ok x) f = f x
+bind (Err e) f = Err e
+
+infixl 10 ◌>>=◌
+abbrev pub ◌>>=◌ : {A B : Type 0} → Result A ParseError → (A → Result B ParseError) → Result B ParseError
+o >>= f = bind o f
+
+-- the number that the digits write with z zeros behind them
+unfoldable pub coefficient : List ℕ → ℕ → Bool → Result ℕ ParseError
+coefficient ds z has_digit =
+    if not has_digit then Err InvalidCoefficient
+    else (if not (all_ascii_digits ds) then Err InvalidCoefficient
+    else Ok (digits_value 10 ds * 10 ^ z))
+
+-- a coefficient and a stored exponent
+unfoldable pub settled : List ℕ → ℕ → Result (ℕ × ℕ) ParseError
+settled bs x = do
+  a ← cut_at_34 (without_leading_zeros bs) x
+  b ← raise_to_least a.0 a.1
+  z ← zeros_to_add b.0 b.1
+  c ← coefficient b.0 z (nat_lt 0 (length bs))
+  Ok (c, min b.1 38879 - 26592)
+
+-- a finite text without its sign
+unfoldable pub finite : List ℕ → Result (ℕ × ℕ) ParseError
+finite rest = do
+  w ← written_exponent rest
+  x ← scaled_exponent w (after_first is_point (before_first is_mark rest))
+  settled (before_first is_point (before_first is_mark rest) ++ after_first is_point (before_first is_mark rest)) x
+
+-- the kind of fault of a text that denotes nothing
+abbrev pub fault_of : Result (ℕ × ℕ) ParseError → ParseError
+fault_of (Ok r) = InvalidCoefficient
+fault_of (Err k) = k
+
+unfoldable pub decfault : List ℕ → ParseError
+decfault text = fault_of (finite (unsigned text))

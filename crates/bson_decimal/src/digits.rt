@@ -1,0 +1,128 @@
+// The bytes of a coefficient on both sides of its point, as one list.
+ghost use Rattle.std.specs.Prelude.{◌≡◌, ◌+◌, ◌-◌, ◌*◌, ◌^◌, ◌<◌, ◌≤◌, ◌++◌, List, ℕ, length, take, drop, slice_index};
+ghost use Rattle.std.specs.List.{list_all, prefix_len};
+ghost use Rattle.std.specs.Option.{SomeIff};
+ghost use Rattle.std.specs.Str.Parse.{AllDigits, digits_value};
+ghost use Rattle.bson_decimal.specs.Text.{is_zero, without_leading_zeros};
+
+use std::marker::Model;
+
+#[derive(Drop)]
+pub(crate) struct Digits<'a> {
+    whole: &'a [u8],
+    fraction: &'a [u8],
+}
+
+impl<'a> Model for Digits<'a> {
+    ghost Value = { List ℕ };
+
+    ghost view = { λ d. d.whole.now ++ d.fraction.now };
+}
+
+impl<'a> Digits<'a> {
+    pub(crate) fn new(whole: &'a [u8], fraction: &'a [u8]) -> Digits<'a>
+        ensures { result ≡ whole.now ++ fraction.now }
+    {
+        Digits { whole, fraction }
+    }
+
+    pub(crate) fn len(&self) -> usize
+        ensures { result ≡ length self.now }
+    {
+        self.whole.len() + self.fraction.len()
+    }
+
+    pub(crate) fn byte(&self, i: usize) -> u8
+        requires { i < length self.now }
+        ensures { result ≡ slice_index self.now i }
+    {
+        if i < self.whole.len() {
+            self.whole[i]
+        } else {
+            self.fraction[i - self.whole.len()]
+        }
+    }
+
+    // The first `n` bytes.
+    pub(crate) fn first(self, n: usize) -> Digits<'a>
+        requires { n ≤ length self }
+        ensures { result ≡ take n self.entry }
+    {
+        if n <= self.whole.len() {
+            Digits {
+                whole: &self.whole[..n],
+                fraction: &[],
+            }
+        } else {
+            Digits {
+                whole: self.whole,
+                fraction: &self.fraction[..n - self.whole.len()],
+            }
+        }
+    }
+
+    // What follows the first `n` bytes.
+    pub(crate) fn after(self, n: usize) -> Digits<'a>
+        requires { n ≤ length self }
+        ensures { result ≡ drop n self.entry }
+    {
+        if n <= self.whole.len() {
+            Digits {
+                whole: &self.whole[n..],
+                fraction: self.fraction,
+            }
+        } else {
+            Digits {
+                whole: &[],
+                fraction: &self.fraction[n - self.whole.len()..],
+            }
+        }
+    }
+
+    fn leading_zeros(&self) -> usize
+        ensures value { result ≡ prefix_len is_zero self.now }
+        ensures within { result ≤ length self.now }
+    {
+        let len = self.len();
+        for i in 0..len {
+            if self.byte(i) != b'0' {
+                return i;
+            }
+        }
+        len
+    }
+
+    pub(crate) fn without_leading_zeros(self) -> Digits<'a>
+        ensures { result ≡ without_leading_zeros self.entry }
+    {
+        let zeros = self.leading_zeros();
+        self.after(zeros)
+    }
+
+    pub(crate) fn has_only_zeros_after(&self, n: usize) -> bool
+        ensures { result ≡ list_all is_zero (drop n self.now) }
+    {
+        for i in n..self.len() {
+            if self.byte(i) != b'0' {
+                return false;
+            }
+        }
+        true
+    }
+
+    // The number that the bytes write, if all are digits.
+    pub(crate) fn value(&self) -> Option<u128>
+        requires { length self.now ≤ 34 }
+        ensures { SomeIff result (AllDigits 10 self.now) (digits_value 10 self.now) }
+    {
+        let mut n = 0u128;
+        for i in 0..self.len() {
+            let b = self.byte(i);
+            if !b.is_ascii_digit() {
+                return None;
+            }
+            n = n * 10 + u128::from(b - b'0');
+        }
+        Some(n)
+    }
+}
