@@ -104,13 +104,13 @@ reads-exponent rest =
     let place = position_or_len is_mark rest in
     if-cases (ReadsExponent rest) (λ _. ⊤) (not (has is_mark rest)) _ _
     (λ e. let past = ltb-false place (length rest) (not-true _ e) in
-      record { part = unwritten; is = sym (append-nil _ ∙ take_all place rest past); ok = tt; value = refl; high = omega arith; low = omega arith })
+    record { part = unwritten; is = sym (append-nil _ ∙ take_all place rest past); ok = tt; value = refl; high = omega arith; low = omega arith })
     (λ e. let within = ltb-true place (length rest) (not-false _ e) in
-      if-cases (ReadsExponent rest) (λ _. ⊤) (eqb (length tail) 0) _ _
-      (λ _. tt)
-      (λ _. elim (cases_Bool (is_exponent tail)) [
-        | inr f ↦ rw f tt
-        | inl f ↦
+    if-cases (ReadsExponent rest) (λ _. ⊤) (eqb (length tail) 0) _ _
+    (λ _. tt)
+    (λ _. elim (cases_Bool (is_exponent tail)) [
+      | inr f ↦ rw f tt
+      | inl f ↦
           let a = and_parts (ltb 0 (length (without_leading_sign tail))) _ f in
           let b = and_parts (all_ascii_digits (without_leading_sign tail)) _ a.1 in
           let s = sign-of tail in
@@ -124,7 +124,7 @@ reads-exponent rest =
             high = subst (λ (m : Bool). cond m 0 v ≤ 32767) s.2 fits.1;
             low = subst (λ (m : Bool). cond m v 0 ≤ 32768) s.2 fits.2;
           })
-      ]))
+    ]))
 
 -- a point
 pub record ReadsPoint (bs : List ℕ) : Type 0 where
@@ -137,8 +137,8 @@ reads-point bs =
     let place = position_or_len is_point bs in
     elim (cases_lt place (length bs)) [
       | inl within ↦
-        let dot : get_or bs place 0 ≡ 46 = eqb-true _ 46 (passes_at_first is_point bs 0 within) in
-        record { part = Some (after_first is_point bs); is = split_at_first is_point bs 0 within ∙ ap (λ d. before_first is_point bs ++ d ∷ after_first is_point bs) dot; digits = refl }
+          let dot : get_or bs place 0 ≡ 46 = eqb-true _ 46 (passes_at_first is_point bs 0 within) in
+          record { part = Some (after_first is_point bs); is = split_at_first is_point bs 0 within ∙ ap (λ d. before_first is_point bs ++ d ∷ after_first is_point bs) dot; digits = refl }
       | inr past ↦ record { part = None; is = sym (append-nil _ ∙ take_all place bs past); digits = sym (drop_all (place + 1) bs (omega arith)) }
     ]
 

@@ -39,7 +39,7 @@ scaled-cases w f =
     if-cases (λ x. (x + length f ≡ w) × (length f ≤ 32767)) (λ _. ⊤) (ltb 32767 (length f)) _ _
     (λ _. tt)
     (λ e. if-cases (λ x. (x + length f ≡ w) × (length f ≤ 32767)) (λ _. ⊤) (ltb w (length f)) _ _ (λ _. tt)
-      (λ g. let a = ltb-false 32767 (length f) e in let b = ltb-false w (length f) g in (omega arith, a)))
+    (λ g. let a = ltb-false 32767 (length f) e in let b = ltb-false w (length f) g in (omega arith, a)))
 
 settled-ok : (bs : List ℕ) (x : ℕ) → x ≤ 65535 → MatchResult (settled bs x) (IsSettled bs x) (λ _. ⊤)
 settled-ok bs x low = weaker (settled bs x) (settled-cases bs x low)
@@ -57,10 +57,10 @@ reads-finite rest =
     let fraction = after_first is_point cs in
     bind-by (ReadsFinite rest) (λ _. ⊤) (ReadsExponent rest) (λ _. ⊤) _ _ (reads-exponent rest)
     (λ w ex.
-      bind-by (ReadsFinite rest) (λ _. ⊤) (λ x. (x + length fraction ≡ w) × (length fraction ≤ 32767)) (λ _. ⊤) (scaled_exponent w fraction) _ (scaled-cases w fraction)
-      (λ x sum. ok-finite rest whole p.part ex.part fraction w x p.digits (ex.is ∙ ap (λ t. t ++ exponent_bytes ex.part) p.is) ex.ok ex.high ex.low ex.value sum.0 sum.1
-        (settled (whole ++ fraction) x) (settled-ok (whole ++ fraction) x (let v = ex.value in let h = ex.high in let s = sum.0 in omega arith)))
-      (λ e h. tt))
+    bind-by (ReadsFinite rest) (λ _. ⊤) (λ x. (x + length fraction ≡ w) × (length fraction ≤ 32767)) (λ _. ⊤) (scaled_exponent w fraction) _ (scaled-cases w fraction)
+    (λ x sum. ok-finite rest whole p.part ex.part fraction w x p.digits (ex.is ∙ ap (λ t. t ++ exponent_bytes ex.part) p.is) ex.ok ex.high ex.low ex.value sum.0 sum.1
+    (settled (whole ++ fraction) x) (settled-ok (whole ++ fraction) x (let v = ex.value in let h = ex.high in let s = sum.0 in omega arith)))
+    (λ e h. tt))
     (λ e h. tt)
   where
     ok-finite : (rest whole : List ℕ) (f : Option (List ℕ)) (ex : Exponent) (fraction : List ℕ) (w x : ℕ) → fraction_digits f ≡ fraction → rest ≡ (whole ++ fraction_bytes f) ++ exponent_bytes ex → IsExponent ex → raised ex ≤ 32767 → lowered ex ≤ 32768
@@ -105,7 +105,7 @@ steps-on text n t l =
       at = omega arith;
       within = omega arith;
       steps = ap (λ bs. finite (without_leading_sign bs)) t.is ∙ ap finite (off.0 ∙ sym (append_assoc n.whole (fraction_bytes n.fraction) (exponent_bytes n.exponent)))
-      ∙ finite-is n.whole n.fraction n.exponent t.digits t.exponent l.high l.low w x (omega arith) l.fraction (omega arith);
+          ∙ finite-is n.whole n.fraction n.exponent t.digits t.exponent l.high l.low w x (omega arith) l.fraction (omega arith);
       sign = ap starts_with_minus t.is ∙ off.1;
     }
 

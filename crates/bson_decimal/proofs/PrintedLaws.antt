@@ -1,7 +1,6 @@
 -- A printed text parses to the canonical pattern.
 use Rattle.std.proofs.Common.{◌≡◌, ℕ, zero, suc, ◌+◌, ◌-◌, ◌*◌, ◌^◌, ◌<◌, ◌≤◌, ◌⊎◌, inl, inr, Bool, true, false, cond, ◌&&◌, eqb, ltb, leb, List, [], ◌∷◌, ◌++◌, length, take, drop, replicate, get_or, Option, Some, None, refl, sym, ap, subst, ◌∙◌, rules, tests, arith, length-append, length-take, length-drop}
 use Rattle.std.specs.Prelude.{⊤, codes, Result, Ok, Err, ◌↔◌, IsOkAnd}
-use Rattle.bson_decimal.specs.declared.Decimal128.{Decimal128}
 use Rattle.bson_decimal.specs.FromStr.{ParsesTo}
 use Rattle.std.specs.Str.Parse.{without_leading_sign}
 use Rattle.bson_decimal.specs.declared.ParseError.{ParseError}
@@ -43,9 +42,9 @@ decoded-within n =
     let other : Decoded = cond (eqb (field n 125 2) 3) second rest in
     choose (eqb (field n 122 5) 31) (Nan (is_set n 127) (is_set n 121)) (cond (eqb (field n 122 5) 30) (Infinity (is_set n 127)) other) (λ _. tt)
     (λ a. choose (eqb (field n 122 5) 30) (Infinity (is_set n 127)) other (λ _. tt)
-      (λ b. choose (eqb (field n 125 2) 3) second rest
-        (λ c. (omega arith, grind (arith, nat_tests)))
-        (λ c. (grind (arith, nat_tests), grind (arith, nat_tests)))))
+    (λ b. choose (eqb (field n 125 2) 3) second rest
+    (λ c. (omega arith, grind (arith, nat_tests)))
+    (λ c. (grind (arith, nat_tests), grind (arith, nat_tests)))))
 
 sign_of : Bool → Sign
 sign_of true = minus
@@ -120,16 +119,16 @@ prints-power : (k : ℕ) → k ≤ 12400 → PrintsPower k
 prints-power k most =
     elim (cases_Bool (ltb 6177 k)) [
       | inl a ↦
-        let above = ltb-true 6177 k a in
-        let d = writes (k - 6177) (omega arith) in
-        let v = d.value in
-        record { exponent = written 69 plus (decimal (k - 6177)); is = rw a refl; ok = (inr refl, d.some, d.digits); at = omega arith; high = omega arith; low = omega arith }
+          let above = ltb-true 6177 k a in
+          let d = writes (k - 6177) (omega arith) in
+          let v = d.value in
+          record { exponent = written 69 plus (decimal (k - 6177)); is = rw a refl; ok = (inr refl, d.some, d.digits); at = omega arith; high = omega arith; low = omega arith }
       | inr a ↦ let below = ltb-false 6177 k a in elim (cases_Bool (eqb k 6177)) [
         | inl b ↦ let is = eqb-true k 6177 b in record { exponent = written 69 none (48 ∷ []); is = rw (a, b) refl; ok = (inr refl, omega arith, (omega arith, tt)); at = omega arith; high = omega arith; low = omega arith }
         | inr b ↦
-          let d = writes (6177 - k) (omega arith) in
-          let v = d.value in
-          record { exponent = written 69 minus (decimal (6177 - k)); is = rw (a, b) refl; ok = (inr refl, d.some, d.digits); at = omega arith; high = omega arith; low = omega arith }
+            let d = writes (6177 - k) (omega arith) in
+            let v = d.value in
+            record { exponent = written 69 minus (decimal (6177 - k)); is = rw (a, b) refl; ok = (inr refl, d.some, d.digits); at = omega arith; high = omega arith; low = omega arith }
       ]
     ]
 
@@ -144,33 +143,61 @@ module _ (c e : ℕ) (small : c < 10 ^ 34) (within : e < 12288) where
       let few = short in
       elim (cases_Bool (eqb (6176 - e) 0)) [
         | inl a ↦
-          let zero-p = eqb-true (6176 - e) 0 a in
-          rw a (record {
-            whole = ds; fraction = None; exponent = unwritten; is = sym (append-nil ds); digits = rw append-nil d.digits; some = rw append-nil d.some; ok = tt;
-            value = rw append-nil d.value; high = omega arith; low = omega arith; short = omega arith; few = rw append-nil (stripped-le ds short); at = omega arith
-          })
+            let zero-p = eqb-true (6176 - e) 0 a in
+            rw a (record {
+              whole = ds;
+              fraction = None;
+              exponent = unwritten;
+              is = sym (append-nil ds);
+              digits = rw append-nil d.digits;
+              some = rw append-nil d.some;
+              ok = tt;
+              value = rw append-nil d.value;
+              high = omega arith;
+              low = omega arith;
+              short = omega arith;
+              few = rw append-nil (stripped-le ds short);
+              at = omega arith;
+            })
         | inr a ↦ elim (cases_Bool (ltb (6176 - e) (length ds))) [
           | inl b ↦
-            let inside = ltb-true (6176 - e) (length ds) b in
-            let joined = take-append-drop (length ds - (6176 - e)) ds in
-            let size : length (drop (length ds - (6176 - e)) ds) ≡ 6176 - e = omega (arith, length-drop (length ds - (6176 - e)) ds) in
-            rw (a, b) (record {
-              whole = take (length ds - (6176 - e)) ds; fraction = Some (drop (length ds - (6176 - e)) ds); exponent = unwritten;
-              is = ap (λ t. take (length ds - (6176 - e)) ds ++ 46 ∷ t) (sym (append-nil (drop (length ds - (6176 - e)) ds)));
-              digits = rw joined d.digits; some = rw joined d.some; ok = tt; value = rw joined d.value; high = omega arith; low = omega arith;
-              short = omega (arith, size); few = rw joined (stripped-le ds short); at = omega (arith, size)
-            })
+              let inside = ltb-true (6176 - e) (length ds) b in
+              let joined = take-append-drop (length ds - (6176 - e)) ds in
+              let size : length (drop (length ds - (6176 - e)) ds) ≡ 6176 - e = omega (arith, length-drop (length ds - (6176 - e)) ds) in
+              rw (a, b) (record {
+                whole = take (length ds - (6176 - e)) ds;
+                fraction = Some (drop (length ds - (6176 - e)) ds);
+                exponent = unwritten;
+                is = ap (λ t. take (length ds - (6176 - e)) ds ++ 46 ∷ t) (sym (append-nil (drop (length ds - (6176 - e)) ds)));
+                digits = rw joined d.digits;
+                some = rw joined d.some;
+                ok = tt;
+                value = rw joined d.value;
+                high = omega arith;
+                low = omega arith;
+                short = omega (arith, size);
+                few = rw joined (stripped-le ds short);
+                at = omega (arith, size);
+              })
           | inr b ↦
-            let outside = ltb-false (6176 - e) (length ds) b in
-            let k = 6176 - e - length ds in
-            let size : length (replicate k 48 ++ ds) ≡ 6176 - e = omega (arith, length-append (replicate k 48) ds, length-replicate {A = ℕ} k 48) in
-            rw (a, b) (record {
-              whole = 48 ∷ []; fraction = Some (replicate k 48 ++ ds); exponent = unwritten;
-              is = ap (λ t. 48 ∷ 46 ∷ t) (sym (append-nil (replicate k 48 ++ ds)));
-              digits = AllDigits-append (replicate (suc k) 48) ds (AllDigits-zeros (suc k)) d.digits; some = omega arith; ok = tt;
-              value = value-before (suc k) ds ∙ d.value; high = omega arith; low = omega arith;
-              short = omega (arith, size); few = rw (stripped-zeros (suc k) ds) (stripped-le ds short); at = omega (arith, size)
-            })
+              let outside = ltb-false (6176 - e) (length ds) b in
+              let k = 6176 - e - length ds in
+              let size : length (replicate k 48 ++ ds) ≡ 6176 - e = omega (arith, length-append (replicate k 48) ds, length-replicate {A = ℕ} k 48) in
+              rw (a, b) (record {
+                whole = 48 ∷ [];
+                fraction = Some (replicate k 48 ++ ds);
+                exponent = unwritten;
+                is = ap (λ t. 48 ∷ 46 ∷ t) (sym (append-nil (replicate k 48 ++ ds)));
+                digits = AllDigits-append (replicate (suc k) 48) ds (AllDigits-zeros (suc k)) d.digits;
+                some = omega arith;
+                ok = tt;
+                value = value-before (suc k) ds ∙ d.value;
+                high = omega arith;
+                low = omega arith;
+                short = omega (arith, size);
+                few = rw (stripped-zeros (suc k) ds) (stripped-le ds short);
+                at = omega (arith, size);
+              })
         ]
       ]
 
@@ -186,20 +213,41 @@ module _ (c e : ℕ) (small : c < 10 ^ 34) (within : e < 12288) where
       let low = p.low in
       elim (cases_Bool (eqb (length ds) 1)) [
         | inl a ↦
-          let one = eqb-true (length ds) 1 a in
-          let all = take_all 1 ds (omega arith) in
-          rw (a, all) (record {
-            whole = ds; fraction = None; exponent = p.exponent; is = ap (λ t. ds ++ t) p.is; digits = rw append-nil d.digits; some = rw append-nil d.some; ok = p.ok;
-            value = rw append-nil d.value; high = high; low = low; short = omega arith; few = rw append-nil (stripped-le ds short); at = omega arith
-          })
+            let one = eqb-true (length ds) 1 a in
+            let all = take_all 1 ds (omega arith) in
+            rw (a, all) (record {
+              whole = ds;
+              fraction = None;
+              exponent = p.exponent;
+              is = ap (λ t. ds ++ t) p.is;
+              digits = rw append-nil d.digits;
+              some = rw append-nil d.some;
+              ok = p.ok;
+              value = rw append-nil d.value;
+              high = high;
+              low = low;
+              short = omega arith;
+              few = rw append-nil (stripped-le ds short);
+              at = omega arith;
+            })
         | inr a ↦
-          let joined = take-append-drop 1 ds in
-          let size : length (drop 1 ds) ≡ length ds - 1 = length-drop 1 ds in
-          rw a (record {
-            whole = take 1 ds; fraction = Some (drop 1 ds); exponent = p.exponent; is = ap (λ t. take 1 ds ++ (46 ∷ drop 1 ds ++ t)) p.is;
-            digits = rw joined d.digits; some = rw joined d.some; ok = p.ok; value = rw joined d.value; high = high; low = low;
-            short = omega (arith, size); few = rw joined (stripped-le ds short); at = omega (arith, size)
-          })
+            let joined = take-append-drop 1 ds in
+            let size : length (drop 1 ds) ≡ length ds - 1 = length-drop 1 ds in
+            rw a (record {
+              whole = take 1 ds;
+              fraction = Some (drop 1 ds);
+              exponent = p.exponent;
+              is = ap (λ t. take 1 ds ++ (46 ∷ drop 1 ds ++ t)) p.is;
+              digits = rw joined d.digits;
+              some = rw joined d.some;
+              ok = p.ok;
+              value = rw joined d.value;
+              high = high;
+              low = low;
+              short = omega (arith, size);
+              few = rw joined (stripped-le ds short);
+              at = omega (arith, size);
+            })
       ]
 
 finite-prints : (c e : ℕ) → c < 10 ^ 34 → e < 12288 → Prints c e (finite_text (decimal c) e)
@@ -260,6 +308,6 @@ printed-same a b =
     (λ e. parses-one (printed b) (canon a) (canon b) (rw e at (printed-parses a)) (printed-parses b), λ e. sym (printed-canon a) ∙ ap printed e ∙ printed-canon b)
 
 -- so a printed text is answered by its canonical pattern
-pub reads-printed : (text : List ℕ) (r : Result Decimal128 ParseError) → ParsesTo text r → (b : List ℕ) → text ≡ printed b → IsOkAnd r (λ d. d.bytes ≡ canon b)
+pub reads-printed : (text : List ℕ) (r : Result (List ℕ) ParseError) → ParsesTo text r → (b : List ℕ) → text ≡ printed b → IsOkAnd r (λ d. d ≡ canon b)
 reads-printed text (Ok d) h b e = sym (h.1 (canon b) (rw e (printed-parses b)))
 reads-printed text (Err k) h b e = absurd (h.0 (canon b) (rw e (printed-parses b)))

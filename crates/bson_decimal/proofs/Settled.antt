@@ -95,12 +95,12 @@ module _ (ds ks : List ℕ) (k y up down : ℕ) (at : y + down ≡ up + k + 3276
       rw (c-is, e-is)
       (elim (cases_lt 0 k) [
         | inl some ↦
-          let weight : length ds - 1 ≡ 33 + k = omega arith in
-          nearest-dropped (digits_value 10 ds) up down (digits_value 10 ks) (y - 26592) k value small (rw weight at (large (omega arith))) (omega arith) (omega arith)
+            let weight : length ds - 1 ≡ 33 + k = omega arith in
+            nearest-dropped (digits_value 10 ds) up down (digits_value 10 ks) (y - 26592) k value small (rw weight at (large (omega arith))) (omega arith) (omega arith)
         | inr none ↦
-          let zero-k : k ≡ 0 = omega arith in
-          let whole : digits_value 10 ds ≡ digits_value 10 ks = value ∙ rw zero-k (omega arith) in
-          rw whole (nearest-same (digits_value 10 ks) up down (y - 26592) small (omega arith) (omega arith))
+            let zero-k : k ≡ 0 = omega arith in
+            let whole : digits_value 10 ds ≡ digits_value 10 ks = value ∙ rw zero-k (omega arith) in
+            rw whole (nearest-same (digits_value 10 ks) up down (y - 26592) small (omega arith) (omega arith))
       ])
 
   -- zeros were added
@@ -156,15 +156,15 @@ raised-refuses : (ks : List ℕ) (y : ℕ) (b : Scaled) (e : ParseError) → IsR
 raised-refuses ks y b e rai refuse digits large up down at c f fits =
     elim (cases_lt y 26592) [
       | inr kept ↦
-        let r = rai.kept kept in
-        refuse (rw r.0 digits) (rw r.0 large) up down (rw r.1 at) c f (rw r.0 fits)
+          let r = rai.kept kept in
+          refuse (rw r.0 digits) (rw r.0 large) up down (rw r.1 at) c f (rw r.0 fits)
       | inl low ↦
-        let r = rai.raised low in
-        elim (r.1) [
-          | inl none ↦ refuse (rw none.1 tt) (rw none.1 (λ some. absurd (omega arith))) 0 6176 (rw r.0 refl) 0 0 (rw none.1 (record { equal = refl; coefficient = omega arith; exponent = omega arith }))
-          | inr is ↦
-            refuse (digits-kept b.0 ks (26592 - y) is digits) (large-kept b.0 ks (26592 - y) is large) (up + (26592 - y)) down (rw r.0 (omega arith)) c f (fits-moved b.0 ks (26592 - y) up down c f is fits)
-        ]
+          let r = rai.raised low in
+          elim (r.1) [
+            | inl none ↦ refuse (rw none.1 tt) (rw none.1 (λ some. absurd (omega arith))) 0 6176 (rw r.0 refl) 0 0 (rw none.1 (record { equal = refl; coefficient = omega arith; exponent = omega arith }))
+            | inr is ↦
+                refuse (digits-kept b.0 ks (26592 - y) is digits) (large-kept b.0 ks (26592 - y) is large) (up + (26592 - y)) down (rw r.0 (omega arith)) c f (fits-moved b.0 ks (26592 - y) up down c f is fits)
+          ]
     ]
 
 -- the pair that the steps give
@@ -175,31 +175,31 @@ nearest-given ds ks k y up down b z at k-is is digits large rai pad =
     let empty-k : ks ≡ [] → k ≡ 0 = λ none. omega (arith, ap length none) in
     elim (cases_lt y 26592) [
       | inr kept ↦
-        let r = rai.kept kept in
-        elim (cases_lt 38879 y) [
-          | inr same ↦ let none : z ≡ 0 = pad.same (rw r.1 same) in rw (none, r.0, r.1) (final-same ds ks k y up down at k-is is digits large kept same)
-          | inl high ↦
-            elim (pad.padded (rw r.1 high)) [
-              | inl none ↦
-                let empty : ks ≡ [] = sym r.0 ∙ none.0 in
-                let zero-k = empty-k empty in
-                let e-is : min y 38879 - 26592 ≡ 12287 = omega arith in
-                rw (none.0, none.1, r.1, e-is) (final-zero ds ks k y up down at k-is is digits large 12287 empty (omega arith) (λ f within. omega arith))
-              | inr more ↦
-                let z-is : z ≡ y - 38879 = rw r.1 at more.0 in
-                let fits : length ks + z ≤ 34 = rw r.0 at more.1 in
-                rw (r.0, r.1) (final-padded ds ks k y up down at k-is is digits large z high z-is fits)
-            ]
-        ]
+          let r = rai.kept kept in
+          elim (cases_lt 38879 y) [
+            | inr same ↦ let none : z ≡ 0 = pad.same (rw r.1 same) in rw (none, r.0, r.1) (final-same ds ks k y up down at k-is is digits large kept same)
+            | inl high ↦
+                elim (pad.padded (rw r.1 high)) [
+                  | inl none ↦
+                      let empty : ks ≡ [] = sym r.0 ∙ none.0 in
+                      let zero-k = empty-k empty in
+                      let e-is : min y 38879 - 26592 ≡ 12287 = omega arith in
+                      rw (none.0, none.1, r.1, e-is) (final-zero ds ks k y up down at k-is is digits large 12287 empty (omega arith) (λ f within. omega arith))
+                  | inr more ↦
+                      let z-is : z ≡ y - 38879 = rw r.1 at more.0 in
+                      let fits : length ks + z ≤ 34 = rw r.0 at more.1 in
+                      rw (r.0, r.1) (final-padded ds ks k y up down at k-is is digits large z high z-is fits)
+                ]
+          ]
       | inl low ↦
-        let r = rai.raised low in
-        let none : z ≡ 0 = pad.same (rw r.0 (omega arith)) in
-        elim (r.1) [
-          | inl empty ↦
-            let zero-k = empty-k empty.0 in
-            rw (empty.1, none, r.0) (final-zero ds ks k y up down at k-is is digits large 0 empty.0 (omega arith) (λ f within. omega arith))
-          | inr to ↦ rw (none, r.0) (final-raised ds ks k y up down at k-is is digits large b.0 low to)
-        ]
+          let r = rai.raised low in
+          let none : z ≡ 0 = pad.same (rw r.0 (omega arith)) in
+          elim (r.1) [
+            | inl empty ↦
+                let zero-k = empty-k empty.0 in
+                rw (empty.1, none, r.0) (final-zero ds ks k y up down at k-is is digits large 0 empty.0 (omega arith) (λ f within. omega arith))
+            | inr to ↦ rw (none, r.0) (final-raised ds ks k y up down at k-is is digits large b.0 low to)
+          ]
     ]
 
 module _ (bs : List ℕ) (x : ℕ) where
@@ -226,7 +226,6 @@ module _ (bs : List ℕ) (x : ℕ) where
   front-large : AllDigits 10 bs → IsLarge (without_leading_zeros bs)
   front-large h = large-front (without_leading_zeros bs) (front-digits h) (λ some. let e : get_or (without_leading_zeros bs) 0 0 ≡ get_or bs (prefix_len is_zero bs) 0 = get_or-drop (prefix_len is_zero bs) bs 0 0 ∙ ap (λ i. get_or bs i 0) (omega arith) in rw e (prefix_len_stops is_zero bs 0 (omega (arith, length-drop (prefix_len is_zero bs) bs))))
 
-
   -- a later step's refusal
   cut-refuses : (a : Scaled) → IsCut (without_leading_zeros bs) x a → (e : ParseError) → Refuses a.0 a.1 e → AllDigits 10 bs → NoneFitsAt bs x
   cut-refuses a cut e refuse digits up down at c f fits =
@@ -243,22 +242,22 @@ module _ (bs : List ℕ) (x : ℕ) where
       let k = length ds - 34 in
       bind-by IsSettled SettledRefuses (IsCut ds x) (CutRefuses ds x) (cut_at_34 ds x) _ (cut_at_34-cases ds x low)
       (λ a cut.
-        bind-by IsSettled SettledRefuses (IsRaised a.0 a.1) (Refuses a.0 a.1) (raise_to_least a.0 a.1) _ (raise_to_least-cases a.0 a.1)
-        (λ b rai.
-          bind-by IsSettled SettledRefuses (IsPadded b.0 b.1) (Refuses b.0 b.1) (zeros_to_add b.0 b.1) _ (zeros_to_add-cases b.0 b.1)
-          (λ z pad.
-            bind-by IsSettled SettledRefuses (IsCoefficient b.0 z (ltb 0 (length bs))) (λ _. AllDigits 10 b.0 → ltb 0 (length bs) ≡ true → ⊥) (coefficient b.0 z (ltb 0 (length bs))) _ (coefficient-cases b.0 z (ltb 0 (length bs)))
-            (λ c is.
-              let digits = bs-digits (rw cut.is (AllDigits-append a.0 (replicate k 48) (raised-digits-back a.0 a.1 b rai is.0) (AllDigits-zeros k))) in
-              let p = cut.power in
-              record {
-                digits = digits;
-                some = ltb-true 0 (length bs) is.1;
-                few = cut.few;
-                high = (let h = cut.high in omega arith);
-                nearest = λ up down at. rw (front-value, is.2) (nearest-given ds a.0 k a.1 up down b z (omega arith) refl cut.is (front-digits digits) (front-large digits) rai pad);
-              })
-            (λ e refuse digits some few high up down at c f fits. refuse (raised-digits a.0 a.1 b rai (digits-kept a.0 ds k cut.is (front-digits digits))) (search (rules, tests, some))))
-          (λ e refuse digits some few high. cut-refuses a cut e (raised-refuses a.0 a.1 b e rai refuse) digits))
-        (λ e refuse digits some few high. cut-refuses a cut e refuse digits))
+      bind-by IsSettled SettledRefuses (IsRaised a.0 a.1) (Refuses a.0 a.1) (raise_to_least a.0 a.1) _ (raise_to_least-cases a.0 a.1)
+      (λ b rai.
+      bind-by IsSettled SettledRefuses (IsPadded b.0 b.1) (Refuses b.0 b.1) (zeros_to_add b.0 b.1) _ (zeros_to_add-cases b.0 b.1)
+      (λ z pad.
+      bind-by IsSettled SettledRefuses (IsCoefficient b.0 z (ltb 0 (length bs))) (λ _. AllDigits 10 b.0 → ltb 0 (length bs) ≡ true → ⊥) (coefficient b.0 z (ltb 0 (length bs))) _ (coefficient-cases b.0 z (ltb 0 (length bs)))
+      (λ c is.
+      let digits = bs-digits (rw cut.is (AllDigits-append a.0 (replicate k 48) (raised-digits-back a.0 a.1 b rai is.0) (AllDigits-zeros k))) in
+      let p = cut.power in
+      record {
+        digits = digits;
+        some = ltb-true 0 (length bs) is.1;
+        few = cut.few;
+        high = (let h = cut.high in omega arith);
+        nearest = λ up down at. rw (front-value, is.2) (nearest-given ds a.0 k a.1 up down b z (omega arith) refl cut.is (front-digits digits) (front-large digits) rai pad);
+      })
+      (λ e refuse digits some few high up down at c f fits. refuse (raised-digits a.0 a.1 b rai (digits-kept a.0 ds k cut.is (front-digits digits))) (search (rules, tests, some))))
+      (λ e refuse digits some few high. cut-refuses a cut e (raised-refuses a.0 a.1 b e rai refuse) digits))
+      (λ e refuse digits some few high. cut-refuses a cut e refuse digits))
       (λ e refuse digits some few high up down at c f fits. refuse (front-digits digits) (front-large digits) few high up down at c f (subst (λ m. Fits m up down c f) front-value fits))

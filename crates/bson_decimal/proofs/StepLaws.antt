@@ -78,27 +78,27 @@ module _ (ds : List ℕ) (x : ℕ) where
   cut_at_34-cases low =
       if-cases IsCut CutRefuses (leb (length ds) 34) _ _
       (λ e. let short = leb-true (length ds) 34 e in
-        let none : length ds - 34 ≡ 0 = omega arith in
-        record { is = rw none (sym (append-nil ds)); power = omega arith; few = omega arith; high = low })
+      let none : length ds - 34 ≡ 0 = omega arith in
+      record { is = rw none (sym (append-nil ds)); power = omega arith; few = omega arith; high = low })
       (λ e. if-cases IsCut CutRefuses (is_inside (slice_index ds 34)) _ _
-        (λ e2 digits large few high up down at c f fits. inside-no-digit ds 34 digits (leb-false (length ds) 34 e) e2)
-        (λ e2. if-cases IsCut CutRefuses (not (list_all is_zero (drop 34 ds))) _ _
-          (λ e3 digits large few high up down at c f fits.
-            let long = leb-false (length ds) 34 e in
-            let size : length ds - 1 ≡ 33 + (length ds - 34) = omega arith in
-            let from = rw size at (large (omega arith)) in
-            let above = fits-above _ up down c f (length ds - 34) from fits in
-            no-multiple ds 34 digits (not-true _ e3) (fits-exact _ up down c f (length ds - 34) above fits))
-          (λ e3. if-cases IsCut CutRefuses (ltb 32767 (length ds - 34)) _ _
-            (λ e4 digits large few high up down at c f fits. omega (arith, ltb-true 32767 (length ds - 34) e4))
-            (λ e4. if-cases IsCut CutRefuses (ltb 65535 (x + (length ds - 34))) _ _
-              (λ e5 digits large few high up down at c f fits. omega (arith, ltb-true 65535 (x + (length ds - 34)) e5))
-              (λ e5. record {
-                is = zeros-dropped ds 34 (not-false _ e3);
-                power = refl;
-                few = omega (arith, ltb-false 32767 (length ds - 34) e4);
-                high = omega (arith, ltb-false 65535 (x + (length ds - 34)) e5);
-              })))))
+      (λ e2 digits large few high up down at c f fits. inside-no-digit ds 34 digits (leb-false (length ds) 34 e) e2)
+      (λ e2. if-cases IsCut CutRefuses (not (list_all is_zero (drop 34 ds))) _ _
+      (λ e3 digits large few high up down at c f fits.
+      let long = leb-false (length ds) 34 e in
+      let size : length ds - 1 ≡ 33 + (length ds - 34) = omega arith in
+      let from = rw size at (large (omega arith)) in
+      let above = fits-above _ up down c f (length ds - 34) from fits in
+      no-multiple ds 34 digits (not-true _ e3) (fits-exact _ up down c f (length ds - 34) above fits))
+      (λ e3. if-cases IsCut CutRefuses (ltb 32767 (length ds - 34)) _ _
+      (λ e4 digits large few high up down at c f fits. omega (arith, ltb-true 32767 (length ds - 34) e4))
+      (λ e4. if-cases IsCut CutRefuses (ltb 65535 (x + (length ds - 34))) _ _
+      (λ e5 digits large few high up down at c f fits. omega (arith, ltb-true 65535 (x + (length ds - 34)) e5))
+      (λ e5. record {
+        is = zeros-dropped ds 34 (not-false _ e3);
+        power = refl;
+        few = omega (arith, ltb-false 32767 (length ds - 34) e4);
+        high = omega (arith, ltb-false 65535 (x + (length ds - 34)) e5);
+      })))))
 
   -- zeros dropped down to the least exponent
   pub record IsRaised (r : Scaled) : Type 0 where
@@ -118,28 +118,28 @@ module _ (ds : List ℕ) (x : ℕ) where
       if-cases IsRaised Refuses (leb 26592 x) _ _
       (λ e. let low = leb-true 26592 x e in record { kept = λ _. (refl, refl); raised = λ h. absurd (omega arith) })
       (λ e. let low = leb-false 26592 x e in
-        if-cases IsRaised Refuses (eqb (length ds) 0) _ _
-        (λ e2. let none = nil_from_length ds (eqb-true (length ds) 0 e2) in
-          record { kept = λ h. absurd (omega arith); raised = λ _. (refl, inl (none, none)) })
-        (λ e2. if-cases IsRaised Refuses (ltb (length ds) (26592 - x)) _ _
-          (λ e3 digits large up down at c f fits.
-            let some : 0 < length ds = grind (arith, nat_tests) in
-            let long = ltb-true (length ds) (26592 - x) e3 in
-            let whole = divides up down c f (26592 - x) at fits (omega arith) in
-            let below = digits_value-lt 10 ds digits in
-            let wide = tens-le (length ds) (26592 - x) (omega arith) in
-            let small : digits_value 10 ds < 10 ^ (26592 - x) = omega arith in
-            omega (arith, mod-eq_of_lt small, large some, tens-pos (length ds - 1)))
-          (λ e3. let within = ltb-false (length ds) (26592 - x) e3 in
-            if-cases IsRaised Refuses (is_inside (slice_index ds (length ds - (26592 - x)))) _ _
-            (λ e4 digits large up down at c f fits. inside-no-digit ds (length ds - (26592 - x)) digits (omega arith) e4)
-            (λ e4. let size : length ds - (length ds - (26592 - x)) ≡ 26592 - x = omega arith in
-              if-cases IsRaised Refuses (not (list_all is_zero (drop (length ds - (26592 - x)) ds))) _ _
-              (λ e5 digits large up down at c f fits. no-multiple ds (length ds - (26592 - x)) digits (not-true _ e5) (rw size (divides up down c f (26592 - x) at fits (omega arith))))
-              (λ e5. record {
-                kept = λ h. absurd (omega arith);
-                raised = λ _. (refl, inr (rw size at (zeros-dropped ds (length ds - (26592 - x)) (not-false _ e5))));
-              })))))
+      if-cases IsRaised Refuses (eqb (length ds) 0) _ _
+      (λ e2. let none = nil_from_length ds (eqb-true (length ds) 0 e2) in
+      record { kept = λ h. absurd (omega arith); raised = λ _. (refl, inl (none, none)) })
+      (λ e2. if-cases IsRaised Refuses (ltb (length ds) (26592 - x)) _ _
+      (λ e3 digits large up down at c f fits.
+      let some : 0 < length ds = grind (arith, nat_tests) in
+      let long = ltb-true (length ds) (26592 - x) e3 in
+      let whole = divides up down c f (26592 - x) at fits (omega arith) in
+      let below = digits_value-lt 10 ds digits in
+      let wide = tens-le (length ds) (26592 - x) (omega arith) in
+      let small : digits_value 10 ds < 10 ^ (26592 - x) = omega arith in
+      omega (arith, mod-eq_of_lt small, large some, tens-pos (length ds - 1)))
+      (λ e3. let within = ltb-false (length ds) (26592 - x) e3 in
+      if-cases IsRaised Refuses (is_inside (slice_index ds (length ds - (26592 - x)))) _ _
+      (λ e4 digits large up down at c f fits. inside-no-digit ds (length ds - (26592 - x)) digits (omega arith) e4)
+      (λ e4. let size : length ds - (length ds - (26592 - x)) ≡ 26592 - x = omega arith in
+      if-cases IsRaised Refuses (not (list_all is_zero (drop (length ds - (26592 - x)) ds))) _ _
+      (λ e5 digits large up down at c f fits. no-multiple ds (length ds - (26592 - x)) digits (not-true _ e5) (rw size (divides up down c f (26592 - x) at fits (omega arith))))
+      (λ e5. record {
+        kept = λ h. absurd (omega arith);
+        raised = λ _. (refl, inr (rw size at (zeros-dropped ds (length ds - (26592 - x)) (not-false _ e5))));
+      })))))
 
   -- zeros added up to the greatest exponent
   pub record IsPadded (z : ℕ) : Type 0 where
@@ -152,13 +152,13 @@ module _ (ds : List ℕ) (x : ℕ) where
       if-cases IsPadded Refuses (leb x 38879) _ _
       (λ e. let low = leb-true x 38879 e in record { same = λ _. refl; padded = λ h. absurd (omega arith) })
       (λ e. let high = leb-false x 38879 e in
-        if-cases IsPadded Refuses (eqb (length ds) 0) _ _
-        (λ e2. let none = nil_from_length ds (eqb-true (length ds) 0 e2) in record { same = λ h. absurd (omega arith); padded = λ _. inl (none, refl) })
-        (λ e2. if-cases IsPadded Refuses (ltb 34 (length ds + (x - 38879))) _ _
-          (λ e3 digits large up down at c f fits.
-            let some : 0 < length ds = grind (arith, nat_tests) in
-            let long = ltb-true 34 (length ds + (x - 38879)) e3 in
-            let within = fits.exponent in
-            omega (arith, reach 34 (length ds - 1) c (f + down) (digits_value 10 ds) (up + 6176) fits.coefficient (large some) fits.equal))
-          (λ e3. let short = ltb-false 34 (length ds + (x - 38879)) e3 in
-            record { same = λ h. absurd (omega arith); padded = λ _. inr (refl, omega arith) })))
+      if-cases IsPadded Refuses (eqb (length ds) 0) _ _
+      (λ e2. let none = nil_from_length ds (eqb-true (length ds) 0 e2) in record { same = λ h. absurd (omega arith); padded = λ _. inl (none, refl) })
+      (λ e2. if-cases IsPadded Refuses (ltb 34 (length ds + (x - 38879))) _ _
+      (λ e3 digits large up down at c f fits.
+      let some : 0 < length ds = grind (arith, nat_tests) in
+      let long = ltb-true 34 (length ds + (x - 38879)) e3 in
+      let within = fits.exponent in
+      omega (arith, reach 34 (length ds - 1) c (f + down) (digits_value 10 ds) (up + 6176) fits.coefficient (large some) fits.equal))
+      (λ e3. let short = ltb-false 34 (length ds + (x - 38879)) e3 in
+      record { same = λ h. absurd (omega arith); padded = λ _. inr (refl, omega arith) })))

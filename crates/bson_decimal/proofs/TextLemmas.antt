@@ -58,8 +58,8 @@ unfolding exponent_value
 exponent-unread bs h =
     elim (cases_Bool (is_exponent bs)) [
       | inl e ↦
-        let a = and_parts (ltb 0 (length (without_leading_sign bs))) _ e in
-        let b = and_parts (all_ascii_digits (without_leading_sign bs)) _ a.1 in
-        absurd (h ((ltb-true 0 _ a.0, AllDigits-from_test _ b.0), unread-at (starts_with_minus bs) _ b.1))
+          let a = and_parts (ltb 0 (length (without_leading_sign bs))) _ e in
+          let b = and_parts (all_ascii_digits (without_leading_sign bs)) _ a.1 in
+          absurd (h ((ltb-true 0 _ a.0, AllDigits-from_test _ b.0), unread-at (starts_with_minus bs) _ b.1))
       | inr e ↦ rw e refl
     ]

@@ -71,11 +71,11 @@ zeros-not (x ∷ xs) h e =
     elim (cases_Bool (eqb x 48)) [
       | inl z ↦ omega (arith, value-cons x xs, zeros-not xs h.1 (rw z at e))
       | inr z ↦
-        let r = digit_from_value x h.0 in
-        let low = r.0 in
-        let high = r.1 in
-        let large : 1 ≤ digit_value x = grind (arith, nat_tests) in
-        omega (arith, value-cons x xs, mul-le-mul_right (10 ^ length xs) large, tens-pos (length xs))
+          let r = digit_from_value x h.0 in
+          let low = r.0 in
+          let high = r.1 in
+          let large : 1 ≤ digit_value x = grind (arith, nat_tests) in
+          omega (arith, value-cons x xs, mul-le-mul_right (10 ^ length xs) large, tens-pos (length xs))
     ]
 
 -- leading zeros

@@ -1,12 +1,11 @@
 -- What `from_str` answers.
 use Rattle.std.specs.Prelude.{◌≡◌, ℕ, List, Result, MatchResult}
-use Rattle.bson_decimal.specs.declared.Decimal128.{Decimal128}
 use Rattle.bson_decimal.specs.declared.ParseError.{ParseError}
 use Rattle.bson_decimal.specs.Text.{Parses}
-use Rattle.bson_decimal.specs.Steps.{decfault}
+use Rattle.bson_decimal.specs.Steps.{decimal_fault}
 
 -- the decimal that the text denotes, and only that; or, where it denotes none, the kind of its fault
-abbrev pub ParsesTo : List ℕ → Result Decimal128 ParseError → Type 0
+abbrev pub ParsesTo : List ℕ → Result (List ℕ) ParseError → Type 0
 ParsesTo text r =
-    MatchResult r (λ d. Parses text d.bytes × ((b : List ℕ) → Parses text b → b ≡ d.bytes))
-    (λ k. ((b : List ℕ) → ¬ (Parses text b)) × (k ≡ decfault text))
+    MatchResult r (λ d. Parses text d × ((b : List ℕ) → Parses text b → b ≡ d))
+    (λ k. ((b : List ℕ) → ¬ (Parses text b)) × (k ≡ decimal_fault text))

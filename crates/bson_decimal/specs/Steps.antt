@@ -120,5 +120,5 @@ abbrev pub fault_of : Result (ℕ × ℕ) ParseError → ParseError
 fault_of (Ok r) = InvalidCoefficient
 fault_of (Err k) = k
 
-unfoldable pub decfault : List ℕ → ParseError
-decfault text = fault_of (finite (unsigned text))
+unfoldable pub decimal_fault : List ℕ → ParseError
+decimal_fault text = fault_of (finite (unsigned text))

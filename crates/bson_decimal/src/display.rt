@@ -4,8 +4,7 @@ ghost use Rattle.std.specs.Fmt.{decimal, sign_text, WritesOnOk};
 ghost use Rattle.bson_decimal.specs.Printed.{plain_text, power_text, scientific_text, finite_text, printed};
 
 use crate::{Decimal128, Decoded};
-use std::fmt;
-use std::str;
+use std::{fmt, str};
 
 // Writes the digits of `c` so that they end the buffer, and returns where they start.
 fn write_digits(c: u128, buf: &mut [u8; 34]) -> usize
@@ -92,7 +91,12 @@ fn write_finite<W: fmt::Write>(f: &mut fmt::Formatter<W>, digits: &str, e: u16) 
     }
 }
 
-fn write_signed<W: fmt::Write>(f: &mut fmt::Formatter<W>, negative: bool, digits: &str, e: u16) -> fmt::Result
+fn write_signed<W: fmt::Write>(
+    f: &mut fmt::Formatter<W>,
+    negative: bool,
+    digits: &str,
+    e: u16,
+) -> fmt::Result
     requires ascii { IsAscii digits.now }
     requires some { 0 < length digits.now }
     requires short { length digits.now ≤ 34 }
@@ -106,13 +110,17 @@ fn write_signed<W: fmt::Write>(f: &mut fmt::Formatter<W>, negative: bool, digits
 }
 
 impl fmt::Display for Decimal128 {
-    ghost output = { λ d. Some (printed d.bytes) };
+    ghost output = { λ d. Some (printed d) };
 
     #[tactic(auto, unfolding(crate::specs::Printed::printed))]
     fn fmt<W: fmt::Write>(&self, f: &mut fmt::Formatter<W>) -> fmt::Result {
         match self.decode() {
             Decoded::Nan(_, _) => f.write_str("NaN"),
-            Decoded::Infinity(negative) => f.write_str(if negative { "-Infinity" } else { "Infinity" }),
+            Decoded::Infinity(negative) => f.write_str(if negative {
+                "-Infinity"
+            } else {
+                "Infinity"
+            }),
             Decoded::Finite(negative, c, e) => {
                 let mut buf = [0; 34];
                 let start = write_digits(c, &mut buf);

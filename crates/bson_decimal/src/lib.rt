@@ -1,7 +1,9 @@
 // Decimals of 128 bits.
 #![tactic(auto)]
 
-ghost use Rattle.std.specs.Prelude.{◌≡◌, ◌<◌, ◌^◌};
+ghost use Rattle.std.specs.Prelude.{◌≡◌, ◌<◌, ◌^◌, List, ℕ};
+
+use std::marker::Model;
 
 mod digits;
 mod display;
@@ -30,23 +32,31 @@ pub struct Decimal128 {
     bytes: [u8; 16],
 }
 
+impl Model for Decimal128 {
+    ghost Value = { List ℕ };
+
+    ghost view = { λ d. d.bytes };
+
+    ghost inverse = { λ bytes. record { bytes = bytes } };
+}
+
 impl Decimal128 {
     ghost use Rattle.bson_decimal.specs.Pattern.{dec};
 
     pub fn from_bytes(bytes: [u8; 16]) -> Decimal128
-        ensures { result.bytes ≡ bytes }
+        ensures { result ≡ bytes }
     {
         Decimal128 { bytes }
     }
 
     pub fn bytes(&self) -> [u8; 16]
-        ensures { result ≡ self.now.bytes }
+        ensures { result ≡ self.now }
     {
         self.bytes
     }
 
     pub(crate) fn decode(&self) -> Decoded
-        ensures { result ≡ dec self.now.bytes }
+        ensures { result ≡ dec self.now }
     {
         let n = u128::from_le_bytes(self.bytes);
         let negative = (n >> 127) % 2 == 1;
@@ -62,7 +72,15 @@ impl Decimal128 {
         }
         let c = n % (1 << 113);
         let e = ((n >> 113) % 16384) as u16;
-        Decoded::Finite(negative, if c < 10_000_000_000_000_000_000_000_000_000_000_000 { c } else { 0 }, e)
+        Decoded::Finite(
+            negative,
+            if c < 10_000_000_000_000_000_000_000_000_000_000_000 {
+                c
+            } else {
+                0
+            },
+            e,
+        )
     }
 }
 

@@ -17,7 +17,9 @@ use std::str::FromStr;
 
 // The exponents -6176 and 6111, and the greatest of 16 bits, with 32768 added to each.
 const LEAST: usize = 26592;
+
 const GREATEST: usize = 38879;
+
 const LIMIT: usize = 65535;
 
 fn find_mark(text: &[u8]) -> Option<usize>
@@ -222,7 +224,11 @@ fn finite(rest: &str) -> Result<(u128, u16), ParseError>
     let bytes = &bytes[..mark_at(bytes)];
     let point = point_at(bytes);
     let whole = &bytes[..point];
-    let fraction = if point < bytes.len() { &bytes[point + 1..] } else { &[] };
+    let fraction = if point < bytes.len() {
+        &bytes[point + 1..]
+    } else {
+        &[]
+    };
     let x = scaled_exponent(x, fraction)?;
     settled(Digits::new(whole, fraction), x)
 }
@@ -277,7 +283,7 @@ impl FromStr for Decimal128 {
     fn from_str(s: &str) -> Result<Decimal128, ParseError>
         ensures answer { ParsesTo s.now result }
         ensures reads_printed { (b : List ℕ) → s.now ≡ printed b
-            → IsOkAnd result (λ d. d.bytes ≡ canon b) }
+            → IsOkAnd result (λ d. d ≡ canon b) }
         ensures prints_apart { (a b : List ℕ) → (printed a ≡ printed b) ↔ (canon a ≡ canon b) }
     {
         let negative = is_negative(s);

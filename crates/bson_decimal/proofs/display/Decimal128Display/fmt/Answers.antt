@@ -15,5 +15,5 @@ unfolding printed
 returns-in-Ok-clause-writes g c =
     let w = c.write_digits-start in
     let text : c.in-Ok.digits.now ≡ decimal c.in-Finite.c = c.in-Ok.ensures.cases.0 ∙ take_all _ (drop w.result w.new.buf) (omega (arith, length-drop w.result w.new.buf)) ∙ w.ensures.written in
-    let is : sign_text c.in-Finite.negative ++ finite_text (decimal c.in-Finite.c) c.in-Finite.e ≡ printed c.args.self.now.bytes = ap shown c.in-Finite.ensures in
+    let is : sign_text c.in-Finite.negative ++ finite_text (decimal c.in-Finite.c) c.in-Finite.e ≡ printed c.args.self.now = ap shown c.in-Finite.ensures in
     λ plain ok. subst (λ (t : List ℕ). HasWritten g.W.Write.write_str_gives c.args.f.now t c.write_signed.new.f) is (rw text at (c.write_signed.ensures plain ok))

@@ -5,7 +5,7 @@ use Rattle.std.specs.Int.{w128, to_le_bytes}
 use Rattle.std.specs.Str.Parse.{without_leading_sign, starts_with_minus}
 use Rattle.bson_decimal.specs.Pattern.{sign_weight, first_form}
 use Rattle.bson_decimal.specs.Text.{Parses, SpecialWord}
-use Rattle.bson_decimal.specs.Steps.{finite, decfault, fault_of}
+use Rattle.bson_decimal.specs.Steps.{finite, decimal_fault, fault_of}
 use Rattle.bson_decimal.proofs.Parsing.{special-parses, finite-parses, refused-parses, finite-within}
 use Rattle.bson_decimal.specs.FromStr.{ParsesTo}
 use Rattle.bson_decimal.proofs.PrintedLaws.{reads-printed, printed-same}
@@ -14,11 +14,11 @@ use Rattle.bson_decimal.proofs.parse.Decimal128FromStr.from_str.Goals as goal
 abbrev Only : List ℕ → List ℕ → Type 0
 Only text d = Parses text d × ((b : List ℕ) → Parses text b → b ≡ d)
 
-some : (c : goal.After-from_bytes) → Only c.args.s.now c.from_bytes.result.bytes
+some : (c : goal.After-from_bytes) → Only c.args.s.now c.from_bytes.result
 some c =
     let text = c.args.s.now in
     let word = rw c.without_sign-rest.ensures at c.in-Some.ensures.word in
-    let bytes : c.from_bytes.result.bytes ≡ to_le_bytes w128 (sign_weight (starts_with_minus text) + c.in-Some.n) =
+    let bytes : c.from_bytes.result ≡ to_le_bytes w128 (sign_weight (starts_with_minus text) + c.in-Some.n) =
     c.from_bytes.ensures ∙ c.to_le_bytes.ensures ∙ ap (λ n. to_le_bytes w128 (n + c.in-Some.n)) (c.sign_weight.ensures.value ∙ ap sign_weight c.is_negative-negative.ensures) in
     subst (Only text) (sym bytes) (special-parses text c.in-Some.n word)
 
@@ -32,7 +32,7 @@ pub returns-in-Some-clause-prints_apart : goal.returns-in-Some-clause-prints_apa
 returns-in-Some-clause-prints_apart c = printed-same
 
 refused : (c : goal.After-from_residual) → ParsesTo c.args.s.now c.from_residual.result
-unfolding decfault
+unfolding decimal_fault
 refused c =
     let text = c.args.s.now in
     let p = err_from_is_err_and c.from_residual.result c.from_residual.ensures.1 in
@@ -55,12 +55,12 @@ pack-requires-clause-coefficient c = (finite-within _ _ (sym c.in_ok-c.ensures.v
 pub pack-requires-clause-exponent : goal.pack-requires-clause-exponent
 pack-requires-clause-exponent c = (finite-within _ _ (sym c.in_ok-c.ensures.value)).1
 
-pair : (c : goal.After-from_bytes-2) → Only c.args.s.now c.from_bytes-2.result.bytes
+pair : (c : goal.After-from_bytes-2) → Only c.args.s.now c.from_bytes-2.result
 pair c =
     let text = c.args.s.now in
     let is : finite (without_leading_sign text) ≡ Ok (c.in_ok-c.c, c.in_ok-c.e) = ap finite (sym c.without_sign-rest.ensures) ∙ sym c.in_ok-c.ensures.value in
     let plain = rw c.without_sign-rest.ensures at c.in_default.ensures.word in
-    let bytes : c.from_bytes-2.result.bytes ≡ to_le_bytes w128 (first_form (starts_with_minus text) c.in_ok-c.c c.in_ok-c.e) =
+    let bytes : c.from_bytes-2.result ≡ to_le_bytes w128 (first_form (starts_with_minus text) c.in_ok-c.c c.in_ok-c.e) =
     c.from_bytes-2.ensures ∙ c.to_le_bytes-2.ensures ∙ ap (to_le_bytes w128) (c.pack.ensures ∙ ap (λ b. first_form b c.in_ok-c.c c.in_ok-c.e) c.is_negative-negative.ensures) in
     subst (Only text) (sym bytes) (finite-parses text _ plain is)
 
