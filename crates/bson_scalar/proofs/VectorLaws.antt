@@ -1,0 +1,55 @@
+-- A vector's bytes tell what it holds.
+use Rattle.std.proofs.Common.{◌≡◌, ◌<◌, ◌^◌, ◌++◌, ◌%◌, ℕ, ℤ, List, [], ◌∷◌, length, map, take, drop, refl, sym, ap, ap₂, ◌∙◌, subst, arith, w8, w32, FitsSigned}
+use Rattle.std.specs.Int.{cast_signed, cast_unsigned, to_le_bytes, from_le_bytes}
+use Rattle.std.specs.List.{AllByRecursion, flat_map}
+use Rattle.std.proofs.lemmas.Int.{to_z-of_z}
+use Rattle.std.proofs.lemmas.Nat.{from_le_bytes-to_le_bytes_4}
+use Rattle.bson_scalar.specs.Vectors.{le_bytes_of}
+use Rattle.bson_scalar.specs.VectorData.{VectorData, int8, float32, packed, data_bytes, IsInRange, OneVector}
+
+head_is : {X : Type 0} (x y : X) (xs ys : List X) → x ∷ xs ≡ y ∷ ys → x ≡ y
+head_is x y xs ys h = cc
+
+tail_is : {X : Type 0} (x y : X) (xs ys : List X) → x ∷ xs ≡ y ∷ ys → xs ≡ ys
+tail_is x y xs ys h = cc
+
+signed_back : (zs : List ℤ) → AllByRecursion (FitsSigned w8) zs → map (cast_signed w8) (map (cast_unsigned w8) zs) ≡ zs
+signed_back [] h = refl
+signed_back (z ∷ zs) h = let first : cast_signed w8 (cast_unsigned w8 z) ≡ z = to_z-of_z w8 z h.0 in rw first (ap (λ ys. z ∷ ys) (signed_back zs h.1))
+
+
+-- words from their bytes
+abbrev words : List ℕ → List ℕ
+words (a ∷ b ∷ c ∷ d ∷ rest) = from_le_bytes w32 (a ∷ b ∷ c ∷ d ∷ []) ∷ words rest
+words _ = []
+
+words_back : (ns : List ℕ) → AllByRecursion (λ n. n < 2 ^ 32) ns → words (le_bytes_of ns) ≡ ns
+words_back [] h = refl
+words_back (n ∷ ns) h = ap₂ (λ x xs. x ∷ xs) (from_le_bytes-to_le_bytes_4 n h.0) (words_back ns h.1)
+
+two_off : (a b c d : ℕ) (xs ys : List ℕ) → a ∷ b ∷ xs ≡ c ∷ d ∷ ys → xs ≡ ys
+two_off a b c d xs ys h = tail_is b d xs ys (tail_is a c (b ∷ xs) (d ∷ ys) h)
+
+-- numbers of four bytes each
+pub le_bytes_of-whole : (ns : List ℕ) → length (le_bytes_of ns) % 4 ≡ 0
+le_bytes_of-whole [] = refl
+le_bytes_of-whole (n ∷ ns) = omega (arith, le_bytes_of-whole ns)
+
+pub ruleset vector_lemmas = (le_bytes_of-whole)
+
+pub one_vector : OneVector
+one_vector (int8 xs) (int8 ys) p q h =
+    let e = two_off _ _ _ _ _ _ h in
+    ap int8 (sym (signed_back xs p) ∙ ap (map (cast_signed w8)) e ∙ signed_back ys q)
+one_vector (float32 xs) (float32 ys) p q h =
+    let e = two_off _ _ _ _ _ _ h in
+    ap float32 (sym (words_back xs p) ∙ ap words e ∙ words_back ys q)
+one_vector (packed xs j) (packed ys k) p q h =
+    let a = tail_is _ _ _ _ h in
+    ap₂ packed (tail_is _ _ _ _ a) (head_is _ _ _ _ a)
+one_vector (int8 xs) (float32 ys) p q h = let e : 3 ≡ 39 = head_is 3 39 _ _ h in absurd (omega (arith, e))
+one_vector (int8 xs) (packed ys k) p q h = let e : 3 ≡ 16 = head_is 3 16 _ _ h in absurd (omega (arith, e))
+one_vector (float32 xs) (int8 ys) p q h = let e : 39 ≡ 3 = head_is 39 3 _ _ h in absurd (omega (arith, e))
+one_vector (float32 xs) (packed ys k) p q h = let e : 39 ≡ 16 = head_is 39 16 _ _ h in absurd (omega (arith, e))
+one_vector (packed xs j) (int8 ys) p q h = let e : 16 ≡ 3 = head_is 16 3 _ _ h in absurd (omega (arith, e))
+one_vector (packed xs j) (float32 ys) p q h = let e : 16 ≡ 39 = head_is 16 39 _ _ h in absurd (omega (arith, e))

@@ -1,0 +1,7 @@
+use Rattle.std.proofs.lemmas.Str.{IsUtf8-from_ascii}
+use Rattle.base64.specs.Engines.{standard}
+use Rattle.base64.proofs.EngineFacts.{IsAscii-encode_of}
+use Rattle.bson_scalar.proofs.binary.group_text.Goals as goal
+
+pub unreachable-requires : goal.unreachable-requires
+unreachable-requires c = c.in-Err.ensures.cases.0 (rw c.group_bytes.ensures (IsUtf8-from_ascii _ (IsAscii-encode_of standard c.args.bytes.now)))

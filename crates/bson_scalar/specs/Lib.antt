@@ -1,0 +1,9 @@
+pub mod Subtype
+pub mod Orders
+pub mod Base64
+pub mod Fault
+pub mod Vectors
+pub mod Shown
+pub mod VectorData
+pub mod Oid
+pub mod OidFault
