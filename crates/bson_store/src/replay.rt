@@ -1,0 +1,72 @@
+//! Commands to any store, one after another.
+ghost use Rattle.std.specs.Prelude.{◌≡◌, ◌<◌, IfOk, IfErr, OnErr, length, take};
+ghost use Rattle.bson_store.specs.Replay.{reply, step, replies, after};
+
+use crate::calls;
+use crate::pair_store::PairStore;
+use std::alloc::Global;
+
+/// A call to a store.
+#[derive(Drop)]
+pub enum Command<V> {
+    /// Puts the value at the key; the reply is the one that was there.
+    Put(String, V),
+    /// Takes the value at the key; the reply is that value.
+    Take(String),
+    /// Takes every pair out; the reply is None.
+    Clear,
+}
+
+/// Want of memory in `replay`: the first `done` commands were run, and no other.
+#[derive(Clone, Copy, Debug, PartialEq, Eq)]
+pub struct Stopped {
+    pub done: usize,
+}
+
+fn run_one<V: Drop, S: PairStore<V>>(
+    store: &mut S,
+    command: Command<V>,
+) -> Result<Option<V>, (String, V)>
+    ensures ok { IfOk result (λ r. (r ≡ reply command (S.pairs store.old)) × (S.pairs store.new ≡ step command (S.pairs store.old))) }
+    ensures err { OnErr result (S.pairs store.new ≡ S.pairs store.old) }
+{
+    match command {
+        Command::Put(key, value) => calls::put(store, key, value),
+        Command::Take(key) => Ok(calls::take(store, key.as_str())),
+        Command::Clear => {
+            store.clear();
+            Ok(None)
+        }
+    }
+}
+
+/// Runs the commands in turn, and returns their replies in the same order.
+///
+/// Where memory is refused, for the replies or for a new key, it stops: the store is then as it is after the first `done` commands.
+pub fn replay<V: Drop, S: PairStore<V>>(
+    alloc: Global,
+    store: &mut S,
+    commands: Vec<Command<V>>,
+) -> Result<Vec<Option<V>>, Stopped>
+    ensures ok { IfOk result (λ rs. (rs.items ≡ replies commands.items (S.pairs store.old)) × (S.pairs store.new ≡ after commands.items (S.pairs store.old))) }
+
+    // Out of memory.
+    ensures err { IfErr result (λ s. S.pairs store.new ≡ after (take s.done commands.items) (S.pairs store.old)) }
+    ensures within { IfErr result (λ s. s.done < length commands.items) }
+{
+    let mut all = Vec::new(alloc);
+    if all.reserve(commands.len()).is_err() {
+        return Err(Stopped { done: 0 });
+    }
+    for command in commands {
+        let done = all.len();
+        match run_one(store, command) {
+            Err(_) => return Err(Stopped { done }),
+            Ok(reply) => match all.push(reply) {
+                Ok(()) => {}
+                Err(_) => unreachable!(),
+            },
+        }
+    }
+    Ok(all)
+}
