@@ -1,3 +1,5 @@
 pub mod OrderLemmas
 pub mod VectorLaws
 pub mod IdOrder
+pub mod Sorting
+pub mod SortedText

@@ -1,11 +1,11 @@
 -- A vector's bytes tell what it holds.
-use Rattle.std.proofs.Common.{◌≡◌, ◌<◌, ◌^◌, ◌++◌, ◌%◌, ℕ, ℤ, List, [], ◌∷◌, length, map, take, drop, refl, sym, ap, ap₂, ◌∙◌, subst, arith, w8, w32, FitsSigned}
-use Rattle.std.specs.Int.{cast_signed, cast_unsigned, to_le_bytes, from_le_bytes}
-use Rattle.std.specs.List.{AllByRecursion, flat_map}
+use Rattle.std.proofs.Common.{◌≡◌, ◌<◌, ◌^◌, ◌%◌, ℕ, ℤ, List, [], ◌∷◌, length, map, refl, sym, ap, ap₂, ◌∙◌, arith, w8, w32, FitsSigned}
+use Rattle.std.specs.Int.{cast_signed, cast_unsigned, from_le_bytes}
+use Rattle.std.specs.List.{AllByRecursion}
 use Rattle.std.proofs.lemmas.Int.{to_z-of_z}
 use Rattle.std.proofs.lemmas.Nat.{from_le_bytes-to_le_bytes_4}
 use Rattle.bson_scalar.specs.Vectors.{le_bytes_of}
-use Rattle.bson_scalar.specs.VectorData.{VectorData, int8, float32, packed, data_bytes, IsInRange, OneVector}
+use Rattle.bson_scalar.specs.VectorData.{int8, float32, packed, OneVector}
 
 head_is : {X : Type 0} (x y : X) (xs ys : List X) → x ∷ xs ≡ y ∷ ys → x ≡ y
 head_is x y xs ys h = cc
@@ -16,7 +16,6 @@ tail_is x y xs ys h = cc
 signed_back : (zs : List ℤ) → AllByRecursion (FitsSigned w8) zs → map (cast_signed w8) (map (cast_unsigned w8) zs) ≡ zs
 signed_back [] h = refl
 signed_back (z ∷ zs) h = let first : cast_signed w8 (cast_unsigned w8 z) ≡ z = to_z-of_z w8 z h.0 in rw first (ap (λ ys. z ∷ ys) (signed_back zs h.1))
-
 
 -- words from their bytes
 abbrev words : List ℕ → List ℕ

@@ -7,3 +7,4 @@ pub mod Shown
 pub mod VectorData
 pub mod Oid
 pub mod OidFault
+pub mod Regex

@@ -1,6 +1,6 @@
 -- What a vector holds, and that its bytes tell it.
 use Rattle.std.specs.Prelude.{◌≡◌, ◌<◌, ◌^◌, ℕ, ℤ, List, ◌∷◌, map, FitsSigned}
-use Rattle.std.specs.Int.{w8, w32, cast_unsigned}
+use Rattle.std.specs.Int.{w8, cast_unsigned}
 use Rattle.std.specs.List.{AllByRecursion}
 use Rattle.bson_scalar.specs.Vectors.{le_bytes_of}
 use Rattle.bson_scalar.specs.declared.binary.Vector.{Vector}

@@ -2,14 +2,15 @@
 //! Dates and decimals stand in crates of their own and are named here too.
 #![tactic(auto)]
 
-pub mod spec;
-pub mod oid;
-pub mod uuid_value;
 pub mod binary;
-mod packed;
-mod vector_bytes;
-pub mod timestamp;
-pub mod regex;
 pub mod db_pointer;
+pub mod oid;
+mod packed;
+pub mod regex;
+pub mod spec;
+pub mod timestamp;
+pub mod uuid_value;
+mod vector_bytes;
+
 pub use bson_datetime as datetime;
 pub use bson_decimal as decimal128;

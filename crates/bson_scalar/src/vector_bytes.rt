@@ -79,5 +79,4 @@ pub fn read_vector(alloc: Global, bytes: &[u8]) -> Result<Vector, Error>
 /// Vectors with the same bytes hold the same.
 pub fn one_vector()
     ensures { OneVector }
-{
-}
+{}

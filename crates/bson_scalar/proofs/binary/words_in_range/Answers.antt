@@ -1,4 +1,4 @@
-use Rattle.std.proofs.Common.{◌≡◌, ◌<◌, ◌^◌, ℕ, suc, List, [], ◌∷◌, get_or, Fits, w32}
+use Rattle.std.proofs.Common.{◌<◌, ◌^◌, ℕ, suc, List, [], ◌∷◌, get_or, Fits, w32}
 use Rattle.std.specs.List.{AllByRecursion}
 use Rattle.bson_scalar.proofs.binary.words_in_range.Goals as goal
 

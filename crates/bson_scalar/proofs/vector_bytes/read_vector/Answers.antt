@@ -1,7 +1,7 @@
-use Rattle.std.proofs.Common.{◌≡◌, refl, sym, ◌∙◌, List, ℕ}
+use Rattle.std.proofs.Common.{◌≡◌, refl, sym, ◌∙◌}
 use Rattle.bson_scalar.specs.declared.binary.Vector.{Vector}
 use Rattle.bson_scalar.specs.declared.binary.Vector.TheVariants.{Int8, Float32, PackedBit}
-use Rattle.bson_scalar.specs.VectorData.{VectorData, IsInRange, vector_view, data_bytes}
+use Rattle.bson_scalar.specs.VectorData.{vector_view, data_bytes}
 use Rattle.bson_scalar.specs.Vectors.{vector_bytes}
 use Rattle.bson_scalar.proofs.VectorLaws.{one_vector}
 use Rattle.bson_scalar.proofs.vector_bytes.read_vector.Goals as goal
