@@ -14,7 +14,8 @@ use Rattle.std.specs.Str.Parse.{AllDigits, digits_value, without_leading_sign, s
 use Rattle.bson_decimal.specs.declared.ParseError.{ParseError}
 use Rattle.std.specs.Option.{ok_or}
 use Rattle.bson_decimal.specs.declared.ParseError.TheVariants.{EmptyExponent, InvalidExponent}
-use Rattle.bson_decimal.specs.Text.{Sign, none, plus, minus, sign_bytes, is_minus, Exponent, unwritten, written, exponent_bytes, fraction_bytes, fraction_digits, IsExponent, raised, lowered}
+use Rattle.bson_decimal.specs.Numeral.{Sign, none, plus, minus, sign_bytes, is_minus, Exponent, unwritten, written, exponent_bytes, fraction_bytes, fraction_digits, IsExponent}
+use Rattle.bson_decimal.proofs.Shifted.{raised, lowered}
 use Rattle.bson_decimal.specs.Steps.{is_mark, is_point, has, is_exponent, biased_exponent, exponent_value, written_exponent, scaled_exponent, settled, finite, bind}
 use Rattle.bson_decimal.proofs.StepLaws.{if-cases, not-true, not-false}
 use Rattle.bson_decimal.proofs.Zeros.{AllDigits-parts}

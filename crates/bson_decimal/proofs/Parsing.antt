@@ -11,8 +11,10 @@ use Rattle.std.specs.List.{before_first, after_first}
 use Rattle.std.specs.Str.Parse.{AllDigits, digits_value, without_leading_sign, starts_with_minus}
 use Rattle.bson_decimal.specs.declared.ParseError.{ParseError}
 use Rattle.bson_decimal.specs.Pattern.{first_form, sign_weight}
-use Rattle.bson_decimal.specs.Nearest.{Fits, IsNearest}
-use Rattle.bson_decimal.specs.Text.{Sign, sign_bytes, is_minus, Exponent, exponent_bytes, fraction_bytes, fraction_digits, IsExponent, raised, lowered, Numeral, numeral_bytes, digits_of, IsFiniteText, number, up, down, excess, IsWithin16, SpecialWord, nan, snan, infinity, inf, Parses, special, finite as finite_text, lowercase, without_leading_zeros}
+use Rattle.bson_decimal.proofs.Shifted.{FitsShifted, IsNearestShifted}
+use Rattle.bson_decimal.specs.Numeral.{Sign, sign_bytes, is_minus, Exponent, exponent_bytes, fraction_bytes, fraction_digits, IsExponent, Numeral, numeral_bytes, digits_of, IsFiniteText, number, without_leading_zeros}
+use Rattle.bson_decimal.specs.Text.{excess, SpecialWord, nan, snan, infinity, inf, Parses, special, finite as finite_text, lowercase}
+use Rattle.bson_decimal.proofs.Shifted.{raised, lowered, up, down, IsWithin16Shifted, within16, within16-shifted, nearest, nearest-shifted}
 use Rattle.bson_decimal.specs.Steps.{is_mark, is_point, scaled_exponent, settled, finite}
 use Rattle.bson_decimal.proofs.StepLaws.{if-cases, NoneFitsAt}
 use Rattle.bson_decimal.proofs.Settled.{bind-by, IsSettled, SettledRefuses, settled-cases}
@@ -90,7 +92,7 @@ pub record StepsOn (text : List ℕ) (n : Numeral) : Type 0 where
   pub steps : finite (without_leading_sign text) ≡ settled (digits_of n) x
   pub sign : starts_with_minus text ≡ is_minus n.sign
 
-pub steps-on : (text : List ℕ) (n : Numeral) → IsFiniteText text n → IsWithin16 n → StepsOn text n
+pub steps-on : (text : List ℕ) (n : Numeral) → IsFiniteText text n → IsWithin16Shifted n → StepsOn text n
 steps-on text n t l =
     let rest = n.whole ++ (fraction_bytes n.fraction ++ exponent_bytes n.exponent) in
     let first = front-no-sign n.whole n.fraction (exponent_bytes n.exponent) t.digits t.some in
@@ -110,7 +112,7 @@ steps-on text n t l =
     }
 
 -- a text that the steps refuse denotes nothing
-pub refused : (text : List ℕ) (k : ParseError) → finite (without_leading_sign text) ≡ Err k → (n : Numeral) (c e : ℕ) → IsFiniteText text n → IsWithin16 n → Fits (number n) (up n) (down n) c e → ⊥
+pub refused : (text : List ℕ) (k : ParseError) → finite (without_leading_sign text) ≡ Err k → (n : Numeral) (c e : ℕ) → IsFiniteText text n → IsWithin16Shifted n → FitsShifted (number n) (up n) (down n) c e → ⊥
 refused text k is n c e t l fits =
     let s = steps-on text n t l in
     let at = s.at in
@@ -118,7 +120,7 @@ refused text k is n c e t l fits =
     rw (sym s.steps ∙ is) at (settled-cases (digits_of n) s.x s.within) t.digits t.some l.cut (omega arith) (up n) (down n) s.at c e fits
 
 -- and what they give is the one pair
-pub only : (text : List ℕ) (r : ℕ × ℕ) → finite (without_leading_sign text) ≡ Ok r → (n : Numeral) (c e : ℕ) → IsFiniteText text n → IsWithin16 n → IsNearest (number n) (up n) (down n) c e
+pub only : (text : List ℕ) (r : ℕ × ℕ) → finite (without_leading_sign text) ≡ Ok r → (n : Numeral) (c e : ℕ) → IsFiniteText text n → IsWithin16Shifted n → IsNearestShifted (number n) (up n) (down n) c e
     → (c ≡ r.0) × (e ≡ r.1)
 only text r is n c e t l near =
     let s = steps-on text n t l in
@@ -141,8 +143,8 @@ read text r h =
       some = settled.some;
       exponent = h.ok;
     })
-    (record { high = h.high; low = h.low; fraction = h.short; least = omega arith; cut = few; greatest = omega arith })
-    (settled.nearest (up n) (down n) (omega arith))
+    (within16 n (record { high = h.high; low = h.low; fraction = h.short; least = omega arith; cut = few; greatest = omega arith }))
+    (nearest n r.0 r.1 (settled.nearest (up n) (down n) (omega arith)))
     (ap (λ b. to_le_bytes w128 (first_form b r.0 r.1)) s.2)
 
 -- words
@@ -219,13 +221,14 @@ finite-parses text r plain is = (read text r (rw is at (reads-finite (without_le
     only-pair : (b : List ℕ) → Parses text b → b ≡ to_le_bytes w128 (first_form (starts_with_minus text) r.0 r.1)
     only-pair b (special s word m w-is w b-is) = absurd (plain m (rw (ap without_leading_sign w-is ∙ (word-off s word m w).0) w))
     only-pair b (finite_text n c e t l near b-is) =
-        let same = only text r is n c e t l near in
-        let s = steps-on text n t l in
+        let limits = within16-shifted n l in
+        let same = only text r is n c e t limits (nearest-shifted n c e near) in
+        let s = steps-on text n t limits in
         b-is ∙ rw (same.0, same.1, s.sign) refl
 
 pub refused-parses : (text : List ℕ) (k : ParseError) → ((n : ℕ) → ¬ (SpecialWord (without_leading_sign text) n)) → finite (without_leading_sign text) ≡ Err k → (b : List ℕ) → ¬ (Parses text b)
 refused-parses text k plain is b (special s word m w-is w b-is) = plain m (rw (ap without_leading_sign w-is ∙ (word-off s word m w).0) w)
-refused-parses text k plain is b (finite_text n c e t l near b-is) = refused text k is n c e t l near.fits
+refused-parses text k plain is b (finite_text n c e t l near b-is) = refused text k is n c e t (within16-shifted n l) (nearest-shifted n c e near).fits
 
 pub finite-within : (text : List ℕ) (r : ℕ × ℕ) → finite text ≡ Ok r → (r.0 < 10 ^ 34) × (r.1 < 12288)
 finite-within text r is =

@@ -2,8 +2,8 @@
 use Rattle.std.proofs.Common.{◌≡◌, ℕ, ◌+◌, ◌*◌, ◌/◌, ◌%◌, ◌^◌, ◌<◌, Bool, true, false, List, refl, ap, ◌∙◌, arith}
 use Rattle.std.proofs.lemmas.Bool.Decides.{nat_tests}
 use Rattle.std.specs.Int.{w128, from_le_bytes, to_le_bytes}
-use Rattle.bson_decimal.specs.declared.Decoded.{Decoded}
-use Rattle.bson_decimal.specs.declared.Decoded.TheVariants.{Nan, Infinity, Finite}
+use Rattle.bson_decimal.specs.declared.bits.Decoded.{Decoded}
+use Rattle.bson_decimal.specs.declared.bits.Decoded.TheVariants.{Nan, Infinity, Finite}
 use Rattle.bson_decimal.specs.Pattern.{decoded, dec, first_form, canon, canon_number}
 use Rattle.bson_decimal.proofs.Bytes.{from_le_bytes-to_le_bytes_16}
 

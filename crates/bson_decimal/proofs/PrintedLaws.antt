@@ -17,12 +17,14 @@ use Rattle.std.proofs.Math.Numerals.{one-add}
 use Rattle.std.specs.Int.{w128, to_le_bytes, from_le_bytes}
 use Rattle.std.specs.List.{prefix_len}
 use Rattle.std.specs.Str.Parse.{AllDigits, digits_value}
-use Rattle.bson_decimal.specs.declared.Decoded.{Decoded}
-use Rattle.bson_decimal.specs.declared.Decoded.TheVariants.{Nan, Infinity, Finite}
+use Rattle.bson_decimal.specs.declared.bits.Decoded.{Decoded}
+use Rattle.bson_decimal.specs.declared.bits.Decoded.TheVariants.{Nan, Infinity, Finite}
 use Rattle.bson_decimal.specs.Pattern.{decoded, dec, first_form, sign_weight, canon, canon_number, field, is_set, counted}
 use Rattle.bson_decimal.specs.Printed.{shown, printed, finite_text, plain_text, scientific_text, power_text}
-use Rattle.bson_decimal.specs.Nearest.{IsNearest}
-use Rattle.bson_decimal.specs.Text.{Sign, none, plus, minus, sign_bytes, is_minus, Exponent, unwritten, written, exponent_bytes, fraction_bytes, fraction_digits, IsExponent, raised, lowered, Numeral, numeral_bytes, digits_of, IsFiniteText, number, up, down, excess, IsWithin16, Parses, special, nan, infinity, finite, is_zero, without_leading_zeros}
+use Rattle.bson_decimal.proofs.Shifted.{IsNearestShifted}
+use Rattle.bson_decimal.specs.Numeral.{Sign, none, plus, minus, sign_bytes, is_minus, Exponent, unwritten, written, exponent_bytes, fraction_bytes, fraction_digits, IsExponent, Numeral, numeral_bytes, digits_of, IsFiniteText, number, is_zero, without_leading_zeros}
+use Rattle.bson_decimal.specs.Text.{excess, Parses, special, nan, infinity, finite}
+use Rattle.bson_decimal.proofs.Shifted.{raised, lowered, up, down, within16, nearest}
 use Rattle.bson_decimal.proofs.NearestLaws.{nearest-same}
 use Rattle.bson_decimal.proofs.Zeros.{value-before, AllDigits-append, AllDigits-zeros}
 
@@ -86,8 +88,8 @@ from-prints negative c e body small within p =
     let at = p.at in
     finite n c e
     (record { is = ap (λ t. t ++ body) (sign_bytes-is negative) ∙ ap (λ t. sign_bytes (sign_of negative) ++ t) p.is; digits = p.digits; some = p.some; exponent = p.ok })
-    (record { high = omega arith; low = omega arith; fraction = omega arith; least = omega arith; cut = omega arith; greatest = omega arith })
-    (subst (λ m. IsNearest m (up n) (down n) c e) (sym p.value) (nearest-same c (up n) (down n) e small within p.at))
+    (within16 n (record { high = omega arith; low = omega arith; fraction = omega arith; least = omega arith; cut = omega arith; greatest = omega arith }))
+    (nearest n c e (subst (λ m. IsNearestShifted m (up n) (down n) c e) (sym p.value) (nearest-same c (up n) (down n) e small within p.at)))
     (ap (λ b. to_le_bytes w128 (first_form b c e)) (sym (is_minus-is negative)))
 
 stripped-le : (ds : List ℕ) → length ds ≤ 34 → length (without_leading_zeros ds) ≤ 34

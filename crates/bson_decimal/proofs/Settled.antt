@@ -11,8 +11,8 @@ use Rattle.std.specs.List.{list_all, slice_index, prefix_len}
 use Rattle.std.specs.Str.{all_ascii_digits}
 use Rattle.std.specs.Str.Parse.{AllDigits, digits_value}
 use Rattle.bson_decimal.specs.declared.ParseError.{ParseError}
-use Rattle.bson_decimal.specs.Nearest.{Fits, IsNearest, distance}
-use Rattle.bson_decimal.specs.Text.{is_zero, without_leading_zeros}
+use Rattle.bson_decimal.proofs.Shifted.{FitsShifted, IsNearestShifted, distance_shifted}
+use Rattle.bson_decimal.specs.Numeral.{is_zero, without_leading_zeros}
 use Rattle.bson_decimal.specs.Steps.{cut_at_34, raise_to_least, zeros_to_add, coefficient, settled, Scaled, bind}
 use Rattle.bson_decimal.proofs.Tens.{tens-pos, tens-le, reach, raised, lowered}
 use Rattle.bson_decimal.proofs.DigitTests.{AllDigits-from_test, test-from_AllDigits, scaled-lt}
@@ -32,7 +32,7 @@ bind-by P Q R S (Ok a) f h g k = g a h
 bind-by P Q R S (Err e) f h g k = k e h
 
 -- zeros behind the digits move the exponent
-pub fits-moved : (xs ds : List ℕ) (k up down c e : ℕ) → ds ≡ xs ++ replicate k 48 → Fits (digits_value 10 ds) up down c e → Fits (digits_value 10 xs) (up + k) down c e
+pub fits-moved : (xs ds : List ℕ) (k up down c e : ℕ) → ds ≡ xs ++ replicate k 48 → FitsShifted (digits_value 10 ds) up down c e → FitsShifted (digits_value 10 xs) (up + k) down c e
 fits-moved xs ds k up down c e is f =
     record { equal = (let e2 : up + k + 6176 ≡ up + 6176 + k = omega arith in rw e2 (f.equal ∙ sym (raised (digits_value 10 xs) k (digits_value 10 ds) (up + 6176) (ap (digits_value 10) is ∙ value-behind xs k)))); coefficient = f.coefficient; exponent = f.exponent }
 
@@ -51,7 +51,7 @@ large-kept xs ds k is h some =
     ]
 
 -- the pair of zero
-nearest-zero : (up down e : ℕ) → e < 12288 → ((f : ℕ) → f < 12288 → distance up down e ≤ distance up down f) → IsNearest 0 up down 0 e
+nearest-zero : (up down e : ℕ) → e < 12288 → ((f : ℕ) → f < 12288 → distance_shifted up down e ≤ distance_shifted up down f) → IsNearestShifted 0 up down 0 e
 nearest-zero up down e within least = record { fits = record { equal = omega arith; coefficient = omega arith; exponent = within }; least = λ d f g. least f g.exponent }
 
 -- the first digit is no zero
@@ -88,7 +88,7 @@ module _ (ds ks : List ℕ) (k y up down : ℕ) (at : y + down ≡ up + k + 3276
   small = omega (arith, size, digits_value-lt 10 ks kept-digits, tens-le (length ks) 34 (omega (arith, size)))
 
   -- the exponent is in range
-  final-same : 26592 ≤ y → y ≤ 38879 → IsNearest (digits_value 10 ds) up down (digits_value 10 ks * 10 ^ 0) (min y 38879 - 26592)
+  final-same : 26592 ≤ y → y ≤ 38879 → IsNearestShifted (digits_value 10 ds) up down (digits_value 10 ks * 10 ^ 0) (min y 38879 - 26592)
   final-same low high =
       let c-is : digits_value 10 ks * 10 ^ 0 ≡ digits_value 10 ks = omega arith in
       let e-is : min y 38879 - 26592 ≡ y - 26592 = omega arith in
@@ -104,7 +104,7 @@ module _ (ds ks : List ℕ) (k y up down : ℕ) (at : y + down ≡ up + k + 3276
       ])
 
   -- zeros were added
-  final-padded : (z : ℕ) → 38879 < y → z ≡ y - 38879 → length ks + z ≤ 34 → IsNearest (digits_value 10 ds) up down (digits_value 10 ks * 10 ^ z) (min y 38879 - 26592)
+  final-padded : (z : ℕ) → 38879 < y → z ≡ y - 38879 → length ks + z ≤ 34 → IsNearestShifted (digits_value 10 ds) up down (digits_value 10 ks * 10 ^ z) (min y 38879 - 26592)
   final-padded z high z-is fits =
       let long = size in
       let zero-k : k ≡ 0 = omega arith in
@@ -113,7 +113,7 @@ module _ (ds ks : List ℕ) (k y up down : ℕ) (at : y + down ≡ up + k + 3276
       rw (whole, e-is) (nearest-highest (digits_value 10 ks) up down z (scaled-lt ks z kept-digits fits) (omega arith))
 
   -- zeros were dropped
-  final-raised : (qs : List ℕ) → y < 26592 → ks ≡ qs ++ replicate (26592 - y) 48 → IsNearest (digits_value 10 ds) up down (digits_value 10 qs * 10 ^ 0) 0
+  final-raised : (qs : List ℕ) → y < 26592 → ks ≡ qs ++ replicate (26592 - y) 48 → IsNearestShifted (digits_value 10 ds) up down (digits_value 10 qs * 10 ^ 0) 0
   final-raised qs low to =
       let inner : digits_value 10 ks ≡ digits_value 10 qs * 10 ^ (26592 - y) = ap (digits_value 10) to ∙ value-behind qs (26592 - y) in
       let j = 26592 - y + k in
@@ -125,7 +125,7 @@ module _ (ds ks : List ℕ) (k y up down : ℕ) (at : y + down ≡ up + k + 3276
       rw c-is (nearest-lowest (digits_value 10 ds) up down (digits_value 10 qs) j whole below (omega arith))
 
   -- zero
-  final-zero : (e : ℕ) → ks ≡ [] → e < 12288 → ((f : ℕ) → f < 12288 → distance up down e ≤ distance up down f) → IsNearest (digits_value 10 ds) up down 0 e
+  final-zero : (e : ℕ) → ks ≡ [] → e < 12288 → ((f : ℕ) → f < 12288 → distance_shifted up down e ≤ distance_shifted up down f) → IsNearestShifted (digits_value 10 ds) up down 0 e
   final-zero e none within least =
       let nothing : digits_value 10 ds ≡ 0 = value ∙ rw none (omega arith) in
       rw nothing (nearest-zero up down e within least)
@@ -169,7 +169,7 @@ raised-refuses ks y b e rai refuse digits large up down at c f fits =
 
 -- the pair that the steps give
 nearest-given : (ds ks : List ℕ) (k y up down : ℕ) (b : Scaled) (z : ℕ) → y + down ≡ up + k + 32768 → k ≡ length ds - 34 → ds ≡ ks ++ replicate k 48 → AllDigits 10 ds → IsLarge ds
-    → IsRaised ks y b → IsPadded b.0 b.1 z → IsNearest (digits_value 10 ds) up down (digits_value 10 b.0 * 10 ^ z) (min b.1 38879 - 26592)
+    → IsRaised ks y b → IsPadded b.0 b.1 z → IsNearestShifted (digits_value 10 ds) up down (digits_value 10 b.0 * 10 ^ z) (min b.1 38879 - 26592)
 nearest-given ds ks k y up down b z at k-is is digits large rai pad =
     let long : length ds ≡ length ks + k = ap length is ∙ length-append ks (replicate k 48) ∙ rw (length-replicate {A = ℕ} k 48) refl in
     let empty-k : ks ≡ [] → k ≡ 0 = λ none. omega (arith, ap length none) in
@@ -209,7 +209,7 @@ module _ (bs : List ℕ) (x : ℕ) where
     pub some : 0 < length bs
     pub few : length (without_leading_zeros bs) - 34 ≤ 32767
     pub high : x + (length (without_leading_zeros bs) - 34) ≤ 65535
-    pub nearest : (up down : ℕ) → x + down ≡ up + 32768 → IsNearest (digits_value 10 bs) up down r.0 r.1
+    pub nearest : (up down : ℕ) → x + down ≡ up + 32768 → IsNearestShifted (digits_value 10 bs) up down r.0 r.1
 
   abbrev pub SettledRefuses : ParseError → Type 0
   SettledRefuses k = AllDigits 10 bs → 0 < length bs → length (without_leading_zeros bs) - 34 ≤ 32767 → x + (length (without_leading_zeros bs) - 34) ≤ 65535 → NoneFitsAt bs x
@@ -233,7 +233,7 @@ module _ (bs : List ℕ) (x : ℕ) where
       let k = length ds - 34 in
       let p = cut.power in
       refuse (digits-kept a.0 ds k cut.is (front-digits digits)) (large-kept a.0 ds k cut.is (front-large digits)) (up + k) down (omega arith) c f
-      (fits-moved a.0 ds k up down c f cut.is (subst (λ m. Fits m up down c f) front-value fits))
+      (fits-moved a.0 ds k up down c f cut.is (subst (λ m. FitsShifted m up down c f) front-value fits))
 
   pub settled-cases : x ≤ 65535 → MatchResult (settled bs x) IsSettled SettledRefuses
   unfolding settled
@@ -260,4 +260,4 @@ module _ (bs : List ℕ) (x : ℕ) where
       (λ e refuse digits some few high up down at c f fits. refuse (raised-digits a.0 a.1 b rai (digits-kept a.0 ds k cut.is (front-digits digits))) (search (rules, tests, some))))
       (λ e refuse digits some few high. cut-refuses a cut e (raised-refuses a.0 a.1 b e rai refuse) digits))
       (λ e refuse digits some few high. cut-refuses a cut e refuse digits))
-      (λ e refuse digits some few high up down at c f fits. refuse (front-digits digits) (front-large digits) few high up down at c f (subst (λ m. Fits m up down c f) front-value fits))
+      (λ e refuse digits some few high up down at c f fits. refuse (front-digits digits) (front-large digits) few high up down at c f (subst (λ m. FitsShifted m up down c f) front-value fits))

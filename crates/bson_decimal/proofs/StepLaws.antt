@@ -11,8 +11,8 @@ use Rattle.std.proofs.Math.Nat.{mul-mod_left, mod-eq_of_lt}
 use Rattle.std.specs.List.{list_all, slice_index}
 use Rattle.std.specs.Str.Parse.{AllDigits, digits_value}
 use Rattle.bson_decimal.specs.declared.ParseError.{ParseError}
-use Rattle.bson_decimal.specs.Nearest.{Fits}
-use Rattle.bson_decimal.specs.Text.{is_zero}
+use Rattle.bson_decimal.proofs.Shifted.{FitsShifted}
+use Rattle.bson_decimal.specs.Numeral.{is_zero}
 use Rattle.bson_decimal.specs.Steps.{is_inside, cut_at_34, raise_to_least, zeros_to_add, Scaled}
 use Rattle.bson_decimal.proofs.Tens.{tens-pos, tens-le, reach, lowered}
 use Rattle.bson_decimal.proofs.Zeros.{value-append, value-behind, zeros-are, zeros-not, AllDigits-parts}
@@ -36,7 +36,7 @@ IsLarge ds = 0 < length ds → 10 ^ (length ds - 1) ≤ digits_value 10 ds
 
 -- nothing fits
 abbrev pub NoneFits : List ℕ → ℕ → ℕ → Type 0
-NoneFits ds up down = (c e : ℕ) → Fits (digits_value 10 ds) up down c e → ⊥
+NoneFits ds up down = (c e : ℕ) → FitsShifted (digits_value 10 ds) up down c e → ⊥
 
 inside-no-digit : (ds : List ℕ) (i : ℕ) → AllDigits 10 ds → i < length ds → is_inside (get_or ds i 0) ≡ true → ⊥
 inside-no-digit ds i digits within e =
@@ -109,7 +109,7 @@ module _ (ds : List ℕ) (x : ℕ) where
   Refuses k = AllDigits 10 ds → IsLarge ds → NoneFitsAt ds x
 
   -- where j digits would have to go, the number is a multiple of 10 ^ j
-  divides : (up down c e j : ℕ) → x + down ≡ up + 32768 → Fits (digits_value 10 ds) up down c e → x + j ≡ 26592 → digits_value 10 ds % 10 ^ j ≡ 0
+  divides : (up down c e j : ℕ) → x + down ≡ up + 32768 → FitsShifted (digits_value 10 ds) up down c e → x + j ≡ 26592 → digits_value 10 ds % 10 ^ j ≡ 0
   divides up down c e j at fits to = fits-exact (digits_value 10 ds) up down c e j (omega arith) fits
 
   pub raise_to_least-cases : MatchResult (raise_to_least ds x) IsRaised Refuses

@@ -11,7 +11,7 @@ use Rattle.std.proofs.Math.Numerals.{one-add}
 use Rattle.std.specs.Char.{digit_value}
 use Rattle.std.specs.List.{list_all, prefix_len}
 use Rattle.std.specs.Str.Parse.{AllDigits, digits_value, digits_value_after}
-use Rattle.bson_decimal.specs.Text.{is_zero, without_leading_zeros}
+use Rattle.bson_decimal.specs.Numeral.{is_zero, without_leading_zeros}
 use Rattle.bson_decimal.proofs.Tens.{tens-pos}
 
 pub value_after : (n : ℕ) (ds : List ℕ) → digits_value_after 10 n ds ≡ n * 10 ^ length ds + digits_value 10 ds

@@ -1,21 +1,26 @@
--- What the 16 bytes of a decimal mean.
-use Rattle.std.specs.Prelude.{ℕ, ◌+◌, ◌-◌, ◌*◌, ◌/◌, ◌%◌, ◌^◌, Bool, true, false, List, [], ◌∷◌, ◌++◌, replicate, nat_lt, nat_le, ◌==◌, if◌then◌else◌}
+-- What the 16 bytes of a decimal mean: IEEE 754-2008, section 3.5.2, decimal128 with its coefficient as one binary number. BSON 1.1 stores the 128 bits with their lowest byte first.
+use Rattle.std.specs.Prelude.{◌≡◌, ℕ, ◌+◌, ◌*◌, ◌/◌, ◌%◌, ◌^◌, ◌<◌, ℤ, pos, ◌-ℤ◌, Bool, List, length, slice_index, nat_lt, ◌==◌, if◌then◌else◌}
 use Rattle.std.specs.Int.{w128, from_le_bytes, to_le_bytes}
-use Rattle.bson_decimal.specs.declared.Decoded.{Decoded}
-use Rattle.bson_decimal.specs.declared.Decoded.TheVariants.{Nan, Infinity, Finite}
+use Rattle.bson_decimal.specs.declared.bits.Decoded.{Decoded}
+use Rattle.bson_decimal.specs.declared.bits.Decoded.TheVariants.{Nan, Infinity, Finite}
 
--- the w bits of n from bit k up
+-- 16 bytes
+abbrev pub IsPattern : List ℕ → Type 0
+IsPattern b = (length b ≡ 16) × ((i : ℕ) → slice_index b i < 256)
+
+-- the number of the w bits of n from bit k up
 abbrev pub field : ℕ → ℕ → ℕ → ℕ
 field n k w = n / 2 ^ k % 2 ^ w
 
 abbrev pub is_set : ℕ → ℕ → Bool
 is_set n k = field n k 1 == 1
 
--- a coefficient above 10 ^ 34 - 1 counts as 0
+-- a coefficient of more than 34 digits counts as 0
 abbrev pub counted : ℕ → ℕ
 counted c = if nat_lt c (10 ^ 34) then c else 0
 
--- the value at a number of 128 bits
+-- Bit 127 is the sign. Bits 126 to 122 are all one in a NaN, whose bit 121 says that it signals, and all but the last are one in an infinity.
+-- Else, where bits 126 and 125 are both one, the pattern is in its second form, with the stored exponent in bits 124 to 111 and a coefficient above 10 ^ 34 - 1; else it is in its first form, with the stored exponent in bits 126 to 113 and the coefficient below them.
 abbrev pub decoded : ℕ → Decoded
 decoded n =
     if field n 122 5 == 31 then Nan (is_set n 127) (is_set n 121)
@@ -23,21 +28,27 @@ decoded n =
     else (if field n 125 2 == 3 then Finite (is_set n 127) 0 (field n 111 14)
     else Finite (is_set n 127) (counted (field n 0 113)) (field n 113 14)))
 
+-- what 16 bytes mean
 abbrev pub dec : List ℕ → Decoded
 dec b = decoded (from_le_bytes w128 b)
+
+-- the exponent that a stored one stands for, from -6176 to 6111
+abbrev pub exponent_at : ℕ → ℤ
+exponent_at stored = pos stored -ℤ pos 6176
 
 abbrev pub sign_weight : Bool → ℕ
 sign_weight negative = if negative then 2 ^ 127 else 0
 
--- the first form
+-- the first form of a sign, a coefficient and a stored exponent
 abbrev pub first_form : Bool → ℕ → ℕ → ℕ
-first_form negative c e = sign_weight negative + e * 2 ^ 113 + c
+first_form negative c stored = sign_weight negative + stored * 2 ^ 113 + c
 
--- the canonical pattern
+-- Of the patterns with one meaning this is the one that is written: of a NaN the positive quiet one with no payload, of an infinity the one of its sign with no other bit set, of a finite number its first form.
 abbrev pub canon_number : Decoded → ℕ
 canon_number (Nan negative signalling) = 124 * 2 ^ 120
 canon_number (Infinity negative) = sign_weight negative + 120 * 2 ^ 120
-canon_number (Finite negative c e) = first_form negative c e
+canon_number (Finite negative c stored) = first_form negative c stored
 
+-- the canonical pattern in the place of b
 unfoldable pub canon : List ℕ → List ℕ
 canon b = to_le_bytes w128 (canon_number (dec b))

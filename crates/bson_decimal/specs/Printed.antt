@@ -1,34 +1,39 @@
--- How a decimal is printed.
-use Rattle.std.specs.Prelude.{ℕ, ◌+◌, ◌-◌, Bool, ◌&&◌, List, [], ◌∷◌, ◌++◌, length, take, drop, replicate, codes, nat_lt, nat_le, ◌==◌, if◌then◌else◌}
+-- How a decimal is printed: the scientific text of IEEE 754-2008, section 5.12, in the form of the BSON specification of decimal128. Exponents are the stored ones.
+use Rattle.std.specs.Prelude.{ℕ, ◌+◌, ◌-◌, ◌&&◌, List, [], ◌∷◌, ◌++◌, length, take, drop, replicate, codes, nat_lt, nat_le, ◌==◌, if◌then◌else◌}
 use Rattle.std.specs.Fmt.{decimal, sign_text}
-use Rattle.bson_decimal.specs.declared.Decoded.{Decoded}
-use Rattle.bson_decimal.specs.declared.Decoded.TheVariants.{Nan, Infinity, Finite}
+use Rattle.bson_decimal.specs.declared.bits.Decoded.{Decoded}
+use Rattle.bson_decimal.specs.declared.bits.Decoded.TheVariants.{Nan, Infinity, Finite}
 use Rattle.bson_decimal.specs.Pattern.{dec}
 
--- the digits with a point before the last `places` of them
+-- the digits with a point before the last `places` of them, or `0.` and zeros where there are no more
 abbrev pub plain_text : List ℕ → ℕ → List ℕ
 plain_text ds places =
     if places == 0 then ds
-    else (if nat_lt places (length ds) then take (length ds - places) ds ++ 46 ∷ drop (length ds - places) ds
-    else 48 ∷ 46 ∷ (replicate (places - length ds) 48 ++ ds))
+    else (if nat_lt places (length ds) then take (length ds - places) ds ++ (codes "." ++ drop (length ds - places) ds)
+    else codes "0." ++ (replicate (places - length ds) 48 ++ ds))
 
--- the exponent k - 6177 behind an `E`
+-- the exponent k - 6177, with its sign
 abbrev pub power_text : ℕ → List ℕ
 power_text k =
-    if nat_lt 6177 k then 43 ∷ decimal (k - 6177)
-    else (if k == 6177 then 48 ∷ [] else 45 ∷ decimal (6177 - k))
+    if nat_lt 6177 k then codes "+" ++ decimal (k - 6177)
+    else (if k == 6177 then codes "0" else codes "-" ++ decimal (6177 - k))
 
+-- The first digit, a point and the other digits if there are any, and the exponent of the first digit. It is stored - 6176 + length ds - 1.
 abbrev pub scientific_text : List ℕ → ℕ → List ℕ
-scientific_text ds e = take 1 ds ++ ((if length ds == 1 then [] else 46 ∷ drop 1 ds) ++ 69 ∷ power_text (e + length ds))
+scientific_text ds stored =
+    take 1 ds ++ ((if length ds == 1 then [] else codes "." ++ drop 1 ds) ++ (codes "E" ++ power_text (stored + length ds)))
 
--- the digits of a coefficient under the exponent e - 6176
+-- plain where the exponent is at most 0 and that of the first digit at least -6
 abbrev pub finite_text : List ℕ → ℕ → List ℕ
-finite_text ds e = if nat_le e 6176 && nat_le 6171 (e + length ds) then plain_text ds (6176 - e) else scientific_text ds e
+finite_text ds stored =
+    if nat_le stored 6176 && nat_le 6171 (stored + length ds) then plain_text ds (6176 - stored) else scientific_text ds stored
 
+-- a NaN has neither a sign nor a mark that it signals
 abbrev pub shown : Decoded → List ℕ
 shown (Nan negative signalling) = codes "NaN"
 shown (Infinity negative) = sign_text negative ++ codes "Infinity"
-shown (Finite negative c e) = sign_text negative ++ finite_text (decimal c) e
+shown (Finite negative c stored) = sign_text negative ++ finite_text (decimal c) stored
 
+-- the text of 16 bytes
 unfoldable pub printed : List ℕ → List ℕ
 printed b = shown (dec b)

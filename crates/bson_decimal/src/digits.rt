@@ -3,7 +3,7 @@ ghost use Rattle.std.specs.Prelude.{◌≡◌, ◌+◌, ◌-◌, ◌*◌, ◌^�
 ghost use Rattle.std.specs.List.{list_all, prefix_len};
 ghost use Rattle.std.specs.Option.{SomeIff};
 ghost use Rattle.std.specs.Str.Parse.{AllDigits, digits_value};
-ghost use Rattle.bson_decimal.specs.Text.{is_zero, without_leading_zeros};
+ghost use Rattle.bson_decimal.specs.Numeral.{is_zero, without_leading_zeros};
 
 use std::marker::Model;
 

@@ -1,26 +1,31 @@
-// A decimal to text.
+//! The text of a decimal.
+
 ghost use Rattle.std.specs.Prelude.{◌≡◌, ◌+◌, ◌-◌, ◌*◌, ◌^◌, ◌<◌, ◌≤◌, ◌++◌, [], length, take, drop, replicate, Some, IsAscii};
 ghost use Rattle.std.specs.Fmt.{decimal, sign_text, WritesOnOk};
 ghost use Rattle.bson_decimal.specs.Printed.{plain_text, power_text, scientific_text, finite_text, printed};
 
-use crate::{Decimal128, Decoded};
+use crate::Decimal128;
+use crate::bits::Decoded;
 use std::{fmt, str};
 
-// Writes the digits of `c` so that they end the buffer, and returns where they start.
-fn write_digits(c: u128, buf: &mut [u8; 34]) -> usize
-    requires { c < 10 ^ 34 }
+// What is added to an exponent where it is stored.
+const BIAS: usize = 6176;
+
+// Writes the digits of a coefficient so that they end the buffer, and returns where they start.
+fn write_digits(coefficient: u128, buffer: &mut [u8; 34]) -> usize
+    requires { coefficient < 10 ^ 34 }
     ensures start { result < 34 }
-    ensures len { length buf.new ≡ 34 }
-    ensures written { drop result buf.new ≡ decimal c }
+    ensures len { length buffer.new ≡ 34 }
+    ensures written { drop result buffer.new ≡ decimal coefficient }
 {
-    let mut left = c;
+    let mut left = coefficient;
     let mut at = 33;
     while left >= 10 {
-        buf[at] = b'0' + (left % 10) as u8;
+        buffer[at] = b'0' + (left % 10) as u8;
         left /= 10;
         at -= 1;
     }
-    buf[at] = b'0' + left as u8;
+    buffer[at] = b'0' + left as u8;
     at
 }
 
@@ -33,6 +38,7 @@ fn write_zeros<W: fmt::Write>(f: &mut fmt::Formatter<W>, count: usize) -> fmt::R
     Ok(())
 }
 
+// The digits with a point before the last `places` of them.
 fn write_plain<W: fmt::Write>(f: &mut fmt::Formatter<W>, digits: &str, places: usize) -> fmt::Result
     requires { IsAscii digits.now }
     ensures { WritesOnOk W.write_str_gives f.old result (plain_text digits.now places) f.new }
@@ -51,23 +57,29 @@ fn write_plain<W: fmt::Write>(f: &mut fmt::Formatter<W>, digits: &str, places: u
     f.write_str(digits)
 }
 
-fn write_power<W: fmt::Write>(f: &mut fmt::Formatter<W>, k: usize) -> fmt::Result
-    ensures { WritesOnOk W.write_str_gives f.old result (power_text k) f.new }
+// The exponent that is less than `shifted` by 6177, with its sign.
+fn write_power<W: fmt::Write>(f: &mut fmt::Formatter<W>, shifted: usize) -> fmt::Result
+    ensures { WritesOnOk W.write_str_gives f.old result (power_text shifted) f.new }
 {
-    if k > 6177 {
-        write!(f, "+{}", k - 6177)
-    } else if k == 6177 {
+    if shifted > BIAS + 1 {
+        write!(f, "+{}", shifted - (BIAS + 1))
+    } else if shifted == BIAS + 1 {
         f.write_str("0")
     } else {
-        write!(f, "-{}", 6177 - k)
+        write!(f, "-{}", BIAS + 1 - shifted)
     }
 }
 
-fn write_scientific<W: fmt::Write>(f: &mut fmt::Formatter<W>, digits: &str, e: u16) -> fmt::Result
+// One digit, a point before the others if there are any, and the exponent of the first digit.
+fn write_scientific<W: fmt::Write>(
+    f: &mut fmt::Formatter<W>,
+    digits: &str,
+    stored_exponent: u16,
+) -> fmt::Result
     requires ascii { IsAscii digits.now }
     requires some { 0 < length digits.now }
     requires short { length digits.now ≤ 34 }
-    ensures { WritesOnOk W.write_str_gives f.old result (scientific_text digits.now e) f.new }
+    ensures { WritesOnOk W.write_str_gives f.old result (scientific_text digits.now stored_exponent) f.new }
 {
     f.write_str(&digits[..1])?;
     if digits.len() != 1 {
@@ -75,19 +87,25 @@ fn write_scientific<W: fmt::Write>(f: &mut fmt::Formatter<W>, digits: &str, e: u
         f.write_str(&digits[1..])?;
     }
     f.write_str("E")?;
-    write_power(f, e as usize + digits.len())
+    write_power(f, stored_exponent as usize + digits.len())
 }
 
-fn write_finite<W: fmt::Write>(f: &mut fmt::Formatter<W>, digits: &str, e: u16) -> fmt::Result
+// Plain where the exponent is at most 0 and that of the first digit at least -6.
+fn write_finite<W: fmt::Write>(
+    f: &mut fmt::Formatter<W>,
+    digits: &str,
+    stored_exponent: u16,
+) -> fmt::Result
     requires ascii { IsAscii digits.now }
     requires some { 0 < length digits.now }
     requires short { length digits.now ≤ 34 }
-    ensures { WritesOnOk W.write_str_gives f.old result (finite_text digits.now e) f.new }
+    ensures { WritesOnOk W.write_str_gives f.old result (finite_text digits.now stored_exponent) f.new }
 {
-    if e <= 6176 && e as usize + digits.len() >= 6171 {
-        write_plain(f, digits, 6176 - e as usize)
+    let stored = stored_exponent as usize;
+    if stored <= BIAS && stored + digits.len() >= BIAS - 5 {
+        write_plain(f, digits, BIAS - stored)
     } else {
-        write_scientific(f, digits, e)
+        write_scientific(f, digits, stored_exponent)
     }
 }
 
@@ -95,39 +113,47 @@ fn write_signed<W: fmt::Write>(
     f: &mut fmt::Formatter<W>,
     negative: bool,
     digits: &str,
-    e: u16,
+    stored_exponent: u16,
 ) -> fmt::Result
     requires ascii { IsAscii digits.now }
     requires some { 0 < length digits.now }
     requires short { length digits.now ≤ 34 }
     ensures { WritesOnOk W.write_str_gives f.old result
-        (sign_text negative ++ finite_text digits.now e) f.new }
+        (sign_text negative ++ finite_text digits.now stored_exponent) f.new }
 {
     if negative {
         f.write_str("-")?;
     }
-    write_finite(f, digits, e)
+    write_finite(f, digits, stored_exponent)
 }
 
+/// Writes a decimal as its digits where its exponent is at most 0 and its first digit stands no
+/// further than six places behind the point, as `0.000001`, else in scientific form, as
+/// `1.05E+3`. Zeros at the end are kept. A NaN is `NaN`, whatever its sign, and an infinity
+/// `Infinity` or `-Infinity` (IEEE 754-2008, section 5.12).
 impl fmt::Display for Decimal128 {
     ghost output = { λ d. Some (printed d) };
 
     #[tactic(auto, unfolding(crate::specs::Printed::printed))]
     fn fmt<W: fmt::Write>(&self, f: &mut fmt::Formatter<W>) -> fmt::Result {
-        match self.decode() {
-            Decoded::Nan(_, _) => f.write_str("NaN"),
-            Decoded::Infinity(negative) => f.write_str(if negative {
+        match self.decoded() {
+            Decoded::Nan { .. } => f.write_str("NaN"),
+            Decoded::Infinity { negative } => f.write_str(if negative {
                 "-Infinity"
             } else {
                 "Infinity"
             }),
-            Decoded::Finite(negative, c, e) => {
-                let mut buf = [0; 34];
-                let start = write_digits(c, &mut buf);
-                let Ok(digits) = str::from_utf8(&buf[start..]) else {
+            Decoded::Finite {
+                negative,
+                coefficient,
+                stored_exponent,
+            } => {
+                let mut buffer = [0; 34];
+                let start = write_digits(coefficient, &mut buffer);
+                let Ok(digits) = str::from_utf8(&buffer[start..]) else {
                     return Err(fmt::Error);
                 };
-                write_signed(f, negative, digits, e)
+                write_signed(f, negative, digits, stored_exponent)
             }
         }
     }

@@ -1,33 +1,34 @@
-// Decimals of 128 bits.
+//! Decimals of 128 bits, as BSON stores them (IEEE 754-2008, decimal128): the module `decimal128`
+//! of the library. A `Decimal128` keeps its 16 bytes as they are, `Display` writes the text of any
+//! pattern, and `FromStr` reads every text exactly: to the pair of a coefficient and an exponent
+//! nearest to the way it was written, or to the kind of its fault, and never to a rounded value.
+//! No call takes memory.
+//!
+//! In reading order: `bits` takes a pattern apart, `display` writes its text, `digits` holds the
+//! bytes of a coefficient, and `parse` reads a text.
 #![tactic(auto)]
 
-ghost use Rattle.std.specs.Prelude.{◌≡◌, ◌<◌, ◌^◌, List, ℕ};
+ghost use Rattle.std.specs.Prelude.{◌≡◌, List, ℕ};
+ghost use Rattle.bson_decimal.specs.Pattern.{IsPattern};
 
 use std::marker::Model;
+use thiserror::Error;
 
+mod bits;
 mod digits;
 mod display;
 mod parse;
 
-#[derive(Clone, Copy, PartialEq, Eq)]
-pub enum Decoded {
-    Nan(bool, bool),
-    Infinity(bool),
-    Finite(bool, u128, u16),
-}
-
-#[derive(Clone, Copy, PartialEq, Eq, Debug)]
-pub enum ParseError {
-    EmptyExponent,
-    InvalidExponent,
-    InvalidCoefficient,
-    Overflow,
-    Underflow,
-    InexactRounding,
-    Unparseable,
-}
-
-#[derive(Clone, Copy, PartialEq, Eq, Hash)]
+/// A decimal128, held as the 16 bytes that BSON stores, the lowest byte first.
+///
+/// Equality and hashing go by the bytes, so two patterns of one value, as `1.5` and `1.50`, or of
+/// one meaning, as two NaNs, are unlike.
+///
+/// ```
+/// let price: Decimal128 = "19.90".parse()?;
+/// assert_eq!(format!("{price}"), "19.90");
+/// ```
+#[derive(Clone, Copy, Debug, PartialEq, Eq, Hash)]
 pub struct Decimal128 {
     bytes: [u8; 16],
 }
@@ -41,48 +42,54 @@ impl Model for Decimal128 {
 }
 
 impl Decimal128 {
-    ghost use Rattle.bson_decimal.specs.Pattern.{dec};
-
+    /// The decimal with these 16 bytes, the lowest first. Every pattern is taken.
     pub fn from_bytes(bytes: [u8; 16]) -> Decimal128
         ensures { result ≡ bytes }
     {
         Decimal128 { bytes }
     }
 
+    /// The 16 bytes, the lowest first.
     pub fn bytes(&self) -> [u8; 16]
-        ensures { result ≡ self.now }
+        ensures same { result ≡ self.now }
+        ensures ranged { IsPattern self.now }
     {
-        self.bytes
-    }
-
-    pub(crate) fn decode(&self) -> Decoded
-        ensures { result ≡ dec self.now }
-    {
-        let n = u128::from_le_bytes(self.bytes);
-        let negative = (n >> 127) % 2 == 1;
-        let top = (n >> 122) % 32;
-        if top == 31 {
-            return Decoded::Nan(negative, (n >> 121) % 2 == 1);
-        }
-        if top == 30 {
-            return Decoded::Infinity(negative);
-        }
-        if (n >> 125) % 4 == 3 {
-            return Decoded::Finite(negative, 0, ((n >> 111) % 16384) as u16);
-        }
-        let c = n % (1 << 113);
-        let e = ((n >> 113) % 16384) as u16;
-        Decoded::Finite(
-            negative,
-            if c < 10_000_000_000_000_000_000_000_000_000_000_000 {
-                c
-            } else {
-                0
-            },
-            e,
-        )
+        as_pattern(self.bytes)
     }
 }
 
-#[cfg(test)]
-mod tests;
+// The same 16 bytes, with what every array of bytes keeps said of them.
+fn as_pattern(bytes: [u8; 16]) -> [u8; 16]
+    ensures same { result ≡ bytes }
+    ensures ranged { IsPattern bytes }
+{
+    bytes
+}
+
+/// Why a text denotes no decimal. Where several faults are in one text, the first in the order of
+/// reading is told: the exponent, the digits after the point, those past the 34th, the range, and
+/// last the coefficient's own characters.
+#[derive(Clone, Copy, PartialEq, Eq, Debug, Error)]
+pub enum ParseError {
+    /// Nothing stands after the `e` or `E`.
+    #[error("empty exponent")]
+    EmptyExponent,
+    /// What stands after the `e` or `E` is no whole number from -32768 to 32767.
+    #[error("invalid exponent")]
+    InvalidExponent,
+    /// The coefficient is not digits with at most one point, or holds no digit.
+    #[error("invalid coefficient")]
+    InvalidCoefficient,
+    /// The value is too large for 34 digits and an exponent of at most 6111.
+    #[error("overflow")]
+    Overflow,
+    /// The value is too small for an exponent of at least -6176.
+    #[error("underflow")]
+    Underflow,
+    /// The value needs more than 34 digits, or a digit below the least exponent.
+    #[error("inexact rounding")]
+    InexactRounding,
+    /// A character other than an ASCII one lies where the digits are cut.
+    #[error("unparseable")]
+    Unparseable,
+}

@@ -7,13 +7,13 @@ use Rattle.bson_decimal.proofs.display.Decimal128Display.fmt.Goals as goal
 pub write_signed-requires-clause-ascii : goal.write_signed-requires-clause-ascii
 write_signed-requires-clause-ascii g c =
     let w = c.write_digits-start in
-    let text : c.in-Ok.digits.now ≡ decimal c.in-Finite.c = c.in-Ok.ensures.cases.0 ∙ take_all _ (drop w.result w.new.buf) (omega (arith, length-drop w.result w.new.buf)) ∙ w.ensures.written in
-    rw text (IsAscii-decimal_wide c.in-Finite.c (omega arith))
+    let text : c.in-Ok.digits.now ≡ decimal c.in-Finite.coefficient = c.in-Ok.ensures.cases.0 ∙ take_all _ (drop w.result w.new.buffer) (omega (arith, length-drop w.result w.new.buffer)) ∙ w.ensures.written in
+    rw text (IsAscii-decimal_wide c.in-Finite.coefficient (omega arith))
 
 pub returns-in-Ok-clause-writes : goal.returns-in-Ok-clause-writes
 unfolding printed
 returns-in-Ok-clause-writes g c =
     let w = c.write_digits-start in
-    let text : c.in-Ok.digits.now ≡ decimal c.in-Finite.c = c.in-Ok.ensures.cases.0 ∙ take_all _ (drop w.result w.new.buf) (omega (arith, length-drop w.result w.new.buf)) ∙ w.ensures.written in
-    let is : sign_text c.in-Finite.negative ++ finite_text (decimal c.in-Finite.c) c.in-Finite.e ≡ printed c.args.self.now = ap shown c.in-Finite.ensures in
+    let text : c.in-Ok.digits.now ≡ decimal c.in-Finite.coefficient = c.in-Ok.ensures.cases.0 ∙ take_all _ (drop w.result w.new.buffer) (omega (arith, length-drop w.result w.new.buffer)) ∙ w.ensures.written in
+    let is : sign_text c.in-Finite.negative ++ finite_text (decimal c.in-Finite.coefficient) c.in-Finite.stored_exponent ≡ printed c.args.self.now = ap shown c.in-Finite.ensures in
     λ plain ok. subst (λ (t : List ℕ). HasWritten g.W.Write.write_str_gives c.args.f.now t c.write_signed.new.f) is (rw text at (c.write_signed.ensures plain ok))

@@ -1,0 +1,178 @@
+-- The same words without negative numbers, for the proofs: an exponent x is up - down, and a stored exponent stands for itself less 6176.
+use Rattle.std.proofs.Common.{◌≡◌, ℕ, ◌+◌, ◌-◌, ◌*◌, ◌^◌, ◌<◌, ◌≤◌, ℤ, pos, ◌+ℤ◌, ◌-ℤ◌, ◌≤ℤ◌, neg_ℤ, Bool, true, false, cond, min, List, length, refl, sym, ap, subst, ◌∙◌, arith}
+use Rattle.std.specs.Int.{int_min}
+use lib.IntN.{nat_abs}
+use Rattle.std.proofs.lemmas.Int.{ints, clamps}
+use Rattle.std.proofs.lemmas.Nat.{pow-add}
+use Rattle.std.specs.Str.Parse.{digits_value}
+use Rattle.bson_decimal.specs.Pattern.{exponent_at}
+use Rattle.bson_decimal.specs.Numeral.{is_minus, Exponent, unwritten, written, Numeral, fraction_digits, digits_of, written_exponent, exponent, number}
+use Rattle.bson_decimal.specs.Nearest.{Fits, IsNearest, distance}
+use Rattle.bson_decimal.specs.Text.{excess, IsWithin16}
+use Rattle.bson_decimal.proofs.Tens.{tens-cancel}
+
+-- c * 10 ^ (e - 6176) = m * 10 ^ (up - down), with both sides multiplied by 10 ^ (down + 6176)
+pub record FitsShifted (m up down c e : ℕ) : Type 0 where
+  pub equal : c * 10 ^ (e + down) ≡ m * 10 ^ (up + 6176)
+  pub coefficient : c < 10 ^ 34
+  pub exponent : e < 12288
+
+-- how far the exponent e - 6176 is from up - down
+abbrev pub distance_shifted : ℕ → ℕ → ℕ → ℕ
+distance_shifted up down e = ((e + down) - (up + 6176)) + ((up + 6176) - (e + down))
+
+pub record IsNearestShifted (m up down c e : ℕ) : Type 0 where
+  pub fits : FitsShifted m up down c e
+  pub least : (d f : ℕ) → FitsShifted m up down d f → distance_shifted up down e ≤ distance_shifted up down f
+
+-- the exponent that is written is raised - lowered
+abbrev pub raised : Exponent → ℕ
+raised unwritten = 0
+raised (written mark s ds) = cond (is_minus s) 0 (digits_value 10 ds)
+
+abbrev pub lowered : Exponent → ℕ
+lowered unwritten = 0
+lowered (written mark s ds) = cond (is_minus s) (digits_value 10 ds) 0
+
+-- the exponent that is denoted is up n - down n
+abbrev pub up : Numeral → ℕ
+up n = raised n.exponent
+
+abbrev pub down : Numeral → ℕ
+down n = length (fraction_digits n.fraction) + lowered n.exponent
+
+pub record IsWithin16Shifted (n : Numeral) : Type 0 where
+  pub high : raised n.exponent ≤ 32767
+  pub low : lowered n.exponent ≤ 32768
+  pub fraction : length (fraction_digits n.fraction) ≤ 32767
+  pub least : down n ≤ up n + 32768
+  pub cut : excess n ≤ 32767
+  pub greatest : up n + excess n ≤ down n + 32767
+
+-- ---- exponents
+
+abbrev signed : Bool → ℕ → ℤ
+signed negative v = cond negative (neg_ℤ (pos v)) (pos v)
+
+signed-is : (b : Bool) (v : ℕ) → signed b v ≡ pos (cond b 0 v) -ℤ pos (cond b v 0)
+signed-is true v = omega (arith, ints)
+signed-is false v = omega (arith, ints)
+
+written_exponent-is : (e : Exponent) → written_exponent e ≡ pos (raised e) -ℤ pos (lowered e)
+written_exponent-is unwritten = refl
+written_exponent-is (written mark s ds) = signed-is (is_minus s) (digits_value 10 ds)
+
+exponent-is : (n : Numeral) → exponent n ≡ pos (up n) -ℤ pos (down n)
+exponent-is n = let e = written_exponent-is n.exponent in omega (arith, ints)
+
+-- one of the two is none
+signed-low : (b : Bool) (v k : ℕ) → neg_ℤ (pos k) ≤ℤ signed b v → cond b v 0 ≤ k
+signed-low true v k h = omega (arith, ints)
+signed-low false v k h = omega arith
+
+signed-high : (b : Bool) (v k : ℕ) → signed b v ≤ℤ pos k → cond b 0 v ≤ k
+signed-high true v k h = omega arith
+signed-high false v k h = omega (arith, ints)
+
+lowered-low : (e : Exponent) (k : ℕ) → neg_ℤ (pos k) ≤ℤ written_exponent e → lowered e ≤ k
+lowered-low unwritten k h = omega arith
+lowered-low (written mark s ds) k h = signed-low (is_minus s) (digits_value 10 ds) k h
+
+raised-high : (e : Exponent) (k : ℕ) → written_exponent e ≤ℤ pos k → raised e ≤ k
+raised-high unwritten k h = omega arith
+raised-high (written mark s ds) k h = signed-high (is_minus s) (digits_value 10 ds) k h
+
+-- ---- limits
+
+pub within16-shifted : (n : Numeral) → IsWithin16 n → IsWithin16Shifted n
+within16-shifted n l =
+    let x = exponent-is n in
+    let least = l.least in
+    let greatest = l.greatest in
+    record {
+      high = raised-high n.exponent 32767 l.high;
+      low = lowered-low n.exponent 32768 l.low;
+      fraction = l.fraction;
+      least = omega (arith, ints);
+      cut = l.cut;
+      greatest = omega (arith, ints);
+    }
+
+pub within16 : (n : Numeral) → IsWithin16Shifted n → IsWithin16 n
+within16 n l =
+    let w = written_exponent-is n.exponent in
+    let x = exponent-is n in
+    let high = l.high in
+    let low = l.low in
+    let least = l.least in
+    let greatest = l.greatest in
+    record {
+      low = omega (arith, ints);
+      high = omega (arith, ints);
+      fraction = l.fraction;
+      least = omega (arith, ints);
+      cut = l.cut;
+      greatest = omega (arith, ints);
+    }
+
+-- ---- pairs that fit
+
+-- a power split at l
+split : (c a l : ℕ) → l ≤ a → c * 10 ^ (a - l) * 10 ^ l ≡ c * 10 ^ a
+split c a l h = let e : a ≡ a - l + l = omega arith in rw (ap (λ k. 10 ^ k) e, pow-add 10 (a - l) l) (omega arith)
+
+left : (up down e : ℕ) → nat_abs (exponent_at e -ℤ int_min (exponent_at e) (pos up -ℤ pos down)) ≡ e + down - min (e + down) (up + 6176)
+left up down e = omega (arith, ints, clamps)
+
+right : (up down e : ℕ) → nat_abs ((pos up -ℤ pos down) -ℤ int_min (exponent_at e) (pos up -ℤ pos down)) ≡ up + 6176 - min (e + down) (up + 6176)
+right up down e = omega (arith, ints, clamps)
+
+apart : (up down e : ℕ) → distance (pos up -ℤ pos down) (exponent_at e) ≡ distance_shifted up down e
+apart up down e = omega (arith, ints, clamps)
+
+pub fits : (m up down c e : ℕ) → FitsShifted m up down c e → Fits m (pos up -ℤ pos down) c (exponent_at e)
+fits m up down c e f =
+    let l = min (e + down) (up + 6176) in
+    let equal = tens-cancel _ _ l (split c (e + down) l (omega arith) ∙ f.equal ∙ sym (split m (up + 6176) l (omega arith))) in
+    let within = f.exponent in
+    record { equal = rw (left up down e, right up down e) equal; coefficient = f.coefficient; low = omega (arith, ints); high = omega (arith, ints) }
+
+pub fits-shifted : (m up down c e : ℕ) → Fits m (pos up -ℤ pos down) c (exponent_at e) → FitsShifted m up down c e
+fits-shifted m up down c e f =
+    let l = min (e + down) (up + 6176) in
+    let equal = rw (left up down e, right up down e) at f.equal in
+    let high = f.high in
+    record {
+      equal = sym (split c (e + down) l (omega arith)) ∙ ap (λ k. k * 10 ^ l) equal ∙ split m (up + 6176) l (omega arith);
+      coefficient = f.coefficient;
+      exponent = omega (arith, ints);
+    }
+
+-- an exponent that fits is that of a stored one
+stored-is : (e : ℤ) → neg_ℤ (pos 6176) ≤ℤ e → exponent_at (nat_abs (e +ℤ pos 6176)) ≡ e
+stored-is e low = omega (arith, ints, clamps)
+
+nearest-at : (m up down c e : ℕ) → IsNearestShifted m up down c e → IsNearest m (pos up -ℤ pos down) c (exponent_at e)
+nearest-at m up down c e h =
+    let x = pos up -ℤ pos down in
+    record {
+      fits = fits m up down c e h.fits;
+      least = λ d f g.
+          let stored = nat_abs (f +ℤ pos 6176) in
+          let at = stored-is f g.low in
+          let near = h.least d stored (fits-shifted m up down d stored (subst (λ z. Fits m x d z) (sym at) g)) in
+          subst (λ z. distance x (exponent_at e) ≤ distance x z) at (rw (apart up down e, apart up down stored) near);
+    }
+
+nearest-at-shifted : (m up down c e : ℕ) → IsNearest m (pos up -ℤ pos down) c (exponent_at e) → IsNearestShifted m up down c e
+nearest-at-shifted m up down c e h =
+    record {
+      fits = fits-shifted m up down c e h.fits;
+      least = λ d f g. rw (apart up down e, apart up down f) at (h.least d (exponent_at f) (fits m up down d f g));
+    }
+
+pub nearest : (n : Numeral) (c e : ℕ) → IsNearestShifted (number n) (up n) (down n) c e → IsNearest (number n) (exponent n) c (exponent_at e)
+nearest n c e h = subst (λ x. IsNearest (number n) x c (exponent_at e)) (sym (exponent-is n)) (nearest-at (number n) (up n) (down n) c e h)
+
+pub nearest-shifted : (n : Numeral) (c e : ℕ) → IsNearest (number n) (exponent n) c (exponent_at e) → IsNearestShifted (number n) (up n) (down n) c e
+nearest-shifted n c e h = nearest-at-shifted (number n) (up n) (down n) c e (subst (λ x. IsNearest (number n) x c (exponent_at e)) (exponent-is n) h)

@@ -1,0 +1,91 @@
+//! The bits of a pattern, taken apart and put together (IEEE 754-2008, section 3.5.2).
+
+ghost use Rattle.std.specs.Prelude.{◌≡◌, ◌^◌, ◌<◌, ◌≤◌};
+ghost use Rattle.bson_decimal.specs.Pattern.{sign_weight, first_form};
+
+use crate::Decimal128;
+
+/// What a pattern means. An exponent is stored with 6176 added, and is always below 12288; a
+/// coefficient is always below 10^34.
+#[derive(Clone, Copy, PartialEq, Eq)]
+pub(crate) enum Decoded {
+    Nan {
+        negative: bool,
+        signalling: bool,
+    },
+    Infinity {
+        negative: bool,
+    },
+    Finite {
+        negative: bool,
+        coefficient: u128,
+        stored_exponent: u16,
+    },
+}
+
+// A coefficient has at most 34 digits.
+const COEFFICIENT_END: u128 = 10_000_000_000_000_000_000_000_000_000_000_000;
+
+// The numbers of the patterns with no other bit set, without their sign.
+pub(crate) const QUIET_NAN: u128 = 0x7c << 120;
+
+pub(crate) const SIGNALLING_NAN: u128 = 0x7e << 120;
+
+pub(crate) const INFINITY: u128 = 0x78 << 120;
+
+impl Decimal128 {
+    ghost use Rattle.bson_decimal.specs.Pattern.{dec};
+
+    pub(crate) fn decoded(&self) -> Decoded
+        ensures { result ≡ dec self.now }
+    {
+        let number = u128::from_le_bytes(self.bytes());
+        let negative = (number >> 127) % 2 == 1;
+        let top = (number >> 122) % 32;
+        if top == 31 {
+            let signalling = (number >> 121) % 2 == 1;
+            return Decoded::Nan {
+                negative,
+                signalling,
+            };
+        }
+        if top == 30 {
+            return Decoded::Infinity { negative };
+        }
+        if (number >> 125) % 4 == 3 {
+            let stored_exponent = ((number >> 111) % 16384) as u16;
+            return Decoded::Finite {
+                negative,
+                coefficient: 0,
+                stored_exponent,
+            };
+        }
+        let coefficient = number % (1 << 113);
+        Decoded::Finite {
+            negative,
+            coefficient: if coefficient < COEFFICIENT_END {
+                coefficient
+            } else {
+                0
+            },
+            stored_exponent: ((number >> 113) % 16384) as u16,
+        }
+    }
+}
+
+// The sign bit, as a number.
+pub(crate) fn sign_weight(negative: bool) -> u128
+    ensures value { result ≡ sign_weight negative }
+    ensures within { result ≤ 2 ^ 127 }
+{
+    if negative { 1 << 127 } else { 0 }
+}
+
+// The number of the first form.
+pub(crate) fn first_form(negative: bool, coefficient: u128, stored_exponent: u16) -> u128
+    requires coefficient { coefficient < 10 ^ 34 }
+    requires exponent { stored_exponent < 12288 }
+    ensures { result ≡ first_form negative coefficient stored_exponent }
+{
+    sign_weight(negative) + u128::from(stored_exponent) * (1 << 113) + coefficient
+}
