@@ -7,7 +7,7 @@ use Rattle.jiff.proofs.SpanFacts.{signed_arith}
 use Rattle.jiff_core.specs.Calendar.{days_of_years, days_of_months, day_count}
 use Rattle.jiff_core.proofs.CalendarLemmas.{days_from_civil-day_count, days_of_months_mono, day_of_year_bound, days_of_months-zero}
 use Rattle.jiff_core.proofs.DateLemmas.{civil}
-use Rattle.bson_datetime.specs.Shown.{year_and_rest, month_and_rest, civil_of}
+use Rattle.bson_datetime.specs.Moment.{year_and_rest, month_and_rest, date_of}
 
 -- the days of the year that begins so many years after -10000
 abbrev pub year_len : ℕ → ℕ
@@ -113,8 +113,8 @@ size_of (negsuc n) h = absurd (omega (arith, signed_arith))
 
 -- the function gives the date that has the day number
 date_found : (d : Date) (k count : ℕ) → d.year +ℤ pos 10000 ≡ pos k → unsigned_abs (epoch_day d +ℤ pos 4_371_953) ≡ count → count ≡ day_count d.year d.month d.day
-    → civil_of (epoch_day d) ≡ record { year = d.year; month = d.month; day = d.day }
-unfolding civil_of
+    → date_of (epoch_day d) ≡ record { year = d.year; month = d.month; day = d.day }
+unfolding date_of
 date_found d k count since is e =
     let bound : k ≤ 20000 = omega (arith, signed_arith, d.year_in, since) in
     let year : pos k -ℤ pos 10000 ≡ d.year = omega (arith, signed_arith, since) in
@@ -129,8 +129,8 @@ date_found d k count since is e =
     let day : d.day - 1 + 1 ≡ d.day = omega (arith, d.day_in) in
     rw (is, y, year, m, month, day) refl
 
-pub civil_of-date : (d : Date) → civil_of (epoch_day d) ≡ record { year = d.year; month = d.month; day = d.day }
-civil_of-date d =
+pub date_of-date : (d : Date) → date_of (epoch_day d) ≡ record { year = d.year; month = d.month; day = d.day }
+date_of-date d =
     let low : pos 0 ≤ℤ (d.year +ℤ pos 10000) = omega (arith, signed_arith, d.year_in) in
     let positive : pos 0 ≤ℤ (epoch_day d +ℤ pos 4_371_953) = omega (arith, signed_arith, days_from_civil-day_count d.year d.month d.day) in
     let size = size_of _ positive in

@@ -8,8 +8,8 @@ use Rattle.jiff.proofs.SpanFacts.{signed_arith}
 use Rattle.std.specs.Int.{int_rem_euclid}
 use Rattle.jiff_core.specs.Calendar.{days_of_years, days_of_months, day_count}
 use Rattle.jiff_core.proofs.CalendarLemmas.{days_from_civil-day_count, days_of_months-zero, days_of_months_all}
-use Rattle.bson_datetime.specs.Moment.{IsMoment, IsCivilMillis}
-use Rattle.bson_datetime.specs.Shown.{day_of, time_of}
+use Rattle.bson_datetime.specs.JiffSteps.{IsJiffMoment}
+use Rattle.bson_datetime.specs.Moment.{IsCivilMillis, day_of, time_of}
 use Rattle.bson_datetime.proofs.CivilLemmas.{year_len, days_of_years-step, days_of_months-step, size_of, unfold_count}
 
 -- a count of days lies in a year
@@ -90,7 +90,7 @@ split ms =
     let size = size_of _ natural in
     (omega (arith, signed_arith, size), omega (arith, signed_arith, size))
 
-pub moment_at : (ms : ℤ) → IsCivilMillis ms → (at : DateTime) × IsMoment ms at
+pub moment_at : (ms : ℤ) → IsCivilMillis ms → (at : DateTime) × IsJiffMoment ms at
 moment_at ms h =
     let parts = split ms in
     let date = date_of_day (day_of ms) (omega (arith, signed_arith, parts), omega (arith, signed_arith, parts)) in

@@ -1,18 +1,34 @@
--- What a full builder builds.
-use Rattle.std.specs.Prelude.{◌+◌, ◌*◌, ◌<◌, ℤ, pos, ◌+ℤ◌, ◌*ℤ◌, unwrap_or}
-use Rattle.jiff.specs.Words.{IsDate}
-use Rattle.jiff_core.specs.Calendar.{days_from_civil}
+-- What a builder holds.
+use Rattle.std.specs.Prelude.{ℕ, ℤ, Option, None, unwrap_or}
+use Rattle.bson_datetime.specs.Moment.{Civil}
 use Rattle.bson_datetime.specs.declared.builder.DateTimeBuilder.{DateTimeBuilder}
+use Rattle.bson_datetime.specs.declared.builder.NoYear.{NoYear}
+use Rattle.bson_datetime.specs.declared.builder.NoMonth.{NoMonth}
+use Rattle.bson_datetime.specs.declared.builder.NoDay.{NoDay}
 use Rattle.bson_datetime.specs.declared.builder.Year.{Year}
 use Rattle.bson_datetime.specs.declared.builder.Month.{Month}
 use Rattle.bson_datetime.specs.declared.builder.Day.{Day}
 
-abbrev pub IsBuildable : DateTimeBuilder Year Month Day → Type 0
-IsBuildable b =
-    IsDate b.year.value (pos b.month.value) (pos b.day.value)
-    × (unwrap_or b.hour 0 < 24) × (unwrap_or b.minute 0 < 60) × (unwrap_or b.second 0 < 60) × (unwrap_or b.millisecond 0 < 1000)
+-- a builder with nothing set
+abbrev pub unset : DateTimeBuilder NoYear NoMonth NoDay
+unset = record {
+  year = record {};
+  month = record {};
+  day = record {};
+  hour = None;
+  minute = None;
+  second = None;
+  millisecond = None;
+}
 
-abbrev pub built_millis : DateTimeBuilder Year Month Day → ℤ
-built_millis b =
-    (days_from_civil b.year.value b.month.value b.day.value *ℤ pos 86_400_000)
-    +ℤ pos ((unwrap_or b.hour 0 * 3600 + unwrap_or b.minute 0 * 60 + unwrap_or b.second 0) * 1000 + unwrap_or b.millisecond 0)
+-- the date and time that a full builder was told; what was not set of the time is 0
+abbrev pub told : DateTimeBuilder Year Month Day → Civil
+told b = record {
+  year = b.year.value;
+  month = b.month.value;
+  day = b.day.value;
+  hour = unwrap_or b.hour 0;
+  minute = unwrap_or b.minute 0;
+  second = unwrap_or b.second 0;
+  millisecond = unwrap_or b.millisecond 0;
+}

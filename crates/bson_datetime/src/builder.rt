@@ -1,39 +1,47 @@
-//! A builder whose states are types.
-ghost use Rattle.std.specs.Prelude.{◌≡◌, ◌↔◌, ◌<◌, ◌≤◌, ◌+ℤ◌, pos, None, Some, IsOk, IfOk, IfErr, unwrap_or};
-ghost use Rattle.jiff.specs.Words.{IsDate, IsEpochDay};
-ghost use Rattle.jiff_core.specs.Calendar.{days_from_civil};
+//! A builder of moments whose states are types: `build` can be called once year, month and day are set.
+ghost use Rattle.std.specs.Prelude.{◌≡◌, ◌↔◌, None, Some, IsOk, IfOk, IfErr};
+ghost use Rattle.jiff.specs.Words.{IsEpochDay};
+ghost use Rattle.jiff_core.specs.Calendar.{IsCivilDate, days_from_civil};
 ghost use Rattle.bson_datetime.specs.Errors.{IsInvalidTimestamp};
+ghost use Rattle.bson_datetime.specs.Moment.{IsCivil, IsMoment, civil_of};
 
-use crate::{DateTime, Error};
+use crate::{DateTime, Error, Result};
 use jiff::civil::Date;
 
 /// The year is set.
-#[derive(Clone, Copy)]
+#[derive(Drop)]
 pub struct Year {
     value: i32,
 }
 
-#[derive(Clone, Copy)]
+/// The year is not set.
+#[derive(Drop)]
 pub struct NoYear {}
 
-#[derive(Clone, Copy)]
+/// The month is set.
+#[derive(Drop)]
 pub struct Month {
     value: u8,
 }
 
-#[derive(Clone, Copy)]
+/// The month is not set.
+#[derive(Drop)]
 pub struct NoMonth {}
 
-#[derive(Clone, Copy)]
+/// The day of the month is set.
+#[derive(Drop)]
 pub struct Day {
     value: u8,
 }
 
-#[derive(Clone, Copy)]
+/// The day of the month is not set.
+#[derive(Drop)]
 pub struct NoDay {}
 
-/// Builds a moment from its parts.
-#[derive(Clone, Copy)]
+/// Builds a `DateTime` from a date and a time in UTC.
+///
+/// Year, month and day are set once each; what isn't set of the time is 0.
+#[derive(Drop)]
 pub struct DateTimeBuilder<Y = NoYear, M = NoMonth, D = NoDay> {
     year: Y,
     month: M,
@@ -44,15 +52,29 @@ pub struct DateTimeBuilder<Y = NoYear, M = NoMonth, D = NoDay> {
     millisecond: Option<u16>,
 }
 
-impl<M: Drop, D: Drop> DateTimeBuilder<NoYear, M, D> {
+impl Default for DateTimeBuilder<NoYear, NoMonth, NoDay> {
+    ghost use Rattle.bson_datetime.specs.Builder.{unset};
+
+    ghost is_default = { λ builder. builder ≡ unset };
+
+    fn default() -> Self {
+        DateTimeBuilder {
+            year: NoYear {},
+            month: NoMonth {},
+            day: NoDay {},
+            hour: None,
+            minute: None,
+            second: None,
+            millisecond: None,
+        }
+    }
+}
+
+impl<M, D> DateTimeBuilder<NoYear, M, D> {
+    /// Sets the year, from -9999 to 9999.
     pub fn year(self, year: i32) -> DateTimeBuilder<Year, M, D>
-        ensures year { result.year.value ≡ year }
-        ensures month { result.month ≡ self.month }
-        ensures day { result.day ≡ self.day }
-        ensures hour { result.hour ≡ self.hour }
-        ensures minute { result.minute ≡ self.minute }
-        ensures second { result.second ≡ self.second }
-        ensures millisecond { result.millisecond ≡ self.millisecond }
+        ensures { result
+            ≡ record { year = record { value = year }; month = self.month; day = self.day; hour = self.hour; minute = self.minute; second = self.second; millisecond = self.millisecond } }
     {
         let DateTimeBuilder {
             year: _,
@@ -75,22 +97,103 @@ impl<M: Drop, D: Drop> DateTimeBuilder<NoYear, M, D> {
     }
 }
 
+impl<Y, D> DateTimeBuilder<Y, NoMonth, D> {
+    /// Sets the month, from 1 for January to 12 for December.
+    pub fn month(self, month: u8) -> DateTimeBuilder<Y, Month, D>
+        ensures { result
+            ≡ record { year = self.year; month = record { value = month }; day = self.day; hour = self.hour; minute = self.minute; second = self.second; millisecond = self.millisecond } }
+    {
+        let DateTimeBuilder {
+            year,
+            month: _,
+            day,
+            hour,
+            minute,
+            second,
+            millisecond,
+        } = self;
+        DateTimeBuilder {
+            year,
+            month: Month { value: month },
+            day,
+            hour,
+            minute,
+            second,
+            millisecond,
+        }
+    }
+}
+
+impl<Y, M> DateTimeBuilder<Y, M, NoDay> {
+    /// Sets the day of the month, from 1 to the last that the month has.
+    pub fn day(self, day: u8) -> DateTimeBuilder<Y, M, Day>
+        ensures { result
+            ≡ record { year = self.year; month = self.month; day = record { value = day }; hour = self.hour; minute = self.minute; second = self.second; millisecond = self.millisecond } }
+    {
+        let DateTimeBuilder {
+            year,
+            month,
+            day: _,
+            hour,
+            minute,
+            second,
+            millisecond,
+        } = self;
+        DateTimeBuilder {
+            year,
+            month,
+            day: Day { value: day },
+            hour,
+            minute,
+            second,
+            millisecond,
+        }
+    }
+}
+
 impl<Y, M, D> DateTimeBuilder<Y, M, D> {
-    pub fn hour(self, hour: u8) -> DateTimeBuilder<Y, M, D>
+    /// Sets the hour, from 0 to 23. The last call counts.
+    pub fn hour(mut self, hour: u8) -> DateTimeBuilder<Y, M, D>
         ensures { result ≡ record self { hour = Some hour } }
     {
-        let mut next = self;
-        next.hour = Some(hour);
-        next
+        self.hour = Some(hour);
+        self
+    }
+
+    /// Sets the minute, from 0 to 59. The last call counts.
+    pub fn minute(mut self, minute: u8) -> DateTimeBuilder<Y, M, D>
+        ensures { result ≡ record self { minute = Some minute } }
+    {
+        self.minute = Some(minute);
+        self
+    }
+
+    /// Sets the second, from 0 to 59. The last call counts.
+    pub fn second(mut self, second: u8) -> DateTimeBuilder<Y, M, D>
+        ensures { result ≡ record self { second = Some second } }
+    {
+        self.second = Some(second);
+        self
+    }
+
+    /// Sets the millisecond, from 0 to 999. The last call counts.
+    pub fn millisecond(mut self, millisecond: u16) -> DateTimeBuilder<Y, M, D>
+        ensures { result ≡ record self { millisecond = Some millisecond } }
+    {
+        self.millisecond = Some(millisecond);
+        self
     }
 }
 
 impl DateTimeBuilder<Year, Month, Day> {
-    ghost use Rattle.bson_datetime.specs.Builder.{built_millis, IsBuildable};
+    ghost use Rattle.bson_datetime.specs.Builder.{told};
 
-    pub fn build(self) -> Result<DateTime, Error>
-        ensures succeeds { IsOk result ↔ IsBuildable self }
-        ensures value { IfOk result (λ ms. ms ≡ built_millis self) }
+    /// The moment with the date and time that were set, on the proleptic Gregorian calendar. `InvalidTimestamp` exactly
+    /// where one of them is out of its range, or the month hasn't that day.
+    pub fn build(self) -> Result<DateTime>
+        ensures exists { IsOk result ↔ IsCivil (told self) }
+        ensures value { IfOk result (λ ms. IsMoment ms (told self)) }
+        ensures fields { IfOk result (λ ms. civil_of ms ≡ told self) }
         ensures err { IfErr result IsInvalidTimestamp }
     {
         let hour = self.hour.unwrap_or(0);
@@ -98,9 +201,7 @@ impl DateTimeBuilder<Year, Month, Day> {
         let second = self.second.unwrap_or(0);
         let millisecond = self.millisecond.unwrap_or(0);
         if hour > 23 || minute > 59 || second > 59 || millisecond > 999 {
-            return Err(Error::InvalidTimestamp {
-                message: "no such time",
-            });
+            return Err(NO_SUCH_TIME);
         }
         let day = day_number(self.year.value, self.month.value, self.day.value)?;
         let seconds = hour as u32 * 3600 + minute as u32 * 60 + second as u32;
@@ -109,8 +210,9 @@ impl DateTimeBuilder<Year, Month, Day> {
     }
 }
 
-fn day_number(year: i32, month: u8, day: u8) -> Result<i64, Error>
-    ensures succeeds { IsOk result ↔ IsDate year (pos month) (pos day) }
+// The number of a day from 1970-01-01, where the calendar has it.
+fn day_number(year: i32, month: u8, day: u8) -> Result<i64>
+    ensures exists { IsOk result ↔ IsCivilDate year month day }
     ensures value { IfOk result (λ n. n ≡ days_from_civil year month day) }
     ensures bound { IfOk result IsEpochDay }
     ensures err { IfErr result IsInvalidTimestamp }
@@ -125,5 +227,9 @@ fn day_number(year: i32, month: u8, day: u8) -> Result<i64, Error>
 }
 
 const NO_SUCH_DAY: Error = Error::InvalidTimestamp {
-    message: "no such day",
+    message: "the calendar has no such day",
+};
+
+const NO_SUCH_TIME: Error = Error::InvalidTimestamp {
+    message: "a day has no such time",
 };

@@ -1,18 +1,23 @@
-//! Milliseconds since 1970-01-01T00:00:00Z.
-ghost use Rattle.std.specs.Prelude.{◌≡◌, ◌↔◌, ◌≤◌, ◌/◌, ◌*◌, pos, ℤ, ◌+ℤ◌, ◌-ℤ◌, ◌≤ℤ◌, ◌<ℤ◌, ◌*ℤ◌, IsSome, IsNone, IfSome, min};
-ghost use Rattle.std.specs.Int.{int_min, saturate_signed, w64};
+//! `DateTime`, a moment in milliseconds since 1970-01-01T00:00:00Z: its sums, and its texts both ways.
+ghost use Rattle.std.specs.Prelude.{◌≡◌, ◌↔◌, pos, ℤ, ◌+ℤ◌, ◌-ℤ◌, ◌<ℤ◌, IsSome, IsNone, IfSome};
+ghost use Rattle.std.specs.Int.{saturate_signed, w64};
 ghost use Rattle.std.specs.Duration.{as_nanos};
-ghost use Rattle.bson_datetime.specs.Moment.{IsMoment, IsCivilMillis};
+ghost use Rattle.bson_datetime.specs.Moment.{IsMoment, IsCivilMillis, civil_of};
+ghost use Rattle.bson_datetime.specs.Sums.{sum_with, millis_since, nanos_of_millis};
+ghost use Rattle.bson_datetime.specs.JiffSteps.{IsJiffMoment};
 
-use crate::shown::Civil;
-use crate::{Error, rfc3339};
+use crate::builder::{DateTimeBuilder, NoDay, NoMonth, NoYear};
+use crate::shown::CivilText;
+use crate::{Error, Result, rfc3339};
 use jiff::civil;
 use std::alloc::Global;
 use std::fmt;
 use std::marker::Model;
 use std::time::Duration;
 
-/// A moment, to the millisecond.
+/// A moment, to the millisecond: BSON's UTC datetime, a signed number of 64 bits (BSON 1.1).
+///
+/// The years -9999 to 9999 have a date, on the proleptic Gregorian calendar.
 #[derive(Clone, Copy, PartialEq, Eq, PartialOrd, Ord, Hash)]
 pub struct DateTime {
     millis: i64,
@@ -27,22 +32,36 @@ impl Model for DateTime {
 }
 
 impl DateTime {
+    ghost use Rattle.bson_datetime.specs.Builder.{unset};
+
+    /// The last moment.
     pub const MAX: DateTime = DateTime { millis: i64::MAX };
 
+    /// The first moment.
     pub const MIN: DateTime = DateTime { millis: i64::MIN };
 
+    /// A builder with nothing set.
+    pub fn builder() -> DateTimeBuilder<NoYear, NoMonth, NoDay>
+        ensures { result ≡ unset }
+    {
+        DateTimeBuilder::default()
+    }
+
+    /// The moment so many milliseconds after 1970-01-01T00:00:00Z, or before it where the number is negative.
     pub fn from_millis(millis: i64) -> DateTime
         ensures { result ≡ millis }
     {
         DateTime { millis }
     }
 
+    /// The milliseconds since 1970-01-01T00:00:00Z, negative before it.
     pub fn timestamp_millis(self) -> i64
         ensures { result ≡ self }
     {
         self.millis
     }
 
+    /// The sum with so many milliseconds, cut to `MIN` and `MAX`.
     pub fn saturating_add_millis(self, millis: i64) -> DateTime
         ensures { result ≡ saturate_signed w64 (self +ℤ millis) }
     {
@@ -51,9 +70,9 @@ impl DateTime {
         }
     }
 
+    /// The exact sum with the whole milliseconds of a duration, but no later than `MAX`.
     pub fn saturating_add_duration(self, duration: Duration) -> DateTime
-        ensures { result
-            ≡ int_min (pos 9_223_372_036_854_775_807) (self +ℤ pos (as_nanos duration / 1_000_000)) }
+        ensures { result ≡ sum_with self duration }
     {
         let sum = self.millis as i128 + duration.as_millis() as i128;
         DateTime {
@@ -61,10 +80,10 @@ impl DateTime {
         }
     }
 
+    /// The exact time since `earlier`, or `None` where that is later than this moment.
     pub fn checked_duration_since(self, earlier: DateTime) -> Option<Duration>
         ensures none { IsNone result ↔ (self <ℤ earlier) }
-        ensures value { IfSome result
-            (λ d. pos (as_nanos d) ≡ (self -ℤ earlier) *ℤ pos 1_000_000) }
+        ensures value { IfSome result (λ d. pos (as_nanos d) ≡ nanos_of_millis (self -ℤ earlier)) }
     {
         if self.millis < earlier.millis {
             return None;
@@ -72,10 +91,21 @@ impl DateTime {
         Some(Duration::from_millis(self.millis.abs_diff(earlier.millis)))
     }
 
-    // The civil date and time, in the years that the calendar has.
-    pub(crate) fn moment(self) -> Option<civil::DateTime>
-        ensures some { IsSome result ↔ IsCivilMillis self }
-        ensures value { IfSome result (IsMoment self) }
+    /// The exact time since `earlier`, or zero where that is later than this moment.
+    pub fn saturating_duration_since(self, earlier: DateTime) -> Duration
+        ensures { pos (as_nanos result) ≡ nanos_of_millis (millis_since self earlier) }
+    {
+        match self.checked_duration_since(earlier) {
+            Some(since) => since,
+            None => Duration::ZERO,
+        }
+    }
+
+    // The date and time, in the years that the calendar has.
+    pub(crate) fn civil(self) -> Option<civil::DateTime>
+        ensures exists { IsSome result ↔ IsCivilMillis self }
+        ensures value { IfSome result (IsJiffMoment self) }
+        ensures fields { IsCivilMillis self → IsMoment self (civil_of self) }
     {
         match jiff_core::civil::DateTime::from_nanosecond(self.millis as i128 * 1_000_000) {
             Ok(at) => Some(civil::DateTime::from_plain(at)),
@@ -85,17 +115,25 @@ impl DateTime {
 }
 
 impl DateTime {
-    ghost use Rattle.std.specs.Prelude.{OnOk, MatchResult, IfOk, IfErr, string_bytes, ◌⊎◌};
-    ghost use Rattle.bson_datetime.specs.Rfc3339.{IsRfcMillis, Denotes};
-    ghost use Rattle.bson_datetime.specs.Shown.{rfc};
+    ghost use Rattle.std.specs.Prelude.{Ok, OnOk, IfOk, IfErr, string_bytes, ◌⊎◌};
+    ghost use Rattle.bson_datetime.specs.Moment.{Civil, IsRfcMillis};
+    ghost use Rattle.bson_datetime.specs.Rfc3339.{Denotes};
+    ghost use Rattle.bson_datetime.specs.Shown.{rfc, rfc_text};
     ghost use Rattle.bson_datetime.specs.Errors.{IsCannotFormat, IsOutOfMemory, IsInvalidTimestamp};
 
-    pub fn try_to_rfc3339_string(self, alloc: Global) -> Result<String, Error>
+    /// The RFC 3339 text (section 5.6) in UTC, as `1998-02-12T00:01:00.023Z`: the fraction without zeros at its end, and
+    /// none where it is zero. The text reads back as this moment.
+    ///
+    /// `CannotFormat` exactly outside the years 0000 to 9999; `OutOfMemory` only where a request was refused.
+    pub fn try_to_rfc3339_string(self, alloc: Global) -> Result<String>
         ensures ok { IfOk result (λ text. string_bytes text ≡ rfc self) }
+        ensures fields { IfOk result (λ text. (c : Civil) → IsMoment self c → string_bytes text ≡ rfc_text c) }
+        ensures reads_back { IfOk result (λ text. Denotes (string_bytes text) self) }
+
         ensures in_years { OnOk result (IsRfcMillis self) }
-        ensures err { IfErr result (λ e. (IsCannotFormat e × ¬ (IsRfcMillis self)) ⊎ (IsOutOfMemory e)) }
+        ensures err { IfErr result (λ e. (IsCannotFormat e × ¬ (IsRfcMillis self)) ⊎ IsOutOfMemory e) }
     {
-        let Some(at) = self.moment() else {
+        let Some(at) = self.civil() else {
             return Err(CANNOT_FORMAT);
         };
         if at.year() < 0 {
@@ -107,16 +145,20 @@ impl DateTime {
         }
     }
 
-    pub fn parse_rfc3339_str(text: &str) -> Result<DateTime, Error>
+    /// Reads an RFC 3339 text (section 5.6): `YYYY-MM-DDThh:mm:ss`, a fraction where there is one, and `Z` or an offset.
+    ///
+    /// T and Z may be small letters. Of the fraction nine digits count, and the nanoseconds since 1970-01-01T00:00:00Z
+    /// are cut to milliseconds towards zero. `InvalidTimestamp` exactly for every other text, a second of 60 among them.
+    pub fn parse_rfc3339_str(text: &str) -> Result<DateTime>
         ensures ok { IfOk result (λ ms. Denotes text.now ms) }
-        ensures err { IfErr result (λ e. IsInvalidTimestamp e × ((ms : ℤ) → ¬ (Denotes text.now ms))) }
+        ensures refused { IfErr result (λ e. IsInvalidTimestamp e × ((ms : ℤ) → ¬ (Denotes text.now ms))) }
+
+        // Every moment of the years 0000 to 9999 comes back from its text.
         ensures round_trip { (ms : ℤ) → IsRfcMillis ms → text.now ≡ rfc ms → result ≡ Ok ms }
     {
         match rfc3339::parse(text.as_bytes()) {
             Some(millis) => Ok(DateTime { millis }),
-            None => Err(Error::InvalidTimestamp {
-                message: "not an RFC 3339 text",
-            }),
+            None => Err(NOT_RFC3339),
         }
     }
 }
@@ -125,6 +167,11 @@ const CANNOT_FORMAT: Error = Error::CannotFormat {
     message: "the year is outside 0000 to 9999",
 };
 
+const NOT_RFC3339: Error = Error::InvalidTimestamp {
+    message: "the text is not a date and time of RFC 3339",
+};
+
+/// As `2023-01-23 20:11:47.316 +00:00:00`; outside the years -9999 to 9999 the milliseconds as a decimal number.
 impl fmt::Display for DateTime {
     ghost use Rattle.std.specs.Prelude.{Some};
     ghost use Rattle.bson_datetime.specs.Shown.{shown};
@@ -132,11 +179,18 @@ impl fmt::Display for DateTime {
     ghost output = { λ ms. Some (shown ms) };
 
     fn fmt<W: fmt::Write>(&self, f: &mut fmt::Formatter<W>) -> fmt::Result {
-        let Some(at) = self.moment() else {
+        let Some(at) = self.civil() else {
             let millis = self.millis;
             return write!(f, "{millis}");
         };
-        let at = Civil { at };
-        write!(f, "{at}")
+        let text = CivilText { at };
+        write!(f, "{text}")
+    }
+}
+
+/// As `DateTime(2023-01-23 20:11:47.316 +00:00:00)`.
+impl fmt::Debug for DateTime {
+    fn fmt<W: fmt::Write>(&self, f: &mut fmt::Formatter<W>) -> fmt::Result {
+        write!(f, "DateTime({self})")
     }
 }

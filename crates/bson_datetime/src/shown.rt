@@ -1,12 +1,13 @@
-//! How a date and a time are shown.
+//! Writes the parts of a date and time, and the two together as `Display` has them.
 ghost use Rattle.std.specs.Prelude.{◌≡◌, ◌<◌, Some, ℤ};
-ghost use Rattle.bson_datetime.specs.Shown.{two, year_shown, hour_shown, fraction_shown, moment_text};
+ghost use Rattle.bson_datetime.specs.JiffSteps.{fields_of};
+ghost use Rattle.bson_datetime.specs.Shown.{two, year_shown, hour_shown, fraction_shown, civil_text};
 ghost use Rattle.jiff.specs.Words.{IsWithin};
 
 use jiff::civil::DateTime;
 use std::fmt;
 
-// Two digits.
+// A number below 100, in two digits.
 #[derive(Clone, Copy)]
 pub(crate) struct Two {
     pub n: u8,
@@ -43,7 +44,7 @@ impl fmt::Display for Hour {
     }
 }
 
-// A fraction in thousandths.
+// A fraction in thousandths: at least one digit, and no further zeros at the end.
 #[derive(Clone, Copy)]
 pub(crate) struct Fraction {
     pub n: u16,
@@ -92,14 +93,14 @@ impl fmt::Display for Year {
     }
 }
 
-// A date and a time.
+// A date and time, as `2023-01-23 20:11:47.316 +00:00:00`.
 #[derive(Clone, Copy)]
-pub(crate) struct Civil {
+pub(crate) struct CivilText {
     pub at: DateTime,
 }
 
-impl fmt::Display for Civil {
-    ghost output = { λ x. Some (moment_text x.at) };
+impl fmt::Display for CivilText {
+    ghost output = { λ x. Some (civil_text (fields_of x.at)) };
 
     fn fmt<W: fmt::Write>(&self, f: &mut fmt::Formatter<W>) -> fmt::Result {
         let at = self.at.to_plain();

@@ -1,13 +1,31 @@
-use Rattle.std.proofs.Common.{◌≡◌, arith, pos, to_z, to_z-of_z, FitsSigned, w8, w16, w32, refl}
+use Rattle.std.proofs.Common.{◌≡◌, ◌↔◌, ℕ, ℤ, arith, pos, to_z, to_z-of_z, FitsSigned, w8, w16, w32, refl}
 use Rattle.std.proofs.lemmas.Int.{to_z_pos}
 use Rattle.jiff.proofs.SpanFacts.{signed_arith}
+use Rattle.jiff.specs.Words.{IsDate, days_in_month}
+use Rattle.jiff_core.specs.Calendar.{IsCivilDate}
 use Rattle.bson_datetime.proofs.builder.day_number.Goals as goal
 
-pub returns-in-Ok-clause-succeeds : goal.returns-in-Ok-clause-succeeds
-returns-in-Ok-clause-succeeds c =
+-- the same date, of numbers with a sign and of numbers without
+date-civil : (y : ℤ) (m d : ℕ) → IsDate y (pos m) (pos d) ↔ IsCivilDate y m d
+date-civil y m d = (
+  λ h. (h.0, (omega (arith, signed_arith, h.1.0), omega (arith, signed_arith, h.1.1)), (omega (arith, signed_arith, h.2.0), omega (arith, signed_arith, h.2.1))),
+  λ h. (h.0, (omega (arith, signed_arith, h.1.0), omega (arith, signed_arith, h.1.1)), (omega (arith, signed_arith, h.2.0), omega (arith, signed_arith, h.2.1))),
+)
+
+pub returns-in-Ok-clause-exists : goal.returns-in-Ok-clause-exists
+returns-in-Ok-clause-exists c =
     let first : FitsSigned w32 c.args.year = c.ranges.year in
     let fits : FitsSigned w16 c.args.year = omega (arith, signed_arith) in
     let m : to_z w8 c.args.month ≡ pos c.args.month = to_z_pos w8 _ (omega arith) in
     let d : to_z w8 c.args.day ≡ pos c.args.day = to_z_pos w8 _ (omega arith) in
-    let h = rw (to_z-of_z first, to_z-of_z fits, m, d) at (c.in-Ok.ensures.succeeds.0 refl) in
-    (λ ok. h, λ day. refl)
+    let date = rw (to_z-of_z first, to_z-of_z fits, m, d) at (c.in-Ok.ensures.succeeds.0 refl) in
+    (λ ok. (date-civil c.args.year c.args.month c.args.day).0 date, λ exists. refl)
+
+pub returns-in-Err-clause-exists : goal.returns-in-Err-clause-exists
+returns-in-Err-clause-exists c =
+    let first : FitsSigned w32 c.args.year = c.ranges.year in
+    let fits : FitsSigned w16 c.args.year = omega (arith, signed_arith) in
+    let m : to_z w8 c.args.month ≡ pos c.args.month = to_z_pos w8 _ (omega arith) in
+    let d : to_z w8 c.args.day ≡ pos c.args.day = to_z_pos w8 _ (omega arith) in
+    let none = rw (to_z-of_z first, to_z-of_z fits, m, d) at c.in-Err.ensures.succeeds.1 in
+    (λ ok. cc ok, λ exists. cc (none ((date-civil c.args.year c.args.month c.args.day).1 exists)))

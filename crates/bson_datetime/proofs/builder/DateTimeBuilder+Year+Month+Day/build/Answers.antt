@@ -2,6 +2,7 @@ use Rattle.std.proofs.Common.{◌≡◌, ℕ, ◌+◌, ◌*◌, ◌<◌, ◌∙�
 use Rattle.std.proofs.lemmas.Int.{to_z_pos}
 use Rattle.jiff.proofs.SpanFacts.{signed_arith}
 use Rattle.jiff.specs.Words.{IsEpochDay}
+use Rattle.bson_datetime.proofs.ShownLemmas.{civil_of-moment}
 use Rattle.bson_datetime.proofs.builder.DateTimeBuilder+Year+Month+Day.build.Goals as goal
 
 -- no step of the sum wraps
@@ -14,17 +15,26 @@ exact day time dr tr =
     let f2 : FitsSigned w64 (day *ℤ pos 86_400_000 +ℤ pos time) = omega (arith, signed_arith) in
     rw (to_z-of_z fd, to_z-of_z f1, et, to_z-of_z f2) refl
 
-pub returns-clause-succeeds : goal.returns-clause-succeeds
-returns-clause-succeeds c =
+-- the date and time that was told exists
+told_exists : goal.returns-clause-exists
+told_exists c =
     let fy : FitsSigned w32 c.args.self.year.value = search rules in
-    let date = rw (to_z-of_z fy) at (c.in_ok-day.ensures.succeeds.0 refl) in
-    (λ ok. (date, omega arith, omega arith, omega arith, omega arith), λ built. refl)
+    let date = rw (to_z-of_z fy) at (c.in_ok-day.ensures.exists.0 refl) in
+    (λ ok. (date, omega arith, omega arith, omega arith, omega arith), λ told. refl)
 
-pub returns-clause-value : goal.returns-clause-value
-returns-clause-value c =
+moment : goal.returns-clause-value
+moment c =
     let fy : FitsSigned w32 c.args.self.year.value = search rules in
     let day = rw (to_z-of_z fy) at c.in_ok-day.ensures.value in
-    let hour = c.unwrap_or-hour.ensures in
     let time = (c.unwrap_or-hour.result * 3600 + c.unwrap_or-minute.result * 60 + c.unwrap_or-second.result) * 1000 + c.unwrap_or-millisecond.result in
     let sum = exact c.in_ok-day.day time c.in_ok-day.ensures.bound (omega arith) in
-    rw (← day, ← c.unwrap_or-hour.ensures, ← c.unwrap_or-minute.ensures, ← c.unwrap_or-second.ensures, ← c.unwrap_or-millisecond.ensures) (c.from_millis.ensures ∙ sum)
+    ((told_exists c).0 refl, rw (← day, ← c.unwrap_or-hour.ensures, ← c.unwrap_or-minute.ensures, ← c.unwrap_or-second.ensures, ← c.unwrap_or-millisecond.ensures) (c.from_millis.ensures ∙ sum))
+
+pub returns-clause-exists : goal.returns-clause-exists
+returns-clause-exists c = told_exists c
+
+pub returns-clause-value : goal.returns-clause-value
+returns-clause-value c = moment c
+
+pub returns-clause-fields : goal.returns-clause-fields
+returns-clause-fields c = civil_of-moment _ _ (moment c)

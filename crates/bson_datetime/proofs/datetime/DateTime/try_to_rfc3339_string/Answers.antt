@@ -1,8 +1,10 @@
 use Rattle.std.proofs.Common.{arith, inl, pos, ◌<ℤ◌, ◌≤ℤ◌, sym, ◌∙◌}
 use Rattle.jiff.proofs.SpanFacts.{signed_arith}
 use Rattle.jiff.proofs.Family.{civil_nanos_range}
-use Rattle.bson_datetime.proofs.ShownLemmas.{rfc-moment}
-use Rattle.bson_datetime.proofs.MomentLemmas.{moment-negative, moment-natural}
+use Rattle.bson_datetime.proofs.RfcLemmas.{rfc-jiff}
+use Rattle.bson_datetime.proofs.ShownLemmas.{rfc-fields}
+use Rattle.bson_datetime.proofs.RoundTrip.{denoted-rfc}
+use Rattle.bson_datetime.proofs.MomentLemmas.{moment-negative, moment-natural, natural_year}
 use Rattle.bson_datetime.proofs.datetime.DateTime.try_to_rfc3339_string.Goals as goal
 
 pub returns-then-year-lt0-clause-err : goal.returns-then-year-lt0-clause-err
@@ -11,13 +13,29 @@ returns-then-year-lt0-clause-err c =
     let below = moment-negative c.args.self c.in-Some.at c.in-Some.ensures.value low in
     inl (tt, λ h. omega (arith, signed_arith, h.0))
 
-pub returns-in-Ok-clause-ok : goal.returns-in-Ok-clause-ok
-returns-in-Ok-clause-ok c = c.in-Ok.ensures.ok ∙ sym (rfc-moment c.args.self c.in-Some.at c.in-Some.ensures.value)
+-- what was written, and in which years
+written : goal.returns-in-Ok-clause-ok
+written c =
+    let high : pos 0 ≤ℤ c.in-Some.at.date.year = omega (arith, signed_arith) in
+    let year = natural_year c.in-Some.at.date.year high in
+    c.in-Ok.ensures.ok ∙ sym (rfc-jiff c.args.self c.in-Some.at year.0 c.in-Some.ensures.value year.1)
 
-pub returns-in-Ok-clause-in_years : goal.returns-in-Ok-clause-in_years
-returns-in-Ok-clause-in_years c =
+in_years : goal.returns-in-Ok-clause-in_years
+in_years c =
     let high : pos 0 ≤ℤ c.in-Some.at.date.year = omega (arith, signed_arith) in
     let is = c.in-Some.ensures.value in
     let above = moment-natural c.args.self c.in-Some.at is high in
     let range = civil_nanos_range c.in-Some.at in
     (above, omega (arith, signed_arith))
+
+pub returns-in-Ok-clause-ok : goal.returns-in-Ok-clause-ok
+returns-in-Ok-clause-ok c = written c
+
+pub returns-in-Ok-clause-fields : goal.returns-in-Ok-clause-fields
+returns-in-Ok-clause-fields c = λ fields is. written c ∙ rfc-fields c.args.self fields is
+
+pub returns-in-Ok-clause-reads_back : goal.returns-in-Ok-clause-reads_back
+returns-in-Ok-clause-reads_back c = rw (written c) (denoted-rfc c.args.self (in_years c))
+
+pub returns-in-Ok-clause-in_years : goal.returns-in-Ok-clause-in_years
+returns-in-Ok-clause-in_years c = in_years c

@@ -5,7 +5,7 @@ use Rattle.bson_datetime.proofs.datetime.DateTimeDisplay.fmt.Goals as goal
 pub returns-in_default-clause-writes : goal.returns-in_default-clause-writes
 returns-in_default-clause-writes g c = λ plain ok.
     let fits : FitsSigned w64 c.self.inside.millis = search rules in
-    let e = shown-outside c.self.inside.millis (λ range. cc (c.in_default.ensures.some.1 range)) in
+    let e = shown-outside c.self.inside.millis (λ range. cc (c.in_default.ensures.exists.1 range)) in
     let h = rw (to_z-of_z fits) at (c.write.ensures.writes plain ok) in
     rw (← c.self.view_is, e) h
 
