@@ -1,0 +1,111 @@
+-- Two ascending lists with the same elements are one, so a sort gives the ascending list.
+use Rattle.std.proofs.Common.{◌≡◌, ℕ, ◌+◌, ◌<◌, ◌≤◌, suc, zero, Bool, true, false, not, cond, List, [], ◌∷◌, ◌++◌, length, get_or, refl, sym, ap, ◌∙◌, subst, arith, inl, inr, nat_eq, nat_le, nat_cmp, IsPermutation, IsSorted, ◌&&◌}
+use Rattle.std.proofs.lemmas.Bool.{cases_order, leb-true, leb-false, le-leb, cases_Bool}
+use Rattle.std.proofs.lemmas.Bool.Decides.{nat_tests}
+use Rattle.std.proofs.lemmas.List.Sorted.{sum_by-IsPermutation, IsNonDecreasingBy-from_sort}
+use Rattle.std.proofs.lemmas.List.Sums.{sum_by-cons}
+use Rattle.std.specs.List.{sum_by, AllByRecursion}
+use Rattle.std.specs.List.Sorted.{IsNonDecreasing}
+use Rattle.std.specs.Str.{chars, is_utf8, IsUtf8, encode_utf8_all, all_scalars}
+use Rattle.std.proofs.lemmas.Str.{scalars-chars, chars-encodes, IsUtf8-from_is_utf8, is_utf8-from_IsUtf8}
+use Rattle.bson_leaf.specs.Regexes.{put_up, ascending, sorted_text}
+
+abbrev Rises : List ℕ → Type 0
+Rises [] = Unit {0}
+Rises (x ∷ xs) = AllByRecursion (λ y. x ≤ y) xs × Rises xs
+
+abbrev tally : ℕ → ℕ → ℕ
+tally c y = cond (nat_eq y c) 1 0
+
+abbrev count : ℕ → List ℕ → ℕ
+count c [] = 0
+count c (x ∷ xs) = tally c x + count c xs
+
+count-sum : (c : ℕ) (xs : List ℕ) → sum_by (tally c) xs ≡ count c xs
+count-sum c [] = refl
+count-sum c (x ∷ xs) = sum_by-cons (tally c) x xs ∙ ap (λ n. tally c x + n) (count-sum c xs)
+
+tally-same : (c : ℕ) → tally c c ≡ 1
+tally-same c = grind (arith, nat_tests)
+
+tally-apart : (c y : ℕ) → (y ≡ c → ⊥) → tally c y ≡ 0
+tally-apart c y h = grind (arith, nat_tests)
+
+-- ---- what put_up keeps
+
+count-put_up : (c n : ℕ) (xs : List ℕ) → count c (put_up n xs) ≡ tally c n + count c xs
+count-put_up c n [] = refl
+count-put_up c n (x ∷ xs) = elim (cases_Bool (nat_le n x)) [
+  | inl e ↦ rw e refl
+  | inr e ↦ let more = count-put_up c n xs in rw e (omega (arith, more))
+]
+
+pub count-ascending : (c : ℕ) (xs : List ℕ) → count c (ascending xs) ≡ count c xs
+count-ascending c [] = refl
+count-ascending c (x ∷ xs) = count-put_up c x (ascending xs) ∙ ap (λ n. tally c x + n) (count-ascending c xs)
+
+all-put_up : (P : ℕ → Type 0) (n : ℕ) (xs : List ℕ) → P n → AllByRecursion P xs → AllByRecursion P (put_up n xs)
+all-put_up P n [] h all = (h, tt)
+all-put_up P n (x ∷ xs) h all = elim (nat_le n x) as (λ b. AllByRecursion P (cond b (n ∷ x ∷ xs) (x ∷ put_up n xs))) [ true ↦ (h, all) | false ↦ (all.0, all-put_up P n xs h all.1) ]
+
+all-weaker : (P Q : ℕ → Type 0) → ((y : ℕ) → P y → Q y) → (xs : List ℕ) → AllByRecursion P xs → AllByRecursion Q xs
+all-weaker P Q f [] all = tt
+all-weaker P Q f (x ∷ xs) all = (f x all.0, all-weaker P Q f xs all.1)
+
+rises-put_up : (n : ℕ) (xs : List ℕ) → Rises xs → Rises (put_up n xs)
+rises-put_up n [] up = (tt, tt)
+rises-put_up n (x ∷ xs) up = elim (cases_Bool (nat_le n x)) [
+  | inl e ↦ let le = leb-true n x e in rw e ((le, all-weaker (λ y. x ≤ y) (λ y. n ≤ y) (λ y h. omega arith) xs up.0), up)
+  | inr e ↦ let gt = leb-false n x e in rw e (all-put_up (λ y. x ≤ y) n xs (omega arith) up.0, rises-put_up n xs up.1)
+]
+
+pub rises-ascending : (xs : List ℕ) → Rises (ascending xs)
+rises-ascending [] = tt
+rises-ascending (x ∷ xs) = rises-put_up x (ascending xs) (rises-ascending xs)
+
+pub all-ascending : (P : ℕ → Type 0) (xs : List ℕ) → AllByRecursion P xs → AllByRecursion P (ascending xs)
+all-ascending P [] all = tt
+all-ascending P (x ∷ xs) all = all-put_up P x _ all.0 (all-ascending P xs all.1)
+
+-- ---- one ascending list
+
+none-above : (c : ℕ) (xs : List ℕ) → AllByRecursion (λ y. c < y) xs → count c xs ≡ 0
+none-above c [] all = refl
+none-above c (x ∷ xs) all =
+    let first : tally c x ≡ 0 = tally-apart c x (λ e. let h : c < x = all.0 in omega arith) in
+    omega (arith, first, none-above c xs all.1)
+
+head-missing : (x y : ℕ) (ys : List ℕ) → x < y → AllByRecursion (λ z. y ≤ z) ys → count x (y ∷ ys) ≡ 0
+head-missing x y ys lt up = none-above x (y ∷ ys) (lt, all-weaker (λ z. y ≤ z) (λ z. x < z) (λ z h. omega arith) ys up)
+
+some-here : (x : ℕ) (xs : List ℕ) → 0 < count x (x ∷ xs)
+some-here x xs = omega (arith, tally-same x)
+
+pub rises-one : (xs ys : List ℕ) → Rises xs → Rises ys → ((c : ℕ) → count c xs ≡ count c ys) → xs ≡ ys
+rises-one [] [] up vp same = refl
+rises-one [] (y ∷ ys) up vp same = absurd (omega (arith, same y, some-here y ys))
+rises-one (x ∷ xs) [] up vp same = absurd (omega (arith, same x, some-here x xs))
+rises-one (x ∷ xs) (y ∷ ys) up vp same = elim (cases_order x y) [
+  | inl e ↦
+      let more = rises-one xs ys up.1 vp.1 (λ c. let h = rw e at (same c) in omega (arith, h)) in
+      rw (e, more) refl
+  | inr (inl lt) ↦ absurd (omega (arith, same x, some-here x xs, head-missing x y ys lt vp.0))
+  | inr (inr gt) ↦ absurd (omega (arith, same y, some-here y ys, head-missing y x xs gt up.0))
+]
+
+pub ascending-again : (xs : List ℕ) → ascending (ascending xs) ≡ ascending xs
+ascending-again xs = rises-one _ _ (rises-ascending (ascending xs)) (rises-ascending xs) (λ c. count-ascending c (ascending xs))
+
+all-from-reads : (x : ℕ) (xs : List ℕ) → ((i : ℕ) → i < length xs → x ≤ get_or xs i 0) → AllByRecursion (λ y. x ≤ y) xs
+all-from-reads x [] h = tt
+all-from-reads x (y ∷ xs) h = (h 0 (omega arith), all-from-reads x xs (λ i l. h (suc i) (omega arith)))
+
+rises-from : (xs : List ℕ) → IsNonDecreasing xs → Rises xs
+rises-from [] up = tt
+rises-from (x ∷ xs) up = (all-from-reads x xs (λ i l. up 0 (suc i) 0 (omega arith) (omega arith)), rises-from xs (λ i j d l m. up (suc i) (suc j) d (omega arith) (omega arith)))
+
+-- what a sort leaves is the ascending list
+pub sorted-ascending : (xs ys : List ℕ) → IsPermutation xs ys → IsSorted nat_cmp ys → ys ≡ ascending xs
+sorted-ascending xs ys same sorted =
+    rises-one ys (ascending xs) (rises-from ys (IsNonDecreasingBy-from_sort (λ x. x) ys sorted)) (rises-ascending xs)
+    (λ c. sym (count-sum c ys) ∙ sum_by-IsPermutation (tally c) xs ys same ∙ count-sum c xs ∙ sym (count-ascending c xs))

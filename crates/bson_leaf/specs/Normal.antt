@@ -1,0 +1,54 @@
+-- Normal and narrowed forms, and what a scalar may be.
+use Rattle.std.specs.Prelude.{◌≡◌, ◌<◌, ◌^◌, ℕ, ℤ, List, length, slice_index, Bool, true, is_some, FitsSigned, if◌then◌else◌}
+use Rattle.std.specs.Int.{w32, w64}
+use Rattle.bson_scalar.specs.Subtype.{subtype_byte, subtype_of}
+use Rattle.bson_decimal.specs.Pattern.{canon}
+use Rattle.hex.specs.Hex.{IsBytes}
+use Rattle.bson_leaf.specs.Doubles.{nan_form, double_text}
+use Rattle.bson_leaf.specs.Ints.{fits_bits}
+use Rattle.bson_leaf.specs.Full.{narrowest}
+use Rattle.bson_leaf.specs.Regexes.{sorted_text}
+use Rattle.bson_leaf.specs.declared.form.Form.{Form}
+use Rattle.bson_leaf.specs.declared.form.Form.TheVariants.{Canonical, Relaxed}
+use Rattle.bson_leaf.specs.Scalar.{Scalar, double, int32, int64, regex, timestamp, binary, object_id, date, decimal, db_pointer}
+
+abbrev pub nf_scalar : Scalar → Scalar
+nf_scalar (double p) = double (nan_form p)
+nf_scalar (regex p o) = regex p (sorted_text o)
+nf_scalar (binary k bytes) = binary (subtype_of (subtype_byte k)) bytes
+nf_scalar (decimal b) = decimal (canon b)
+nf_scalar x = x
+
+-- an Int64 as its tree in the form f reads back
+abbrev pub int64_settled : Form → ℤ → Scalar
+int64_settled Canonical z = int64 z
+int64_settled Relaxed z = narrowest z
+
+-- a scalar as its tree in the form f reads back: narrowed where the form is the relaxed one
+abbrev pub settle : Form → Scalar → Scalar
+settle f (int64 z) = int64_settled f z
+settle f x = x
+
+abbrev pub writable_scalar : Scalar → Bool
+writable_scalar (double p) = is_some (double_text p)
+writable_scalar x = true
+
+-- each number in it is in the range of its Rust type
+abbrev pub ScalarInRange : Scalar → Type 0
+ScalarInRange (double p) = p < 2 ^ 64
+ScalarInRange (int32 z) = FitsSigned w32 z
+ScalarInRange (int64 z) = FitsSigned w64 z
+ScalarInRange (timestamp t i) = (t < 2 ^ 32) × (i < 2 ^ 32)
+ScalarInRange (binary k bytes) = (subtype_byte k < 256) × IsBytes bytes
+ScalarInRange (object_id id) = (length id ≡ 12) × IsBytes id
+ScalarInRange (date z) = FitsSigned w64 z
+ScalarInRange (db_pointer s id) = (length id ≡ 12) × IsBytes id
+ScalarInRange x = Unit {0}
+
+-- in normal form, or a decimal: a NaN's text can mean a pattern that is not canonical
+abbrev pub IsSettled : Scalar → Type 0
+IsSettled (decimal b) = Unit {0}
+IsSettled x = nf_scalar x ≡ x
+
+abbrev pub IsReadForm : Scalar → Type 0
+IsReadForm x = (writable_scalar x ≡ true) × IsSettled x

@@ -1,0 +1,78 @@
+//! `$numberDouble`.
+ghost use Rattle.std.specs.Prelude.{◌≡◌, option_map};
+ghost use Rattle.serde_json.specs.View.{view};
+ghost use Rattle.bson_leaf.specs.Doubles as spec;
+ghost use Rattle.bson_leaf.specs.Faults.{Gives};
+ghost use Rattle.bson_leaf.specs.View.{leaf_view};
+ghost use Rattle.bson_leaf.specs.Written.{Writes, double_writes};
+
+use crate::error::Error;
+use crate::leaf::Leaf;
+use crate::shapes::{text_of, wrapped};
+use crate::write_error::WriteError;
+use serde_json::Value;
+use std::alloc::Global;
+
+pub fn double_of(text: &str) -> Option<u64>
+    ensures { result ≡ spec.double_of text.now }
+{
+    if text == "0.0" {
+        Some(0)
+    } else if text == "-0.0" {
+        Some(0x8000_0000_0000_0000)
+    } else if text == "Infinity" {
+        Some(0x7FF0_0000_0000_0000)
+    } else if text == "-Infinity" {
+        Some(0xFFF0_0000_0000_0000)
+    } else if text == "NaN" {
+        Some(0x7FF8_0000_0000_0000)
+    } else if text == "-NaN" {
+        Some(0xFFF8_0000_0000_0000)
+    } else {
+        None
+    }
+}
+
+pub fn read_double(value: Value) -> Result<Leaf, Error>
+    ensures { Gives leaf_view result (spec.double_read (view value)) }
+{
+    let Some(text) = text_of(value) else {
+        return Err(Error::DeserializationError { message: "`$numberDouble` holds the text of a zero, an infinity or a NaN" });
+    };
+    match double_of(text.as_str()) {
+        Some(pattern) => Ok(Leaf::Double(pattern)),
+        None => Err(Error::DeserializationError { message: "`$numberDouble` holds the text of a zero, an infinity or a NaN" }),
+    }
+}
+
+fn double_text(pattern: u64) -> Option<&'static str>
+    ensures { option_map (λ s. s.now) result ≡ spec.double_text pattern }
+{
+    if pattern == 0 {
+        Some("0.0")
+    } else if pattern == 0x8000_0000_0000_0000 {
+        Some("-0.0")
+    } else if pattern == 0x7FF0_0000_0000_0000 {
+        Some("Infinity")
+    } else if pattern == 0xFFF0_0000_0000_0000 {
+        Some("-Infinity")
+    } else if 0x7FF0_0000_0000_0000 < pattern && pattern < 0x8000_0000_0000_0000 {
+        Some("NaN")
+    } else if 0xFFF0_0000_0000_0000 < pattern {
+        Some("-NaN")
+    } else {
+        None
+    }
+}
+
+pub fn write_double(alloc: Global, pattern: u64) -> Result<Value, WriteError>
+    ensures { Writes view result (double_writes pattern) }
+{
+    match double_text(pattern) {
+        Some(text) => {
+            let value = Value::try_from_str(alloc, text)?;
+            Ok(wrapped(alloc, "$numberDouble", value)?)
+        }
+        None => Err(WriteError::FiniteDouble),
+    }
+}

@@ -1,0 +1,67 @@
+//! `$minKey`, `$maxKey` and `$undefined`.
+ghost use Rattle.std.specs.Prelude.{◌≡◌, IfOk};
+ghost use Rattle.serde_json.specs.View.{view};
+ghost use Rattle.bson_leaf.specs.Faults.{Gives};
+ghost use Rattle.bson_leaf.specs.Lone.{is_one as tells_one, one_read, undefined_read, min_key_tree, max_key_tree, undefined_tree};
+ghost use Rattle.bson_leaf.specs.Scalar.{min_key, max_key};
+ghost use Rattle.bson_leaf.specs.Shapes.{whole};
+ghost use Rattle.bson_leaf.specs.View.{leaf_view};
+
+use crate::error::Error;
+use crate::leaf::Leaf;
+use crate::shapes::{whole_of, wrapped};
+use serde_json::Value;
+use std::alloc::{AllocError, Global};
+
+fn is_one(value: &Value) -> bool
+    ensures { result ≡ tells_one (whole (view value.now)) }
+{
+    whole_of(value) == Some(1)
+}
+
+pub fn read_min_key(value: Value) -> Result<Leaf, Error>
+    ensures { Gives leaf_view result (one_read min_key (view value)) }
+{
+    if is_one(&value) {
+        Ok(Leaf::MinKey)
+    } else {
+        Err(Error::DeserializationError { message: "`$minKey` holds the number 1" })
+    }
+}
+
+pub fn read_max_key(value: Value) -> Result<Leaf, Error>
+    ensures { Gives leaf_view result (one_read max_key (view value)) }
+{
+    if is_one(&value) {
+        Ok(Leaf::MaxKey)
+    } else {
+        Err(Error::DeserializationError { message: "`$maxKey` holds the number 1" })
+    }
+}
+
+pub fn read_undefined(value: Value) -> Result<Leaf, Error>
+    ensures { Gives leaf_view result (undefined_read (view value)) }
+{
+    match value {
+        Value::Bool(true) => Ok(Leaf::Undefined),
+        _ => Err(Error::DeserializationError { message: "`$undefined` holds true" }),
+    }
+}
+
+pub fn write_min_key(alloc: Global) -> Result<Value, AllocError>
+    ensures { IfOk result (λ t. view t ≡ min_key_tree) }
+{
+    wrapped(alloc, "$minKey", Value::from(1u32))
+}
+
+pub fn write_max_key(alloc: Global) -> Result<Value, AllocError>
+    ensures { IfOk result (λ t. view t ≡ max_key_tree) }
+{
+    wrapped(alloc, "$maxKey", Value::from(1u32))
+}
+
+pub fn write_undefined(alloc: Global) -> Result<Value, AllocError>
+    ensures { IfOk result (λ t. view t ≡ undefined_tree) }
+{
+    wrapped(alloc, "$undefined", Value::Bool(true))
+}

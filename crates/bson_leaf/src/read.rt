@@ -1,0 +1,55 @@
+//! Reads the tree under a wrapper key.
+ghost use Rattle.serde_json.specs.View.{view};
+ghost use Rattle.bson_leaf.specs.Faults.{Gives};
+ghost use Rattle.bson_leaf.specs.Rows.{single, single_at};
+ghost use Rattle.bson_leaf.specs.Table.{wrapper_of};
+ghost use Rattle.bson_leaf.specs.View.{leaf_view};
+
+use crate::binaries::{read_binary, read_uuid};
+use crate::dates::read_date;
+use crate::decimals::read_decimal;
+use crate::doubles::read_double;
+use crate::error::Error;
+use crate::ids::{read_oid, read_pointer};
+use crate::ints::{read_int32, read_int64};
+use crate::leaf::Leaf;
+use crate::lone::{read_max_key, read_min_key, read_undefined};
+use crate::regexes::read_regex;
+use crate::texts::{read_code, read_symbol};
+use crate::timestamps::read_timestamp;
+use crate::wrapper::{Wrapper, named};
+use serde_json::Value;
+use std::alloc::Global;
+
+pub fn read_wrapper(alloc: Global, wrapper: Wrapper, value: Value) -> Result<Leaf, Error>
+    ensures { Gives leaf_view result (single wrapper (view value)) }
+{
+    match wrapper {
+        Wrapper::Oid => read_oid(alloc, value),
+        Wrapper::Symbol => read_symbol(value),
+        Wrapper::RegularExpression => read_regex(alloc, value),
+        Wrapper::NumberInt => read_int32(value),
+        Wrapper::NumberLong => read_int64(value),
+        Wrapper::NumberDouble => read_double(value),
+        Wrapper::NumberDecimal => read_decimal(value),
+        Wrapper::Binary => read_binary(alloc, value),
+        Wrapper::Uuid => read_uuid(alloc, value),
+        Wrapper::Code => read_code(value),
+        Wrapper::Timestamp => read_timestamp(value),
+        Wrapper::Date => read_date(value),
+        Wrapper::MinKey => read_min_key(value),
+        Wrapper::MaxKey => read_max_key(value),
+        Wrapper::DbPointer => read_pointer(alloc, value),
+        Wrapper::Undefined => read_undefined(value),
+    }
+}
+
+/// A map of one key, as a wrapper.
+pub fn read_single(alloc: Global, key: &str, value: Value) -> Result<Leaf, Error>
+    ensures { Gives leaf_view result (single_at (wrapper_of key.now) (view value)) }
+{
+    match named(key) {
+        Some(wrapper) => read_wrapper(alloc, wrapper, value),
+        None => Err(Error::DeserializationError { message: "no wrapper key" }),
+    }
+}

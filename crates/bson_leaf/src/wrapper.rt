@@ -1,0 +1,100 @@
+//! The sixteen wrapper keys.
+ghost use Rattle.std.specs.Prelude.{◌≡◌};
+ghost use Rattle.bson_leaf.specs.Table.{wrapper_of, key_of, has_wrapper};
+ghost use Rattle.serde_json.specs.View.{members_view};
+
+use serde_json::{Map, Value};
+
+#[derive(Clone, Copy, Debug, Drop, PartialEq, Eq)]
+pub enum Wrapper {
+    Oid,
+    Symbol,
+    RegularExpression,
+    NumberInt,
+    NumberLong,
+    NumberDouble,
+    NumberDecimal,
+    Binary,
+    Uuid,
+    Code,
+    Timestamp,
+    Date,
+    MinKey,
+    MaxKey,
+    DbPointer,
+    Undefined,
+}
+
+pub fn named(key: &str) -> Option<Wrapper>
+    ensures { result ≡ wrapper_of key.now }
+{
+    if key == "$oid" {
+        Some(Wrapper::Oid)
+    } else if key == "$symbol" {
+        Some(Wrapper::Symbol)
+    } else if key == "$regularExpression" {
+        Some(Wrapper::RegularExpression)
+    } else if key == "$numberInt" {
+        Some(Wrapper::NumberInt)
+    } else if key == "$numberLong" {
+        Some(Wrapper::NumberLong)
+    } else if key == "$numberDouble" {
+        Some(Wrapper::NumberDouble)
+    } else if key == "$numberDecimal" {
+        Some(Wrapper::NumberDecimal)
+    } else if key == "$binary" {
+        Some(Wrapper::Binary)
+    } else if key == "$uuid" {
+        Some(Wrapper::Uuid)
+    } else if key == "$code" {
+        Some(Wrapper::Code)
+    } else if key == "$timestamp" {
+        Some(Wrapper::Timestamp)
+    } else if key == "$date" {
+        Some(Wrapper::Date)
+    } else if key == "$minKey" {
+        Some(Wrapper::MinKey)
+    } else if key == "$maxKey" {
+        Some(Wrapper::MaxKey)
+    } else if key == "$dbPointer" {
+        Some(Wrapper::DbPointer)
+    } else if key == "$undefined" {
+        Some(Wrapper::Undefined)
+    } else {
+        None
+    }
+}
+
+pub fn key(wrapper: Wrapper) -> &'static str
+    ensures { result.now ≡ key_of wrapper }
+{
+    match wrapper {
+        Wrapper::Oid => "$oid",
+        Wrapper::Symbol => "$symbol",
+        Wrapper::RegularExpression => "$regularExpression",
+        Wrapper::NumberInt => "$numberInt",
+        Wrapper::NumberLong => "$numberLong",
+        Wrapper::NumberDouble => "$numberDouble",
+        Wrapper::NumberDecimal => "$numberDecimal",
+        Wrapper::Binary => "$binary",
+        Wrapper::Uuid => "$uuid",
+        Wrapper::Code => "$code",
+        Wrapper::Timestamp => "$timestamp",
+        Wrapper::Date => "$date",
+        Wrapper::MinKey => "$minKey",
+        Wrapper::MaxKey => "$maxKey",
+        Wrapper::DbPointer => "$dbPointer",
+        Wrapper::Undefined => "$undefined",
+    }
+}
+
+pub fn any_wrapper(members: &Map<String, Value>) -> bool
+    ensures { result ≡ has_wrapper (members_view members.now.entries) }
+{
+    for (key, _) in members.iter() {
+        if named(key.as_str()).is_some() {
+            return true;
+        }
+    }
+    false
+}

@@ -1,0 +1,29 @@
+-- A value of BSON 1.1 with nothing of memory: texts have bytes, and a document is a list of pairs.
+use Rattle.std.specs.Prelude.{ℕ, List, [], ◌∷◌, cond, Option, None, Some}
+use Rattle.std.specs.Str.{bytes_eq}
+use Rattle.bson_leaf.specs.Scalar.{Scalar}
+
+-- a value that holds no other, code with its scope, a list, or a document; a scope is a document
+mutual
+  pub data Value : Type 0 where
+    scalar : Scalar → Value
+    code_scope : List ℕ → Pairs → Value
+    array : Values → Value
+    document : Pairs → Value
+
+  pub data Values : Type 0 where
+    no_values : Values
+    value : Value → Values → Values
+
+  pub data Pairs : Type 0 where
+    no_pairs : Pairs
+    pair : List ℕ → Value → Pairs → Pairs
+
+abbrev pub keys : Pairs → List (List ℕ)
+keys no_pairs = []
+keys (pair k v ps) = k ∷ keys ps
+
+-- the value of the first pair with the key
+abbrev pub get : List ℕ → Pairs → Option Value
+get k no_pairs = None
+get k (pair l v ps) = cond (bytes_eq k l) (Some v) (get k ps)
