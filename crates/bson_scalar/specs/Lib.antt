@@ -8,3 +8,4 @@ pub mod VectorData
 pub mod Oid
 pub mod OidFault
 pub mod Regex
+pub mod Tags

@@ -1,45 +1,173 @@
-//! Tables.
-ghost use Rattle.std.specs.Prelude.{◌≡◌};
+//! The tags of elements and the subtypes of binaries (BSON 1.1).
+ghost use Rattle.std.specs.Prelude.{◌≡◌, ◌↔◌, Some};
 ghost use Rattle.std.proofs.Common.{rules};
-ghost use Rattle.std.specs.Hash as fed;
 ghost use Rattle.std.specs.Cmp.Rules.{comparing, hashing};
+ghost use Rattle.std.specs.Hash as fed;
 
+use std::fmt;
 use std::hash::{Hash, Hasher};
 
+/// The type of an element, which its tag names.
+#[derive(Clone, Copy, Debug, PartialEq, Eq)]
+pub enum ElementType {
+    /// Tag 01: 64 bits of a binary floating point number.
+    Double,
+    /// Tag 02: a text of UTF-8.
+    String,
+    /// Tag 03: a document inside another.
+    EmbeddedDocument,
+    /// Tag 04: a list of values.
+    Array,
+    /// Tag 05: bytes with a subtype.
+    Binary,
+    /// Tag 06, deprecated: the undefined value of JavaScript.
+    Undefined,
+    /// Tag 07: an object id of 12 bytes.
+    ObjectId,
+    /// Tag 08: true or false.
+    Boolean,
+    /// Tag 09: milliseconds since 1970-01-01T00:00:00Z.
+    DateTime,
+    /// Tag 0A: no value.
+    Null,
+    /// Tag 0B: a regular expression with its options.
+    RegularExpression,
+    /// Tag 0C, deprecated: a pointer into a collection.
+    DbPointer,
+    /// Tag 0D: JavaScript code.
+    JavaScriptCode,
+    /// Tag 0E, deprecated: a symbol.
+    Symbol,
+    /// Tag 0F, deprecated: JavaScript code with its scope.
+    JavaScriptCodeWithScope,
+    /// Tag 10: a whole number of 32 bits.
+    Int32,
+    /// Tag 11: a timestamp of MongoDB's own use.
+    Timestamp,
+    /// Tag 12: a whole number of 64 bits.
+    Int64,
+    /// Tag 13: a decimal of 128 bits.
+    Decimal128,
+    /// Tag 7F: above every other value.
+    MaxKey,
+    /// Tag FF: below every other value.
+    MinKey,
+}
+
+impl ElementType {
+    ghost use Rattle.bson_scalar.specs.Tags.{tag_of};
+
+    /// The type whose tag is the byte, or None where the byte is no tag.
+    pub fn from(tag: u8) -> Option<ElementType>
+        ensures { (t : ElementType) → (result ≡ Some t) ↔ (tag_of t ≡ tag) }
+    {
+        Some(match tag {
+            0x01 => ElementType::Double,
+            0x02 => ElementType::String,
+            0x03 => ElementType::EmbeddedDocument,
+            0x04 => ElementType::Array,
+            0x05 => ElementType::Binary,
+            0x06 => ElementType::Undefined,
+            0x07 => ElementType::ObjectId,
+            0x08 => ElementType::Boolean,
+            0x09 => ElementType::DateTime,
+            0x0A => ElementType::Null,
+            0x0B => ElementType::RegularExpression,
+            0x0C => ElementType::DbPointer,
+            0x0D => ElementType::JavaScriptCode,
+            0x0E => ElementType::Symbol,
+            0x0F => ElementType::JavaScriptCodeWithScope,
+            0x10 => ElementType::Int32,
+            0x11 => ElementType::Timestamp,
+            0x12 => ElementType::Int64,
+            0x13 => ElementType::Decimal128,
+            0x7F => ElementType::MaxKey,
+            0xFF => ElementType::MinKey,
+            _ => return None,
+        })
+    }
+
+    /// The byte that stands for the type.
+    pub fn tag(&self) -> u8
+        ensures { result ≡ tag_of self.now }
+    {
+        match self {
+            ElementType::Double => 0x01,
+            ElementType::String => 0x02,
+            ElementType::EmbeddedDocument => 0x03,
+            ElementType::Array => 0x04,
+            ElementType::Binary => 0x05,
+            ElementType::Undefined => 0x06,
+            ElementType::ObjectId => 0x07,
+            ElementType::Boolean => 0x08,
+            ElementType::DateTime => 0x09,
+            ElementType::Null => 0x0A,
+            ElementType::RegularExpression => 0x0B,
+            ElementType::DbPointer => 0x0C,
+            ElementType::JavaScriptCode => 0x0D,
+            ElementType::Symbol => 0x0E,
+            ElementType::JavaScriptCodeWithScope => 0x0F,
+            ElementType::Int32 => 0x10,
+            ElementType::Timestamp => 0x11,
+            ElementType::Int64 => 0x12,
+            ElementType::Decimal128 => 0x13,
+            ElementType::MaxKey => 0x7F,
+            ElementType::MinKey => 0xFF,
+        }
+    }
+}
+
+/// What the bytes of a binary are.
+///
+/// Each byte names one subtype, and comes back from it. `Reserved` and `UserDefined` can be built
+/// with any byte, which they are then written as, while the byte reads as the subtype that it names:
+/// `UserDefined(0)` is written as 00, which reads as `Generic`. Hashing goes by the byte.
 #[derive(Clone, Copy, Debug, PartialEq, Eq)]
 pub enum BinarySubtype {
+    /// 00: any bytes.
     Generic,
+    /// 01: a function.
     Function,
+    /// 02, deprecated: the old form of `Generic`.
     BinaryOld,
+    /// 03, deprecated: a UUID in a byte order of its driver's own.
     UuidOld,
+    /// 04: a UUID.
     Uuid,
+    /// 05: an MD5 hash.
     Md5,
+    /// 06: an encrypted value.
     Encrypted,
+    /// 07: a compressed column.
     Column,
+    /// 08: a value that is not to be logged.
     Sensitive,
+    /// 09: a vector of numbers or bits.
     Vector,
+    /// Every other byte below 80, kept for later versions of BSON.
     Reserved(u8),
+    /// A byte of 80 and above, for users.
     UserDefined(u8),
 }
 
 impl From<u8> for BinarySubtype {
     ghost use Rattle.bson_scalar.specs.Subtype.{subtype_byte, subtype_of};
 
-    ghost from_gives = { λ b s. s ≡ subtype_of b };
+    ghost from_gives = { λ b s. (s ≡ subtype_of b) × (subtype_byte s ≡ b) };
 
     fn from(byte: u8) -> BinarySubtype {
         match byte {
-            0 => BinarySubtype::Generic,
-            1 => BinarySubtype::Function,
-            2 => BinarySubtype::BinaryOld,
-            3 => BinarySubtype::UuidOld,
-            4 => BinarySubtype::Uuid,
-            5 => BinarySubtype::Md5,
-            6 => BinarySubtype::Encrypted,
-            7 => BinarySubtype::Column,
-            8 => BinarySubtype::Sensitive,
-            9 => BinarySubtype::Vector,
-            10..128 => BinarySubtype::Reserved(byte),
+            0x00 => BinarySubtype::Generic,
+            0x01 => BinarySubtype::Function,
+            0x02 => BinarySubtype::BinaryOld,
+            0x03 => BinarySubtype::UuidOld,
+            0x04 => BinarySubtype::Uuid,
+            0x05 => BinarySubtype::Md5,
+            0x06 => BinarySubtype::Encrypted,
+            0x07 => BinarySubtype::Column,
+            0x08 => BinarySubtype::Sensitive,
+            0x09 => BinarySubtype::Vector,
+            0x0A..0x80 => BinarySubtype::Reserved(byte),
             _ => BinarySubtype::UserDefined(byte),
         }
     }
@@ -52,18 +180,17 @@ impl From<BinarySubtype> for u8 {
 
     fn from(subtype: BinarySubtype) -> u8 {
         match subtype {
-            BinarySubtype::Generic => 0,
-            BinarySubtype::Function => 1,
-            BinarySubtype::BinaryOld => 2,
-            BinarySubtype::UuidOld => 3,
-            BinarySubtype::Uuid => 4,
-            BinarySubtype::Md5 => 5,
-            BinarySubtype::Encrypted => 6,
-            BinarySubtype::Column => 7,
-            BinarySubtype::Sensitive => 8,
-            BinarySubtype::Vector => 9,
-            BinarySubtype::Reserved(byte) => byte,
-            BinarySubtype::UserDefined(byte) => byte,
+            BinarySubtype::Generic => 0x00,
+            BinarySubtype::Function => 0x01,
+            BinarySubtype::BinaryOld => 0x02,
+            BinarySubtype::UuidOld => 0x03,
+            BinarySubtype::Uuid => 0x04,
+            BinarySubtype::Md5 => 0x05,
+            BinarySubtype::Encrypted => 0x06,
+            BinarySubtype::Column => 0x07,
+            BinarySubtype::Sensitive => 0x08,
+            BinarySubtype::Vector => 0x09,
+            BinarySubtype::Reserved(byte) | BinarySubtype::UserDefined(byte) => byte,
         }
     }
 }
@@ -77,5 +204,11 @@ impl Hash for BinarySubtype {
 
     fn hash<H: Hasher>(&self, state: &mut H) {
         state.write_u8(u8::from(*self));
+    }
+}
+
+impl fmt::LowerHex for BinarySubtype {
+    fn fmt<W: fmt::Write>(&self, f: &mut fmt::Formatter<W>) -> fmt::Result {
+        fmt::LowerHex::fmt(&u8::from(*self), f)
     }
 }
