@@ -3,3 +3,4 @@ pub mod VectorLaws
 pub mod IdOrder
 pub mod Sorting
 pub mod SortedText
+pub mod IdOrderParts

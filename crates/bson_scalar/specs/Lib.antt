@@ -9,3 +9,6 @@ pub mod Oid
 pub mod OidFault
 pub mod Regex
 pub mod Tags
+pub mod Timestamp
+pub mod DbPointer
+pub mod Uuid

@@ -1,26 +1,47 @@
-//! Object ids.
-ghost use Rattle.std.specs.Prelude.{◌≡◌, ℕ, ◌+◌, ◌*◌, ◌%◌, ◌<◌, ◌++◌, List, Ok, Some, IsOk, IfOk, IfErr, length, slice_index, not, position, string_bytes};
+//! Object ids (BSON 1.1, type 07), and their texts of 24 hexadecimal digits.
+ghost use Rattle.std.specs.Prelude.{◌≡◌, ◌++◌, ℕ, List, Ok, Some, IfOk, IfErr, length, not, string_bytes};
+ghost use Rattle.std.specs.Cmp.Lexicographic.{nat_list_cmp_total, slice_cmp, texts_po, texts_ties};
 ghost use Rattle.std.specs.Int.{w32, to_be_bytes};
-ghost use Rattle.bson_scalar.specs.Oid.{IsOidText, decode_sized, is_hex_digit, bad_place, oid_millis, encode_lower, IsBytes, be_number};
+ghost use Rattle.std.specs.Ordering.{nat_cmp};
+ghost use Rattle.std.proofs.Common.{refl};
+ghost use Rattle.bson_scalar.specs.Oid.{IsObjectId, IsOidText, BadLength, bad_place, encode_lower, fault_at, is_hex_digit, oid_fault, oid_millis};
+ghost use Rattle.bson_scalar.specs.OidFault.{IsOidError};
 
 use bson_datetime::DateTime;
 use hex::FromHex;
 use std::alloc::{AllocError, Global};
+use std::cmp::Ordering;
 use std::fmt;
 use std::marker::Model;
 
-/// Why a text is no object id.
+/// Why a text is no object id. `hex` is a copy of the text.
 #[derive(Debug, Drop, thiserror::Error)]
 pub enum Error {
-    #[error("invalid character {c} at {index} in {hex}")]
+    /// The first byte that is no hexadecimal digit: the character whose number is that byte, and its
+    /// place, counted in bytes from 0.
+    #[error("the character '{c}' at {index} in \"{hex}\" is no hexadecimal digit")]
     InvalidHexStringCharacter { c: char, index: usize, hex: String },
-    #[error("invalid length {length} of {hex}")]
+    /// A number of bytes other than 24.
+    #[error("an object id has 24 digits, but \"{hex}\" has {length}")]
     InvalidHexStringLength { length: usize, hex: String },
+    /// No memory was found for the copy of the text.
     #[error("out of memory")]
     OutOfMemory,
 }
 
-#[derive(Clone, Copy, Debug, PartialEq, Eq, PartialOrd, Ord, Hash)]
+/// What a call on object ids answers.
+pub type Result<T, E = Error> = std::result::Result<T, E>;
+
+/// An object id of 12 bytes: 4 of seconds since 1970-01-01T00:00:00Z, 5 of process id and 3 of a
+/// counter, each big-endian.
+///
+/// Ids are ordered by seconds, then by process id, then by counter, as unsigned numbers.
+///
+/// ```
+/// let id = ObjectId::parse_str(alloc, "53e37d08776f724e42000000")?;
+/// assert_eq!(format!("{id}"), "53e37d08776f724e42000000");
+/// ```
+#[derive(Clone, Copy, Debug, PartialEq, Eq, Hash)]
 pub struct ObjectId {
     bytes: [u8; 12],
 }
@@ -34,19 +55,14 @@ impl Model for ObjectId {
 }
 
 impl ObjectId {
+    /// The id of these bytes.
     pub fn from_bytes(bytes: [u8; 12]) -> ObjectId
         ensures { result ≡ bytes }
     {
         ObjectId { bytes }
     }
 
-    pub fn bytes(&self) -> [u8; 12]
-        ensures value { result ≡ self.now }
-        ensures len { length self.now ≡ 12 }
-    {
-        self.bytes
-    }
-
+    /// The id of these seconds since 1970-01-01T00:00:00Z, process id and counter.
     pub fn from_parts(seconds: u32, process_id: [u8; 5], counter: [u8; 3]) -> ObjectId
         ensures { result ≡ to_be_bytes w32 seconds ++ process_id ++ counter }
     {
@@ -55,23 +71,17 @@ impl ObjectId {
         }
     }
 
-    pub fn timestamp(&self) -> DateTime
-        ensures { result ≡ oid_millis self.now }
-    {
-        let [a, b, c, d, ..] = self.bytes;
-        let seconds = u32::from_be_bytes([a, b, c, d]);
-        DateTime::from_millis(seconds as i64 * 1000)
-    }
-
-    pub fn to_hex(&self, alloc: Global) -> Result<String, AllocError>
-        ensures { IfOk result (λ text. string_bytes text ≡ encode_lower self.now) }
-    {
-        hex::encode(alloc, self.bytes.as_slice())
-    }
-
-    pub fn parse_str(alloc: Global, text: &str) -> Result<ObjectId, Error>
+    /// Reads 24 hexadecimal digits of either case. A valid text takes no memory.
+    ///
+    /// Where several faults are in one text, the first of these is told: an odd number of bytes
+    /// (`InvalidHexStringLength`), a byte that is no digit (`InvalidHexStringCharacter`), another
+    /// number of bytes than 24 (`InvalidHexStringLength`). Each carries a copy of the text, and is
+    /// `OutOfMemory` where that copy finds no memory.
+    pub fn parse_str(alloc: Global, text: &str) -> Result<ObjectId>
         ensures ok { IfOk result (λ id. IsOidText text.now id) }
         ensures valid { (id : List ℕ) → IsOidText text.now id → result ≡ Ok id }
+
+        // No text that is an object id is refused, so the fault is there.
         ensures err { IfErr result (λ e. IsOidError text.now e) }
     {
         if text.len() % 2 != 0 {
@@ -82,22 +92,87 @@ impl ObjectId {
             Err(_) => Err(digit_error(alloc, text)),
         }
     }
+
+    /// The moment of the id's seconds.
+    pub fn timestamp(&self) -> DateTime
+        ensures { result ≡ oid_millis self.now }
+    {
+        let [a, b, c, d, ..] = self.bytes;
+        let seconds = u32::from_be_bytes([a, b, c, d]);
+        DateTime::from_millis(seconds as i64 * 1000)
+    }
+
+    /// The 12 bytes.
+    pub fn bytes(&self) -> [u8; 12]
+        ensures value { result ≡ self.now }
+        ensures ranged { IsObjectId self.now }
+    {
+        ranged(self.bytes)
+    }
+
+    /// The 24 lower-case hexadecimal digits, as Display writes them.
+    pub fn to_hex(&self, alloc: Global) -> Result<String, AllocError>
+        ensures { IfOk result (λ text. string_bytes text ≡ encode_lower self.now) }
+    {
+        hex::encode(alloc, self.bytes.as_slice())
+    }
 }
 
-ghost use Rattle.bson_scalar.specs.OidFault.{IsOidError};
-ghost use Rattle.bson_scalar.specs.Oid.{oid_fault, BadLength, fault_at};
+impl From<[u8; 12]> for ObjectId {
+    ghost from_gives = { λ bytes id. id ≡ bytes };
 
-fn is_bad(byte: u8) -> bool
-    ensures { result ≡ not (is_hex_digit byte) }
-{
-    !matches!(byte, b'0'..=b'9' | b'a'..=b'f' | b'A'..=b'F')
+    fn from(bytes: [u8; 12]) -> ObjectId {
+        ObjectId { bytes }
+    }
 }
 
-// The place of the first byte that is no digit.
-fn bad_place_of(bytes: &[u8]) -> Option<usize>
-    ensures { result ≡ bad_place bytes.now }
+impl Ord for ObjectId {
+    ghost use Rattle.bson_scalar.specs.Oid.{id_order};
+
+    ghost cmp = { slice_cmp nat_cmp };
+
+    ghost total = { nat_list_cmp_total };
+
+    ghost matches_partial_cmp = { λ x y. refl };
+
+    ghost matches_eq = { texts_ties };
+
+    fn cmp(&self, other: &ObjectId) -> Ordering
+        ensures bytes { result ≡ slice_cmp nat_cmp self.now other.now }
+        ensures numbers { result ≡ id_order self.now other.now }
+    {
+        self.bytes().cmp(&other.bytes())
+    }
+}
+
+impl PartialOrd for ObjectId {
+    ghost partial_cmp = { λ x y. Some (slice_cmp nat_cmp x y) };
+
+    ghost laws = { texts_po };
+
+    fn partial_cmp(&self, other: &ObjectId) -> Option<Ordering> {
+        Some(self.cmp(other))
+    }
+}
+
+impl fmt::Display for ObjectId {
+    ghost output = { λ id. Some (encode_lower id) };
+
+    fn fmt<W: fmt::Write>(&self, f: &mut fmt::Formatter<W>) -> fmt::Result {
+        let digits = digits_of(self);
+        match str::from_utf8(&digits) {
+            Ok(text) => f.write_str(text),
+            Err(_) => unreachable!(),
+        }
+    }
+}
+
+// What the type says of the bytes.
+fn ranged(bytes: [u8; 12]) -> [u8; 12]
+    ensures same { result ≡ bytes }
+    ensures ranged { IsObjectId bytes }
 {
-    bytes.iter().position(|b| is_bad(*b))
+    bytes
 }
 
 fn length_error(alloc: Global, text: &str) -> Error
@@ -113,6 +188,7 @@ fn length_error(alloc: Global, text: &str) -> Error
     }
 }
 
+// The fault of a text of an even number of bytes.
 fn digit_error(alloc: Global, text: &str) -> Error
     requires { oid_fault text.now ≡ fault_at text.now (bad_place text.now) }
     ensures { IsOidError text.now result }
@@ -129,6 +205,19 @@ fn digit_error(alloc: Global, text: &str) -> Error
         },
         Err(_) => Error::OutOfMemory,
     }
+}
+
+// The place of the first byte that is no digit.
+fn bad_place_of(bytes: &[u8]) -> Option<usize>
+    ensures { result ≡ bad_place bytes.now }
+{
+    bytes.iter().position(|byte| is_bad(*byte))
+}
+
+fn is_bad(byte: u8) -> bool
+    ensures { result ≡ not (is_hex_digit byte) }
+{
+    !matches!(byte, b'0'..=b'9' | b'a'..=b'f' | b'A'..=b'F')
 }
 
 // The three parts behind one another.
@@ -153,37 +242,4 @@ fn digits_of(id: &ObjectId) -> [u8; 24]
         Ok(()) => digits,
         Err(_) => unreachable!(),
     }
-}
-
-impl fmt::Display for ObjectId {
-    ghost output = { λ id. Some (encode_lower id) };
-
-    fn fmt<W: fmt::Write>(&self, f: &mut fmt::Formatter<W>) -> fmt::Result {
-        let digits = digits_of(self);
-        match str::from_utf8(&digits) {
-            Ok(text) => f.write_str(text),
-            Err(_) => unreachable!(),
-        }
-    }
-}
-
-ghost use Rattle.std.specs.Ordering.{nat_cmp};
-ghost use Rattle.std.specs.Prelude.{fold};
-ghost use Rattle.std.specs.Cmp.Lexicographic.{slice_cmp};
-
-/// The order of the bytes.
-pub fn order(a: &ObjectId, b: &ObjectId) -> std::cmp::Ordering
-    ensures bytes { result ≡ slice_cmp nat_cmp a.now b.now }
-    ensures numbers { IsBytes a.now → IsBytes b.now → result ≡ nat_cmp (be_number a.now) (be_number b.now) }
-{
-    let (_a, _b) = (&a.bytes, &b.bytes);
-    a.cmp(b)
-}
-
-ghost use Rattle.std.specs.Hash as fed;
-
-pub fn hash_of<H: std::hash::Hasher>(id: &ObjectId, state: &mut H)
-    ensures { state.new ≡ fold H.write state.old (fed.slice fed.u8 id.now) }
-{
-    std::hash::Hash::hash(id, state);
 }

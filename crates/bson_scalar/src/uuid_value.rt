@@ -1,40 +1,61 @@
-//! UUIDs.
-ghost use Rattle.std.specs.Prelude.{◌≡◌, ℕ, List, Some, Ok, IfOk, IfErr, OnErr, length};
+//! UUIDs and their texts (RFC 9562), which the library names `uuid`.
+ghost use Rattle.std.specs.Prelude.{◌≡◌, ℕ, List, Some, IfOk, IfErr};
+ghost use Rattle.bson_scalar.specs.Uuid.{IsUuid};
 ghost use Rattle.bson_scalar.specs.Orders.{IsUuidText, hyphenated_text, lower};
 
 use crate::spec::BinarySubtype;
 use std::fmt;
 use std::marker::Model;
 
-#[derive(Clone, Copy, PartialEq, Eq, PartialOrd, Ord, Hash)]
-pub struct Uuid {
-    bytes: [u8; 16],
-}
-
-#[derive(Clone, Copy, Debug, PartialEq)]
-pub enum UuidRepresentation {
-    Standard,
-    CSharpLegacy,
-    JavaLegacy,
-    PythonLegacy,
-}
-
+/// Why a text or a binary gives no UUID.
 #[derive(Debug, Drop, thiserror::Error)]
 pub enum Error {
+    /// The text is no UUID.
     #[error("{message}")]
     InvalidUuidString {
         message: &'static str,
     },
-    #[error("another representation")]
+    /// The binary has another subtype than the requested representation is stored with.
+    #[error("the subtype {actual_binary_subtype:?} is not {expected_binary_subtype:?}, which {requested_representation:?} \
+         has")]
     RepresentationMismatch {
         expected_binary_subtype: BinarySubtype,
         actual_binary_subtype: BinarySubtype,
         requested_representation: UuidRepresentation,
     },
-    #[error("{length} bytes")]
+    /// The binary has another number of bytes than 16.
+    #[error("a UUID has 16 bytes, not {length}")]
     InvalidLength {
         length: usize,
     },
+}
+
+/// What a call on UUIDs answers.
+pub type Result<T> = std::result::Result<T, Error>;
+
+/// The byte order of a UUID in a binary. Drivers wrote subtype 03 in orders of their own before
+/// subtype 04 settled on the order of the text.
+#[derive(Clone, Copy, Debug, PartialEq, Eq)]
+pub enum UuidRepresentation {
+    /// Subtype 04, the bytes as they are.
+    Standard,
+    /// Subtype 03 of the C# driver: bytes 0 to 3, 4 to 5 and 6 to 7 each reversed.
+    CSharpLegacy,
+    /// Subtype 03 of the Java driver: bytes 0 to 7 and 8 to 15 each reversed.
+    JavaLegacy,
+    /// Subtype 03 of the Python driver: the bytes as they are.
+    PythonLegacy,
+}
+
+/// A UUID of 16 bytes, in the order of its text.
+///
+/// ```
+/// let id = Uuid::parse_str("00112233-4455-6677-8899-aabbccddeeff")?;
+/// assert_eq!(format!("{id}"), "00112233-4455-6677-8899-aabbccddeeff");
+/// ```
+#[derive(Clone, Copy, Debug, PartialEq, Eq, PartialOrd, Ord, Hash)]
+pub struct Uuid {
+    bytes: [u8; 16],
 }
 
 impl Model for Uuid {
@@ -46,32 +67,46 @@ impl Model for Uuid {
 }
 
 impl Uuid {
+    ghost use Rattle.bson_scalar.specs.Orders.{IsInvalidUuidString};
+
+    /// The UUID of these bytes.
     pub fn from_bytes(bytes: [u8; 16]) -> Uuid
         ensures { result ≡ bytes }
     {
         Uuid { bytes }
     }
 
-    pub fn bytes(&self) -> [u8; 16]
-        ensures value { result ≡ self.now }
-        ensures len { length self.now ≡ 16 }
-    {
-        self.bytes
-    }
-
-    pub fn parse_str(text: &str) -> Result<Uuid, Error>
+    /// Reads 32 hexadecimal digits of either case: alone, hyphenated as 8-4-4-4-12, and hyphenated in
+    /// braces or after `urn:uuid:`. Any other text is `InvalidUuidString`.
+    pub fn parse_str(text: &str) -> Result<Uuid>
         ensures ok { IfOk result (λ id. IsUuidText text.now id) }
-        ensures err { OnErr result ((id : List ℕ) → ¬ (IsUuidText text.now id)) }
+        ensures err { IfErr result (λ e. IsInvalidUuidString e × ((id : List ℕ) → ¬ (IsUuidText text.now id))) }
     {
         match uuid::Uuid::parse_str(text) {
             Ok(id) => Ok(Uuid {
                 bytes: *id.as_bytes(),
             }),
             Err(_) => Err(Error::InvalidUuidString {
-                message: "not a UUID",
+                message: "not the text of a UUID",
             }),
         }
     }
+
+    /// The 16 bytes.
+    pub fn bytes(&self) -> [u8; 16]
+        ensures value { result ≡ self.now }
+        ensures ranged { IsUuid self.now }
+    {
+        ranged(self.bytes)
+    }
+}
+
+// What the type says of the bytes.
+fn ranged(bytes: [u8; 16]) -> [u8; 16]
+    ensures same { result ≡ bytes }
+    ensures ranged { IsUuid bytes }
+{
+    bytes
 }
 
 impl fmt::Display for Uuid {
