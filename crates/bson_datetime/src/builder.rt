@@ -5,6 +5,7 @@ ghost use Rattle.jiff_core.specs.Calendar.{IsCivilDate, days_from_civil};
 ghost use Rattle.bson_datetime.specs.Errors.{IsInvalidTimestamp};
 ghost use Rattle.bson_datetime.specs.Moment.{IsCivil, IsMoment, civil_of};
 
+use crate::error::Message;
 use crate::{DateTime, Error, Result};
 use jiff::civil::Date;
 
@@ -227,9 +228,9 @@ fn day_number(year: i32, month: u8, day: u8) -> Result<i64>
 }
 
 const NO_SUCH_DAY: Error = Error::InvalidTimestamp {
-    message: "the calendar has no such day",
+    message: Message::NoSuchDay,
 };
 
 const NO_SUCH_TIME: Error = Error::InvalidTimestamp {
-    message: "a day has no such time",
+    message: Message::NoSuchTime,
 };

@@ -7,6 +7,7 @@ ghost use Rattle.bson_datetime.specs.Sums.{sum_with, millis_since, nanos_of_mill
 ghost use Rattle.bson_datetime.specs.JiffSteps.{IsJiffMoment};
 
 use crate::builder::{DateTimeBuilder, NoDay, NoMonth, NoYear};
+use crate::error::Message;
 use crate::shown::CivilText;
 use crate::{Error, Result, rfc3339};
 use jiff::civil;
@@ -157,18 +158,18 @@ impl DateTime {
         ensures round_trip { (ms : ℤ) → IsRfcMillis ms → text.now ≡ rfc ms → result ≡ Ok ms }
     {
         match rfc3339::parse(text.as_bytes()) {
-            Some(millis) => Ok(DateTime { millis }),
+            Some(millis) => Ok(DateTime::from_millis(millis)),
             None => Err(NOT_RFC3339),
         }
     }
 }
 
 const CANNOT_FORMAT: Error = Error::CannotFormat {
-    message: "the year is outside 0000 to 9999",
+    message: Message::YearOutOfRange,
 };
 
 const NOT_RFC3339: Error = Error::InvalidTimestamp {
-    message: "the text is not a date and time of RFC 3339",
+    message: Message::NotRfc3339,
 };
 
 /// As `2023-01-23 20:11:47.316 +00:00:00`; outside the years -9999 to 9999 the milliseconds as a decimal number.
