@@ -1,9 +1,8 @@
 -- Where the nearest pair is, and where none fits.
-use Rattle.std.proofs.Common.{◌≡◌, ℕ, zero, suc, ◌+◌, ◌-◌, ◌*◌, ◌/◌, ◌%◌, ◌^◌, ◌<◌, ◌≤◌, ◌⊎◌, inl, inr, refl, sym, ap, ◌∙◌, arith}
-use Rattle.std.proofs.lemmas.Nat.{pow-add}
+use Rattle.std.proofs.Common.{◌≡◌, ℕ, ◌+◌, ◌-◌, ◌*◌, ◌%◌, ◌^◌, ◌<◌, ◌≤◌, inl, inr, refl, sym, ◌∙◌, arith}
 use Rattle.std.proofs.lemmas.Bool.{cases_lt}
 use Rattle.std.proofs.Math.Nat.{mul-mod_left, mul-le-mul_left}
-use Rattle.bson_decimal.proofs.Shifted.{FitsShifted, IsNearestShifted, distance_shifted}
+use Rattle.bson_decimal.proofs.Shifted.{FitsShifted, IsNearestShifted}
 use Rattle.bson_decimal.proofs.Tens.{tens-pos, tens-cancel, reach, raised, lowered, divided}
 
 -- a coefficient of 34 + k digits moves every pair that fits up by k

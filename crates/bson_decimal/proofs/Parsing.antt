@@ -1,6 +1,6 @@
 -- What the steps read, in the words of the grammar.
-use Rattle.std.proofs.Common.{◌≡◌, ◌≢◌, ℕ, zero, suc, ◌+◌, ◌-◌, ◌*◌, ◌^◌, ◌<◌, ◌≤◌, ◌⊎◌, inl, inr, Bool, true, false, cond, eqb, ltb, List, [], ◌∷◌, ◌++◌, length, get_or, Option, Some, None, refl, sym, ap, subst, ◌∙◌, rules, tests, arith, length-append, map}
-use Rattle.std.specs.Prelude.{Result, Ok, Err, MatchResult, ⊤, codes}
+use Rattle.std.proofs.Common.{◌≡◌, ◌≢◌, ℕ, ◌+◌, ◌-◌, ◌^◌, ◌<◌, ◌≤◌, ltb, List, [], ◌∷◌, ◌++◌, length, get_or, Option, Some, None, refl, sym, ap, ◌∙◌, arith}
+use Rattle.std.specs.Prelude.{Result, Ok, Err, MatchResult, ⊤}
 use Rattle.std.proofs.lemmas.Bool.{ltb-false}
 use Rattle.std.proofs.lemmas.Bool.Decides.{nat_tests}
 use Rattle.std.proofs.lemmas.List.{append_assoc}
@@ -8,18 +8,18 @@ use Rattle.std.proofs.lemmas.Str.Parse.{digit_at}
 use Rattle.std.specs.Char.{to_ascii_lowercase}
 use Rattle.std.specs.Int.{w128, to_le_bytes}
 use Rattle.std.specs.List.{before_first, after_first}
-use Rattle.std.specs.Str.Parse.{AllDigits, digits_value, without_leading_sign, starts_with_minus}
+use Rattle.std.specs.Str.Parse.{AllDigits, without_leading_sign, starts_with_minus}
 use Rattle.bson_decimal.specs.declared.ParseError.{ParseError}
 use Rattle.bson_decimal.specs.Pattern.{first_form, sign_weight}
 use Rattle.bson_decimal.proofs.Shifted.{FitsShifted, IsNearestShifted}
-use Rattle.bson_decimal.specs.Numeral.{Sign, sign_bytes, is_minus, Exponent, exponent_bytes, fraction_bytes, fraction_digits, IsExponent, Numeral, numeral_bytes, digits_of, IsFiniteText, number, without_leading_zeros}
-use Rattle.bson_decimal.specs.Text.{excess, SpecialWord, nan, snan, infinity, inf, Parses, special, finite as finite_text, lowercase}
+use Rattle.bson_decimal.specs.Numeral.{Sign, sign_bytes, is_minus, Exponent, exponent_bytes, fraction_bytes, fraction_digits, IsExponent, Numeral, digits_of, IsFiniteText, number}
+use Rattle.bson_decimal.specs.Text.{SpecialWord, nan, snan, infinity, inf, Parses, special, finite as finite_text, lowercase}
 use Rattle.bson_decimal.proofs.Shifted.{raised, lowered, up, down, IsWithin16Shifted, within16, within16-shifted, nearest, nearest-shifted}
 use Rattle.bson_decimal.specs.Steps.{is_mark, is_point, scaled_exponent, settled, finite}
-use Rattle.bson_decimal.proofs.StepLaws.{if-cases, NoneFitsAt}
+use Rattle.bson_decimal.proofs.StepLaws.{if-cases}
 use Rattle.bson_decimal.proofs.Settled.{bind-by, IsSettled, SettledRefuses, settled-cases}
 use Rattle.bson_decimal.proofs.NearestLaws.{nearest-one}
-use Rattle.bson_decimal.proofs.Grammar.{ReadsExponent, reads-exponent, ReadsPoint, reads-point, finite-is, sign-of, sign-off}
+use Rattle.bson_decimal.proofs.Grammar.{ReadsExponent, reads-exponent, reads-point, finite-is, sign-of, sign-off}
 
 -- the parts of a finite text without its sign, and its pair
 pub record ReadsFinite (rest : List ℕ) (r : ℕ × ℕ) : Type 0 where

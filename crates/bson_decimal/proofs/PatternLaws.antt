@@ -1,10 +1,9 @@
 -- A finite decimal is read back from its first form.
-use Rattle.std.proofs.Common.{◌≡◌, ℕ, ◌+◌, ◌*◌, ◌/◌, ◌%◌, ◌^◌, ◌<◌, Bool, true, false, List, refl, ap, ◌∙◌, arith}
+use Rattle.std.proofs.Common.{◌≡◌, ℕ, ◌^◌, ◌<◌, Bool, true, false, ap, ◌∙◌, arith}
 use Rattle.std.proofs.lemmas.Bool.Decides.{nat_tests}
-use Rattle.std.specs.Int.{w128, from_le_bytes, to_le_bytes}
-use Rattle.bson_decimal.specs.declared.bits.Decoded.{Decoded}
-use Rattle.bson_decimal.specs.declared.bits.Decoded.TheVariants.{Nan, Infinity, Finite}
-use Rattle.bson_decimal.specs.Pattern.{decoded, dec, first_form, canon, canon_number}
+use Rattle.std.specs.Int.{w128, to_le_bytes}
+use Rattle.bson_decimal.specs.declared.bits.Decoded.TheVariants.{Finite}
+use Rattle.bson_decimal.specs.Pattern.{decoded, dec, first_form}
 use Rattle.bson_decimal.proofs.Bytes.{from_le_bytes-to_le_bytes_16}
 
 pub decoded-first_form : (negative : Bool) (c e : ℕ) → c < 10 ^ 34 → e < 12288 → decoded (first_form negative c e) ≡ Finite negative c e

@@ -1,5 +1,5 @@
 -- A printed text parses to the canonical pattern.
-use Rattle.std.proofs.Common.{◌≡◌, ℕ, zero, suc, ◌+◌, ◌-◌, ◌*◌, ◌^◌, ◌<◌, ◌≤◌, ◌⊎◌, inl, inr, Bool, true, false, cond, ◌&&◌, eqb, ltb, leb, List, [], ◌∷◌, ◌++◌, length, take, drop, replicate, get_or, Option, Some, None, refl, sym, ap, subst, ◌∙◌, rules, tests, arith, length-append, length-take, length-drop}
+use Rattle.std.proofs.Common.{◌≡◌, ℕ, zero, suc, ◌+◌, ◌-◌, ◌*◌, ◌^◌, ◌<◌, ◌≤◌, inl, inr, Bool, true, false, cond, ◌&&◌, eqb, ltb, leb, List, [], ◌∷◌, ◌++◌, length, take, drop, replicate, Option, Some, None, refl, sym, ap, subst, ◌∙◌, arith, length-append, length-drop}
 use Rattle.std.specs.Prelude.{⊤, codes, Result, Ok, Err, ◌↔◌, IsOkAnd}
 use Rattle.bson_decimal.specs.FromStr.{ParsesTo}
 use Rattle.std.specs.Str.Parse.{without_leading_sign}
@@ -9,10 +9,10 @@ use Rattle.bson_decimal.proofs.Bytes.{from_le_bytes-to_le_bytes_16}
 use Rattle.bson_decimal.proofs.PatternLaws.{decoded-first_form, first_form-lt}
 use Rattle.bson_decimal.proofs.Parsing.{word-off, no-word, special-parses, finite-parses, refused-parses}
 use Rattle.std.specs.Fmt.{decimal, sign_text}
-use Rattle.std.proofs.lemmas.Bool.{cases_Bool, cases_lt, eqb-true, and_parts, leb-true, leb-false, ltb-true, ltb-false}
+use Rattle.std.proofs.lemmas.Bool.{cases_Bool, eqb-true, and_parts, leb-true, ltb-true, ltb-false}
 use Rattle.std.proofs.lemmas.Bool.Decides.{nat_tests}
 use Rattle.std.proofs.lemmas.Fmt.{decimal_is_IsNumeral_wide, length-decimal-le_wide}
-use Rattle.std.proofs.lemmas.List.{take-append-drop, length-replicate, append_assoc, append-nil, take_all}
+use Rattle.std.proofs.lemmas.List.{take-append-drop, length-replicate, append-nil, take_all}
 use Rattle.std.proofs.Math.Numerals.{one-add}
 use Rattle.std.specs.Int.{w128, to_le_bytes, from_le_bytes}
 use Rattle.std.specs.List.{prefix_len}
@@ -22,8 +22,8 @@ use Rattle.bson_decimal.specs.declared.bits.Decoded.TheVariants.{Nan, Infinity, 
 use Rattle.bson_decimal.specs.Pattern.{decoded, dec, first_form, sign_weight, canon, canon_number, field, is_set, counted}
 use Rattle.bson_decimal.specs.Printed.{shown, printed, finite_text, plain_text, scientific_text, power_text}
 use Rattle.bson_decimal.proofs.Shifted.{IsNearestShifted}
-use Rattle.bson_decimal.specs.Numeral.{Sign, none, plus, minus, sign_bytes, is_minus, Exponent, unwritten, written, exponent_bytes, fraction_bytes, fraction_digits, IsExponent, Numeral, numeral_bytes, digits_of, IsFiniteText, number, is_zero, without_leading_zeros}
-use Rattle.bson_decimal.specs.Text.{excess, Parses, special, nan, infinity, finite}
+use Rattle.bson_decimal.specs.Numeral.{Sign, none, plus, minus, sign_bytes, is_minus, Exponent, unwritten, written, exponent_bytes, fraction_bytes, fraction_digits, IsExponent, Numeral, is_zero, without_leading_zeros}
+use Rattle.bson_decimal.specs.Text.{Parses, special, nan, infinity, finite}
 use Rattle.bson_decimal.proofs.Shifted.{raised, lowered, up, down, within16, nearest}
 use Rattle.bson_decimal.proofs.NearestLaws.{nearest-same}
 use Rattle.bson_decimal.proofs.Zeros.{value-before, AllDigits-append, AllDigits-zeros}

@@ -1,24 +1,24 @@
 -- The pair that the steps give is the nearest one.
-use Rattle.std.proofs.Common.{◌≡◌, ◌≢◌, ℕ, zero, suc, ◌+◌, ◌-◌, ◌*◌, ◌%◌, ◌^◌, ◌<◌, ◌≤◌, ◌⊎◌, inl, inr, Bool, true, false, cond, not, ◌&&◌, eqb, ltb, leb, List, [], ◌∷◌, ◌++◌, length, take, drop, replicate, get_or, min, refl, sym, ap, ◌∙◌, subst, rules, tests, arith, length-append, length-take, length-drop}
+use Rattle.std.proofs.Common.{◌≡◌, ◌≢◌, ℕ, ◌+◌, ◌-◌, ◌*◌, ◌^◌, ◌<◌, ◌≤◌, inl, inr, Bool, true, false, not, ltb, List, [], ◌∷◌, ◌++◌, length, replicate, get_or, min, refl, sym, ap, ◌∙◌, subst, rules, tests, arith, length-append, length-drop}
 use Rattle.std.specs.Prelude.{Result, Ok, Err, MatchResult}
-use Rattle.std.proofs.lemmas.Bool.{cases_Bool, cases_lt, ltb-true, ltb-false}
+use Rattle.std.proofs.lemmas.Bool.{cases_lt, ltb-true}
 use Rattle.std.proofs.lemmas.List.{length-replicate, get_or-drop}
-use Rattle.std.proofs.lemmas.List.Sums.{prefix_len_stops, prefix_len-le-length}
+use Rattle.std.proofs.lemmas.List.Sums.{prefix_len_stops}
 use Rattle.std.proofs.lemmas.Nat.{pow-add}
 use Rattle.std.proofs.lemmas.Int.Digits.{digits_value-lt}
 use Rattle.std.proofs.Math.Nat.{mul-lt-mul_of_pos_right}
-use Rattle.std.specs.List.{list_all, slice_index, prefix_len}
+use Rattle.std.specs.List.{prefix_len}
 use Rattle.std.specs.Str.{all_ascii_digits}
 use Rattle.std.specs.Str.Parse.{AllDigits, digits_value}
 use Rattle.bson_decimal.specs.declared.ParseError.{ParseError}
 use Rattle.bson_decimal.proofs.Shifted.{FitsShifted, IsNearestShifted, distance_shifted}
 use Rattle.bson_decimal.specs.Numeral.{is_zero, without_leading_zeros}
 use Rattle.bson_decimal.specs.Steps.{cut_at_34, raise_to_least, zeros_to_add, coefficient, settled, Scaled, bind}
-use Rattle.bson_decimal.proofs.Tens.{tens-pos, tens-le, reach, raised, lowered}
+use Rattle.bson_decimal.proofs.Tens.{tens-pos, tens-le, raised}
 use Rattle.bson_decimal.proofs.DigitTests.{AllDigits-from_test, test-from_AllDigits, scaled-lt}
-use Rattle.bson_decimal.proofs.Zeros.{value-append, value-behind, value-before, leading-zeros, first-weight, AllDigits-parts, AllDigits-append, AllDigits-zeros}
+use Rattle.bson_decimal.proofs.Zeros.{value-behind, value-before, leading-zeros, first-weight, AllDigits-parts, AllDigits-append, AllDigits-zeros}
 use Rattle.bson_decimal.proofs.NearestLaws.{nearest-dropped, nearest-same, nearest-lowest, nearest-highest}
-use Rattle.bson_decimal.proofs.StepLaws.{if-cases, IsLarge, NoneFits, NoneFitsAt, IsCut, CutRefuses, IsRaised, Refuses, IsPadded, cut_at_34-cases, raise_to_least-cases, zeros_to_add-cases, not-true, not-false}
+use Rattle.bson_decimal.proofs.StepLaws.{if-cases, IsLarge, NoneFitsAt, IsCut, CutRefuses, IsRaised, Refuses, IsPadded, cut_at_34-cases, raise_to_least-cases, zeros_to_add-cases, not-true, not-false}
 
 pub bind-cases : {A B : Type 0} (P : B → Type 0) (Q : ParseError → Type 0) (r : Result A ParseError) (f : A → Result B ParseError)
     → MatchResult r (λ a. MatchResult (f a) P Q) Q → MatchResult (bind r f) P Q

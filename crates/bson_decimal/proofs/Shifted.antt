@@ -1,12 +1,12 @@
 -- The same words without negative numbers, for the proofs: an exponent x is up - down, and a stored exponent stands for itself less 6176.
-use Rattle.std.proofs.Common.{◌≡◌, ℕ, ◌+◌, ◌-◌, ◌*◌, ◌^◌, ◌<◌, ◌≤◌, ℤ, pos, ◌+ℤ◌, ◌-ℤ◌, ◌≤ℤ◌, neg_ℤ, Bool, true, false, cond, min, List, length, refl, sym, ap, subst, ◌∙◌, arith}
+use Rattle.std.proofs.Common.{◌≡◌, ℕ, ◌+◌, ◌-◌, ◌*◌, ◌^◌, ◌<◌, ◌≤◌, ℤ, pos, ◌+ℤ◌, ◌-ℤ◌, ◌≤ℤ◌, neg_ℤ, Bool, true, false, cond, min, length, refl, sym, ap, subst, ◌∙◌, arith}
 use Rattle.std.specs.Int.{int_min}
 use lib.IntN.{nat_abs}
 use Rattle.std.proofs.lemmas.Int.{ints, clamps}
 use Rattle.std.proofs.lemmas.Nat.{pow-add}
 use Rattle.std.specs.Str.Parse.{digits_value}
 use Rattle.bson_decimal.specs.Pattern.{exponent_at}
-use Rattle.bson_decimal.specs.Numeral.{is_minus, Exponent, unwritten, written, Numeral, fraction_digits, digits_of, written_exponent, exponent, number}
+use Rattle.bson_decimal.specs.Numeral.{is_minus, Exponent, unwritten, written, Numeral, fraction_digits, written_exponent, exponent, number}
 use Rattle.bson_decimal.specs.Nearest.{Fits, IsNearest, distance}
 use Rattle.bson_decimal.specs.Text.{excess, IsWithin16}
 use Rattle.bson_decimal.proofs.Tens.{tens-cancel}

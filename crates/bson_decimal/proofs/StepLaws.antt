@@ -1,21 +1,21 @@
 -- What each step of a parse gives, and why it refuses.
-use Rattle.std.proofs.Common.{◌≡◌, ◌≢◌, ℕ, zero, suc, ◌+◌, ◌-◌, ◌*◌, ◌%◌, ◌^◌, ◌<◌, ◌≤◌, ◌⊎◌, inl, inr, Bool, true, false, cond, not, ◌&&◌, eqb, ltb, leb, List, [], ◌∷◌, ◌++◌, length, take, drop, replicate, get_or, refl, sym, ap, ◌∙◌, rules, tests, arith, length-append, length-take, length-drop}
-use Rattle.std.specs.Prelude.{Result, Ok, Err, MatchResult}
-use Rattle.std.proofs.lemmas.Bool.{cases_Bool, and_parts, eqb-true, cases_lt, leb-true, leb-false, ltb-true, ltb-false}
+use Rattle.std.proofs.Common.{◌≡◌, ℕ, ◌+◌, ◌-◌, ◌*◌, ◌%◌, ◌^◌, ◌<◌, ◌≤◌, ◌⊎◌, inl, inr, Bool, true, false, cond, not, eqb, ltb, leb, List, [], ◌++◌, length, take, drop, replicate, get_or, refl, sym, ap, ◌∙◌, arith, length-drop}
+use Rattle.std.specs.Prelude.{Result, MatchResult}
+use Rattle.std.proofs.lemmas.Bool.{and_parts, eqb-true, leb-true, leb-false, ltb-true, ltb-false}
 use Rattle.std.proofs.lemmas.Bool.Decides.{nat_tests}
-use Rattle.std.proofs.lemmas.List.{take-append-drop, length-replicate, nil_from_length, append-nil}
-use Rattle.std.proofs.lemmas.Nat.{pow-add, mod-mul-add}
+use Rattle.std.proofs.lemmas.List.{take-append-drop, nil_from_length, append-nil}
+use Rattle.std.proofs.lemmas.Nat.{mod-mul-add}
 use Rattle.std.proofs.lemmas.Int.Digits.{digits_value-lt}
 use Rattle.std.proofs.lemmas.Str.Parse.{digit_at}
-use Rattle.std.proofs.Math.Nat.{mul-mod_left, mod-eq_of_lt}
+use Rattle.std.proofs.Math.Nat.{mod-eq_of_lt}
 use Rattle.std.specs.List.{list_all, slice_index}
 use Rattle.std.specs.Str.Parse.{AllDigits, digits_value}
 use Rattle.bson_decimal.specs.declared.ParseError.{ParseError}
 use Rattle.bson_decimal.proofs.Shifted.{FitsShifted}
 use Rattle.bson_decimal.specs.Numeral.{is_zero}
 use Rattle.bson_decimal.specs.Steps.{is_inside, cut_at_34, raise_to_least, zeros_to_add, Scaled}
-use Rattle.bson_decimal.proofs.Tens.{tens-pos, tens-le, reach, lowered}
-use Rattle.bson_decimal.proofs.Zeros.{value-append, value-behind, zeros-are, zeros-not, AllDigits-parts}
+use Rattle.bson_decimal.proofs.Tens.{tens-pos, tens-le, reach}
+use Rattle.bson_decimal.proofs.Zeros.{value-append, zeros-are, zeros-not, AllDigits-parts}
 use Rattle.bson_decimal.proofs.NearestLaws.{fits-above, fits-exact}
 
 pub if-cases : {A E : Type 0} (P : A → Type 0) (Q : E → Type 0) (b : Bool) (r s : Result A E) → (b ≡ true → MatchResult r P Q) → (b ≡ false → MatchResult s P Q) → MatchResult (cond b r s) P Q

@@ -1,21 +1,20 @@
 -- Where a text is cut.
-use Rattle.std.proofs.Common.{◌≡◌, ℕ, ◌+◌, ◌-◌, ◌*◌, ◌^◌, ◌<◌, ◌≤◌, Bool, true, false, cond, zero, suc, ◌||◌, ltb, leb, eqb, List, length, drop, get_or, ℤ, pos, negsuc, neg_ℤ, ◌+ℤ◌, inl, inr, sym, arith, refl, rules, tests, ap}
-use Rattle.std.specs.Prelude.{position, Option, Some, None, Result, Ok, Err}
+use Rattle.std.proofs.Common.{◌≡◌, ℕ, ◌+◌, ◌-◌, ◌<◌, ◌≤◌, Bool, true, false, cond, zero, suc, ltb, leb, eqb, List, length, get_or, ℤ, pos, neg_ℤ, ◌+ℤ◌, inl, inr, arith, refl, rules, tests, ap}
+use Rattle.std.specs.Prelude.{position, Some, None}
 use Rattle.std.specs.Option.{unwrap_or}
-use Rattle.std.specs.Result.{OkIff}
 use Rattle.std.specs.Int.{w16, w32}
 use mir.Val.{to_z, of_z}
 use lib.IntN.{nat_abs}
 use Rattle.std.specs.Prelude.{FitsSigned}
 use Rattle.std.specs.List.{position_or_len}
-use Rattle.std.specs.Str.Parse.{AllDigits, digits_value, without_leading_sign, starts_with_minus, ParsesSigned, IsNumeral, signed_digits_value}
+use Rattle.std.specs.Str.Parse.{digits_value, without_leading_sign, starts_with_minus, IsNumeral, signed_digits_value}
 use Rattle.std.proofs.lemmas.Bool.{cases_Bool, or_cases, and_parts, eqb-true, ltb-true, leb-true}
 use Rattle.std.proofs.lemmas.Bool.Decides.{nat_tests}
 use Rattle.std.proofs.lemmas.List.Sums.{passes_at_first, prefix_len-le-length}
 use Rattle.std.proofs.lemmas.Int.{ints}
 use Rattle.std.specs.Str.{all_ascii_digits}
-use Rattle.bson_decimal.specs.Steps.{is_mark, is_exponent, biased_exponent, exponent_value}
-use Rattle.bson_decimal.proofs.DigitTests.{AllDigits-from_test, test-from_AllDigits, test-false}
+use Rattle.bson_decimal.specs.Steps.{is_mark, is_exponent, exponent_value}
+use Rattle.bson_decimal.proofs.DigitTests.{AllDigits-from_test, test-from_AllDigits}
 
 pub position-or : (p : ℕ → Bool) (xs : List ℕ) → unwrap_or (position p xs) (length xs) ≡ position_or_len p xs
 position-or p xs =

@@ -1,6 +1,6 @@
 -- Why a text is refused: the kind of the first of these steps that finds a fault. They are for `decimal_fault` and for the proofs; which texts denote a decimal, and which one, is said in Text, with no step.
 -- An exponent x is kept as x + 32768, so that it is a natural number: 26592 is the exponent -6176, 38879 is 6111, and 65535 is 32767.
-use Rattle.std.specs.Prelude.{ℕ, ◌+◌, ◌-◌, ◌*◌, ◌^◌, Bool, true, false, not, ◌&&◌, ◌||◌, List, [], ◌∷◌, ◌++◌, length, take, drop, Option, Some, None, Result, Ok, Err, nat_lt, nat_le, ◌==◌, if◌then◌else◌, slice_index, min}
+use Rattle.std.specs.Prelude.{ℕ, ◌+◌, ◌-◌, ◌*◌, ◌^◌, Bool, not, ◌&&◌, ◌||◌, List, ◌++◌, length, take, drop, Option, Some, None, Result, Ok, Err, nat_lt, nat_le, ◌==◌, if◌then◌else◌, slice_index, min}
 use Rattle.std.specs.Option.{ok_or}
 use Rattle.std.specs.List.{list_all, position_or_len, before_first, after_first}
 use Rattle.std.specs.Str.{all_ascii_digits}

@@ -72,24 +72,27 @@ fn as_pattern(bytes: [u8; 16]) -> [u8; 16]
 #[derive(Clone, Copy, PartialEq, Eq, Debug, Error)]
 pub enum ParseError {
     /// Nothing stands after the `e` or `E`.
-    #[error("empty exponent")]
+    #[error("the exponent is empty")]
     EmptyExponent,
     /// What stands after the `e` or `E` is no whole number from -32768 to 32767.
-    #[error("invalid exponent")]
+    #[error("the exponent is no whole number from -32768 to 32767")]
     InvalidExponent,
     /// The coefficient is not digits with at most one point, or holds no digit.
-    #[error("invalid coefficient")]
+    #[error("the coefficient is no number")]
     InvalidCoefficient,
     /// The value is too large for 34 digits and an exponent of at most 6111.
-    #[error("overflow")]
+    #[error("the value is too large for a decimal128")]
     Overflow,
     /// The value is too small for an exponent of at least -6176.
-    #[error("underflow")]
+    #[error("the value is too small for a decimal128")]
     Underflow,
     /// The value needs more than 34 digits, or a digit below the least exponent.
-    #[error("inexact rounding")]
+    #[error("the value has more digits than a decimal128 holds")]
     InexactRounding,
     /// A character other than an ASCII one lies where the digits are cut.
-    #[error("unparseable")]
+    #[error("a character other than a digit lies where the digits are cut")]
     Unparseable,
 }
+
+#[cfg(test)]
+mod tests;

@@ -1,5 +1,4 @@
-use Rattle.std.proofs.Common.{◌≡◌, ◌*◌, ◌^◌, ◌<◌, ap, arith, rules, sym, ◌∙◌}
-use Rattle.std.proofs.lemmas.Grind.{common_steps}
+use Rattle.std.proofs.Common.{arith, rules}
 use Rattle.bson_decimal.specs.Steps.{coefficient}
 use Rattle.bson_decimal.proofs.Tens.{tens-le}
 use Rattle.bson_decimal.proofs.DigitTests.{test-false, test-from_AllDigits, scaled-lt}

@@ -1,4 +1,4 @@
-use Rattle.std.proofs.Common.{◌≡◌, ◌<◌, ℕ, length, get_or, sym, ◌∙◌, arith}
+use Rattle.std.proofs.Common.{◌≡◌, ◌∙◌}
 use Rattle.std.specs.List.{position_or_len}
 use Rattle.bson_decimal.specs.Steps.{is_mark}
 use Rattle.bson_decimal.proofs.TextLemmas.{position-or, position_or_len-le, mark_at-ascii}

@@ -1,4 +1,4 @@
-use Rattle.std.proofs.Common.{◌≡◌, ◌+◌, ◌<◌, ◌^◌, get_or, drop, length, ap, arith, rules, sym, ◌∙◌, take_all}
+use Rattle.std.proofs.Common.{◌<◌, get_or, arith}
 use Rattle.std.proofs.lemmas.Str.{IsCharBoundary-after_ascii}
 use Rattle.bson_decimal.proofs.parse.written_exponent.Goals as goal
 

@@ -1,4 +1,4 @@
-use Rattle.std.proofs.Common.{◌≡◌, drop, Bool, min, length}
+use Rattle.std.proofs.Common.{◌≡◌, drop}
 use Rattle.std.specs.List.{list_all}
 use Rattle.bson_decimal.specs.Numeral.{is_zero}
 use Rattle.bson_decimal.proofs.digits.Digits.has_only_zeros_after.Given as goal

@@ -1,6 +1,6 @@
-use Rattle.std.proofs.Common.{rules, arith, ◌≡◌, ◌-◌, ◌++◌, List, ℕ, ap, sym, subst, ◌∙◌, drop, take_all, length-drop}
+use Rattle.std.proofs.Common.{arith, ◌≡◌, ◌++◌, List, ℕ, ap, subst, ◌∙◌, drop, take_all, length-drop}
 use Rattle.std.proofs.lemmas.Fmt.{IsAscii-decimal_wide}
-use Rattle.std.specs.Fmt.{decimal, sign_text, IsPlainFormatter, HasWritten}
+use Rattle.std.specs.Fmt.{decimal, sign_text, HasWritten}
 use Rattle.bson_decimal.specs.Printed.{shown, finite_text, printed}
 use Rattle.bson_decimal.proofs.display.Decimal128Display.fmt.Goals as goal
 

@@ -1,10 +1,10 @@
-use Rattle.std.proofs.Common.{◌≡◌, ◌+◌, ◌^◌, ◌<◌, ℕ, List, ap, sym, ◌∙◌, refl, subst}
-use Rattle.std.specs.Prelude.{Result, Ok, Err}
+use Rattle.std.proofs.Common.{◌≡◌, ◌+◌, ℕ, List, ap, sym, ◌∙◌, subst}
+use Rattle.std.specs.Prelude.{Ok, Err}
 use Rattle.std.proofs.lemmas.Result.{err_from_is_err_and}
 use Rattle.std.specs.Int.{w128, to_le_bytes}
 use Rattle.std.specs.Str.Parse.{without_leading_sign, starts_with_minus}
 use Rattle.bson_decimal.specs.Pattern.{sign_weight, first_form}
-use Rattle.bson_decimal.specs.Text.{Parses, SpecialWord}
+use Rattle.bson_decimal.specs.Text.{Parses}
 use Rattle.bson_decimal.specs.Steps.{finite, decimal_fault, fault_of}
 use Rattle.bson_decimal.proofs.Parsing.{special-parses, finite-parses, refused-parses, finite-within}
 use Rattle.bson_decimal.specs.FromStr.{ParsesTo}
