@@ -1,12 +1,13 @@
 -- `$oid`, and `$dbPointer` with an object id inside.
-use Rattle.std.specs.Prelude.{◌≡◌, ℕ, List, codes, Result, Ok, Err}
+use Rattle.std.specs.Prelude.{◌≡◌, ℕ, List, codes, Option, Some, None, option_and_then, Result, Ok, Err}
 use Rattle.bson_scalar.specs.Oid.{IsOidText, decode_sized, encode_lower}
 use Rattle.hex.specs.declared.error.FromHexError.{FromHexError}
 use Rattle.serde_json.specs.Data.{Data}
 use Rattle.serde_json.specs.Data as tree
-use Rattle.bson_leaf.specs.Faults.{Fault, bad_id, ◌>>=◌}
+use Rattle.serde_json.specs.Find.{as_str}
+use Rattle.bson_leaf.specs.Faults.{Fault, bad, bad_id, ◌>>=◌}
 use Rattle.bson_leaf.specs.Scalar.{Scalar, object_id, db_pointer}
-use Rattle.bson_leaf.specs.Shapes.{on_text, on_lone, on_two, one, two}
+use Rattle.bson_leaf.specs.Shapes.{on_text, on_lone, on_two, one, two, lone_member, two_members}
 use Rattle.bson_leaf.specs.Table.{key_of}
 use Rattle.bson_leaf.specs.declared.wrapper.Wrapper.TheVariants.{Oid, DbPointer}
 
@@ -38,3 +39,18 @@ pointer_read d = on_two (codes "$id") (codes "$ref") d (λ i r. on_text r (λ na
 
 abbrev pub pointer_tree : List ℕ → List ℕ → Data
 pointer_tree name id = one (key_of DbPointer) (two (codes "$id") (oid_tree id) (codes "$ref") (tree.string name))
+
+-- ---- the fault of an object id's text where that alone is wrong
+
+abbrev pub id_fault : List ℕ → Result (List ℕ) FromHexError → Fault
+id_fault s (Ok id) = bad
+id_fault s (Err e) = bad_id s
+
+-- the fault of a text in the place of an object id, and of another tree there
+abbrev pub text_fault : Option (List ℕ) → Fault
+text_fault (Some s) = id_fault s (decode_sized s 12)
+text_fault None = bad
+
+-- the object id's text in a pointer of the right shape
+abbrev pub pointer_text : Data → Option (List ℕ)
+pointer_text d = option_and_then (λ (p : Data × Data). option_and_then (λ name. option_and_then as_str (lone_member (codes "$oid") p.0)) (as_str p.1)) (two_members (codes "$id") (codes "$ref") d)

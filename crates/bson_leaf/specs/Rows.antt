@@ -3,11 +3,12 @@ use Rattle.std.specs.Prelude.{Result, Option, Some, None, Err}
 use Rattle.serde_json.specs.Data.{Data}
 use Rattle.bson_leaf.specs.Scalar.{Scalar, min_key, max_key}
 use Rattle.bson_leaf.specs.Faults.{Fault, bad}
+use Rattle.serde_json.specs.Find.{as_str}
 use Rattle.bson_leaf.specs.Binaries.{BinaryRow, binary_read, UuidRow, uuid_read}
 use Rattle.bson_leaf.specs.Dates.{DateRow, date_read}
 use Rattle.bson_leaf.specs.Decimals.{DecimalRow, decimal_read}
 use Rattle.bson_leaf.specs.Doubles.{DoubleRow, double_read}
-use Rattle.bson_leaf.specs.Ids.{OidRow, oid_read, PointerRow, pointer_read}
+use Rattle.bson_leaf.specs.Ids.{OidRow, oid_read, PointerRow, pointer_read, text_fault, pointer_text}
 use Rattle.bson_leaf.specs.Ints.{Int32Row, int32_read, Int64Row, int64_read}
 use Rattle.bson_leaf.specs.Lone.{OneRow, one_read, UndefinedRow, undefined_read}
 use Rattle.bson_leaf.specs.Regexes.{RegexRow, regex_read}
@@ -56,3 +57,9 @@ single Undefined = undefined_read
 abbrev pub single_at : Option Wrapper → Data → Result Scalar Fault
 single_at (Some w) d = single w d
 single_at None d = Err bad
+
+-- why a wrapper of one key means nothing: an object id's text where that alone is wrong
+abbrev pub single_fault : Option Wrapper → Data → Fault
+single_fault (Some Oid) d = text_fault (as_str d)
+single_fault (Some DbPointer) d = text_fault (pointer_text d)
+single_fault _ d = bad
