@@ -5,6 +5,7 @@ ghost use Rattle.bson_store.specs.Replay.{reply, step, replies, after};
 use crate::calls;
 use crate::pair_store::PairStore;
 use std::alloc::Global;
+use thiserror::Error;
 
 /// A call to a store.
 #[derive(Drop)]
@@ -18,7 +19,8 @@ pub enum Command<V> {
 }
 
 /// Want of memory in `replay`: the first `done` commands were run, and no other.
-#[derive(Clone, Copy, Debug, PartialEq, Eq)]
+#[derive(Debug, Drop, PartialEq, Eq, Error)]
+#[error("out of memory after {done} commands")]
 pub struct Stopped {
     pub done: usize,
 }
