@@ -4,8 +4,12 @@ use Rattle.std.specs.Int.{cast_signed, cast_unsigned, from_le_bytes}
 use Rattle.std.specs.List.{AllByRecursion}
 use Rattle.std.proofs.lemmas.Int.{to_z-of_z}
 use Rattle.std.proofs.lemmas.Nat.{from_le_bytes-to_le_bytes_4}
-use Rattle.bson_scalar.specs.Vectors.{le_bytes_of}
-use Rattle.bson_scalar.specs.VectorData.{int8, float32, packed, OneVector}
+use Rattle.std.specs.Prelude.{Result, Ok, Err, IfOk}
+use Rattle.bson_scalar.specs.declared.binary.Error.{Error}
+use Rattle.bson_scalar.specs.declared.vector.Vector.{Vector}
+use Rattle.bson_scalar.specs.declared.vector.Vector.TheVariants.{Int8, Float32, PackedBit}
+use Rattle.bson_scalar.specs.Vectors.{le_bytes_of, vector_bytes}
+use Rattle.bson_scalar.specs.VectorData.{VectorData, IsInRange, IsOnlyOne, data_bytes, vector_view, int8, float32, packed}
 
 head_is : {X : Type 0} (x y : X) (xs ys : List X) → x ∷ xs ≡ y ∷ ys → x ≡ y
 head_is x y xs ys h = cc
@@ -36,7 +40,8 @@ le_bytes_of-whole (n ∷ ns) = omega (arith, le_bytes_of-whole ns)
 
 pub ruleset vector_lemmas = (le_bytes_of-whole)
 
-pub one_vector : OneVector
+-- one vector has these bytes
+pub one_vector : (v w : VectorData) → IsInRange v → IsInRange w → data_bytes v ≡ data_bytes w → v ≡ w
 one_vector (int8 xs) (int8 ys) p q h =
     let e = two_off _ _ _ _ _ _ h in
     ap int8 (sym (signed_back xs p) ∙ ap (map (cast_signed w8)) e ∙ signed_back ys q)
@@ -52,3 +57,17 @@ one_vector (float32 xs) (int8 ys) p q h = let e : 39 ≡ 3 = head_is 39 3 _ _ h 
 one_vector (float32 xs) (packed ys k) p q h = let e : 39 ≡ 16 = head_is 39 16 _ _ h in absurd (omega (arith, e))
 one_vector (packed xs j) (int8 ys) p q h = let e : 16 ≡ 3 = head_is 16 3 _ _ h in absurd (omega (arith, e))
 one_vector (packed xs j) (float32 ys) p q h = let e : 16 ≡ 39 = head_is 16 39 _ _ h in absurd (omega (arith, e))
+
+same_bytes : (v : Vector) → data_bytes (vector_view v) ≡ vector_bytes v
+same_bytes (Int8 v) = refl
+same_bytes (Float32 v) = refl
+same_bytes (PackedBit v) = refl
+
+-- a vector in range is the only one of its bytes
+pub only_one : (v : Vector) (bytes : List ℕ) → IsInRange (vector_view v) → vector_bytes v ≡ bytes → IsOnlyOne bytes (vector_view v)
+only_one v bytes range is = λ w in_range same. one_vector w (vector_view v) in_range range (same ∙ sym is ∙ sym (same_bytes v))
+
+-- and so it is with one that was read
+pub only_one-read : (r : Result Vector Error) (bytes : List ℕ) → IfOk r (λ v. vector_bytes v ≡ bytes) → IfOk r (λ v. IsInRange (vector_view v)) → IfOk r (λ v. IsOnlyOne bytes (vector_view v))
+only_one-read (Ok v) bytes is range = only_one v bytes range is
+only_one-read (Err e) bytes is range = tt

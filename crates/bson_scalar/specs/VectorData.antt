@@ -2,24 +2,28 @@
 use Rattle.std.specs.Prelude.{◌≡◌, ◌<◌, ◌^◌, ℕ, ℤ, List, ◌∷◌, map, FitsSigned}
 use Rattle.std.specs.Int.{w8, cast_unsigned}
 use Rattle.std.specs.List.{AllByRecursion}
+use Rattle.bson_scalar.specs.Packed.{packed_bytes, packed_padding}
 use Rattle.bson_scalar.specs.Vectors.{le_bytes_of}
-use Rattle.bson_scalar.specs.declared.binary.Vector.{Vector}
-use Rattle.bson_scalar.specs.declared.binary.Vector.TheVariants as vector
+use Rattle.bson_scalar.specs.declared.vector.Vector.{Vector}
+use Rattle.bson_scalar.specs.declared.vector.Vector.TheVariants as vector
 
+-- signed bytes, patterns of 32 bits, or bytes of packed bits with their padding
 pub data VectorData : Type 0 where
   int8 : List ℤ → VectorData
   float32 : List ℕ → VectorData
   packed : List ℕ → ℕ → VectorData
 
+-- what a vector holds
 abbrev pub vector_view : Vector → VectorData
 vector_view (vector.Int8 v) = int8 v.items
 vector_view (vector.Float32 v) = float32 v.items
-vector_view (vector.PackedBit v) = packed v.bytes.items v.padding
+vector_view (vector.PackedBit v) = packed (packed_bytes v) (packed_padding v)
 
+-- its bytes: type, padding, data
 abbrev pub data_bytes : VectorData → List ℕ
-data_bytes (int8 zs) = 3 ∷ 0 ∷ map (cast_unsigned w8) zs
-data_bytes (float32 ns) = 39 ∷ 0 ∷ le_bytes_of ns
-data_bytes (packed bs k) = 16 ∷ k ∷ bs
+data_bytes (int8 zs) = 0x03 ∷ 0 ∷ map (cast_unsigned w8) zs
+data_bytes (float32 ns) = 0x27 ∷ 0 ∷ le_bytes_of ns
+data_bytes (packed bs k) = 0x10 ∷ k ∷ bs
 
 -- each number is in the range of its type
 abbrev pub IsInRange : VectorData → Type 0
@@ -27,6 +31,6 @@ IsInRange (int8 zs) = AllByRecursion (FitsSigned w8) zs
 IsInRange (float32 ns) = AllByRecursion (λ n. n < 2 ^ 32) ns
 IsInRange (packed bs k) = Unit {0}
 
--- one vector has these bytes
-abbrev pub OneVector : Type 0
-OneVector = (v w : VectorData) → IsInRange v → IsInRange w → data_bytes v ≡ data_bytes w → v ≡ w
+-- bytes tell what the vector holds: whatever has these bytes is this
+abbrev pub IsOnlyOne : List ℕ → VectorData → Type 0
+IsOnlyOne bytes v = (w : VectorData) → IsInRange w → data_bytes w ≡ bytes → w ≡ v

@@ -1,9 +1,10 @@
--- Vectors and their bytes.
+-- Vectors and their bytes (the MongoDB BSON binary vector format).
 use Rattle.std.specs.Prelude.{ℕ, ◌%◌, ◌==◌, ◌&&◌, ◌||◌, nat_lt, not, Bool, false, List, ◌∷◌, length, map, if◌then◌else◌}
 use Rattle.std.specs.Int.{w8, w32, cast_unsigned, to_le_bytes}
 use Rattle.std.specs.List.{flat_map}
-use Rattle.bson_scalar.specs.declared.binary.Vector.{Vector}
-use Rattle.bson_scalar.specs.declared.binary.Vector.TheVariants.{Int8, Float32, PackedBit}
+use Rattle.bson_scalar.specs.Packed.{packed_bytes, packed_padding}
+use Rattle.bson_scalar.specs.declared.vector.Vector.{Vector}
+use Rattle.bson_scalar.specs.declared.vector.Vector.TheVariants.{Int8, Float32, PackedBit}
 
 -- the four bytes of each number, the lowest first
 abbrev pub le_bytes_of : List ℕ → List ℕ
@@ -11,13 +12,13 @@ le_bytes_of ns = flat_map (to_le_bytes w32) ns
 
 -- type, padding, data
 abbrev pub vector_bytes : Vector → List ℕ
-vector_bytes (Int8 v) = 3 ∷ 0 ∷ map (cast_unsigned w8) v.items
-vector_bytes (Float32 v) = 39 ∷ 0 ∷ le_bytes_of v.items
-vector_bytes (PackedBit v) = 16 ∷ v.padding ∷ v.bytes.items
+vector_bytes (Int8 v) = 0x03 ∷ 0 ∷ map (cast_unsigned w8) v.items
+vector_bytes (Float32 v) = 0x27 ∷ 0 ∷ le_bytes_of v.items
+vector_bytes (PackedBit v) = 0x10 ∷ packed_padding v ∷ packed_bytes v
 
 -- the bytes of a vector: a known type, no padding but of packed bits, whole numbers of four bytes
 abbrev pub is_vector : List ℕ → Bool
 is_vector (kind ∷ padding ∷ rest) =
-    if kind == 16 then nat_lt padding 8 && (not (length rest == 0) || (padding == 0))
-    else (padding == 0) && ((kind == 3) || ((kind == 39) && (length rest % 4 == 0)))
+    if kind == 0x10 then nat_lt padding 8 && (not (length rest == 0) || (padding == 0))
+    else (padding == 0) && ((kind == 0x03) || ((kind == 0x27) && (length rest % 4 == 0)))
 is_vector _ = false

@@ -1,50 +1,60 @@
-//! Binaries.
-ghost use Rattle.std.specs.Prelude.{◌≡◌, ◌≢◌, ℕ, ◌+◌, List, Some, Ok, Err, IfOk, IfErr, IsOk, OnErr, length, vec_len, unwrap_or, ◌⊎◌, ◌<◌, ◌↔◌, IsErr, OnOk, map, ◌≤◌, ◌%◌, true, false};
-ghost use Rattle.bson_scalar.specs.Orders.{ordered, subtype_for};
+//! Binaries: bytes with a subtype (BSON 1.1, type 05), their base64 texts (RFC 4648 section 4), and
+//! the UUIDs and vectors that they hold.
+ghost use Rattle.std.specs.Prelude.{◌≡◌, ◌≢◌, ◌⊎◌, ◌↔◌, ◌≤◌, ℕ, List, Some, IfErr, IfOk, IsOk, OnOk, length, true, unwrap_or, vec_len};
 ghost use Rattle.bson_scalar.specs.Base64.{IsBase64, base64_text};
-ghost use Rattle.bson_scalar.specs.VectorData.{IsInRange, vector_view};
-ghost use Rattle.std.specs.List.{AllByRecursion};
-ghost use Rattle.std.specs.Prelude.{FitsSigned, ◌^◌};
-ghost use Rattle.bson_scalar.specs.Fault.{IsDecodingError, IsOutOfMemory, IsVectorError};
+ghost use Rattle.bson_scalar.specs.Fault.{IsDecodingError, IsOutOfMemory};
+ghost use Rattle.bson_scalar.specs.Orders.{ordered, subtype_for};
+ghost use Rattle.bson_scalar.specs.VectorData.{IsInRange, IsOnlyOne, vector_view};
+ghost use Rattle.bson_scalar.specs.Vectors.{is_vector, vector_bytes};
 
 pub use crate::packed::PackedBitVector;
 use crate::spec::BinarySubtype;
 use crate::uuid_value::{self, Uuid, UuidRepresentation};
+pub use crate::vector::Vector;
 use base64::engine::general_purpose::STANDARD;
 use std::alloc::{AllocError, Global};
 use std::fmt;
 
+/// Why a text or bytes give no binary or vector.
 #[derive(Debug, Drop, thiserror::Error)]
 pub enum Error {
+    /// The text is no padded base64.
     #[error("{message}")]
     DecodingError { message: &'static str },
+    /// The bytes, or the parts, are no vector's.
     #[error("{message}")]
     Vector { message: &'static str },
+    /// A request for memory was refused.
     #[error("out of memory")]
     OutOfMemory,
 }
 
+/// What a call on binaries and vectors answers.
+pub type Result<T, E = Error> = std::result::Result<T, E>;
+
+/// Bytes, and what they are.
 #[derive(Debug, Drop, PartialEq, Eq, Hash)]
 pub struct Binary {
+    /// What the bytes are.
     pub subtype: BinarySubtype,
+    /// The bytes.
     pub bytes: Vec<u8>,
 }
 
 impl Binary {
-    pub fn from_base64(
-        alloc: Global,
-        text: &str,
-        subtype: Option<BinarySubtype>,
-    ) -> Result<Binary, Error>
+    /// Decodes a padded base64 text. The subtype is Generic where none is given. A text that is not
+    /// base64 is refused as `DecodingError`.
+    pub fn from_base64(alloc: Global, text: &str, subtype: Option<BinarySubtype>) -> Result<Binary>
         ensures subtype { IfOk result (λ b. b.subtype ≡ unwrap_or subtype BinarySubtype.Generic) }
         ensures ok { IfOk result (λ b. IsBase64 text.now b.bytes.items) }
+
+        // No text that is base64 is refused.
         ensures err { IfErr result (λ e. IsOutOfMemory e ⊎ (IsDecodingError e × ((bytes : List ℕ) → ¬ (IsBase64 text.now bytes)))) }
     {
         let input = text.as_bytes();
         let room = input.len() / 4 * 3 + 3;
-        let mut bytes = match vec![in alloc; 0u8; room] {
-            Ok(bytes) => bytes,
-            Err(_) => return Err(Error::OutOfMemory),
+        let Ok(mut bytes) = vec![in alloc; 0u8; room] else {
+            return Err(Error::OutOfMemory);
         };
         match STANDARD.decode_slice_unchecked(input, bytes.as_mut_slice()) {
             Ok(len) => {
@@ -60,6 +70,21 @@ impl Binary {
         }
     }
 
+    /// The binary of a UUID, in the standard representation.
+    pub fn from_uuid(alloc: Global, id: Uuid) -> Result<Binary, AllocError>
+        ensures subtype { IfOk result (λ b. b.subtype ≡ BinarySubtype.Uuid) }
+        ensures bytes { IfOk result (λ b. b.bytes.items ≡ id) }
+        ensures length { IfOk result (λ b. vec_len b.bytes ≡ 16) }
+    {
+        let bytes = id.bytes();
+        Ok(Binary {
+            subtype: BinarySubtype::Uuid,
+            bytes: Vec::from_slice(alloc, &bytes)?,
+        })
+    }
+
+    /// The binary of a UUID in a representation: its subtype, and the bytes in its order.
+    /// `to_uuid_with_representation` gives the UUID back.
     #[tactic(auto, using(crate::proofs::OrderLemmas::ordered_twice))]
     pub fn from_uuid_with_representation(
         alloc: Global,
@@ -68,27 +93,65 @@ impl Binary {
     ) -> Result<Binary, AllocError>
         ensures subtype { IfOk result (λ b. b.subtype ≡ subtype_for representation) }
         ensures bytes { IfOk result (λ b. b.bytes.items ≡ ordered representation id) }
+
+        // What reading back asks for, and gives.
+        ensures length { IfOk result (λ b. vec_len b.bytes ≡ 16) }
         ensures undone { IfOk result (λ b. ordered representation b.bytes.items ≡ id) }
     {
         let bytes = reordered(&id.bytes(), representation);
-        let subtype = match representation {
-            UuidRepresentation::Standard => BinarySubtype::Uuid,
-            _ => BinarySubtype::UuidOld,
-        };
         Ok(Binary {
-            subtype,
+            subtype: subtype_of(representation),
             bytes: Vec::from_slice(alloc, &bytes)?,
+        })
+    }
+
+    /// The bytes of a vector, under the subtype Vector. `Vector::from_binary` gives the vector back.
+    pub fn from_vector(alloc: Global, vector: &Vector) -> Result<Binary, AllocError>
+        ensures subtype { IfOk result (λ b. b.subtype ≡ BinarySubtype.Vector) }
+        ensures bytes { IfOk result (λ b. b.bytes.items ≡ vector_bytes vector.now) }
+
+        // What reading back asks for, and gives.
+        ensures readable { IfOk result (λ b. is_vector b.bytes.items ≡ true) }
+        ensures only { IfOk result (λ b. IsInRange (vector_view vector.now) → IsOnlyOne b.bytes.items (vector_view vector.now)) }
+    {
+        Ok(Binary {
+            subtype: BinarySubtype::Vector,
+            bytes: vector.to_bytes(alloc)?,
+        })
+    }
+
+    /// The same binary, in memory of its own.
+    pub fn clone(&self, alloc: Global) -> Result<Binary, AllocError>
+        ensures subtype { IfOk result (λ b. b.subtype ≡ self.now.subtype) }
+        ensures bytes { IfOk result (λ b. b.bytes.items ≡ self.now.bytes.items) }
+    {
+        Ok(Binary {
+            subtype: self.subtype,
+            bytes: Vec::from_slice(alloc, self.bytes.as_slice())?,
         })
     }
 }
 
 impl Binary {
-    ghost use Rattle.bson_scalar.specs.Orders.{IsMismatch, IsInvalidLength};
+    ghost use Rattle.bson_scalar.specs.Orders.{IsInvalidLength, IsMismatch};
 
+    /// The UUID of a binary in the standard representation, as `to_uuid_with_representation` reads it.
+    pub fn to_uuid(&self) -> uuid_value::Result<Uuid>
+        ensures ok { IfOk result (λ id. id ≡ self.now.bytes.items) }
+        ensures succeeds { IsOk result ↔ ((self.now.subtype ≡ BinarySubtype.Uuid) × (vec_len self.now.bytes ≡ 16)) }
+        ensures mismatch { self.now.subtype ≢ BinarySubtype.Uuid → IfErr result (IsMismatch BinarySubtype.Uuid self.now.subtype UuidRepresentation.Standard) }
+        ensures length { self.now.subtype ≡ BinarySubtype.Uuid → IfErr result (IsInvalidLength (vec_len self.now.bytes)) }
+    {
+        self.to_uuid_with_representation(UuidRepresentation::Standard)
+    }
+
+    /// The UUID of a binary in a representation. A subtype other than that of the representation is
+    /// refused first, as `RepresentationMismatch`, and then another number of bytes than 16, as
+    /// `InvalidLength`. Subtypes are compared as values: `UserDefined(4)` is not `Uuid`.
     pub fn to_uuid_with_representation(
         &self,
         representation: UuidRepresentation,
-    ) -> Result<Uuid, uuid_value::Error>
+    ) -> uuid_value::Result<Uuid>
         ensures ok { IfOk result (λ id. id ≡ ordered representation self.now.bytes.items) }
         ensures succeeds { IsOk result ↔ ((self.now.subtype ≡ subtype_for representation) × (vec_len self.now.bytes ≡ 16)) }
         ensures mismatch { self.now.subtype ≢ subtype_for representation → IfErr result (IsMismatch (subtype_for representation) self.now.subtype representation) }
@@ -139,123 +202,21 @@ fn reordered(b: &[u8; 16], representation: UuidRepresentation) -> [u8; 16]
     }
 }
 
-#[derive(Drop, PartialEq, Eq)]
-pub enum Vector {
-    Int8(Vec<i8>),
-    Float32(Vec<u32>),
-    PackedBit(PackedBitVector),
-}
+impl fmt::Display for Binary {
+    ghost use Rattle.bson_scalar.specs.Shown.{binary_shown};
 
-impl Vector {
-    ghost use Rattle.bson_scalar.specs.Vectors.{vector_bytes, is_vector};
+    ghost output = { λ b. Some (binary_shown b) };
 
-    /// Reads the bytes.
-    pub fn from_bytes(alloc: Global, bytes: &[u8]) -> Result<Vector, Error>
-        ensures ok { IfOk result (λ v. vector_bytes v ≡ bytes.now) }
-        ensures range { IfOk result (λ v. IsInRange (vector_view v)) }
-        ensures accepted { OnOk result (is_vector bytes.now ≡ true) }
-        ensures refused { IfErr result (λ e. IsOutOfMemory e ⊎ (IsVectorError e × (is_vector bytes.now ≡ false))) }
-    {
-        let [kind, padding, data @ ..] = bytes else {
-            return Err(Error::Vector {
-                message: "too short",
-            });
+    fn fmt<W: fmt::Write>(&self, f: &mut fmt::Formatter<W>) -> fmt::Result {
+        let byte = u8::from(self.subtype);
+        let text = Base64 {
+            bytes: self.bytes.as_slice(),
         };
-        if *kind == 16 {
-            let bytes = match Vec::from_slice(alloc, data) {
-                Ok(bytes) => bytes,
-                Err(_) => return Err(Error::OutOfMemory),
-            };
-            let packed = PackedBitVector::new(bytes, Some(*padding))?;
-            return Ok(Vector::PackedBit(packed));
-        }
-        if *padding != 0 {
-            return Err(Error::Vector {
-                message: "padding of another type",
-            });
-        }
-        match *kind {
-            3 => Ok(Vector::Int8(signed_bytes(alloc, data)?)),
-            39 => Ok(Vector::Float32(words(alloc, data)?)),
-            _ => Err(Error::Vector {
-                message: "another type",
-            }),
-        }
+        write!(f, "Binary(0x{byte:x}, {text})")
     }
 }
 
-ghost use Rattle.std.specs.Int.{w8, cast_signed, cast_unsigned};
-ghost use Rattle.bson_scalar.specs.Vectors.{le_bytes_of};
-
-fn collected(alloc: Global, data: &[u8]) -> Result<Vec<i8>, AllocError>
-    ensures { IfOk result (λ v. v.items ≡ map (cast_signed w8) «data».now) }
-{
-    data.iter().map(|b| b.cast_signed()).collect(alloc)
-}
-
-fn signed_bytes(alloc: Global, data: &[u8]) -> Result<Vec<i8>, Error>
-    ensures ok { IfOk result (λ v. map (cast_unsigned w8) v.items ≡ «data».now) }
-    ensures range { IfOk result (λ v. AllByRecursion (FitsSigned w8) v.items) }
-    ensures err { IfErr result IsOutOfMemory }
-{
-    match collected(alloc, data) {
-        Ok(v) => Ok(v),
-        Err(_) => Err(Error::OutOfMemory),
-    }
-}
-
-// What the type says of numbers.
-fn words_in_range(items: &[u32])
-    ensures { AllByRecursion (λ n. n < 2 ^ 32) items.now }
-{
-    let _len = items.len();
-}
-
-fn words(alloc: Global, data: &[u8]) -> Result<Vec<u32>, Error>
-    ensures ok { IfOk result (λ v. le_bytes_of v.items ≡ «data».now) }
-    ensures range { IfOk result (λ v. AllByRecursion (λ n. n < 2 ^ 32) v.items) }
-    ensures whole { OnOk result (length «data».now % 4 ≡ 0) }
-    ensures err { IfErr result (λ e. IsOutOfMemory e ⊎ (IsVectorError e × (length «data».now % 4 ≢ 0))) }
-{
-    if data.len() % 4 != 0 {
-        return Err(Error::Vector {
-            message: "float32 data of a length that is no multiple of 4",
-        });
-    }
-    let mut words = Vec::new(alloc);
-    let mut rest = data;
-    'words: while let [a, b, c, d, others @ ..] = rest {
-        if words.push(u32::from_le_bytes([*a, *b, *c, *d])).is_err() {
-            return Err(Error::OutOfMemory);
-        }
-        rest = others;
-    }
-    words_in_range(words.as_slice());
-    Ok(words)
-}
-
-// The text of at most three bytes, on the stack.
-fn group_bytes<'o>(bytes: &[u8], out: &'o mut [u8; 4]) -> &'o [u8]
-    requires { length bytes.now ≤ 3 }
-    ensures { result.now ≡ base64_text bytes.now }
-{
-    match STANDARD.encode_slice(bytes, out) {
-        Ok(len) => &out[..len],
-        Err(_) => unreachable!(),
-    }
-}
-
-fn group_text<'o>(bytes: &[u8], out: &'o mut [u8; 4]) -> &'o str
-    requires { length bytes.now ≤ 3 }
-    ensures { result.now ≡ base64_text bytes.now }
-{
-    match str::from_utf8(group_bytes(bytes, out)) {
-        Ok(text) => text,
-        Err(_) => unreachable!(),
-    }
-}
-
-// The base64 text of bytes, three at a time.
+// The base64 text of bytes, three at a time, which takes no memory.
 #[derive(Clone, Copy)]
 struct Base64<'a> {
     bytes: &'a [u8],
@@ -277,16 +238,23 @@ impl fmt::Display for Base64<'_> {
     }
 }
 
-impl fmt::Display for Binary {
-    ghost use Rattle.bson_scalar.specs.Shown.{binary_shown};
+fn group_text<'o>(bytes: &[u8], out: &'o mut [u8; 4]) -> &'o str
+    requires { length bytes.now ≤ 3 }
+    ensures { result.now ≡ base64_text bytes.now }
+{
+    match str::from_utf8(group_bytes(bytes, out)) {
+        Ok(text) => text,
+        Err(_) => unreachable!(),
+    }
+}
 
-    ghost output = { λ b. Some (binary_shown b) };
-
-    fn fmt<W: fmt::Write>(&self, f: &mut fmt::Formatter<W>) -> fmt::Result {
-        let byte = u8::from(self.subtype);
-        let text = Base64 {
-            bytes: self.bytes.as_slice(),
-        };
-        write!(f, "Binary(0x{byte:x}, {text})")
+// The text of at most three bytes, on the stack.
+fn group_bytes<'o>(bytes: &[u8], out: &'o mut [u8; 4]) -> &'o [u8]
+    requires { length bytes.now ≤ 3 }
+    ensures { result.now ≡ base64_text bytes.now }
+{
+    match STANDARD.encode_slice(bytes, out) {
+        Ok(len) => &out[..len],
+        Err(_) => unreachable!(),
     }
 }

@@ -10,7 +10,7 @@ pub mod regex;
 pub mod spec;
 pub mod timestamp;
 pub mod uuid_value;
-mod vector_bytes;
+mod vector;
 
 pub use bson_datetime as datetime;
 pub use bson_decimal as decimal128;

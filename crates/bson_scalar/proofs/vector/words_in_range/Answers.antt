@@ -1,6 +1,6 @@
 use Rattle.std.proofs.Common.{◌<◌, ◌^◌, ℕ, suc, List, [], ◌∷◌, get_or, Fits, w32}
 use Rattle.std.specs.List.{AllByRecursion}
-use Rattle.bson_scalar.proofs.binary.words_in_range.Goals as goal
+use Rattle.bson_scalar.proofs.vector.words_in_range.Goals as goal
 
 small : (xs : List ℕ) → ((i : ℕ) → Fits w32 (get_or xs i 0)) → AllByRecursion (λ n. n < 2 ^ 32) xs
 small [] h = tt

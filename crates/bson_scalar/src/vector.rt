@@ -1,0 +1,220 @@
+//! Vectors of numbers or bits, and their bytes (the MongoDB BSON binary vector format).
+ghost use Rattle.std.specs.Prelude.{◌≡◌, ◌≢◌, [], ◌∷◌, ◌⊎◌, ◌<◌, ◌^◌, ◌%◌, FitsSigned, IfErr, IfOk, OnOk, false, length, map, true};
+ghost use Rattle.std.specs.Int.{cast_signed, cast_unsigned, w8};
+ghost use Rattle.std.specs.List.{AllByRecursion};
+ghost use Rattle.bson_scalar.specs.Fault.{IsOutOfMemory, IsVectorError};
+ghost use Rattle.bson_scalar.specs.Packed.{packed_bytes, packed_padding};
+ghost use Rattle.bson_scalar.specs.Vectors.{is_vector, le_bytes_of, vector_bytes};
+ghost use Rattle.bson_scalar.specs.VectorData.{IsInRange, IsOnlyOne, vector_view};
+
+use crate::binary::{Binary, Error, Result};
+use crate::packed::PackedBitVector;
+use crate::spec::BinarySubtype;
+use std::alloc::{AllocError, Global};
+
+const INT8: u8 = 0x03;
+
+const PACKED_BIT: u8 = 0x10;
+
+const FLOAT32: u8 = 0x27;
+
+/// A vector as a binary of subtype Vector holds it.
+#[derive(Debug, Drop, PartialEq, Eq)]
+pub enum Vector {
+    /// Signed whole numbers of 8 bits.
+    Int8(Vec<i8>),
+    /// Floating point numbers of 32 bits, by their patterns.
+    Float32(Vec<u32>),
+    /// Single bits.
+    PackedBit(PackedBitVector),
+}
+
+impl Vector {
+    /// Reads the bytes of a vector: its type, its padding and its data. Writing the vector gives the
+    /// same bytes again, and no other vector has them.
+    ///
+    /// Refused as `Vector` are fewer than 2 bytes, a type other than 03 (int8), 10 (packed bits) and
+    /// 27 (float32), a padding other than 0 of another type than packed bits, float32 data whose
+    /// length is no multiple of 4, and packed bits with a padding above 7, or without data and with a
+    /// padding.
+    pub fn from_bytes(alloc: Global, bytes: &[u8]) -> Result<Vector>
+        ensures ok { IfOk result (λ v. vector_bytes v ≡ bytes.now) }
+        ensures ranged { IfOk result (λ v. IsInRange (vector_view v)) }
+        ensures only { IfOk result (λ v. IsOnlyOne bytes.now (vector_view v)) }
+
+        // Exactly the bytes of a vector are accepted.
+        ensures accepted { OnOk result (is_vector bytes.now ≡ true) }
+        ensures refused { IfErr result (λ e. IsOutOfMemory e ⊎ (IsVectorError e × (is_vector bytes.now ≡ false))) }
+    {
+        let [kind, padding, data @ ..] = bytes else {
+            return Err(Error::Vector {
+                message: "a vector has a type and a padding",
+            });
+        };
+        read_data(alloc, *kind, *padding, data)
+    }
+
+    /// Reads the bytes of a binary of subtype Vector. Another subtype is refused as `Vector`, and the
+    /// bytes as `from_bytes` refuses them.
+    pub fn from_binary(alloc: Global, binary: &Binary) -> Result<Vector>
+        ensures subtype { OnOk result (binary.now.subtype ≡ BinarySubtype.Vector) }
+        ensures ok { IfOk result (λ v. vector_bytes v ≡ binary.now.bytes.items) }
+        ensures ranged { IfOk result (λ v. IsInRange (vector_view v)) }
+        ensures only { IfOk result (λ v. IsOnlyOne binary.now.bytes.items (vector_view v)) }
+
+        ensures accepted { OnOk result (is_vector binary.now.bytes.items ≡ true) }
+        ensures refused { IfErr result (λ e. IsOutOfMemory e ⊎ (IsVectorError e × ((binary.now.subtype ≢ BinarySubtype.Vector) ⊎ (is_vector binary.now.bytes.items ≡ false)))) }
+    {
+        if binary.subtype != BinarySubtype::Vector {
+            return Err(Error::Vector {
+                message: "the subtype is not Vector",
+            });
+        }
+        Vector::from_bytes(alloc, binary.bytes.as_slice())
+    }
+
+    /// The same vector, in memory of its own.
+    pub fn clone(&self, alloc: Global) -> Result<Vector, AllocError>
+        ensures { IfOk result (λ v. vector_view v ≡ vector_view self.now) }
+    {
+        Ok(match self {
+            Vector::Int8(items) => Vector::Int8(Vec::from_slice(alloc, items.as_slice())?),
+            Vector::Float32(items) => Vector::Float32(Vec::from_slice(alloc, items.as_slice())?),
+            Vector::PackedBit(packed) => Vector::PackedBit(packed.clone(alloc)?),
+        })
+    }
+
+    // The bytes that `from_bytes` reads as this vector.
+    pub(crate) fn to_bytes(&self, alloc: Global) -> Result<Vec<u8>, AllocError>
+        ensures bytes { IfOk result (λ v. v.items ≡ vector_bytes self.now) }
+        ensures readable { OnOk result (is_vector (vector_bytes self.now) ≡ true) }
+    {
+        match self {
+            Vector::Int8(items) => int8_bytes(alloc, items.as_slice()),
+            Vector::Float32(items) => float32_bytes(alloc, items.as_slice()),
+            Vector::PackedBit(packed) => packed_bytes_of(alloc, packed),
+        }
+    }
+}
+
+fn read_data(alloc: Global, kind: u8, padding: u8, contents: &[u8]) -> Result<Vector>
+    ensures ok { IfOk result (λ v. vector_bytes v ≡ kind ∷ padding ∷ contents.now) }
+    ensures ranged { IfOk result (λ v. IsInRange (vector_view v)) }
+    ensures accepted { OnOk result (is_vector (kind ∷ padding ∷ contents.now) ≡ true) }
+    ensures refused { IfErr result (λ e. IsOutOfMemory e ⊎ (IsVectorError e × (is_vector (kind ∷ padding ∷ contents.now) ≡ false))) }
+{
+    if kind == PACKED_BIT {
+        let Ok(bytes) = Vec::from_slice(alloc, contents) else {
+            return Err(Error::OutOfMemory);
+        };
+        let packed = PackedBitVector::new(bytes, Some(padding))?;
+        return Ok(Vector::PackedBit(packed));
+    }
+    if padding != 0 {
+        return Err(Error::Vector {
+            message: "only packed bits have a padding",
+        });
+    }
+    match kind {
+        INT8 => Ok(Vector::Int8(signed_bytes(alloc, contents)?)),
+        FLOAT32 => Ok(Vector::Float32(words(alloc, contents)?)),
+        _ => Err(Error::Vector {
+            message: "a type that no vector has",
+        }),
+    }
+}
+
+fn signed_bytes(alloc: Global, contents: &[u8]) -> Result<Vec<i8>>
+    ensures ok { IfOk result (λ v. map (cast_unsigned w8) v.items ≡ contents.now) }
+    ensures range { IfOk result (λ v. AllByRecursion (FitsSigned w8) v.items) }
+    ensures err { IfErr result IsOutOfMemory }
+{
+    match collected(alloc, contents) {
+        Ok(v) => Ok(v),
+        Err(_) => Err(Error::OutOfMemory),
+    }
+}
+
+fn collected(alloc: Global, contents: &[u8]) -> Result<Vec<i8>, AllocError>
+    ensures { IfOk result (λ v. v.items ≡ map (cast_signed w8) contents.now) }
+{
+    contents
+        .iter()
+        .map(|byte| byte.cast_signed())
+        .collect(alloc)
+}
+
+fn words(alloc: Global, contents: &[u8]) -> Result<Vec<u32>>
+    ensures ok { IfOk result (λ v. le_bytes_of v.items ≡ contents.now) }
+    ensures range { IfOk result (λ v. AllByRecursion (λ n. n < 2 ^ 32) v.items) }
+    ensures whole { OnOk result (length contents.now % 4 ≡ 0) }
+    ensures err { IfErr result (λ e. IsOutOfMemory e ⊎ (IsVectorError e × (length contents.now % 4 ≢ 0))) }
+{
+    if contents.len() % 4 != 0 {
+        return Err(Error::Vector {
+            message: "the length of float32 data is no multiple of 4",
+        });
+    }
+    let Ok(mut words) = Vec::with_capacity(alloc, contents.len() / 4) else {
+        return Err(Error::OutOfMemory);
+    };
+    let mut rest = contents;
+    'words: while let [a, b, c, d, others @ ..] = rest {
+        if words.push(u32::from_le_bytes([*a, *b, *c, *d])).is_err() {
+            return Err(Error::OutOfMemory);
+        }
+        rest = others;
+    }
+    words_in_range(words.as_slice());
+    Ok(words)
+}
+
+// What the type says of numbers.
+fn words_in_range(items: &[u32])
+    ensures { AllByRecursion (λ n. n < 2 ^ 32) items.now }
+{
+    let _len = items.len();
+}
+
+fn int8_bytes(alloc: Global, items: &[i8]) -> Result<Vec<u8>, AllocError>
+    ensures bytes { IfOk result (λ v. v.items ≡ 0x03 ∷ 0 ∷ map (cast_unsigned w8) items.now) }
+    ensures readable { OnOk result (is_vector (0x03 ∷ 0 ∷ map (cast_unsigned w8) items.now) ≡ true) }
+{
+    let mut bytes = head(alloc, INT8, 0, items.len())?;
+    'items: for item in items {
+        bytes.push(item.cast_unsigned())?;
+    }
+    Ok(bytes)
+}
+
+#[tactic(auto, using(crate::proofs::VectorLaws::vector_lemmas))]
+fn float32_bytes(alloc: Global, items: &[u32]) -> Result<Vec<u8>, AllocError>
+    ensures bytes { IfOk result (λ v. v.items ≡ 0x27 ∷ 0 ∷ le_bytes_of items.now) }
+    ensures readable { OnOk result (is_vector (0x27 ∷ 0 ∷ le_bytes_of items.now) ≡ true) }
+{
+    let mut bytes = head(alloc, FLOAT32, 0, items.len().saturating_mul(4))?;
+    'items: for item in items {
+        bytes.extend_from_slice(&item.to_le_bytes())?;
+    }
+    Ok(bytes)
+}
+
+fn packed_bytes_of(alloc: Global, packed: &PackedBitVector) -> Result<Vec<u8>, AllocError>
+    ensures bytes { IfOk result (λ v. v.items ≡ 0x10 ∷ packed_padding packed.now ∷ packed_bytes packed.now) }
+    ensures readable { OnOk result (is_vector (0x10 ∷ packed_padding packed.now ∷ packed_bytes packed.now) ≡ true) }
+{
+    let data = packed.as_bytes();
+    let mut bytes = head(alloc, PACKED_BIT, packed.padding(), data.len())?;
+    bytes.extend_from_slice(data)?;
+    Ok(bytes)
+}
+
+// The type and the padding, with room for the data.
+fn head(alloc: Global, kind: u8, padding: u8, room: usize) -> Result<Vec<u8>, AllocError>
+    ensures { IfOk result (λ v. v.items ≡ kind ∷ padding ∷ []) }
+{
+    let mut bytes = Vec::with_capacity(alloc, room.saturating_add(2))?;
+    bytes.push(kind)?;
+    bytes.push(padding)?;
+    Ok(bytes)
+}
