@@ -23,7 +23,8 @@ use Rattle.bson_leaf.specs.Faults as fault
 use Rattle.bson_leaf.specs.Full.{FullScalar, scalar_read, NumberRow, number_read, narrowest}
 use Rattle.bson_leaf.specs.Ints.{fits_bits}
 use Rattle.bson_leaf.specs.Normal.{nf_scalar, settle, int64_settled, writable_scalar, ScalarInRange, IsReadForm}
-use Rattle.bson_leaf.specs.Regexes.{regex_tree, sorted_text}
+use Rattle.bson_scalar.specs.Regex.{sorted_text}
+use Rattle.bson_leaf.specs.Regexes.{regex_tree}
 use Rattle.bson_leaf.specs.Rows.{Row, single, single_at}
 use Rattle.bson_leaf.specs.Scalar.{Scalar, null, undefined, min_key, max_key, boolean, double, int32, int64, text, symbol, code, regex, timestamp, binary, object_id, date, decimal, db_pointer}
 use Rattle.bson_leaf.specs.Table.{wrapper_of}
@@ -42,7 +43,8 @@ use Rattle.bson_leaf.proofs.DoubleLaws.{double_laws, double_text-form, double_ag
 use Rattle.bson_leaf.proofs.IdLaws.{oid_laws, pointer_laws, id_again}
 use Rattle.bson_leaf.proofs.IntLaws.{int32_laws, int64_laws, int32_again, int64_again, number_again}
 use Rattle.bson_leaf.proofs.LoneLaws.{one_laws, undefined_laws}
-use Rattle.bson_leaf.proofs.RegexLaws.{regex_laws, sorted_text-again}
+use Rattle.bson_leaf.proofs.RegexLaws.{regex_laws}
+use Rattle.bson_scalar.proofs.SortedText.{sorted_text-again}
 use Rattle.bson_leaf.proofs.TextLaws.{symbol_laws, code_laws}
 use Rattle.bson_leaf.proofs.TimestampLaws.{timestamp_laws, natural_again}
 

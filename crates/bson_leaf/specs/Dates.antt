@@ -1,4 +1,6 @@
--- `$date`: an int text, an RFC 3339 text or a number.
+-- `$date` (MongoDB Extended JSON v2): milliseconds since 1970-01-01T00:00:00Z.
+-- Read: {"$date": {"$numberLong": "5"}}, {"$date": "1970-01-01T00:00:00.005Z"} (RFC 3339 section 5.6), {"$date": 5}.
+-- Written: the first; relaxed, from 1970 to the end of the year 9999, the second.
 use Rattle.std.specs.Prelude.{◌≡◌, int_le, ◌⊎◌, ◌&&◌, ℕ, ℤ, pos, List, Bool, codes, Option, Some, None, if◌then◌else◌, Result, Ok, Err}
 use Rattle.std.specs.Int.{w64}
 use Rattle.std.specs.Fmt.{signed_decimal}
@@ -26,14 +28,6 @@ IsNumberForm d z = (n : Num) × (d ≡ tree.number n) × (as_i64 n ≡ Some z)
 abbrev pub DateRow : Data → Scalar → Type 0
 DateRow d x = (z : ℤ) × (IsLongForm d z ⊎ IsTextForm d z ⊎ IsNumberForm d z) × (x ≡ date z)
 
-abbrev pub millis_of : Data → Result ℤ Fault
-millis_of (tree.string s) = or_bad (denoted s)
-millis_of (tree.number n) = or_bad (as_i64 n)
-millis_of d = on_lone (codes "$numberLong") d (λ t. on_text t (λ s. or_bad (int_of 63 s)))
-
-abbrev pub date_read : Data → Result Scalar Fault
-date_read d = millis_of d >>= λ z. Ok (date z)
-
 abbrev pub date_tree : ℤ → Data
 date_tree z = one (key_of Date) (int64_tree z)
 
@@ -43,3 +37,13 @@ is_recent z = int_le (pos 0) z && int_le z (pos 253_402_300_799_999)
 
 abbrev pub relaxed_date_tree : ℤ → Data
 relaxed_date_tree z = if is_recent z then one (key_of Date) (tree.string (rfc z)) else date_tree z
+
+-- ---- the same as functions, for the proofs
+
+abbrev pub millis_of : Data → Result ℤ Fault
+millis_of (tree.string s) = or_bad (denoted s)
+millis_of (tree.number n) = or_bad (as_i64 n)
+millis_of d = on_lone (codes "$numberLong") d (λ t. on_text t (λ s. or_bad (int_of 63 s)))
+
+abbrev pub date_read : Data → Result Scalar Fault
+date_read d = millis_of d >>= λ z. Ok (date z)

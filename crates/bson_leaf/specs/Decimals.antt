@@ -1,4 +1,5 @@
--- `$numberDecimal`: decimal texts.
+-- `$numberDecimal` (MongoDB Extended JSON v2): the text of a decimal that a Decimal128 has exactly.
+-- Read: {"$numberDecimal": "1.50"}. Written: the printed text.
 use Rattle.std.specs.Prelude.{◌≡◌, ◌+◌, ◌*◌, ◌^◌, ℕ, List, Bool, codes, Option, Some, None, option_map, if◌then◌else◌, Result, Ok, Err}
 use Rattle.std.specs.Result.{result_ok}
 use Rattle.std.specs.Int.{w128, to_le_bytes}
@@ -15,6 +16,14 @@ use Rattle.bson_leaf.specs.Scalar.{Scalar, decimal}
 use Rattle.bson_leaf.specs.Shapes.{on_text, one}
 use Rattle.bson_leaf.specs.Table.{key_of}
 use Rattle.bson_leaf.specs.declared.wrapper.Wrapper.TheVariants.{NumberDecimal}
+
+abbrev pub DecimalRow : Data → Scalar → Type 0
+DecimalRow d x = (s : List ℕ) × (b : List ℕ) × (d ≡ tree.string s) × Parses s b × (x ≡ decimal b)
+
+abbrev pub decimal_tree : List ℕ → Data
+decimal_tree b = one (key_of NumberDecimal) (tree.string (printed b))
+
+-- ---- the same as functions, for the proofs
 
 -- the number of the pattern of a NaN or an infinity
 abbrev pub word_of : List ℕ → Option ℕ
@@ -36,11 +45,5 @@ decimal_at s None = finite_of s
 unfoldable pub decimal_of : List ℕ → Option (List ℕ)
 decimal_of s = decimal_at s (word_of (without_leading_sign s))
 
-abbrev pub DecimalRow : Data → Scalar → Type 0
-DecimalRow d x = (s : List ℕ) × (b : List ℕ) × (d ≡ tree.string s) × Parses s b × (x ≡ decimal b)
-
 abbrev pub decimal_read : Data → Result Scalar Fault
 decimal_read d = on_text d (λ s. or_bad (decimal_of s) >>= λ b. Ok (decimal b))
-
-abbrev pub decimal_tree : List ℕ → Data
-decimal_tree b = one (key_of NumberDecimal) (tree.string (printed b))

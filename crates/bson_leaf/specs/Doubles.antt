@@ -1,4 +1,5 @@
--- `$numberDouble`: the six texts of zeros, infinities and NaNs.
+-- `$numberDouble` (MongoDB Extended JSON v2; `-NaN` is our own): six texts of zeros, infinities and NaNs.
+-- A double is its pattern of 64 bits (IEEE 754-2008 binary64). Read and written: {"$numberDouble": "-0.0"}.
 use Rattle.std.specs.Prelude.{◌≡◌, ◌^◌, ◌&&◌, ◌||◌, ◌==◌, nat_lt, ℕ, List, Bool, codes, Option, Some, None, is_some, if◌then◌else◌, Result, Ok}
 use Rattle.std.specs.Str.{bytes_eq}
 use Rattle.serde_json.specs.Data.{Data}
@@ -9,28 +10,7 @@ use Rattle.bson_leaf.specs.Shapes.{on_text, one}
 use Rattle.bson_leaf.specs.Table.{key_of}
 use Rattle.bson_leaf.specs.declared.wrapper.Wrapper.TheVariants.{NumberDouble}
 
--- a NaN whose sign bit is 0, and one whose sign bit is 1
-abbrev pub is_nan : ℕ → Bool
-is_nan p = nat_lt 0x7FF0000000000000 p && nat_lt p 0x8000000000000000
-
-abbrev pub is_minus_nan : ℕ → Bool
-is_minus_nan p = nat_lt 0xFFF0000000000000 p
-
--- a NaN as the one that its text reads as
-abbrev pub nan_form : ℕ → ℕ
-nan_form p = if is_nan p then 0x7FF8000000000000 else if is_minus_nan p then 0xFFF8000000000000 else p
-
-abbrev pub double_text : ℕ → Option (List ℕ)
-double_text p =
-    if p == 0 then Some (codes "0.0")
-    else if p == 0x8000000000000000 then Some (codes "-0.0")
-    else if p == 0x7FF0000000000000 then Some (codes "Infinity")
-    else if p == 0xFFF0000000000000 then Some (codes "-Infinity")
-    else if is_nan p then Some (codes "NaN")
-    else if is_minus_nan p then Some (codes "-NaN")
-    else None
-
--- the pattern of a double's text
+-- the pattern that a text means
 abbrev pub double_of : List ℕ → Option ℕ
 double_of s =
     if bytes_eq s (codes "0.0") then Some 0
@@ -44,8 +24,32 @@ double_of s =
 abbrev pub DoubleRow : Data → Scalar → Type 0
 DoubleRow d x = (s : List ℕ) × (p : ℕ) × (d ≡ tree.string s) × (double_of s ≡ Some p) × (x ≡ double p)
 
-abbrev pub double_read : Data → Result Scalar Fault
-double_read d = on_text d (λ s. or_bad (double_of s) >>= λ p. Ok (double p))
+-- all bits of the exponent set, and one of the significand: with sign bit 0, and with sign bit 1
+abbrev pub is_nan : ℕ → Bool
+is_nan p = nat_lt 0x7FF0000000000000 p && nat_lt p 0x8000000000000000
+
+abbrev pub is_minus_nan : ℕ → Bool
+is_minus_nan p = nat_lt 0xFFF0000000000000 p
+
+-- a NaN as the pattern that its text means
+abbrev pub nan_form : ℕ → ℕ
+nan_form p = if is_nan p then 0x7FF8000000000000 else if is_minus_nan p then 0xFFF8000000000000 else p
+
+-- the text of a pattern, if it has one
+abbrev pub double_text : ℕ → Option (List ℕ)
+double_text p =
+    if p == 0 then Some (codes "0.0")
+    else if p == 0x8000000000000000 then Some (codes "-0.0")
+    else if p == 0x7FF0000000000000 then Some (codes "Infinity")
+    else if p == 0xFFF0000000000000 then Some (codes "-Infinity")
+    else if is_nan p then Some (codes "NaN")
+    else if is_minus_nan p then Some (codes "-NaN")
+    else None
 
 abbrev pub double_tree : List ℕ → Data
 double_tree s = one (key_of NumberDouble) (tree.string s)
+
+-- ---- the same as functions, for the proofs
+
+abbrev pub double_read : Data → Result Scalar Fault
+double_read d = on_text d (λ s. or_bad (double_of s) >>= λ p. Ok (double p))

@@ -1,4 +1,4 @@
--- Which trees mean a scalar, and which.
+-- Which trees mean a scalar, and which one.
 use Rattle.std.specs.Prelude.{◌≡◌, ◌⊎◌, ℤ, Option, Some, None, if◌then◌else◌, Result, Ok, Err, FitsSigned}
 use Rattle.std.specs.Int.{w32}
 use Rattle.serde_json.specs.Data.{Data, Num, Members, no_members, member}
@@ -15,12 +15,7 @@ use Rattle.bson_leaf.specs.declared.wrapper.Wrapper.{Wrapper}
 abbrev pub NumberRow : Num → Scalar → Type 0
 NumberRow n x = (z : ℤ) × (as_i64 n ≡ Some z) × (((x ≡ int32 z) × FitsSigned w32 z) ⊎ ((x ≡ int64 z) × (FitsSigned w32 z → ⊥)))
 
-abbrev pub narrowest : ℤ → Scalar
-narrowest z = if fits_bits 31 z then int32 z else int64 z
-
-abbrev pub number_read : Num → Result Scalar Fault
-number_read n = or_bad (as_i64 n) >>= λ z. Ok (narrowest z)
-
+-- the tree means the scalar x
 abbrev pub FullScalar : Data → Scalar → Type 0
 FullScalar tree.null x = x ≡ null
 FullScalar (tree.boolean b) x = x ≡ boolean b
@@ -28,6 +23,15 @@ FullScalar (tree.number n) x = NumberRow n x
 FullScalar (tree.string s) x = x ≡ text s
 FullScalar (tree.object (member k d no_members)) x = (w : Wrapper) × (wrapper_of k ≡ Some w) × Row w d x
 FullScalar _ x = ⊥
+
+-- an Int32 where the number fits one, else an Int64
+abbrev pub narrowest : ℤ → Scalar
+narrowest z = if fits_bits 31 z then int32 z else int64 z
+
+-- ---- the same as functions, for the proofs
+
+abbrev pub number_read : Num → Result Scalar Fault
+number_read n = or_bad (as_i64 n) >>= λ z. Ok (narrowest z)
 
 abbrev pub scalar_read : Data → Result Scalar Fault
 scalar_read tree.null = Ok null

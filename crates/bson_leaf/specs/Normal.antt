@@ -7,11 +7,13 @@ use Rattle.hex.specs.Hex.{IsBytes}
 use Rattle.bson_leaf.specs.Doubles.{nan_form, double_text}
 use Rattle.bson_leaf.specs.Ints.{fits_bits}
 use Rattle.bson_leaf.specs.Full.{narrowest}
-use Rattle.bson_leaf.specs.Regexes.{sorted_text}
+use Rattle.bson_scalar.specs.Regex.{sorted_text}
 use Rattle.bson_leaf.specs.declared.form.Form.{Form}
 use Rattle.bson_leaf.specs.declared.form.Form.TheVariants.{Canonical, Relaxed}
 use Rattle.bson_leaf.specs.Scalar.{Scalar, double, int32, int64, regex, timestamp, binary, object_id, date, decimal, db_pointer}
 
+-- the normal form: options sorted, the subtype that its byte reads as, a NaN as its text means it, a decimal as its
+-- canonical pattern; all else kept
 abbrev pub nf_scalar : Scalar → Scalar
 nf_scalar (double p) = double (nan_form p)
 nf_scalar (regex p o) = regex p (sorted_text o)
@@ -29,6 +31,7 @@ abbrev pub settle : Form → Scalar → Scalar
 settle f (int64 z) = int64_settled f z
 settle f x = x
 
+-- whether it has a tree: a double is a zero, an infinity or a NaN
 abbrev pub writable_scalar : Scalar → Bool
 writable_scalar (double p) = is_some (double_text p)
 writable_scalar x = true
@@ -50,5 +53,6 @@ abbrev pub IsSettled : Scalar → Type 0
 IsSettled (decimal b) = Unit {0}
 IsSettled x = nf_scalar x ≡ x
 
+-- what is known of every scalar that is read
 abbrev pub IsReadForm : Scalar → Type 0
 IsReadForm x = (writable_scalar x ≡ true) × IsSettled x

@@ -1,4 +1,4 @@
--- The table of wrappers: what the tree under a wrapper key means.
+-- The table of wrappers of one key (MongoDB Extended JSON v2): what the tree under each wrapper key means.
 use Rattle.std.specs.Prelude.{Result, Option, Some, None, Err}
 use Rattle.serde_json.specs.Data.{Data}
 use Rattle.bson_leaf.specs.Scalar.{Scalar, min_key, max_key}
@@ -17,6 +17,7 @@ use Rattle.bson_leaf.specs.Timestamps.{TimestampRow, timestamp_read}
 use Rattle.bson_leaf.specs.declared.wrapper.Wrapper.{Wrapper}
 use Rattle.bson_leaf.specs.declared.wrapper.Wrapper.TheVariants.{Oid, Symbol, RegularExpression, NumberInt, NumberLong, NumberDouble, NumberDecimal, Binary, Uuid, Code, Timestamp, Date, MinKey, MaxKey, DbPointer, Undefined}
 
+-- under the key of w, the tree d means the scalar x
 abbrev pub Row : Wrapper → Data → Scalar → Type 0
 Row Oid = OidRow
 Row Symbol = SymbolRow
@@ -35,7 +36,14 @@ Row MaxKey = OneRow max_key
 Row DbPointer = PointerRow
 Row Undefined = UndefinedRow
 
--- the same as a function
+-- why a wrapper of one key means nothing: an object id's text where that alone is wrong
+abbrev pub single_fault : Option Wrapper → Data → Fault
+single_fault (Some Oid) d = text_fault (as_str d)
+single_fault (Some DbPointer) d = text_fault (pointer_text d)
+single_fault _ d = bad
+
+-- ---- the same as functions, for the proofs
+
 abbrev pub single : Wrapper → Data → Result Scalar Fault
 single Oid = oid_read
 single Symbol = symbol_read
@@ -57,9 +65,3 @@ single Undefined = undefined_read
 abbrev pub single_at : Option Wrapper → Data → Result Scalar Fault
 single_at (Some w) d = single w d
 single_at None d = Err bad
-
--- why a wrapper of one key means nothing: an object id's text where that alone is wrong
-abbrev pub single_fault : Option Wrapper → Data → Fault
-single_fault (Some Oid) d = text_fault (as_str d)
-single_fault (Some DbPointer) d = text_fault (pointer_text d)
-single_fault _ d = bad

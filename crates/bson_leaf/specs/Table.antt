@@ -1,4 +1,4 @@
--- The sixteen wrapper keys.
+-- The sixteen wrapper keys (MongoDB Extended JSON v2). All other keys are ordinary, `$scope`, `$ref` and `$id` among them.
 use Rattle.std.specs.Prelude.{ℕ, List, codes, Bool, ◌||◌, false, if◌then◌else◌, Option, Some, None, is_some}
 use Rattle.std.specs.Str.{bytes_eq}
 use Rattle.serde_json.specs.Data.{Members, no_members, member}

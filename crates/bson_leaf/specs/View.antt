@@ -1,5 +1,6 @@
 -- The scalar that a `Leaf` stands for.
 use Rattle.std.specs.Prelude.{string_bytes}
+use Rattle.bson_scalar.specs.DbPointer.{namespace_of, id_of}
 use Rattle.bson_leaf.specs.Scalar.{Scalar, null, undefined, min_key, max_key, boolean, double, int32, int64, text, symbol, code, regex, timestamp, binary, object_id, date, decimal, db_pointer}
 use Rattle.bson_leaf.specs.declared.leaf.Leaf.{Leaf}
 use Rattle.bson_leaf.specs.declared.leaf.Leaf.TheVariants as leaf
@@ -22,4 +23,4 @@ leaf_view (leaf.Binary b) = binary b.subtype b.bytes.items
 leaf_view (leaf.ObjectId id) = object_id id
 leaf_view (leaf.DateTime z) = date z
 leaf_view (leaf.Decimal128 d) = decimal d
-leaf_view (leaf.DbPointer p) = db_pointer (string_bytes p.namespace) p.id
+leaf_view (leaf.DbPointer p) = db_pointer (namespace_of p) (id_of p)

@@ -10,7 +10,8 @@ use Rattle.bson_leaf.specs.Doubles.{double_tree, double_text}
 use Rattle.bson_leaf.specs.Ids.{oid_tree, pointer_tree}
 use Rattle.bson_leaf.specs.Ints.{int32_tree, int64_tree}
 use Rattle.bson_leaf.specs.Lone.{min_key_tree, max_key_tree, undefined_tree}
-use Rattle.bson_leaf.specs.Regexes.{regex_tree, sorted_text}
+use Rattle.bson_scalar.specs.Regex.{sorted_text}
+use Rattle.bson_leaf.specs.Regexes.{regex_tree}
 use Rattle.bson_leaf.specs.Texts.{symbol_tree, code_tree}
 use Rattle.bson_leaf.specs.Timestamps.{timestamp_tree}
 use Rattle.bson_leaf.specs.Scalar.{Scalar, null, undefined, min_key, max_key, boolean, double, int32, int64, text, symbol, code, regex, timestamp, binary, object_id, date, decimal, db_pointer}
@@ -53,7 +54,7 @@ WrittenScalar f (date z) t = t ≡ date_form f z
 WrittenScalar f (decimal b) t = t ≡ decimal_tree b
 WrittenScalar f (db_pointer s id) t = t ≡ pointer_tree s id
 
--- ---- the same as a function, of any scalar
+-- ---- the same as functions of any scalar, for the proofs
 
 -- a double is finite and not zero
 pub data Refusal : Type 0 where

@@ -1,19 +1,19 @@
-//! `$binary` and `$uuid`.
-ghost use Rattle.std.specs.Prelude.{◌≡◌, IfOk, option_map, ◌∷◌, []};
+//! `$binary`: bytes and their subtype; and `$uuid`, the text of a UUID. Read and written as
+//! `{"base64": "aGVsbG8=", "subType": "00"}` under `$binary` (RFC 4648 section 4, with padding; two
+//! hexadecimal digits, of which lower-case ones are written). `$uuid` is read alone, as
+//! `{"$uuid": "00112233-4455-6677-8899-aabbccddeeff"}`, and means a binary of subtype 04.
+ghost use Rattle.std.specs.Prelude.{◌≡◌, ◌<◌, IfOk, OnOk, ◌∷◌, [], string_bytes};
 ghost use Rattle.serde_json.specs.View.{view};
-ghost use Rattle.bson_leaf.specs.Binaries.{binary_read, binary_tree, uuid_read, byte_of as byte_at, bytes_of};
+ghost use Rattle.hex.specs.Hex.{encode_lower, IsBytes};
+ghost use Rattle.bson_scalar.specs.Orders.{parsed};
+ghost use Rattle.bson_scalar.specs.Subtype.{subtype_byte};
+ghost use Rattle.bson_leaf.specs.Binaries.{binary_read, binary_tree, uuid_read, byte_of as byte_at, bytes_of as bytes_at};
 ghost use Rattle.bson_leaf.specs.Faults.{Gives, or_bad};
 ghost use Rattle.bson_leaf.specs.View.{leaf_view};
-ghost use Rattle.bson_scalar.specs.Base64.{base64_text};
-ghost use Rattle.hex.specs.Hex.{encode_lower, IsBytes};
-ghost use Rattle.std.specs.Prelude.{OnOk, ◌<◌};
-ghost use Rattle.bson_scalar.specs.Orders.{parsed};
-ghost use Rattle.std.specs.Prelude.{string_bytes};
-ghost use Rattle.bson_scalar.specs.Subtype.{subtype_byte};
 
 use crate::error::Error;
 use crate::leaf::Leaf;
-use crate::shapes::{are_bytes, text_of, two_of, wrapped};
+use crate::shapes::{are_bytes, expected, text_in, two_in, wrapped};
 use base64::engine::general_purpose::STANDARD;
 use bson_scalar::binary::{self, Binary};
 use bson_scalar::spec::BinarySubtype;
@@ -21,6 +21,11 @@ use bson_scalar::uuid_value::Uuid;
 use serde_json::{Map, Value};
 use std::alloc::{AllocError, Global};
 
+const BINARY_SHAPE: &str = "`$binary` holds the texts `base64` and `subType`";
+
+const UUID_SHAPE: &str = "`$uuid` holds the text of a UUID";
+
+/// The byte of a text of two hexadecimal digits.
 pub fn byte_of(text: &str) -> Option<u8>
     ensures { result ≡ byte_at text.now }
 {
@@ -32,31 +37,29 @@ pub fn byte_of(text: &str) -> Option<u8>
 }
 
 fn bytes_of(alloc: Global, text: &str) -> Result<Vec<u8>, Error>
-    ensures { Gives (λ v. v.items) result (or_bad (bytes_of text.now)) }
+    ensures { Gives (λ v. v.items) result (or_bad (bytes_at text.now)) }
 {
     match Binary::from_base64(alloc, text, None) {
         Ok(Binary { subtype: _, bytes }) => Ok(bytes),
         Err(binary::Error::OutOfMemory) => Err(Error::OutOfMemory),
-        Err(_) => Err(Error::DeserializationError { message: "`base64` is no base64 text" }),
+        Err(_) => Err(Error::DeserializationError {
+            message: "`base64` holds no base64 text",
+        }),
     }
 }
 
+/// What `$binary` holds, as a binary.
 pub fn read_binary(alloc: Global, value: Value) -> Result<Leaf, Error>
     ensures { Gives leaf_view result (binary_read (view value)) }
 {
-    let Some((base64, subtype)) = two_of(value, "base64", "subType") else {
-        return Err(Error::DeserializationError { message: "`$binary` holds the texts `base64` and `subType`" });
-    };
-    let Some(base64) = text_of(base64) else {
-        return Err(Error::DeserializationError { message: "`$binary` holds the texts `base64` and `subType`" });
-    };
-    let Some(subtype) = text_of(subtype) else {
-        return Err(Error::DeserializationError { message: "`$binary` holds the texts `base64` and `subType`" });
-    };
+    let (base64, subtype) = two_in(value, "base64", "subType", BINARY_SHAPE)?;
+    let base64 = text_in(base64, BINARY_SHAPE)?;
+    let subtype = text_in(subtype, BINARY_SHAPE)?;
     let bytes = bytes_of(alloc, base64.as_str())?;
-    let Some(byte) = byte_of(subtype.as_str()) else {
-        return Err(Error::DeserializationError { message: "`$binary` holds the texts `base64` and `subType`" });
-    };
+    let byte = expected(
+        byte_of(subtype.as_str()),
+        "`subType` holds two hexadecimal digits",
+    )?;
     Ok(Leaf::Binary(Binary {
         subtype: BinarySubtype::from(byte),
         bytes,
@@ -72,19 +75,13 @@ fn uuid_of(text: &str) -> Option<Uuid>
     }
 }
 
+/// What `$uuid` holds, as a binary of the subtype of UUIDs.
 pub fn read_uuid(alloc: Global, value: Value) -> Result<Leaf, Error>
     ensures { Gives leaf_view result (uuid_read (view value)) }
 {
-    let Some(text) = text_of(value) else {
-        return Err(Error::DeserializationError { message: "`$uuid` holds the text of a UUID" });
-    };
-    match uuid_of(text.as_str()) {
-        Some(id) => Ok(Leaf::Binary(Binary {
-            subtype: BinarySubtype::Uuid,
-            bytes: Vec::from_slice(alloc, &id.bytes())?,
-        })),
-        None => Err(Error::DeserializationError { message: "`$uuid` holds the text of a UUID" }),
-    }
+    let text = text_in(value, UUID_SHAPE)?;
+    let id = expected(uuid_of(text.as_str()), UUID_SHAPE)?;
+    Ok(Leaf::Binary(Binary::from_uuid(alloc, id)?))
 }
 
 fn byte_text(alloc: Global, subtype: BinarySubtype) -> Result<String, AllocError>
@@ -95,20 +92,17 @@ fn byte_text(alloc: Global, subtype: BinarySubtype) -> Result<String, AllocError
     hex::encode(alloc, [byte])
 }
 
+/// The tree of a binary, in both forms.
 pub fn write_binary(alloc: Global, binary: Binary) -> Result<Value, AllocError>
     ensures tree { IfOk result (λ t. view t ≡ binary_tree binary.subtype binary.bytes.items) }
     ensures ranged { OnOk result ((subtype_byte binary.subtype < 256) × IsBytes binary.bytes.items) }
 {
     let Binary { subtype, bytes } = binary;
-    let mut members = Map::new(alloc);
     are_bytes(bytes.as_slice());
-    let text = STANDARD.encode(alloc, bytes.as_slice())?;
-    serde_json::put(&mut members, alloc, "base64", Value::String(text))?;
-    serde_json::put(
-        &mut members,
-        alloc,
-        "subType",
-        Value::String(byte_text(alloc, subtype)?),
-    )?;
+    let base64 = STANDARD.encode(alloc, bytes.as_slice())?;
+    let subtype = byte_text(alloc, subtype)?;
+    let mut members = Map::new(alloc);
+    serde_json::put(&mut members, alloc, "base64", Value::String(base64))?;
+    serde_json::put(&mut members, alloc, "subType", Value::String(subtype))?;
     wrapped(alloc, "$binary", Value::Object(members))
 }

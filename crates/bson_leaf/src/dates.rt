@@ -1,13 +1,12 @@
-//! `$date`.
-ghost use Rattle.std.specs.Prelude.{◌≡◌, IfOk, option_and_then, codes, pos, ◌≤ℤ◌, string_bytes};
-ghost use Rattle.serde_json.specs.Find.{as_str};
+//! `$date`: a moment. Read as `{"$numberLong": "5"}`, as an RFC 3339 text or as a whole number of
+//! milliseconds since 1970-01-01T00:00:00Z under that key, and written as `$numberLong`, or in the
+//! relaxed form as an RFC 3339 text from 1970 to the end of the year 9999.
+ghost use Rattle.std.specs.Prelude.{◌≡◌, IfOk, codes, pos, ◌≤ℤ◌, string_bytes};
 ghost use Rattle.serde_json.specs.View.{view};
 ghost use Rattle.bson_datetime.specs.Rfc3339.{denoted};
 ghost use Rattle.bson_datetime.specs.Shown.{rfc};
 ghost use Rattle.bson_leaf.specs.Dates.{millis_of, date_read, date_tree, relaxed_date_tree};
 ghost use Rattle.bson_leaf.specs.Faults.{Gives, or_bad};
-ghost use Rattle.bson_leaf.specs.Ints.{int_of};
-ghost use Rattle.bson_leaf.specs.Shapes.{lone_member};
 ghost use Rattle.bson_leaf.specs.Written.{date_form};
 ghost use Rattle.bson_leaf.specs.View.{leaf_view};
 
@@ -15,10 +14,15 @@ use crate::error::Error;
 use crate::form::Form;
 use crate::ints::{int64_of, wrapped_int64};
 use crate::leaf::Leaf;
-use crate::shapes::{lone_of, text_of, wrapped};
+use crate::shapes::{expected, lone_in, text_in, wrapped};
 use bson_datetime::DateTime;
 use serde_json::Value;
 use std::alloc::{AllocError, Global};
+
+const SHAPE: &str = "`$date` holds `$numberLong`, an RFC 3339 text or a whole number";
+
+// The last millisecond of the year 9999.
+const LAST_RELAXED: i64 = 253_402_300_799_999;
 
 fn denoted_by(text: &str) -> Option<DateTime>
     ensures { result ≡ denoted text.now }
@@ -29,30 +33,29 @@ fn denoted_by(text: &str) -> Option<DateTime>
     }
 }
 
-fn long_text(value: Value) -> Option<String>
-    ensures { Rattle.std.specs.Prelude.option_map string_bytes result ≡ option_and_then as_str (lone_member (codes "$numberLong") (view value)) }
+fn millis_in(value: Value) -> Result<i64, Error>
+    ensures { Gives (λ z. z) result (millis_of (view value)) }
 {
-    text_of(lone_of(value, "$numberLong")?)
-}
-
-pub fn read_date(value: Value) -> Result<Leaf, Error>
-    ensures { Gives leaf_view result (date_read (view value)) }
-{
-    let millis = match value {
-        Value::String(text) => denoted_by(text.as_str()),
-        Value::Number(n) => n.as_i64().map(DateTime::from_millis),
-        value => match long_text(value) {
-            Some(text) => int64_of(text.as_str()).map(DateTime::from_millis),
-            None => None,
-        },
-    };
-    match millis {
-        Some(date) => Ok(Leaf::DateTime(date)),
-        None => Err(Error::DeserializationError { message: "`$date` holds `$numberLong`, an RFC 3339 text or a whole number" }),
+    match value {
+        Value::String(text) => expected(denoted_by(text.as_str()), SHAPE).map(
+            |d| d.timestamp_millis(),
+        ),
+        Value::Number(number) => expected(number.as_i64(), SHAPE),
+        value => {
+            let text = text_in(lone_in(value, "$numberLong", SHAPE)?, SHAPE)?;
+            expected(int64_of(text.as_str()), SHAPE)
+        }
     }
 }
 
-// The canonical tree of a date.
+/// What `$date` holds, as a moment.
+pub fn read_date(value: Value) -> Result<Leaf, Error>
+    ensures { Gives leaf_view result (date_read (view value)) }
+{
+    let millis = millis_in(value)?;
+    Ok(Leaf::DateTime(DateTime::from_millis(millis)))
+}
+
 fn wrapped_date(alloc: Global, date: DateTime) -> Result<Value, AllocError>
     ensures { IfOk result (λ t. view t ≡ date_tree date) }
 {
@@ -60,7 +63,6 @@ fn wrapped_date(alloc: Global, date: DateTime) -> Result<Value, AllocError>
     wrapped(alloc, "$date", millis)
 }
 
-// The text of a date from the epoch to the end of the year 9999.
 fn text(alloc: Global, date: DateTime) -> Result<String, AllocError>
     requires from { pos 0 ≤ℤ date }
     requires to { date ≤ℤ pos 253_402_300_799_999 }
@@ -73,19 +75,18 @@ fn text(alloc: Global, date: DateTime) -> Result<String, AllocError>
     }
 }
 
-// The relaxed tree of a date.
 fn relaxed_date(alloc: Global, date: DateTime) -> Result<Value, AllocError>
     ensures { IfOk result (λ t. view t ≡ relaxed_date_tree date) }
 {
     let millis = date.timestamp_millis();
-    if 0 <= millis && millis <= 253_402_300_799_999 {
+    if 0 <= millis && millis <= LAST_RELAXED {
         wrapped(alloc, "$date", Value::String(text(alloc, date)?))
     } else {
         wrapped_date(alloc, date)
     }
 }
 
-/// The tree of a date in a form.
+/// The tree of a moment in a form.
 pub fn write_date(alloc: Global, form: Form, date: DateTime) -> Result<Value, AllocError>
     ensures { IfOk result (λ t. view t ≡ date_form form date) }
 {

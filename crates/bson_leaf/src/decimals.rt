@@ -1,4 +1,5 @@
-//! `$numberDecimal`.
+//! `$numberDecimal`: the text of a decimal that a Decimal128 has exactly. Read as
+//! `{"$numberDecimal": "1.50"}`, and written as the printed text.
 ghost use Rattle.std.specs.Prelude.{◌≡◌, IfOk};
 ghost use Rattle.serde_json.specs.View.{view};
 ghost use Rattle.bson_leaf.specs.Decimals as spec;
@@ -7,29 +8,30 @@ ghost use Rattle.bson_leaf.specs.View.{leaf_view};
 
 use crate::error::Error;
 use crate::leaf::Leaf;
-use crate::shapes::{text_of, wrapped};
+use crate::shapes::{expected, text_in, wrapped};
 use bson_decimal::Decimal128;
 use serde_json::Value;
 use std::alloc::{AllocError, Global};
 
+const SHAPE: &str = "`$numberDecimal` holds the text of a decimal that a Decimal128 has exactly";
+
+/// The decimal of a text.
 pub fn decimal_of(text: &str) -> Option<Decimal128>
     ensures { result ≡ spec.decimal_of text.now }
 {
     text.parse::<Decimal128>().ok()
 }
 
+/// What `$numberDecimal` holds, as a decimal.
 pub fn read_decimal(value: Value) -> Result<Leaf, Error>
     ensures { Gives leaf_view result (spec.decimal_read (view value)) }
 {
-    let Some(text) = text_of(value) else {
-        return Err(Error::DeserializationError { message: "`$numberDecimal` holds the text of a decimal that a Decimal128 has" });
-    };
-    match decimal_of(text.as_str()) {
-        Some(decimal) => Ok(Leaf::Decimal128(decimal)),
-        None => Err(Error::DeserializationError { message: "`$numberDecimal` holds the text of a decimal that a Decimal128 has" }),
-    }
+    let text = text_in(value, SHAPE)?;
+    let decimal = expected(decimal_of(text.as_str()), SHAPE)?;
+    Ok(Leaf::Decimal128(decimal))
 }
 
+/// The tree of a decimal, in both forms.
 pub fn write_decimal(alloc: Global, decimal: Decimal128) -> Result<Value, AllocError>
     ensures { IfOk result (λ t. view t ≡ spec.decimal_tree decimal) }
 {

@@ -1,4 +1,5 @@
-//! `$numberDouble`.
+//! `$numberDouble`: one of six texts. Read and written as `{"$numberDouble": "-0.0"}`; a double is
+//! its pattern of 64 bits (IEEE 754-2008 binary64), and one that is finite and no zero has no text.
 ghost use Rattle.std.specs.Prelude.{◌≡◌, option_map};
 ghost use Rattle.serde_json.specs.View.{view};
 ghost use Rattle.bson_leaf.specs.Doubles as spec;
@@ -8,11 +9,14 @@ ghost use Rattle.bson_leaf.specs.Written.{Writes, double_writes};
 
 use crate::error::Error;
 use crate::leaf::Leaf;
-use crate::shapes::{text_of, wrapped};
+use crate::shapes::{expected, text_in, wrapped};
 use crate::write_error::WriteError;
 use serde_json::Value;
 use std::alloc::Global;
 
+const SHAPE: &str = "`$numberDouble` holds `0.0`, `-0.0`, `Infinity`, `-Infinity`, `NaN` or `-NaN`";
+
+/// The pattern of a text: of a NaN the quiet one of its sign with no payload.
 pub fn double_of(text: &str) -> Option<u64>
     ensures { result ≡ spec.double_of text.now }
 {
@@ -33,16 +37,13 @@ pub fn double_of(text: &str) -> Option<u64>
     }
 }
 
+/// What `$numberDouble` holds, as the pattern of a double.
 pub fn read_double(value: Value) -> Result<Leaf, Error>
     ensures { Gives leaf_view result (spec.double_read (view value)) }
 {
-    let Some(text) = text_of(value) else {
-        return Err(Error::DeserializationError { message: "`$numberDouble` holds the text of a zero, an infinity or a NaN" });
-    };
-    match double_of(text.as_str()) {
-        Some(pattern) => Ok(Leaf::Double(pattern)),
-        None => Err(Error::DeserializationError { message: "`$numberDouble` holds the text of a zero, an infinity or a NaN" }),
-    }
+    let text = text_in(value, SHAPE)?;
+    let pattern = expected(double_of(text.as_str()), SHAPE)?;
+    Ok(Leaf::Double(pattern))
 }
 
 fn double_text(pattern: u64) -> Option<&'static str>
@@ -65,6 +66,8 @@ fn double_text(pattern: u64) -> Option<&'static str>
     }
 }
 
+/// The tree of a double, in both forms: a NaN as `NaN` or `-NaN` by its sign. A double that is
+/// finite and no zero has none, and is refused as `FiniteDouble`.
 pub fn write_double(alloc: Global, pattern: u64) -> Result<Value, WriteError>
     ensures { Writes view result (double_writes pattern) }
 {

@@ -1,18 +1,20 @@
-//! Why a tree was not read.
+//! Why a tree of Extended JSON was not read: the error of `extjson::de`.
 use bson_scalar::oid;
 use std::alloc::{AllocError, AllocFailed};
 
 /// Why a tree of Extended JSON was not read.
 #[derive(Debug, Drop, thiserror::Error)]
 pub enum Error {
-    /// The text of an object id is wrong, in a wrapper whose shape is right.
+    /// The text of an object id is wrong, under `$oid` or inside a `$dbPointer` that is right in all
+    /// else. The fault is never want of memory.
     #[error("{0}")]
     InvalidObjectId(oid::Error),
 
-    /// The tree has no meaning for any other reason.
+    /// The tree has no meaning for another reason: an object with a wrapper key has not exactly that
+    /// wrapper's shape, or a number is no i64.
     #[error("{message}")]
     DeserializationError {
-        /// What was expected.
+        /// What was expected there.
         message: &'static str,
     },
 
@@ -22,7 +24,7 @@ pub enum Error {
 }
 
 /// A value, or why a tree was not read.
-pub type Result<T> = std::result::Result<T, Error>;
+pub type Result<T, E = Error> = std::result::Result<T, E>;
 
 impl From<AllocError> for Error {
     ghost use Rattle.bson_leaf.specs.declared.error.Error.TheVariants.{OutOfMemory};

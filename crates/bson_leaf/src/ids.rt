@@ -1,22 +1,25 @@
-//! `$oid` and `$dbPointer`.
-ghost use Rattle.std.specs.Prelude.{◌≡◌, IfOk, string_bytes, option_map, option_and_then, codes};
-ghost use Rattle.serde_json.specs.Find.{as_str};
+//! `$oid`: the text of an object id; and `$dbPointer`, which holds one. Read as
+//! `{"$oid": "53e37d08776f724e42000000"}` and `{"$ref": "a.b", "$id": {"$oid": ".."}}`, digits of
+//! either case, and written with lower-case ones.
+ghost use Rattle.std.specs.Prelude.{◌≡◌, IfOk, OnOk, length};
 ghost use Rattle.serde_json.specs.View.{view};
-ghost use Rattle.std.specs.Prelude.{OnOk, length};
 ghost use Rattle.hex.specs.Hex.{IsBytes};
+ghost use Rattle.bson_scalar.specs.DbPointer.{namespace_of, id_of as pointer_id};
 ghost use Rattle.bson_leaf.specs.Faults.{Gives};
 ghost use Rattle.bson_leaf.specs.Ids.{id_of, oid_read, oid_tree, pointer_read, pointer_tree};
-ghost use Rattle.bson_leaf.specs.Shapes.{lone_member};
 ghost use Rattle.bson_leaf.specs.View.{leaf_view};
 
 use crate::error::Error;
 use crate::leaf::Leaf;
+use crate::shapes::{are_bytes, lone_in, text_in, two_in, wrapped};
 use bson_scalar::db_pointer::DbPointer;
-use crate::shapes::{are_bytes, lone_of, text_of, two_of, wrapped};
 use bson_scalar::oid::{self, ObjectId};
 use serde_json::{Map, Value};
 use std::alloc::{AllocError, Global};
 
+const POINTER_SHAPE: &str = "`$dbPointer` holds `$ref`, a text, and `$id`, an object of `$oid`";
+
+/// The object id of a text, or `InvalidObjectId` with the fault that the text has.
 pub fn id_of(alloc: Global, text: &str) -> Result<ObjectId, Error>
     ensures { Gives (λ id. id) result (id_of text.now) }
 {
@@ -27,37 +30,27 @@ pub fn id_of(alloc: Global, text: &str) -> Result<ObjectId, Error>
     }
 }
 
+/// What `$oid` holds, as an object id.
 pub fn read_oid(alloc: Global, value: Value) -> Result<Leaf, Error>
     ensures { Gives leaf_view result (oid_read (view value)) }
 {
-    let Some(text) = text_of(value) else {
-        return Err(Error::DeserializationError { message: "`$oid` holds the text of an object id" });
-    };
+    let text = text_in(value, "`$oid` holds the text of an object id")?;
     Ok(Leaf::ObjectId(id_of(alloc, text.as_str())?))
 }
 
-fn id_text(value: Value) -> Option<String>
-    ensures { option_map string_bytes result ≡ option_and_then as_str (lone_member (codes "$oid") (view value)) }
-{
-    text_of(lone_of(value, "$oid")?)
-}
-
+/// What `$dbPointer` holds, as a pointer. The shape is tested first, so that the text of the
+/// object id is told as the fault only where it alone is wrong.
 pub fn read_pointer(alloc: Global, value: Value) -> Result<Leaf, Error>
     ensures { Gives leaf_view result (pointer_read (view value)) }
 {
-    let Some((id, name)) = two_of(value, "$id", "$ref") else {
-        return Err(Error::DeserializationError { message: "`$dbPointer` holds `$ref`, a text, and `$id` with `$oid`" });
-    };
-    let Some(namespace) = text_of(name) else {
-        return Err(Error::DeserializationError { message: "`$dbPointer` holds `$ref`, a text, and `$id` with `$oid`" });
-    };
-    let Some(text) = id_text(id) else {
-        return Err(Error::DeserializationError { message: "`$dbPointer` holds `$ref`, a text, and `$id` with `$oid`" });
-    };
+    let (id, name) = two_in(value, "$id", "$ref", POINTER_SHAPE)?;
+    let namespace = text_in(name, POINTER_SHAPE)?;
+    let text = text_in(lone_in(id, "$oid", POINTER_SHAPE)?, POINTER_SHAPE)?;
     let id = id_of(alloc, text.as_str())?;
-    Ok(Leaf::DbPointer(DbPointer { namespace, id }))
+    Ok(Leaf::DbPointer(DbPointer::new(namespace, id)))
 }
 
+/// The tree of an object id, in both forms.
 pub fn write_oid(alloc: Global, id: ObjectId) -> Result<Value, AllocError>
     ensures tree { IfOk result (λ t. view t ≡ oid_tree id) }
     ensures ranged { OnOk result ((length id ≡ 12) × IsBytes id) }
@@ -67,11 +60,12 @@ pub fn write_oid(alloc: Global, id: ObjectId) -> Result<Value, AllocError>
     wrapped(alloc, "$oid", Value::String(id.to_hex(alloc)?))
 }
 
+/// The tree of a pointer, in both forms.
 pub fn write_pointer(alloc: Global, pointer: DbPointer) -> Result<Value, AllocError>
-    ensures tree { IfOk result (λ t. view t ≡ pointer_tree (string_bytes pointer.namespace) pointer.id) }
-    ensures ranged { OnOk result ((length pointer.id ≡ 12) × IsBytes pointer.id) }
+    ensures tree { IfOk result (λ t. view t ≡ pointer_tree (namespace_of pointer) (pointer_id pointer)) }
+    ensures ranged { OnOk result ((length (pointer_id pointer) ≡ 12) × IsBytes (pointer_id pointer)) }
 {
-    let DbPointer { namespace, id } = pointer;
+    let (namespace, id) = pointer.into_parts();
     let mut members = Map::new(alloc);
     serde_json::put(&mut members, alloc, "$ref", Value::String(namespace))?;
     serde_json::put(&mut members, alloc, "$id", write_oid(alloc, id)?)?;

@@ -1,4 +1,11 @@
-//! Wrappers of scalars: their trees, read and written.
+//! The wrappers of MongoDB Extended JSON v2 that hold one scalar, and the scalars that JSON has a
+//! form for: each kind read from its tree and written in the canonical and the relaxed form. Lists,
+//! documents and code with a scope, which hold values, are the layer above.
+//!
+//! In reading order: `leaf` (a scalar value), `form` (the two forms), `wrapper` (the table of
+//! wrapper keys), `error` and `write_error`; `shapes` (a text, an object of one key or two); a
+//! module for the wrappers of each subject, `ints`, `doubles`, `decimals`, `texts`, `regexes`,
+//! `ids`, `timestamps`, `dates`, `binaries`, `lone`; `read` and `write` over all of them; `laws`.
 #![tactic(auto)]
 
 pub mod binaries;

@@ -1,4 +1,5 @@
-//! `$minKey`, `$maxKey` and `$undefined`.
+//! `$minKey`, `$maxKey` and `$undefined`, each of one tree: `{"$minKey": 1}`, `{"$maxKey": 1}`,
+//! `{"$undefined": true}`.
 ghost use Rattle.std.specs.Prelude.{◌≡◌, IfOk};
 ghost use Rattle.serde_json.specs.View.{view};
 ghost use Rattle.bson_leaf.specs.Faults.{Gives};
@@ -19,47 +20,59 @@ fn is_one(value: &Value) -> bool
     whole_of(value) == Some(1)
 }
 
+/// What `$minKey` holds: the number 1.
 pub fn read_min_key(value: Value) -> Result<Leaf, Error>
     ensures { Gives leaf_view result (one_read min_key (view value)) }
 {
     if is_one(&value) {
         Ok(Leaf::MinKey)
     } else {
-        Err(Error::DeserializationError { message: "`$minKey` holds the number 1" })
+        Err(Error::DeserializationError {
+            message: "`$minKey` holds the number 1",
+        })
     }
 }
 
+/// What `$maxKey` holds: the number 1.
 pub fn read_max_key(value: Value) -> Result<Leaf, Error>
     ensures { Gives leaf_view result (one_read max_key (view value)) }
 {
     if is_one(&value) {
         Ok(Leaf::MaxKey)
     } else {
-        Err(Error::DeserializationError { message: "`$maxKey` holds the number 1" })
+        Err(Error::DeserializationError {
+            message: "`$maxKey` holds the number 1",
+        })
     }
 }
 
+/// What `$undefined` holds: true.
 pub fn read_undefined(value: Value) -> Result<Leaf, Error>
     ensures { Gives leaf_view result (undefined_read (view value)) }
 {
     match value {
         Value::Bool(true) => Ok(Leaf::Undefined),
-        _ => Err(Error::DeserializationError { message: "`$undefined` holds true" }),
+        _ => Err(Error::DeserializationError {
+            message: "`$undefined` holds true",
+        }),
     }
 }
 
+/// The tree of the least key, in both forms.
 pub fn write_min_key(alloc: Global) -> Result<Value, AllocError>
     ensures { IfOk result (λ t. view t ≡ min_key_tree) }
 {
     wrapped(alloc, "$minKey", Value::from(1u32))
 }
 
+/// The tree of the greatest key, in both forms.
 pub fn write_max_key(alloc: Global) -> Result<Value, AllocError>
     ensures { IfOk result (λ t. view t ≡ max_key_tree) }
 {
     wrapped(alloc, "$maxKey", Value::from(1u32))
 }
 
+/// The tree of the undefined value, in both forms.
 pub fn write_undefined(alloc: Global) -> Result<Value, AllocError>
     ensures { IfOk result (λ t. view t ≡ undefined_tree) }
 {

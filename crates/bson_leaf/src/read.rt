@@ -1,4 +1,4 @@
-//! Reads the tree under a wrapper key.
+//! Reads an object of one wrapper key: the table of wrappers and what each holds.
 ghost use Rattle.serde_json.specs.View.{view};
 ghost use Rattle.bson_leaf.specs.Faults.{Gives};
 ghost use Rattle.bson_leaf.specs.Rows.{single, single_at};
@@ -21,6 +21,10 @@ use crate::wrapper::{Wrapper, named};
 use serde_json::Value;
 use std::alloc::Global;
 
+/// What the value under this wrapper's key means.
+///
+/// `InvalidObjectId` comes where the text of an object id alone is wrong, `DeserializationError` for
+/// every other tree that this wrapper does not hold.
 pub fn read_wrapper(alloc: Global, wrapper: Wrapper, value: Value) -> Result<Leaf, Error>
     ensures { Gives leaf_view result (single wrapper (view value)) }
 {
@@ -44,12 +48,14 @@ pub fn read_wrapper(alloc: Global, wrapper: Wrapper, value: Value) -> Result<Lea
     }
 }
 
-/// A map of one key, as a wrapper.
+/// What an object of this one key means, where it is a wrapper key; any other key is refused.
 pub fn read_single(alloc: Global, key: &str, value: Value) -> Result<Leaf, Error>
     ensures { Gives leaf_view result (single_at (wrapper_of key.now) (view value)) }
 {
     match named(key) {
         Some(wrapper) => read_wrapper(alloc, wrapper, value),
-        None => Err(Error::DeserializationError { message: "no wrapper key" }),
+        None => Err(Error::DeserializationError {
+            message: "an object of one wrapper key",
+        }),
     }
 }

@@ -1,42 +1,356 @@
+use crate::error::Error;
+use crate::form::Form;
 use crate::leaf::Leaf;
 use crate::read::read_single;
-use crate::regexes::sorted;
-use crate::form::Form;
 use crate::write::write_leaf;
+use crate::write_error::WriteError;
 use bson_datetime::DateTime;
+use bson_scalar::binary::Binary;
+use bson_scalar::oid;
+use bson_scalar::regex::Regex;
+use bson_scalar::spec::BinarySubtype;
 use serde_json::Value;
+use std::alloc::Global;
 use std::test::Fail;
 
+// What this text means under the key, if it is read.
+fn read(alloc: Global, key: &str, text: &str) -> Result<Option<Leaf>, Fail> {
+    let held = Value::from_str(alloc, text)?;
+    Ok(read_single(alloc, key, held).ok())
+}
+
+// The text of a value's tree, if it is written.
+fn written(alloc: Global, form: Form, leaf: Leaf) -> Result<String, Fail> {
+    let tree = write_leaf(alloc, form, leaf)?;
+    Ok(tree.to_string(alloc)?)
+}
+
+// What is read, written again.
+fn again(alloc: Global, form: Form, key: &str, text: &str) -> Result<String, Fail> {
+    match read(alloc, key, text)? {
+        Some(leaf) => written(alloc, form, leaf),
+        None => Ok(String::new(alloc)),
+    }
+}
+
 #[test]
-fn options_sort_by_character(rt: HostRuntime) -> Result<(), Fail> {
-    let s = sorted(rt.alloc(), "xié€a")?;
-    assert_eq!(rt; s.as_str(), "aixé€");
+fn wrappers_are_read_and_written(rt: HostRuntime) -> Result<(), Fail> {
+    for (key, text, want) in [
+        (
+            "$oid",
+            r#""53E37D08776F724E42000000""#,
+            r#"{"$oid":"53e37d08776f724e42000000"}"#,
+        ),
+        ("$symbol", r#""s""#, r#"{"$symbol":"s"}"#),
+        ("$code", r#""f()""#, r#"{"$code":"f()"}"#),
+        (
+            "$regularExpression",
+            r#"{"pattern":"a","options":"xi"}"#,
+            r#"{"$regularExpression":{"options":"ix","pattern":"a"}}"#,
+        ),
+        ("$numberInt", r#""+007""#, r#"{"$numberInt":"7"}"#),
+        (
+            "$numberInt",
+            r#""-2147483648""#,
+            r#"{"$numberInt":"-2147483648"}"#,
+        ),
+        ("$numberLong", r#""5""#, r#"{"$numberLong":"5"}"#),
+        (
+            "$numberLong",
+            r#""9223372036854775807""#,
+            r#"{"$numberLong":"9223372036854775807"}"#,
+        ),
+        ("$numberDouble", r#""0.0""#, r#"{"$numberDouble":"0.0"}"#),
+        ("$numberDouble", r#""-0.0""#, r#"{"$numberDouble":"-0.0"}"#),
+        (
+            "$numberDouble",
+            r#""Infinity""#,
+            r#"{"$numberDouble":"Infinity"}"#,
+        ),
+        (
+            "$numberDouble",
+            r#""-Infinity""#,
+            r#"{"$numberDouble":"-Infinity"}"#,
+        ),
+        ("$numberDouble", r#""NaN""#, r#"{"$numberDouble":"NaN"}"#),
+        ("$numberDouble", r#""-NaN""#, r#"{"$numberDouble":"-NaN"}"#),
+        (
+            "$numberDecimal",
+            r#""1.50""#,
+            r#"{"$numberDecimal":"1.50"}"#,
+        ),
+        ("$numberDecimal", r#""-nan""#, r#"{"$numberDecimal":"NaN"}"#),
+        (
+            "$numberDecimal",
+            r#""10E-6177""#,
+            r#"{"$numberDecimal":"1E-6176"}"#,
+        ),
+        (
+            "$binary",
+            r#"{"base64":"","subType":"FF"}"#,
+            r#"{"$binary":{"base64":"","subType":"ff"}}"#,
+        ),
+        (
+            "$uuid",
+            r#""00112233-4455-6677-8899-aabbccddeeff""#,
+            r#"{"$binary":{"base64":"ABEiM0RVZneImaq7zN3u/w==","subType":"04"}}"#,
+        ),
+        (
+            "$timestamp",
+            r#"{"t":4294967295,"i":0}"#,
+            r#"{"$timestamp":{"i":0,"t":4294967295}}"#,
+        ),
+        ("$date", "5", r#"{"$date":{"$numberLong":"5"}}"#),
+        (
+            "$date",
+            r#""1970-01-01T00:00:00+00:01""#,
+            r#"{"$date":{"$numberLong":"-60000"}}"#,
+        ),
+        (
+            "$date",
+            r#"{"$numberLong":"1590972160292"}"#,
+            r#"{"$date":{"$numberLong":"1590972160292"}}"#,
+        ),
+        ("$minKey", "1", r#"{"$minKey":1}"#),
+        ("$maxKey", "1", r#"{"$maxKey":1}"#),
+        ("$undefined", "true", r#"{"$undefined":true}"#),
+        (
+            "$dbPointer",
+            r#"{"$ref":"a.b","$id":{"$oid":"53E37D08776F724E42000000"}}"#,
+            r#"{"$dbPointer":{"$id":{"$oid":"53e37d08776f724e42000000"},"$ref":"a.b"}}"#,
+        ),
+    ] {
+        let found = again(rt.alloc(), Form::Canonical, key, text)?;
+        assert_eq!(rt; found.as_str(), want, "{key} {text}");
+    }
     Ok(())
 }
 
 #[test]
-fn dates_are_relaxed(rt: HostRuntime) -> Result<(), Fail> {
-    let t = write_leaf(rt.alloc(), Form::Relaxed, Leaf::DateTime(DateTime::from_millis(253_402_300_799_999)))?;
-    assert_eq!(rt; t.to_string(rt.alloc())?.as_str(), "{\"$date\":\"9999-12-31T23:59:59.999Z\"}");
-    let t = write_leaf(rt.alloc(), Form::Relaxed, Leaf::DateTime(DateTime::from_millis(-1)))?;
-    assert_eq!(rt; t.to_string(rt.alloc())?.as_str(), "{\"$date\":{\"$numberLong\":\"-1\"}}");
+fn some_kinds_are_relaxed(rt: HostRuntime) -> Result<(), Fail> {
+    for (key, text, want) in [
+        ("$numberInt", r#""5""#, "5"),
+        ("$numberLong", r#""5""#, "5"),
+        ("$numberLong", r#""2147483648""#, "2147483648"),
+        ("$numberDouble", r#""-0.0""#, r#"{"$numberDouble":"-0.0"}"#),
+        ("$date", "0", r#"{"$date":"1970-01-01T00:00:00Z"}"#),
+        (
+            "$date",
+            "1590972160292",
+            r#"{"$date":"2020-06-01T00:42:40.292Z"}"#,
+        ),
+        (
+            "$date",
+            "253402300799999",
+            r#"{"$date":"9999-12-31T23:59:59.999Z"}"#,
+        ),
+        (
+            "$date",
+            "253402300800000",
+            r#"{"$date":{"$numberLong":"253402300800000"}}"#,
+        ),
+        ("$date", "-1", r#"{"$date":{"$numberLong":"-1"}}"#),
+        (
+            "$oid",
+            r#""53e37d08776f724e42000000""#,
+            r#"{"$oid":"53e37d08776f724e42000000"}"#,
+        ),
+    ] {
+        let found = again(rt.alloc(), Form::Relaxed, key, text)?;
+        assert_eq!(rt; found.as_str(), want, "{key} {text}");
+    }
     Ok(())
 }
 
 #[test]
-fn nans_have_two_texts(rt: HostRuntime) -> Result<(), Fail> {
-    let t = write_leaf(rt.alloc(), Form::Canonical, Leaf::Double(0xFFF0_0000_0000_0001))?;
-    assert_eq!(rt; t.to_string(rt.alloc())?.as_str(), "{\"$numberDouble\":\"-NaN\"}");
+fn other_trees_are_refused(rt: HostRuntime) -> Result<(), Fail> {
+    for (key, text) in [
+        ("$oid", "5"),
+        ("$oid", "null"),
+        ("$symbol", "5"),
+        ("$code", "5"),
+        ("$regularExpression", r#"["a","i"]"#),
+        ("$regularExpression", r#"{"pattern":"a"}"#),
+        ("$regularExpression", r#"{"pattern":"a","options":5}"#),
+        ("$numberInt", r#""2147483648""#),
+        ("$numberInt", r#""+""#),
+        ("$numberInt", r#""""#),
+        ("$numberInt", "5"),
+        ("$numberLong", r#""9223372036854775808""#),
+        ("$numberDouble", r#""1.5""#),
+        ("$numberDouble", r#""0""#),
+        ("$numberDouble", r#""0.00""#),
+        ("$numberDouble", r#""nan""#),
+        ("$numberDouble", r#""+Infinity""#),
+        ("$numberDecimal", r#""1E+6145""#),
+        ("$numberDecimal", r#""1e""#),
+        ("$numberDecimal", "1"),
+        ("$binary", r#"{"base64":"","subType":"0"}"#),
+        ("$binary", r#"{"base64":"","subType":"000"}"#),
+        ("$binary", r#"{"base64":"","subType":"0g"}"#),
+        ("$binary", r#"{"base64":"aGVsbG8","subType":"00"}"#),
+        ("$binary", r#"{"base64":"","subType":"00","x":1}"#),
+        ("$binary", r#""AA==""#),
+        ("$uuid", r#""00112233""#),
+        ("$timestamp", r#"{"t":-1,"i":0}"#),
+        ("$timestamp", r#"{"t":0,"i":4294967296}"#),
+        ("$timestamp", "[1,2]"),
+        ("$date", r#"{"$numberLong":5}"#),
+        ("$date", r#"{"$numberLong":"1","x":1}"#),
+        ("$date", r#""1970-01-01 00:00:00Z""#),
+        ("$date", "true"),
+        ("$date", "-0"),
+        ("$date", "1.0"),
+        ("$minKey", "2"),
+        ("$maxKey", "true"),
+        ("$undefined", "false"),
+        ("$dbPointer", r#"{"$ref":5,"$id":{"$oid":"zz"}}"#),
+        ("$dbPointer", r#"{"$ref":"a","$id":{"$oid":"zz","x":1}}"#),
+        ("$scope", "{}"),
+        ("a", "1"),
+    ] {
+        let held = Value::from_str(rt.alloc(), text)?;
+        let refused = match read_single(rt.alloc(), key, held) {
+            Err(Error::DeserializationError { message: _ }) => true,
+            _ => false,
+        };
+        assert!(rt; refused, "{key} {text}");
+    }
+    Ok(())
+}
+
+#[test]
+fn a_bad_object_id_is_told(rt: HostRuntime) -> Result<(), Fail> {
+    for (key, text, want) in [
+        ("$oid", r#""53e3""#, 4),
+        ("$dbPointer", r#"{"$ref":"a.b","$id":{"$oid":"53e"}}"#, 3),
+    ] {
+        let held = Value::from_str(rt.alloc(), text)?;
+        let length = match read_single(rt.alloc(), key, held) {
+            Err(Error::InvalidObjectId(oid::Error::InvalidHexStringLength { length, hex: _ })) =>
+                length,
+            _ => 0,
+        };
+        assert_eq!(rt; length, want, "{key} {text}");
+    }
+    let held = Value::from_str(rt.alloc(), r#"{"$ref":"a.b","$id":{"$oid":"zz"}}"#)?;
+    let place = match read_single(rt.alloc(), "$dbPointer", held) {
+        Err(
+            Error::InvalidObjectId(
+                oid::Error::InvalidHexStringCharacter {
+                    c: 'z',
+                    index,
+                    hex: _,
+                },
+            ),
+        ) => Some(index),
+        _ => None,
+    };
+    assert_eq!(rt; place, Some(0));
+    Ok(())
+}
+
+#[test]
+fn values_outside_normal_form_are_written_in_it(rt: HostRuntime) -> Result<(), Fail> {
+    let alloc = rt.alloc();
+    let text = written(alloc, Form::Canonical, Leaf::Double(0x7FF0_0000_0000_0001))?;
+    assert_eq!(rt; text.as_str(), r#"{"$numberDouble":"NaN"}"#);
+    let text = written(alloc, Form::Relaxed, Leaf::Double(0xFFF0_0000_0000_0001))?;
+    assert_eq!(rt; text.as_str(), r#"{"$numberDouble":"-NaN"}"#);
+    let regex = Regex {
+        pattern: String::from_str(alloc, "a")?,
+        options: String::from_str(alloc, "xi")?,
+    };
+    let text = written(alloc, Form::Canonical, Leaf::RegularExpression(regex))?;
+    assert_eq!(rt;
+        text.as_str(),
+        r#"{"$regularExpression":{"options":"ix","pattern":"a"}}"#
+    );
+    let binary = Binary {
+        subtype: BinarySubtype::UserDefined(0),
+        bytes: Vec::from_slice(alloc, b"hello")?,
+    };
+    let text = written(alloc, Form::Canonical, Leaf::Binary(binary))?;
+    assert_eq!(rt;
+        text.as_str(),
+        r#"{"$binary":{"base64":"aGVsbG8=","subType":"00"}}"#
+    );
+    Ok(())
+}
+
+#[test]
+fn plain_kinds_have_plain_trees(rt: HostRuntime) -> Result<(), Fail> {
+    let alloc = rt.alloc();
+    assert_eq!(rt;
+        written(alloc, Form::Canonical, Leaf::Null)?.as_str(),
+        "null"
+    );
+    assert_eq!(rt;
+        written(alloc, Form::Canonical, Leaf::Boolean(true))?.as_str(),
+        "true"
+    );
+    let text = Leaf::String(String::from_str(alloc, "x")?);
+    assert_eq!(rt; written(alloc, Form::Canonical, text)?.as_str(), r#""x""#);
+    let finite = write_leaf(alloc, Form::Relaxed, Leaf::Double(0x3FF8_0000_0000_0000));
+    assert_eq!(rt; finite.err(), Some(WriteError::FiniteDouble));
     Ok(())
 }
 
 #[test]
 fn a_negative_nan_decimal_stays_as_read(rt: HostRuntime) -> Result<(), Fail> {
-    let text = Value::try_from_str(rt.alloc(), "-nan")?;
-    let Ok(Leaf::Decimal128(d)) = read_single(rt.alloc(), "$numberDecimal", text) else {
+    let Some(Leaf::Decimal128(decimal)) = read(rt.alloc(), "$numberDecimal", r#""-nan""#)? else {
         assert!(rt; false);
         return Ok(());
     };
-    assert_eq!(rt; d.bytes()[15], 0xFE - 2);
+    let [.., last] = decimal.bytes();
+    assert_eq!(rt; last, 0xFC);
+    Ok(())
+}
+
+#[test]
+fn refused_reading(rt: HostRuntime) -> Result<(), Fail> {
+    for (key, text) in [
+        ("$oid", r#""53e3""#),
+        ("$regularExpression", r#"{"pattern":"a","options":"xi"}"#),
+        ("$binary", r#"{"base64":"aGVsbG8=","subType":"00"}"#),
+        ("$uuid", r#""00112233-4455-6677-8899-aabbccddeeff""#),
+    ] {
+        let Ok(held) = Value::from_str(rt.alloc(), text) else {
+            return Ok(());
+        };
+        let right = match read_single(rt.alloc(), key, held) {
+            Ok(Leaf::RegularExpression(regex)) => regex.pattern.as_str() == "a"
+                && regex.options.as_str() == "ix",
+            Ok(Leaf::Binary(binary)) => binary.bytes.len() == 5 || binary.bytes.len() == 16,
+            Err(Error::InvalidObjectId(oid::Error::InvalidHexStringLength { length, hex })) =>
+                length == 4 && hex.as_str() == "53e3",
+            Err(Error::OutOfMemory) => true,
+            _ => false,
+        };
+        assert!(rt; right, "{key}");
+    }
+    Ok(())
+}
+
+#[test]
+fn refused_writing(rt: HostRuntime) -> Result<(), Fail> {
+    for (millis, want) in [
+        (0, r#"{"$date":"1970-01-01T00:00:00Z"}"#),
+        (-1, r#"{"$date":{"$numberLong":"-1"}}"#),
+    ] {
+        match write_leaf(
+            rt.alloc(),
+            Form::Relaxed,
+            Leaf::DateTime(DateTime::from_millis(millis)),
+        ) {
+            Ok(tree) => {
+                let Ok(text) = tree.to_string(rt.alloc()) else {
+                    return Ok(());
+                };
+                assert_eq!(rt; text.as_str(), want);
+            }
+            Err(refusal) => assert_eq!(rt; refusal, WriteError::OutOfMemory),
+        }
+    }
     Ok(())
 }

@@ -1,4 +1,4 @@
-//! `$symbol`, and `$code` alone.
+//! `$symbol`, and `$code` alone: a text. Read and written as `{"$symbol": "s"}`, `{"$code": "s"}`.
 ghost use Rattle.std.specs.Prelude.{◌≡◌, IfOk, string_bytes};
 ghost use Rattle.serde_json.specs.View.{view};
 ghost use Rattle.bson_leaf.specs.Faults.{Gives};
@@ -7,34 +7,32 @@ ghost use Rattle.bson_leaf.specs.View.{leaf_view};
 
 use crate::error::Error;
 use crate::leaf::Leaf;
-use crate::shapes::{text_of, wrapped};
+use crate::shapes::{text_in, wrapped};
 use serde_json::Value;
 use std::alloc::{AllocError, Global};
 
+/// What `$symbol` holds, as a symbol.
 pub fn read_symbol(value: Value) -> Result<Leaf, Error>
     ensures { Gives leaf_view result (symbol_read (view value)) }
 {
-    match text_of(value) {
-        Some(text) => Ok(Leaf::Symbol(text)),
-        None => Err(Error::DeserializationError { message: "`$symbol` holds a text" }),
-    }
+    Ok(Leaf::Symbol(text_in(value, "`$symbol` holds a text")?))
 }
 
+/// What `$code` holds where it stands alone, as code without a scope.
 pub fn read_code(value: Value) -> Result<Leaf, Error>
     ensures { Gives leaf_view result (code_read (view value)) }
 {
-    match text_of(value) {
-        Some(text) => Ok(Leaf::JavaScriptCode(text)),
-        None => Err(Error::DeserializationError { message: "`$code` holds a text" }),
-    }
+    Ok(Leaf::JavaScriptCode(text_in(value, "`$code` holds a text")?))
 }
 
+/// The tree of a symbol, in both forms.
 pub fn write_symbol(alloc: Global, text: String) -> Result<Value, AllocError>
     ensures { IfOk result (λ t. view t ≡ symbol_tree (string_bytes text)) }
 {
     wrapped(alloc, "$symbol", Value::String(text))
 }
 
+/// The tree of code without a scope, in both forms.
 pub fn write_code(alloc: Global, text: String) -> Result<Value, AllocError>
     ensures { IfOk result (λ t. view t ≡ code_tree (string_bytes text)) }
 {

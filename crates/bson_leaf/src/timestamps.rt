@@ -1,4 +1,5 @@
-//! `$timestamp`.
+//! `$timestamp`: two numbers, each from 0 to 4294967295. Read and written as `{"t": 1, "i": 2}`
+//! under that key.
 ghost use Rattle.std.specs.Prelude.{◌≡◌, IfOk};
 ghost use Rattle.serde_json.specs.View.{view};
 ghost use Rattle.bson_leaf.specs.Faults.{Gives};
@@ -7,28 +8,29 @@ ghost use Rattle.bson_leaf.specs.View.{leaf_view};
 
 use crate::error::Error;
 use crate::leaf::Leaf;
+use crate::shapes::{expected, two_in, u32_of, wrapped};
 use bson_scalar::timestamp::Timestamp;
-use crate::shapes::{two_of, u32_of, wrapped};
 use serde_json::{Map, Value};
 use std::alloc::{AllocError, Global};
 
+const SHAPE: &str = "`$timestamp` holds `t` and `i`, whole numbers from 0 to 4294967295";
+
+/// What `$timestamp` holds, as a timestamp: `t` is its time, `i` its increment.
 pub fn read_timestamp(value: Value) -> Result<Leaf, Error>
     ensures { Gives leaf_view result (timestamp_read (view value)) }
 {
-    let Some((increment, time)) = two_of(value, "i", "t") else {
-        return Err(Error::DeserializationError { message: "`$timestamp` holds `t` and `i`, numbers from 0 to 4294967295" });
-    };
-    match (u32_of(&increment), u32_of(&time)) {
-        (Some(increment), Some(time)) => Ok(Leaf::Timestamp(Timestamp { time, increment })),
-        _ => Err(Error::DeserializationError { message: "`$timestamp` holds `t` and `i`, numbers from 0 to 4294967295" }),
-    }
+    let (increment, time) = two_in(value, "i", "t", SHAPE)?;
+    let increment = expected(u32_of(&increment), SHAPE)?;
+    let time = expected(u32_of(&time), SHAPE)?;
+    Ok(Leaf::Timestamp(Timestamp { time, increment }))
 }
 
-pub fn write_timestamp(alloc: Global, stamp: Timestamp) -> Result<Value, AllocError>
-    ensures { IfOk result (λ t. view t ≡ timestamp_tree stamp.time stamp.increment) }
+/// The tree of a timestamp, in both forms.
+pub fn write_timestamp(alloc: Global, timestamp: Timestamp) -> Result<Value, AllocError>
+    ensures { IfOk result (λ t. view t ≡ timestamp_tree timestamp.time timestamp.increment) }
 {
     let mut members = Map::new(alloc);
-    serde_json::put(&mut members, alloc, "t", Value::from(stamp.time))?;
-    serde_json::put(&mut members, alloc, "i", Value::from(stamp.increment))?;
+    serde_json::put(&mut members, alloc, "t", Value::from(timestamp.time))?;
+    serde_json::put(&mut members, alloc, "i", Value::from(timestamp.increment))?;
     wrapped(alloc, "$timestamp", Value::Object(members))
 }

@@ -1,34 +1,62 @@
-//! The sixteen wrapper keys.
-ghost use Rattle.std.specs.Prelude.{◌≡◌};
+//! The sixteen wrapper keys of MongoDB Extended JSON v2, and whether an object has one.
+ghost use Rattle.std.specs.Prelude.{◌≡◌, IsTrue, None};
 ghost use Rattle.bson_leaf.specs.Table.{wrapper_of, key_of, has_wrapper};
 ghost use Rattle.serde_json.specs.View.{members_view};
 
 use serde_json::{Map, Value};
 
+/// A wrapper: an object that stands for a value which JSON has no form for, told by its key.
 #[derive(Clone, Copy, Debug, Drop, PartialEq, Eq)]
 pub enum Wrapper {
+    /// `$oid`
     Oid,
+    /// `$symbol`
     Symbol,
+    /// `$regularExpression`
     RegularExpression,
+    /// `$numberInt`
     NumberInt,
+    /// `$numberLong`
     NumberLong,
+    /// `$numberDouble`
     NumberDouble,
+    /// `$numberDecimal`
     NumberDecimal,
+    /// `$binary`
     Binary,
+    /// `$uuid`
     Uuid,
+    /// `$code`
     Code,
+    /// `$timestamp`
     Timestamp,
+    /// `$date`
     Date,
+    /// `$minKey`
     MinKey,
+    /// `$maxKey`
     MaxKey,
+    /// `$dbPointer`
     DbPointer,
+    /// `$undefined`
     Undefined,
 }
 
+// A key whose first byte is not `$` is no wrapper key: a cheap test, since most keys are ordinary.
+fn is_ordinary(key: &str) -> bool
+    ensures { IsTrue result → wrapper_of key.now ≡ None }
+{
+    let bytes = key.as_bytes();
+    bytes.is_empty() || bytes[0] != b'$'
+}
+
+/// The wrapper of a key.
 pub fn named(key: &str) -> Option<Wrapper>
     ensures { result ≡ wrapper_of key.now }
 {
-    if key == "$oid" {
+    if is_ordinary(key) {
+        None
+    } else if key == "$oid" {
         Some(Wrapper::Oid)
     } else if key == "$symbol" {
         Some(Wrapper::Symbol)
@@ -65,6 +93,7 @@ pub fn named(key: &str) -> Option<Wrapper>
     }
 }
 
+/// The key of a wrapper.
 pub fn key(wrapper: Wrapper) -> &'static str
     ensures { result.now ≡ key_of wrapper }
 {
@@ -88,6 +117,7 @@ pub fn key(wrapper: Wrapper) -> &'static str
     }
 }
 
+/// Whether any key of a map is a wrapper key.
 pub fn any_wrapper(members: &Map<String, Value>) -> bool
     ensures { result ≡ has_wrapper (members_view members.now.entries) }
 {

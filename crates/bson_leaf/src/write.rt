@@ -1,4 +1,4 @@
-//! Writes a scalar.
+//! Writes a scalar in either form.
 ghost use Rattle.std.specs.Prelude.{OnOk};
 ghost use Rattle.serde_json.specs.View.{view};
 ghost use Rattle.bson_leaf.specs.View.{leaf_view};
@@ -21,7 +21,9 @@ use crate::write_error::WriteError;
 use serde_json::Value;
 use std::alloc::Global;
 
-/// The tree of a scalar in a form.
+/// The tree of a scalar in a form (MongoDB Extended JSON v2). Texts are moved into it.
+///
+/// `FiniteDouble` comes exactly for a double that is finite and no zero.
 pub fn write_leaf(alloc: Global, form: Form, leaf: Leaf) -> Result<Value, WriteError>
     ensures written { Writes view result (writes_scalar form (leaf_view leaf)) }
     ensures ranged { OnOk result (ScalarInRange (leaf_view leaf)) }

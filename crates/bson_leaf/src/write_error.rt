@@ -1,9 +1,15 @@
+//! Why a value was not written.
 use std::alloc::{AllocError, AllocFailed};
 
-// Why a value was not written.
-#[derive(Clone, Copy, Debug, Drop, PartialEq, Eq)]
+/// Why a value was not written as Extended JSON.
+#[derive(Clone, Copy, Debug, Drop, PartialEq, Eq, thiserror::Error)]
 pub enum WriteError {
+    /// A double in the value is finite and no zero, and so has no text here.
+    #[error("a finite double has no text")]
     FiniteDouble,
+
+    /// A request for memory was refused.
+    #[error("out of memory")]
     OutOfMemory,
 }
 

@@ -7,4 +7,4 @@ none None h = refl
 none (Some id) h = absurd (h id refl)
 
 pub returns-in-Err : goal.returns-in-Err
-returns-in-Err c = none (parsed c.args.text.now) c.in-Err.ensures.err
+returns-in-Err c = none (parsed c.args.text.now) c.in-Err.ensures.err.1
