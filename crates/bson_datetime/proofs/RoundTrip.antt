@@ -22,7 +22,7 @@ use Rattle.bson_datetime.proofs.MomentExists.{moment_at}
 use Rattle.bson_datetime.proofs.RfcLemmas.{rfc-jiff}
 use Rattle.bson_datetime.proofs.MomentLemmas.{moment-not_negative}
 
-two_digits-pad2 : (n : ℕ) (rest : List ℕ) → n < 100 → two_digits (pad2 n ++ rest) ≡ Some (n, rest)
+pub two_digits-pad2 : (n : ℕ) (rest : List ℕ) → n < 100 → two_digits (pad2 n ++ rest) ≡ Some (n, rest)
 unfolding two_digits
 two_digits-pad2 n rest h =
     let digits : (is_in_range 48 57 (48 + n / 10) && is_in_range 48 57 (48 + n % 10)) ≡ true = grind (arith, nat_tests) in
@@ -37,7 +37,7 @@ four_digits-pad4 n rest h =
     let value : n / 100 * 100 + n % 100 ≡ n = omega arith in
     rw (a, b, value)
 
-digits_below-pad2 : (bound n : ℕ) (rest : List ℕ) → n < bound → bound ≤ 100 → digits_below bound (pad2 n ++ rest) ≡ Some (n, rest)
+pub digits_below-pad2 : (bound n : ℕ) (rest : List ℕ) → n < bound → bound ≤ 100 → digits_below bound (pad2 n ++ rest) ≡ Some (n, rest)
 unfolding digits_below
 digits_below-pad2 bound n rest h k =
     let below : nat_le bound n ≡ false = grind (arith, nat_tests) in
@@ -52,7 +52,7 @@ day_number-date date y year =
     rw (test, year)
 
 -- a date of a year from 0000 to 9999, and then rest
-date_part-text : (date : Date) (y : ℕ) (rest : List ℕ) → date.year ≡ pos y → y < 10_000
+pub date_part-text : (date : Date) (y : ℕ) (rest : List ℕ) → date.year ≡ pos y → y < 10_000
     → date_part (pad4 y ++ 45 ∷ pad2 date.month ++ 45 ∷ pad2 date.day ++ rest) ≡ Some (epoch_day date, rest)
 unfolding date_part after
 date_part-text date y rest year small =
@@ -61,7 +61,7 @@ date_part-text date y rest year small =
     rw (four_digits-pad4 y (45 ∷ pad2 date.month ++ 45 ∷ pad2 date.day ++ rest) small, two_digits-pad2 date.month (45 ∷ pad2 date.day ++ rest) month, two_digits-pad2 date.day rest day, day_number-date date y year)
 
 -- a time, and then rest
-time_part-text : (t : Time) (rest : List ℕ) → time_part (pad2 t.hour ++ 58 ∷ pad2 t.minute ++ 58 ∷ pad2 t.second ++ rest) ≡ Some (time_seconds t, rest)
+pub time_part-text : (t : Time) (rest : List ℕ) → time_part (pad2 t.hour ++ 58 ∷ pad2 t.minute ++ 58 ∷ pad2 t.second ++ rest) ≡ Some (time_seconds t, rest)
 unfolding time_part after
 time_part-text t rest =
     rw (

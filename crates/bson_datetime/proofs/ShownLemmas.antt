@@ -1,16 +1,15 @@
 -- The fields of a moment and its texts, by jiff's date and time.
-use Rattle.std.proofs.Common.{◌≡◌, ℕ, ◌+◌, ◌*◌, ◌/◌, ◌%◌, true, false, [], ◌∷◌, ◌++◌, refl, ◌∙◌, arith, ℤ, pos, ◌≤ℤ◌}
+use Rattle.std.proofs.Common.{◌≡◌, ℕ, ◌+◌, ◌*◌, ◌/◌, ◌%◌, true, false, refl, ◌∙◌, arith, ℤ, pos, ◌≤ℤ◌}
 use Rattle.std.proofs.lemmas.Int.{ints}
-use Rattle.std.proofs.lemmas.List.{append_assoc}
 use Rattle.std.specs.Int.{int_rem_euclid}
 use Rattle.std.specs.Fmt.{signed_decimal}
 use Rattle.jiff.specs.Types.{Time, DateTime}
-use Rattle.jiff.specs.Words.{epoch_day, iso_datetime_text}
+use Rattle.jiff.specs.Words.{epoch_day}
 use Rattle.jiff.proofs.Family.{civil_nanos-parts, time_nanos_bound, civil_nanos_range}
 use Rattle.jiff.proofs.SpanFacts.{signed_arith}
 use Rattle.bson_datetime.specs.JiffSteps.{IsJiffMoment, fields_of}
 use Rattle.bson_datetime.specs.Moment.{Civil, IsCivil, IsMoment, IsCivilMillis, civil_of, day_of, time_of}
-use Rattle.bson_datetime.specs.Shown.{shown, is_civil_millis, civil_text, rfc, rfc_text, fraction_shown}
+use Rattle.bson_datetime.specs.Shown.{shown, is_civil_millis, civil_text, rfc, rfc_text}
 use Rattle.bson_datetime.proofs.CivilLemmas.{date_of-date, size_of}
 use Rattle.bson_datetime.proofs.MomentExists.{moment_at}
 

@@ -1,5 +1,5 @@
 -- What a builder holds.
-use Rattle.std.specs.Prelude.{ℕ, ℤ, Option, None, unwrap_or}
+use Rattle.std.specs.Prelude.{None, unwrap_or}
 use Rattle.bson_datetime.specs.Moment.{Civil}
 use Rattle.bson_datetime.specs.declared.builder.DateTimeBuilder.{DateTimeBuilder}
 use Rattle.bson_datetime.specs.declared.builder.NoYear.{NoYear}

@@ -119,6 +119,7 @@ impl DateTime {
     ghost use Rattle.std.specs.Prelude.{Ok, OnOk, IfOk, IfErr, string_bytes, ◌⊎◌};
     ghost use Rattle.bson_datetime.specs.Moment.{Civil, IsRfcMillis};
     ghost use Rattle.bson_datetime.specs.Rfc3339.{Denotes};
+    ghost use Rattle.bson_datetime.specs.Grammar.{Names};
     ghost use Rattle.bson_datetime.specs.Shown.{rfc, rfc_text};
     ghost use Rattle.bson_datetime.specs.Errors.{IsCannotFormat, IsOutOfMemory, IsInvalidTimestamp};
 
@@ -153,6 +154,9 @@ impl DateTime {
     pub fn parse_rfc3339_str(text: &str) -> Result<DateTime>
         ensures ok { IfOk result (λ ms. Denotes text.now ms) }
         ensures refused { IfErr result (λ e. IsInvalidTimestamp e × ((ms : ℤ) → ¬ (Denotes text.now ms))) }
+
+        // A text denotes the moment that its parts name.
+        ensures grammar { (ms : ℤ) → Denotes text.now ms ↔ Names text.now ms }
 
         // Every moment of the years 0000 to 9999 comes back from its text.
         ensures round_trip { (ms : ℤ) → IsRfcMillis ms → text.now ≡ rfc ms → result ≡ Ok ms }

@@ -1,7 +1,7 @@
 use Rattle.std.proofs.Common.{◌≡◌, ◌↔◌, ℕ, ℤ, arith, pos, to_z, to_z-of_z, FitsSigned, w8, w16, w32, refl}
 use Rattle.std.proofs.lemmas.Int.{to_z_pos}
 use Rattle.jiff.proofs.SpanFacts.{signed_arith}
-use Rattle.jiff.specs.Words.{IsDate, days_in_month}
+use Rattle.jiff.specs.Words.{IsDate}
 use Rattle.jiff_core.specs.Calendar.{IsCivilDate}
 use Rattle.bson_datetime.proofs.builder.day_number.Goals as goal
 

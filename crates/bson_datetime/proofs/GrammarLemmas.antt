@@ -1,0 +1,470 @@
+-- What is read from the front of a text is what its parts name, and the other way round.
+use Rattle.std.proofs.Common.{◌≡◌, ◌↔◌, ℕ, ℤ, pos, neg_ℤ, suc, ◌+◌, ◌-◌, ◌*◌, ◌/◌, ◌%◌, ◌<◌, ◌≤◌, ◌==◌, ◌&&◌, ◌||◌, nat_le, inl, inr, true, false, Bool, List, [], ◌∷◌, ◌++◌, length, take, drop, get_or, Option, Some, None, refl, sym, ap, ◌∙◌, arith, take_at, drop_at, append-nil, get_or-take}
+use Rattle.std.specs.Prelude.{if◌then◌else◌, unwrap_or, option_map}
+use Rattle.std.proofs.lemmas.Bool.{and_parts}
+use Rattle.std.proofs.lemmas.Bool.Decides.{nat_tests}
+use Rattle.std.proofs.lemmas.List.{take-append-drop}
+use Rattle.std.proofs.lemmas.List.Folds.{length-prefix_len}
+use Rattle.std.proofs.lemmas.List.Sums.{prefix_len_passes}
+use Rattle.std.specs.Char.{IsAsciiDigit, is_ascii_digit}
+use Rattle.std.specs.List.{All, prefix_len}
+use Rattle.jiff.specs.Types.{Date, Time}
+use Rattle.jiff.specs.Words.{days_in_month}
+use Rattle.jiff.proofs.SpanFacts.{signed_arith}
+use Rattle.jiff_core.specs.Calendar.{IsCivilDate, days_from_civil}
+use Rattle.bson_datetime.specs.Grammar.{Offset, zulu, ahead, behind, offset_text, fraction_text, IsLetter, IsOffset, offset_seconds, Names}
+use Rattle.bson_datetime.specs.Rfc3339.{Read, ◌>>=◌, two_digits, four_digits, digits_below, after, after_letter, day_number, date_part, time_part, fraction_part, fraction_value, hours_minutes, offset_part, denoted, Denotes}
+use Rattle.bson_datetime.specs.Shown.{two}
+use Rattle.bson_datetime.proofs.ReaderLemmas.{fraction_value-nil}
+use Rattle.bson_datetime.proofs.RoundTrip.{digits_below-pad2, date_part-text, time_part-text}
+
+-- a value read from the front of a text, and the text after it
+abbrev found : {A : Type 0} → A → List ℕ → Read A
+found x rest = Some (x, rest)
+
+un_some : {A : Type 0} (x y : A) → Some x ≡ Some y → x ≡ y
+un_some x y h = ap (λ o. unwrap_or o x) h
+
+-- the two steps of a reading that succeeds
+un_then : {A B : Type 0} (o : Option A) (f : A → Option B) (y : B) → o >>= f ≡ Some y → (x : A) × (o ≡ Some x) × (f x ≡ Some y)
+un_then None f y h = cc
+un_then (Some x) f y h = (x, refl, h)
+
+digit_of : (c : ℕ) → is_ascii_digit c ≡ true → IsAsciiDigit c
+digit_of c e =
+    let p = and_parts (nat_le 48 c) (nat_le c 57) e in
+    (grind (arith, nat_tests, p.0), grind (arith, nat_tests, p.1))
+
+digit_test : (c : ℕ) → IsAsciiDigit c → is_ascii_digit c ≡ true
+digit_test c is = grind (arith, nat_tests, is.0, is.1)
+
+-- ---- from what was read to the text
+
+two_digits-test : (a b : ℕ) (s : List ℕ) (n : ℕ) (rest : List ℕ) (t : Bool) → (is_ascii_digit a && is_ascii_digit b) ≡ t
+    → (if t then found ((a - 48) * 10 + (b - 48)) s else None) ≡ Some (n, rest) → (n < 100) × (a ∷ b ∷ s ≡ two n ++ rest)
+two_digits-test a b s n rest true e h =
+    let p = and_parts (is_ascii_digit a) (is_ascii_digit b) e in
+    let high = digit_of a p.0 in
+    let low = digit_of b p.1 in
+    let same = un_some _ _ h in
+    let value : (a - 48) * 10 + (b - 48) ≡ n = ap (λ r. r.0) same in
+    let first : 48 + n / 10 ≡ a = omega (arith, value, high.0, high.1, low.0, low.1) in
+    let second : 48 + n % 10 ≡ b = omega (arith, value, high.0, high.1, low.0, low.1) in
+    (omega (arith, value, high.0, high.1, low.0, low.1), rw (first, second) (ap (λ r. a ∷ b ∷ r.1) same))
+two_digits-test a b s n rest false e h = cc
+
+two_digits-read : (s : List ℕ) (r : ℕ × List ℕ) → two_digits s ≡ Some r → (r.0 < 100) × (s ≡ two r.0 ++ r.1)
+unfolding two_digits
+two_digits-read [] r h = cc
+two_digits-read (a ∷ []) r h = cc
+two_digits-read (a ∷ b ∷ s) r h = two_digits-test a b s r.0 r.1 (is_ascii_digit a && is_ascii_digit b) refl h
+
+-- two digits and then two more are four
+four_digits-text : (a b n : ℕ) (s t u rest : List ℕ) → a < 100 → b < 100 → s ≡ two a ++ t → t ≡ two b ++ u → a * 100 + b ≡ n → u ≡ rest
+    → (n < 10_000) × (s ≡ two (n / 100) ++ two (n % 100) ++ rest)
+four_digits-text a b n s t u rest ha hb first second value same =
+    let high : n / 100 ≡ a = omega arith in
+    let low : n % 100 ≡ b = omega arith in
+    (omega arith, rw (high, low) (first ∙ ap (λ q. two a ++ q) (second ∙ ap (λ q. two b ++ q) same)))
+
+four_digits-read : (s : List ℕ) (r : ℕ × List ℕ) → four_digits s ≡ Some r → (r.0 < 10_000) × (s ≡ two (r.0 / 100) ++ two (r.0 % 100) ++ r.1)
+unfolding four_digits
+four_digits-read s r h =
+    let century = un_then (two_digits s) _ r h in
+    let year = un_then (two_digits century.0.1) _ r century.2 in
+    let same = un_some _ _ year.2 in
+    let c = two_digits-read s century.0 century.1 in
+    let y = two_digits-read century.0.1 year.0 year.1 in
+    four_digits-text century.0.0 year.0.0 r.0 s century.0.1 year.0.1 r.1 c.0 y.0 c.1 y.1 (ap (λ q. q.0) same) (ap (λ q. q.1) same)
+
+digits_below-test : (bound : ℕ) (x r : ℕ × List ℕ) (t : Bool) → nat_le bound x.0 ≡ t → (if t then None else Some x) ≡ Some r → (r.0 < bound) × (x ≡ r)
+digits_below-test bound x r true e h = cc
+digits_below-test bound x r false e h =
+    let same = un_some x r h in
+    let below : x.0 < bound = grind (arith, nat_tests, e) in
+    (rw (← same) below, same)
+
+digits_below-read : (bound : ℕ) (s : List ℕ) (r : ℕ × List ℕ) → digits_below bound s ≡ Some r → (r.0 < bound) × (s ≡ two r.0 ++ r.1)
+unfolding digits_below
+digits_below-read bound s r h =
+    let n = un_then (two_digits s) _ r h in
+    let below = digits_below-test bound n.0 r (nat_le bound n.0.0) refl n.2 in
+    (below.0, rw (← below.1) (two_digits-read s n.0 n.1).1)
+
+after-test : (byte c : ℕ) (s rest : List ℕ) (t : Bool) → (c == byte) ≡ t → (if t then Some s else None) ≡ Some rest → c ∷ s ≡ byte ∷ rest
+after-test byte c s rest true e h =
+    let same : c ≡ byte = grind (arith, nat_tests, e) in
+    rw same (ap (λ q. byte ∷ q) (un_some s rest h))
+after-test byte c s rest false e h = cc
+
+after-read : (byte : ℕ) (s rest : List ℕ) → after byte s ≡ Some rest → s ≡ byte ∷ rest
+unfolding after
+after-read byte [] rest h = cc
+after-read byte (c ∷ s) rest h = after-test byte c s rest (c == byte) refl h
+
+letter-test : (upper c : ℕ) (t : Bool) → (c == upper) ≡ t → (t || (c == upper + 32)) ≡ true → IsLetter upper c
+letter-test upper c true e h = inl (grind (arith, nat_tests, e))
+letter-test upper c false e h = inr (grind (arith, nat_tests, h))
+
+letter_of : (upper c : ℕ) → ((c == upper) || (c == upper + 32)) ≡ true → IsLetter upper c
+letter_of upper c e = letter-test upper c (c == upper) refl e
+
+after_letter-test : (upper c : ℕ) (s rest : List ℕ) (t : Bool) → ((c == upper) || (c == upper + 32)) ≡ t → (if t then Some s else None) ≡ Some rest
+    → IsLetter upper c × (s ≡ rest)
+after_letter-test upper c s rest true e h = (letter_of upper c e, un_some s rest h)
+after_letter-test upper c s rest false e h = cc
+
+after_letter-read : (upper : ℕ) (s rest : List ℕ) → after_letter upper s ≡ Some rest → (c : ℕ) × IsLetter upper c × (s ≡ c ∷ rest)
+unfolding after_letter
+after_letter-read upper [] rest h = cc
+after_letter-read upper (c ∷ s) rest h =
+    let read = after_letter-test upper c s rest ((c == upper) || (c == upper + 32)) refl h in
+    (c, read.0, ap (λ q. c ∷ q) read.1)
+
+-- a day that the calendar has
+day_number-test : (y m d : ℕ) (z : ℤ) (t : Bool) → (nat_le 1 m && nat_le m 12 && nat_le 1 d && nat_le d (days_in_month (pos y) m)) ≡ t
+    → (if t then Some (days_from_civil (pos y) m d) else None) ≡ Some z → y < 10_000 → IsCivilDate (pos y) m d × (days_from_civil (pos y) m d ≡ z)
+day_number-test y m d z true e h small =
+    let a = and_parts (nat_le 1 m && nat_le m 12 && nat_le 1 d) (nat_le d (days_in_month (pos y) m)) e in
+    let b = and_parts (nat_le 1 m && nat_le m 12) (nat_le 1 d) a.0 in
+    let c = and_parts (nat_le 1 m) (nat_le m 12) b.0 in
+    let from_1 : 1 ≤ m = grind (arith, nat_tests, c.0) in
+    let to_12 : m ≤ 12 = grind (arith, nat_tests, c.1) in
+    let first : 1 ≤ d = grind (arith, nat_tests, b.1) in
+    let last : d ≤ days_in_month (pos y) m = grind (arith, nat_tests, a.1) in
+    (((omega (arith, signed_arith), omega (arith, signed_arith)), (from_1, to_12), (first, last)), un_some _ _ h)
+day_number-test y m d z false e h small = cc
+
+day_number-read : (y m d : ℕ) (z : ℤ) → day_number y m d ≡ Some z → y < 10_000 → IsCivilDate (pos y) m d × (days_from_civil (pos y) m d ≡ z)
+unfolding day_number
+day_number-read y m d z h small = day_number-test y m d z (nat_le 1 m && nat_le m 12 && nat_le 1 d && nat_le d (days_in_month (pos y) m)) refl h small
+
+record DateRead (s : List ℕ) (z : ℤ) (rest : List ℕ) : Type 0 where
+  year : ℕ
+  month : ℕ
+  day : ℕ
+  small : year < 10_000
+  exists : IsCivilDate (pos year) month day
+  value : days_from_civil (pos year) month day ≡ z
+  text : s ≡ two (year / 100) ++ two (year % 100) ++ 45 ∷ two month ++ 45 ∷ two day ++ rest
+
+date_part-read : (s : List ℕ) (r : ℤ × List ℕ) → date_part s ≡ Some r → DateRead s r.0 r.1
+unfolding date_part
+date_part-read s r h =
+    let y = un_then (four_digits s) _ r h in
+    let a = un_then (after 45 y.0.1) _ r y.2 in
+    let m = un_then (two_digits a.0) _ r a.2 in
+    let b = un_then (after 45 m.0.1) _ r m.2 in
+    let d = un_then (two_digits b.0) _ r b.2 in
+    let n = un_then (day_number y.0.0 m.0.0 d.0.0) _ r d.2 in
+    let same = un_some _ _ n.2 in
+    let year = four_digits-read s y.0 y.1 in
+    let month = two_digits-read a.0 m.0 m.1 in
+    let day = two_digits-read b.0 d.0 d.1 in
+    let number = day_number-read y.0.0 m.0.0 d.0.0 n.0 n.1 year.0 in
+    record {
+      year = y.0.0;
+      month = m.0.0;
+      day = d.0.0;
+      small = year.0;
+      exists = number.0;
+      value = number.1 ∙ ap (λ q. q.0) same;
+      text = year.1 ∙ ap (λ t. two (y.0.0 / 100) ++ two (y.0.0 % 100) ++ t) (after-read 45 y.0.1 a.0 a.1
+          ∙ ap (λ t. 45 ∷ t) (month.1 ∙ ap (λ t. two m.0.0 ++ t) (after-read 45 m.0.1 b.0 b.1
+          ∙ ap (λ t. 45 ∷ t) (day.1 ∙ ap (λ t. two d.0.0 ++ t) (ap (λ q. q.1) same)))));
+    }
+
+record TimeRead (s : List ℕ) (n : ℕ) (rest : List ℕ) : Type 0 where
+  hour : ℕ
+  minute : ℕ
+  second : ℕ
+  hour_in : hour < 24
+  minute_in : minute < 60
+  second_in : second < 60
+  value : hour * 3600 + minute * 60 + second ≡ n
+  text : s ≡ two hour ++ 58 ∷ two minute ++ 58 ∷ two second ++ rest
+
+time_part-read : (s : List ℕ) (r : ℕ × List ℕ) → time_part s ≡ Some r → TimeRead s r.0 r.1
+unfolding time_part
+time_part-read s r h =
+    let x = un_then (digits_below 24 s) _ r h in
+    let a = un_then (after 58 x.0.1) _ r x.2 in
+    let y = un_then (digits_below 60 a.0) _ r a.2 in
+    let b = un_then (after 58 y.0.1) _ r y.2 in
+    let z = un_then (digits_below 60 b.0) _ r b.2 in
+    let same = un_some _ _ z.2 in
+    let hour = digits_below-read 24 s x.0 x.1 in
+    let minute = digits_below-read 60 a.0 y.0 y.1 in
+    let second = digits_below-read 60 b.0 z.0 z.1 in
+    record {
+      hour = x.0.0;
+      minute = y.0.0;
+      second = z.0.0;
+      hour_in = hour.0;
+      minute_in = minute.0;
+      second_in = second.0;
+      value = ap (λ q. q.0) same;
+      text = hour.1 ∙ ap (λ t. two x.0.0 ++ t) (after-read 58 x.0.1 a.0 a.1
+          ∙ ap (λ t. 58 ∷ t) (minute.1 ∙ ap (λ t. two y.0.0 ++ t) (after-read 58 y.0.1 b.0 b.1
+          ∙ ap (λ t. 58 ∷ t) (second.1 ∙ ap (λ t. two z.0.0 ++ t) (ap (λ q. q.1) same)))));
+    }
+
+-- the digits that a text begins with
+prefix-digits : (s : List ℕ) → All IsAsciiDigit (take (prefix_len is_ascii_digit s) s)
+prefix-digits s = λ k d before.
+    let within : k < prefix_len is_ascii_digit s = omega (arith, length-prefix_len is_ascii_digit s) in
+    let passes = prefix_len_passes is_ascii_digit s k d within in
+    rw (get_or-take (prefix_len is_ascii_digit s) s k d within) (digit_of (get_or s k d) passes)
+
+fraction_text-some : (ds : List ℕ) → 0 < length ds → fraction_text ds ≡ 46 ∷ ds
+fraction_text-some [] h = absurd (omega arith)
+fraction_text-some (d ∷ ds) h = refl
+
+record FractionRead (s : List ℕ) (n : ℕ) (rest : List ℕ) : Type 0 where
+  digits : List ℕ
+  are : All IsAsciiDigit digits
+  value : fraction_value 9 digits ≡ n
+  text : s ≡ fraction_text digits ++ rest
+
+no_digits : All IsAsciiDigit []
+no_digits = λ k d before. absurd (omega (arith, before))
+
+fraction-none : (s : List ℕ) (r : ℕ × List ℕ) → found 0 s ≡ Some r → FractionRead s r.0 r.1
+fraction-none s r h =
+    let same = un_some _ _ h in
+    record { digits = []; are = no_digits; value = fraction_value-nil 9 ∙ ap (λ q. q.0) same; text = ap (λ q. q.1) same }
+
+fraction-digits : (s : List ℕ) (r : ℕ × List ℕ) (t : Bool) → (prefix_len is_ascii_digit s == 0) ≡ t
+    → (if t then None else found (fraction_value 9 (take (prefix_len is_ascii_digit s) s)) (drop (prefix_len is_ascii_digit s) s)) ≡ Some r
+    → FractionRead (46 ∷ s) r.0 r.1
+fraction-digits s r true e h = cc
+fraction-digits s r false e h =
+    let len = prefix_len is_ascii_digit s in
+    let same = un_some _ _ h in
+    let some : 0 < len = grind (arith, nat_tests, e) in
+    let long : 0 < length (take len s) = omega (arith, some, length-prefix_len is_ascii_digit s) in
+    record {
+      digits = take len s;
+      are = prefix-digits s;
+      value = ap (λ q. q.0) same;
+      text = rw (fraction_text-some (take len s) long) (ap (λ t. 46 ∷ t) (sym (take-append-drop len s) ∙ ap (λ t. take len s ++ t) (ap (λ q. q.1) same)));
+    }
+
+fraction-test : (c : ℕ) (s : List ℕ) (r : ℕ × List ℕ) (t : Bool) → (c == 46) ≡ t
+    → (if t then (if prefix_len is_ascii_digit s == 0 then None else found (fraction_value 9 (take (prefix_len is_ascii_digit s) s)) (drop (prefix_len is_ascii_digit s) s)) else found 0 (c ∷ s)) ≡ Some r
+    → FractionRead (c ∷ s) r.0 r.1
+fraction-test c s r true e h =
+    let point : c ≡ 46 = grind (arith, nat_tests, e) in
+    rw point (fraction-digits s r (prefix_len is_ascii_digit s == 0) refl h)
+fraction-test c s r false e h = fraction-none (c ∷ s) r h
+
+fraction_part-read : (s : List ℕ) (r : ℕ × List ℕ) → fraction_part s ≡ Some r → FractionRead s r.0 r.1
+unfolding fraction_part
+fraction_part-read [] r h = fraction-none [] r h
+fraction_part-read (c ∷ s) r h = fraction-test c s r (c == 46) refl h
+
+hours_minutes-read : (s : List ℕ) (r : ℕ × List ℕ) → hours_minutes s ≡ Some r
+    → (h : ℕ) × (m : ℕ) × (h < 24) × (m < 60) × (h * 3600 + m * 60 ≡ r.0) × (s ≡ two h ++ 58 ∷ two m ++ r.1)
+unfolding hours_minutes
+hours_minutes-read s r h =
+    let x = un_then (digits_below 24 s) _ r h in
+    let a = un_then (after 58 x.0.1) _ r x.2 in
+    let y = un_then (digits_below 60 a.0) _ r a.2 in
+    let same = un_some _ _ y.2 in
+    let hour = digits_below-read 24 s x.0 x.1 in
+    let minute = digits_below-read 60 a.0 y.0 y.1 in (
+      x.0.0,
+      y.0.0,
+      hour.0,
+      minute.0,
+      ap (λ q. q.0) same,
+      hour.1 ∙ ap (λ t. two x.0.0 ++ t) (after-read 58 x.0.1 a.0 a.1 ∙ ap (λ t. 58 ∷ t) (minute.1 ∙ ap (λ t. two y.0.0 ++ t) (ap (λ q. q.1) same))),
+    )
+
+un_map : {A B : Type 0} (f : A → B) (o : Option A) (y : B) → option_map f o ≡ Some y → (x : A) × (o ≡ Some x) × (f x ≡ y)
+un_map f None y h = cc
+un_map f (Some x) y h = (x, refl, un_some _ _ h)
+
+abbrev ahead_by : ℕ × List ℕ → ℤ × List ℕ
+ahead_by n = (pos n.0, n.1)
+
+abbrev behind_by : ℕ × List ℕ → ℤ × List ℕ
+behind_by n = (neg_ℤ (pos n.0), n.1)
+
+record OffsetRead (s : List ℕ) (z : ℤ) (rest : List ℕ) : Type 0 where
+  offset : Offset
+  is : IsOffset offset
+  value : offset_seconds offset ≡ z
+  text : s ≡ offset_text offset ++ rest
+
+offset-behind : (c : ℕ) (s : List ℕ) (r : ℤ × List ℕ) (t : Bool) → (c == 45) ≡ t
+    → (if t then option_map behind_by (hours_minutes s) else None) ≡ Some r → OffsetRead (c ∷ s) r.0 r.1
+offset-behind c s r true e h =
+    let sign : c ≡ 45 = grind (arith, nat_tests, e) in
+    let n = un_map behind_by (hours_minutes s) r h in
+    let p = hours_minutes-read s n.0 n.1 in
+    record {
+      offset = behind p.0 p.1;
+      is = (p.2, p.3);
+      value = ap (λ k. neg_ℤ (pos k)) p.4 ∙ ap (λ q. q.0) n.2;
+      text = rw sign (ap (λ t. 45 ∷ t) (p.5 ∙ ap (λ t. two p.0 ++ 58 ∷ two p.1 ++ t) (ap (λ q. q.1) n.2)));
+    }
+offset-behind c s r false e h = cc
+
+offset-ahead : (c : ℕ) (s : List ℕ) (r : ℤ × List ℕ) (t : Bool) → (c == 43) ≡ t
+    → (if t then option_map ahead_by (hours_minutes s) else if c == 45 then option_map behind_by (hours_minutes s) else None) ≡ Some r
+    → OffsetRead (c ∷ s) r.0 r.1
+offset-ahead c s r true e h =
+    let sign : c ≡ 43 = grind (arith, nat_tests, e) in
+    let n = un_map ahead_by (hours_minutes s) r h in
+    let p = hours_minutes-read s n.0 n.1 in
+    record {
+      offset = ahead p.0 p.1;
+      is = (p.2, p.3);
+      value = ap (λ k. pos k) p.4 ∙ ap (λ q. q.0) n.2;
+      text = rw sign (ap (λ t. 43 ∷ t) (p.5 ∙ ap (λ t. two p.0 ++ 58 ∷ two p.1 ++ t) (ap (λ q. q.1) n.2)));
+    }
+offset-ahead c s r false e h = offset-behind c s r (c == 45) refl h
+
+offset-zulu : (c : ℕ) (s : List ℕ) (r : ℤ × List ℕ) (t : Bool) → ((c == 90) || (c == 122)) ≡ t
+    → (if t then found (pos 0) s else if c == 43 then option_map ahead_by (hours_minutes s) else if c == 45 then option_map behind_by (hours_minutes s) else None) ≡ Some r
+    → OffsetRead (c ∷ s) r.0 r.1
+offset-zulu c s r true e h =
+    let same = un_some _ _ h in
+    record { offset = zulu c; is = letter_of 90 c e; value = ap (λ q. q.0) same; text = ap (λ q. c ∷ q.1) same }
+offset-zulu c s r false e h = offset-ahead c s r (c == 43) refl h
+
+offset_part-read : (s : List ℕ) (r : ℤ × List ℕ) → offset_part s ≡ Some r → OffsetRead s r.0 r.1
+unfolding offset_part
+offset_part-read [] r h = cc
+offset_part-read (c ∷ s) r h = offset-zulu c s r ((c == 90) || (c == 122)) refl h
+
+end-test : (s : List ℕ) (x z : ℤ) (t : Bool) → (length s == 0) ≡ t → (if t then Some x else None) ≡ Some z → (s ≡ []) × (x ≡ z)
+end-test [] x z true e h = (refl, un_some x z h)
+end-test (c ∷ s) x z true e h =
+    let none : length (c ∷ s) ≡ 0 = grind (arith, nat_tests, e) in
+    absurd (omega (arith, none))
+end-test s x z false e h = cc
+
+-- a text that denotes a moment has parts that name it
+denoted-names : (text : List ℕ) (ms : ℤ) → denoted text ≡ Some ms → Names text ms
+unfolding denoted
+denoted-names text ms h =
+    let x = un_then (date_part text) _ ms h in
+    let a = un_then (after_letter 84 x.0.1) _ ms x.2 in
+    let y = un_then (time_part a.0) _ ms a.2 in
+    let f = un_then (fraction_part y.0.1) _ ms y.2 in
+    let o = un_then (offset_part f.0.1) _ ms f.2 in
+    let end = end-test o.0.1 _ ms (length o.0.1 == 0) refl o.2 in
+    let date = date_part-read text x.0 x.1 in
+    let letter = after_letter-read 84 x.0.1 a.0 a.1 in
+    let time = time_part-read a.0 y.0 y.1 in
+    let fraction = fraction_part-read y.0.1 f.0 f.1 in
+    let offset = offset_part-read f.0.1 o.0 o.1 in
+    record {
+      parts = record {
+        year = date.year;
+        month = date.month;
+        day = date.day;
+        separator = letter.0;
+        hour = time.hour;
+        minute = time.minute;
+        second = time.second;
+        fraction = fraction.digits;
+        offset = offset.offset;
+      };
+      in_ranges = record {
+        year = date.small;
+        date = date.exists;
+        separator = letter.1;
+        hour = time.hour_in;
+        minute = time.minute_in;
+        second = time.second_in;
+        fraction = fraction.are;
+        offset = offset.is;
+      };
+      written = date.text ∙ ap (λ t. two (date.year / 100) ++ two (date.year % 100) ++ 45 ∷ two date.month ++ 45 ∷ two date.day ++ t) (letter.2
+          ∙ ap (λ t. letter.0 ∷ t) (time.text ∙ ap (λ t. two time.hour ++ 58 ∷ two time.minute ++ 58 ∷ two time.second ++ t) (fraction.text
+          ∙ ap (λ t. fraction_text fraction.digits ++ t) (offset.text ∙ ap (λ t. offset_text offset.offset ++ t) end.0 ∙ append-nil _))));
+      moment = rw (date.value, time.value, fraction.value, offset.value) (sym end.1);
+    }
+
+-- ---- from the parts to what is read
+
+date-parts : (y m d : ℕ) (rest : List ℕ) → y < 10_000 → IsCivilDate (pos y) m d
+    → date_part (two (y / 100) ++ two (y % 100) ++ 45 ∷ two m ++ 45 ∷ two d ++ rest) ≡ Some (days_from_civil (pos y) m d, rest)
+date-parts y m d rest small is =
+    let date : Date = record { year = pos y; month = m; day = d; year_in = is.0; month_in = is.1; day_in = is.2 } in
+    date_part-text date y rest refl small
+
+time-parts : (h m s : ℕ) (rest : List ℕ) → h < 24 → m < 60 → s < 60 → time_part (two h ++ 58 ∷ two m ++ 58 ∷ two s ++ rest) ≡ Some (h * 3600 + m * 60 + s, rest)
+time-parts h m s rest hour minute second =
+    let time : Time = record { hour = h; minute = m; second = s; subsec_nanosecond = 0; hour_in = hour; minute_in = minute; second_in = second; subsec_in = omega arith } in
+    time_part-text time rest
+
+letter-parts : (upper c : ℕ) (rest : List ℕ) → IsLetter upper c → after_letter upper (c ∷ rest) ≡ Some rest
+unfolding after_letter
+letter-parts upper c rest (inl e) =
+    let test : (c == upper) ≡ true = grind (arith, nat_tests, e) in
+    rw test
+letter-parts upper c rest (inr e) =
+    let first : (c == upper) ≡ false = grind (arith, nat_tests, e) in
+    let second : (c == upper + 32) ≡ true = grind (arith, nat_tests, e) in
+    rw (first, second)
+
+-- so many digits, and then a byte that is none
+prefix-all : (ds : List ℕ) (c : ℕ) (rest : List ℕ) → All IsAsciiDigit ds → is_ascii_digit c ≡ false → prefix_len is_ascii_digit (ds ++ c ∷ rest) ≡ length ds
+prefix-all [] c rest are none = rw none
+prefix-all (d ∷ ds) c rest are none =
+    let first : IsAsciiDigit d = are 0 0 (omega arith) in
+    let test = digit_test d first in
+    let more : All IsAsciiDigit ds = λ k x before. are (suc k) x (omega (arith, before)) in
+    let ind = prefix-all ds c rest more none in
+    rw test (omega (arith, ind))
+
+fraction-some : (all : List ℕ) (c : ℕ) (rest : List ℕ) → 0 < length all → All IsAsciiDigit all → is_ascii_digit c ≡ false
+    → fraction_part (46 ∷ all ++ c ∷ rest) ≡ Some (fraction_value 9 all, c ∷ rest)
+unfolding fraction_part
+fraction-some all c rest long are none =
+    let some : (length all == 0) ≡ false = grind (arith, nat_tests) in
+    rw (prefix-all all c rest are none, some, take_at all (c ∷ rest) (length all) refl, drop_at all (c ∷ rest) (length all) refl) refl
+
+fraction-parts : (ds : List ℕ) (c : ℕ) (rest : List ℕ) → All IsAsciiDigit ds → is_ascii_digit c ≡ false → (c == 46) ≡ false
+    → fraction_part (fraction_text ds ++ c ∷ rest) ≡ Some (fraction_value 9 ds, c ∷ rest)
+unfolding fraction_part
+fraction-parts [] c rest are none point = rw point (ap (λ n. Some (n, c ∷ rest)) (sym (fraction_value-nil 9)))
+fraction-parts (d ∷ ds) c rest are none point = fraction-some (d ∷ ds) c rest (omega arith) are none
+
+offset-parts : (o : Offset) → IsOffset o → offset_part (offset_text o) ≡ Some (offset_seconds o, [])
+unfolding offset_part hours_minutes after
+offset-parts (zulu c) (inl e) = rw e refl
+offset-parts (zulu c) (inr e) = rw e refl
+offset-parts (ahead h m) is = rw (digits_below-pad2 24 h (58 ∷ two m) is.0 (omega arith), digits_below-pad2 60 m [] is.1 (omega arith)) refl
+offset-parts (behind h m) is = rw (digits_below-pad2 24 h (58 ∷ two m) is.0 (omega arith), digits_below-pad2 60 m [] is.1 (omega arith)) refl
+
+-- the fraction before an offset
+fraction-offset : (ds : List ℕ) (o : Offset) → All IsAsciiDigit ds → IsOffset o → fraction_part (fraction_text ds ++ offset_text o) ≡ Some (fraction_value 9 ds, offset_text o)
+fraction-offset ds (zulu c) are (inl e) = rw e (fraction-parts ds 90 [] are refl refl)
+fraction-offset ds (zulu c) are (inr e) = rw e (fraction-parts ds 122 [] are refl refl)
+fraction-offset ds (ahead h m) are is = fraction-parts ds 43 (two h ++ 58 ∷ two m) are refl refl
+fraction-offset ds (behind h m) are is = fraction-parts ds 45 (two h ++ 58 ∷ two m) are refl refl
+
+names-denoted : (text : List ℕ) (ms : ℤ) → Names text ms → denoted text ≡ Some ms
+unfolding denoted
+names-denoted text ms n =
+    let p = n.parts in
+    let r = n.in_ranges in
+    let after_second = fraction_text p.fraction ++ offset_text p.offset in
+    let after_separator = two p.hour ++ 58 ∷ two p.minute ++ 58 ∷ two p.second ++ after_second in
+    rw (
+      n.written,
+      date-parts p.year p.month p.day (p.separator ∷ after_separator) r.year r.date,
+      letter-parts 84 p.separator after_separator r.separator,
+      time-parts p.hour p.minute p.second after_second r.hour r.minute r.second,
+      fraction-offset p.fraction p.offset r.fraction r.offset,
+      offset-parts p.offset r.offset,
+    ) (ap (λ z. Some z) (sym n.moment))
+
+-- a text denotes a moment exactly if its parts name it
+pub denotes-names : (text : List ℕ) (ms : ℤ) → Denotes text ms ↔ Names text ms
+denotes-names text ms = (denoted-names text ms, names-denoted text ms)
