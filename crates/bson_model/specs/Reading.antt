@@ -9,25 +9,25 @@ use Rattle.bson_leaf.specs.Rows.{single_at}
 use Rattle.bson_leaf.specs.Scalar.{Scalar, null, boolean, text, code}
 use Rattle.bson_leaf.specs.Shapes.{on_text}
 use Rattle.bson_leaf.specs.Table.{wrapper_of, has_wrapper}
-use Rattle.bson_model.specs.Doc.{Doc, scalar, code_scope, array, document, Docs, no_docs, doc, Pairs, no_pairs, pair}
+use Rattle.bson_model.specs.Value.{Value, scalar, code_scope, array, document, Values, no_values, value, Pairs, no_pairs, pair}
 
-abbrev pub valued : Result Scalar Fault → Result Doc Fault
+abbrev pub valued : Result Scalar Fault → Result Value Fault
 valued r = r >>= λ s. Ok (scalar s)
 
-abbrev pub coded : List ℕ → Option Pairs → Doc
+abbrev pub coded : List ℕ → Option Pairs → Value
 coded s None = scalar (code s)
 coded s (Some ps) = code_scope s ps
 
 -- code, with the scope that was read
-abbrev pub scoped : List ℕ → Result (Option Pairs) Fault → Result Doc Fault
+abbrev pub scoped : List ℕ → Result (Option Pairs) Fault → Result Value Fault
 scoped s scope = scope >>= λ ps. Ok (coded s ps)
 
 -- the only wrapper of two keys
-abbrev pub code_at : List ℕ → Data → List ℕ → Result (Option Pairs) Fault → Result Doc Fault
+abbrev pub code_at : List ℕ → Data → List ℕ → Result (Option Pairs) Fault → Result Value Fault
 code_at k d l scope = if bytes_eq k (codes "$code") && bytes_eq l (codes "$scope") then on_text d (λ s. scoped s scope) else Err bad
 
 abbrev mutual
-  pub reads : Data → Result Doc Fault
+  pub reads : Data → Result Value Fault
   reads tree.null = Ok (scalar null)
   reads (tree.boolean b) = Ok (scalar (boolean b))
   reads (tree.number n) = valued (number_read n)
@@ -35,9 +35,9 @@ abbrev mutual
   reads (tree.array ds) = reads_items ds >>= λ vs. Ok (array vs)
   reads (tree.object ms) = if has_wrapper ms then reads_wrapper ms else (reads_members ms >>= λ ps. Ok (document ps))
 
-  pub reads_items : Items → Result Docs Fault
-  reads_items no_items = Ok no_docs
-  reads_items (item d ds) = reads d >>= λ v. reads_items ds >>= λ vs. Ok (doc v vs)
+  pub reads_items : Items → Result Values Fault
+  reads_items no_items = Ok no_values
+  reads_items (item d ds) = reads d >>= λ v. reads_items ds >>= λ vs. Ok (value v vs)
 
   -- the values of a map by ascending key, whose own keys are not tested
   pub reads_members : Members → Result Pairs Fault
@@ -45,7 +45,7 @@ abbrev mutual
   reads_members (member k d ms) = reads d >>= λ v. reads_members ms >>= λ ps. Ok (pair k v ps)
 
   -- a map with a wrapper key
-  pub reads_wrapper : Members → Result Doc Fault
+  pub reads_wrapper : Members → Result Value Fault
   reads_wrapper no_members = Err bad
   reads_wrapper (member k d no_members) = valued (single_at (wrapper_of k) d)
   reads_wrapper (member k d (member l e no_members)) = code_at k d l (reads_scope e)
