@@ -1,5 +1,9 @@
-//! The scalar types of BSON 1.1: tags and subtypes, object ids, UUIDs, binaries and the small kinds.
+//! The scalar types of BSON 1.1 and what their bytes and texts mean: the tags of elements and the subtypes of
+//! binaries, object ids, UUIDs in four byte orders, binaries and the vectors that they hold, and the small kinds.
 //! Dates and decimals stand in crates of their own and are named here too.
+//!
+//! In reading order: `spec` (tags and subtypes), `oid`, `uuid_value` (the library's `uuid`), `binary` (base64, UUIDs
+//! in binaries), `vector` and `packed` (vectors and their bytes), `timestamp`, `regex`, `db_pointer`.
 #![tactic(auto)]
 
 pub mod binary;

@@ -88,7 +88,7 @@ impl ObjectId {
             return Err(length_error(alloc, text));
         }
         match <[u8; 12] as FromHex>::from_hex(text) {
-            Ok(bytes) => Ok(ObjectId { bytes }),
+            Ok(bytes) => Ok(ObjectId::from_bytes(bytes)),
             Err(_) => Err(digit_error(alloc, text)),
         }
     }
@@ -122,7 +122,7 @@ impl From<[u8; 12]> for ObjectId {
     ghost from_gives = { λ bytes id. id ≡ bytes };
 
     fn from(bytes: [u8; 12]) -> ObjectId {
-        ObjectId { bytes }
+        ObjectId::from_bytes(bytes)
     }
 }
 

@@ -67,7 +67,7 @@ impl PackedBitVector {
         ensures padding { IfOk result (λ v. packed_padding v ≡ packed_padding self.now) }
     {
         Ok(PackedBitVector {
-            bytes: Vec::from_slice(alloc, self.bytes.as_slice())?,
+            bytes: Vec::from_slice(alloc, self.as_bytes())?,
             padding: self.padding,
         })
     }

@@ -212,3 +212,14 @@ impl fmt::LowerHex for BinarySubtype {
         fmt::LowerHex::fmt(&u8::from(*self), f)
     }
 }
+
+// What `{:x}` asks for.
+impl fmt::HasDigits for BinarySubtype {
+    ghost use Rattle.bson_scalar.specs.Subtype.{subtype_byte};
+
+    ghost word = { λ s. Some (subtype_byte s) };
+
+    fn bits(self) -> (u64, u64) {
+        (0, u8::from(self) as u64)
+    }
+}
