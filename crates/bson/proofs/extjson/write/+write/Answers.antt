@@ -1,0 +1,90 @@
+use Rattle.std.proofs.Common.{rules, ◌≡◌, ℕ, ◌∷◌, ◌++◌, [], List, map, length, refl, sym, ap, ◌∙◌, subst, string_bytes, Ok, Vec, String, Global, arith, append_assoc}
+use Rattle.std.specs.Vec.Iter.{into_iter_items, into_iter_len}
+use Rattle.std.proofs.lemmas.Result.{err_from_is_err_and}
+use Rattle.serde_json.specs.Data.{Members, no_members, put}
+use Rattle.serde_json.specs.View.{view, items_view, members_view}
+use Rattle.serde_json.specs.declared.value.Value.{Value}
+use Rattle.serde_json.proofs.Views.{members_view-insert_entry}
+use Rattle.bson.specs.View.{bson_view, values_view, pairs_view, document_view}
+use Rattle.bson_model.specs.Writing.{writes, writes_items, writes_pairs, InRange, ItemsInRange, PairsInRange}
+use Rattle.bson.specs.declared.bson.Bson.{Bson}
+use Rattle.bson.proofs.Onto.{Entry}
+use Rattle.bson.proofs.OntoTree.{onto_items, onto_members, onto_items-ok, items_stop, items_step, onto_members-start, members_stop, members_step}
+use Rattle.bson.proofs.Seen.{document_view-pairs}
+use Rattle.bson.proofs.extjson.write.+write.Goals as goal
+
+nothing_left : {X : Type 0} (l : List X) → length l ≡ 0 → l ≡ []
+nothing_left [] h = refl
+nothing_left (x ∷ xs) h = absurd (omega arith)
+
+map-snoc : (xs : List Value) (x : Value) → map view (xs ++ x ∷ []) ≡ map view xs ++ view x ∷ []
+map-snoc [] x = refl
+map-snoc (y ∷ xs) x = ap (λ l. view y ∷ l) (map-snoc xs x)
+
+pub write_pairs-loop-key-init : goal.write_pairs-loop-key-init
+write_pairs-loop-key-init t c =
+    let none : c.new-members.result.entries ≡ [] = c.new-members.ensures.empty in
+    let all = c.args.document.pairs in
+    let start : c.into_iter-key-iterator.result ≡ all = c.into_iter-key-iterator.ensures.into_iter_gives ∙ c.into_pairs-key-items.ensures.pairs in
+    record {
+      split = ([], sym start);
+      written =
+          (λ i. onto_members c.args.form (start i) (members_view (none i)))
+          ∙ onto_members-start c.args.form all c.into_pairs-key-items.ensures.distinct ∙ ap (writes_pairs c.args.form) (sym (document_view-pairs c.args.document));
+      ranged = λ h. subst PairsInRange (sym (document_view-pairs c.args.document)) (subst (λ (xs : List Entry). PairsInRange (pairs_view xs)) start h);
+    }
+
+pub write_pairs-loop-key-preserved : goal.write_pairs-loop-key-preserved
+write_pairs-loop-key-preserved t c =
+    let total = writes_pairs c.args.form (document_view c.args.document) in
+    let steps = c.in-Some.ensures.steps in
+    let k = string_bytes c.in-Some.key in
+    let x : Entry = (k, c.in-Some.value) in
+    let f = c.loop-key.invariant.split in
+    let ms = members_view c.loop-key.members.entries in
+    let now = subst (λ (xs : List Entry). onto_members c.args.form xs ms ≡ total) steps c.loop-key.invariant.written in
+    record {
+      split = (f.0 ++ x ∷ [], f.1 ∙ ap (λ r. f.0 ++ r) steps ∙ sym (append_assoc f.0 (x ∷ []) c.next.new.self));
+      written =
+          let put_there = ap members_view c.in_ok-insert.ensures.entries ∙ members_view-insert_entry c.loop-key.members.entries c.in-Some.key c.in_ok-written.written in
+          ap (onto_members c.args.form c.next.new.self) put_there ∙ members_step c.args.form c.next.new.self x (view c.in_ok-written.written) ms total c.in_ok-written.ensures.written now;
+      ranged = λ h. c.loop-key.invariant.ranged (subst (λ (xs : List Entry). PairsInRange (pairs_view xs)) (sym steps) (c.in_ok-written.ensures.ranged, h));
+    }
+
+pub write_items-returns-in_err-write-clause-written : goal.write_items-returns-in_err-write-clause-written
+write_items-returns-in_err-write-clause-written t c =
+    let p = err_from_is_err_and c.from_residual.result c.from_residual.ensures.1 in
+    let steps : into_iter_items c.loop-value.value-iterator ≡ c.in-Some.value ∷ into_iter_items c.next.new.self = c.in-Some.ensures.steps.0 in
+    let total = writes_items c.args.form (values_view c.args.values.items) in
+    let done = map view c.loop-value.items.items in
+    let now = subst (λ (xs : List Bson). onto_items done (writes_items c.args.form (values_view xs)) ≡ total) steps c.loop-value.invariant.written in
+    rw (p.1, p.2) (items_stop c.args.form _ done (bson_view c.in-Some.value) (values_view (into_iter_items c.next.new.self)) total c.in_err-write.ensures.written now)
+
+pub write_items-loop-value-preserved : goal.write_items-loop-value-preserved
+write_items-loop-value-preserved t c =
+    let steps : into_iter_items c.loop-value.value-iterator ≡ c.in-Some.value ∷ into_iter_items c.next.new.self = c.in-Some.ensures.steps.0 in
+    let total = writes_items c.args.form (values_view c.args.values.items) in
+    let done = map view c.loop-value.items.items in
+    let now = subst (λ (xs : List Bson). onto_items done (writes_items c.args.form (values_view xs)) ≡ total) steps c.loop-value.invariant.written in
+    record {
+      left =
+          let was = c.loop-value.invariant.left in
+          let gone = c.in-Some.ensures.steps.1 in
+          let short = ap length steps in
+          omega arith;
+      written =
+          let pushed = ap (map view) c.in_ok-push.ensures.items ∙ map-snoc c.loop-value.items.items c.in_ok-write.field-0 in
+          ap (λ xs. onto_items xs (writes_items c.args.form (values_view (into_iter_items c.next.new.self)))) pushed
+          ∙ items_step c.args.form done (bson_view c.in-Some.value) (view c.in_ok-write.field-0) (values_view (into_iter_items c.next.new.self)) total c.in_ok-write.ensures.written now;
+      ranged = λ h. c.loop-value.invariant.ranged (subst (λ (xs : List Bson). ItemsInRange (values_view xs)) (sym steps) (c.in_ok-write.ensures.ranged, h));
+    }
+
+pub write_items-returns-clause-written : goal.write_items-returns-clause-written
+write_items-returns-clause-written t c =
+    let at = c.loop-value in
+    let none = c.in-None.ensures.steps in
+    let empty : into_iter_items at.value-iterator ≡ [] = nothing_left _ (sym at.invariant.left ∙ none.0) in
+    let total = writes_items c.args.form (values_view c.args.values.items) in
+    let done = map view at.items.items in
+    let now = subst (λ (xs : List Bson). onto_items done (writes_items c.args.form (values_view xs)) ≡ total) empty at.invariant.written in
+    sym now ∙ onto_items-ok done

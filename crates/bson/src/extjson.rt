@@ -1,0 +1,8 @@
+//! MongoDB Extended JSON v2.
+pub mod de;
+mod leaf;
+mod read;
+pub mod ser;
+mod write;
+
+pub use bson_leaf::write_error::WriteError;

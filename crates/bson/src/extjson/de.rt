@@ -1,0 +1,58 @@
+//! Values from trees.
+ghost use Rattle.std.specs.Prelude.{◌≡◌, IfOk, IfErr, Ok, Err};
+ghost use Rattle.serde_json.specs.View.{view, members_view};
+ghost use Rattle.serde_json.specs.Data.{object};
+ghost use Rattle.bson_model.specs.Value as model;
+ghost use Rattle.bson_model.specs.Value.{Pairs};
+ghost use Rattle.bson_leaf.specs.Faults.{Gives};
+ghost use Rattle.bson_model.specs.Means.{Means, MeansDocument};
+ghost use Rattle.bson_model.specs.Writing.{HasMeaning, HasDocumentMeaning};
+ghost use Rattle.bson_model.specs.Fault.{IsFaultOf, IsDocumentFault};
+ghost use Rattle.bson.specs.View.{bson_view, document_view};
+
+use crate::bson::Bson;
+use crate::document::Document;
+use crate::extjson::read::{read, read_members};
+pub use bson_leaf::error::{Error, Result};
+use serde_json::{Map, Value};
+use std::alloc::Global;
+
+impl Bson {
+    /// The value that the tree means by the full grammar of Extended JSON (MongoDB Extended JSON v2), in either form or mixed.
+    ///
+    /// An object with a wrapper key has exactly the shape of that wrapper, or is refused. A refusal tells the first fault:
+    /// of a list's elements in order, of a document's values by ascending key, of a wrapper as a whole.
+    /// It is `InvalidObjectId` where the text of an object id alone is wrong, else `DeserializationError`.
+    pub fn try_from_value(alloc: Global, value: Value) -> Result<Bson>
+        ensures ok { IfOk result (λ v. HasMeaning (view value) (bson_view v)) }
+        ensures accepts { (v : model.Value) → Means (view value) v → Gives bson_view result (Ok v) }
+        ensures fault { IfErr result (λ e. IsFaultOf (view value) e) }
+    {
+        read(alloc, value)
+    }
+
+    /// The value that the map means, as `try_from_value` of the object.
+    pub fn try_from_map(alloc: Global, map: Map<String, Value>) -> Result<Bson>
+        ensures ok { IfOk result (λ v. HasMeaning (object (members_view map.entries)) (bson_view v)) }
+        ensures accepts { (v : model.Value) → Means (object (members_view map.entries)) v
+            → Gives bson_view result (Ok v) }
+        ensures fault { IfErr result (λ e. IsFaultOf (object (members_view map.entries)) e) }
+    {
+        Bson::try_from_value(alloc, Value::Object(map))
+    }
+}
+
+impl Document {
+    /// The document of the map: its keys in ascending order of bytes, each with the meaning of its value.
+    ///
+    /// The map's own keys are not tested, so that it may have wrapper keys. A refusal tells the fault of the value at the
+    /// least key whose value has no meaning.
+    pub fn try_from_map(alloc: Global, map: Map<String, Value>) -> Result<Document>
+        ensures ok { IfOk result (λ v. HasDocumentMeaning (members_view map.entries) (document_view v)) }
+        ensures accepts { (ps : Pairs) → MeansDocument (members_view map.entries) ps
+            → Gives document_view result (Ok ps) }
+        ensures fault { IfErr result (λ e. IsDocumentFault (members_view map.entries) e) }
+    {
+        read_members(alloc, map)
+    }
+}

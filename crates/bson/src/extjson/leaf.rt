@@ -1,0 +1,71 @@
+//! The kinds that hold no other value.
+ghost use Rattle.std.specs.Prelude.{◌≡◌, IfOk, string_bytes};
+ghost use Rattle.serde_json.specs.View.{view, number_view, members_view};
+ghost use Rattle.bson_leaf.specs.Faults.{Gives};
+ghost use Rattle.bson_leaf.specs.Full.{number_read};
+ghost use Rattle.bson_model.specs.Reading.{valued};
+ghost use Rattle.bson_model.specs.Writing.{with_scope};
+ghost use Rattle.bson_leaf.specs.View.{leaf_view};
+ghost use Rattle.bson_model.specs.Value.{scalar};
+ghost use Rattle.bson.specs.View.{bson_view};
+
+use crate::bson::Bson;
+use bson_leaf::error::Error;
+use bson_leaf::leaf::Leaf;
+use serde_json::{Map, Number, Value};
+use std::alloc::{AllocError, Global};
+
+pub(crate) fn of_leaf(leaf: Leaf) -> Bson
+    ensures { bson_view result ≡ scalar (leaf_view leaf) }
+{
+    match leaf {
+        Leaf::Null => Bson::Null,
+        Leaf::Undefined => Bson::Undefined,
+        Leaf::MinKey => Bson::MinKey,
+        Leaf::MaxKey => Bson::MaxKey,
+        Leaf::Boolean(b) => Bson::Boolean(b),
+        Leaf::Double(pattern) => Bson::Double(pattern),
+        Leaf::Int32(z) => Bson::Int32(z),
+        Leaf::Int64(z) => Bson::Int64(z),
+        Leaf::String(text) => Bson::String(text),
+        Leaf::Symbol(text) => Bson::Symbol(text),
+        Leaf::JavaScriptCode(code) => Bson::JavaScriptCode(code),
+        Leaf::RegularExpression(regex) => Bson::RegularExpression(regex),
+        Leaf::Timestamp(stamp) => Bson::Timestamp(stamp),
+        Leaf::Binary(binary) => Bson::Binary(binary),
+        Leaf::ObjectId(id) => Bson::ObjectId(id),
+        Leaf::DateTime(date) => Bson::DateTime(date),
+        Leaf::Decimal128(decimal) => Bson::Decimal128(decimal),
+        Leaf::DbPointer(pointer) => Bson::DbPointer(pointer),
+    }
+}
+
+// A whole number as an Int32 where it fits, else as an Int64.
+pub(crate) fn read_number(n: Number) -> Result<Bson, Error>
+    ensures { Gives bson_view result (valued (number_read (number_view n))) }
+{
+    match n.as_i64() {
+        Some(z) => if i32::MIN as i64 <= z && z <= i32::MAX as i64 {
+            Ok(Bson::Int32(z as i32))
+        } else {
+            Ok(Bson::Int64(z))
+        },
+        None => Err(Error::DeserializationError {
+            message: "a number is no whole number of 64 bits",
+        }),
+    }
+}
+
+// The tree of code with its scope's map.
+pub(crate) fn wrapped_code(
+    alloc: Global,
+    code: String,
+    scope: Map<String, Value>,
+) -> Result<Value, AllocError>
+    ensures { IfOk result (λ t. view t ≡ with_scope (string_bytes code) (members_view scope.entries)) }
+{
+    let mut members = Map::new(alloc);
+    serde_json::put(&mut members, alloc, "$scope", Value::Object(scope))?;
+    serde_json::put(&mut members, alloc, "$code", Value::String(code))?;
+    Ok(Value::Object(members))
+}

@@ -1,0 +1,142 @@
+//! The reader.
+ghost use Rattle.serde_json.specs.View.{view, number_view, items_view, members_view};
+ghost use Rattle.serde_json.specs.Data.{object};
+ghost use Rattle.std.specs.Prelude.{◌≡◌, ◌&&◌, codes, string_bytes};
+ghost use Rattle.std.specs.Str.{bytes_eq};
+ghost use Rattle.bson_model.specs.Value.{code_scope};
+ghost use Rattle.bson_leaf.specs.Faults.{Gives};
+ghost use Rattle.bson_model.specs.Reading.{valued, reads, reads_items, reads_members, reads_wrapper, reads_scope, scoped, code_at};
+ghost use Rattle.bson_leaf.specs.Rows.{single_at};
+ghost use Rattle.bson_leaf.specs.Table.{wrapper_of};
+ghost use Rattle.bson.specs.View.{bson_view, document_view, values_view};
+
+use crate::bson::{Bson, JavaScriptCodeWithScope};
+use crate::document::Document;
+use crate::extjson::leaf::{of_leaf, read_number};
+use bson_leaf::error::Error;
+use bson_leaf::read::read_single as read_leaf;
+use bson_leaf::wrapper::any_wrapper;
+use bson_store::{IndexedPairs, PairStore};
+use serde_json::{Map, Value};
+use std::alloc::Global;
+
+fn read_single(alloc: Global, key: &str, value: Value) -> Result<Bson, Error>
+    ensures { Gives bson_view result (valued (single_at (wrapper_of key.now) (view value))) }
+{
+    Ok(of_leaf(read_leaf(alloc, key, value)?))
+}
+
+const SHAPE: &str = "a wrapper key stands in an object of another shape";
+
+const CODE: &str = "`$code` stands alone, or beside `$scope` with a text";
+
+#[cycle(read)]
+pub(crate) fn read(alloc: Global, value: Value) -> Result<Bson, Error>
+    ensures { Gives bson_view result (reads (view value)) }
+{
+    match value {
+        Value::Null => Ok(Bson::Null),
+        Value::Bool(b) => Ok(Bson::Boolean(b)),
+        Value::Number(n) => read_number(n),
+        Value::String(s) => Ok(Bson::String(s)),
+        Value::Array(items) => Ok(Bson::Array(read_items(alloc, items)?)),
+        Value::Object(members) => read_object(alloc, members),
+    }
+}
+
+#[cycle(read)]
+fn read_items(alloc: Global, items: Vec<Value>) -> Result<Vec<Bson>, Error>
+    ensures { Gives (λ v. values_view v.items) result (reads_items (items_view items.items)) }
+{
+    let mut values = Vec::new(alloc);
+    for item in items {
+        values.push(read(alloc, item)?)?;
+    }
+    Ok(values)
+}
+
+#[cycle(read)]
+fn read_object(alloc: Global, members: Map<String, Value>) -> Result<Bson, Error>
+    ensures { Gives bson_view result (reads (object (members_view members.entries))) }
+{
+    if any_wrapper(&members) {
+        read_wrapper(alloc, members)
+    } else {
+        Ok(Bson::Document(read_members(alloc, members)?))
+    }
+}
+
+#[cycle(read)]
+pub(crate) fn read_members(alloc: Global, members: Map<String, Value>) -> Result<Document, Error>
+    ensures { Gives document_view result (reads_members (members_view members.entries)) }
+{
+    let mut pairs = IndexedPairs::new(alloc);
+    for (key, value) in members {
+        let read = read(alloc, value)?;
+        match pairs.push(key, read) {
+            Ok(()) => {}
+            Err(_) => return Err(Error::OutOfMemory),
+        }
+    }
+    Ok(Document { pairs })
+}
+
+#[cycle(read)]
+fn read_wrapper(alloc: Global, mut members: Map<String, Value>) -> Result<Bson, Error>
+    ensures { Gives bson_view result (reads_wrapper (members_view members.entries)) }
+{
+    let Some((key, value)) = members.pop_first() else {
+        return Err(Error::DeserializationError { message: SHAPE });
+    };
+    let Some((other, scope)) = members.pop_first() else {
+        return read_single(alloc, key.as_str(), value);
+    };
+    if !members.is_empty() {
+        return Err(Error::DeserializationError { message: SHAPE });
+    }
+    read_code(alloc, scope, other.as_str(), value, key.as_str())
+}
+
+#[cycle(read)]
+fn read_code(
+    alloc: Global,
+    scope: Value,
+    other: &str,
+    value: Value,
+    key: &str,
+) -> Result<Bson, Error>
+    ensures { Gives bson_view result
+        (code_at key.now (view value) other.now (reads_scope (view scope))) }
+{
+    if !is_code_with_scope(key, other) {
+        return Err(Error::DeserializationError { message: CODE });
+    }
+    match value {
+        Value::String(code) => read_scope(alloc, scope, code),
+        _ => Err(Error::DeserializationError { message: SHAPE }),
+    }
+}
+
+fn is_code_with_scope(key: &str, other: &str) -> bool
+    ensures { result ≡ (bytes_eq key.now (codes "$code") && bytes_eq other.now (codes "$scope")) }
+{
+    key == "$code" && other == "$scope"
+}
+
+fn with_scope(code: String, scope: Document) -> Bson
+    ensures { bson_view result ≡ code_scope (string_bytes code) (document_view scope) }
+{
+    Bson::JavaScriptCodeWithScope(JavaScriptCodeWithScope { code, scope })
+}
+
+#[cycle(read)]
+fn read_scope(alloc: Global, scope: Value, code: String) -> Result<Bson, Error>
+    ensures { Gives bson_view result
+        (scoped (string_bytes code) (reads_scope (view scope))) }
+{
+    match scope {
+        Value::Null => Ok(Bson::JavaScriptCode(code)),
+        Value::Object(members) => { Ok(with_scope(code, read_members(alloc, members)?)) }
+        _ => Err(Error::DeserializationError { message: SHAPE }),
+    }
+}

@@ -1,0 +1,53 @@
+//! Trees from values.
+ghost use Rattle.std.specs.Prelude.{◌≡◌, IfOk, OnOk, Err, true, false};
+ghost use Rattle.serde_json.specs.View.{view};
+ghost use Rattle.bson_leaf.specs.declared.form.Form.TheVariants.{Canonical, Relaxed};
+ghost use Rattle.bson_leaf.specs.declared.write_error.WriteError.{WriteError};
+ghost use Rattle.bson_model.specs.Writing.{IsTreeOf, HasSettledForms, writable};
+ghost use Rattle.bson.specs.View.{bson_view};
+
+use crate::bson::Bson;
+use crate::extjson::write::write;
+use bson_leaf::form::Form;
+use bson_leaf::write_error::WriteError;
+use serde_json::Value;
+use std::alloc::Global;
+
+impl Bson {
+    /// The canonical tree of the value (MongoDB Extended JSON v2), which keeps every type.
+    ///
+    /// It is the tree of the value's normal form: the options of a regular expression sorted, a NaN as its sign's one
+    /// pattern, a binary's subtype as its byte reads, a decimal in its canonical pattern.
+    /// A value that holds a finite double other than zero, at any depth, is refused as `FiniteDouble`.
+    pub fn into_canonical_extjson(self, alloc: Global) -> Result<Value, WriteError>
+        ensures tree { IfOk result (λ t. IsTreeOf Canonical (bson_view self) (view t)) }
+        ensures settles { HasSettledForms (bson_view self) }
+        ensures writable { OnOk result (writable (bson_view self) ≡ true) }
+        ensures finite { result ≡ Err WriteError.FiniteDouble → writable (bson_view self) ≡ false }
+    {
+        self.into_extjson(alloc, Form::Canonical)
+    }
+
+    /// The relaxed tree of the value (MongoDB Extended JSON v2), with plain numbers and readable dates.
+    ///
+    /// Read again it gives the normal form in which each `Int64` that fits an i32 is the `Int32`.
+    /// A value that holds a finite double other than zero, at any depth, is refused as `FiniteDouble`.
+    pub fn into_relaxed_extjson(self, alloc: Global) -> Result<Value, WriteError>
+        ensures tree { IfOk result (λ t. IsTreeOf Relaxed (bson_view self) (view t)) }
+        ensures settles { HasSettledForms (bson_view self) }
+        ensures writable { OnOk result (writable (bson_view self) ≡ true) }
+        ensures finite { result ≡ Err WriteError.FiniteDouble → writable (bson_view self) ≡ false }
+    {
+        self.into_extjson(alloc, Form::Relaxed)
+    }
+
+    // The tree of the value in a form.
+    fn into_extjson(self, alloc: Global, form: Form) -> Result<Value, WriteError>
+        ensures tree { IfOk result (λ t. IsTreeOf form (bson_view self) (view t)) }
+        ensures settles { HasSettledForms (bson_view self) }
+        ensures writable { OnOk result (writable (bson_view self) ≡ true) }
+        ensures finite { result ≡ Err WriteError.FiniteDouble → writable (bson_view self) ≡ false }
+    {
+        write(alloc, form, self)
+    }
+}

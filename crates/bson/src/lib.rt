@@ -1,0 +1,21 @@
+//! The document model of BSON 1.1 and MongoDB Extended JSON v2.
+#![tactic(auto)]
+
+pub mod bson;
+pub mod document;
+pub mod extjson;
+mod hash;
+mod same;
+
+pub use bson::{Array, Bson, JavaScriptCodeWithScope};
+pub use bson_scalar::binary::Binary;
+pub use bson_scalar::datetime::DateTime;
+pub use bson_scalar::db_pointer::DbPointer;
+pub use bson_scalar::decimal128::Decimal128;
+pub use bson_scalar::oid::ObjectId;
+pub use bson_scalar::regex::Regex;
+pub use bson_scalar::timestamp::Timestamp;
+pub use bson_scalar::uuid_value::Uuid;
+pub use bson_scalar::{binary, datetime, decimal128, oid, spec, uuid_value as uuid};
+pub use bson_store as store;
+pub use document::Document;

@@ -1,0 +1,136 @@
+//! Equality of values.
+ghost use Rattle.std.specs.Prelude.{◌≡◌};
+ghost use Rattle.bson_model.specs.Value.{document};
+ghost use Rattle.bson.specs.View.{bson_view, values_view, scoped_view};
+ghost use Rattle.bson_model.specs.Same.{same, same_items};
+
+use crate::bson::{Bson, JavaScriptCodeWithScope};
+use crate::document::Document;
+
+impl PartialEq for Bson {
+    ghost use Rattle.std.specs.Cmp.{on_per, partial_equiv_from_equiv};
+    ghost use Rattle.bson.specs.View.{bson_view};
+    ghost use Rattle.bson_model.specs.Same.{same};
+    ghost use Rattle.bson_model.proofs.SameSorted.{same_equiv};
+
+    ghost eq = { λ a b. same (bson_view a) (bson_view b) };
+
+    ghost laws = { on_per bson_view (partial_equiv_from_equiv same_equiv) };
+
+    fn eq(&self, other: &Bson) -> bool {
+        same_values(self, other)
+    }
+}
+
+impl Eq for Bson {
+    ghost use Rattle.std.specs.Cmp.{on_equiv};
+    ghost use Rattle.bson.specs.View.{bson_view};
+    ghost use Rattle.bson_model.proofs.SameSorted.{same_equiv};
+
+    ghost laws = { on_equiv bson_view same_equiv };
+}
+
+impl PartialEq for Document {
+    ghost use Rattle.std.specs.Cmp.{on_per, partial_equiv_from_equiv};
+    ghost use Rattle.bson_model.specs.Value.{document};
+    ghost use Rattle.bson.specs.View.{document_view};
+    ghost use Rattle.bson_model.specs.Same.{same};
+    ghost use Rattle.bson_model.proofs.SameSorted.{same_equiv};
+
+    ghost eq = { λ a b. same (document (document_view a)) (document (document_view b)) };
+
+    ghost laws = { on_per (λ d. document (document_view d)) (partial_equiv_from_equiv same_equiv) };
+
+    fn eq(&self, other: &Document) -> bool {
+        self.is_same(other)
+    }
+}
+
+impl Eq for Document {
+    ghost use Rattle.std.specs.Cmp.{on_equiv};
+    ghost use Rattle.bson_model.specs.Value.{document};
+    ghost use Rattle.bson.specs.View.{document_view};
+    ghost use Rattle.bson_model.proofs.SameSorted.{same_equiv};
+
+    ghost laws = { on_equiv (λ d. document (document_view d)) same_equiv };
+}
+
+impl PartialEq for JavaScriptCodeWithScope {
+    ghost use Rattle.std.specs.Cmp.{on_per, partial_equiv_from_equiv};
+    ghost use Rattle.bson.specs.View.{scoped_view};
+    ghost use Rattle.bson_model.specs.Same.{same};
+    ghost use Rattle.bson_model.proofs.SameSorted.{same_equiv};
+
+    ghost eq = { λ a b. same (scoped_view a) (scoped_view b) };
+
+    ghost laws = { on_per scoped_view (partial_equiv_from_equiv same_equiv) };
+
+    fn eq(&self, other: &JavaScriptCodeWithScope) -> bool {
+        same_scoped(self, other)
+    }
+}
+
+impl Eq for JavaScriptCodeWithScope {
+    ghost use Rattle.std.specs.Cmp.{on_equiv};
+    ghost use Rattle.bson.specs.View.{scoped_view};
+    ghost use Rattle.bson_model.proofs.SameSorted.{same_equiv};
+
+    ghost laws = { on_equiv scoped_view same_equiv };
+}
+
+#[cycle(same)]
+#[tactic(auto, unfolding(bson_model::specs::Same::same))]
+pub(crate) fn same_values(a: &Bson, b: &Bson) -> bool
+    ensures { result ≡ same (bson_view a.now) (bson_view b.now) }
+{
+    match (a, b) {
+        (Bson::Array(x), Bson::Array(y)) => same_lists(x, y),
+        (Bson::Document(x), Bson::Document(y)) => x.is_same(y),
+        (Bson::JavaScriptCodeWithScope(x), Bson::JavaScriptCodeWithScope(y)) => same_scoped(x, y),
+        (Bson::Null, Bson::Null) => true,
+        (Bson::Undefined, Bson::Undefined) => true,
+        (Bson::MinKey, Bson::MinKey) => true,
+        (Bson::MaxKey, Bson::MaxKey) => true,
+        (Bson::Boolean(x), Bson::Boolean(y)) => *x == *y,
+        (Bson::Double(x), Bson::Double(y)) => *x == *y,
+        (Bson::Int32(x), Bson::Int32(y)) => *x == *y,
+        (Bson::Int64(x), Bson::Int64(y)) => *x == *y,
+        (Bson::String(x), Bson::String(y)) => x == y,
+        (Bson::Symbol(x), Bson::Symbol(y)) => x == y,
+        (Bson::JavaScriptCode(x), Bson::JavaScriptCode(y)) => x == y,
+        (Bson::RegularExpression(x), Bson::RegularExpression(y)) => {
+            x.pattern == y.pattern && x.options == y.options
+        }
+        (Bson::Timestamp(x), Bson::Timestamp(y)) => x.time == y.time && x.increment == y.increment,
+        (Bson::Binary(x), Bson::Binary(y)) => x.subtype == y.subtype && x.bytes == y.bytes,
+        (Bson::ObjectId(x), Bson::ObjectId(y)) => x == y,
+        (Bson::DateTime(x), Bson::DateTime(y)) => x == y,
+        (Bson::Decimal128(x), Bson::Decimal128(y)) => x == y,
+        (Bson::DbPointer(x), Bson::DbPointer(y)) => x.namespace() == y.namespace()
+            && x.id() == y.id(),
+        _ => false,
+    }
+}
+
+#[cycle(same)]
+#[tactic(auto, unfolding(bson_model::specs::Same::same))]
+fn same_scoped(a: &JavaScriptCodeWithScope, b: &JavaScriptCodeWithScope) -> bool
+    ensures { result ≡ same (scoped_view a.now) (scoped_view b.now) }
+{
+    a.code == b.code && a.scope.is_same(&b.scope)
+}
+
+#[cycle(same)]
+fn same_lists(a: &Vec<Bson>, b: &Vec<Bson>) -> bool
+    ensures { result ≡ same_items (values_view a.now.items) (values_view b.now.items) }
+{
+    if a.len() != b.len() {
+        return false;
+    }
+    for i in 0..a.len() {
+        if !same_values(&a[i], &b[i]) {
+            return false;
+        }
+    }
+    true
+}
