@@ -1,22 +1,17 @@
 -- `$binary` and `$uuid`.
-use Rattle.std.proofs.Common.{◌≡◌, ◌<◌, ◌^◌, ℕ, List, [], ◌∷◌, zero, suc, length, Bool, true, false, cond, nat_eq, nat_lt, Option, Some, None, Result, Ok, Err, refl, sym, ap, ◌∙◌, arith, get_or}
+use Rattle.std.proofs.Common.{◌≡◌, ◌<◌, ℕ, List, [], ◌∷◌, zero, suc, Bool, true, false, nat_eq, nat_lt, Some, Result, Ok, Err, refl, sym, ap, ◌∙◌, arith}
 use Rattle.std.proofs.lemmas.Bool.{eqb-true}
-use Rattle.std.proofs.lemmas.Bool.Decides.{nat_tests}
 use Rattle.std.specs.Prelude.{codes}
 use Rattle.std.specs.Result.{result_ok}
 use Rattle.hex.specs.declared.error.FromHexError.{FromHexError}
-use Rattle.hex.specs.Hex.{decode_sized, encode_lower, IsBytes}
+use Rattle.hex.specs.Hex.{encode_lower, IsBytes}
 use Rattle.hex.proofs.HexLemmas.{decode_sized-encode_lower}
-use Rattle.base64.specs.GeneralPurpose.{decode_of}
 use Rattle.base64.specs.Engines.{standard}
 use Rattle.base64.proofs.EngineFacts.{decode_of-encode_of}
-use Rattle.base64.specs.declared.decode.DecodeError.{DecodeError}
 use Rattle.bson_scalar.specs.Base64.{base64_text}
 use Rattle.bson_scalar.specs.Orders.{parsed}
 use Rattle.bson_scalar.specs.Subtype.{subtype_byte, subtype_of}
-use Rattle.serde_json.specs.Data as tree
 use Rattle.bson_leaf.specs.Binaries.{BinaryRow, binary_read, UuidRow, uuid_read, byte_of, bytes_of, only_byte}
-use Rattle.bson_leaf.specs.Normal.{IsReadForm}
 use Rattle.bson_leaf.specs.Scalar.{binary}
 use Rattle.bson_leaf.proofs.InverseLemmas.{RowLaws, un_ok, un_some, some_then, text_then, two_then, two_same}
 

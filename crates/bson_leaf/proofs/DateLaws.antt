@@ -1,19 +1,15 @@
 -- `$date`.
-use Rattle.std.proofs.Common.{◌≡◌, ◌⊎◌, inl, inr, ℕ, ℤ, pos, negsuc, List, Bool, true, false, cond, ◌&&◌, Option, Some, None, Result, Ok, Err, refl, sym, ap, ◌∙◌, w64, arith}
-use Rattle.std.specs.Prelude.{codes, FitsSigned, int_le}
-use Rattle.std.specs.Fmt.{signed_decimal}
+use Rattle.std.proofs.Common.{◌≡◌, ◌⊎◌, inl, inr, ℤ, pos, true, Some, Ok, refl, sym, ap, ◌∙◌, w64, arith}
+use Rattle.std.specs.Prelude.{codes, int_le}
 use Rattle.std.proofs.lemmas.Bool.{and_parts}
 use Rattle.std.proofs.lemmas.Bool.Decides.{nat_tests}
 use Rattle.jiff.proofs.SpanFacts.{signed_arith}
-use Rattle.bson_datetime.specs.Rfc3339.{Denotes, denoted, IsRfcMillis}
+use Rattle.bson_datetime.specs.Rfc3339.{denoted, IsRfcMillis}
 use Rattle.bson_datetime.specs.Shown.{rfc}
 use Rattle.bson_datetime.proofs.RoundTrip.{denoted-rfc}
 use Rattle.serde_json.specs.Data.{Data, Num}
 use Rattle.serde_json.specs.Data as tree
-use Rattle.serde_json.specs.Find.{as_i64}
 use Rattle.bson_leaf.specs.Dates.{DateRow, date_read, millis_of, IsLongForm, IsTextForm, IsNumberForm, is_recent}
-use Rattle.bson_leaf.specs.Faults.{or_bad}
-use Rattle.bson_leaf.specs.Ints.{int_of}
 use Rattle.bson_leaf.specs.Shapes.{one}
 use Rattle.bson_leaf.proofs.InverseLemmas.{RowLaws, un_ok, then_ok, or_bad_ok, text_then, lone_then}
 use Rattle.bson_leaf.proofs.IntText.{int_of_some, int_of_from}

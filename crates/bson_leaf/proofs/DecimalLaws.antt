@@ -1,22 +1,20 @@
 -- The decimal of a text, as a function.
-use Rattle.std.proofs.Common.{◌≡◌, ℕ, ◌+◌, ◌*◌, ◌^◌, List, Bool, true, false, cond, Option, Some, None, Result, Ok, Err, refl, sym, ap, ◌∙◌, subst}
+use Rattle.std.proofs.Common.{◌≡◌, ℕ, ◌*◌, ◌^◌, List, Bool, true, false, cond, Option, Some, None, Result, Ok, Err, refl, sym, ap, subst}
 use Rattle.std.specs.Prelude.{option_map, codes}
 use Rattle.std.specs.Result.{result_ok}
 use Rattle.std.specs.Int.{w128, to_le_bytes}
 use Rattle.std.specs.Str.{bytes_eq}
 use Rattle.std.specs.Str.Parse.{without_leading_sign, starts_with_minus}
 use Rattle.std.proofs.lemmas.Slice.Eq.{bytes_eq-Decides}
-use Rattle.bson_decimal.specs.declared.Decimal128.{Decimal128}
 use Rattle.bson_decimal.specs.declared.ParseError.{ParseError}
 use Rattle.bson_decimal.specs.FromStr.{ParsesTo}
-use Rattle.bson_decimal.specs.Pattern.{first_form, sign_weight, canon}
+use Rattle.bson_decimal.specs.Pattern.{first_form, canon}
 use Rattle.bson_decimal.specs.Printed.{printed}
 use Rattle.bson_decimal.specs.Steps.{finite}
 use Rattle.bson_decimal.specs.Text.{Parses, SpecialWord, nan, snan, infinity, inf, lowercase}
 use Rattle.bson_decimal.proofs.Parsing.{special-parses, finite-parses, refused-parses}
 use Rattle.bson_decimal.proofs.PrintedLaws.{printed-parses, printed-same, printed-canon}
-use Rattle.bson_leaf.specs.Decimals.{word_of, finite_of, decimal_at, decimal_of, decimal_read, DecimalRow}
-use Rattle.bson_leaf.specs.Scalar.{decimal}
+use Rattle.bson_leaf.specs.Decimals.{word_of, decimal_at, decimal_of, decimal_read, DecimalRow}
 use Rattle.bson_leaf.proofs.InverseLemmas.{RowLaws, un_ok, text_then, some_then}
 
 same : (xs ys : List ℕ) → bytes_eq xs ys ≡ true → xs ≡ ys

@@ -1,7 +1,6 @@
 -- `$numberDouble`.
-use Rattle.std.proofs.Common.{◌≡◌, ℕ, List, Bool, true, false, cond, ◌&&◌, Option, Some, None, refl, sym, ap, ◌∙◌, subst, nat_eq, nat_lt}
-use Rattle.std.specs.Prelude.{Ok, codes, is_some}
-use Rattle.std.specs.Str.{bytes_eq}
+use Rattle.std.proofs.Common.{◌≡◌, ℕ, List, Bool, true, false, cond, Option, Some, None, refl, sym, ap, ◌∙◌, subst, nat_eq}
+use Rattle.std.specs.Prelude.{Ok, codes}
 use Rattle.std.proofs.lemmas.Bool.{eqb-true}
 use Rattle.bson_leaf.specs.Doubles.{DoubleRow, double_read, double_of, double_text, nan_form, is_nan, is_minus_nan}
 use Rattle.bson_leaf.specs.Normal.{IsReadForm}

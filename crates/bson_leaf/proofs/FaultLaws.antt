@@ -1,26 +1,21 @@
 -- Why a tree means no scalar: one fault a tree, which is that of a bad object id or `bad`.
-use Rattle.std.proofs.Common.{◌≡◌, ℕ, ℤ, List, Bool, true, false, cond, Option, Some, None, Result, Ok, Err, refl, sym, ap, ◌∙◌}
+use Rattle.std.proofs.Common.{◌≡◌, ℕ, List, Bool, true, false, cond, Option, Some, None, Result, Ok, Err, refl, ◌∙◌}
 use Rattle.std.specs.Prelude.{codes, option_and_then}
 use Rattle.hex.specs.declared.error.FromHexError.{FromHexError}
 use Rattle.hex.specs.Hex.{decode_sized}
 use Rattle.serde_json.specs.Data.{Data, Num}
 use Rattle.serde_json.specs.Data as tree
 use Rattle.serde_json.specs.Find.{as_i64, as_str}
-use Rattle.bson_leaf.specs.Binaries.{binary_read, uuid_read, bytes_of, byte_of}
-use Rattle.bson_leaf.specs.Dates.{millis_of, date_read}
-use Rattle.bson_leaf.specs.Decimals.{decimal_read}
-use Rattle.bson_leaf.specs.Doubles.{double_read}
+use Rattle.bson_leaf.specs.Binaries.{bytes_of}
+use Rattle.bson_leaf.specs.Dates.{millis_of}
 use Rattle.bson_leaf.specs.Faults.{Fault, bad, bad_id, ◌>>=◌, or_bad}
 use Rattle.bson_leaf.specs.Full.{number_read}
-use Rattle.bson_leaf.specs.Ids.{id_or, id_of, oid_read, pointer_read, id_fault, text_fault, pointer_text}
-use Rattle.bson_leaf.specs.Ints.{int_of, int32_read, int64_read}
-use Rattle.bson_leaf.specs.Lone.{one_read, undefined_read, is_one}
-use Rattle.bson_leaf.specs.Regexes.{regex_read}
+use Rattle.bson_leaf.specs.Ids.{id_or, id_of, pointer_read, id_fault, text_fault, pointer_text}
+use Rattle.bson_leaf.specs.Ints.{int_of}
+use Rattle.bson_leaf.specs.Lone.{undefined_read, is_one}
 use Rattle.bson_leaf.specs.Rows.{single_at, single_fault}
 use Rattle.bson_leaf.specs.Scalar.{Scalar, min_key, max_key, undefined, object_id, db_pointer, timestamp}
 use Rattle.bson_leaf.specs.Shapes.{whole, u32_at, lone_member, two_members}
-use Rattle.bson_leaf.specs.Texts.{symbol_read, code_read}
-use Rattle.bson_leaf.specs.Timestamps.{timestamp_read}
 use Rattle.bson_leaf.specs.declared.wrapper.Wrapper.{Wrapper}
 use Rattle.bson_leaf.specs.declared.wrapper.Wrapper.TheVariants.{Oid, Symbol, RegularExpression, NumberInt, NumberLong, NumberDouble, NumberDecimal, Binary, Uuid, Code, Timestamp, Date, MinKey, MaxKey, DbPointer, Undefined}
 

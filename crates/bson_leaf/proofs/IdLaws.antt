@@ -1,12 +1,10 @@
 -- `$oid` and `$dbPointer`.
 use Rattle.std.proofs.Common.{◌≡◌, ℕ, List, length, Result, Ok, Err, refl, sym, ap, ◌∙◌}
 use Rattle.hex.specs.declared.error.FromHexError.{FromHexError}
-use Rattle.hex.specs.Hex.{decode_sized, encode_lower, IsBytes}
+use Rattle.hex.specs.Hex.{encode_lower, IsBytes}
 use Rattle.hex.proofs.HexLemmas.{decode_sized-encode_lower}
-use Rattle.bson_scalar.specs.Oid.{IsOidText}
-use Rattle.serde_json.specs.Data as tree
 use Rattle.bson_leaf.specs.Ids.{OidRow, oid_read, PointerRow, pointer_read, id_or, id_of}
-use Rattle.bson_leaf.specs.Shapes.{one, two}
+use Rattle.bson_leaf.specs.Shapes.{one}
 use Rattle.std.specs.Prelude.{codes}
 use Rattle.bson_leaf.proofs.InverseLemmas.{RowLaws, un_ok, then_ok, text_then, lone_then, two_then, two_same}
 

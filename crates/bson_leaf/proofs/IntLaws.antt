@@ -1,5 +1,5 @@
 -- `$numberInt`, `$numberLong` and plain numbers.
-use Rattle.std.proofs.Common.{◌≡◌, ◌<◌, ◌^◌, ℕ, ℤ, pos, negsuc, List, Bool, true, false, cond, Option, Some, None, refl, sym, ap, ◌∙◌, w32, w64, arith, nat_lt}
+use Rattle.std.proofs.Common.{◌≡◌, ◌<◌, ◌^◌, ℤ, pos, negsuc, Some, refl, sym, ap, w32, w64, arith}
 use Rattle.std.specs.Prelude.{Ok, FitsSigned}
 use Rattle.std.specs.Fmt.{signed_decimal}
 use Rattle.std.proofs.lemmas.Bool.{lt-ltb}
@@ -7,13 +7,10 @@ use Rattle.std.proofs.lemmas.Fmt.{parse-signed_decimal}
 use lib.Signed.{mag}
 use mir.Syntax.{Width}
 use mir.Val.{hbits}
-use Rattle.serde_json.specs.Data.{Data}
-use Rattle.serde_json.specs.Data as tree
 use Rattle.serde_json.specs.Find.{as_i64, of_integer}
 use Rattle.bson_leaf.specs.Faults.{◌>>=◌, or_bad}
 use Rattle.bson_leaf.specs.Full.{number_read, narrowest}
 use Rattle.bson_leaf.specs.Ints.{Int32Row, int32_read, Int64Row, int64_read, int_of}
-use Rattle.bson_leaf.specs.Scalar.{int32, int64}
 use Rattle.bson_leaf.proofs.InverseLemmas.{RowLaws, un_ok, text_then, some_then}
 use Rattle.bson_leaf.proofs.IntText.{int_of_some, int_of_from, int_of_parsed}
 

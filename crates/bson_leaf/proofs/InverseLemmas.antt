@@ -1,12 +1,12 @@
 -- What is known of a tree from which something was read.
-use Rattle.std.proofs.Common.{◌≡◌, ℕ, List, Bool, true, false, cond, ◌&&◌, Option, Some, None, Result, Ok, Err, refl, sym, ap, ◌∙◌}
+use Rattle.std.proofs.Common.{◌≡◌, ℕ, List, Bool, true, false, cond, Option, Some, None, Result, Ok, Err, refl, sym, ap, ◌∙◌}
 use Rattle.std.proofs.lemmas.Bool.{and_parts}
 use Rattle.std.proofs.lemmas.Slice.Eq.{bytes_eq-Decides}
 use Rattle.std.specs.Str.{bytes_eq}
 use Rattle.serde_json.specs.Data.{Data, Members, no_members, member}
 use Rattle.serde_json.specs.Data as tree
 use Rattle.serde_json.specs.Find.{as_str}
-use Rattle.bson_leaf.specs.Faults.{Fault, bad, ◌>>=◌, or_bad}
+use Rattle.bson_leaf.specs.Faults.{Fault, ◌>>=◌, or_bad}
 use Rattle.bson_leaf.specs.Normal.{IsReadForm}
 use Rattle.bson_leaf.specs.Scalar.{Scalar}
 use Rattle.bson_leaf.specs.Shapes.{one, two, lone_member, two_members, on_text, on_lone, on_two}

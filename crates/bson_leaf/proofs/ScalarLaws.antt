@@ -1,7 +1,6 @@
 -- One lemma a law, for all scalars.
-use Rattle.std.proofs.Common.{◌≡◌, ◌<◌, ◌^◌, ◌&&◌, ◌↔◌, ℕ, ℤ, pos, negsuc, List, [], ◌∷◌, Bool, true, false, cond, Option, Some, None, Result, Ok, Err, refl, sym, ap, ap₂, ◌∙◌, subst, ◌⊎◌, inl, inr, w32, w64, arith}
-use Rattle.std.specs.Prelude.{FitsSigned, is_ok, is_some, codes, int_le}
-use Rattle.std.proofs.lemmas.Bool.{cases_Bool}
+use Rattle.std.proofs.Common.{◌≡◌, ◌<◌, ◌^◌, ℕ, ℤ, pos, negsuc, List, [], ◌∷◌, Bool, true, false, cond, Option, Some, None, Result, Ok, Err, refl, sym, ap, ◌∙◌, ◌⊎◌, inl, inr, w32, w64, arith}
+use Rattle.std.specs.Prelude.{FitsSigned, is_ok, is_some, codes}
 use Rattle.hex.specs.Hex.{encode_lower}
 use Rattle.serde_json.specs.Data.{Data, Num, Members, no_members, member}
 use Rattle.serde_json.specs.Data as tree
@@ -11,19 +10,14 @@ use Rattle.bson_scalar.specs.Base64.{base64_text}
 use Rattle.bson_leaf.specs.Shapes.{one, two}
 use Rattle.bson_scalar.specs.Subtype.{subtype_byte, subtype_of}
 use Rattle.bson_decimal.specs.Pattern.{canon}
-use Rattle.bson_decimal.specs.Printed.{printed}
 use Rattle.bson_decimal.proofs.PrintedLaws.{printed-canon}
-use Rattle.bson_leaf.specs.Binaries.{binary_tree}
 use Rattle.bson_leaf.specs.Dates.{is_recent, relaxed_date_tree}
 use lib.Signed.{mag}
 use Rattle.bson_leaf.specs.Decimals.{decimal_tree}
 use Rattle.bson_leaf.specs.Doubles.{double_text, double_tree, nan_form}
-use Rattle.bson_leaf.specs.Faults.{Fault}
-use Rattle.bson_leaf.specs.Faults as fault
-use Rattle.bson_leaf.specs.Full.{FullScalar, scalar_read, NumberRow, number_read, narrowest}
+use Rattle.bson_leaf.specs.Full.{FullScalar, scalar_read, NumberRow, number_read}
 use Rattle.bson_leaf.specs.Ints.{fits_bits}
 use Rattle.bson_leaf.specs.Normal.{nf_scalar, settle, int64_settled, writable_scalar, ScalarInRange, IsReadForm}
-use Rattle.bson_scalar.specs.Regex.{sorted_text}
 use Rattle.bson_leaf.specs.Regexes.{regex_tree}
 use Rattle.bson_leaf.specs.Rows.{Row, single, single_at}
 use Rattle.bson_leaf.specs.Scalar.{Scalar, null, undefined, min_key, max_key, boolean, double, int32, int64, text, symbol, code, regex, timestamp, binary, object_id, date, decimal, db_pointer}

@@ -1,7 +1,7 @@
 -- `$binary` (MongoDB Extended JSON v2): bytes as base64 (RFC 4648 section 4) and their subtype as two hexadecimal digits.
 -- Read and written: {"$binary": {"base64": "aGVsbG8=", "subType": "00"}}.
 -- `$uuid`: the text of a UUID (RFC 9562), read alone: {"$uuid": "00112233-4455-6677-8899-aabbccddeeff"}.
-use Rattle.std.specs.Prelude.{◌≡◌, ℕ, List, [], ◌∷◌, codes, Option, Some, None, Result, Ok, Err}
+use Rattle.std.specs.Prelude.{◌≡◌, ℕ, List, [], ◌∷◌, codes, Option, Some, None, Result, Ok}
 use Rattle.std.specs.Result.{result_ok}
 use Rattle.hex.specs.Hex.{decode_sized, encode_lower}
 use Rattle.hex.specs.declared.error.FromHexError.{FromHexError}

@@ -1,20 +1,19 @@
 -- `$date` (MongoDB Extended JSON v2): milliseconds since 1970-01-01T00:00:00Z.
 -- Read: {"$date": {"$numberLong": "5"}}, {"$date": "1970-01-01T00:00:00.005Z"} (RFC 3339 section 5.6), {"$date": 5}.
 -- Written: the first; relaxed, from 1970 to the end of the year 9999, the second.
-use Rattle.std.specs.Prelude.{◌≡◌, int_le, ◌⊎◌, ◌&&◌, ℕ, ℤ, pos, List, Bool, codes, Option, Some, None, if◌then◌else◌, Result, Ok, Err}
+use Rattle.std.specs.Prelude.{◌≡◌, int_le, ◌⊎◌, ◌&&◌, ℕ, ℤ, pos, List, Bool, codes, Some, if◌then◌else◌, Result, Ok}
 use Rattle.std.specs.Int.{w64}
-use Rattle.std.specs.Fmt.{signed_decimal}
 use Rattle.bson_datetime.specs.Rfc3339.{Denotes, denoted}
 use Rattle.bson_datetime.specs.Shown.{rfc}
 use Rattle.serde_json.specs.Data.{Data, Num, Members, no_members, member}
 use Rattle.serde_json.specs.Data as tree
 use Rattle.serde_json.specs.Find.{as_i64}
-use Rattle.bson_leaf.specs.Faults.{Fault, bad, ◌>>=◌, or_bad}
+use Rattle.bson_leaf.specs.Faults.{Fault, ◌>>=◌, or_bad}
 use Rattle.bson_leaf.specs.Ints.{IsIntText, int_of, int64_tree}
 use Rattle.bson_leaf.specs.Scalar.{Scalar, date}
 use Rattle.bson_leaf.specs.Shapes.{on_lone, on_text, one}
 use Rattle.bson_leaf.specs.Table.{key_of}
-use Rattle.bson_leaf.specs.declared.wrapper.Wrapper.TheVariants.{NumberLong, Date}
+use Rattle.bson_leaf.specs.declared.wrapper.Wrapper.TheVariants.{Date}
 
 abbrev pub IsLongForm : Data → ℤ → Type 0
 IsLongForm d z = (s : List ℕ) × (d ≡ one (codes "$numberLong") (tree.string s)) × IsIntText w64 s z

@@ -1,6 +1,6 @@
 -- `$numberDecimal` (MongoDB Extended JSON v2): the text of a decimal that a Decimal128 has exactly.
 -- Read: {"$numberDecimal": "1.50"}. Written: the printed text.
-use Rattle.std.specs.Prelude.{◌≡◌, ◌+◌, ◌*◌, ◌^◌, ℕ, List, Bool, codes, Option, Some, None, option_map, if◌then◌else◌, Result, Ok, Err}
+use Rattle.std.specs.Prelude.{◌≡◌, ◌+◌, ◌*◌, ◌^◌, ℕ, List, codes, Option, Some, None, option_map, if◌then◌else◌, Result, Ok}
 use Rattle.std.specs.Result.{result_ok}
 use Rattle.std.specs.Int.{w128, to_le_bytes}
 use Rattle.std.specs.Str.{bytes_eq}

@@ -1,5 +1,5 @@
 -- Which trees mean a scalar, and which one.
-use Rattle.std.specs.Prelude.{◌≡◌, ◌⊎◌, ℤ, Option, Some, None, if◌then◌else◌, Result, Ok, Err, FitsSigned}
+use Rattle.std.specs.Prelude.{◌≡◌, ◌⊎◌, ℤ, Some, if◌then◌else◌, Result, Ok, Err, FitsSigned}
 use Rattle.std.specs.Int.{w32}
 use Rattle.serde_json.specs.Data.{Data, Num, Members, no_members, member}
 use Rattle.serde_json.specs.Data as tree

@@ -1,6 +1,6 @@
 -- `$numberInt` and `$numberLong` (MongoDB Extended JSON v2): the text of a whole number.
 -- Read: {"$numberInt": "+007"}. Written: {"$numberInt": "7"}; relaxed: 7.
-use Rattle.std.specs.Prelude.{◌≡◌, ◌<◌, ◌^◌, ◌&&◌, nat_lt, ℕ, ℤ, pos, negsuc, List, Bool, length, Option, Some, None, if◌then◌else◌, Result, FitsSigned}
+use Rattle.std.specs.Prelude.{◌≡◌, ◌^◌, ◌&&◌, nat_lt, ℕ, ℤ, pos, negsuc, List, Bool, length, Option, Some, None, if◌then◌else◌, Result, FitsSigned}
 use Rattle.std.specs.Fmt.{signed_decimal}
 use Rattle.std.specs.Int.{w32, w64}
 use Rattle.std.specs.Str.{all_ascii_digits}

@@ -1,5 +1,5 @@
 -- The laws of scalars that the layer above builds on: one a law, for all scalars.
-use Rattle.std.specs.Prelude.{◌≡◌, ◌↔◌, Option, Result, Ok, Err, is_ok}
+use Rattle.std.specs.Prelude.{◌≡◌, ◌↔◌, Option, Ok, Err, is_ok}
 use Rattle.serde_json.specs.Data.{Data}
 use Rattle.bson_leaf.specs.Faults.{Fault}
 use Rattle.bson_leaf.specs.Full.{FullScalar, scalar_read}

@@ -4,7 +4,7 @@ use Rattle.std.specs.Prelude.{◌≡◌, ℤ, pos, negsuc, ◌==◌, Bool, true,
 use Rattle.serde_json.specs.Data.{Data}
 use Rattle.serde_json.specs.Data as tree
 use Rattle.bson_leaf.specs.Faults.{Fault, bad}
-use Rattle.bson_leaf.specs.Scalar.{Scalar, min_key, max_key, undefined}
+use Rattle.bson_leaf.specs.Scalar.{Scalar, undefined}
 use Rattle.bson_leaf.specs.Shapes.{whole, one, natural}
 use Rattle.bson_leaf.specs.Table.{key_of}
 use Rattle.bson_leaf.specs.declared.wrapper.Wrapper.TheVariants.{MinKey, MaxKey, Undefined}

@@ -1,11 +1,10 @@
 -- Normal and narrowed forms, and what a scalar may be.
-use Rattle.std.specs.Prelude.{◌≡◌, ◌<◌, ◌^◌, ℕ, ℤ, List, length, slice_index, Bool, true, is_some, FitsSigned, if◌then◌else◌}
+use Rattle.std.specs.Prelude.{◌≡◌, ◌<◌, ◌^◌, ℤ, length, Bool, true, is_some, FitsSigned}
 use Rattle.std.specs.Int.{w32, w64}
 use Rattle.bson_scalar.specs.Subtype.{subtype_byte, subtype_of}
 use Rattle.bson_decimal.specs.Pattern.{canon}
 use Rattle.hex.specs.Hex.{IsBytes}
 use Rattle.bson_leaf.specs.Doubles.{nan_form, double_text}
-use Rattle.bson_leaf.specs.Ints.{fits_bits}
 use Rattle.bson_leaf.specs.Full.{narrowest}
 use Rattle.bson_scalar.specs.Regex.{sorted_text}
 use Rattle.bson_leaf.specs.declared.form.Form.{Form}

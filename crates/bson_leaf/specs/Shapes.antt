@@ -1,5 +1,5 @@
 -- Shapes of trees: an object of one key and of two, and what is read from each.
-use Rattle.std.specs.Prelude.{◌≡◌, ℕ, ◌^◌, nat_lt, ℤ, pos, negsuc, List, ◌&&◌, Bool, if◌then◌else◌, Option, Some, None, option_and_then, Result}
+use Rattle.std.specs.Prelude.{ℕ, ◌^◌, nat_lt, ℤ, pos, negsuc, List, ◌&&◌, if◌then◌else◌, Option, Some, None, option_and_then, Result}
 use Rattle.std.specs.Str.{bytes_eq}
 use Rattle.serde_json.specs.Data.{Data, unsigned, Members, no_members, member}
 use Rattle.serde_json.specs.Data as tree
