@@ -1,5 +1,5 @@
 -- What is written of a value that was read comes back.
-use Rattle.std.proofs.Common.{◌≡◌, ℕ, List, true, Result, Ok, Err, refl, sym, ap, ◌∙◌, subst}
+use Rattle.std.proofs.Common.{◌≡◌, ℕ, List, true, Result, Ok, Err, refl, ◌∙◌, subst}
 use Rattle.std.specs.Prelude.{is_ok}
 use Rattle.serde_json.specs.Data.{Data}
 use Rattle.bson_leaf.specs.declared.form.Form.{Form}
