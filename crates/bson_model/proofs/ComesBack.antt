@@ -1,0 +1,57 @@
+-- A value that was read comes back from its text.
+use Rattle.std.proofs.Common.{◌≡◌, true, Result, Ok, Err, refl, ap, ◌∙◌}
+use Rattle.std.specs.Prelude.{is_ok}
+use Rattle.serde_json.specs.Data.{Data}
+use Rattle.serde_json.specs.Written.{compact_text}
+use Rattle.bson_leaf.specs.Written.{Refusal}
+use Rattle.bson_leaf.specs.declared.form.Form.{Form}
+use Rattle.bson_model.specs.Means.{Means}
+use Rattle.bson_model.specs.Texts.{HasEqualTexts, HasText, ComesBack}
+use Rattle.bson_model.specs.Same.{same}
+use Rattle.bson_model.specs.Value.{Value}
+use Rattle.bson_model.specs.Writing.{normal_form, settled, plain, writable, InRange, Written, writes}
+use Rattle.bson_model.proofs.NoFloats.{no_float}
+use Rattle.bson_model.proofs.ReadBack.{reads_back_is, equal_is, same_trees, settled_form}
+use Rattle.bson_model.proofs.ReadForm.{form}
+use Rattle.bson_model.proofs.SameSorted.{same_to}
+use Rattle.bson_model.proofs.TextLaws.{text_back, one_tree}
+use Rattle.bson_model.proofs.TreeLaws.{tree_is}
+use Rattle.bson_model.proofs.WriteLaws.{canon_from, canon_to, writable_is}
+
+some_ok : (r : Result Data Refusal) → is_ok r ≡ true → (u : Data) × (r ≡ Ok u)
+some_ok (Ok u) h = (u, refl)
+some_ok (Err e) h = cc
+
+-- a writable value has a tree
+tree_of : (f : Form) (v : Value) → writable v ≡ true → (u : Data) × (writes f v ≡ Ok u)
+tree_of f v h = some_ok (writes f v) (writable_is f v ∙ h)
+
+-- the value that a tree of v means has that tree
+same_tree : (f : Form) (v : Value) (u : Data) (w : Value) → writes f v ≡ Ok u → Means u w → same w (settled f (normal_form v)) ≡ true → Written f (normal_form w) u
+same_tree f v u w h m is =
+    let own = tree_of f w (form u w m).1 in
+    let one : own.0 ≡ u = same_trees f w (settled f (normal_form v)) own.0 u own.1 (settled_form f v u h) (same_to w (settled f (normal_form v)) is) in
+    canon_from f w u (own.1 ∙ ap Ok one)
+
+equal_texts : (f : Form) (v : Value) (u : Data) (w : Value) (x : Data) → writes f v ≡ Ok u → plain v ≡ true → InRange v → HasEqualTexts f v u w x
+equal_texts f v u w x h p r q s c =
+    let g = canon_to f w x c in
+    let trees = equal_is f v u w x h r p q s c in (
+      λ e. trees.0 (one_tree u x (no_float f v u h) (tree_is f v u h r) (no_float f w x g) (tree_is f w x g s) e),
+      λ e. ap compact_text (trees.1 e),
+    )
+
+pub has_text : (f : Form) (v : Value) (u : Data) → writes f v ≡ Ok u → plain v ≡ true → InRange v → HasText f v u
+has_text f v u h p r = record {
+  written = canon_from f v u h;
+  read_again = text_back u (no_float f v u h) (tree_is f v u h r);
+  means = let b = reads_back_is f v u h r p in (b.0, b.1, b.2, same_tree f v u b.0 h b.1 b.2);
+  equal = λ w x. equal_texts f v u w x h p r;
+}
+
+pub comes_back : (v : Value) → plain v ≡ true → writable v ≡ true → InRange v → ComesBack v
+comes_back v p w r f = let t = tree_of f v w in (t.0, has_text f v t.0 t.1 p r)
+
+-- what a tree means comes back
+pub read_comes_back : (t : Data) (v : Value) → Means t v → InRange v → ComesBack v
+read_comes_back t v m r = let f = form t v m in comes_back v f.0 f.1 r

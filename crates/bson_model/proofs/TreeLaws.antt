@@ -1,0 +1,141 @@
+-- What is written is a tree that `serde_json` has.
+use Rattle.std.proofs.Common.{◌≡◌, ◌<◌, ◌^◌, ℕ, ℤ, pos, negsuc, List, Bool, true, false, Result, Ok, Err, Ordering, Less, Equal, Greater, refl, sym, subst, arith, w32, w64}
+use Rattle.std.specs.Prelude.{FitsSigned, codes}
+use Rattle.std.specs.Ordering.{match_ordering}
+use Rattle.std.proofs.lemmas.Cmp.{nat_list_cmp_total}
+use lib.Signed.{mag}
+use Rattle.serde_json.specs.Data.{Data, Items, no_items, item, Members, no_members, member, put}
+use Rattle.serde_json.specs.Data as tree
+use Rattle.serde_json.specs.Find.{of_integer}
+use Rattle.bson_leaf.specs.Dates.{is_recent, relaxed_date_tree}
+use Rattle.bson_leaf.specs.Doubles.{double_text}
+use Rattle.bson_leaf.specs.Normal.{ScalarInRange}
+use Rattle.bson_leaf.specs.Scalar.{Scalar, null, undefined, min_key, max_key, boolean, double, int32, int64, text, symbol, code, regex, timestamp, binary, object_id, date, decimal, db_pointer}
+use Rattle.bson_leaf.specs.Shapes.{two}
+use Rattle.bson_leaf.specs.Written.{Refusal, ◌>>=◌, or_finite, writes_scalar, int32_form, int64_form, date_form}
+use Rattle.bson_leaf.specs.declared.form.Form.{Form}
+use Rattle.bson_leaf.specs.declared.form.Form.TheVariants.{Canonical, Relaxed}
+use Rattle.bson_model.specs.Texts.{IsBelow, Ascends, IsTree, ItemsAreTrees, MembersAreTrees}
+use Rattle.bson_model.specs.Value.{Value, scalar, code_scope, array, document, Values, no_values, value, Pairs, no_pairs, pair}
+use Rattle.bson_model.specs.Writing.{InRange, ItemsInRange, PairsInRange, writes, writes_items, writes_pairs}
+use Rattle.bson_model.proofs.PutLaws.{cmp, flipped}
+
+bind_ok : {A B : Type 0} (r : Result A Refusal) (f : A → Result B Refusal) (y : B) → (r >>= f) ≡ Ok y → (x : A) × (r ≡ Ok x) × (f x ≡ Ok y)
+bind_ok (Ok x) f y h = (x, refl, h)
+bind_ok (Err e) f y h = cc
+
+un_ok : {A : Type 0} (x y : A) → ◌≡◌ {A = Result A Refusal} (Ok x) (Ok y) → y ≡ x
+un_ok x y h = cc
+
+-- ---- a map stays one
+
+below_more : (k l : List ℕ) (ms : Members) → cmp k l ≡ Less → IsBelow l ms → IsBelow k ms
+below_more k l no_members h b = tt
+below_more k l (member a d ms) h b = (nat_list_cmp_total.trans k l a h b.0, below_more k l ms h b.1)
+
+below_put_at : (o : Ordering) (q k l : List ℕ) (d e : Data) (ms : Members) → cmp q k ≡ Less → cmp q l ≡ Less → IsBelow q ms → IsBelow q (put k d ms)
+    → IsBelow q (match_ordering o (member k d (member l e ms)) (member l d ms) (member l e (put k d ms)))
+below_put_at Less q k l d e ms a b h is = (a, (b, h))
+below_put_at Equal q k l d e ms a b h is = (b, h)
+below_put_at Greater q k l d e ms a b h is = (b, is)
+
+below_put : (q k : List ℕ) (d : Data) (ms : Members) → cmp q k ≡ Less → IsBelow q ms → IsBelow q (put k d ms)
+below_put q k d no_members a h = (a, tt)
+below_put q k d (member l e ms) a h = below_put_at (cmp k l) q k l d e ms a h.0 h.1 (below_put q k d ms a h.1)
+
+ascends_put_at : (o : Ordering) (k l : List ℕ) (d e : Data) (ms : Members) → cmp k l ≡ o → IsBelow l ms → Ascends ms → Ascends (put k d ms)
+    → Ascends (match_ordering o (member k d (member l e ms)) (member l d ms) (member l e (put k d ms)))
+ascends_put_at Less k l d e ms c b h is = ((c, below_more k l ms c b), (b, h))
+ascends_put_at Equal k l d e ms c b h is = (b, h)
+ascends_put_at Greater k l d e ms c b h is = (below_put l k d ms (flipped k l Greater c) b, is)
+
+ascends_put : (k : List ℕ) (d : Data) (ms : Members) → Ascends ms → Ascends (put k d ms)
+ascends_put k d no_members h = (tt, tt)
+ascends_put k d (member l e ms) h = ascends_put_at _ k l d e ms refl h.0 h.1 (ascends_put k d ms h.1)
+
+trees_put_at : (o : Ordering) (k l : List ℕ) (d e : Data) (ms : Members) → IsTree d → IsTree e → MembersAreTrees ms → MembersAreTrees (put k d ms)
+    → MembersAreTrees (match_ordering o (member k d (member l e ms)) (member l d ms) (member l e (put k d ms)))
+trees_put_at Less k l d e ms a b h is = (a, (b, h))
+trees_put_at Equal k l d e ms a b h is = (a, h)
+trees_put_at Greater k l d e ms a b h is = (b, is)
+
+trees_put : (k : List ℕ) (d : Data) (ms : Members) → IsTree d → MembersAreTrees ms → MembersAreTrees (put k d ms)
+trees_put k d no_members a h = (a, tt)
+trees_put k d (member l e ms) a h = trees_put_at (cmp k l) k l d e ms a h.0 h.1 (trees_put k d ms a h.1)
+
+-- ---- scalars
+
+two_is : (k l : List ℕ) (d e : Data) → cmp k l ≡ Less → IsTree d → IsTree e → IsTree (two k d l e)
+two_is k l d e c h g = (((c, tt), (tt, tt)), (h, (g, tt)))
+
+whole_is : (z : ℤ) → mag z < 2 ^ 63 → IsTree (tree.number (of_integer z))
+whole_is (pos n) h = omega arith
+whole_is (negsuc n) h = h
+
+int32_is : (f : Form) (z : ℤ) → FitsSigned w32 z → IsTree (int32_form f z)
+int32_is Canonical z r = ((tt, tt), (tt, tt))
+int32_is Relaxed z r = whole_is z (let small : mag z < 2 ^ 31 = r.sfits in omega arith)
+
+int64_is : (f : Form) (z : ℤ) → FitsSigned w64 z → IsTree (int64_form f z)
+int64_is Canonical z r = ((tt, tt), (tt, tt))
+int64_is Relaxed z r = whole_is z r.sfits
+
+long_date_is : (z : ℤ) → IsTree (date_form Canonical z)
+long_date_is z = ((tt, tt), (((tt, tt), (tt, tt)), tt))
+
+recent_is : (b : Bool) (z : ℤ) → is_recent z ≡ b → IsTree (relaxed_date_tree z)
+recent_is true z e = rw e ((tt, tt), (tt, tt))
+recent_is false z e = rw e (long_date_is z)
+
+date_is : (f : Form) (z : ℤ) → IsTree (date_form f z)
+date_is Canonical z = long_date_is z
+date_is Relaxed z = recent_is _ z refl
+
+scalar_is : (f : Form) (x : Scalar) (t : Data) → writes_scalar f x ≡ Ok t → ScalarInRange x → IsTree t
+scalar_is f null t h r = rw (un_ok _ _ h) tt
+scalar_is f undefined t h r = rw (un_ok _ _ h) ((tt, tt), (tt, tt))
+scalar_is f min_key t h r = rw (un_ok _ _ h) ((tt, tt), (omega arith, tt))
+scalar_is f max_key t h r = rw (un_ok _ _ h) ((tt, tt), (omega arith, tt))
+scalar_is f (boolean b) t h r = rw (un_ok _ _ h) tt
+scalar_is f (double p) t h r = let b = bind_ok (or_finite (double_text p)) _ t h in rw (un_ok _ _ b.2) ((tt, tt), (tt, tt))
+scalar_is f (int32 z) t h r = rw (un_ok _ _ h) (int32_is f z r)
+scalar_is f (int64 z) t h r = rw (un_ok _ _ h) (int64_is f z r)
+scalar_is f (text s) t h r = rw (un_ok _ _ h) tt
+scalar_is f (symbol s) t h r = rw (un_ok _ _ h) ((tt, tt), (tt, tt))
+scalar_is f (code s) t h r = rw (un_ok _ _ h) ((tt, tt), (tt, tt))
+scalar_is f (regex p o) t h r = rw (un_ok _ _ h) ((tt, tt), ((((refl, tt), (tt, tt)), (tt, (tt, tt))), tt))
+scalar_is f (timestamp s i) t h r =
+    let a : s < 2 ^ 32 = r.0 in
+    let b : i < 2 ^ 32 = r.1 in
+    rw (un_ok _ _ h) ((tt, tt), ((((refl, tt), (tt, tt)), (omega arith, (omega arith, tt))), tt))
+scalar_is f (binary k bytes) t h r = rw (un_ok _ _ h) ((tt, tt), ((((refl, tt), (tt, tt)), (tt, (tt, tt))), tt))
+scalar_is f (object_id id) t h r = rw (un_ok _ _ h) ((tt, tt), (tt, tt))
+scalar_is f (date z) t h r = rw (un_ok _ _ h) (date_is f z)
+scalar_is f (decimal b) t h r = rw (un_ok _ _ h) ((tt, tt), (tt, tt))
+scalar_is f (db_pointer s id) t h r = rw (un_ok _ _ h) ((tt, tt), ((((refl, tt), (tt, tt)), (((tt, tt), (tt, tt)), (tt, tt))), tt))
+
+-- ---- values
+
+mutual
+  pub tree_is : (f : Form) (v : Value) (t : Data) → writes f v ≡ Ok t → InRange v → IsTree t
+  tree_is f (scalar x) t h r = scalar_is f x t h r
+  tree_is f (code_scope s ps) t h r =
+      let b = bind_ok (writes_pairs f ps) _ t h in
+      rw (un_ok _ _ b.2) (two_is (codes "$code") (codes "$scope") (tree.string s) (tree.object b.0) refl tt (pairs_are f ps b.0 b.1 r))
+  tree_is f (array vs) t h r = let b = bind_ok (writes_items f vs) _ t h in rw (un_ok _ _ b.2) (items_are f vs b.0 b.1 r)
+  tree_is f (document ps) t h r = let b = bind_ok (writes_pairs f ps) _ t h in rw (un_ok _ _ b.2) (pairs_are f ps b.0 b.1 r)
+
+  items_are : (f : Form) (vs : Values) (ds : Items) → writes_items f vs ≡ Ok ds → ItemsInRange vs → ItemsAreTrees ds
+  items_are f no_values ds h r = rw (un_ok _ _ h) tt
+  items_are f (value v vs) ds h r =
+      let b = bind_ok (writes f v) _ ds h in
+      let c = bind_ok (writes_items f vs) _ ds b.2 in
+      rw (un_ok _ _ c.2) (tree_is f v b.0 b.1 r.0, items_are f vs c.0 c.1 r.1)
+
+  pairs_are : (f : Form) (ps : Pairs) (ms : Members) → writes_pairs f ps ≡ Ok ms → PairsInRange ps → Ascends ms × MembersAreTrees ms
+  pairs_are f no_pairs ms h r = rw (un_ok _ _ h) (tt, tt)
+  pairs_are f (pair k v ps) ms h r =
+      let b = bind_ok (writes f v) _ ms h in
+      let c = bind_ok (writes_pairs f ps) _ ms b.2 in
+      let rest = pairs_are f ps c.0 c.1 r.1 in
+      subst (λ m. Ascends m × MembersAreTrees m) (sym (un_ok _ _ c.2)) (ascends_put k b.0 c.0 rest.0, trees_put k b.0 c.0 (tree_is f v b.0 b.1 r.0) rest.1)

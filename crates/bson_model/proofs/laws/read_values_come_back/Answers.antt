@@ -1,0 +1,5 @@
+use Rattle.bson_model.proofs.ComesBack.{read_comes_back}
+use Rattle.bson_model.proofs.laws.read_values_come_back.Goals as goal
+
+pub returns : goal.returns
+returns c = read_comes_back

@@ -1,0 +1,73 @@
+-- Trees as compact texts, and the law that a value that was read comes back.
+use Rattle.std.specs.Prelude.{◌≡◌, ◌<◌, ◌≤◌, ◌^◌, ◌↔◌, ℕ, pos, negsuc, List, true, false, Some}
+use Rattle.std.specs.Cmp.Lexicographic.{slice_cmp}
+use Rattle.std.specs.Ordering.{nat_cmp}
+use Rattle.std.specs.declared.cmp.Ordering.TheVariants.{Less}
+use Rattle.serde_json.specs.Data.{Num, unsigned, negative, float, Data, Items, no_items, item, Members, no_members, member, depth}
+use Rattle.serde_json.specs.Data as tree
+use Rattle.serde_json.specs.Read.{read, max_depth}
+use Rattle.serde_json.specs.Written.{has_float, compact_text}
+use Rattle.bson_leaf.specs.declared.form.Form.{Form}
+use Rattle.bson_model.specs.Value.{Value}
+use Rattle.bson_model.specs.Means.{Means}
+use Rattle.bson_model.specs.Same.{same}
+use Rattle.bson_model.specs.Writing.{Written, normal_form, settled, plain, InRange}
+
+-- ---- the trees that `serde_json` has
+
+abbrev pub NumberFits : Num → Type 0
+NumberFits (unsigned n) = n < 2 ^ 64
+NumberFits (negative (pos n)) = ⊥
+NumberFits (negative (negsuc n)) = n < 2 ^ 63
+NumberFits (float x) = Unit {0}
+
+-- the key is less than each key of the map
+abbrev pub IsBelow : List ℕ → Members → Type 0
+IsBelow k no_members = Unit {0}
+IsBelow k (member l d ms) = (slice_cmp nat_cmp k l ≡ Less) × IsBelow k ms
+
+abbrev pub Ascends : Members → Type 0
+Ascends no_members = Unit {0}
+Ascends (member k d ms) = IsBelow k ms × Ascends ms
+
+abbrev mutual
+  -- each number is in the range of its Rust type, and each map has its keys in ascending order
+  pub IsTree : Data → Type 0
+  IsTree tree.null = Unit {0}
+  IsTree (tree.boolean b) = Unit {0}
+  IsTree (tree.number n) = NumberFits n
+  IsTree (tree.string s) = Unit {0}
+  IsTree (tree.array ds) = ItemsAreTrees ds
+  IsTree (tree.object ms) = Ascends ms × MembersAreTrees ms
+
+  pub ItemsAreTrees : Items → Type 0
+  ItemsAreTrees no_items = Unit {0}
+  ItemsAreTrees (item d ds) = IsTree d × ItemsAreTrees ds
+
+  pub MembersAreTrees : Members → Type 0
+  MembersAreTrees no_members = Unit {0}
+  MembersAreTrees (member k d ms) = IsTree d × MembersAreTrees ms
+
+-- the text is read as the tree again, unless that nests deeper than texts may, and no other tree has the text
+abbrev pub HasOwnText : Data → Type 0
+HasOwnText t = (depth t ≤ max_depth → read (compact_text t) ≡ Some t) × ((u : Data) → has_float u ≡ false → IsTree u → compact_text t ≡ compact_text u → t ≡ u)
+
+-- ---- texts of values
+
+-- the tree u of v, and the tree x of w
+abbrev pub HasEqualTexts : Form → Value → Data → Value → Data → Type 0
+HasEqualTexts f v u w x = plain w ≡ true → InRange w → Written f (normal_form w) x → ((compact_text u ≡ compact_text x) ↔ (same (settled f (normal_form v)) (settled f (normal_form w)) ≡ true))
+
+-- what the compact text of the tree u of the value v in the form f is
+pub record HasText (f : Form) (v : Value) (u : Data) : Type 0 where
+  pub written : Written f (normal_form v) u
+  -- it is read as the tree again, unless it nests deeper than texts may
+  pub read_again : depth u ≤ max_depth → read (compact_text u) ≡ Some u
+  -- the tree means one value, the same as the normal form, and is the tree of that value too
+  pub means : (w : Value) × Means u w × (same w (settled f (normal_form v)) ≡ true) × Written f (normal_form w) u
+  -- no other value has the text
+  pub equal : (w : Value) (x : Data) → HasEqualTexts f v u w x
+
+-- the value has a tree in each form, which is read from its text again
+abbrev pub ComesBack : Value → Type 0
+ComesBack v = (f : Form) → (u : Data) × HasText f v u
