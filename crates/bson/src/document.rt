@@ -1,11 +1,23 @@
 //! Documents.
-ghost use Rattle.std.specs.Prelude.{◌≡◌, [], length};
+//!
+//! `get` looks up by key, `insert` puts and takes, `entry` is the place of one key, `place` is the pair at one place, and `iter` walks the pairs. The typed look-ups stand in `getters`.
+pub mod entry;
+mod get;
+mod insert;
+pub mod iter;
+pub mod place;
 
 use crate::bson::Bson;
 use bson_store::{IndexedPairs, PairStore};
+pub use entry::{Entry, OccupiedEntry, VacantEntry};
+pub use insert::Refused;
+pub use iter::{IntoIter, Iter, Keys, Values};
+pub use place::PlaceMut;
 use std::alloc::Global;
 
-/// A list of pairs with distinct keys.
+/// A document of BSON 1.1: a list of pairs of a key and a value, in the order in which the keys were put, in which no key stands twice.
+///
+/// A key is found in constant time, and taken out in time in proportion to the pairs behind it. Two documents are equal if they have the same keys, in any order, and equal values under each.
 #[derive(Drop)]
 #[cycle(bson)]
 pub struct Document {
@@ -13,22 +25,18 @@ pub struct Document {
 }
 
 impl Document {
+    ghost use Rattle.std.specs.Prelude.{◌≡◌, []};
     ghost use Rattle.bson_model.specs.Value.{document};
     ghost use Rattle.bson_model.specs.Same.{same};
     ghost use Rattle.bson.specs.View.{pairs_view};
 
+    /// A document of no pairs, which takes its memory from `alloc` and has taken none yet.
     pub fn new(alloc: Global) -> Document
         ensures { result.pairs ≡ [] }
     {
         Document {
             pairs: IndexedPairs::new(alloc),
         }
-    }
-
-    pub fn len(&self) -> usize
-        ensures { result ≡ length self.now.pairs }
-    {
-        self.pairs.len()
     }
 
     #[cycle(same)]

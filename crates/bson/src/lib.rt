@@ -2,6 +2,7 @@
 #![tactic(auto)]
 
 pub mod bson;
+mod clone;
 pub mod document;
 pub mod extjson;
 mod hash;

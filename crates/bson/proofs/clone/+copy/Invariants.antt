@@ -1,0 +1,10 @@
+use Rattle.std.proofs.Common.{◌≡◌, map, take}
+use Rattle.bson.specs.View.{bson_view}
+use Rattle.bson.proofs.Copied.{viewed}
+use Rattle.bson.proofs.clone.+copy.Given as goal
+
+abbrev pub invariant-copy_values-loop-value : goal.invariant-copy_values-loop-value
+invariant-copy_values-loop-value l = map bson_view l.copies.items ≡ map bson_view (take l.value-index l.value-items)
+
+abbrev pub invariant-copy_pairs-loop-i : goal.invariant-copy_pairs-loop-i
+invariant-copy_pairs-loop-i l = viewed l.pairs ≡ viewed (take l.i l.document.pairs)

@@ -1,0 +1,106 @@
+//! Copies of values, in memory of their own.
+ghost use Rattle.std.specs.Prelude.{◌≡◌, IfOk};
+ghost use Rattle.bson.specs.View.{bson_view, scoped_view, values_view, pairs_view};
+
+use crate::bson::{Bson, JavaScriptCodeWithScope};
+use crate::document::Document;
+use bson_store::{IndexedPairs, PairStore};
+use std::alloc::{AllocError, Global};
+
+impl Bson {
+    /// The same value, in memory of its own.
+    pub fn clone(&self, alloc: Global) -> Result<Bson, AllocError>
+        ensures { IfOk result (λ v. bson_view v ≡ bson_view self.now) }
+    {
+        copy(alloc, self)
+    }
+}
+
+impl JavaScriptCodeWithScope {
+    /// The same code and scope, in memory of their own.
+    pub fn clone(&self, alloc: Global) -> Result<JavaScriptCodeWithScope, AllocError>
+        ensures { IfOk result (λ v. scoped_view v ≡ scoped_view self.now) }
+    {
+        copy_scoped(alloc, self)
+    }
+}
+
+impl Document {
+    /// The same pairs in the same order, in memory of their own, from the document's allocator.
+    pub fn clone(&self) -> Result<Document, AllocError>
+        ensures { IfOk result (λ d. pairs_view d.pairs ≡ pairs_view self.now.pairs) }
+    {
+        copy_pairs(self.pairs.allocator(), self)
+    }
+}
+
+#[cycle(copy)]
+fn copy(alloc: Global, value: &Bson) -> Result<Bson, AllocError>
+    ensures { IfOk result (λ v. bson_view v ≡ bson_view value.now) }
+{
+    Ok(match value {
+        Bson::Array(values) => Bson::Array(copy_values(alloc, values)?),
+        Bson::Document(document) => Bson::Document(copy_pairs(alloc, document)?),
+        Bson::JavaScriptCodeWithScope(scoped) => Bson::JavaScriptCodeWithScope(copy_scoped(
+            alloc, scoped,
+        )?),
+        Bson::Null => Bson::Null,
+        Bson::Undefined => Bson::Undefined,
+        Bson::MinKey => Bson::MinKey,
+        Bson::MaxKey => Bson::MaxKey,
+        Bson::Boolean(b) => Bson::Boolean(*b),
+        Bson::Double(pattern) => Bson::Double(*pattern),
+        Bson::Int32(z) => Bson::Int32(*z),
+        Bson::Int64(z) => Bson::Int64(*z),
+        Bson::String(text) => Bson::String(String::from_str(alloc, text.as_str())?),
+        Bson::Symbol(text) => Bson::Symbol(String::from_str(alloc, text.as_str())?),
+        Bson::JavaScriptCode(code) => Bson::JavaScriptCode(String::from_str(alloc, code.as_str())?),
+        Bson::RegularExpression(regex) => Bson::RegularExpression(regex.clone(alloc)?),
+        Bson::Timestamp(stamp) => Bson::Timestamp(*stamp),
+        Bson::Binary(binary) => Bson::Binary(binary.clone(alloc)?),
+        Bson::ObjectId(id) => Bson::ObjectId(*id),
+        Bson::DateTime(date) => Bson::DateTime(*date),
+        Bson::Decimal128(decimal) => Bson::Decimal128(*decimal),
+        Bson::DbPointer(pointer) => Bson::DbPointer(pointer.clone(alloc)?),
+    })
+}
+
+#[cycle(copy)]
+fn copy_scoped(
+    alloc: Global,
+    scoped: &JavaScriptCodeWithScope,
+) -> Result<JavaScriptCodeWithScope, AllocError>
+    ensures { IfOk result (λ v. scoped_view v ≡ scoped_view scoped.now) }
+{
+    Ok(JavaScriptCodeWithScope {
+        code: String::from_str(alloc, scoped.code.as_str())?,
+        scope: copy_pairs(alloc, &scoped.scope)?,
+    })
+}
+
+#[cycle(copy)]
+fn copy_values(alloc: Global, values: &Vec<Bson>) -> Result<Vec<Bson>, AllocError>
+    ensures { IfOk result (λ v. values_view v.items ≡ values_view values.now.items) }
+{
+    let mut copies = Vec::with_capacity(alloc, values.len())?;
+    for value in values {
+        copies.push(copy(alloc, value)?)?;
+    }
+    Ok(copies)
+}
+
+#[cycle(copy)]
+fn copy_pairs(alloc: Global, document: &Document) -> Result<Document, AllocError>
+    ensures { IfOk result (λ d. pairs_view d.pairs ≡ pairs_view document.now.pairs) }
+{
+    let mut pairs = IndexedPairs::new(alloc);
+    for i in 0..document.pairs.len() {
+        let key = String::from_str(alloc, document.pairs.key_at(i).as_str())?;
+        let value = copy(alloc, document.pairs.value_at(i))?;
+        match pairs.push(key, value) {
+            Ok(()) => {}
+            Err(_) => return Err(AllocError),
+        }
+    }
+    Ok(Document { pairs })
+}

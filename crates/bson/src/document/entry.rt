@@ -1,0 +1,165 @@
+//! The place of one key in a document, to look at or to fill.
+//!
+//! A clause `writes_back` says what the document holds once the reference that the call returns has ended.
+ghost use Rattle.std.specs.Prelude.{◌≡◌, Some, None, string_bytes};
+ghost use Rattle.bson_store.specs.Pairs.{place_of};
+
+use super::Document;
+use crate::bson::Bson;
+use bson_store::PairStore;
+use std::alloc::AllocError;
+
+/// The entry of a key, which the document has or lacks; `Document::entry` makes it.
+#[derive(Drop)]
+pub enum Entry<'a> {
+    /// The document has the key.
+    Occupied(OccupiedEntry<'a>),
+    /// The document lacks the key.
+    Vacant(VacantEntry<'a>),
+}
+
+/// A key that the document has.
+#[derive(Drop)]
+pub struct OccupiedEntry<'a> {
+    document: &'a mut Document,
+    key: String,
+    at: usize,
+    ghost found: { place_of (string_bytes key) document.now.pairs ≡ Some at },
+}
+
+/// A key that the document lacks.
+#[derive(Drop)]
+pub struct VacantEntry<'a> {
+    document: &'a mut Document,
+    key: String,
+    ghost absent: { place_of (string_bytes key) document.now.pairs ≡ None },
+}
+
+impl Document {
+    ghost use Rattle.std.specs.Prelude.{◌≡◌, ◌++◌, ◌∷◌, [], None, is_some, IsTrue, string_bytes, OnOk, OnErr};
+    ghost use Rattle.bson_store.specs.Pairs.{get, place_of};
+    ghost use Rattle.bson.specs.Entry.{entry_document, entry_key, MatchEntry};
+
+    // Puts a pair last, whose key is absent.
+    fn add(&mut self, key: String, value: Bson) -> Result<(), AllocError>
+        requires { place_of (string_bytes key) self.old.pairs ≡ None }
+        ensures ok { OnOk result (self.new.pairs ≡ self.old.pairs ++ (string_bytes key, value) ∷ []) }
+        ensures err { OnErr result (self.new ≡ self.old) }
+    {
+        match self.pairs.push(key, value) {
+            Ok(()) => Ok(()),
+            Err(_) => Err(AllocError),
+        }
+    }
+
+    /// The entry of the key, which takes no memory.
+    pub fn entry(&mut self, key: String) -> Entry<'_>
+        ensures key { entry_key result ≡ string_bytes key }
+        ensures same_document { (entry_document result).ghost_name ≡ self.entry.ghost_name }
+        ensures unchanged { (entry_document result).now ≡ self.old }
+        ensures found { MatchEntry result (IsTrue (is_some (get (string_bytes key) self.old.pairs))) (get (string_bytes key) self.old.pairs ≡ None) }
+    {
+        match self.pairs.find(key.as_str()) {
+            Some(at) => Entry::Occupied(OccupiedEntry {
+                document: self,
+                key,
+                at,
+            }),
+            None => Entry::Vacant(VacantEntry {
+                document: self,
+                key,
+            }),
+        }
+    }
+}
+
+impl<'a> Entry<'a> {
+    ghost use Rattle.std.specs.Prelude.{◌≡◌, Some, None, unwrap_or, IfOk, OnErr};
+    ghost use Rattle.std.specs.Borrow.{sem};
+    ghost use Rattle.std.specs.Option.{UnwrapsOrElse};
+    ghost use Rattle.bson.specs.declared.bson.Bson.{Bson};
+    ghost use Rattle.bson.specs.Entry.{entry_key, entry_value, entry_lends};
+
+    /// The key that was asked for.
+    pub fn key(&self) -> &str
+        ensures { result.now ≡ entry_key self.now }
+    {
+        match self {
+            Entry::Occupied(entry) => entry.key(),
+            Entry::Vacant(entry) => entry.key.as_str(),
+        }
+    }
+
+    /// The value at the key, to be written; where the document lacked the key, the pair of the key and `default` is put last.
+    ///
+    /// An occupied entry takes no memory and answers the value that is there. Where memory is refused the document is as it was.
+    pub fn or_insert(self, default: Bson) -> Result<&'a mut Bson, AllocError>
+        ensures* writes_back { sem 𝓛 (entry_lends self.entry result) }
+        ensures value { IfOk result (λ x. x.now ≡ unwrap_or (entry_value self.entry) default) }
+        ensures absent { OnErr result (entry_value self.entry ≡ None) }
+    {
+        match self {
+            Entry::Occupied(entry) => {
+                drop(default);
+                Ok(entry.into_mut())
+            }
+            Entry::Vacant(entry) => entry.insert(default),
+        }
+    }
+
+    /// The value at the key, to be written; where the document lacked the key, the pair of the key and what `default` returns is put last.
+    ///
+    /// An occupied entry takes no memory, doesn't call `default` and answers the value that is there. A vacant one calls it once, before the document grows; where memory is refused the document is as it was.
+    pub fn or_insert_with<F: FnOnce() -> Bson>(self, default: F) -> Result<&'a mut Bson, AllocError>
+        requires { entry_value self ≡ None → F.pre default }
+        ensures* writes_back { sem 𝓛 (entry_lends self.entry result) }
+        ensures value { IfOk result (λ x. UnwrapsOrElse (entry_value self.entry) (F.post default) x.now) }
+        ensures absent { OnErr result (entry_value self.entry ≡ None) }
+        ensures called { OnErr result ((v : Bson) × F.post default v) }
+    {
+        match self {
+            Entry::Occupied(entry) => Ok(entry.into_mut()),
+            Entry::Vacant(entry) => entry.insert(default()),
+        }
+    }
+}
+
+impl<'a> OccupiedEntry<'a> {
+    ghost use Rattle.std.specs.Prelude.{◌≡◌, Some};
+    ghost use Rattle.std.specs.Borrow.{sem};
+    ghost use Rattle.bson.specs.Entry.{Occupied, entry_key, entry_value, occupied_lends};
+
+    /// The key that was asked for.
+    pub fn key(&self) -> &str
+        ensures { result.now ≡ entry_key (Occupied self.now) }
+    {
+        self.key.as_str()
+    }
+
+    // The value, for as long as the document is lent.
+    fn into_mut(self) -> &'a mut Bson
+        ensures* writes_back { sem 𝓛 (occupied_lends self.entry result) }
+        ensures value { entry_value (Occupied self.entry) ≡ Some result.now }
+    {
+        let OccupiedEntry { document, key, at } = self;
+        drop(key);
+        document.pairs.value_at_mut(at)
+    }
+}
+
+impl<'a> VacantEntry<'a> {
+    ghost use Rattle.std.specs.Prelude.{◌≡◌, IfOk};
+    ghost use Rattle.std.specs.Borrow.{sem};
+    ghost use Rattle.bson.specs.Entry.{Vacant, entry_lends};
+
+    // Puts the pair last, and gives its value.
+    fn insert(self, value: Bson) -> Result<&'a mut Bson, AllocError>
+        ensures* writes_back { sem 𝓛 (entry_lends (Vacant self.entry) result) }
+        ensures value { IfOk result (λ x. x.now ≡ value) }
+    {
+        let VacantEntry { document, key } = self;
+        let at = document.pairs.len();
+        document.add(key, value)?;
+        Ok(document.pairs.value_at_mut(at))
+    }
+}

@@ -1,0 +1,165 @@
+//! The walks over a document. Each gives the pairs in their order, each once, and ends.
+use super::Document;
+use crate::bson::Bson;
+use bson_store::{IndexedPairs, IntoPairs, PairStore};
+
+/// The pairs that are left, each as a key and a value; `Document::iter` makes it.
+#[derive(Drop)]
+pub struct Iter<'a> {
+    pairs: &'a IndexedPairs<Bson>,
+    at: usize,
+}
+
+/// The keys of the pairs that are left; `Document::keys` makes it.
+#[derive(Drop)]
+pub struct Keys<'a> {
+    pairs: Iter<'a>,
+}
+
+/// The values of the pairs that are left; `Document::values` makes it.
+#[derive(Drop)]
+pub struct Values<'a> {
+    pairs: Iter<'a>,
+}
+
+/// The pairs that are left, by value; `Document::into_iter` makes it.
+#[derive(Drop)]
+pub struct IntoIter {
+    pairs: IntoPairs<Bson>,
+}
+
+impl<'a> Iterator for Iter<'a> {
+    type Item = (&'a String, &'a Bson);
+
+    ghost use Rattle.std.specs.Prelude.{string_bytes};
+    ghost use Rattle.std.specs.Iterator.{YieldsFirstBy, item_count};
+    ghost use Rattle.bson.specs.Iter.{pairs_left};
+
+    ghost next_gives = { YieldsFirstBy (λ p. (string_bytes p.0.now, p.1.now)) pairs_left };
+
+    ghost remaining = { item_count pairs_left };
+
+    fn next(&mut self) -> Option<(&'a String, &'a Bson)> {
+        let at = self.at;
+        if at < self.pairs.len() {
+            self.at = at + 1;
+            Some((self.pairs.key_at(at), self.pairs.value_at(at)))
+        } else {
+            None
+        }
+    }
+}
+
+impl<'a> Iterator for Keys<'a> {
+    type Item = &'a String;
+
+    ghost use Rattle.std.specs.Prelude.{string_bytes};
+    ghost use Rattle.std.specs.Iterator.{YieldsFirstBy, item_count};
+    ghost use Rattle.bson.specs.Iter.{keys_left};
+
+    ghost next_gives = { YieldsFirstBy (λ k. string_bytes k.now) keys_left };
+
+    ghost remaining = { item_count keys_left };
+
+    fn next(&mut self) -> Option<&'a String> {
+        match self.pairs.next() {
+            Some((key, _)) => Some(key),
+            None => None,
+        }
+    }
+}
+
+impl<'a> Iterator for Values<'a> {
+    type Item = &'a Bson;
+
+    ghost use Rattle.std.specs.Iterator.{YieldsFirstRef, item_count};
+    ghost use Rattle.bson.specs.Iter.{values_left};
+
+    ghost next_gives = { YieldsFirstRef values_left };
+
+    ghost remaining = { item_count values_left };
+
+    fn next(&mut self) -> Option<&'a Bson> {
+        match self.pairs.next() {
+            Some((_, value)) => Some(value),
+            None => None,
+        }
+    }
+}
+
+impl Iterator for IntoIter {
+    type Item = (String, Bson);
+
+    ghost use Rattle.std.specs.Prelude.{string_bytes};
+    ghost use Rattle.std.specs.Iterator.{YieldsFirstBy, item_count};
+
+    ghost next_gives = { YieldsFirstBy (λ p. (string_bytes p.0, p.1)) (λ s. s.pairs) };
+
+    ghost remaining = { item_count (λ s. s.pairs) };
+
+    fn next(&mut self) -> Option<(String, Bson)> {
+        self.pairs.next()
+    }
+}
+
+impl Document {
+    ghost use Rattle.std.specs.Prelude.{◌≡◌};
+    ghost use Rattle.bson_store.specs.Pairs.{keys, values};
+    ghost use Rattle.bson.specs.Iter.{pairs_left, keys_left, values_left};
+
+    /// The pairs in their order, each as a key and a value.
+    pub fn iter(&self) -> Iter<'_>
+        ensures { pairs_left result ≡ self.now.pairs }
+    {
+        Iter {
+            pairs: &self.pairs,
+            at: 0,
+        }
+    }
+
+    /// The keys in their order.
+    pub fn keys(&self) -> Keys<'_>
+        ensures { keys_left result ≡ keys self.now.pairs }
+    {
+        Keys { pairs: self.iter() }
+    }
+
+    /// The values in the order of their keys.
+    pub fn values(&self) -> Values<'_>
+        ensures { values_left result ≡ values self.now.pairs }
+    {
+        Values { pairs: self.iter() }
+    }
+}
+
+impl IntoIterator for Document {
+    type Item = (String, Bson);
+
+    type IntoIter = IntoIter;
+
+    ghost use Rattle.std.specs.Prelude.{◌≡◌};
+    ghost use Rattle.bson_store.specs.Pairs.{HasDistinctKeys};
+
+    ghost into_iter_gives = { λ d r. (r.pairs ≡ d.pairs) × HasDistinctKeys d.pairs };
+
+    fn into_iter(self) -> IntoIter {
+        IntoIter {
+            pairs: self.pairs.into_pairs(),
+        }
+    }
+}
+
+impl<'a> IntoIterator for &'a Document {
+    type Item = (&'a String, &'a Bson);
+
+    type IntoIter = Iter<'a>;
+
+    ghost use Rattle.std.specs.Prelude.{◌≡◌};
+    ghost use Rattle.bson.specs.Iter.{pairs_left};
+
+    ghost into_iter_gives = { λ d r. pairs_left r ≡ d.now.pairs };
+
+    fn into_iter(self) -> Iter<'a> {
+        self.iter()
+    }
+}

@@ -1,0 +1,68 @@
+//! The pair at one place of a document, to be looked at or written.
+//!
+//! A clause `writes_back` says what the document holds once the reference that the call returns has ended.
+ghost use Rattle.std.specs.Prelude.{◌≡◌, ◌<◌, ◌≤◌, Some, length, slice_get, IfSome, IfNone, string_bytes};
+ghost use Rattle.std.specs.Borrow.{RestsIfNone, follows, sem};
+ghost use Rattle.bson_store.specs.Pairs.{keys, values, with_value};
+ghost use Rattle.bson.specs.Rows.{bson_row, document_row};
+
+use super::Document;
+use crate::bson::Bson;
+use bson_store::PairStore;
+
+/// A place that the document has; `Document::place_mut` makes it.
+#[derive(Drop)]
+pub struct PlaceMut<'a> {
+    document: &'a mut Document,
+    at: usize,
+    ghost within: { at < length document.now.pairs },
+}
+
+impl Document {
+    /// The pair at a place, from 0, its value to be written. None past the last pair.
+    ///
+    /// No contract can say here that a write changes nothing else; `place_mut` hands out the same value with that promise.
+    pub fn get_index_mut(&mut self, at: usize) -> Option<(&String, &mut Bson)>
+        ensures pair { IfSome result (λ p. Some (string_bytes p.0.now, p.1.now) ≡ slice_get self.old.pairs at) }
+        ensures none { IfNone result (length self.old.pairs ≤ at) }
+    {
+        if at < self.pairs.len() {
+            Some(self.pairs.pair_at_mut(at))
+        } else {
+            None
+        }
+    }
+
+    /// The place of a pair, from 0. None past the last pair.
+    pub fn place_mut(&mut self, at: usize) -> Option<PlaceMut<'_>>
+        ensures* unchanged_at_none { sem 𝓛 (RestsIfNone document_row self.entry (λ p. p.document.ghost_name) result (λ n. n ≡ self.old)) }
+        ensures same_document { IfSome result (λ p. p.document.ghost_name ≡ self.entry.ghost_name) }
+        ensures unchanged { IfSome result (λ p. p.document.now ≡ self.old) }
+        ensures place { IfSome result (λ p. p.at ≡ at) }
+        ensures none { IfNone result (length self.old.pairs ≤ at) }
+    {
+        if at < self.pairs.len() {
+            Some(PlaceMut { document: self, at })
+        } else {
+            None
+        }
+    }
+}
+
+impl<'a> PlaceMut<'a> {
+    /// The key of the pair.
+    pub fn key(&self) -> &String
+        ensures { Some (string_bytes result.now) ≡ slice_get (keys self.now.document.now.pairs) self.now.at }
+    {
+        self.document.pairs.key_at(self.at)
+    }
+
+    /// The value of the pair, to be written. A write changes that value, and nothing else of the document.
+    pub fn into_value(self) -> &'a mut Bson
+        ensures* writes_back { sem 𝓛 (follows document_row bson_row self.entry.document.ghost_name result.ghost_name (λ w. record { pairs = with_value self.entry.document.now.pairs self.entry.at w })) }
+        ensures value { Some result.now ≡ slice_get (values self.entry.document.now.pairs) self.entry.at }
+    {
+        let PlaceMut { document, at } = self;
+        document.pairs.value_at_mut(at)
+    }
+}
