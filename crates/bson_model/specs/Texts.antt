@@ -68,6 +68,10 @@ pub record HasText (f : Form) (v : Value) (u : Data) : Type 0 where
   -- no other value has the text
   pub equal : (w : Value) (x : Data) → HasEqualTexts f v u w x
 
+-- the same of a value that is plain, as each one is that was read
+abbrev pub ReadsAgain : Form → Value → Data → Type 0
+ReadsAgain f v u = plain v ≡ true → HasText f v u
+
 -- the value has a tree in each form, which is read from its text again
 abbrev pub ComesBack : Value → Type 0
 ComesBack v = (f : Form) → (u : Data) × HasText f v u

@@ -3,6 +3,7 @@ ghost use Rattle.std.specs.Prelude.{◌≡◌, IfOk, OnOk, Err, true, false};
 ghost use Rattle.serde_json.specs.View.{view};
 ghost use Rattle.bson_leaf.specs.declared.form.Form.TheVariants.{Canonical, Relaxed};
 ghost use Rattle.bson_leaf.specs.declared.write_error.WriteError.{WriteError};
+ghost use Rattle.bson_model.specs.Texts.{ReadsAgain};
 ghost use Rattle.bson_model.specs.Writing.{IsTreeOf, HasSettledForms, writable};
 ghost use Rattle.bson.specs.View.{bson_view};
 
@@ -21,6 +22,7 @@ impl Bson {
     /// A value that holds a finite double other than zero, at any depth, is refused as `FiniteDouble`.
     pub fn into_canonical_extjson(self, alloc: Global) -> Result<Value, WriteError>
         ensures tree { IfOk result (λ t. IsTreeOf Canonical (bson_view self) (view t)) }
+        ensures reads_again { IfOk result (λ t. ReadsAgain Canonical (bson_view self) (view t)) }
         ensures settles { HasSettledForms (bson_view self) }
         ensures writable { OnOk result (writable (bson_view self) ≡ true) }
         ensures finite { result ≡ Err WriteError.FiniteDouble → writable (bson_view self) ≡ false }
@@ -34,6 +36,7 @@ impl Bson {
     /// A value that holds a finite double other than zero, at any depth, is refused as `FiniteDouble`.
     pub fn into_relaxed_extjson(self, alloc: Global) -> Result<Value, WriteError>
         ensures tree { IfOk result (λ t. IsTreeOf Relaxed (bson_view self) (view t)) }
+        ensures reads_again { IfOk result (λ t. ReadsAgain Relaxed (bson_view self) (view t)) }
         ensures settles { HasSettledForms (bson_view self) }
         ensures writable { OnOk result (writable (bson_view self) ≡ true) }
         ensures finite { result ≡ Err WriteError.FiniteDouble → writable (bson_view self) ≡ false }
@@ -44,6 +47,7 @@ impl Bson {
     // The tree of the value in a form.
     fn into_extjson(self, alloc: Global, form: Form) -> Result<Value, WriteError>
         ensures tree { IfOk result (λ t. IsTreeOf form (bson_view self) (view t)) }
+        ensures reads_again { IfOk result (λ t. ReadsAgain form (bson_view self) (view t)) }
         ensures settles { HasSettledForms (bson_view self) }
         ensures writable { OnOk result (writable (bson_view self) ≡ true) }
         ensures finite { result ≡ Err WriteError.FiniteDouble → writable (bson_view self) ≡ false }

@@ -1,6 +1,7 @@
 use Rattle.serde_json.specs.View.{view}
 use Rattle.bson.specs.View.{bson_view}
 use Rattle.bson_model.proofs.ReadBack.{write_ok, write_both, write_finite, writable_from, tree_is, settled_forms}
+use Rattle.bson_model.proofs.ComesBack.{has_text}
 use Rattle.bson.proofs.bson.Bson.into_extjson.Goals as goal
 
 pub returns-clause-tree : goal.returns-clause-tree
@@ -14,3 +15,8 @@ returns-clause-writable c = let v = bson_view c.args.self in write_ok c.args.for
 
 pub returns-clause-finite : goal.returns-clause-finite
 returns-clause-finite c = write_finite c.args.form view (bson_view c.args.self) c.write.result c.write.ensures.written
+
+pub returns-clause-reads_again : goal.returns-clause-reads_again
+returns-clause-reads_again c =
+    let v = bson_view c.args.self in
+    write_both c.args.form view v c.write.result _ c.write.ensures.written c.write.ensures.ranged (λ t h r p. has_text c.args.form v (view t) h p r)
