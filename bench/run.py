@@ -1,0 +1,120 @@
+#!/usr/bin/env python3
+"""Times bson_cli beside serde_json alone on the same texts.
+
+    bench/run.py [MEGABYTES ..]        (10 and 50 where none is given)
+
+For each kind of input it prints the wall time (the best of three runs) and the peak memory of `bson_cli canonical`,
+of `bson_cli relaxed` and of the floor, a program that only reads the text by serde_json and writes it again, and the
+ratios to the floor. Inputs come from a seeded generator, so that every run times the same bytes.
+"""
+import base64
+import os
+import random
+import subprocess
+import sys
+import tempfile
+import time
+
+HERE = os.path.dirname(os.path.abspath(__file__))
+TOP = os.path.dirname(HERE)
+
+
+def small_document(rng, i):
+    return '{"_id":{"$oid":"%024x"},"n":%d,"name":"%s","ok":%s,"tags":["a","b","c"]}' % (
+        rng.getrandbits(96), rng.randrange(-10**9, 10**9), "x" * rng.randrange(4, 20), rng.choice(["true", "false"]))
+
+
+def wide_member(rng, i):
+    return '"key%07d":{"$numberLong":"%d"}' % (i, rng.randrange(-10**18, 10**18))
+
+
+def deep_value(rng, i):
+    depth = rng.randrange(1, 60)
+    return '{"a":[' * depth + '{"$numberInt":"%d"}' % rng.randrange(10**6) + "]}" * depth
+
+
+def decimal(rng, i):
+    return '{"$numberDecimal":"%d.%dE%+d"}' % (rng.randrange(1, 10), rng.randrange(10**20), rng.randrange(-6000, 6000))
+
+
+def date(rng, i):
+    if i % 2:
+        return '{"$date":{"$numberLong":"%d"}}' % rng.randrange(-10**14, 10**14)
+    return '{"$date":"%04d-%02d-%02dT%02d:%02d:%02d.%03dZ"}' % (
+        rng.randrange(1970, 9999), rng.randrange(1, 13), rng.randrange(1, 29), rng.randrange(24), rng.randrange(60),
+        rng.randrange(60), rng.randrange(1000))
+
+
+def binary(rng, i):
+    return '{"$binary":{"base64":"%s","subType":"00"}}' % base64.b64encode(rng.randbytes(rng.randrange(64, 4096))).decode()
+
+
+KINDS = [("small documents", small_document, "[", "]"), ("one wide object", wide_member, "{", "}"),
+         ("deep and mixed", deep_value, "[", "]"), ("decimals", decimal, "[", "]"), ("dates", date, "[", "]"),
+         ("binaries", binary, "[", "]")]
+
+
+def generate(path, make, opening, closing, size):
+    rng = random.Random(20260101)
+    with open(path, "w") as out:
+        out.write(opening)
+        written, i = 1, 0
+        while written < size:
+            piece = make(rng, i)
+            out.write(("," if i else "") + piece)
+            written += len(piece) + 1
+            i += 1
+        out.write(closing)
+
+
+def timed(command, path):
+    """Seconds of the best of three runs, and the greatest memory in megabytes."""
+    best, memory = None, 0
+    for _ in range(3):
+        with open(path, "rb") as given, open(os.devnull, "wb") as taken:
+            start = time.monotonic()
+            run = subprocess.Popen(command, stdin=given, stdout=taken)
+            _, status, usage = os.wait4(run.pid, 0)
+            seconds = time.monotonic() - start
+        if status != 0:
+            raise SystemExit(f"{command} ended with {status}")
+        best = seconds if best is None else min(best, seconds)
+        memory = max(memory, usage.ru_maxrss // 1024)
+    return best, memory
+
+
+def floor_program(room):
+    """Builds the floor in a folder of its own, through its proof."""
+    crate = os.path.join(room, "crates", "json_floor")
+    os.makedirs(os.path.join(crate, "src"))
+    os.makedirs(os.path.join(crate, "specs"))
+    with open(os.path.join(room, "crates.txt"), "w") as crates:
+        crates.write("json_floor: serde_json anyhow\n")
+    open(os.path.join(crate, "specs", "Lib.antt"), "w").close()
+    with open(os.path.join(HERE, "json_floor.rt")) as source, open(os.path.join(crate, "src", "main.rt"), "w") as copy:
+        copy.write(source.read())
+    subprocess.run(["rt", "run"], cwd=crate, input=b"{}", check=True, stdout=subprocess.DEVNULL, stderr=subprocess.DEVNULL)
+    return os.path.join(crate, "out", "json_floor")
+
+
+def main():
+    sizes = [int(word) for word in sys.argv[1:]] or [10, 50]
+    subprocess.run([os.path.join(TOP, "bson"), "canonical"], input=b"{}", check=True, stdout=subprocess.DEVNULL)
+    program = os.path.join(TOP, "crates", "bson_cli", "out", "bson_cli")
+    with tempfile.TemporaryDirectory() as room:
+        floor = floor_program(room)
+        print("| input | MB | floor s | canonical s | ratio | relaxed s | ratio | floor MB | canonical MB |")
+        print("|---|---|---|---|---|---|---|---|---|")
+        for name, make, opening, closing in KINDS:
+            for size in sizes:
+                path = os.path.join(room, "input.json")
+                generate(path, make, opening, closing, size * 1_000_000)
+                base, base_memory = timed([floor], path)
+                canonical, memory = timed([program, "canonical"], path)
+                relaxed, _ = timed([program, "relaxed"], path)
+                print("| %s | %d | %.2f | %.2f | %.2f | %.2f | %.2f | %d | %d |" % (
+                    name, size, base, canonical, canonical / base, relaxed, relaxed / base, base_memory, memory))
+                sys.stdout.flush()
+
+
+main()

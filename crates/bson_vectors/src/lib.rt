@@ -1,0 +1,9 @@
+//! Worked rows of the library, tried from outside: one file a subject, each a table of inputs and what they must give.
+#![tactic(auto)]
+
+#[cfg(test)]
+mod equality;
+#[cfg(test)]
+mod extended_json;
+#[cfg(test)]
+mod trees;
