@@ -1,15 +1,19 @@
 -- A value that was read comes back from its text.
 use Rattle.std.proofs.Common.{◌≡◌, true, Result, Ok, Err, refl, ap, ◌∙◌}
-use Rattle.std.specs.Prelude.{is_ok}
+use Rattle.std.specs.Prelude.{IfOk, is_ok}
 use Rattle.serde_json.specs.Data.{Data}
 use Rattle.serde_json.specs.Written.{compact_text}
+use Rattle.bson_leaf.specs.Faults.{Gives}
 use Rattle.bson_leaf.specs.Written.{Refusal}
+use Rattle.bson_leaf.specs.declared.error.Error.{Error}
 use Rattle.bson_leaf.specs.declared.form.Form.{Form}
 use Rattle.bson_model.specs.Means.{Means}
+use Rattle.bson_model.specs.Reading.{reads}
 use Rattle.bson_model.specs.Texts.{HasEqualTexts, HasText, ComesBack}
 use Rattle.bson_model.specs.Same.{same}
 use Rattle.bson_model.specs.Value.{Value}
 use Rattle.bson_model.specs.Writing.{normal_form, settled, plain, writable, InRange, Written, writes}
+use Rattle.bson_model.proofs.MeansLaws.{full_from}
 use Rattle.bson_model.proofs.NoFloats.{no_float}
 use Rattle.bson_model.proofs.ReadBack.{reads_back_is, equal_is, same_trees, settled_form}
 use Rattle.bson_model.proofs.ReadForm.{form}
@@ -55,3 +59,8 @@ comes_back v p w r f = let t = tree_of f v w in (t.0, has_text f v t.0 t.1 p r)
 -- what a tree means comes back
 pub read_comes_back : (t : Data) (v : Value) → Means t v → InRange v → ComesBack v
 read_comes_back t v m r = let f = form t v m in comes_back v f.0 f.1 r
+
+-- what a reader gave comes back
+pub read_back_ok : {X : Type 0} (see : X → Value) (t : Data) (r : Result X Error) → Gives see r (reads t) → IfOk r (λ v. InRange (see v) → ComesBack (see v))
+read_back_ok see t (Ok x) h = λ ranged. read_comes_back t (see x) (full_from t (see x) h) ranged
+read_back_ok see t (Err e) h = tt
