@@ -3,6 +3,7 @@
 //! `get` looks up by key, `insert` puts and takes, `entry` is the place of one key, `place` is the pair at one place, and `iter` walks the pairs. The typed look-ups stand in `getters`.
 pub mod entry;
 mod get;
+mod getters;
 mod insert;
 pub mod iter;
 pub mod place;
@@ -10,6 +11,7 @@ pub mod place;
 use crate::bson::Bson;
 use bson_store::{IndexedPairs, PairStore};
 pub use entry::{Entry, OccupiedEntry, VacantEntry};
+pub use getters::{ValueAccessError, ValueAccessResult};
 pub use insert::Refused;
 pub use iter::{IntoIter, Iter, Keys, Values};
 pub use place::PlaceMut;

@@ -1,11 +1,15 @@
 //! The document model of BSON 1.1 and MongoDB Extended JSON v2.
 #![tactic(auto)]
 
+mod accessors;
 pub mod bson;
 mod clone;
+mod conversions;
 pub mod document;
+mod element_type;
 pub mod extjson;
 mod hash;
+mod kinds;
 mod same;
 
 pub use bson::{Array, Bson, JavaScriptCodeWithScope};

@@ -1,0 +1,121 @@
+-- What a value of one kind holds, and what a typed getter answers.
+use Rattle.std.specs.Prelude.{ℕ, ℤ, Bool, List, string_bytes, option_map, Option, None, Some, Result, Ok, Err, if◌then◌else◌, nat_lt, pos, ◌^◌}
+use Rattle.std.specs.Prelude.{String as Text, Vec}
+use Rattle.std.specs.Borrow.{Bor, MutBor}
+use Rattle.std.specs.Result.{result_map_both}
+use Rattle.std.specs.declared.alloc.Global.{Global}
+use Rattle.bson_scalar.specs.declared.db_pointer.DbPointer.{DbPointer as Pointer}
+use Rattle.bson_scalar.specs.declared.spec.BinarySubtype.{BinarySubtype}
+use Rattle.bson_scalar.specs.declared.spec.BinarySubtype.TheVariants.{Generic}
+use Rattle.bson_scalar.specs.declared.timestamp.Timestamp.{Timestamp as Stamp}
+use Rattle.bson.specs.declared.bson.Bson.{Bson, Bson-F, out-Bson}
+use Rattle.bson.specs.declared.bson.Bson.TheVariants as bson
+use Rattle.bson.specs.declared.bson.JavaScriptCodeWithScope.{JavaScriptCodeWithScope}
+use Rattle.bson.specs.declared.document.Document.{Document}
+use Rattle.bson.specs.declared.document.getters.ValueAccessError.{ValueAccessError}
+use Rattle.bson.specs.declared.document.getters.ValueAccessError.TheVariants.{NotPresent, UnexpectedType}
+
+-- the pattern of a double
+abbrev pub double_of : Bson → Option ℕ
+double_of (bson.Double p) = Some p
+double_of _ = None
+
+abbrev pub string_of : Bson → Option (Text Global)
+string_of (bson.String s) = Some s
+string_of _ = None
+
+-- the bytes of a string
+abbrev pub text_of : Bson → Option (List ℕ)
+text_of v = option_map string_bytes (string_of v)
+
+-- one level, with the values inside as they are
+abbrev pub array_step : Bson-F Bson JavaScriptCodeWithScope Document → Option (Vec Bson Global)
+array_step (Bson-F.Array vs) = Some vs
+array_step _ = None
+
+abbrev pub array_of : Bson → Option (Vec Bson Global)
+array_of v = array_step (out-Bson v)
+
+abbrev pub document_step : Bson-F Bson JavaScriptCodeWithScope Document → Option Document
+document_step (Bson-F.Document d) = Some d
+document_step _ = None
+
+abbrev pub document_of : Bson → Option Document
+document_of v = document_step (out-Bson v)
+
+abbrev pub boolean_of : Bson → Option Bool
+boolean_of (bson.Boolean b) = Some b
+boolean_of _ = None
+
+abbrev pub int32_of : Bson → Option ℤ
+int32_of (bson.Int32 z) = Some z
+int32_of _ = None
+
+abbrev pub int64_of : Bson → Option ℤ
+int64_of (bson.Int64 z) = Some z
+int64_of _ = None
+
+abbrev pub timestamp_of : Bson → Option Stamp
+timestamp_of (bson.Timestamp t) = Some t
+timestamp_of _ = None
+
+-- the bytes of a binary of the subtype Generic, and of no other
+abbrev pub generic_bytes : BinarySubtype → Vec ℕ Global → Option (Vec ℕ Global)
+generic_bytes Generic bytes = Some bytes
+generic_bytes _ bytes = None
+
+abbrev pub generic_of : Bson → Option (Vec ℕ Global)
+generic_of (bson.Binary b) = generic_bytes b.subtype b.bytes
+generic_of _ = None
+
+-- the binary of the subtype Generic with these bytes
+abbrev pub generic : Vec ℕ Global → Bson
+generic bytes = bson.Binary (record { subtype = Generic; bytes = bytes })
+
+-- the twelve bytes of an object id
+abbrev pub object_id_of : Bson → Option (List ℕ)
+object_id_of (bson.ObjectId id) = Some id
+object_id_of _ = None
+
+-- the milliseconds of a moment
+abbrev pub date_of : Bson → Option ℤ
+date_of (bson.DateTime z) = Some z
+date_of _ = None
+
+abbrev pub symbol_of : Bson → Option (Text Global)
+symbol_of (bson.Symbol s) = Some s
+symbol_of _ = None
+
+-- the bytes of a symbol
+abbrev pub symbol_text_of : Bson → Option (List ℕ)
+symbol_text_of v = option_map string_bytes (symbol_of v)
+
+-- the sixteen bytes of a decimal
+abbrev pub decimal_of : Bson → Option (List ℕ)
+decimal_of (bson.Decimal128 b) = Some b
+decimal_of _ = None
+
+abbrev pub db_pointer_of : Bson → Option Pointer
+db_pointer_of (bson.DbPointer p) = Some p
+db_pointer_of _ = None
+
+-- what a getter answers of the value that is there
+abbrev pub typed : {T : Type 0} → Option T → Result T ValueAccessError
+typed None = Err UnexpectedType
+typed (Some x) = Ok x
+
+-- what a getter answers of the value that the key has, if any
+abbrev pub accessed : {T : Type 0} → (Bson → Option T) → Option Bson → Result T ValueAccessError
+accessed f None = Err NotPresent
+accessed f (Some v) = typed (f v)
+
+-- an answer with the value behind its reference
+abbrev pub ok_copied : {T E : Type 0} → Result (Bor T) E → Result T E
+ok_copied r = result_map_both (λ x. x.now) (λ e. e) r
+
+abbrev pub ok_copied_mut : {T E : Type 0} → Result (MutBor T) E → Result T E
+ok_copied_mut r = result_map_both (λ x. x.now) (λ e. e) r
+
+-- a whole number as the smaller of the two kinds that it fits
+abbrev pub whole_number : ℕ → Bson
+whole_number n = if nat_lt n (2 ^ 31) then bson.Int32 (pos n) else bson.Int64 (pos n)

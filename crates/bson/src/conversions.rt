@@ -1,0 +1,220 @@
+//! Values made of what they hold.
+ghost use Rattle.std.specs.Prelude.{◌≡◌, Option, unwrap_or};
+ghost use Rattle.bson.specs.declared.bson.Bson.TheVariants as value;
+
+use crate::bson::{Bson, JavaScriptCodeWithScope};
+use crate::document::Document;
+use bson_scalar::binary::{Binary, Vector};
+use bson_scalar::datetime::DateTime;
+use bson_scalar::db_pointer::DbPointer;
+use bson_scalar::decimal128::Decimal128;
+use bson_scalar::oid::ObjectId;
+use bson_scalar::regex::Regex;
+use bson_scalar::spec::BinarySubtype;
+use bson_scalar::timestamp::Timestamp;
+use bson_scalar::uuid_value::Uuid;
+use std::alloc::{AllocError, Global};
+
+/// `Null`.
+impl Default for Bson {
+    ghost is_default = { λ v. v ≡ value.Null };
+
+    fn default() -> Bson {
+        Bson::Null
+    }
+}
+
+impl From<String> for Bson {
+    ghost from_gives = { λ text v. v ≡ value.String text };
+
+    fn from(text: String) -> Bson {
+        Bson::String(text)
+    }
+}
+
+impl From<Document> for Bson {
+    ghost from_gives = { λ document v. v ≡ value.Document document };
+
+    fn from(document: Document) -> Bson {
+        Bson::Document(document)
+    }
+}
+
+impl From<bool> for Bson {
+    ghost from_gives = { λ truth v. v ≡ value.Boolean truth };
+
+    fn from(truth: bool) -> Bson {
+        Bson::Boolean(truth)
+    }
+}
+
+impl From<Regex> for Bson {
+    ghost from_gives = { λ regex v. v ≡ value.RegularExpression regex };
+
+    fn from(regex: Regex) -> Bson {
+        Bson::RegularExpression(regex)
+    }
+}
+
+impl From<JavaScriptCodeWithScope> for Bson {
+    ghost from_gives = { λ code v. v ≡ value.JavaScriptCodeWithScope code };
+
+    fn from(code: JavaScriptCodeWithScope) -> Bson {
+        Bson::JavaScriptCodeWithScope(code)
+    }
+}
+
+impl From<Binary> for Bson {
+    ghost from_gives = { λ binary v. v ≡ value.Binary binary };
+
+    fn from(binary: Binary) -> Bson {
+        Bson::Binary(binary)
+    }
+}
+
+impl From<Timestamp> for Bson {
+    ghost from_gives = { λ timestamp v. v ≡ value.Timestamp timestamp };
+
+    fn from(timestamp: Timestamp) -> Bson {
+        Bson::Timestamp(timestamp)
+    }
+}
+
+impl From<Vec<Bson>> for Bson {
+    ghost from_gives = { λ values v. v ≡ value.Array values };
+
+    fn from(values: Vec<Bson>) -> Bson {
+        Bson::Array(values)
+    }
+}
+
+impl From<i32> for Bson {
+    ghost from_gives = { λ number v. v ≡ value.Int32 number };
+
+    fn from(number: i32) -> Bson {
+        Bson::Int32(number)
+    }
+}
+
+impl From<i64> for Bson {
+    ghost from_gives = { λ number v. v ≡ value.Int64 number };
+
+    fn from(number: i64) -> Bson {
+        Bson::Int64(number)
+    }
+}
+
+/// An `Int32` where the number fits, and else an `Int64`.
+impl From<u32> for Bson {
+    ghost use Rattle.bson.specs.Kinds.{whole_number};
+
+    ghost from_gives = { λ n v. v ≡ whole_number n };
+
+    fn from(number: u32) -> Bson {
+        match i32::try_from(number) {
+            Ok(small) => Bson::Int32(small),
+            Err(_) => Bson::Int64(i64::from(number)),
+        }
+    }
+}
+
+/// The `ObjectId` of these bytes.
+impl From<[u8; 12]> for Bson {
+    ghost from_gives = { λ bytes v. v ≡ value.ObjectId bytes };
+
+    fn from(bytes: [u8; 12]) -> Bson {
+        Bson::ObjectId(ObjectId::from_bytes(bytes))
+    }
+}
+
+impl From<ObjectId> for Bson {
+    ghost from_gives = { λ id v. v ≡ value.ObjectId id };
+
+    fn from(id: ObjectId) -> Bson {
+        Bson::ObjectId(id)
+    }
+}
+
+impl From<DateTime> for Bson {
+    ghost from_gives = { λ date v. v ≡ value.DateTime date };
+
+    fn from(date: DateTime) -> Bson {
+        Bson::DateTime(date)
+    }
+}
+
+impl From<DbPointer> for Bson {
+    ghost from_gives = { λ pointer v. v ≡ value.DbPointer pointer };
+
+    fn from(pointer: DbPointer) -> Bson {
+        Bson::DbPointer(pointer)
+    }
+}
+
+impl From<Decimal128> for Bson {
+    ghost from_gives = { λ decimal v. v ≡ value.Decimal128 decimal };
+
+    fn from(decimal: Decimal128) -> Bson {
+        Bson::Decimal128(decimal)
+    }
+}
+
+impl Bson {
+    ghost use Rattle.std.specs.Prelude.{List, IfOk};
+    ghost use Rattle.std.specs.Iterator.{Drains, IsFinite};
+    ghost use Rattle.bson_leaf.specs.Scalar as leaf;
+    ghost use Rattle.bson_model.specs.Value.{array, scalar};
+    ghost use Rattle.bson_scalar.specs.Vectors.{vector_bytes};
+    ghost use Rattle.bson.specs.View.{bson_view, values_view};
+
+    /// A `String` of this text, in memory of its own.
+    pub fn string(alloc: Global, text: &str) -> Result<Bson, AllocError>
+        ensures { IfOk result (λ v. bson_view v ≡ scalar (leaf.text text.now)) }
+    {
+        Ok(Bson::String(String::from_str(alloc, text)?))
+    }
+
+    /// An `Array` of copies of these values, in order.
+    pub fn from_slice(alloc: Global, values: &[Bson]) -> Result<Bson, AllocError>
+        ensures { IfOk result (λ v. bson_view v ≡ array (values_view values.now)) }
+    {
+        let mut copies = Vec::with_capacity(alloc, values.len())?;
+        for value in values {
+            copies.push(value.clone(alloc)?)?;
+        }
+        Ok(Bson::Array(copies))
+    }
+
+    /// An `Array` of all that the iterator gives, in order.
+    pub fn from_values<I: Iterator<Item = Bson> + Drop>(
+        alloc: Global,
+        values: I,
+    ) -> Result<Bson, AllocError>
+        requires can { I.can_next values }
+        requires ends { IsFinite (I.remaining values) }
+        ensures { IfOk result (λ v. (xs : List Bson) × Drains I.next_gives values xs × (bson_view v ≡ array (values_view xs))) }
+    {
+        Ok(Bson::Array(values.collect(alloc)?))
+    }
+
+    /// The value, or `Null` where there is none.
+    pub fn from_option(option: Option<Bson>) -> Bson
+        ensures { result ≡ unwrap_or option value.Null }
+    {
+        option.unwrap_or(Bson::Null)
+    }
+
+    /// A `Binary` of the subtype `Uuid`, of the UUID's 16 bytes.
+    pub fn from_uuid(alloc: Global, id: Uuid) -> Result<Bson, AllocError>
+        ensures { IfOk result (λ v. bson_view v ≡ scalar (leaf.binary BinarySubtype.Uuid id)) }
+    {
+        Ok(Bson::Binary(Binary::from_uuid(alloc, id)?))
+    }
+
+    /// A `Binary` of the subtype `Vector`, of the vector's bytes.
+    pub fn from_vector(alloc: Global, vector: &Vector) -> Result<Bson, AllocError>
+        ensures { IfOk result (λ v. bson_view v ≡ scalar (leaf.binary BinarySubtype.Vector (vector_bytes vector.now))) }
+    {
+        Ok(Bson::Binary(Binary::from_vector(alloc, vector)?))
+    }
+}

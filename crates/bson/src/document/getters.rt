@@ -1,0 +1,241 @@
+//! Typed access to a document's values.
+//!
+//! Each getter answers `NotPresent` exactly where the key is absent, and `UnexpectedType` exactly where its value
+//! is of another kind. What is written through a `_mut` form becomes the value of that key, and the rest stays.
+use crate::bson::Array;
+use crate::document::Document;
+use crate::kinds::Kind;
+use bson_scalar::datetime::DateTime;
+use bson_scalar::decimal128::Decimal128;
+use bson_scalar::oid::ObjectId;
+use bson_scalar::timestamp::Timestamp;
+
+/// Why a typed getter has no value to give.
+#[derive(Clone, Copy, PartialEq, Eq, Debug, thiserror::Error)]
+pub enum ValueAccessError {
+    /// The key is absent.
+    #[error("the key is not present")]
+    NotPresent,
+    /// The key's value is of another kind.
+    #[error("the value is of another kind")]
+    UnexpectedType,
+}
+
+/// What a typed getter answers.
+pub type ValueAccessResult<T> = Result<T, ValueAccessError>;
+
+impl Document {
+    ghost use Rattle.std.specs.Prelude.{◌≡◌};
+    ghost use Rattle.std.specs.Borrow.{LendsIfOk, sem};
+    ghost use Rattle.bson_store.specs.Pairs.{get, put};
+    ghost use Rattle.bson.specs.declared.bson.Bson.TheVariants as value;
+    ghost use Rattle.bson.specs.KindRows.{array_row, boolean_row, bytes_row, date_row, decimal_row, double_row, int32_row, int64_row, object_id_row, string_row, timestamp_row};
+    ghost use Rattle.bson.specs.Rows.{document_row};
+    ghost use Rattle.bson.specs.Kinds.{accessed, array_of, boolean_of, date_of, decimal_of, document_of, double_of, generic, generic_of, int32_of, int64_of, object_id_of, ok_copied, ok_copied_mut, string_of, text_of, timestamp_of};
+
+    /// The pattern of the double at the key.
+    pub fn get_f64(&self, key: &str) -> ValueAccessResult<u64>
+        ensures { result ≡ accessed double_of (get key.now self.now.pairs) }
+    {
+        Ok(*self.kind_at::<u64>(key)?)
+    }
+
+    /// The pattern of the double at the key, to write.
+    pub fn get_f64_mut(&mut self, key: &str) -> ValueAccessResult<&mut u64>
+        ensures* writes_back { sem 𝓛 (LendsIfOk document_row double_row self.entry result (λ w. record { pairs = put key.now (value.Double w) self.old.pairs }) self.old) }
+        ensures value { ok_copied_mut result ≡ accessed double_of (get key.now self.old.pairs) }
+    {
+        self.kind_at_mut::<u64>(key)
+    }
+
+    /// The string at the key.
+    pub fn get_str(&self, key: &str) -> ValueAccessResult<&str>
+        ensures { ok_copied result ≡ accessed text_of (get key.now self.now.pairs) }
+    {
+        let text = self.kind_at::<String>(key)?;
+        Ok(text.as_str())
+    }
+
+    /// The string at the key, to write.
+    pub fn get_str_mut(&mut self, key: &str) -> ValueAccessResult<&mut String>
+        ensures* writes_back { sem 𝓛 (LendsIfOk document_row string_row self.entry result (λ w. record { pairs = put key.now (value.String w) self.old.pairs }) self.old) }
+        ensures value { ok_copied_mut result ≡ accessed string_of (get key.now self.old.pairs) }
+    {
+        self.kind_at_mut::<String>(key)
+    }
+
+    /// The list at the key.
+    pub fn get_array(&self, key: &str) -> ValueAccessResult<&Array>
+        ensures { ok_copied result ≡ accessed array_of (get key.now self.now.pairs) }
+    {
+        self.kind_at::<Array>(key)
+    }
+
+    /// The list at the key, to write.
+    pub fn get_array_mut(&mut self, key: &str) -> ValueAccessResult<&mut Array>
+        ensures* writes_back { sem 𝓛 (LendsIfOk document_row array_row self.entry result (λ w. record { pairs = put key.now (value.Array w) self.old.pairs }) self.old) }
+        ensures value { ok_copied_mut result ≡ accessed array_of (get key.now self.old.pairs) }
+    {
+        self.kind_at_mut::<Array>(key)
+    }
+
+    /// The document at the key.
+    pub fn get_document(&self, key: &str) -> ValueAccessResult<&Document>
+        ensures { ok_copied result ≡ accessed document_of (get key.now self.now.pairs) }
+    {
+        self.kind_at::<Document>(key)
+    }
+
+    /// The document at the key, to write.
+    ///
+    /// No contract can say what is written through it: where a proof needs that, ask `get_mut` for the value and
+    /// `Bson::as_document_mut` for the document in it.
+    pub fn get_document_mut(&mut self, key: &str) -> ValueAccessResult<&mut Document>
+        ensures value { ok_copied_mut result ≡ accessed document_of (get key.now self.old.pairs) }
+    {
+        self.kind_at_mut::<Document>(key)
+    }
+
+    /// The truth value at the key.
+    pub fn get_bool(&self, key: &str) -> ValueAccessResult<bool>
+        ensures { result ≡ accessed boolean_of (get key.now self.now.pairs) }
+    {
+        Ok(*self.kind_at::<bool>(key)?)
+    }
+
+    /// The truth value at the key, to write.
+    pub fn get_bool_mut(&mut self, key: &str) -> ValueAccessResult<&mut bool>
+        ensures* writes_back { sem 𝓛 (LendsIfOk document_row boolean_row self.entry result (λ w. record { pairs = put key.now (value.Boolean w) self.old.pairs }) self.old) }
+        ensures value { ok_copied_mut result ≡ accessed boolean_of (get key.now self.old.pairs) }
+    {
+        self.kind_at_mut::<bool>(key)
+    }
+
+    /// The number of 32 bits at the key.
+    pub fn get_i32(&self, key: &str) -> ValueAccessResult<i32>
+        ensures { result ≡ accessed int32_of (get key.now self.now.pairs) }
+    {
+        Ok(*self.kind_at::<i32>(key)?)
+    }
+
+    /// The number of 32 bits at the key, to write.
+    pub fn get_i32_mut(&mut self, key: &str) -> ValueAccessResult<&mut i32>
+        ensures* writes_back { sem 𝓛 (LendsIfOk document_row int32_row self.entry result (λ w. record { pairs = put key.now (value.Int32 w) self.old.pairs }) self.old) }
+        ensures value { ok_copied_mut result ≡ accessed int32_of (get key.now self.old.pairs) }
+    {
+        self.kind_at_mut::<i32>(key)
+    }
+
+    /// The number of 64 bits at the key.
+    pub fn get_i64(&self, key: &str) -> ValueAccessResult<i64>
+        ensures { result ≡ accessed int64_of (get key.now self.now.pairs) }
+    {
+        Ok(*self.kind_at::<i64>(key)?)
+    }
+
+    /// The number of 64 bits at the key, to write.
+    pub fn get_i64_mut(&mut self, key: &str) -> ValueAccessResult<&mut i64>
+        ensures* writes_back { sem 𝓛 (LendsIfOk document_row int64_row self.entry result (λ w. record { pairs = put key.now (value.Int64 w) self.old.pairs }) self.old) }
+        ensures value { ok_copied_mut result ≡ accessed int64_of (get key.now self.old.pairs) }
+    {
+        self.kind_at_mut::<i64>(key)
+    }
+
+    /// The timestamp at the key.
+    pub fn get_timestamp(&self, key: &str) -> ValueAccessResult<Timestamp>
+        ensures { result ≡ accessed timestamp_of (get key.now self.now.pairs) }
+    {
+        Ok(*self.kind_at::<Timestamp>(key)?)
+    }
+
+    /// The timestamp at the key, to write.
+    pub fn get_timestamp_mut(&mut self, key: &str) -> ValueAccessResult<&mut Timestamp>
+        ensures* writes_back { sem 𝓛 (LendsIfOk document_row timestamp_row self.entry result (λ w. record { pairs = put key.now (value.Timestamp w) self.old.pairs }) self.old) }
+        ensures value { ok_copied_mut result ≡ accessed timestamp_of (get key.now self.old.pairs) }
+    {
+        self.kind_at_mut::<Timestamp>(key)
+    }
+
+    /// The bytes of the binary of subtype `Generic` at the key.
+    /// A binary of another subtype, `UserDefined(0)` among them, is of another kind here.
+    pub fn get_binary_generic(&self, key: &str) -> ValueAccessResult<&Vec<u8>>
+        ensures { ok_copied result ≡ accessed generic_of (get key.now self.now.pairs) }
+    {
+        self.kind_at::<Vec<u8>>(key)
+    }
+
+    /// The bytes of the binary of subtype `Generic` at the key, to write.
+    pub fn get_binary_generic_mut(&mut self, key: &str) -> ValueAccessResult<&mut Vec<u8>>
+        ensures* writes_back { sem 𝓛 (LendsIfOk document_row bytes_row self.entry result (λ w. record { pairs = put key.now (generic w) self.old.pairs }) self.old) }
+        ensures value { ok_copied_mut result ≡ accessed generic_of (get key.now self.old.pairs) }
+    {
+        self.kind_at_mut::<Vec<u8>>(key)
+    }
+
+    /// The object id at the key.
+    pub fn get_object_id(&self, key: &str) -> ValueAccessResult<ObjectId>
+        ensures { result ≡ accessed object_id_of (get key.now self.now.pairs) }
+    {
+        Ok(*self.kind_at::<ObjectId>(key)?)
+    }
+
+    /// The object id at the key, to write.
+    pub fn get_object_id_mut(&mut self, key: &str) -> ValueAccessResult<&mut ObjectId>
+        ensures* writes_back { sem 𝓛 (LendsIfOk document_row object_id_row self.entry result (λ w. record { pairs = put key.now (value.ObjectId w) self.old.pairs }) self.old) }
+        ensures value { ok_copied_mut result ≡ accessed object_id_of (get key.now self.old.pairs) }
+    {
+        self.kind_at_mut::<ObjectId>(key)
+    }
+
+    /// The moment at the key.
+    pub fn get_datetime(&self, key: &str) -> ValueAccessResult<&DateTime>
+        ensures { ok_copied result ≡ accessed date_of (get key.now self.now.pairs) }
+    {
+        self.kind_at::<DateTime>(key)
+    }
+
+    /// The moment at the key, to write.
+    pub fn get_datetime_mut(&mut self, key: &str) -> ValueAccessResult<&mut DateTime>
+        ensures* writes_back { sem 𝓛 (LendsIfOk document_row date_row self.entry result (λ w. record { pairs = put key.now (value.DateTime w) self.old.pairs }) self.old) }
+        ensures value { ok_copied_mut result ≡ accessed date_of (get key.now self.old.pairs) }
+    {
+        self.kind_at_mut::<DateTime>(key)
+    }
+
+    /// The decimal at the key.
+    pub fn get_decimal128(&self, key: &str) -> ValueAccessResult<&Decimal128>
+        ensures { ok_copied result ≡ accessed decimal_of (get key.now self.now.pairs) }
+    {
+        self.kind_at::<Decimal128>(key)
+    }
+
+    /// The decimal at the key, to write.
+    pub fn get_decimal128_mut(&mut self, key: &str) -> ValueAccessResult<&mut Decimal128>
+        ensures* writes_back { sem 𝓛 (LendsIfOk document_row decimal_row self.entry result (λ w. record { pairs = put key.now (value.Decimal128 w) self.old.pairs }) self.old) }
+        ensures value { ok_copied_mut result ≡ accessed decimal_of (get key.now self.old.pairs) }
+    {
+        self.kind_at_mut::<Decimal128>(key)
+    }
+
+    // The value at the key, of the one kind that the type stands for.
+    fn kind_at<T: Kind>(&self, key: &str) -> ValueAccessResult<&T>
+        ensures { ok_copied result ≡ accessed T.held (get key.now self.now.pairs) }
+    {
+        let value = self.get(key).ok_or(ValueAccessError::NotPresent)?;
+        T::kind(value).ok_or(ValueAccessError::UnexpectedType)
+    }
+
+    // The same, to write.
+    fn kind_at_mut<T: Kind>(&mut self, key: &str) -> ValueAccessResult<&mut T>
+        ensures* writes_back { sem 𝓛 (LendsIfOk document_row T.row self.entry result (λ w. record { pairs = put key.now (T.made w) self.old.pairs }) self.old) }
+        ensures value { ok_copied_mut result ≡ accessed T.held (get key.now self.old.pairs) }
+    {
+        match self.get_mut(key) {
+            None => Err(ValueAccessError::NotPresent),
+            Some(value) => match T::kind_mut(value) {
+                Some(held) => Ok(held),
+                None => Err(ValueAccessError::UnexpectedType),
+            },
+        }
+    }
+}

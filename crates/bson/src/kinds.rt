@@ -1,0 +1,316 @@
+//! The types that stand for one kind of value each.
+ghost use Rattle.std.specs.Prelude.{◌≡◌, Option, option_copied, option_map};
+ghost use Rattle.std.specs.Borrow.{LendsIf, sem};
+ghost use Rattle.bson.specs.declared.bson.Bson.{Bson};
+ghost use Rattle.bson.specs.declared.bson.Bson.TheVariants as value;
+ghost use Rattle.bson.specs.Kinds.{generic_bytes};
+ghost use Rattle.bson.specs.KindRows.{binary_row, bytes_row};
+ghost use Rattle.bson.specs.Rows.{bson_row};
+
+use crate::bson::{Array, Bson};
+use crate::document::Document;
+use bson_scalar::binary::Binary;
+use bson_scalar::datetime::DateTime;
+use bson_scalar::decimal128::Decimal128;
+use bson_scalar::oid::ObjectId;
+use bson_scalar::spec::BinarySubtype;
+use bson_scalar::timestamp::Timestamp;
+
+/// A type whose values are what one kind of `Bson` holds.
+pub(crate) trait Kind {
+    // What a value of the kind holds.
+    ghost held: { Bson → Option Self };
+
+    // The value of the kind that holds it.
+    ghost made: { Self → Bson };
+
+    /// What the value holds, if it is of the kind.
+    fn kind(value: &Bson) -> Option<&Self>
+        ensures { option_copied result ≡ held value.now };
+
+    /// The same, to write.
+    fn kind_mut(value: &mut Bson) -> Option<&mut Self>
+        ensures* writes_back { sem 𝓛 (LendsIf bson_row Self.row value.entry result made value.old) }
+        ensures value { option_map (λ x. x.now) result ≡ held value.old };
+}
+
+impl Kind for u64 {
+    ghost use Rattle.bson.specs.Kinds.{double_of};
+
+    ghost held = { double_of };
+
+    ghost made = { value.Double };
+
+    fn kind(value: &Bson) -> Option<&u64> {
+        match value {
+            Bson::Double(pattern) => Some(pattern),
+            _ => None,
+        }
+    }
+
+    fn kind_mut(value: &mut Bson) -> Option<&mut u64> {
+        match value {
+            Bson::Double(pattern) => Some(pattern),
+            _ => None,
+        }
+    }
+}
+
+impl Kind for String {
+    ghost use Rattle.bson.specs.Kinds.{string_of};
+
+    ghost held = { string_of };
+
+    ghost made = { value.String };
+
+    fn kind(value: &Bson) -> Option<&String> {
+        match value {
+            Bson::String(text) => Some(text),
+            _ => None,
+        }
+    }
+
+    fn kind_mut(value: &mut Bson) -> Option<&mut String> {
+        match value {
+            Bson::String(text) => Some(text),
+            _ => None,
+        }
+    }
+}
+
+impl Kind for Array {
+    ghost use Rattle.bson.specs.Kinds.{array_of};
+
+    ghost held = { array_of };
+
+    ghost made = { value.Array };
+
+    fn kind(value: &Bson) -> Option<&Array> {
+        match value {
+            Bson::Array(values) => Some(values),
+            _ => None,
+        }
+    }
+
+    fn kind_mut(value: &mut Bson) -> Option<&mut Array> {
+        match value {
+            Bson::Array(values) => Some(values),
+            _ => None,
+        }
+    }
+}
+
+impl Kind for Document {
+    ghost use Rattle.bson.specs.Kinds.{document_of};
+
+    ghost held = { document_of };
+
+    ghost made = { value.Document };
+
+    fn kind(value: &Bson) -> Option<&Document> {
+        match value {
+            Bson::Document(document) => Some(document),
+            _ => None,
+        }
+    }
+
+    fn kind_mut(value: &mut Bson) -> Option<&mut Document> {
+        match value {
+            Bson::Document(document) => Some(document),
+            _ => None,
+        }
+    }
+}
+
+impl Kind for bool {
+    ghost use Rattle.bson.specs.Kinds.{boolean_of};
+
+    ghost held = { boolean_of };
+
+    ghost made = { value.Boolean };
+
+    fn kind(value: &Bson) -> Option<&bool> {
+        match value {
+            Bson::Boolean(truth) => Some(truth),
+            _ => None,
+        }
+    }
+
+    fn kind_mut(value: &mut Bson) -> Option<&mut bool> {
+        match value {
+            Bson::Boolean(truth) => Some(truth),
+            _ => None,
+        }
+    }
+}
+
+impl Kind for i32 {
+    ghost use Rattle.bson.specs.Kinds.{int32_of};
+
+    ghost held = { int32_of };
+
+    ghost made = { value.Int32 };
+
+    fn kind(value: &Bson) -> Option<&i32> {
+        match value {
+            Bson::Int32(number) => Some(number),
+            _ => None,
+        }
+    }
+
+    fn kind_mut(value: &mut Bson) -> Option<&mut i32> {
+        match value {
+            Bson::Int32(number) => Some(number),
+            _ => None,
+        }
+    }
+}
+
+impl Kind for i64 {
+    ghost use Rattle.bson.specs.Kinds.{int64_of};
+
+    ghost held = { int64_of };
+
+    ghost made = { value.Int64 };
+
+    fn kind(value: &Bson) -> Option<&i64> {
+        match value {
+            Bson::Int64(number) => Some(number),
+            _ => None,
+        }
+    }
+
+    fn kind_mut(value: &mut Bson) -> Option<&mut i64> {
+        match value {
+            Bson::Int64(number) => Some(number),
+            _ => None,
+        }
+    }
+}
+
+impl Kind for Timestamp {
+    ghost use Rattle.bson.specs.Kinds.{timestamp_of};
+
+    ghost held = { timestamp_of };
+
+    ghost made = { value.Timestamp };
+
+    fn kind(value: &Bson) -> Option<&Timestamp> {
+        match value {
+            Bson::Timestamp(timestamp) => Some(timestamp),
+            _ => None,
+        }
+    }
+
+    fn kind_mut(value: &mut Bson) -> Option<&mut Timestamp> {
+        match value {
+            Bson::Timestamp(timestamp) => Some(timestamp),
+            _ => None,
+        }
+    }
+}
+
+// A binary of another subtype is of another kind here.
+impl Kind for Vec<u8> {
+    ghost use Rattle.bson.specs.Kinds.{generic, generic_of};
+
+    ghost held = { generic_of };
+
+    ghost made = { generic };
+
+    fn kind(value: &Bson) -> Option<&Vec<u8>> {
+        match value {
+            Bson::Binary(
+                Binary {
+                    subtype: BinarySubtype::Generic,
+                    bytes,
+                },
+            ) => Some(bytes),
+            _ => None,
+        }
+    }
+
+    fn kind_mut(value: &mut Bson) -> Option<&mut Vec<u8>> {
+        match value {
+            Bson::Binary(binary) => generic_mut(binary),
+            _ => None,
+        }
+    }
+}
+
+// The bytes of a binary of the subtype Generic, to write.
+fn generic_mut(binary: &mut Binary) -> Option<&mut Vec<u8>>
+    ensures* writes_back { sem 𝓛 (LendsIf binary_row bytes_row binary.entry result (λ bytes. record { subtype = BinarySubtype.Generic; bytes = bytes }) binary.old) }
+    ensures value { option_map (λ x. x.now) result ≡ generic_bytes binary.old.subtype binary.old.bytes }
+{
+    match binary.subtype {
+        BinarySubtype::Generic => Some(&mut binary.bytes),
+        _ => None,
+    }
+}
+
+impl Kind for ObjectId {
+    ghost use Rattle.bson.specs.Kinds.{object_id_of};
+
+    ghost held = { object_id_of };
+
+    ghost made = { value.ObjectId };
+
+    fn kind(value: &Bson) -> Option<&ObjectId> {
+        match value {
+            Bson::ObjectId(id) => Some(id),
+            _ => None,
+        }
+    }
+
+    fn kind_mut(value: &mut Bson) -> Option<&mut ObjectId> {
+        match value {
+            Bson::ObjectId(id) => Some(id),
+            _ => None,
+        }
+    }
+}
+
+impl Kind for DateTime {
+    ghost use Rattle.bson.specs.Kinds.{date_of};
+
+    ghost held = { date_of };
+
+    ghost made = { value.DateTime };
+
+    fn kind(value: &Bson) -> Option<&DateTime> {
+        match value {
+            Bson::DateTime(date) => Some(date),
+            _ => None,
+        }
+    }
+
+    fn kind_mut(value: &mut Bson) -> Option<&mut DateTime> {
+        match value {
+            Bson::DateTime(date) => Some(date),
+            _ => None,
+        }
+    }
+}
+
+impl Kind for Decimal128 {
+    ghost use Rattle.bson.specs.Kinds.{decimal_of};
+
+    ghost held = { decimal_of };
+
+    ghost made = { value.Decimal128 };
+
+    fn kind(value: &Bson) -> Option<&Decimal128> {
+        match value {
+            Bson::Decimal128(decimal) => Some(decimal),
+            _ => None,
+        }
+    }
+
+    fn kind_mut(value: &mut Bson) -> Option<&mut Decimal128> {
+        match value {
+            Bson::Decimal128(decimal) => Some(decimal),
+            _ => None,
+        }
+    }
+}
