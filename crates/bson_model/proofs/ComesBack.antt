@@ -9,12 +9,13 @@ use Rattle.bson_leaf.specs.declared.error.Error.{Error}
 use Rattle.bson_leaf.specs.declared.form.Form.{Form}
 use Rattle.bson_model.specs.Means.{Means}
 use Rattle.bson_model.specs.Reading.{reads}
-use Rattle.bson_model.specs.Texts.{HasEqualTexts, HasText, ComesBack}
+use Rattle.bson_model.specs.Texts.{IsTree, HasEqualTexts, HasText, ComesBack}
 use Rattle.bson_model.specs.Same.{same}
 use Rattle.bson_model.specs.Value.{Value}
 use Rattle.bson_model.specs.Writing.{normal_form, settled, plain, writable, InRange, Written, writes}
 use Rattle.bson_model.proofs.MeansLaws.{full_from}
 use Rattle.bson_model.proofs.NoFloats.{no_float}
+use Rattle.bson_model.proofs.RangeLaws.{in_range}
 use Rattle.bson_model.proofs.ReadBack.{reads_back_is, equal_is, same_trees, settled_form}
 use Rattle.bson_model.proofs.ReadForm.{form}
 use Rattle.bson_model.proofs.SameSorted.{same_to}
@@ -48,6 +49,7 @@ equal_texts f v u w x h p r q s c =
 pub has_text : (f : Form) (v : Value) (u : Data) → writes f v ≡ Ok u → plain v ≡ true → InRange v → HasText f v u
 has_text f v u h p r = record {
   written = canon_from f v u h;
+  is_tree = tree_is f v u h r;
   read_again = text_back u (no_float f v u h) (tree_is f v u h r);
   means = let b = reads_back_is f v u h r p in (b.0, b.1, b.2, same_tree f v u b.0 h b.1 b.2);
   equal = λ w x. equal_texts f v u w x h p r;
@@ -57,10 +59,10 @@ pub comes_back : (v : Value) → plain v ≡ true → writable v ≡ true → In
 comes_back v p w r f = let t = tree_of f v w in (t.0, has_text f v t.0 t.1 p r)
 
 -- what a tree means comes back
-pub read_comes_back : (t : Data) (v : Value) → Means t v → InRange v → ComesBack v
-read_comes_back t v m r = let f = form t v m in comes_back v f.0 f.1 r
+pub read_comes_back : (t : Data) (v : Value) → IsTree t → Means t v → ComesBack v
+read_comes_back t v is m = let f = form t v m in comes_back v f.0 f.1 (in_range t v is m)
 
 -- what a reader gave comes back
-pub read_back_ok : {X : Type 0} (see : X → Value) (t : Data) (r : Result X Error) → Gives see r (reads t) → IfOk r (λ v. InRange (see v) → ComesBack (see v))
-read_back_ok see t (Ok x) h = λ ranged. read_comes_back t (see x) (full_from t (see x) h) ranged
+pub read_back_ok : {X : Type 0} (see : X → Value) (t : Data) (r : Result X Error) → Gives see r (reads t) → IfOk r (λ v. IsTree t → ComesBack (see v))
+read_back_ok see t (Ok x) h = λ is. read_comes_back t (see x) is (full_from t (see x) h)
 read_back_ok see t (Err e) h = tt

@@ -49,7 +49,7 @@ ascends_put_at Less k l d e ms c b h is = ((c, below_more k l ms c b), (b, h))
 ascends_put_at Equal k l d e ms c b h is = (b, h)
 ascends_put_at Greater k l d e ms c b h is = (below_put l k d ms (flipped k l Greater c) b, is)
 
-ascends_put : (k : List ℕ) (d : Data) (ms : Members) → Ascends ms → Ascends (put k d ms)
+pub ascends_put : (k : List ℕ) (d : Data) (ms : Members) → Ascends ms → Ascends (put k d ms)
 ascends_put k d no_members h = (tt, tt)
 ascends_put k d (member l e ms) h = ascends_put_at _ k l d e ms refl h.0 h.1 (ascends_put k d ms h.1)
 
@@ -59,7 +59,7 @@ trees_put_at Less k l d e ms a b h is = (a, (b, h))
 trees_put_at Equal k l d e ms a b h is = (a, h)
 trees_put_at Greater k l d e ms a b h is = (b, is)
 
-trees_put : (k : List ℕ) (d : Data) (ms : Members) → IsTree d → MembersAreTrees ms → MembersAreTrees (put k d ms)
+pub trees_put : (k : List ℕ) (d : Data) (ms : Members) → IsTree d → MembersAreTrees ms → MembersAreTrees (put k d ms)
 trees_put k d no_members a h = (a, tt)
 trees_put k d (member l e ms) a h = trees_put_at (cmp k l) k l d e ms a h.0 h.1 (trees_put k d ms a h.1)
 

@@ -58,10 +58,11 @@ HasOwnText t = (depth t ≤ max_depth → read (compact_text t) ≡ Some t) × (
 abbrev pub HasEqualTexts : Form → Value → Data → Value → Data → Type 0
 HasEqualTexts f v u w x = plain w ≡ true → InRange w → Written f (normal_form w) x → ((compact_text u ≡ compact_text x) ↔ (same (settled f (normal_form v)) (settled f (normal_form w)) ≡ true))
 
--- what the compact text of the tree u of the value v in the form f is
+-- what the tree u of the value v in the form f, and its compact text, are
 pub record HasText (f : Form) (v : Value) (u : Data) : Type 0 where
   pub written : Written f (normal_form v) u
-  -- it is read as the tree again, unless it nests deeper than texts may
+  pub is_tree : IsTree u
+  -- the text is read as the tree again, unless it nests deeper than texts may
   pub read_again : depth u ≤ max_depth → read (compact_text u) ≡ Some u
   -- the tree means one value, the same as the normal form, and is the tree of that value too
   pub means : (w : Value) × Means u w × (same w (settled f (normal_form v)) ≡ true) × Written f (normal_form w) u

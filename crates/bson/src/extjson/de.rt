@@ -6,8 +6,8 @@ ghost use Rattle.bson_model.specs.Value as model;
 ghost use Rattle.bson_model.specs.Value.{Pairs};
 ghost use Rattle.bson_leaf.specs.Faults.{Gives};
 ghost use Rattle.bson_model.specs.Means.{Means, MeansDocument};
-ghost use Rattle.bson_model.specs.Texts.{ComesBack};
-ghost use Rattle.bson_model.specs.Writing.{HasMeaning, HasDocumentMeaning, InRange};
+ghost use Rattle.bson_model.specs.Texts.{IsTree, ComesBack};
+ghost use Rattle.bson_model.specs.Writing.{HasMeaning, HasDocumentMeaning};
 ghost use Rattle.bson_model.specs.Fault.{IsFaultOf, IsDocumentFault};
 ghost use Rattle.bson.specs.View.{bson_view, document_view};
 
@@ -28,7 +28,7 @@ impl Bson {
         ensures ok { IfOk result (λ v. HasMeaning (view value) (bson_view v)) }
         ensures accepts { (v : model.Value) → Means (view value) v → Gives bson_view result (Ok v) }
         ensures fault { IfErr result (λ e. IsFaultOf (view value) e) }
-        ensures comes_back { IfOk result (λ v. InRange (bson_view v) → ComesBack (bson_view v)) }
+        ensures comes_back { IfOk result (λ v. IsTree (view value) → ComesBack (bson_view v)) }
     {
         read(alloc, value)
     }
