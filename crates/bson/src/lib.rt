@@ -5,6 +5,7 @@ mod accessors;
 pub mod bson;
 mod clone;
 mod conversions;
+mod debug;
 pub mod document;
 mod element_type;
 pub mod extjson;

@@ -1,0 +1,96 @@
+//! Texts of values for a reader at a fault: each kind's name, with what it holds. Nothing is promised of them.
+use crate::bson::{Bson, JavaScriptCodeWithScope};
+use crate::document::{Document, Refused};
+use bson_store::PairStore;
+use std::fmt;
+
+impl fmt::Debug for Bson {
+    fn fmt<W: fmt::Write>(&self, f: &mut fmt::Formatter<W>) -> fmt::Result {
+        debug(self, f)
+    }
+}
+
+impl fmt::Debug for Document {
+    fn fmt<W: fmt::Write>(&self, f: &mut fmt::Formatter<W>) -> fmt::Result {
+        debug_pairs(self, f)
+    }
+}
+
+impl fmt::Debug for JavaScriptCodeWithScope {
+    fn fmt<W: fmt::Write>(&self, f: &mut fmt::Formatter<W>) -> fmt::Result {
+        debug_scoped(self, f)
+    }
+}
+
+impl fmt::Debug for Refused {
+    fn fmt<W: fmt::Write>(&self, f: &mut fmt::Formatter<W>) -> fmt::Result {
+        write!(f, "Refused {{ key: {:?}, value: ", self.key)?;
+        debug(&self.value, f)?;
+        f.write_str(" }")
+    }
+}
+
+#[cycle(debug)]
+fn debug<W: fmt::Write>(value: &Bson, f: &mut fmt::Formatter<W>) -> fmt::Result {
+    match value {
+        Bson::Array(values) => debug_values(values, f),
+        Bson::Document(document) => debug_pairs(document, f),
+        Bson::JavaScriptCodeWithScope(scoped) => debug_scoped(scoped, f),
+        Bson::Null => f.write_str("Null"),
+        Bson::Undefined => f.write_str("Undefined"),
+        Bson::MinKey => f.write_str("MinKey"),
+        Bson::MaxKey => f.write_str("MaxKey"),
+        Bson::Boolean(b) => write!(f, "Boolean({b})"),
+        Bson::Double(pattern) => write!(f, "Double({pattern:#x})"),
+        Bson::Int32(z) => write!(f, "Int32({z})"),
+        Bson::Int64(z) => write!(f, "Int64({z})"),
+        Bson::String(text) => write!(f, "String({text:?})"),
+        Bson::Symbol(text) => write!(f, "Symbol({text:?})"),
+        Bson::JavaScriptCode(code) => write!(f, "JavaScriptCode({code:?})"),
+        Bson::RegularExpression(regex) => write!(f, "RegularExpression({regex:?})"),
+        Bson::Timestamp(stamp) => write!(f, "Timestamp({stamp:?})"),
+        Bson::Binary(binary) => write!(f, "Binary({binary:?})"),
+        Bson::ObjectId(id) => write!(f, "ObjectId({id:?})"),
+        Bson::DateTime(date) => write!(f, "DateTime({date})"),
+        Bson::Decimal128(decimal) => write!(f, "Decimal128({decimal})"),
+        Bson::DbPointer(pointer) => write!(f, "DbPointer({pointer:?})"),
+    }
+}
+
+#[cycle(debug)]
+fn debug_scoped<W: fmt::Write>(
+    scoped: &JavaScriptCodeWithScope,
+    f: &mut fmt::Formatter<W>,
+) -> fmt::Result {
+    write!(
+        f,
+        "JavaScriptCodeWithScope {{ code: {:?}, scope: ",
+        scoped.code
+    )?;
+    debug_pairs(&scoped.scope, f)?;
+    f.write_str(" }")
+}
+
+#[cycle(debug)]
+fn debug_values<W: fmt::Write>(values: &Vec<Bson>, f: &mut fmt::Formatter<W>) -> fmt::Result {
+    f.write_str("Array([")?;
+    let mut between = "";
+    for value in values {
+        f.write_str(between)?;
+        debug(value, f)?;
+        between = ", ";
+    }
+    f.write_str("])")
+}
+
+#[cycle(debug)]
+fn debug_pairs<W: fmt::Write>(document: &Document, f: &mut fmt::Formatter<W>) -> fmt::Result {
+    f.write_str("Document({")?;
+    let mut between = "";
+    for i in 0..document.pairs.len() {
+        write!(f, "{between}{:?}: ", document.pairs.key_at(i))?;
+        debug(document.pairs.value_at(i), f)?;
+        between = ", ";
+    }
+    f.write_str("})")
+}
