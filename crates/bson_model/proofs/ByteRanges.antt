@@ -1,14 +1,14 @@
 -- What the decoders of base64, hexadecimal digits and UUIDs give is bytes.
-use Rattle.std.proofs.Common.{◌≡◌, ◌<◌, ◌≤◌, ◌+◌, ◌*◌, ◌/◌, ◌%◌, ◌&&◌, ◌==◌, ◌⊎◌, inl, inr, ℕ, zero, suc, nat_lt, nat_le, List, [], ◌∷◌, ◌++◌, length, take, drop, get_or, slice_index, slice_set, Bool, true, false, cond, Option, Some, None, Result, Ok, Err, refl, sym, ap, ◌∙◌, subst, arith}
-use Rattle.std.proofs.lemmas.Bool.{cases_Bool, cases_lt, cases_eq, and_parts, eqb-true}
+use Rattle.std.proofs.Common.{◌≡◌, ◌<◌, ◌+◌, ◌*◌, ◌/◌, ◌%◌, ◌==◌, inl, inr, ℕ, zero, suc, nat_lt, List, [], ◌∷◌, ◌++◌, length, take, drop, slice_index, slice_set, Bool, true, false, cond, Option, Some, None, Result, Ok, Err, refl, sym, ◌∙◌, subst, arith}
+use Rattle.std.proofs.lemmas.Bool.{cases_lt, cases_eq, and_parts, eqb-true}
 use Rattle.std.proofs.lemmas.Bool.Decides.{nat_tests}
 use Rattle.std.proofs.lemmas.List.{get_or-set_same, get_or-set_other, set_past, get_or_past}
 use Rattle.std.specs.List.{list_all}
 use Rattle.hex.specs.Hex.{IsBytes, decode_sized}
 use Rattle.hex.proofs.HexLemmas.{decode_of-ok, decode_sized-ok, decode_sized-twice}
 use Rattle.base64.specs.declared.decode.DecodeError.{DecodeError}
-use Rattle.base64.specs.Decode.{IsDecodeTable, decode_group, decode_outcome, group_error, group_bytes, groups_error, groups_bytes, groups_before_last, symbol_error, or_else, push_leftover, scan_steps, scan_last, scan_bytes, suffix_bytes, no_leftover, leftover_bytes}
-use Rattle.base64.specs.GeneralPurpose.{decode_of, decoded_bytes_of}
+use Rattle.base64.specs.Decode.{IsDecodeTable, decode_group, decode_outcome, group_error, group_bytes, groups_error, groups_bytes, groups_before_last, symbol_error, or_else, push_leftover, scan_steps, scan_last, scan_bytes, suffix_bytes, no_leftover}
+use Rattle.base64.specs.GeneralPurpose.{decode_of}
 use Rattle.base64.specs.Engines.{standard}
 use Rattle.base64.proofs.Tables.{are_tables_inverse, IsDecodeTable_from}
 use Rattle.uuid.specs.Text.{by_index, byte_of_digits, is_hex_digit, value_of, digits_of, parsed, parsed_simple, parsed_hyphenated, parsed_braced, parsed_urn}

@@ -1,18 +1,17 @@
 -- A moment that a text denotes is in the range of an i64.
-use Rattle.std.proofs.Common.{◌≡◌, ◌<◌, ◌≤◌, ◌+◌, ◌-◌, ◌*◌, ◌^◌, ℕ, zero, suc, ℤ, pos, negsuc, neg_ℤ, ◌+ℤ◌, ◌-ℤ◌, ◌*ℤ◌, ◌≤ℤ◌, List, [], ◌∷◌, refl, sym, ap, ◌∙◌, subst, ◌⊎◌, inl, inr, w64, arith}
+use Rattle.std.proofs.Common.{◌<◌, ◌+◌, ◌-◌, ◌*◌, ◌^◌, ℕ, zero, suc, ℤ, pos, List, [], ◌∷◌, refl, sym, subst, w64, arith}
 use Rattle.std.specs.Prelude.{FitsSigned, int_div}
 use Rattle.std.specs.Char.{IsAsciiDigit}
 use Rattle.std.specs.List.{All}
 use Rattle.std.proofs.lemmas.Nat.{mul-add-lt}
-use lib.Signed.{mag}
 use Rattle.jiff.proofs.SpanFacts.{signed_arith}
 use Rattle.jiff_core.specs.Calendar.{IsCivilDate, IsEpochDay, IsWithin, days_from_civil}
 use Rattle.jiff.specs.Types.{Date}
 use Rattle.jiff_core.proofs.DateLemmas.{epoch_day_range}
 use Rattle.jiff_fmt.specs.Reader.{fraction_value}
-use Rattle.jiff_fmt.proofs.ReaderLemmas.{fraction_value-nil, tenth, ten_pow-pos}
+use Rattle.jiff_fmt.proofs.ReaderLemmas.{tenth, ten_pow-pos}
 use Rattle.bson_datetime.specs.Rfc3339.{Denotes, nanos_of}
-use Rattle.bson_datetime.specs.Grammar.{Names, Offset, zulu, ahead, behind, IsOffset, offset_seconds}
+use Rattle.bson_datetime.specs.Grammar.{Offset, zulu, ahead, behind, IsOffset, offset_seconds}
 use Rattle.bson_datetime.proofs.GrammarLemmas.{denotes-names}
 
 day_range : (y m d : ℕ) → IsCivilDate (pos y) m d → IsEpochDay (days_from_civil (pos y) m d)

@@ -1,30 +1,22 @@
 -- What a tree means is in range.
-use Rattle.std.proofs.Common.{◌≡◌, ◌<◌, ◌≤◌, ◌+◌, ◌*◌, ◌^◌, ℕ, zero, suc, ℤ, pos, negsuc, neg_ℤ, ◌+ℤ◌, ◌-ℤ◌, ◌*ℤ◌, ◌≤ℤ◌, List, [], ◌∷◌, Bool, true, false, cond, nat_lt, Option, Some, None, Result, Ok, Err, refl, sym, ap, ◌∙◌, subst, ◌⊎◌, inl, inr, w32, w64, arith}
-use Rattle.std.specs.Prelude.{FitsSigned, int_div}
+use Rattle.std.proofs.Common.{◌≡◌, ◌<◌, ◌^◌, ℕ, ℤ, pos, negsuc, List, [], ◌∷◌, Bool, true, false, cond, Option, Some, None, refl, sym, subst, ◌⊎◌, inl, inr, w64, arith}
+use Rattle.std.specs.Prelude.{FitsSigned}
 use Rattle.std.specs.Bool.{MatchBool}
-use Rattle.std.specs.Char.{IsAsciiDigit}
-use Rattle.std.specs.List.{All}
 use Rattle.std.proofs.lemmas.Bool.{ltb-true}
-use lib.Signed.{mag}
-use Rattle.hex.specs.Hex.{IsBytes}
-use Rattle.jiff.proofs.SpanFacts.{signed_arith}
-use Rattle.jiff_core.specs.Calendar.{IsCivilDate, IsEpochDay, IsWithin, days_from_civil}
 use Rattle.serde_json.specs.Data.{Data, Num, unsigned, negative, float, Items, no_items, item, Members, no_members, member}
 use Rattle.serde_json.specs.Data as tree
 use Rattle.serde_json.specs.Find.{as_i64}
-use Rattle.bson_scalar.specs.Subtype.{subtype_byte, subtype_of}
 use Rattle.bson_leaf.specs.Full.{NumberRow}
 use Rattle.bson_leaf.specs.Normal.{ScalarInRange}
 use Rattle.bson_leaf.specs.Rows.{Row}
-use Rattle.bson_leaf.specs.Scalar.{Scalar, null, undefined, min_key, max_key, boolean, double, int32, int64, text, symbol, code, regex, timestamp, binary, object_id, date, decimal, db_pointer}
-use Rattle.bson_leaf.specs.Shapes.{u32_at, small_number, whole}
+use Rattle.bson_leaf.specs.Scalar.{Scalar}
+use Rattle.bson_leaf.specs.Shapes.{small_number, whole}
 use Rattle.bson_leaf.specs.Dates.{IsLongForm, IsTextForm, IsNumberForm}
-use Rattle.bson_leaf.specs.Doubles.{double_of}
-use Rattle.bson_leaf.specs.Table.{wrapper_of, has_wrapper}
+use Rattle.bson_leaf.specs.Table.{has_wrapper}
 use Rattle.bson_leaf.specs.declared.wrapper.Wrapper.{Wrapper}
 use Rattle.bson_leaf.specs.declared.wrapper.Wrapper.TheVariants.{Oid, Symbol, RegularExpression, NumberInt, NumberLong, NumberDouble, NumberDecimal, Binary, Uuid, Code, Timestamp, Date, MinKey, MaxKey, DbPointer, Undefined}
 use Rattle.bson_leaf.proofs.BinaryLaws.{subtype_byte-of}
-use Rattle.bson_model.specs.Value.{Value, scalar, code_scope, array, document, Values, no_values, value, Pairs, no_pairs, pair}
+use Rattle.bson_model.specs.Value.{Value, Values, Pairs}
 use Rattle.bson_model.specs.Means.{Means, MeansItems, MeansDocument, MeansWrapper, MeansScope}
 use Rattle.bson_model.specs.Texts.{NumberFits, IsTree, ItemsAreTrees, MembersAreTrees}
 use Rattle.bson_model.specs.Writing.{InRange, ItemsInRange, PairsInRange}

@@ -1,5 +1,5 @@
 -- Why a tree means nothing: the first fault.
-use Rattle.std.specs.Prelude.{◌≡◌, ℕ, List, codes, ◌&&◌, Bool, true, false, if◌then◌else◌, Option, Some, None, is_ok, Result, Ok, Err}
+use Rattle.std.specs.Prelude.{◌≡◌, ℕ, List, codes, ◌&&◌, Bool, true, false, if◌then◌else◌, is_ok}
 use Rattle.std.specs.Str.{bytes_eq}
 use Rattle.serde_json.specs.Data.{Data, Items, no_items, item, Members, no_members, member}
 use Rattle.serde_json.specs.Data as tree

@@ -1,5 +1,5 @@
 -- The full grammar: which trees mean which values (MongoDB Extended JSON v2).
-use Rattle.std.specs.Prelude.{◌≡◌, ℕ, List, codes, Option, Some}
+use Rattle.std.specs.Prelude.{◌≡◌, ℕ, List, codes, Some}
 use Rattle.std.specs.Bool.{MatchBool}
 use Rattle.serde_json.specs.Data.{Data, Items, no_items, item, Members, no_members, member}
 use Rattle.serde_json.specs.Data as tree

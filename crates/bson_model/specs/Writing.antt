@@ -1,5 +1,5 @@
 -- Normal forms, and the tree of a value in each form of Extended JSON.
-use Rattle.std.specs.Prelude.{◌≡◌, ◌↔◌, ◌&&◌, ℕ, List, codes, Bool, true, false, is_none, Result, Ok, Err}
+use Rattle.std.specs.Prelude.{◌≡◌, ◌↔◌, ◌&&◌, ℕ, List, codes, Bool, true, false, is_none, Result, Ok}
 use Rattle.serde_json.specs.Data.{Data, Items, no_items, item, Members, no_members, member, put}
 use Rattle.serde_json.specs.Data as tree
 use Rattle.serde_json.specs.Written.{has_float}
