@@ -11,7 +11,9 @@ mod element_type;
 pub mod extjson;
 mod hash;
 mod kinds;
+mod pretty;
 mod same;
+mod show;
 
 pub use bson::{Array, Bson, JavaScriptCodeWithScope};
 pub use bson_scalar::binary::Binary;

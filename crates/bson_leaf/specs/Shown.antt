@@ -1,4 +1,4 @@
--- The text of a value that holds no other, one line a kind.
+-- The text of a value that holds no other, one line a kind. Texts stand as they are, with nothing escaped.
 use Rattle.std.specs.Prelude.{ℕ, ◌-◌, ◌++◌, List, Bool, true, false, length, replicate, codes}
 use Rattle.std.specs.Fmt.{decimal, signed_decimal, digits}
 use Rattle.hex.specs.Hex.{encode_lower}
@@ -7,10 +7,6 @@ use Rattle.bson_decimal.specs.Printed.{printed}
 use Rattle.bson_scalar.specs.Base64.{base64_text}
 use Rattle.bson_scalar.specs.Subtype.{subtype_byte}
 use Rattle.bson_leaf.specs.Scalar.{Scalar, null, undefined, min_key, max_key, boolean, double, int32, int64, text, symbol, code, regex, timestamp, binary, object_id, date, decimal as decimal128, db_pointer}
-
--- the text in quotation marks, with nothing escaped
-abbrev pub quoted : List ℕ → List ℕ
-quoted s = codes "\"" ++ s ++ codes "\""
 
 -- a pattern of 64 bits in 16 hexadecimal digits
 abbrev pub sixteen_digits : ℕ → List ℕ
@@ -29,13 +25,13 @@ scalar_shown (boolean b) = boolean_shown b
 scalar_shown (double p) = codes "Double(0x" ++ sixteen_digits p ++ codes ")"
 scalar_shown (int32 z) = signed_decimal z
 scalar_shown (int64 z) = signed_decimal z
-scalar_shown (text s) = quoted s
-scalar_shown (symbol s) = codes "Symbol(" ++ quoted s ++ codes ")"
+scalar_shown (text s) = codes "\"" ++ s ++ codes "\""
+scalar_shown (symbol s) = codes "Symbol(\"" ++ s ++ codes "\")"
 scalar_shown (code s) = s
 scalar_shown (regex p o) = codes "/" ++ p ++ codes "/" ++ o
 scalar_shown (timestamp t i) = codes "Timestamp(" ++ decimal t ++ codes ", " ++ decimal i ++ codes ")"
 scalar_shown (binary k bytes) = codes "Binary(0x" ++ digits 16 false (subtype_byte k) ++ codes ", " ++ base64_text bytes ++ codes ")"
-scalar_shown (object_id id) = codes "ObjectId(" ++ quoted (encode_lower id) ++ codes ")"
-scalar_shown (date ms) = codes "DateTime(" ++ quoted (date_shown ms) ++ codes ")"
+scalar_shown (object_id id) = codes "ObjectId(\"" ++ encode_lower id ++ codes "\")"
+scalar_shown (date ms) = codes "DateTime(\"" ++ date_shown ms ++ codes "\")"
 scalar_shown (decimal128 b) = printed b
-scalar_shown (db_pointer s id) = codes "DbPointer(" ++ s ++ codes ", " ++ encode_lower id ++ codes ")"
+scalar_shown (db_pointer s id) = codes "DbPointer(" ++ (s ++ (codes ", " ++ (encode_lower id ++ codes ")")))

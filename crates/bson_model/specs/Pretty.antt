@@ -13,7 +13,7 @@ inner i = min (i + 2) (2 ^ 64 - 1)
 
 -- the bracket on a line of its own, 2 blanks further out, as far as there are any
 abbrev pub closing : ℕ → List ℕ → List ℕ
-closing i bracket = codes "\n" ++ blanks (i - 2) ++ bracket
+closing i bracket = codes "\n" ++ (blanks (i - 2) ++ bracket)
 
 -- each element and each entry on a line of its own at the indent; all else, and what is empty, as it is shown
 abbrev mutual
@@ -25,7 +25,7 @@ abbrev mutual
 
   pub item_lines : ℕ → Values → List (List ℕ)
   item_lines i no_values = []
-  item_lines i (value v vs) = (codes "\n" ++ blanks i ++ pretty (inner i) v) ∷ item_lines i vs
+  item_lines i (value v vs) = (codes "\n" ++ (blanks i ++ pretty (inner i) v)) ∷ item_lines i vs
 
   pub entry_lines : ℕ → Pairs → List (List ℕ)
   entry_lines i no_pairs = []

@@ -1,17 +1,17 @@
 -- The text of a value on one line.
 use Rattle.std.specs.Prelude.{ℕ, List, [], ◌∷◌, ◌++◌, codes}
 use Rattle.std.specs.List.{join_by}
-use Rattle.bson_leaf.specs.Shown.{scalar_shown, quoted}
+use Rattle.bson_leaf.specs.Shown.{scalar_shown}
 use Rattle.bson_model.specs.Value.{Value, scalar, code_scope, array, document, Values, no_values, value, Pairs, no_pairs, pair}
 
 -- the texts with a separator between them and brackets around them; without texts, the empty brackets
 abbrev pub enclosed : List ℕ → List ℕ → List ℕ → List ℕ → List (List ℕ) → List ℕ
 enclosed empty opening separator closing [] = empty
-enclosed empty opening separator closing (t ∷ ts) = opening ++ join_by (λ s. s) separator (t ∷ ts) ++ closing
+enclosed empty opening separator closing (t ∷ ts) = opening ++ (join_by (λ s. s) separator (t ∷ ts) ++ closing)
 
--- `"k": v`, where the value's text is v
+-- `"k": v`, the key as it is, and v the text of the value
 abbrev pub entry : List ℕ → List ℕ → List ℕ
-entry k v = quoted k ++ codes ": " ++ v
+entry k v = codes "\"" ++ (k ++ (codes "\": " ++ v))
 
 -- lists as `[a, b]`, documents as `{ "k": v, "l": w }` in their own order, code with its scope as the code alone
 abbrev mutual

@@ -1,0 +1,57 @@
+-- The texts of lists and documents by those of what they hold.
+use Rattle.std.proofs.Common.{◌≡◌, ℕ, ◌<◌, ◌-◌, ◌^◌, false, append-nil, arith, List, [], ◌∷◌, ◌++◌, length, map, codes, refl, sym, ap, ◌∙◌}
+use Rattle.std.specs.Fmt.{padded_integral, format_spec, digits, char_count}
+use Rattle.std.specs.List.{join_by}
+use Rattle.bson_leaf.specs.Shown.{sixteen_digits}
+use Rattle.bson_model.specs.Value.{array, document}
+use Rattle.bson_model.specs.Shown.{shown, items_shown, entries_shown, enclosed, entry}
+use Rattle.bson_model.specs.Pretty.{pretty, item_lines, entry_lines, blanks, inner, closing}
+use Rattle.bson.specs.View.{bson_view, values_view, pairs_view}
+use Rattle.bson.specs.declared.bson.Bson.{Bson}
+use Rattle.bson.proofs.Joined.{enclosed_all}
+use Rattle.bson.proofs.Onto.{Entry}
+
+-- `{p:016x}` writes sixteen digits
+pub sixteen : (p : ℕ) → padded_integral (format_spec 32 0 4 16 (2 ^ 64 - 1)) false [] (digits 16 false p) ≡ sixteen_digits p
+unfolding padded_integral char_count
+sixteen p = let none : 16 - length (digits 16 false p) - 0 - 0 ≡ 16 - length (digits 16 false p) = omega arith in rw (none, append-nil (digits 16 false p)) refl
+
+abbrev pub item_shown : Bson → List ℕ
+item_shown v = shown (bson_view v)
+
+abbrev pub entry_shown : Entry → List ℕ
+entry_shown p = entry p.0 (shown (bson_view p.1))
+
+abbrev pub item_line : ℕ → Bson → List ℕ
+item_line i v = codes "\n" ++ (blanks i ++ pretty (inner i) (bson_view v))
+
+abbrev pub entry_line : ℕ → Entry → List ℕ
+entry_line i p = blanks i ++ entry p.0 (pretty (inner i) (bson_view p.1))
+
+items : (vs : List Bson) → items_shown (values_view vs) ≡ map item_shown vs
+items [] = refl
+items (v ∷ vs) = ap (λ l. item_shown v ∷ l) (items vs)
+
+entries : (ps : List Entry) → entries_shown (pairs_view ps) ≡ map entry_shown ps
+entries [] = refl
+entries (p ∷ ps) = ap (λ l. entry_shown p ∷ l) (entries ps)
+
+lines : (i : ℕ) (vs : List Bson) → item_lines i (values_view vs) ≡ map (item_line i) vs
+lines i [] = refl
+lines i (v ∷ vs) = ap (λ l. item_line i v ∷ l) (lines i vs)
+
+pair_lines : (i : ℕ) (ps : List Entry) → entry_lines i (pairs_view ps) ≡ map (entry_line i) ps
+pair_lines i [] = refl
+pair_lines i (p ∷ ps) = ap (λ l. entry_line i p ∷ l) (pair_lines i ps)
+
+pub array_shown : (vs : List Bson) → 0 < length vs → codes "[" ++ (join_by item_shown (codes ", ") vs ++ codes "]") ≡ shown (array (values_view vs))
+array_shown vs h = enclosed_all item_shown (codes "[]") (codes "[") (codes ", ") (codes "]") vs h ∙ ap (enclosed (codes "[]") (codes "[") (codes ", ") (codes "]")) (sym (items vs))
+
+pub document_shown : (ps : List Entry) → 0 < length ps → codes "{ " ++ (join_by entry_shown (codes ", ") ps ++ codes " }") ≡ shown (document (pairs_view ps))
+document_shown ps h = enclosed_all entry_shown (codes "{}") (codes "{ ") (codes ", ") (codes " }") ps h ∙ ap (enclosed (codes "{}") (codes "{ ") (codes ", ") (codes " }")) (sym (entries ps))
+
+pub array_pretty : (i : ℕ) (vs : List Bson) → 0 < length vs → codes "[" ++ (join_by (item_line i) (codes ", ") vs ++ closing i (codes "]")) ≡ pretty i (array (values_view vs))
+array_pretty i vs h = enclosed_all (item_line i) (codes "[]") (codes "[") (codes ", ") (closing i (codes "]")) vs h ∙ ap (enclosed (codes "[]") (codes "[") (codes ", ") (closing i (codes "]"))) (sym (lines i vs))
+
+pub document_pretty : (i : ℕ) (ps : List Entry) → 0 < length ps → codes "{\n" ++ (join_by (entry_line i) (codes ",\n") ps ++ closing i (codes "}")) ≡ pretty i (document (pairs_view ps))
+document_pretty i ps h = enclosed_all (entry_line i) (codes "{}") (codes "{\n") (codes ",\n") (closing i (codes "}")) ps h ∙ ap (enclosed (codes "{}") (codes "{\n") (codes ",\n") (closing i (codes "}"))) (sym (pair_lines i ps))

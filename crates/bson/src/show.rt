@@ -1,0 +1,141 @@
+//! The texts of values on one line.
+ghost use Rattle.std.specs.Prelude.{◌≡◌, ◌==◌, ◌++◌, cond, [], codes};
+ghost use Rattle.std.specs.Fmt.{WritesOnOk};
+ghost use Rattle.bson_leaf.specs.Shown.{sixteen_digits};
+ghost use Rattle.bson_model.specs.Value.{array, document as document_of};
+ghost use Rattle.bson_model.specs.Shown.{shown, entry};
+ghost use Rattle.bson.specs.View.{bson_view, values_view, pairs_view};
+
+use crate::bson::{Bson, JavaScriptCodeWithScope};
+use crate::document::Document;
+use bson_store::PairStore;
+use std::fmt;
+
+/// The value on one line, as MongoDB's shell would show it: `{ "k": v, "l": w }`, `[a, b]`, `ObjectId("..")`.
+///
+/// Documents stand in their own order. Keys and texts are written as they are, with nothing escaped; a double is
+/// written as its pattern of bits, `Double(0x3ff8000000000000)`. It takes no memory.
+impl fmt::Display for Bson {
+    ghost use Rattle.std.specs.Prelude.{Some};
+    ghost use Rattle.bson_model.specs.Shown.{shown};
+    ghost use Rattle.bson.specs.View.{bson_view};
+
+    ghost output = { λ v. Some (shown (bson_view v)) };
+
+    fn fmt<W: fmt::Write>(&self, f: &mut fmt::Formatter<W>) -> fmt::Result {
+        show(self, f)
+    }
+}
+
+/// The document on one line, its pairs in their order: `{ "k": v, "l": w }`, or `{}` where it has none.
+impl fmt::Display for Document {
+    ghost use Rattle.std.specs.Prelude.{Some};
+    ghost use Rattle.bson_model.specs.Value.{document};
+    ghost use Rattle.bson_model.specs.Shown.{shown};
+    ghost use Rattle.bson.specs.View.{document_view};
+
+    ghost output = { λ d. Some (shown (document (document_view d))) };
+
+    fn fmt<W: fmt::Write>(&self, f: &mut fmt::Formatter<W>) -> fmt::Result {
+        show_pairs(self, f)
+    }
+}
+
+/// The code alone.
+impl fmt::Display for JavaScriptCodeWithScope {
+    ghost use Rattle.std.specs.Prelude.{Some, string_bytes};
+
+    ghost output = { λ c. Some (string_bytes c.code) };
+
+    fn fmt<W: fmt::Write>(&self, f: &mut fmt::Formatter<W>) -> fmt::Result {
+        f.write_str(self.code.as_str())
+    }
+}
+
+#[cycle(show)]
+fn show<W: fmt::Write>(value: &Bson, f: &mut fmt::Formatter<W>) -> fmt::Result
+    ensures { WritesOnOk W.write_str_gives f.old result (shown (bson_view value.now)) f.new }
+{
+    match value {
+        Bson::Array(items) => show_items(items, f),
+        Bson::Document(document) => show_pairs(document, f),
+        Bson::JavaScriptCodeWithScope(scoped) => f.write_str(scoped.code.as_str()),
+        Bson::Null => f.write_str("null"),
+        Bson::Undefined => f.write_str("undefined"),
+        Bson::MinKey => f.write_str("MinKey"),
+        Bson::MaxKey => f.write_str("MaxKey"),
+        Bson::Boolean(b) => write!(f, "{b}"),
+        Bson::Double(pattern) => show_double(*pattern, f),
+        Bson::Int32(z) => write!(f, "{z}"),
+        Bson::Int64(z) => write!(f, "{z}"),
+        Bson::String(text) => write!(f, "\"{text}\""),
+        Bson::Symbol(text) => write!(f, "Symbol(\"{text}\")"),
+        Bson::JavaScriptCode(code) => f.write_str(code.as_str()),
+        Bson::RegularExpression(regex) => write!(f, "{regex}"),
+        Bson::Timestamp(stamp) => write!(f, "{stamp}"),
+        Bson::Binary(binary) => write!(f, "{binary}"),
+        Bson::ObjectId(id) => write!(f, "ObjectId(\"{id}\")"),
+        Bson::DateTime(date) => write!(f, "DateTime(\"{date}\")"),
+        Bson::Decimal128(decimal) => write!(f, "{decimal}"),
+        Bson::DbPointer(pointer) => {
+            write!(f, "DbPointer({}, {})", pointer.namespace(), pointer.id())
+        }
+    }
+}
+
+// A double by its pattern of bits, in 16 hexadecimal digits.
+fn show_double<W: fmt::Write>(pattern: u64, f: &mut fmt::Formatter<W>) -> fmt::Result
+    ensures { WritesOnOk W.write_str_gives f.old result (codes "Double(0x" ++ sixteen_digits pattern ++ codes ")") f.new }
+{
+    write!(f, "Double(0x{pattern:016x})")
+}
+
+#[cycle(show)]
+fn show_items<W: fmt::Write>(items: &Vec<Bson>, f: &mut fmt::Formatter<W>) -> fmt::Result
+    ensures { WritesOnOk W.write_str_gives f.old result (shown (array (values_view items.now.items))) f.new }
+{
+    if items.is_empty() {
+        return f.write_str("[]");
+    }
+    f.write_str("[")?;
+    for i in 0..items.len() {
+        show_separator(i, f)?;
+        show(&items[i], f)?;
+    }
+    f.write_str("]")
+}
+
+#[cycle(show)]
+fn show_pairs<W: fmt::Write>(document: &Document, f: &mut fmt::Formatter<W>) -> fmt::Result
+    ensures { WritesOnOk W.write_str_gives f.old result (shown (document_of (pairs_view document.now.pairs))) f.new }
+{
+    let pairs = &document.pairs;
+    if pairs.len() == 0 {
+        return f.write_str("{}");
+    }
+    f.write_str("{ ")?;
+    for i in 0..pairs.len() {
+        show_separator(i, f)?;
+        show_entry(pairs.key_at(i).as_str(), pairs.value_at(i), f)?;
+    }
+    f.write_str(" }")
+}
+
+#[cycle(show)]
+fn show_entry<W: fmt::Write>(key: &str, value: &Bson, f: &mut fmt::Formatter<W>) -> fmt::Result
+    ensures { WritesOnOk W.write_str_gives f.old result (entry key.now (shown (bson_view value.now))) f.new }
+{
+    write!(f, "\"{key}\": ")?;
+    show(value, f)
+}
+
+// What stands before the element at a place.
+fn show_separator<W: fmt::Write>(at: usize, f: &mut fmt::Formatter<W>) -> fmt::Result
+    ensures { WritesOnOk W.write_str_gives f.old result (cond (at == 0) [] (codes ", ")) f.new }
+{
+    if at == 0 {
+        Ok(())
+    } else {
+        f.write_str(", ")
+    }
+}
