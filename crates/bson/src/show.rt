@@ -133,9 +133,5 @@ fn show_entry<W: fmt::Write>(key: &str, value: &Bson, f: &mut fmt::Formatter<W>)
 fn show_separator<W: fmt::Write>(at: usize, f: &mut fmt::Formatter<W>) -> fmt::Result
     ensures { WritesOnOk W.write_str_gives f.old result (cond (at == 0) [] (codes ", ")) f.new }
 {
-    if at == 0 {
-        Ok(())
-    } else {
-        f.write_str(", ")
-    }
+    if at == 0 { Ok(()) } else { f.write_str(", ") }
 }

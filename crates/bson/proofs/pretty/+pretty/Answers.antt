@@ -1,4 +1,4 @@
-use Rattle.std.proofs.Common.{rules, ◌≡◌, ◌<◌, ◌≤◌, ◌++◌, codes, length, string_bytes, ap, ◌∙◌, take_all, arith}
+use Rattle.std.proofs.Common.{rules, ◌<◌, ◌≤◌, ◌++◌, codes, length, string_bytes, ap, ◌∙◌, take_all, arith}
 use Rattle.std.proofs.lemmas.Result.{on_ok_weaker}
 use Rattle.std.specs.List.{join_by}
 use Rattle.bson_model.specs.Pretty.{closing}

@@ -1,8 +1,6 @@
-use Rattle.std.proofs.Common.{rules, ◌≡◌, ◌<◌, ◌≤◌, [], ◌++◌, codes, cond, length, string_bytes, refl, sym, ap, ◌∙◌, take_all, arith}
+use Rattle.std.proofs.Common.{rules, ◌<◌, ◌≤◌, ◌++◌, codes, length, string_bytes, refl, ap, ◌∙◌, take_all, arith}
 use Rattle.std.specs.List.{join_by}
 use Rattle.std.proofs.lemmas.Grind.{put_three}
-use Rattle.bson_model.specs.Shown.{entry, shown}
-use Rattle.bson.specs.View.{bson_view}
 use Rattle.bson.proofs.Joined.{join_more, at_get}
 use Rattle.bson.proofs.Places.{pair_from}
 use Rattle.bson.proofs.Texts.{item_shown, entry_shown, array_shown, document_shown}
