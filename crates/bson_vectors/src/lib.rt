@@ -6,4 +6,6 @@ mod equality;
 #[cfg(test)]
 mod extended_json;
 #[cfg(test)]
+mod texts;
+#[cfg(test)]
 mod trees;
