@@ -10,10 +10,11 @@ use Rattle.bson_leaf.specs.declared.form.Form.{Form}
 use Rattle.bson_leaf.specs.declared.form.Form.TheVariants as form
 use Rattle.bson_model.specs.Fault.{MeansNothing, fault_of}
 use Rattle.bson_model.specs.Means.{Means}
+use Rattle.bson_model.specs.Shown.{shown}
 use Rattle.bson_model.specs.Value.{Value}
 use Rattle.bson_model.specs.Writing.{HasMeaning, IsTreeOf, Written, normal_form}
 use Rattle.bson_cli.specs.declared.mode.Mode.{Mode}
-use Rattle.bson_cli.specs.declared.mode.Mode.TheVariants.{Canonical, Relaxed}
+use Rattle.bson_cli.specs.declared.mode.Mode.TheVariants.{Canonical, Relaxed, Show}
 use Rattle.bson_cli.specs.declared.fault.Fault.{Fault}
 use Rattle.bson_cli.specs.declared.fault.Fault.TheVariants.{CannotRead, NotJson, BadObjectId, NotExtendedJson, OutOfMemory, CannotWrite}
 
@@ -50,9 +51,11 @@ pub record IsWritten (f : Form) (value : Value) (output : List ℕ) : Type 0 whe
   pub line : IsLineOf tree output
   pub again : (w : Value) → Means tree w → Written f (normal_form w) tree
 
+-- that line, or the text that shows the value and a newline
 abbrev pub IsOutput : Mode → Value → List ℕ → Type 0
 IsOutput Canonical value output = IsWritten form.Canonical value output
 IsOutput Relaxed value output = IsWritten form.Relaxed value output
+IsOutput Show value output = output ≡ shown value ++ newline
 
 -- a beginning of the output was written
 pub record WritesBeginning (had holds : Option (List ℕ)) (output : List ℕ) : Type 0 where

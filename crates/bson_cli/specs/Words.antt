@@ -1,13 +1,14 @@
 -- The words that the program is given, and the lines that it writes on standard error.
 use Rattle.std.specs.Prelude.{ℕ, List, codes}
 use Rattle.bson_cli.specs.declared.mode.Mode.{Mode}
-use Rattle.bson_cli.specs.declared.mode.Mode.TheVariants.{Canonical, Relaxed}
+use Rattle.bson_cli.specs.declared.mode.Mode.TheVariants.{Canonical, Relaxed, Show}
 use Rattle.bson_cli.specs.declared.fault.Fault.{Fault}
 use Rattle.bson_cli.specs.declared.fault.Fault.TheVariants.{CannotRead, NotJson, BadObjectId, NotExtendedJson, OutOfMemory, CannotWrite}
 
 abbrev pub name_of : Mode → List ℕ
 name_of Canonical = codes "canonical"
 name_of Relaxed = codes "relaxed"
+name_of Show = codes "show"
 
 abbrev pub line_of : Fault → List ℕ
 line_of CannotRead = codes "bson_cli: cannot read"

@@ -1,5 +1,5 @@
-//! The program `bson_cli MODE`: reads one JSON text from standard input, and writes the value that it means in MongoDB
-//! Extended JSON v2 to standard output, in the form that MODE names, and a newline.
+//! The program `bson_cli MODE`: reads one JSON text from standard input, and writes the value that it means to
+//! standard output, in the form of MongoDB Extended JSON v2 that MODE names, or as it is shown, and a newline.
 //!
 //! `mode` and `fault` are what it is asked and what it refuses, `stream` reads and writes all bytes, and `run` is the
 //! whole way over any reader and writer.
@@ -19,7 +19,7 @@ use std::alloc::AllocError;
 use std::process::ExitCode;
 use std::{env, io};
 
-const USAGE: &str = "usage: bson_cli canonical|relaxed";
+const USAGE: &str = "usage: bson_cli canonical|relaxed|show";
 
 /// Status 0: done. Status 1: refused, with one line on standard error. Status 2: other arguments, and nothing was read.
 fn main(rt: HostRuntime) -> io::Result<ExitCode> {

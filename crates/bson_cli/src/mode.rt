@@ -10,6 +10,8 @@ pub enum Mode {
     Canonical,
     /// The relaxed form, with plain numbers, and dates as texts.
     Relaxed,
+    /// The text of `Display`, on one line, to be read by people.
+    Show,
 }
 
 /// The mode that the words after the program's name ask for: its name, and no other word.
@@ -24,6 +26,7 @@ pub fn mode_of(words: &[String]) -> Option<Mode>
     match word.as_str() {
         "canonical" => Some(Mode::Canonical),
         "relaxed" => Some(Mode::Relaxed),
+        "show" => Some(Mode::Show),
         _ => None,
     }
 }

@@ -1,10 +1,11 @@
 //! One run: from the bytes of a reader to the bytes for a writer.
-ghost use Rattle.std.specs.Prelude.{◌≡◌, ◌⊎◌, false, Err, IfOk, IfErr, OnOk};
+ghost use Rattle.std.specs.Prelude.{◌≡◌, ◌⊎◌, ◌++◌, false, Err, IfOk, IfErr, OnOk};
 ghost use Rattle.serde_json.specs.View.{view};
 ghost use Rattle.serde_json.specs.Written.{has_float};
 ghost use Rattle.bson_model.specs.Writing.{HasMeaning, IsReadForm};
+ghost use Rattle.bson_model.specs.Shown.{shown};
 ghost use Rattle.bson.specs.View.{bson_view};
-ghost use Rattle.bson_cli.specs.Run.{Done, Fails, IsTextOf, IsNoText, IsLineOf, IsOutput, IsRefused};
+ghost use Rattle.bson_cli.specs.Run.{Done, Fails, IsTextOf, IsNoText, IsLineOf, IsOutput, IsRefused, newline};
 
 use crate::fault::Fault;
 use crate::mode::Mode;
@@ -16,7 +17,7 @@ use serde_json::Value;
 use std::alloc::Global;
 use std::io::{Read, Write};
 
-/// Reads all that the reader has, as one JSON text, and writes the value that it means in the mode's form, and a
+/// Reads all that the reader has, as one JSON text, and writes the value that it means in the mode, and a
 /// newline. Nothing is written before all of the input was accepted.
 ///
 /// A fault of the reader or the writer, Interrupted too, is `CannotRead` or `CannotWrite`, and so is a write that takes
@@ -66,7 +67,7 @@ fn meaning(alloc: Global, tree: Value) -> Result<Bson, Fault>
     }
 }
 
-/// The value's text in the mode's form, and a newline.
+/// The value's text in the mode, and a newline.
 #[tactic(auto, using(crate::proofs::Again::is_written))]
 fn output(alloc: Global, mode: Mode, value: Bson) -> Result<Vec<u8>, Fault>
     requires { IsReadForm (bson_view value) }
@@ -76,12 +77,24 @@ fn output(alloc: Global, mode: Mode, value: Bson) -> Result<Vec<u8>, Fault>
     let tree = match mode {
         Mode::Canonical => value.into_canonical_extjson(alloc),
         Mode::Relaxed => value.into_relaxed_extjson(alloc),
+        Mode::Show => return shown_line(alloc, &value),
     };
     match tree {
         Ok(tree) => line(alloc, &tree),
         // What was read holds no finite double but the zeros.
         Err(WriteError::FiniteDouble) => unreachable!(),
         Err(WriteError::OutOfMemory) => Err(Fault::OutOfMemory),
+    }
+}
+
+/// The text that shows the value, and a newline.
+fn shown_line(alloc: Global, value: &Bson) -> Result<Vec<u8>, Fault>
+    ensures ok { IfOk result (λ line. line.items ≡ shown (bson_view value.now) ++ newline) }
+    ensures fault { IfErr result (λ fault. fault ≡ Fault.OutOfMemory) }
+{
+    match format!(in alloc; "{value}\n") {
+        Ok(line) => Ok(line.into_bytes()),
+        Err(_) => Err(Fault::OutOfMemory),
     }
 }
 

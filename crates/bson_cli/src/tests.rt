@@ -107,7 +107,9 @@ fn check_fault(rt: &impl Abort, alloc: Global, input: &[u8], fault: Fault) -> Re
     Ok(())
 }
 
-const MODES: [Mode; 2] = [Mode::Canonical, Mode::Relaxed];
+const MODES: [Mode; 3] = [Mode::Canonical, Mode::Relaxed, Mode::Show];
+
+const FORMS: [Mode; 2] = [Mode::Canonical, Mode::Relaxed];
 
 const PAIR: &str = "{\"a\":{\"$numberInt\":\"5\"},\"b\":true}";
 
@@ -183,6 +185,21 @@ fn relaxed_texts(rt: HostRuntime) -> Result<(), Fail> {
         ),
     ];
     check_rows(&rt, rt.alloc(), Mode::Relaxed, &rows)
+}
+
+#[test]
+fn shown_texts(rt: HostRuntime) -> Result<(), Fail> {
+    let rows = [
+        (
+            "{\"a\":{\"$numberInt\":\"5\"},\"b\":\"x\"}",
+            "{ \"a\": 5, \"b\": \"x\" }",
+        ),
+        ("{}", "{}"),
+        ("{\"a\":[1,\"b\"]}", "{ \"a\": [1, \"b\"] }"),
+        ("{\"$numberDouble\":\"-NaN\"}", "Double(0xfff8000000000000)"),
+        ("{\"$code\":\"f\",\"$scope\":{\"x\":1}}", "f"),
+    ];
+    check_rows(&rt, rt.alloc(), Mode::Show, &rows)
 }
 
 #[test]
@@ -268,9 +285,10 @@ fn deep_and_wide_lists(rt: HostRuntime) -> Result<(), Fail> {
     let deepest = format!(in alloc; "{opened}{closed}")?;
     let nulls = repeated(alloc, "null,", 99_999)?;
     let wide = format!(in alloc; "[{nulls}null]")?;
-    for mode in MODES {
+    for mode in FORMS {
         check_rows(&rt, alloc, mode, &[(&deepest, &deepest), (&wide, &wide)])?;
     }
+    check_rows(&rt, alloc, Mode::Show, &[(&deepest, &deepest)])?;
     let too_deep = format!(in alloc; "[{deepest}]")?;
     check_fault(&rt, alloc, too_deep.as_bytes(), Fault::NotJson)
 }
@@ -337,9 +355,10 @@ fn a_writer_that_stops_at_any_call(rt: HostRuntime) -> Result<(), Fail> {
 
 #[test]
 fn modes_and_lines(rt: HostRuntime) -> Result<(), Fail> {
-    let rows: [(&[&str], Option<Mode>); 6] = [
+    let rows: [(&[&str], Option<Mode>); 7] = [
         (&["canonical"], Some(Mode::Canonical)),
         (&["relaxed"], Some(Mode::Relaxed)),
+        (&["show"], Some(Mode::Show)),
         (&[], None),
         (&["x"], None),
         (&["canonical", "canonical"], None),
@@ -367,7 +386,11 @@ fn modes_and_lines(rt: HostRuntime) -> Result<(), Fail> {
 /// Whichever request for memory is refused, the answer is right, or want of memory and nothing written.
 #[test]
 fn refused_run(rt: HostRuntime) -> Result<(), Fail> {
-    for mode in MODES {
+    for (mode, output) in [
+        (Mode::Canonical, "[\"x\",{}]\n"),
+        (Mode::Relaxed, "[\"x\",{}]\n"),
+        (Mode::Show, "[\"x\", {}]\n"),
+    ] {
         let Ok(mut written) = Vec::with_capacity(rt.alloc(), 64) else {
             return Ok(());
         };
@@ -377,7 +400,7 @@ fn refused_run(rt: HostRuntime) -> Result<(), Fail> {
             assert!(rt; written.is_empty());
         } else {
             assert_eq!(rt; answer, Ok(()));
-            assert!(rt; written.as_slice() == b"[\"x\",{}]\n".as_slice());
+            assert!(rt; written.as_slice() == output.as_bytes());
         }
     }
     Ok(())
