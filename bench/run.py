@@ -91,7 +91,7 @@ def floor_program(room):
     with open(os.path.join(room, "crates.txt"), "w") as crates:
         crates.write("json_floor: serde_json anyhow\n")
     open(os.path.join(crate, "specs", "Lib.antt"), "w").close()
-    with open(os.path.join(HERE, "json_floor.rt")) as source, open(os.path.join(crate, "src", "main.rt"), "w") as copy:
+    with open(os.path.join(HERE, "json_floor.source")) as source, open(os.path.join(crate, "src", "main.rt"), "w") as copy:
         copy.write(source.read())
     subprocess.run(["rt", "run"], cwd=crate, input=b"{}", check=True, stdout=subprocess.DEVNULL, stderr=subprocess.DEVNULL)
     return os.path.join(crate, "out", "json_floor")
