@@ -284,6 +284,16 @@ fn a_vacant_entry_is_filled(rt: HostRuntime) -> Result<(), Fail> {
 }
 
 #[test]
+fn an_entry_tells_its_key(rt: HostRuntime) -> Result<(), Fail> {
+    let alloc = rt.alloc();
+    let mut document = filled(alloc, &[("a", 1)])?;
+    assert!(rt; document.entry(String::from_str(alloc, "b")?).key() == "b");
+    assert!(rt; document.entry(String::from_str(alloc, "a")?).key() == "a");
+    assert!(rt; holds(&document, &[("a", 1)]));
+    Ok(())
+}
+
+#[test]
 fn extends_in_turn(rt: HostRuntime) -> Result<(), Fail> {
     let alloc = rt.alloc();
     let mut document = filled(alloc, &[("a", 1)])?;
@@ -309,6 +319,41 @@ fn a_copy_has_the_same_pairs(rt: HostRuntime) -> Result<(), Fail> {
             assert!(rt; scoped.clone(alloc)? == *scoped);
         }
     }
+    Ok(())
+}
+
+#[test]
+fn refused_insert(rt: HostRuntime) -> Result<(), Fail> {
+    let alloc = rt.alloc();
+    let Ok(others) = numbered(alloc) else {
+        return Ok(());
+    };
+    let Ok(again) = String::from_str(alloc, "a") else {
+        return Ok(());
+    };
+    let Ok(mut document) = filled(alloc, &[("a", 1)]) else {
+        return Ok(());
+    };
+    for i in 0..others.len() {
+        let Ok(key) = others[i].0.clone() else {
+            return Ok(());
+        };
+        match document.insert(key, Bson::Int32(others[i].1)) {
+            Ok(old) => assert!(rt; old.is_none()),
+            Err(Refused { key, value }) => {
+                assert!(rt; key == others[i].0);
+                assert!(rt; value == Bson::Int32(others[i].1));
+                assert!(rt; follows(&document, 1, &others[..i]));
+                let old = document.insert(again, Bson::Int32(3));
+                assert!(rt; matches!(&old, Ok(Some(old)) if *old == Bson::Int32(1)));
+                assert!(rt; follows(&document, 3, &others[..i]));
+                return Ok(());
+            }
+        }
+    }
+    let old = document.insert(again, Bson::Int32(3));
+    assert!(rt; matches!(&old, Ok(Some(old)) if *old == Bson::Int32(1)));
+    assert!(rt; follows(&document, 3, others.as_slice()));
     Ok(())
 }
 
@@ -359,6 +404,33 @@ fn refused_from_pairs(rt: HostRuntime) -> Result<(), Fail> {
             }
             assert!(rt; expected);
         }
+    }
+    Ok(())
+}
+
+#[test]
+fn refused_entry(rt: HostRuntime) -> Result<(), Fail> {
+    let alloc = rt.alloc();
+    let Ok(key) = String::from_str(alloc, "a") else {
+        return Ok(());
+    };
+    let mut document = Document::new(alloc);
+    let refused = document
+        .entry(key)
+        .or_insert_with(|| Bson::Int32(1))
+        .is_err();
+    if refused {
+        assert!(rt; document.is_empty());
+        return Ok(());
+    }
+    let Ok(key) = String::from_str(alloc, "b") else {
+        return Ok(());
+    };
+    let refused = document.entry(key).or_insert(Bson::Int32(2)).is_err();
+    if refused {
+        assert!(rt; holds(&document, &[("a", 1)]));
+    } else {
+        assert!(rt; holds(&document, &[("a", 1), ("b", 2)]));
     }
     Ok(())
 }

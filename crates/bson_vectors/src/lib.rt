@@ -8,6 +8,8 @@ mod equality;
 #[cfg(test)]
 mod extended_json;
 #[cfg(test)]
+mod kinds;
+#[cfg(test)]
 mod texts;
 #[cfg(test)]
 mod trees;
