@@ -1,6 +1,8 @@
 //! Rows of MongoDB Extended JSON v2: what each tree reads as, and what each value is written as.
 use crate::trees::{Form, again, read, written};
 use bson::binary::Binary;
+use bson::extjson::WriteError;
+use bson::extjson::de::Error;
 use bson::spec::BinarySubtype;
 use bson::{Bson, DateTime, Document, JavaScriptCodeWithScope, Regex};
 use serde_json::{Map, Value};
@@ -440,11 +442,19 @@ fn refused_reading_and_writing(rt: HostRuntime) -> Result<(), Fail> {
     let Ok(tree) = Value::from_str(alloc, text) else {
         return Ok(());
     };
-    let Ok(value) = Bson::try_from_value(alloc, tree) else {
-        return Ok(());
+    let value = match Bson::try_from_value(alloc, tree) {
+        Ok(value) => value,
+        Err(error) => {
+            assert!(rt; matches!(&error, Error::OutOfMemory));
+            return Ok(());
+        }
     };
-    let Ok(tree) = value.into_canonical_extjson(alloc) else {
-        return Ok(());
+    let tree = match value.into_canonical_extjson(alloc) {
+        Ok(tree) => tree,
+        Err(error) => {
+            assert!(rt; matches!(&error, WriteError::OutOfMemory));
+            return Ok(());
+        }
     };
     let Ok(answer) = tree.to_string(alloc) else {
         return Ok(());
