@@ -45,13 +45,21 @@ def date(rng, i):
         rng.randrange(60), rng.randrange(1000))
 
 
+def binary_of(size, rng):
+    return '{"$binary":{"base64":"%s","subType":"00"}}' % base64.b64encode(rng.randbytes(size)).decode()
+
+
 def binary(rng, i):
-    return '{"$binary":{"base64":"%s","subType":"00"}}' % base64.b64encode(rng.randbytes(rng.randrange(64, 4096))).decode()
+    return binary_of(rng.randrange(64, 4096), rng)
+
+
+def large_binary(rng, i):
+    return binary_of(7_500_000, rng)
 
 
 KINDS = [("small documents", small_document, "[", "]"), ("one wide object", wide_member, "{", "}"),
          ("deep and mixed", deep_value, "[", "]"), ("decimals", decimal, "[", "]"), ("dates", date, "[", "]"),
-         ("binaries", binary, "[", "]")]
+         ("binaries", binary, "[", "]"), ("binaries of 10 MB", large_binary, "[", "]")]
 
 
 def generate(path, make, opening, closing, size):

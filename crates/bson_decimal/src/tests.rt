@@ -243,9 +243,9 @@ fn faults_are_printed(rt: HostRuntime) -> Result<(), Fail> {
 #[test]
 fn texts_of_34_digits_are_read_and_printed_in_a_loop(rt: HostRuntime) -> Result<(), Fail> {
     // Equal steps through the numbers from 10^33 to below 10^34.
-    for step in 0..2000u32 {
+    for step in 0..100_000u32 {
         let number = 1_000_000_000_000_000_000_000_000_000_000_000
-            + u128::from(step) * 4_499_999_999_999_999_999_999_999_999_903;
+            + u128::from(step) * 89_999_999_999_999_999_999_999_999_903;
         let text = format!(in rt.alloc(); "{number}")?;
         assert_eq!(rt; again(rt.alloc(), text.as_str())?.as_str(), text.as_str());
     }

@@ -362,6 +362,72 @@ fn a_map_may_have_wrapper_keys_of_its_own(rt: HostRuntime) -> Result<(), Fail> {
 }
 
 #[test]
+fn a_key_of_a_document_may_make_its_tree_a_wrapper(rt: HostRuntime) -> Result<(), Fail> {
+    let alloc = rt.alloc();
+    let mut document = Document::new(alloc);
+    let key = String::from_str(alloc, "$oid")?;
+    let id = String::from_str(alloc, "53e37d08776f724e42000000")?;
+    let refused = document.insert(key, Bson::String(id)).is_err();
+    assert!(rt; !refused);
+    let text = written(alloc, Form::Canonical, Bson::Document(document))?;
+    assert_eq!(rt; text.as_str(), "{\"$oid\":\"53e37d08776f724e42000000\"}");
+    let back = read(alloc, text.as_str())?;
+    assert!(rt;
+        matches!(&back, Ok(Bson::ObjectId(id)) if id.timestamp().timestamp_millis() == 1407417608000)
+    );
+    Ok(())
+}
+
+// So many zeros between a head and a tail.
+const REFUSED_DECIMALS: [(&str, usize, &str); 16] = [
+    ("1E+6145", 0, ""),
+    ("9999999999999999999999999999999999E+6112", 0, ""),
+    ("99999999999999999999999999999999999", 0, ""),
+    ("1E-6177", 0, ""),
+    ("1E-6178", 0, ""),
+    ("1e", 0, ""),
+    ("1e40000", 0, ""),
+    ("0E32768", 0, ""),
+    ("0+5", 0, ""),
+    ("0.", 32768, ""),
+    ("0.0E-32768", 0, ""),
+    ("1", 32801, "E-32767"),
+    ("1", 33000, "E-32000"),
+    ("xxxxxxxxxxxxxxxxxxxxxxxxxxxxxxxxxx", 0, ""),
+    ("xxxxxxxxxxxxxxxxxxxxxxxxxxxxxxxxxxx", 0, ""),
+    ("1\u{2764}E-6177", 0, ""),
+];
+
+#[test]
+fn decimals_out_of_range_are_refused(rt: HostRuntime) -> Result<(), Fail> {
+    let alloc = rt.alloc();
+    for (head, zeros, tail) in REFUSED_DECIMALS {
+        let zeros = "0".repeat(alloc, zeros)?;
+        let text = format!(in alloc; "{{\"$numberDecimal\":\"{head}{}{tail}\"}}", zeros.as_str())?;
+        let answer = again(alloc, Form::Canonical, text.as_str())?;
+        assert_eq!(rt; answer.as_str(), "refused", "{head}");
+    }
+    Ok(())
+}
+
+#[test]
+fn a_relaxed_number_reads_back_as_the_narrower_kind(rt: HostRuntime) -> Result<(), Fail> {
+    let alloc = rt.alloc();
+    for (number, wanted) in [
+        (5i64, Bson::Int32(5)),
+        (-2147483648, Bson::Int32(-2147483648)),
+        (-2147483649, Bson::Int64(-2147483649)),
+        (2147483648, Bson::Int64(2147483648)),
+    ] {
+        let text = written(alloc, Form::Relaxed, Bson::Int64(number))?;
+        assert_eq!(rt; text.as_str(), format!(in alloc; "{number}")?.as_str());
+        let back = read(alloc, text.as_str())?;
+        assert!(rt; matches!(&back, Ok(value) if *value == wanted));
+    }
+    Ok(())
+}
+
+#[test]
 fn a_map_with_a_wrapper_key_is_its_wrapper(rt: HostRuntime) -> Result<(), Fail> {
     let alloc = rt.alloc();
     let Value::Object(map) = Value::from_str(alloc, "{\"$oid\":\"53e37d08776f724e42000000\"}")?

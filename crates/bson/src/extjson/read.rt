@@ -48,7 +48,7 @@ pub(crate) fn read(alloc: Global, value: Value) -> Result<Bson, Error>
 fn read_items(alloc: Global, items: Vec<Value>) -> Result<Vec<Bson>, Error>
     ensures { Gives (λ v. values_view v.items) result (reads_items (items_view items.items)) }
 {
-    let mut values = Vec::new(alloc);
+    let mut values = Vec::with_capacity(alloc, items.len())?;
     for item in items {
         values.push(read(alloc, item)?)?;
     }
@@ -70,7 +70,7 @@ fn read_object(alloc: Global, members: Map<String, Value>) -> Result<Bson, Error
 pub(crate) fn read_members(alloc: Global, members: Map<String, Value>) -> Result<Document, Error>
     ensures { Gives document_view result (reads_members (members_view members.entries)) }
 {
-    let mut pairs = IndexedPairs::new(alloc);
+    let mut pairs = IndexedPairs::with_capacity(alloc, members.len())?;
     for (key, value) in members {
         let read = read(alloc, value)?;
         match pairs.push(key, read) {

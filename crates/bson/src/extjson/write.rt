@@ -65,7 +65,7 @@ fn write_items(alloc: Global, form: Form, values: Vec<Bson>) -> Result<Vec<Value
         (writes_items form (values_view values.items)) }
     ensures ranged { OnOk result (ItemsInRange (values_view values.items)) }
 {
-    let mut items = Vec::new(alloc);
+    let mut items = Vec::with_capacity(alloc, values.len())?;
     for value in values {
         items.push(write(alloc, form, value)?)?;
     }

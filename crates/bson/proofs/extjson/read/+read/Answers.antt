@@ -25,7 +25,7 @@ map-snoc (y ∷ xs) x = ap (λ l. bson_view y ∷ l) (map-snoc xs x)
 
 pub read_items-returns-in_err-read : goal.read_items-returns-in_err-read
 read_items-returns-in_err-read t c =
-    let p = err_from_is_err_and c.from_residual.result c.from_residual.ensures.1 in
+    let p = err_from_is_err_and c.from_residual-in_err-read.result c.from_residual-in_err-read.ensures.1 in
     let steps : into_iter_items c.loop-item.item-iterator ≡ c.in-Some.item ∷ into_iter_items c.next.new.self = c.in-Some.ensures.steps.0 in
     let total = reads_items (items_view c.args.items.items) in
     let done = map bson_view c.loop-item.values.items in
@@ -62,7 +62,7 @@ read_items-returns t c =
 
 pub read_members-returns-in_err-read : goal.read_members-returns-in_err-read
 read_members-returns-in_err-read t c =
-    let p = err_from_is_err_and c.from_residual.result c.from_residual.ensures.1 in
+    let p = err_from_is_err_and c.from_residual-in_err-read.result c.from_residual-in_err-read.ensures.1 in
     let steps = c.in-Some.ensures.steps in
     let total = reads_members (members_view c.args.members.entries) in
     let done = c.loop-key.pairs in
@@ -73,8 +73,8 @@ pub read_members-loop-key-init : goal.read_members-loop-key-init
 read_members-loop-key-init t c =
     let given = c.into_iter-key-iterator.ensures.into_iter_gives in
     record {
-      fresh = rw (c.new-pairs.ensures, given.0) (fresh_start Bson c.args.members.entries given.5);
-      read = rw (c.new-pairs.ensures, given.0) refl;
+      fresh = rw (c.in_ok-pairs.ensures, given.0) (fresh_start Bson c.args.members.entries given.5);
+      read = rw (c.in_ok-pairs.ensures, given.0) refl;
     }
 
 pub read_members-loop-key-preserved : goal.read_members-loop-key-preserved

@@ -53,7 +53,7 @@ write_pairs-loop-key-preserved t c =
 
 pub write_items-returns-in_err-write-clause-written : goal.write_items-returns-in_err-write-clause-written
 write_items-returns-in_err-write-clause-written t c =
-    let p = err_from_is_err_and c.from_residual.result c.from_residual.ensures.1 in
+    let p = err_from_is_err_and c.from_residual-in_err-write.result c.from_residual-in_err-write.ensures.1 in
     let steps : into_iter_items c.loop-value.value-iterator ≡ c.in-Some.value ∷ into_iter_items c.next.new.self = c.in-Some.ensures.steps.0 in
     let total = writes_items c.args.form (values_view c.args.values.items) in
     let done = map view c.loop-value.items.items in

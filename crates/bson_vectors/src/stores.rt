@@ -1,0 +1,86 @@
+//! A list of commands run on a store.
+use bson::Bson;
+use bson::store::replay::{Command, replay};
+use bson::store::{IndexedPairs, PairStore};
+use std::alloc::{AllocError, Global};
+use std::test::Fail;
+
+/// Put k1 1 to k9 9, Put k9 10, Take k1 twice.
+fn commands(alloc: Global) -> Result<Vec<Command<Bson>>, AllocError> {
+    let mut all = Vec::new(alloc);
+    for number in 1..10 {
+        let key = format!(in alloc; "k{number}")?;
+        all.push(Command::Put(key, Bson::Int32(number)))?;
+    }
+    all.push(Command::Put(String::from_str(alloc, "k9")?, Bson::Int32(10)))?;
+    all.push(Command::Take(String::from_str(alloc, "k1")?))?;
+    all.push(Command::Take(String::from_str(alloc, "k1")?))?;
+    Ok(all)
+}
+
+/// Whether the reply is the number, or none.
+fn is_reply(reply: &Option<Bson>, number: Option<i32>) -> bool {
+    match (reply, number) {
+        (Some(value), Some(number)) => *value == Bson::Int32(number),
+        (None, None) => true,
+        _ => false,
+    }
+}
+
+/// Nine times none, then 9, 1 and none.
+fn are_replies(replies: &[Option<Bson>]) -> bool {
+    for i in 0..replies.len() {
+        let number = match i {
+            9 => Some(9),
+            10 => Some(1),
+            _ => None,
+        };
+        if !is_reply(&replies[i], number) {
+            return false;
+        }
+    }
+    true
+}
+
+/// Whether the store holds k2 2 to k8 8, then k9 10.
+fn holds_the_rest(store: &IndexedPairs<Bson>) -> bool {
+    const REST: [(&str, i32); 8] = [
+        ("k2", 2),
+        ("k3", 3),
+        ("k4", 4),
+        ("k5", 5),
+        ("k6", 6),
+        ("k7", 7),
+        ("k8", 8),
+        ("k9", 10),
+    ];
+    if store.len() != REST.len() {
+        return false;
+    }
+    for i in 0..store.len() {
+        let (key, number) = REST[i];
+        if store.key_at(i).as_str() != key || *store.value_at(i) != Bson::Int32(number) {
+            return false;
+        }
+    }
+    true
+}
+
+#[test]
+fn a_replay_answers_the_old_values(rt: HostRuntime) -> Result<(), Fail> {
+    let alloc = rt.alloc();
+    let mut store = IndexedPairs::new(alloc);
+    let replies = replay(alloc, &mut store, commands(alloc)?)?;
+    assert_eq!(rt; replies.len(), 12);
+    assert!(rt; are_replies(replies.as_slice()));
+    assert!(rt; holds_the_rest(&store));
+
+    let mut store = IndexedPairs::new(alloc);
+    let mut cleared = commands(alloc)?;
+    cleared.push(Command::Clear)?;
+    let replies = replay(alloc, &mut store, cleared)?;
+    assert_eq!(rt; replies.len(), 13);
+    assert!(rt; are_replies(replies.as_slice()));
+    assert!(rt; store.len() == 0);
+    Ok(())
+}
