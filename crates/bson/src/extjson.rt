@@ -3,6 +3,8 @@ pub mod de;
 mod leaf;
 mod read;
 pub mod ser;
+mod text;
+mod tokens;
 mod write;
 
 pub use bson_leaf::write_error::WriteError;

@@ -1,11 +1,10 @@
 //! One run: from the bytes of a reader to the bytes for a writer.
-ghost use Rattle.std.specs.Prelude.{◌≡◌, ◌⊎◌, ◌++◌, false, Err, IfOk, IfErr, OnOk};
+ghost use Rattle.std.specs.Prelude.{◌≡◌, ◌⊎◌, ◌++◌, Err, IfOk, IfErr, OnOk, string_bytes};
 ghost use Rattle.serde_json.specs.View.{view};
-ghost use Rattle.serde_json.specs.Written.{has_float};
 ghost use Rattle.bson_model.specs.Writing.{HasMeaning, IsReadForm};
 ghost use Rattle.bson_model.specs.Shown.{shown};
 ghost use Rattle.bson.specs.View.{bson_view};
-ghost use Rattle.bson_cli.specs.Run.{Done, Fails, IsTextOf, IsNoText, IsLineOf, IsOutput, IsRefused, newline};
+ghost use Rattle.bson_cli.specs.Run.{Done, Fails, IsTextOf, IsNoText, IsOutput, IsRefused, newline};
 
 use crate::fault::Fault;
 use crate::mode::Mode;
@@ -68,19 +67,18 @@ fn meaning(alloc: Global, tree: Value) -> Result<Bson, Fault>
 }
 
 /// The value's text in the mode, and a newline.
-#[tactic(auto, using(crate::proofs::Again::is_written))]
 fn output(alloc: Global, mode: Mode, value: Bson) -> Result<Vec<u8>, Fault>
     requires { IsReadForm (bson_view value) }
     ensures ok { IfOk result (λ output. IsOutput mode (bson_view value) output.items) }
     ensures fault { IfErr result (λ fault. fault ≡ Fault.OutOfMemory) }
 {
-    let tree = match mode {
-        Mode::Canonical => value.into_canonical_extjson(alloc),
-        Mode::Relaxed => value.into_relaxed_extjson(alloc),
+    let text = match mode {
+        Mode::Canonical => value.into_canonical_text(alloc),
+        Mode::Relaxed => value.into_relaxed_text(alloc),
         Mode::Show => return shown_line(alloc, &value),
     };
-    match tree {
-        Ok(tree) => line(alloc, &tree),
+    match text {
+        Ok(text) => line(text),
         // What was read holds no finite double but the zeros.
         Err(WriteError::FiniteDouble) => unreachable!(),
         Err(WriteError::OutOfMemory) => Err(Fault::OutOfMemory),
@@ -98,14 +96,12 @@ fn shown_line(alloc: Global, value: &Bson) -> Result<Vec<u8>, Fault>
     }
 }
 
-/// The compact text of the tree, and a newline.
-fn line(alloc: Global, tree: &Value) -> Result<Vec<u8>, Fault>
-    ensures ok { IfOk result (λ line. has_float (view tree.now) ≡ false → IsLineOf (view tree.now) line.items) }
+/// The text, and a newline.
+fn line(text: String) -> Result<Vec<u8>, Fault>
+    ensures ok { IfOk result (λ line. line.items ≡ string_bytes text ++ newline) }
     ensures fault { IfErr result (λ fault. fault ≡ Fault.OutOfMemory) }
 {
-    let Ok(mut line) = tree.to_vec(alloc) else {
-        return Err(Fault::OutOfMemory);
-    };
+    let mut line = text.into_bytes();
     match line.push(b'\n') {
         Ok(()) => Ok(line),
         Err(_) => Err(Fault::OutOfMemory),

@@ -1,10 +1,11 @@
-//! Texts of values, on one line and on several.
-use crate::trees::read;
+//! Texts of values, to be read by people and as JSON.
+use crate::trees::{Form, read, written};
 use bson::binary::Binary;
+use bson::extjson::WriteError;
 use bson::spec::BinarySubtype;
 use bson::{Bson, Document, JavaScriptCodeWithScope, Regex};
 use serde_json::Value;
-use std::alloc::AllocError;
+use std::alloc::{AllocError, Global};
 use std::test::Fail;
 
 #[test]
@@ -178,5 +179,154 @@ fn refused_pretty(rt: HostRuntime) -> Result<(), Fail> {
     let wide = 18446744073709551615;
     assert!(rt; value.to_pretty_string(alloc, wide).is_err());
     assert!(rt; is_text(value.to_pretty_string(alloc, 2), NESTED_AT_2));
+    Ok(())
+}
+
+// The text of a value in a form, or why there is none.
+fn text_of(alloc: Global, form: Form, value: Bson) -> Result<String, Fail> {
+    let text = match form {
+        Form::Canonical => value.into_canonical_text(alloc),
+        Form::Relaxed => value.into_relaxed_text(alloc),
+    };
+    match text {
+        Ok(text) => Ok(text),
+        Err(WriteError::FiniteDouble) => Ok(format!(in alloc; "finite double")?),
+        Err(WriteError::OutOfMemory) => Ok(format!(in alloc; "out of memory")?),
+    }
+}
+
+// Each text of JSON, and the canonical and the relaxed text of its value.
+const JSON_TEXTS: [(&str, &str, &str); 9] = [
+    ("null", "null", "null"),
+    ("{}", "{}", "{}"),
+    ("[[],{}]", "[[],{}]", "[[],{}]"),
+    (
+        r#"{"b":[1,{"$numberLong":"2"}],"a":"x\n"}"#,
+        r#"{"a":"x\n","b":[{"$numberInt":"1"},{"$numberLong":"2"}]}"#,
+        r#"{"a":"x\n","b":[1,2]}"#,
+    ),
+    (
+        "-2147483649",
+        r#"{"$numberLong":"-2147483649"}"#,
+        "-2147483649",
+    ),
+    (
+        r#"{"$code":"f()","$scope":{"a":1,"b":{"c":true}}}"#,
+        r#"{"$code":"f()","$scope":{"a":{"$numberInt":"1"},"b":{"c":true}}}"#,
+        r#"{"$code":"f()","$scope":{"a":1,"b":{"c":true}}}"#,
+    ),
+    (
+        r#"[{"$numberDouble":"-0.0"},{"$numberDouble":"NaN"},{"$numberDouble":"-Infinity"}]"#,
+        r#"[{"$numberDouble":"-0.0"},{"$numberDouble":"NaN"},{"$numberDouble":"-Infinity"}]"#,
+        r#"[{"$numberDouble":"-0.0"},{"$numberDouble":"NaN"},{"$numberDouble":"-Infinity"}]"#,
+    ),
+    (
+        r#"{"$timestamp":{"t":4294967295,"i":7}}"#,
+        r#"{"$timestamp":{"i":7,"t":4294967295}}"#,
+        r#"{"$timestamp":{"i":7,"t":4294967295}}"#,
+    ),
+    (
+        r#"[{"$date":{"$numberLong":"0"}}]"#,
+        r#"[{"$date":{"$numberLong":"0"}}]"#,
+        r#"[{"$date":"1970-01-01T00:00:00Z"}]"#,
+    ),
+];
+
+#[test]
+fn a_text_is_that_of_the_tree(rt: HostRuntime) -> Result<(), Fail> {
+    let alloc = rt.alloc();
+    for (text, canonical, relaxed) in JSON_TEXTS {
+        for (form, wanted) in [(Form::Canonical, canonical), (Form::Relaxed, relaxed)] {
+            match (read(alloc, text)?, read(alloc, text)?) {
+                (Ok(value), Ok(again)) => {
+                    assert_eq!(rt; text_of(alloc, form, value)?.as_str(), wanted);
+                    assert_eq!(rt; written(alloc, form, again)?.as_str(), wanted);
+                }
+                _ => assert_eq!(rt; text, wanted),
+            }
+        }
+    }
+    Ok(())
+}
+
+// The document with the keys "b" and then "a".
+fn descending(alloc: Global, value: Bson) -> Result<Document, AllocError> {
+    let mut document = Document::new(alloc);
+    let key = String::from_str(alloc, "b")?;
+    if document.insert(key, Bson::Int32(1)).is_err() {
+        return Err(AllocError);
+    }
+    let key = String::from_str(alloc, "a")?;
+    if document.insert(key, value).is_err() {
+        return Err(AllocError);
+    }
+    Ok(document)
+}
+
+// A list of such a document and of code with such a scope, which holds the value.
+fn mixed(alloc: Global, value: Bson) -> Result<Bson, AllocError> {
+    let mut values = Vec::new(alloc);
+    values.push(Bson::Document(descending(alloc, Bson::Null)?))?;
+    let inner = descending(alloc, value)?;
+    values.push(Bson::JavaScriptCodeWithScope(JavaScriptCodeWithScope {
+        code: String::from_str(alloc, "f()")?,
+        scope: descending(alloc, Bson::Document(inner))?,
+    }))?;
+    Ok(Bson::Array(values))
+}
+
+const MIXED_CANONICAL: &str =
+    r#"[{"a":null,"b":{"$numberInt":"1"}},{"$code":"f()","$scope":{"a":{"a":{"$numberLong":"2"},"b":{"$numberInt":"1"}},"b":{"$numberInt":"1"}}}]"#;
+
+const MIXED_RELAXED: &str =
+    r#"[{"a":null,"b":1},{"$code":"f()","$scope":{"a":{"a":2,"b":1},"b":1}}]"#;
+
+#[test]
+fn a_text_has_its_keys_in_ascending_order(rt: HostRuntime) -> Result<(), Fail> {
+    let alloc = rt.alloc();
+    for (form, wanted) in [
+        (Form::Canonical, MIXED_CANONICAL),
+        (Form::Relaxed, MIXED_RELAXED),
+    ] {
+        let value = mixed(alloc, Bson::Int64(2))?;
+        assert_eq!(rt; text_of(alloc, form, value)?.as_str(), wanted);
+        let value = mixed(alloc, Bson::Int64(2))?;
+        assert_eq!(rt; written(alloc, form, value)?.as_str(), wanted);
+    }
+    Ok(())
+}
+
+#[test]
+fn a_finite_double_has_no_text(rt: HostRuntime) -> Result<(), Fail> {
+    let alloc = rt.alloc();
+    for form in [Form::Canonical, Form::Relaxed] {
+        let double = Bson::Double(0x3FF8_0000_0000_0000);
+        assert_eq!(rt; text_of(alloc, form, double)?.as_str(), "finite double");
+        let double = Bson::Double(0x3FF8_0000_0000_0000);
+        let value = mixed(alloc, double)?;
+        assert_eq!(rt; text_of(alloc, form, value)?.as_str(), "finite double");
+    }
+    Ok(())
+}
+
+// Whether a text is the wanted one, or no memory was found.
+fn is_json_text(text: Result<String, WriteError>, wanted: &str) -> bool {
+    match text {
+        Ok(text) => text.as_str() == wanted,
+        Err(error) => error == WriteError::OutOfMemory,
+    }
+}
+
+#[test]
+fn refused_text(rt: HostRuntime) -> Result<(), Fail> {
+    let alloc = rt.alloc();
+    let Ok(value) = mixed(alloc, Bson::Int64(2)) else {
+        return Ok(());
+    };
+    assert!(rt; is_json_text(value.into_canonical_text(alloc), MIXED_CANONICAL));
+    let Ok(value) = mixed(alloc, Bson::Int64(2)) else {
+        return Ok(());
+    };
+    assert!(rt; is_json_text(value.into_relaxed_text(alloc), MIXED_RELAXED));
     Ok(())
 }

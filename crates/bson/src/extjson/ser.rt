@@ -1,13 +1,15 @@
-//! Trees from values.
-ghost use Rattle.std.specs.Prelude.{◌≡◌, IfOk, OnOk, Err, true, false};
+//! Trees and texts from values.
+ghost use Rattle.std.specs.Prelude.{◌≡◌, IfOk, OnOk, Err, true, false, string_bytes};
 ghost use Rattle.serde_json.specs.View.{view};
 ghost use Rattle.bson_leaf.specs.declared.form.Form.TheVariants.{Canonical, Relaxed};
 ghost use Rattle.bson_leaf.specs.declared.write_error.WriteError.{WriteError};
 ghost use Rattle.bson_model.specs.Texts.{ReadsAgain};
 ghost use Rattle.bson_model.specs.Writing.{IsTreeOf, HasSettledForms, writable};
+ghost use Rattle.bson.specs.Texts.{IsTextIn};
 ghost use Rattle.bson.specs.View.{bson_view};
 
 use crate::bson::Bson;
+use crate::extjson::text::text_of;
 use crate::extjson::write::write;
 use bson_leaf::form::Form;
 use bson_leaf::write_error::WriteError;
@@ -53,5 +55,40 @@ impl Bson {
         ensures finite { result ≡ Err WriteError.FiniteDouble → writable (bson_view self) ≡ false }
     {
         write(alloc, form, self)
+    }
+
+    /// The compact text of the canonical tree of the value, as [`Bson::into_canonical_extjson`] makes it and
+    /// `serde_json` writes it. It is written straight from the value, with no tree of the whole.
+    ///
+    /// A value that holds a finite double other than zero, at any depth, is refused as `FiniteDouble`, and want of
+    /// memory is `OutOfMemory`.
+    pub fn into_canonical_text(self, alloc: Global) -> Result<String, WriteError>
+        ensures text { IfOk result (λ s. IsTextIn Canonical (bson_view self) (string_bytes s)) }
+        ensures writable { OnOk result (writable (bson_view self) ≡ true) }
+        ensures finite { result ≡ Err WriteError.FiniteDouble → writable (bson_view self) ≡ false }
+    {
+        self.into_text(alloc, Form::Canonical)
+    }
+
+    /// The compact text of the relaxed tree of the value, as [`Bson::into_relaxed_extjson`] makes it and `serde_json`
+    /// writes it. It is written straight from the value, with no tree of the whole.
+    ///
+    /// A value that holds a finite double other than zero, at any depth, is refused as `FiniteDouble`, and want of
+    /// memory is `OutOfMemory`.
+    pub fn into_relaxed_text(self, alloc: Global) -> Result<String, WriteError>
+        ensures text { IfOk result (λ s. IsTextIn Relaxed (bson_view self) (string_bytes s)) }
+        ensures writable { OnOk result (writable (bson_view self) ≡ true) }
+        ensures finite { result ≡ Err WriteError.FiniteDouble → writable (bson_view self) ≡ false }
+    {
+        self.into_text(alloc, Form::Relaxed)
+    }
+
+    // The text of the value in a form.
+    fn into_text(self, alloc: Global, form: Form) -> Result<String, WriteError>
+        ensures text { IfOk result (λ s. IsTextIn form (bson_view self) (string_bytes s)) }
+        ensures writable { OnOk result (writable (bson_view self) ≡ true) }
+        ensures finite { result ≡ Err WriteError.FiniteDouble → writable (bson_view self) ≡ false }
+    {
+        text_of(alloc, form, self)
     }
 }

@@ -1,0 +1,123 @@
+-- What ends a list or a map of tokens well from where it was printed to ends it well from its start.
+use Rattle.std.proofs.Common.{◌≡◌, ℕ, suc, ◌+◌, ◌-◌, ◌<◌, ◌≤◌, ◌⊎◌, inl, inr, List, [], ◌∷◌, ◌++◌, Result, Ok, Err, Some, slice_get, refl, sym, ap, ◌∙◌, subst, append_assoc, arith}
+use Rattle.std.proofs.Math.Nat.{eq-or-lt_of_le}
+use Rattle.std.specs.Ordering.{match_ordering}
+use Rattle.std.specs.declared.cmp.Ordering.TheVariants.{Less}
+use Rattle.json.specs.Token.{Token, begin_array, end_array, begin_object, end_object, key}
+use Rattle.json.specs.Tree.{items_tokens, members_tokens}
+use Rattle.serde_json.specs.Data.{Data, array, object, Items, no_items, item, Members, no_members, member, put}
+use Rattle.serde_json.specs.Written.{items_outline, members_outline}
+use Rattle.bson_leaf.specs.Written.{Refusal, ◌>>=◌, Stops}
+use Rattle.bson_leaf.specs.declared.form.Form.{Form}
+use Rattle.bson_leaf.specs.declared.write_error.WriteError.{WriteError}
+use Rattle.bson_leaf.specs.declared.write_error.WriteError.TheVariants.{FiniteDouble, OutOfMemory}
+use Rattle.bson_store.specs.Order.{key_cmp}
+use Rattle.bson_store.specs.Pairs.{keys}
+use Rattle.bson_model.specs.Value.{Value, code_scope, Values, value, Pairs, pair}
+use Rattle.bson_model.specs.Writing.{writes, writes_items, writes_pairs, with_scope}
+use Rattle.bson.specs.Texts.{tokens_of, code_tokens, writes_in_order, KeysAscend}
+use Rattle.bson.specs.View.{bson_view, pairs_view}
+use Rattle.bson.proofs.Onto.{Entry}
+
+-- ---- lists of tokens
+
+-- a part that was written moves over
+pub moved : (old part rest new all : List Token) → new ≡ old ++ part → old ++ (part ++ rest) ≡ all → new ++ rest ≡ all
+moved old part rest new all p q = ap (λ l. l ++ rest) p ∙ append_assoc old part rest ∙ q
+
+-- two parts that were written in turn
+pub in_turn : (old one near two new : List Token) → near ≡ old ++ one → new ≡ near ++ two → new ≡ old ++ (one ++ two)
+in_turn old one near two new p q = q ∙ ap (λ l. l ++ two) p ∙ append_assoc old one two
+
+-- ---- lists
+
+abbrev pub EndsItems : Result Items Refusal → List Token → List Token → Type 0
+EndsItems w old end = (ds : Items) × (w ≡ Ok ds) × (end ≡ old ++ items_tokens (items_outline ds))
+
+pub items_more : (f : Form) (v : Value) (vs : Values) (old new end : List Token) → ((x : Data) × (writes f v ≡ Ok x) × (new ≡ old ++ tokens_of x)) → EndsItems (writes_items f vs) new end → EndsItems (writes_items f (value v vs)) old end
+items_more f v vs old new end p q = (
+  item p.0 q.0,
+  ap (λ r. r >>= λ d. writes_items f vs >>= λ ds. Ok (item d ds)) p.1 ∙ ap (λ r. r >>= λ ds. Ok (item p.0 ds)) q.1,
+  in_turn old (tokens_of p.0) new (items_tokens (items_outline q.0)) end p.2 q.2,
+)
+
+pub items_here : (f : Form) (e : WriteError) (v : Value) (vs : Values) → Stops e (writes f v) → Stops e (writes_items f (value v vs))
+items_here f OutOfMemory v vs h = tt
+items_here f FiniteDouble v vs h = ap (λ r. r >>= λ d. writes_items f vs >>= λ ds. Ok (item d ds)) h
+
+pub items_later : (f : Form) (e : WriteError) (v : Value) (d : Data) (vs : Values) → writes f v ≡ Ok d → Stops e (writes_items f vs) → Stops e (writes_items f (value v vs))
+items_later f OutOfMemory v d vs g h = tt
+items_later f FiniteDouble v d vs g h = ap (λ r. r >>= λ c. writes_items f vs >>= λ ds. Ok (item c ds)) g ∙ ap (λ r. r >>= λ ds. Ok (item d ds)) h
+
+-- ---- documents whose keys ascend
+
+abbrev pub EndsMembers : Result Members Refusal → List Token → List Token → Type 0
+EndsMembers w old end = (ms : Members) × (w ≡ Ok ms) × (end ≡ old ++ members_tokens (members_outline ms))
+
+pub members_more : (f : Form) (k : List ℕ) (v : Value) (ps : Pairs) (old near new end : List Token) → near ≡ old ++ key k ∷ [] → ((x : Data) × (writes f v ≡ Ok x) × (new ≡ near ++ tokens_of x)) → EndsMembers (writes_in_order f ps) new end
+    → EndsMembers (writes_in_order f (pair k v ps)) old end
+members_more f k v ps old near new end n p q = (
+  member k p.0 q.0,
+  ap (λ r. r >>= λ d. writes_in_order f ps >>= λ ms. Ok (member k d ms)) p.1 ∙ ap (λ r. r >>= λ ms. Ok (member k p.0 ms)) q.1,
+  in_turn old (key k ∷ []) near (tokens_of p.0 ++ members_tokens (members_outline q.0)) end n (in_turn near (tokens_of p.0) new (members_tokens (members_outline q.0)) end p.2 q.2),
+)
+
+pub members_here : (f : Form) (e : WriteError) (k : List ℕ) (v : Value) (ps : Pairs) → Stops e (writes f v) → Stops e (writes_in_order f (pair k v ps))
+members_here f OutOfMemory k v ps h = tt
+members_here f FiniteDouble k v ps h = ap (λ r. r >>= λ d. writes_in_order f ps >>= λ ms. Ok (member k d ms)) h
+
+pub members_later : (f : Form) (e : WriteError) (k : List ℕ) (v : Value) (d : Data) (ps : Pairs) → writes f v ≡ Ok d → Stops e (writes_in_order f ps) → Stops e (writes_in_order f (pair k v ps))
+members_later f OutOfMemory k v d ps g h = tt
+members_later f FiniteDouble k v d ps g h = ap (λ r. r >>= λ c. writes_in_order f ps >>= λ ms. Ok (member k c ms)) g ∙ ap (λ r. r >>= λ ms. Ok (member k d ms)) h
+
+bind_same : {A B : Type 0} (r : Result A Refusal) (f g : A → Result B Refusal) → ((x : A) → f x ≡ g x) → (r >>= f) ≡ (r >>= g)
+bind_same (Ok x) f g h = h x
+bind_same (Err e) f g h = refl
+
+-- a key that is less than the first one is put first
+put_first : (k l : List ℕ) (d : Data) → key_cmp k l ≡ Less → (a : Result Data Refusal) (b : Result Members Refusal)
+    → ((a >>= λ e. b >>= λ ms. Ok (member l e ms)) >>= λ ms. Ok (member k d ms)) ≡ ((a >>= λ e. b >>= λ ms. Ok (member l e ms)) >>= λ ms. Ok (put k d ms))
+put_first k l d h (Ok e) (Ok ms) = rw h refl
+put_first k l d h (Ok e) (Err x) = refl
+put_first k l d h (Err x) b = refl
+
+-- the map of a document whose keys ascend has its members in the document's order
+pub in_order : (f : Form) (xs : List Entry) → KeysAscend (keys xs) → writes_in_order f (pairs_view xs) ≡ writes_pairs f (pairs_view xs)
+in_order f [] h = refl
+in_order f (x ∷ []) h = refl
+in_order f (x ∷ y ∷ ys) h =
+    let rest = in_order f (y ∷ ys) (λ i. h (suc i)) in
+    bind_same (writes f (bson_view x.1)) _ _ (λ d.
+    put_first x.0 y.0 d (h 0 x.0 y.0 refl refl) (writes f (bson_view y.1)) (writes_in_order f (pairs_view ys))
+    ∙ ap (λ r. r >>= λ ms. Ok (put x.0 d ms)) rest)
+
+-- ---- code with a scope
+
+pub scoped : (f : Form) (s : List ℕ) (ps : Pairs) (old mid near new : List Token) → mid ≡ old ++ code_tokens s → ((x : Members) × (writes_pairs f ps ≡ Ok x) × (near ≡ mid ++ tokens_of (object x))) → new ≡ near ++ end_object ∷ []
+    → (t : Data) × (writes f (code_scope s ps) ≡ Ok t) × (new ≡ old ++ tokens_of t)
+scoped f s ps old mid near new m p n = (
+  _,
+  ap (λ r. r >>= λ ms. Ok (with_scope s ms)) p.1,
+  in_turn old (code_tokens s) mid (tokens_of (object p.0) ++ end_object ∷ []) new m (in_turn mid (tokens_of (object p.0)) near (end_object ∷ []) new p.2 n),
+)
+
+-- ---- keys that ascend
+
+-- each key before the place is less than the next
+abbrev pub AscendsTo : List (List ℕ) → ℕ → Type 0
+AscendsTo ks at = (i : ℕ) (k l : List ℕ) → suc i < at → slice_get ks i ≡ Some k → slice_get ks (suc i) ≡ Some l → key_cmp k l ≡ Less
+
+next_at : (ks : List (List ℕ)) (i : ℕ) (a b k l : List ℕ) → Some a ≡ slice_get ks i → Some b ≡ slice_get ks (suc i) → key_cmp a b ≡ Less → slice_get ks i ≡ Some k → slice_get ks (suc i) ≡ Some l → key_cmp k l ≡ Less
+next_at ks i a b k l p q h x y =
+    let one : a ≡ k = cc in
+    let two : b ≡ l = cc in
+    subst (λ z. key_cmp z l ≡ Less) one (subst (λ z. key_cmp a z ≡ Less) two h)
+
+pub ascends_more : (ks : List (List ℕ)) (at : ℕ) (a b : List ℕ) → 1 ≤ at → Some a ≡ slice_get ks (at - 1) → Some b ≡ slice_get ks at → key_cmp a b ≡ Less → AscendsTo ks at → AscendsTo ks (at + 1)
+ascends_more ks at a b one p q h before i k l inside x y =
+    elim (eq-or-lt_of_le {n = suc i} {m = at} (omega arith)) [
+      | inl e ↦
+          let here : at - 1 ≡ i = omega (arith, e) in
+          next_at ks i a b k l (p ∙ ap (slice_get ks) here) (q ∙ ap (slice_get ks) (sym e)) h x y
+      | inr less ↦ before i k l less x y
+    ]
