@@ -242,7 +242,7 @@ fn a_text_is_that_of_the_tree(rt: HostRuntime) -> Result<(), Fail> {
                     assert_eq!(rt; text_of(alloc, form, value)?.as_str(), wanted);
                     assert_eq!(rt; written(alloc, form, again)?.as_str(), wanted);
                 }
-                _ => assert_eq!(rt; text, wanted),
+                _ => assert!(rt; false, "{text}"),
             }
         }
     }

@@ -8,13 +8,13 @@ use std::test::Fail;
 
 /// The two written forms.
 #[derive(Clone, Copy)]
-pub enum Form {
+pub(crate) enum Form {
     Canonical,
     Relaxed,
 }
 
 /// What a text is read as, or why it is not.
-pub fn read(alloc: Global, text: &str) -> Result<Result<Bson, String>, Fail> {
+pub(crate) fn read(alloc: Global, text: &str) -> Result<Result<Bson, String>, Fail> {
     let tree = Value::from_str(alloc, text)?;
     match Bson::try_from_value(alloc, tree) {
         Ok(value) => Ok(Ok(value)),
@@ -37,7 +37,7 @@ fn fault(alloc: Global, error: Error) -> Result<String, Fail> {
 }
 
 /// The compact text of a value's tree in a form, or why there is none.
-pub fn written(alloc: Global, form: Form, value: Bson) -> Result<String, Fail> {
+pub(crate) fn written(alloc: Global, form: Form, value: Bson) -> Result<String, Fail> {
     let tree = match form {
         Form::Canonical => value.into_canonical_extjson(alloc),
         Form::Relaxed => value.into_relaxed_extjson(alloc),
@@ -50,7 +50,7 @@ pub fn written(alloc: Global, form: Form, value: Bson) -> Result<String, Fail> {
 }
 
 /// A text read and written again.
-pub fn again(alloc: Global, form: Form, text: &str) -> Result<String, Fail> {
+pub(crate) fn again(alloc: Global, form: Form, text: &str) -> Result<String, Fail> {
     match read(alloc, text)? {
         Ok(value) => written(alloc, form, value),
         Err(fault) => Ok(fault),

@@ -11,7 +11,7 @@ ghost use Rattle.bson.specs.View.{bson_view, scoped_view, document_view, values_
 
 use crate::bson::{Bson, JavaScriptCodeWithScope};
 use crate::document::Document;
-use crate::extjson::tokens::{put_int32, put_int64, put_members, put_tree};
+use crate::extjson::tokens::{put_int32, put_int64, put_members, put_object_id, put_tree};
 use crate::extjson::write::write_pairs;
 use bson_leaf::form::Form;
 use bson_leaf::leaf::Leaf;
@@ -166,6 +166,7 @@ fn print_leaf(alloc: Global, form: Form, leaf: Leaf, out: &mut Writer) -> Result
         Leaf::String(text) => Ok(out.string(text.as_str())?),
         Leaf::Int32(z) => Ok(put_int32(form, z, out)?),
         Leaf::Int64(z) => Ok(put_int64(form, z, out)?),
+        Leaf::ObjectId(id) => Ok(put_object_id(alloc, id, out)?),
         leaf => print_tree(alloc, form, leaf, out),
     }
 }

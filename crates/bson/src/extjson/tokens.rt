@@ -6,14 +6,17 @@ ghost use Rattle.serde_json.specs.Data.{array, number, object, string};
 ghost use Rattle.serde_json.specs.Find.{of_integer};
 ghost use Rattle.serde_json.specs.View.{view, number_view, items_view, members_view};
 ghost use Rattle.serde_json.specs.Written.{number_text};
+ghost use Rattle.bson_scalar.specs.Oid.{IsObjectId};
+ghost use Rattle.bson_leaf.specs.Ids.{oid_tree};
 ghost use Rattle.bson_leaf.specs.Shapes.{one};
 ghost use Rattle.bson_leaf.specs.Written.{int32_form, int64_form};
 ghost use Rattle.bson.specs.Texts.{tokens_of};
 
 use bson_leaf::form::Form;
+use bson_scalar::oid::ObjectId;
 use json::Writer;
 use serde_json::{Map, Number, Value};
-use std::alloc::AllocError;
+use std::alloc::{AllocError, Global};
 
 // A float is refused. No value is written with one.
 #[cycle(tokens)]
@@ -105,4 +108,18 @@ fn put_integer(z: i64, out: &mut Writer) -> Result<(), AllocError>
     ensures before { out.new.before ≡ out.old.before }
 {
     out.i64(z)
+}
+
+pub(crate) fn put_object_id(alloc: Global, id: ObjectId, out: &mut Writer) -> Result<(), AllocError>
+    ensures put { OnOk result (out.new.tokens ≡ out.old.tokens ++ tokens_of (oid_tree id)) }
+    ensures before { out.new.before ≡ out.old.before }
+    ensures ranged { OnOk result (IsObjectId id) }
+{
+    // What the type says of the bytes.
+    let _bytes = id.bytes();
+    let text = id.to_hex(alloc)?;
+    out.begin_object()?;
+    out.key("$oid")?;
+    out.string(text.as_str())?;
+    out.end_object()
 }
