@@ -1,5 +1,5 @@
 -- What a document feeds, turn by turn.
-use Rattle.std.proofs.Common.{◌≡◌, ℕ, ◌+◌, ◌<◌, List, [], ◌∷◌, ◌++◌, map, length, fold, drop, get_or, slice_get, nat_cmp, refl, sym, ap, ◌∙◌, arith}
+use Rattle.std.proofs.Common.{◌≡◌, ℕ, ◌+◌, ◌<◌, List, [], ◌∷◌, ◌++◌, map, length, fold, drop, get_or, nat_cmp, refl, sym, ap, ◌∙◌, arith}
 use Rattle.std.proofs.lemmas.List.{drop_more}
 use Rattle.std.specs.Cmp.Lexicographic.{slice_cmp}
 use Rattle.std.specs.declared.cmp.Ordering.TheVariants.{Less, Equal, Greater}
@@ -10,7 +10,7 @@ use Rattle.bson_store.specs.Order.{in_order, key_cmp}
 use Rattle.bson_store.specs.Pairs.{HasDistinctKeys}
 use Rattle.bson_store.proofs.Turns.{length-in_order}
 use Rattle.bson_model.specs.Value.{Value, array, document, pair}
-use Rattle.bson_model.specs.Feed.{feed, words, items_words, pairs_words, items_count, pairs_count}
+use Rattle.bson_model.specs.Feed.{feed, items_words, pairs_words, items_count, pairs_count}
 use Rattle.bson_model.specs.Sorted.{sorted, sorted_items, sorted_pairs, put_pair}
 use Rattle.bson.specs.View.{bson_view, values_view, pairs_of, pairs_view}
 use Rattle.bson.specs.declared.bson.Bson.{Bson}

@@ -1,11 +1,10 @@
 -- What ends a list or a map of tokens well from where it was printed to ends it well from its start.
-use Rattle.std.proofs.Common.{◌≡◌, ℕ, suc, ◌+◌, ◌-◌, ◌<◌, ◌≤◌, ◌⊎◌, inl, inr, List, [], ◌∷◌, ◌++◌, Result, Ok, Err, Some, slice_get, refl, sym, ap, ◌∙◌, subst, append_assoc, arith}
+use Rattle.std.proofs.Common.{◌≡◌, ℕ, suc, ◌+◌, ◌-◌, ◌<◌, ◌≤◌, inl, inr, List, [], ◌∷◌, ◌++◌, Result, Ok, Err, Some, slice_get, refl, sym, ap, ◌∙◌, subst, append_assoc, arith}
 use Rattle.std.proofs.Math.Nat.{eq-or-lt_of_le}
-use Rattle.std.specs.Ordering.{match_ordering}
 use Rattle.std.specs.declared.cmp.Ordering.TheVariants.{Less}
-use Rattle.json.specs.Token.{Token, begin_array, end_array, begin_object, end_object, key}
+use Rattle.json.specs.Token.{Token, end_object, key}
 use Rattle.json.specs.Tree.{items_tokens, members_tokens}
-use Rattle.serde_json.specs.Data.{Data, array, object, Items, no_items, item, Members, no_members, member, put}
+use Rattle.serde_json.specs.Data.{Data, object, Items, item, Members, member, put}
 use Rattle.serde_json.specs.Written.{items_outline, members_outline}
 use Rattle.bson_leaf.specs.Written.{Refusal, ◌>>=◌, Stops}
 use Rattle.bson_leaf.specs.declared.form.Form.{Form}

@@ -1,13 +1,10 @@
-use Rattle.std.proofs.Common.{◌≡◌, ℕ, ◌<◌, Bool, true, false, List, Option, Some, None, length, get_or, string_bytes, refl, sym, ap, ◌∙◌, arith, below_more}
+use Rattle.std.proofs.Common.{◌≡◌, ◌<◌, Some, None, length, string_bytes, sym, ap, ◌∙◌, arith, below_more}
 use Rattle.std.proofs.lemmas.Option.{slice_get-get_or}
 use Rattle.bson_store.specs.Pairs as store
 use Rattle.bson_store.proofs.Found.{place-within, get-place, get-absent}
-use Rattle.bson_model.specs.Same.{same}
 use Rattle.bson_model.proofs.SameSorted.{option_same}
-use Rattle.bson_model.specs.Value.{get}
-use Rattle.bson.specs.View.{bson_view, pairs_view}
-use Rattle.bson.specs.declared.bson.Bson.{Bson}
-use Rattle.bson.proofs.Places.{IsSameAt, IsSameAt-from, not_same, lengths_differ, lacking, differing, all_places, pair_from, pair_of_key, get-bson_view, items_differ, items_differ_at, items_all}
+use Rattle.bson.specs.View.{bson_view}
+use Rattle.bson.proofs.Places.{IsSameAt-from, not_same, lengths_differ, lacking, differing, all_places, pair_from, pair_of_key, get-bson_view, items_differ, items_differ_at, items_all}
 use Rattle.bson.proofs.Sizes.{value_smaller}
 use Rattle.bson.proofs.+same.Goals as goal
 

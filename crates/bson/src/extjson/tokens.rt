@@ -1,11 +1,11 @@
 //! The tokens of a tree.
-ghost use Rattle.std.specs.Prelude.{◌≡◌, [], ◌∷◌, ◌++◌, OnOk};
+ghost use Rattle.std.specs.Prelude.{◌≡◌, [], ◌∷◌, ◌++◌, OnOk, false};
 ghost use Rattle.json.specs.Token.{number as number_token};
 ghost use Rattle.std.specs.Fmt.{signed_decimal};
 ghost use Rattle.serde_json.specs.Data.{array, number, object, string};
-ghost use Rattle.serde_json.specs.Find.{of_integer};
+ghost use Rattle.serde_json.specs.Find.{is_float, of_integer};
 ghost use Rattle.serde_json.specs.View.{view, number_view, items_view, members_view};
-ghost use Rattle.serde_json.specs.Written.{number_text};
+ghost use Rattle.serde_json.specs.Written.{number_text, has_float, items_have_float, members_have_float};
 ghost use Rattle.bson_scalar.specs.Oid.{IsObjectId};
 ghost use Rattle.bson_leaf.specs.Ids.{oid_tree};
 ghost use Rattle.bson_leaf.specs.Shapes.{one};
@@ -18,9 +18,10 @@ use json::Writer;
 use serde_json::{Map, Number, Value};
 use std::alloc::{AllocError, Global};
 
-// A float is refused. No value is written with one.
+// No value is written with a float.
 #[cycle(tokens)]
 pub(crate) fn put_tree(tree: &Value, out: &mut Writer) -> Result<(), AllocError>
+    requires { has_float (view tree.now) ≡ false }
     ensures put { OnOk result (out.new.tokens ≡ out.old.tokens ++ tokens_of (view tree.now)) }
     ensures before { out.new.before ≡ out.old.before }
 {
@@ -36,6 +37,7 @@ pub(crate) fn put_tree(tree: &Value, out: &mut Writer) -> Result<(), AllocError>
 
 #[cycle(tokens)]
 fn put_items(items: &Vec<Value>, out: &mut Writer) -> Result<(), AllocError>
+    requires { items_have_float (items_view items.now.items) ≡ false }
     ensures put { OnOk result (out.new.tokens ≡ out.old.tokens ++ tokens_of (array (items_view items.now.items))) }
     ensures before { out.new.before ≡ out.old.before }
 {
@@ -48,6 +50,7 @@ fn put_items(items: &Vec<Value>, out: &mut Writer) -> Result<(), AllocError>
 
 #[cycle(tokens)]
 pub(crate) fn put_members(members: &Map<String, Value>, out: &mut Writer) -> Result<(), AllocError>
+    requires { members_have_float (members_view members.now.entries) ≡ false }
     ensures put { OnOk result (out.new.tokens ≡ out.old.tokens ++ tokens_of (object (members_view members.now.entries))) }
     ensures before { out.new.before ≡ out.old.before }
 {
@@ -60,6 +63,7 @@ pub(crate) fn put_members(members: &Map<String, Value>, out: &mut Writer) -> Res
 }
 
 fn put_number(number: &Number, out: &mut Writer) -> Result<(), AllocError>
+    requires { is_float (number_view number.now) ≡ false }
     ensures put { OnOk result (out.new.tokens ≡ out.old.tokens ++ number_token (number_text (number_view number.now)) ∷ []) }
     ensures before { out.new.before ≡ out.old.before }
 {
@@ -68,7 +72,7 @@ fn put_number(number: &Number, out: &mut Writer) -> Result<(), AllocError>
     }
     match number.as_i64() {
         Some(z) => out.i64(z),
-        None => Err(AllocError),
+        None => unreachable!(),
     }
 }
 

@@ -6,8 +6,8 @@ use Rattle.bson_store.proofs.Least.{least_none}
 use Rattle.bson_store.proofs.Turns.{pair_of, next_pair, where_key-all}
 use Rattle.bson_model.specs.Feed.{feed as words_of}
 use Rattle.bson_model.specs.Value.{document, array}
-use Rattle.bson.specs.View.{bson_view, values_view, pairs_view}
-use Rattle.bson.proofs.Feeds.{turn_words, list_words, document_words, array_words, feeds_item, feeds_pair, feeds_all}
+use Rattle.bson.specs.View.{values_view, pairs_view}
+use Rattle.bson.proofs.Feeds.{turn_words, list_words, document_words, array_words, feeds_pair, feeds_all}
 use Rattle.bson.proofs.Sizes.{value_smaller}
 use Rattle.bson.proofs.hash.+feeding.Goals as goal
 

@@ -1,13 +1,12 @@
-use Rattle.std.proofs.Common.{rules, ◌≡◌, ℕ, ◌∷◌, ◌++◌, [], List, map, length, refl, sym, ap, ◌∙◌, subst, string_bytes, Ok, Vec, String, Global, arith}
-use Rattle.std.specs.Vec.Iter.{into_iter_items, into_iter_len}
+use Rattle.std.proofs.Common.{◌≡◌, ◌∷◌, ◌++◌, [], List, map, length, refl, sym, ap, ◌∙◌, subst, string_bytes, Ok, String, Global, arith}
+use Rattle.std.specs.Vec.Iter.{into_iter_items}
 use Rattle.std.proofs.lemmas.Bool.{false≢true}
 use Rattle.std.proofs.lemmas.Result.{err_from_is_err_and}
-use Rattle.serde_json.specs.View.{view, number_view, items_view, members_view}
+use Rattle.serde_json.specs.View.{view, items_view, members_view}
 use Rattle.serde_json.specs.declared.value.Value.{Value}
-use Rattle.bson.specs.View.{bson_view, document_view, values_view, pairs_view}
-use Rattle.bson_model.specs.Reading.{reads, reads_items, reads_members}
+use Rattle.bson.specs.View.{bson_view}
+use Rattle.bson_model.specs.Reading.{reads_items, reads_members}
 use Rattle.bson.specs.declared.bson.Bson.{Bson}
-use Rattle.bson.specs.declared.document.Document.{the_lemmas}
 use Rattle.bson_model.proofs.Members.{more_than_two, just_two, just_one}
 use Rattle.std.specs.Prelude.{IsSome}
 use Rattle.bson.proofs.Fresh.{Fresh, fresh_start, fresh_next}

@@ -1,6 +1,6 @@
 use Rattle.std.proofs.Common.{rules, ◌≡◌, List, [], ◌∷◌, ◌++◌, length, refl, sym, ap, ◌∙◌, subst, append_assoc, string_bytes, arith}
 use Rattle.std.specs.Vec.Iter.{into_iter_items}
-use Rattle.json.specs.Token.{begin_array, begin_object, end_object, key}
+use Rattle.json.specs.Token.{begin_array, begin_object, key}
 use Rattle.json.specs.Tree.{items_tokens, members_tokens}
 use Rattle.serde_json.specs.Data.{object, no_items, no_members}
 use Rattle.serde_json.specs.Written.{items_outline, members_outline}

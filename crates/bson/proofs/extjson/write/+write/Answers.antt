@@ -1,15 +1,14 @@
-use Rattle.std.proofs.Common.{rules, ◌≡◌, ℕ, ◌∷◌, ◌++◌, [], List, map, length, refl, sym, ap, ◌∙◌, subst, string_bytes, Ok, Vec, String, Global, arith, append_assoc}
-use Rattle.std.specs.Vec.Iter.{into_iter_items, into_iter_len}
+use Rattle.std.proofs.Common.{◌≡◌, ◌∷◌, ◌++◌, [], List, map, length, refl, sym, ap, ◌∙◌, subst, string_bytes, arith, append_assoc}
+use Rattle.std.specs.Vec.Iter.{into_iter_items}
 use Rattle.std.proofs.lemmas.Result.{err_from_is_err_and}
-use Rattle.serde_json.specs.Data.{Members, no_members, put}
-use Rattle.serde_json.specs.View.{view, items_view, members_view}
+use Rattle.serde_json.specs.View.{view, members_view}
 use Rattle.serde_json.specs.declared.value.Value.{Value}
 use Rattle.serde_json.proofs.Views.{members_view-insert_entry}
 use Rattle.bson.specs.View.{bson_view, values_view, pairs_view, document_view}
-use Rattle.bson_model.specs.Writing.{writes, writes_items, writes_pairs, InRange, ItemsInRange, PairsInRange}
+use Rattle.bson_model.specs.Writing.{writes_items, writes_pairs, ItemsInRange, PairsInRange}
 use Rattle.bson.specs.declared.bson.Bson.{Bson}
 use Rattle.bson.proofs.Onto.{Entry}
-use Rattle.bson.proofs.OntoTree.{onto_items, onto_members, onto_items-ok, items_stop, items_step, onto_members-start, members_stop, members_step}
+use Rattle.bson.proofs.OntoTree.{onto_items, onto_members, onto_items-ok, items_stop, items_step, onto_members-start, members_step}
 use Rattle.bson.proofs.Seen.{document_view-pairs}
 use Rattle.bson.proofs.extjson.write.+write.Goals as goal
 

@@ -1,4 +1,4 @@
-use Rattle.std.proofs.Common.{◌≡◌, ◌++◌, List, map, length, Ok}
+use Rattle.std.proofs.Common.{◌≡◌, ◌++◌, List, map, length}
 use Rattle.std.specs.Vec.Iter.{into_iter_items, into_iter_len}
 use Rattle.serde_json.specs.View.{view, members_view}
 use Rattle.bson_model.specs.Writing.{writes_items, writes_pairs, ItemsInRange, PairsInRange}
