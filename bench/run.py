@@ -3,9 +3,10 @@
 
     bench/run.py [MEGABYTES ..]        (10 and 50 where none is given)
 
-For each kind of input it prints the wall time (the best of three runs) and the peak memory of `bson_cli canonical`,
-of `bson_cli relaxed` and of the floor, a program that only reads the text by serde_json and writes it again, and the
-ratios to the floor. Inputs come from a seeded generator, so that every run times the same bytes.
+For each kind of input it prints the wall time and the peak memory of `bson_cli canonical`, of `bson_cli relaxed` and of
+the floor, a program that only reads the text by serde_json and writes it again, and the ratios to the floor. A time is
+the best of five runs; the three programs run in turns, so that what else the machine does slows all of them alike.
+Inputs come from a seeded generator, so that every run times the same bytes.
 """
 import base64
 import os
@@ -76,19 +77,21 @@ def generate(path, make, opening, closing, size):
 
 
 def timed(command, path):
-    """Seconds of the best of three runs, and the greatest memory in megabytes."""
-    best, memory = None, 0
-    for _ in range(3):
-        with open(path, "rb") as given, open(os.devnull, "wb") as taken:
-            start = time.monotonic()
-            run = subprocess.Popen(command, stdin=given, stdout=taken)
-            _, status, usage = os.wait4(run.pid, 0)
-            seconds = time.monotonic() - start
-        if status != 0:
-            raise SystemExit(f"{command} ended with {status}")
-        best = seconds if best is None else min(best, seconds)
-        memory = max(memory, usage.ru_maxrss // 1024)
-    return best, memory
+    """Seconds of one run, and its greatest memory in megabytes."""
+    with open(path, "rb") as given, open(os.devnull, "wb") as taken:
+        start = time.monotonic()
+        run = subprocess.Popen(command, stdin=given, stdout=taken)
+        _, status, usage = os.wait4(run.pid, 0)
+        seconds = time.monotonic() - start
+    if status != 0:
+        raise SystemExit(f"{command} ended with {status}")
+    return seconds, usage.ru_maxrss // 1024
+
+
+def best_of(rounds, commands, path):
+    """The least seconds and the greatest memory of each command, all run in turns."""
+    runs = [[timed(command, path) for command in commands] for _ in range(rounds)]
+    return [(min(seconds for seconds, _ in own), max(memory for _, memory in own)) for own in zip(*runs)]
 
 
 def floor_program(room):
@@ -117,12 +120,12 @@ def main():
             for size in sizes:
                 path = os.path.join(room, "input.json")
                 generate(path, make, opening, closing, size * 1_000_000)
-                base, base_memory = timed([floor], path)
-                canonical, memory = timed([program, "canonical"], path)
-                relaxed, _ = timed([program, "relaxed"], path)
+                commands = [[floor], [program, "canonical"], [program, "relaxed"]]
+                (base, base_memory), (canonical, memory), (relaxed, _) = best_of(5, commands, path)
                 print("| %s | %d | %.2f | %.2f | %.2f | %.2f | %.2f | %d | %d |" % (
                     name, size, base, canonical, canonical / base, relaxed, relaxed / base, base_memory, memory))
                 sys.stdout.flush()
 
 
-main()
+if __name__ == "__main__":
+    main()
