@@ -4,7 +4,7 @@ ghost use Rattle.bson.specs.View.{bson_view, scoped_view, values_view, pairs_vie
 
 use crate::bson::{Bson, JavaScriptCodeWithScope};
 use crate::document::Document;
-use bson_store::{IndexedPairs, PairStore};
+use bson_store::{PairStore, SmallPairs};
 use std::alloc::{AllocError, Global};
 
 impl Bson {
@@ -93,7 +93,7 @@ fn copy_values(alloc: Global, values: &Vec<Bson>) -> Result<Vec<Bson>, AllocErro
 fn copy_pairs(alloc: Global, document: &Document) -> Result<Document, AllocError>
     ensures { IfOk result (λ d. pairs_view d.pairs ≡ pairs_view document.now.pairs) }
 {
-    let mut pairs = IndexedPairs::new(alloc);
+    let mut pairs = SmallPairs::with_capacity(alloc, document.pairs.len())?;
     for i in 0..document.pairs.len() {
         let key = String::from_str(alloc, document.pairs.key_at(i).as_str())?;
         let value = copy(alloc, document.pairs.value_at(i))?;

@@ -9,7 +9,7 @@ pub mod iter;
 pub mod place;
 
 use crate::bson::Bson;
-use bson_store::{IndexedPairs, PairStore};
+use bson_store::{PairStore, SmallPairs};
 pub use entry::{Entry, OccupiedEntry, VacantEntry};
 pub use getters::{ValueAccessError, ValueAccessResult};
 pub use insert::Refused;
@@ -23,7 +23,7 @@ use std::alloc::Global;
 #[derive(Drop)]
 #[cycle(bson)]
 pub struct Document {
-    pub(crate) pairs: IndexedPairs<Bson>,
+    pub(crate) pairs: SmallPairs<Bson>,
 }
 
 impl Document {
@@ -37,7 +37,7 @@ impl Document {
         ensures { result.pairs ≡ [] }
     {
         Document {
-            pairs: IndexedPairs::new(alloc),
+            pairs: SmallPairs::new(alloc),
         }
     }
 

@@ -1,7 +1,7 @@
-//! A list of commands run on a store.
+//! A list of commands run on both stores.
 use bson::Bson;
 use bson::store::replay::{Command, replay};
-use bson::store::{IndexedPairs, PairStore};
+use bson::store::{IndexedPairs, PairStore, SmallPairs};
 use std::alloc::{AllocError, Global};
 use std::test::Fail;
 
@@ -43,7 +43,7 @@ fn are_replies(replies: &[Option<Bson>]) -> bool {
 }
 
 /// Whether the store holds k2 2 to k8 8, then k9 10.
-fn holds_the_rest(store: &IndexedPairs<Bson>) -> bool {
+fn holds_the_rest<S: PairStore<Bson>>(store: &S) -> bool {
     const REST: [(&str, i32); 8] = [
         ("k2", 2),
         ("k3", 3),
@@ -66,21 +66,26 @@ fn holds_the_rest(store: &IndexedPairs<Bson>) -> bool {
     true
 }
 
+/// Whether the twelve commands answer what they must on an empty store and leave the rest.
+fn is_replayed<S: PairStore<Bson>>(alloc: Global, store: &mut S) -> Result<bool, Fail> {
+    let replies = replay(alloc, store, commands(alloc)?)?;
+    Ok(replies.len() == 12 && are_replies(replies.as_slice()) && holds_the_rest(store))
+}
+
+/// Whether they answer the same with a clear behind them, and leave nothing.
+fn is_cleared<S: PairStore<Bson>>(alloc: Global, store: &mut S) -> Result<bool, Fail> {
+    let mut cleared = commands(alloc)?;
+    cleared.push(Command::Clear)?;
+    let replies = replay(alloc, store, cleared)?;
+    Ok(replies.len() == 13 && are_replies(replies.as_slice()) && store.len() == 0)
+}
+
 #[test]
 fn a_replay_answers_the_old_values(rt: HostRuntime) -> Result<(), Fail> {
     let alloc = rt.alloc();
-    let mut store = IndexedPairs::new(alloc);
-    let replies = replay(alloc, &mut store, commands(alloc)?)?;
-    assert_eq!(rt; replies.len(), 12);
-    assert!(rt; are_replies(replies.as_slice()));
-    assert!(rt; holds_the_rest(&store));
-
-    let mut store = IndexedPairs::new(alloc);
-    let mut cleared = commands(alloc)?;
-    cleared.push(Command::Clear)?;
-    let replies = replay(alloc, &mut store, cleared)?;
-    assert_eq!(rt; replies.len(), 13);
-    assert!(rt; are_replies(replies.as_slice()));
-    assert!(rt; store.len() == 0);
+    assert!(rt; is_replayed(alloc, &mut SmallPairs::new(alloc))?);
+    assert!(rt; is_replayed(alloc, &mut IndexedPairs::new(alloc))?);
+    assert!(rt; is_cleared(alloc, &mut SmallPairs::new(alloc))?);
+    assert!(rt; is_cleared(alloc, &mut IndexedPairs::new(alloc))?);
     Ok(())
 }

@@ -1,12 +1,12 @@
 //! The walks over a document. Each gives the pairs in their order, each once, and ends.
 use super::Document;
 use crate::bson::Bson;
-use bson_store::{IndexedPairs, IntoPairs, PairStore};
+use bson_store::{PairStore, SmallIntoPairs, SmallPairs};
 
 /// The pairs that are left, each as a key and a value; `Document::iter` makes it.
 #[derive(Drop)]
 pub struct Iter<'a> {
-    pairs: &'a IndexedPairs<Bson>,
+    pairs: &'a SmallPairs<Bson>,
     at: usize,
 }
 
@@ -25,7 +25,7 @@ pub struct Values<'a> {
 /// The pairs that are left, by value; `Document::into_iter` makes it.
 #[derive(Drop)]
 pub struct IntoIter {
-    pairs: IntoPairs<Bson>,
+    pairs: SmallIntoPairs<Bson>,
 }
 
 impl<'a> Iterator for Iter<'a> {

@@ -16,7 +16,7 @@ use crate::extjson::leaf::{of_leaf, read_number};
 use bson_leaf::error::Error;
 use bson_leaf::read::read_single as read_leaf;
 use bson_leaf::wrapper::any_wrapper;
-use bson_store::{IndexedPairs, PairStore};
+use bson_store::{PairStore, SmallPairs};
 use serde_json::{Map, Value};
 use std::alloc::Global;
 
@@ -70,7 +70,7 @@ fn read_object(alloc: Global, members: Map<String, Value>) -> Result<Bson, Error
 pub(crate) fn read_members(alloc: Global, members: Map<String, Value>) -> Result<Document, Error>
     ensures { Gives document_view result (reads_members (members_view members.entries)) }
 {
-    let mut pairs = IndexedPairs::with_capacity(alloc, members.len())?;
+    let mut pairs = SmallPairs::with_capacity(alloc, members.len())?;
     for (key, value) in members {
         let read = read(alloc, value)?;
         match pairs.push(key, read) {

@@ -17,7 +17,7 @@ use bson_leaf::form::Form;
 use bson_leaf::leaf::Leaf;
 use bson_leaf::write::write_leaf;
 use bson_leaf::write_error::WriteError;
-use bson_store::{IndexedPairs, PairStore};
+use bson_store::{PairStore, SmallPairs};
 use json::Writer;
 use std::alloc::{AllocError, Global};
 
@@ -193,7 +193,7 @@ fn put_code(code: &str, out: &mut Writer) -> Result<(), AllocError>
 }
 
 // Each key is less than the next, by bytes.
-fn ascends(pairs: &IndexedPairs<Bson>) -> bool
+fn ascends(pairs: &SmallPairs<Bson>) -> bool
     ensures { result ≡ true → KeysAscend (keys pairs.now) }
 {
     for at in 1..pairs.len() {

@@ -1,0 +1,34 @@
+-- Pairs with a map of their keys' places, which is there where they are more than eight.
+use Rattle.std.specs.Prelude.{◌≡◌, ℕ, ◌<◌, ◌≤◌, List, map, length, Option, None, Some, String, Box, string_bytes}
+use Rattle.std.specs.HashMap.{HashMap, get_by_text}
+use Rattle.std.specs.declared.alloc.Global.{Global}
+use Rattle.std.specs.declared.hash.BuildHasherDefault.{BuildHasherDefault}
+use Rattle.std.specs.declared.hash.FoldHasher.{FoldHasher}
+use Rattle.bson_store.specs.declared.small.Pair.{Pair}
+use Rattle.bson_store.specs.Pairs.{place_of, HasDistinctKeys}
+
+-- a place for each of some keys
+abbrev pub Places : Type 0
+Places = HashMap (String Global) ℕ (BuildHasherDefault FoldHasher)
+
+-- the map of the places, where there is one
+abbrev pub Index : Type 0
+Index = Option (Box Places Global)
+
+module _ {V : Type 0} where
+  -- the pairs, each by its key's bytes and its value
+  abbrev pub seen : List (Pair V) → List (List ℕ × V)
+  seen ps = map (λ p. (string_bytes p.key, p.value)) ps
+
+  -- the map has each key at its place, and no other
+  abbrev pub HasPlaces : Places → List (List ℕ × V) → Type 0
+  HasPlaces m ps = (k : List ℕ) → get_by_text m k ≡ place_of k ps
+
+  -- a map of the places is there exactly where the pairs are more than eight
+  abbrev pub IsPlaced : List (List ℕ × V) → Index → Type 0
+  IsPlaced ps None = length ps ≤ 8
+  IsPlaced ps (Some m) = (8 < length ps) × HasPlaces m.value ps
+
+  -- what always holds of the pairs and of their map
+  abbrev pub IsIndexed : List (List ℕ × V) → Index → Type 0
+  IsIndexed ps o = HasDistinctKeys ps × IsPlaced ps o

@@ -1,0 +1,119 @@
+//! The places of the keys of a small store: how they are found, and how its map of them is kept.
+ghost use Rattle.std.specs.Prelude.{◌≡◌, ℕ, List, [], ◌∷◌, ◌++◌, Some, None, slice_get, remove, option_map, string_bytes, IfOk, OnOk, OnErr};
+ghost use Rattle.std.specs.Str.{bytes_eq};
+ghost use Rattle.std.specs.Map.{update};
+ghost use Rattle.std.specs.HashMap.{get_by_text};
+ghost use Rattle.bson_store.specs.Pairs.{place_of, HasDistinctKeys};
+ghost use Rattle.bson_store.specs.Small.{seen, HasPlaces, IsIndexed};
+ghost use Rattle.bson_store.specs.Raise.{raise};
+
+use crate::small::Pair;
+use std::alloc::{AllocError, Global};
+use std::collections::HashMap;
+
+// So many pairs have no map.
+const FEW: usize = 8;
+
+// The place of the key, by a walk.
+pub(crate) fn find_in<V>(pairs: &Vec<Pair<V>>, key: &str) -> Option<usize>
+    ensures { result ≡ place_of key.now (seen pairs.now.items) }
+{
+    for i in 0..pairs.len() {
+        if key == pairs[i].key.as_str() {
+            return Some(i);
+        }
+    }
+    None
+}
+
+// Puts a copy of the key in the map, at the place.
+fn add(
+    places: &mut HashMap<String, usize>,
+    key: &String,
+    at: usize,
+) -> Result<(), AllocError>
+    ensures ok { OnOk result ((k : List ℕ) → get_by_text places.new k ≡ update bytes_eq (get_by_text places.old) (string_bytes key.now) (Some at) k) }
+    ensures err { OnErr result ((k : List ℕ) → get_by_text places.new k ≡ get_by_text places.old k) }
+{
+    match places.insert(key.clone()?, at) {
+        Ok(_) => Ok(()),
+        Err(_) => Err(AllocError),
+    }
+}
+
+// A map of each key to its place and of one more key to the next, with the room that the pairs have.
+fn index_all<V>(
+    alloc: Global,
+    pairs: &Vec<Pair<V>>,
+    key: &String,
+) -> Result<HashMap<String, usize>, AllocError>
+    requires distinct { HasDistinctKeys (seen pairs.now.items) }
+    requires absent { place_of (string_bytes key.now) (seen pairs.now.items) ≡ None }
+    ensures { IfOk result (λ m. (v : V) → HasPlaces m (seen pairs.now.items ++ (string_bytes key.now, v) ∷ [])) }
+{
+    let mut places = HashMap::with_capacity(alloc, pairs.capacity())?;
+    for i in 0..pairs.len() {
+        add(&mut places, &pairs[i].key, i)?;
+    }
+    add(&mut places, key, pairs.len())?;
+    Ok(places)
+}
+
+// Makes the place of one more key, where there is a map or begins to be.
+pub(crate) fn place_next<V>(
+    alloc: Global,
+    places: &mut Option<Box<HashMap<String, usize>>>,
+    pairs: &Vec<Pair<V>>,
+    key: &String,
+) -> Result<(), AllocError>
+    requires indexed { IsIndexed (seen pairs.now.items) places.old }
+    requires absent { place_of (string_bytes key.now) (seen pairs.now.items) ≡ None }
+    ensures ok { OnOk result ((v : V) → IsIndexed (seen pairs.now.items ++ (string_bytes key.now, v) ∷ []) places.new) }
+    ensures err { OnErr result (IsIndexed (seen pairs.now.items) places.new) }
+{
+    if let Some(map) = places {
+        return add(map, key, pairs.len());
+    }
+    if pairs.len() == FEW {
+        let map = Box::new(alloc, index_all(alloc, pairs, key)?)?;
+        *places = Some(map);
+    }
+    Ok(())
+}
+
+// Lowers by one each place behind the one that was left.
+fn lower<V>(places: &mut HashMap<String, usize>, pairs: &Vec<Pair<V>>, at: usize)
+    requires distinct { HasDistinctKeys (seen pairs.now.items) }
+    requires raised { (k : List ℕ) → get_by_text places.old k ≡ option_map (raise at) (place_of k (seen pairs.now.items)) }
+    ensures { HasPlaces places.new (seen pairs.now.items) }
+{
+    for i in at..pairs.len() {
+        match places.get_mut(pairs[i].key.as_str()) {
+            Some(place) => *place = i,
+            None => {}
+        }
+    }
+}
+
+// Takes out the place of a key that was taken out, and drops the map where eight keys are left.
+pub(crate) fn take_place<V>(
+    places: &mut Option<Box<HashMap<String, usize>>>,
+    pairs: &Vec<Pair<V>>,
+    key: &str,
+    at: usize,
+)
+    requires { (ps : List (List ℕ × V)) × (v : V) × (slice_get ps at ≡ Some (key.now, v)) × (seen pairs.now.items ≡ remove ps at) × IsIndexed ps places.old }
+    ensures { IsIndexed (seen pairs.now.items) places.new }
+{
+    if pairs.len() <= FEW {
+        *places = None;
+    } else {
+        match places {
+            Some(map) => {
+                map.remove(key);
+                lower(map, pairs, at);
+            }
+            None => {}
+        }
+    }
+}

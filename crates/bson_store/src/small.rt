@@ -1,0 +1,156 @@
+//! The store that indexes its keys only where there are many.
+ghost use Rattle.std.specs.Prelude.{◌≡◌, [], IfOk};
+ghost use Rattle.bson_store.specs.Pairs.{HasDistinctKeys};
+
+use crate::pair_store::PairStore;
+use crate::places::{find_in, place_next, take_place};
+use crate::small_into_pairs::SmallIntoPairs;
+use std::alloc::{AllocError, Global};
+use std::collections::HashMap;
+use std::marker::Model;
+
+// A key and its value.
+#[derive(Drop)]
+pub(crate) struct Pair<V> {
+    pub(crate) key: String,
+    pub(crate) value: V,
+}
+
+/// A store whose pairs stand in one `Vec`, and above eight of them beside a map from each key to its place.
+///
+/// Up to eight pairs take one block of memory, and a key is found by a walk. Above that a key is found in constant time, and the map holds a copy of each key. A pair is taken out in time in proportion to those behind it, without memory.
+pub struct SmallPairs<V> {
+    pairs: Vec<Pair<V>>,
+    places: Option<Box<HashMap<String, usize>>>,
+}
+
+impl<V> Model for SmallPairs<V> {
+    ghost use Rattle.std.specs.Prelude.{ℕ, List};
+    ghost use Rattle.bson_store.specs.Pairs.{pairs_code};
+    ghost use Rattle.bson_store.specs.Small.{seen, IsIndexed};
+
+    ghost Value = { List (List ℕ × V) };
+
+    ghost coded = { pairs_code V.code };
+
+    ghost view = { λ a. seen a.pairs.items };
+
+    ghost invariant = { λ a. IsIndexed (seen a.pairs.items) a.places };
+}
+
+impl<V: Drop> Drop for SmallPairs<V> {
+    fn drop(self) {
+        let SmallPairs { pairs, places } = self;
+        drop(pairs);
+        drop(places);
+    }
+}
+
+impl<V> SmallPairs<V> {
+    /// A store of no pairs, which has taken no memory yet.
+    pub fn new(alloc: Global) -> SmallPairs<V>
+        ensures { result ≡ [] }
+    {
+        SmallPairs {
+            pairs: Vec::new(alloc),
+            places: None,
+        }
+    }
+
+    /// A store of no pairs, with room for so many. The map of more than eight is made at the ninth.
+    pub fn with_capacity(alloc: Global, pairs: usize) -> Result<SmallPairs<V>, AllocError>
+    where
+        V: Drop,
+        ensures { IfOk result (λ store. store ≡ []) }
+    {
+        Ok(
+            SmallPairs {
+                pairs: Vec::with_capacity(alloc, pairs)?,
+                places: None,
+            },
+        )
+    }
+
+    /// The pairs by value, in their order.
+    pub fn into_pairs(self) -> SmallIntoPairs<V>
+    where
+        V: Drop,
+        ensures pairs { result ≡ self }
+        ensures distinct { HasDistinctKeys self }
+    {
+        let SmallPairs { pairs, places } = self;
+        drop(places);
+        SmallIntoPairs::new(pairs.into_iter())
+    }
+
+    /// The allocator that the store takes its memory from.
+    pub fn allocator(&self) -> Global {
+        *self.pairs.allocator()
+    }
+}
+
+impl<V: Drop> PairStore<V> for SmallPairs<V> {
+    ghost use Rattle.std.proofs.Common.{refl};
+    ghost use Rattle.bson_store.specs.Pairs.{with_value};
+
+    ghost pairs = { λ s. s };
+
+    ghost with_value_at = { with_value };
+
+    ghost writes = { λ s i w. refl };
+
+    fn len(&self) -> usize {
+        self.pairs.len()
+    }
+
+    fn find(&self, key: &str) -> Option<usize> {
+        match &self.places {
+            Some(places) => places.get(key).copied(),
+            None => find_in(&self.pairs, key),
+        }
+    }
+
+    fn key_at(&self, at: usize) -> &String {
+        &self.pairs[at].key
+    }
+
+    fn value_at(&self, at: usize) -> &V {
+        &self.pairs[at].value
+    }
+
+    fn value_at_mut(&mut self, at: usize) -> &mut V {
+        let pair = &mut self.pairs[at];
+        &mut pair.value
+    }
+
+    fn pair_at_mut(&mut self, at: usize) -> (&String, &mut V) {
+        let pair = &mut self.pairs[at];
+        (&pair.key, &mut pair.value)
+    }
+
+    fn push(&mut self, key: String, value: V) -> Result<(), (String, V)> {
+        // With room for the pair and its place made, nothing can refuse.
+        let alloc = *self.pairs.allocator();
+        if self.pairs.reserve(1).is_err() {
+            return Err((key, value));
+        }
+        if place_next(alloc, &mut self.places, &self.pairs, &key).is_err() {
+            return Err((key, value));
+        }
+        match self.pairs.push(Pair { key, value }) {
+            Ok(()) => Ok(()),
+            Err(_) => unreachable!(),
+        }
+    }
+
+    fn remove_at(&mut self, at: usize) -> (String, V) {
+        let Pair { key, value } = self.pairs.remove(at);
+        take_place(&mut self.places, &self.pairs, key.as_str(), at);
+        (key, value)
+    }
+
+    fn clear(&mut self) {
+        self.pairs.clear();
+        self.places = None;
+    }
+}

@@ -1,0 +1,51 @@
+//! The pairs of a small store, by value.
+ghost use Rattle.std.specs.Prelude.{◌≡◌};
+ghost use Rattle.bson_store.specs.Small.{seen};
+
+use crate::small::Pair;
+use std::marker::Model;
+use std::vec;
+
+/// An iterator over the pairs of a store, by value and in their order; `SmallPairs::into_pairs` makes it.
+#[derive(Drop)]
+pub struct SmallIntoPairs<V> {
+    pairs: vec::IntoIter<Pair<V>>,
+}
+
+// The pairs that are still to come.
+impl<V> Model for SmallIntoPairs<V> {
+    ghost use Rattle.std.specs.Prelude.{ℕ, List};
+    ghost use Rattle.bson_store.specs.Pairs.{pairs_code};
+    ghost use Rattle.bson_store.specs.Small.{seen};
+
+    ghost Value = { List (List ℕ × V) };
+
+    ghost coded = { pairs_code V.code };
+
+    ghost view = { λ a. seen a.pairs.rest.items };
+}
+
+impl<V> SmallIntoPairs<V> {
+    pub(crate) fn new(pairs: vec::IntoIter<Pair<V>>) -> SmallIntoPairs<V>
+        ensures { result ≡ seen pairs.rest.items }
+    {
+        SmallIntoPairs { pairs }
+    }
+}
+
+impl<V: Drop> Iterator for SmallIntoPairs<V> {
+    type Item = (String, V);
+
+    ghost use Rattle.std.specs.Prelude.{length, string_bytes};
+    ghost use Rattle.std.specs.Iterator.{at_most};
+    ghost use Rattle.std.specs.Map.Iter.{TakesFirst};
+
+    ghost next_gives = { TakesFirst (λ p. (string_bytes p.0, p.1)) };
+
+    ghost remaining = { λ s. at_most (length s) };
+
+    fn next(&mut self) -> Option<(String, V)> {
+        let Pair { key, value } = self.pairs.next()?;
+        Some((key, value))
+    }
+}
