@@ -15,7 +15,7 @@ use Rattle.serde_json.specs.Written.{number_text, outline, items_outline, member
 use Rattle.serde_json.proofs.Numbers.{number_of-decimal, number_of-negative}
 use Rattle.serde_json.proofs.Texts.{print-outline}
 use Rattle.bson_model.specs.Texts.{NumberFits, IsBelow, Ascends, IsTree, ItemsAreTrees, MembersAreTrees, HasOwnText}
-use Rattle.bson_model.proofs.PutLaws.{cmp, flipped}
+use Rattle.bson_model.proofs.PutSwap.{cmp, flipped}
 
 -- ---- the tokens of the text are those of the tree
 

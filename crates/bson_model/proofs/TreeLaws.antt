@@ -18,7 +18,7 @@ use Rattle.bson_leaf.specs.declared.form.Form.TheVariants.{Canonical, Relaxed}
 use Rattle.bson_model.specs.Texts.{IsBelow, Ascends, IsTree, ItemsAreTrees, MembersAreTrees}
 use Rattle.bson_model.specs.Value.{Value, scalar, code_scope, array, document, Values, no_values, value, Pairs, no_pairs, pair}
 use Rattle.bson_model.specs.Writing.{InRange, ItemsInRange, PairsInRange, writes, writes_items, writes_pairs}
-use Rattle.bson_model.proofs.PutLaws.{cmp, flipped}
+use Rattle.bson_model.proofs.PutSwap.{cmp, flipped}
 
 bind_ok : {A B : Type 0} (r : Result A Refusal) (f : A → Result B Refusal) (y : B) → (r >>= f) ≡ Ok y → (x : A) × (r ≡ Ok x) × (f x ≡ Ok y)
 bind_ok (Ok x) f y h = (x, refl, h)

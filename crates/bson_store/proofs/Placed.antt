@@ -183,7 +183,7 @@ module _ {V : Type 0} where
   pub value-there : (qs : List (List ℕ × V)) (i : ℕ) (p : List ℕ × V) → slice_get qs i ≡ Some p → Some p.1 ≡ slice_get (values qs) i
   value-there qs i p e = sym (slice_get-map (λ x. x.1) qs i ∙ ap (option_map (λ x. x.1)) e)
 
-  pub seen-set : (ps : List (Pair V)) (i : ℕ) (p : Pair V) (w : V) → i < length ps → p ≡ get_or ps i p → seen (set ps i (record { key = p.key; value = w })) ≡ with_value (seen ps) i w
+  seen-set : (ps : List (Pair V)) (i : ℕ) (p : Pair V) (w : V) → i < length ps → p ≡ get_or ps i p → seen (set ps i (record { key = p.key; value = w })) ≡ with_value (seen ps) i w
   seen-set [] i p w l h = refl
   seen-set (q ∷ ps) zero p w l h = ap (λ x. (string_bytes x.key, w) ∷ seen ps) h
   seen-set (q ∷ ps) (suc i) p w l h = ap (λ r. (string_bytes q.key, q.value) ∷ r) (seen-set ps i p w (omega (arith, l)) h)
@@ -192,8 +192,15 @@ module _ {V : Type 0} where
   placed-with ps None i w h = omega (arith, h, length-with_value ps i w)
   placed-with ps (Some m) i w h = (omega (arith, h.0, length-with_value ps i w), λ k. h.1 k ∙ sym (place-with_value ps i w k))
 
-  pub indexed-with : (ps : List (List ℕ × V)) (o : Index) (i : ℕ) (w : V) → IsIndexed ps o → IsIndexed (with_value ps i w) o
+  indexed-with : (ps : List (List ℕ × V)) (o : Index) (i : ℕ) (w : V) → IsIndexed ps o → IsIndexed (with_value ps i w) o
   indexed-with ps o i w h = (subst (IsDistinct bytes_eq) (sym (keys-with_value ps i w)) h.0, placed-with ps o i w h.1)
+
+  -- a value written at a place of the fields
+  pub written : (ps : List (Pair V)) (qs : List (List ℕ × V)) (i : ℕ) (p : Pair V) (w : V) → seen ps ≡ qs → i < length qs → p ≡ get_or ps i p → seen (set ps i (record { key = p.key; value = w })) ≡ with_value qs i w
+  written ps qs i p w e l h = seen-set ps i p w (omega (arith, l, ap length e, length-seen ps)) h ∙ ap (λ r. with_value r i w) e
+
+  pub indexed-written : (ps : List (Pair V)) (qs : List (List ℕ × V)) (o : Index) (i : ℕ) (p : Pair V) (w : V) → seen ps ≡ qs → i < length qs → p ≡ get_or ps i p → IsIndexed (seen ps) o → IsIndexed (seen (set ps i (record { key = p.key; value = w }))) o
+  indexed-written ps qs o i p w e l h is = subst (λ r. IsIndexed r o) (sym (written ps qs i p w e l h)) (indexed-with qs o i w (subst (λ r. IsIndexed r o) e is))
 
   -- a walk
   pub absent-next : (k : List ℕ) (ps : List (List ℕ × V)) (p : List ℕ × V) → place_of k ps ≡ None → bytes_eq k p.0 ≡ false → place_of k (ps ++ p ∷ []) ≡ None
