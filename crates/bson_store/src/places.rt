@@ -27,11 +27,7 @@ pub(crate) fn find_in<V>(pairs: &Vec<Pair<V>>, key: &str) -> Option<usize>
 }
 
 // Puts a copy of the key in the map, at the place.
-fn add(
-    places: &mut HashMap<String, usize>,
-    key: &String,
-    at: usize,
-) -> Result<(), AllocError>
+fn add(places: &mut HashMap<String, usize>, key: &String, at: usize) -> Result<(), AllocError>
     ensures ok { OnOk result ((k : List ℕ) → get_by_text places.new k ≡ update bytes_eq (get_by_text places.old) (string_bytes key.now) (Some at) k) }
     ensures err { OnErr result ((k : List ℕ) → get_by_text places.new k ≡ get_by_text places.old k) }
 {

@@ -63,12 +63,10 @@ impl<V> SmallPairs<V> {
         V: Drop,
         ensures { IfOk result (λ store. store ≡ []) }
     {
-        Ok(
-            SmallPairs {
-                pairs: Vec::with_capacity(alloc, pairs)?,
-                places: None,
-            },
-        )
+        Ok(SmallPairs {
+            pairs: Vec::with_capacity(alloc, pairs)?,
+            places: None,
+        })
     }
 
     /// The pairs by value, in their order.

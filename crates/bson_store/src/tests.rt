@@ -304,11 +304,7 @@ const REPLIES: [Option<u32>; 13] = [
     None,
 ];
 
-fn replays<S: PairStore<u32>>(
-    rt: &impl Abort,
-    alloc: Global,
-    store: &mut S,
-) -> Result<(), Fail> {
+fn replays<S: PairStore<u32>>(rt: &impl Abort, alloc: Global, store: &mut S) -> Result<(), Fail> {
     let mut before_clear = commands(alloc)?;
     before_clear.truncate(12);
     let replies = replay(alloc, store, before_clear)?;
