@@ -1,6 +1,7 @@
 -- The places of keys, as pairs come and go.
 use Rattle.std.proofs.Common.{◌≡◌, ℕ, zero, suc, ◌+◌, ◌<◌, ◌≤◌, Bool, true, false, cond, List, [], ◌∷◌, ◌++◌, take, remove, option_map, length, length-take-le, get_or, set, Result, Ok, Err, OnOk, Option, None, Some, slice_get, string_bytes, refl, sym, ap, subst, ◌∙◌, true≢false, arith}
 use Rattle.std.specs.Cmp.Lexicographic.{nat_list_eq_equiv}
+use lib.ListN.{length-map}
 use Rattle.std.specs.List.{IsDistinct, AllByRecursion}
 use Rattle.std.specs.Map.{update}
 use Rattle.std.specs.Str.{bytes_eq}
@@ -41,7 +42,7 @@ later_out false false i r None h e = ap (option_map suc) e
 later_out false false i r (Some j) h e = ap (option_map suc) e
 
 module _ {V : Type 0} where
-  pub place-push : (ps : List (List ℕ × V)) (l : List ℕ) (v : V) → place_of l ps ≡ None → (k : List ℕ) → place_of k (ps ++ (l, v) ∷ []) ≡ update bytes_eq (λ q. place_of q ps) l (Some (length ps)) k
+  place-push : (ps : List (List ℕ × V)) (l : List ℕ) (v : V) → place_of l ps ≡ None → (k : List ℕ) → place_of k (ps ++ (l, v) ∷ []) ≡ update bytes_eq (λ q. place_of q ps) l (Some (length ps)) k
   place-push [] l v none k = ap (λ b. cond b (Some 0) None) (swapped k l)
   place-push (p ∷ ps) l v none k =
       let h = none_at _ _ none in
@@ -136,14 +137,10 @@ module _ {V : Type 0} where
   lowered_all ps n le k = within_all n (place_of k ps) (λ i e. omega (arith, le, place-within k ps i e))
 
   -- the list seen
-  pub seen-at : (ps : List (Pair V)) (i : ℕ) (p : Pair V) → slice_get ps i ≡ Some p → slice_get (seen ps) i ≡ Some (string_bytes p.key, p.value)
+  seen-at : (ps : List (Pair V)) (i : ℕ) (p : Pair V) → slice_get ps i ≡ Some p → slice_get (seen ps) i ≡ Some (string_bytes p.key, p.value)
   seen-at [] i p e = cc
   seen-at (q ∷ ps) zero p e = let one : q ≡ p = cc in ap (λ x. Some (string_bytes x.key, x.value)) one
   seen-at (q ∷ ps) (suc i) p e = seen-at ps i p e
-
-  pub seen-push : (ps : List (Pair V)) (p : Pair V) → seen (ps ++ p ∷ []) ≡ seen ps ++ (string_bytes p.key, p.value) ∷ []
-  seen-push [] p = refl
-  seen-push (q ∷ ps) p = ap (λ l. (string_bytes q.key, q.value) ∷ l) (seen-push ps p)
 
   pub seen-remove : (ps : List (Pair V)) (i : ℕ) → seen (remove ps i) ≡ remove (seen ps) i
   seen-remove [] zero = refl
@@ -152,21 +149,20 @@ module _ {V : Type 0} where
   seen-remove (q ∷ ps) (suc i) = ap (λ l. (string_bytes q.key, q.value) ∷ l) (seen-remove ps i)
 
   pub length-seen : (ps : List (Pair V)) → length (seen ps) ≡ length ps
-  length-seen [] = refl
-  length-seen (p ∷ ps) = ap suc (length-seen ps)
+  length-seen ps = length-map ps (λ p. (string_bytes p.key, p.value))
 
   -- a value written
-  pub keys-with_value : (ps : List (List ℕ × V)) (i : ℕ) (w : V) → keys (with_value ps i w) ≡ keys ps
+  keys-with_value : (ps : List (List ℕ × V)) (i : ℕ) (w : V) → keys (with_value ps i w) ≡ keys ps
   keys-with_value [] i w = refl
   keys-with_value (p ∷ ps) zero w = refl
   keys-with_value (p ∷ ps) (suc i) w = ap (λ l. p.0 ∷ l) (keys-with_value ps i w)
 
-  pub place-with_value : (ps : List (List ℕ × V)) (i : ℕ) (w : V) (k : List ℕ) → place_of k (with_value ps i w) ≡ place_of k ps
+  place-with_value : (ps : List (List ℕ × V)) (i : ℕ) (w : V) (k : List ℕ) → place_of k (with_value ps i w) ≡ place_of k ps
   place-with_value [] i w k = refl
   place-with_value (p ∷ ps) zero w k = refl
   place-with_value (p ∷ ps) (suc i) w k = ap (λ r. cond (bytes_eq k p.0) (Some 0) (option_map suc r)) (place-with_value ps i w k)
 
-  pub length-with_value : (ps : List (List ℕ × V)) (i : ℕ) (w : V) → length (with_value ps i w) ≡ length ps
+  length-with_value : (ps : List (List ℕ × V)) (i : ℕ) (w : V) → length (with_value ps i w) ≡ length ps
   length-with_value [] i w = refl
   length-with_value (p ∷ ps) zero w = refl
   length-with_value (p ∷ ps) (suc i) w = ap suc (length-with_value ps i w)
@@ -214,12 +210,6 @@ module _ {V : Type 0} where
       let both = none_at _ _ none in
       ap (λ b. cond b (Some 0) (option_map suc (place_of k ps))) both.0 ∙ ap (option_map suc) (found-first k ps i p both.1 e h)
 
-  pub take-all : (ps : List (List ℕ × V)) (n : ℕ) → length ps ≤ n → take n ps ≡ ps
-  take-all [] zero h = refl
-  take-all [] (suc n) h = refl
-  take-all (p ∷ ps) zero h = absurd (omega (arith, h))
-  take-all (p ∷ ps) (suc n) h = ap (λ l. p ∷ l) (take-all ps n (omega (arith, h)))
-
   -- one more key in the map
   pub indexed-next : (ps : List (List ℕ × V)) (i : ℕ) (p : List ℕ × V) (f : List ℕ → Option ℕ) → HasDistinctKeys ps → i < length ps → slice_get ps i ≡ Some p → ((k : List ℕ) → f k ≡ place_of k (take i ps))
       → (k : List ℕ) → update bytes_eq f p.0 (Some i) k ≡ place_of k (take (i + 1) ps)
@@ -230,16 +220,6 @@ module _ {V : Type 0} where
   pub indexed-last : (ps : List (List ℕ × V)) (l : List ℕ) (v : V) (n : ℕ) (f g : List ℕ → Option ℕ) → place_of l ps ≡ None → n ≡ length ps → ((k : List ℕ) → f k ≡ place_of k ps)
       → ((k : List ℕ) → g k ≡ update bytes_eq f l (Some n) k) → (k : List ℕ) → g k ≡ place_of k (ps ++ (l, v) ∷ [])
   indexed-last ps l v n f g none e h u k = u k ∙ (λ j. cond (bytes_eq l k) (Some (e j)) (h k j)) ∙ sym (place-push ps l v none k)
-
-  pub length-more : (ps : List (List ℕ × V)) (p : List ℕ × V) → length (ps ++ p ∷ []) ≡ suc (length ps)
-  length-more [] p = refl
-  length-more (q ∷ ps) p = ap suc (length-more ps p)
-
-  pub length-less : (ps : List (List ℕ × V)) (i : ℕ) → length (remove ps i) ≤ length ps
-  length-less [] zero = omega arith
-  length-less [] (suc i) = omega arith
-  length-less (q ∷ ps) zero = omega arith
-  length-less (q ∷ ps) (suc i) = omega (arith, length-less ps i)
 
 pub on_ok : {A E : Type 0} (r : Result A E) {P Q : Type 0} → (P → Q) → OnOk r P → OnOk r Q
 on_ok (Ok x) f p = f p

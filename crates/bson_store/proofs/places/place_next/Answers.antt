@@ -1,7 +1,8 @@
 use Rattle.std.proofs.Common.{◌≡◌, ◌≤◌, [], ◌∷◌, ◌++◌, length, string_bytes, subst, sym, ap, ◌∙◌, arith}
+use Rattle.std.proofs.lemmas.List.{length-append}
 use Rattle.std.specs.HashMap.{get_by_text}
 use Rattle.bson_store.specs.Small.{seen, IsPlaced}
-use Rattle.bson_store.proofs.Placed.{length-seen, length-more, distinct-push, indexed-last, on_ok, none_if}
+use Rattle.bson_store.proofs.Placed.{length-seen, distinct-push, indexed-last, on_ok, none_if}
 use Rattle.bson_store.proofs.places.place_next.Goals as goal
 
 pub returns-in-Some-clause-ok : goal.returns-in-Some-clause-ok
@@ -13,7 +14,7 @@ returns-in-Some-clause-ok g c =
     on_ok c.add.result
     (λ made v. (
       distinct-push ps k v c.requires.indexed.0 c.requires.absent,
-      (omega (arith, old.0, length-more ps (k, v)), indexed-last ps k v c.len.result (get_by_text c.deref_mut.result.now) (get_by_text c.add.new.places) c.requires.absent n (λ q. ap (λ m. get_by_text m q) c.deref_mut.ensures.value ∙ old.1 q) made),
+      (omega (arith, old.0, length-append ps ((k, v) ∷ [])), indexed-last ps k v c.len.result (get_by_text c.deref_mut.result.now) (get_by_text c.add.new.places) c.requires.absent n (λ q. ap (λ m. get_by_text m q) c.deref_mut.ensures.value ∙ old.1 q) made),
     ))
     c.add.ensures.ok
 
@@ -21,7 +22,7 @@ pub returns-in_ok-map-clause-ok : goal.returns-in_ok-map-clause-ok
 returns-in_ok-map-clause-ok g c = λ v.
     let ps = seen c.args.pairs.now.items in
     let k = string_bytes c.args.key.now in
-    (distinct-push ps k v c.requires.indexed.0 c.requires.absent, (omega (arith, c.if-len-eq-FEW.true, c.len-2.ensures, c.args.pairs.now.ok.0, length-seen c.args.pairs.now.items, length-more ps (k, v)), λ q. ap (λ m. get_by_text m q) c.in_ok-map.ensures.ok ∙ c.in_ok-index_all.ensures v q))
+    (distinct-push ps k v c.requires.indexed.0 c.requires.absent, (omega (arith, c.if-len-eq-FEW.true, c.len-2.ensures, c.args.pairs.now.ok.0, length-seen c.args.pairs.now.items, length-append ps ((k, v) ∷ [])), λ q. ap (λ m. get_by_text m q) c.in_ok-map.ensures.ok ∙ c.in_ok-index_all.ensures v q))
 
 pub returns-else-len-eq-FEW-clause-ok : goal.returns-else-len-eq-FEW-clause-ok
 returns-else-len-eq-FEW-clause-ok g c = λ v.
@@ -30,4 +31,4 @@ returns-else-len-eq-FEW-clause-ok g c = λ v.
     let none = none_if c.args.places.now c.in_default.not-Some in
     let le : length ps ≤ 8 = subst (IsPlaced ps) none c.requires.indexed.1 in
     let more : length ps ≡ 8 → ⊥ = λ e. c.if-len-eq-FEW.false (omega (arith, e, c.len-2.ensures, c.args.pairs.now.ok.0, length-seen c.args.pairs.now.items)) in
-    (distinct-push ps k v c.requires.indexed.0 c.requires.absent, subst (IsPlaced (ps ++ (k, v) ∷ [])) (sym none) (omega (arith, le, more, length-more ps (k, v))))
+    (distinct-push ps k v c.requires.indexed.0 c.requires.absent, subst (IsPlaced (ps ++ (k, v) ∷ [])) (sym none) (omega (arith, le, more, length-append ps ((k, v) ∷ []))))
