@@ -54,6 +54,8 @@ class Edit:
     pairs: list[tuple[str, str, str]] = field(default_factory=list)
     goals: set[tuple[str, str]] = field(default_factory=set)
     sites: set[Site] = field(default_factory=set)
+    # Whether it changes what no function owns, as a definition or a constant, on which others may rest.
+    is_wide: bool = False
 
     def __str__(self) -> str:
         return "/".join(self.path.split("/")[-3::2])
@@ -70,6 +72,8 @@ class Edit:
 
     def fits(self, other: "Edit") -> bool:
         """Whether a check of both tells them apart: they change different functions, or each names other goals."""
+        if self.is_wide or other.is_wide:
+            return False
         if self.goals and other.goals and all(goal for _, goal in self.goals | other.goals):
             return not self.goals & other.goals
         named = [(self, path) for path, _ in other.goals] + [(other, path) for path, _ in self.goals]
@@ -94,9 +98,11 @@ def edit_of(rt, path: str, folder: str) -> tuple[Edit, str]:
     why = rt.read_edit(path, folder)[1] or ""
     for file, old, _ in [] if why else edit.pairs:
         text = read(f"{folder}/{file}")
-        if file.startswith("src/") and old in text:
-            site = site_at(file[4:-3], text, text.count("\n", 0, text.index(old)) + 1)
+        if old in text:
+            line = text.count("\n", 0, text.index(old)) + 1
+            site = site_at(file[4:-3], text, line) if file.startswith("src/") else None
             edit.sites |= {site} if site else set()
+            edit.is_wide = edit.is_wide or site is None
     if not why and not edit.sites and not edit.goals:
         why = "it changes no function: a line 'goal: FUNCTION' names the one that must be refused"
     return edit, why
