@@ -1,8 +1,6 @@
 -- The texts of lists and documents by those of what they hold.
 use Rattle.std.proofs.Common.{◌≡◌, ℕ, ◌<◌, ◌-◌, ◌^◌, false, append-nil, arith, List, [], ◌∷◌, ◌++◌, length, map, codes, refl, sym, ap, ◌∙◌}
-use Rattle.std.specs.Fmt.{padded_integral, format_spec, digits, char_count}
 use Rattle.std.specs.List.{join_by}
-use Rattle.bson_leaf.specs.Shown.{sixteen_digits}
 use Rattle.bson_model.specs.Value.{array, document}
 use Rattle.bson_model.specs.Shown.{shown, items_shown, entries_shown, enclosed, entry}
 use Rattle.bson_model.specs.Pretty.{pretty, item_lines, entry_lines, blanks, inner, closing}
@@ -10,11 +8,6 @@ use Rattle.bson.specs.View.{bson_view, values_view, pairs_view}
 use Rattle.bson.specs.declared.bson.Bson.{Bson}
 use Rattle.bson.proofs.Joined.{enclosed_all}
 use Rattle.bson.proofs.Onto.{Entry}
-
--- `{p:016x}` writes sixteen digits
-pub sixteen : (p : ℕ) → padded_integral (format_spec 32 0 4 16 (2 ^ 64 - 1)) false [] (digits 16 false p) ≡ sixteen_digits p
-unfolding padded_integral char_count
-sixteen p = let none : 16 - length (digits 16 false p) - 0 - 0 ≡ 16 - length (digits 16 false p) = omega arith in rw (none, append-nil (digits 16 false p)) refl
 
 abbrev pub item_shown : Bson → List ℕ
 item_shown v = shown (bson_view v)

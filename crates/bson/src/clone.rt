@@ -4,6 +4,8 @@ ghost use Rattle.bson.specs.View.{bson_view, scoped_view, values_view, pairs_vie
 
 use crate::bson::{Bson, JavaScriptCodeWithScope};
 use crate::document::Document;
+use crate::extjson::leaf::of_leaf;
+use crate::scalar::scalar_ref;
 use bson_store::{PairStore, SmallPairs};
 use std::alloc::{AllocError, Global};
 
@@ -44,24 +46,7 @@ fn copy(alloc: Global, value: &Bson) -> Result<Bson, AllocError>
         Bson::JavaScriptCodeWithScope(scoped) => Bson::JavaScriptCodeWithScope(copy_scoped(
             alloc, scoped,
         )?),
-        Bson::Null => Bson::Null,
-        Bson::Undefined => Bson::Undefined,
-        Bson::MinKey => Bson::MinKey,
-        Bson::MaxKey => Bson::MaxKey,
-        Bson::Boolean(b) => Bson::Boolean(*b),
-        Bson::Double(pattern) => Bson::Double(*pattern),
-        Bson::Int32(z) => Bson::Int32(*z),
-        Bson::Int64(z) => Bson::Int64(*z),
-        Bson::String(text) => Bson::String(String::from_str(alloc, text.as_str())?),
-        Bson::Symbol(text) => Bson::Symbol(String::from_str(alloc, text.as_str())?),
-        Bson::JavaScriptCode(code) => Bson::JavaScriptCode(String::from_str(alloc, code.as_str())?),
-        Bson::RegularExpression(regex) => Bson::RegularExpression(regex.clone(alloc)?),
-        Bson::Timestamp(stamp) => Bson::Timestamp(*stamp),
-        Bson::Binary(binary) => Bson::Binary(binary.clone(alloc)?),
-        Bson::ObjectId(id) => Bson::ObjectId(*id),
-        Bson::DateTime(date) => Bson::DateTime(*date),
-        Bson::Decimal128(decimal) => Bson::Decimal128(*decimal),
-        Bson::DbPointer(pointer) => Bson::DbPointer(pointer.clone(alloc)?),
+        value => of_leaf(scalar_ref(value).to_owned(alloc)?),
     })
 }
 

@@ -1,6 +1,7 @@
 //! Texts of values for a reader at a fault: each kind's name, with what it holds. Nothing is promised of them.
 use crate::bson::{Bson, JavaScriptCodeWithScope};
 use crate::document::{Document, Refused};
+use crate::scalar::scalar_ref;
 use bson_store::PairStore;
 use std::fmt;
 
@@ -36,24 +37,7 @@ fn debug<W: fmt::Write>(value: &Bson, f: &mut fmt::Formatter<W>) -> fmt::Result 
         Bson::Array(values) => debug_values(values, f),
         Bson::Document(document) => debug_pairs(document, f),
         Bson::JavaScriptCodeWithScope(scoped) => debug_scoped(scoped, f),
-        Bson::Null => f.write_str("Null"),
-        Bson::Undefined => f.write_str("Undefined"),
-        Bson::MinKey => f.write_str("MinKey"),
-        Bson::MaxKey => f.write_str("MaxKey"),
-        Bson::Boolean(b) => write!(f, "Boolean({b})"),
-        Bson::Double(pattern) => write!(f, "Double({pattern:#x})"),
-        Bson::Int32(z) => write!(f, "Int32({z})"),
-        Bson::Int64(z) => write!(f, "Int64({z})"),
-        Bson::String(text) => write!(f, "String({text:?})"),
-        Bson::Symbol(text) => write!(f, "Symbol({text:?})"),
-        Bson::JavaScriptCode(code) => write!(f, "JavaScriptCode({code:?})"),
-        Bson::RegularExpression(regex) => write!(f, "RegularExpression({regex:?})"),
-        Bson::Timestamp(stamp) => write!(f, "Timestamp({stamp:?})"),
-        Bson::Binary(binary) => write!(f, "Binary({binary:?})"),
-        Bson::ObjectId(id) => write!(f, "ObjectId({id:?})"),
-        Bson::DateTime(date) => write!(f, "DateTime({date})"),
-        Bson::Decimal128(decimal) => write!(f, "Decimal128({decimal})"),
-        Bson::DbPointer(pointer) => write!(f, "DbPointer({pointer:?})"),
+        value => write!(f, "{:?}", scalar_ref(value)),
     }
 }
 

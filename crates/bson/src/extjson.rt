@@ -1,6 +1,6 @@
 //! MongoDB Extended JSON v2.
 pub mod de;
-mod leaf;
+pub(crate) mod leaf;
 mod read;
 pub mod ser;
 mod text;

@@ -6,6 +6,7 @@ ghost use Rattle.bson.specs.View.{bson_view, scoped_view, values_view, pairs_vie
 
 use crate::bson::{Bson, JavaScriptCodeWithScope};
 use crate::document::Document;
+use crate::scalar::scalar_ref;
 use bson_store::PairStore;
 use bson_store::order::next_above;
 use std::hash::{Hash, Hasher};
@@ -64,33 +65,7 @@ fn feed<H: Hasher>(value: &Bson, state: &mut H)
         Bson::Array(items) => feed_items(items, state),
         Bson::Document(document) => feed_pairs(document, state),
         Bson::JavaScriptCodeWithScope(scoped) => feed_scoped(scoped, state),
-        Bson::Null | Bson::Undefined | Bson::MinKey | Bson::MaxKey => {}
-        Bson::Boolean(b) => b.hash(state),
-        Bson::Double(pattern) => pattern.hash(state),
-        Bson::Int32(z) => z.hash(state),
-        Bson::Int64(z) => z.hash(state),
-        Bson::String(text) => text.hash(state),
-        Bson::Symbol(text) => text.hash(state),
-        Bson::JavaScriptCode(code) => code.hash(state),
-        Bson::RegularExpression(regex) => {
-            regex.pattern.hash(state);
-            regex.options.hash(state);
-        }
-        Bson::Timestamp(stamp) => {
-            stamp.time.hash(state);
-            stamp.increment.hash(state);
-        }
-        Bson::Binary(binary) => {
-            binary.subtype.hash(state);
-            binary.bytes.hash(state);
-        }
-        Bson::ObjectId(id) => id.hash(state),
-        Bson::DateTime(date) => date.hash(state),
-        Bson::Decimal128(decimal) => decimal.hash(state),
-        Bson::DbPointer(pointer) => {
-            pointer.namespace().hash(state);
-            pointer.id().hash(state);
-        }
+        value => scalar_ref(value).hash(state),
     }
 }
 

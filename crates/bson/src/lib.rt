@@ -13,6 +13,7 @@ mod hash;
 mod kinds;
 mod pretty;
 mod same;
+mod scalar;
 mod show;
 
 pub use bson::{Array, Bson, JavaScriptCodeWithScope};

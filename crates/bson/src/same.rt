@@ -6,6 +6,7 @@ ghost use Rattle.bson_model.specs.Same.{same, same_items};
 
 use crate::bson::{Bson, JavaScriptCodeWithScope};
 use crate::document::Document;
+use crate::scalar::same_scalars;
 
 impl PartialEq for Bson {
     ghost use Rattle.std.specs.Cmp.{on_per, partial_equiv_from_equiv};
@@ -87,28 +88,7 @@ pub(crate) fn same_values(a: &Bson, b: &Bson) -> bool
         (Bson::Array(x), Bson::Array(y)) => same_lists(x, y),
         (Bson::Document(x), Bson::Document(y)) => x.is_same(y),
         (Bson::JavaScriptCodeWithScope(x), Bson::JavaScriptCodeWithScope(y)) => same_scoped(x, y),
-        (Bson::Null, Bson::Null) => true,
-        (Bson::Undefined, Bson::Undefined) => true,
-        (Bson::MinKey, Bson::MinKey) => true,
-        (Bson::MaxKey, Bson::MaxKey) => true,
-        (Bson::Boolean(x), Bson::Boolean(y)) => *x == *y,
-        (Bson::Double(x), Bson::Double(y)) => *x == *y,
-        (Bson::Int32(x), Bson::Int32(y)) => *x == *y,
-        (Bson::Int64(x), Bson::Int64(y)) => *x == *y,
-        (Bson::String(x), Bson::String(y)) => x == y,
-        (Bson::Symbol(x), Bson::Symbol(y)) => x == y,
-        (Bson::JavaScriptCode(x), Bson::JavaScriptCode(y)) => x == y,
-        (Bson::RegularExpression(x), Bson::RegularExpression(y)) => {
-            x.pattern == y.pattern && x.options == y.options
-        }
-        (Bson::Timestamp(x), Bson::Timestamp(y)) => x.time == y.time && x.increment == y.increment,
-        (Bson::Binary(x), Bson::Binary(y)) => x.subtype == y.subtype && x.bytes == y.bytes,
-        (Bson::ObjectId(x), Bson::ObjectId(y)) => x == y,
-        (Bson::DateTime(x), Bson::DateTime(y)) => x == y,
-        (Bson::Decimal128(x), Bson::Decimal128(y)) => x == y,
-        (Bson::DbPointer(x), Bson::DbPointer(y)) => x.namespace() == y.namespace()
-            && x.id() == y.id(),
-        _ => false,
+        (a, b) => same_scalars(a, b),
     }
 }
 

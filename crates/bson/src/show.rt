@@ -1,13 +1,13 @@
 //! The texts of values on one line.
 ghost use Rattle.std.specs.Prelude.{◌≡◌, ◌==◌, ◌++◌, cond, [], codes};
 ghost use Rattle.std.specs.Fmt.{WritesOnOk};
-ghost use Rattle.bson_leaf.specs.Shown.{sixteen_digits};
 ghost use Rattle.bson_model.specs.Value.{array, document as document_of};
 ghost use Rattle.bson_model.specs.Shown.{shown, entry};
 ghost use Rattle.bson.specs.View.{bson_view, values_view, pairs_view};
 
 use crate::bson::{Bson, JavaScriptCodeWithScope};
 use crate::document::Document;
+use crate::scalar::scalar_ref;
 use bson_store::PairStore;
 use std::fmt;
 
@@ -60,34 +60,8 @@ fn show<W: fmt::Write>(value: &Bson, f: &mut fmt::Formatter<W>) -> fmt::Result
         Bson::Array(items) => show_items(items, f),
         Bson::Document(document) => show_pairs(document, f),
         Bson::JavaScriptCodeWithScope(scoped) => f.write_str(scoped.code.as_str()),
-        Bson::Null => f.write_str("null"),
-        Bson::Undefined => f.write_str("undefined"),
-        Bson::MinKey => f.write_str("MinKey"),
-        Bson::MaxKey => f.write_str("MaxKey"),
-        Bson::Boolean(b) => write!(f, "{b}"),
-        Bson::Double(pattern) => show_double(*pattern, f),
-        Bson::Int32(z) => write!(f, "{z}"),
-        Bson::Int64(z) => write!(f, "{z}"),
-        Bson::String(text) => write!(f, "\"{text}\""),
-        Bson::Symbol(text) => write!(f, "Symbol(\"{text}\")"),
-        Bson::JavaScriptCode(code) => f.write_str(code.as_str()),
-        Bson::RegularExpression(regex) => write!(f, "{regex}"),
-        Bson::Timestamp(stamp) => write!(f, "{stamp}"),
-        Bson::Binary(binary) => write!(f, "{binary}"),
-        Bson::ObjectId(id) => write!(f, "ObjectId(\"{id}\")"),
-        Bson::DateTime(date) => write!(f, "DateTime(\"{date}\")"),
-        Bson::Decimal128(decimal) => write!(f, "{decimal}"),
-        Bson::DbPointer(pointer) => {
-            write!(f, "DbPointer({}, {})", pointer.namespace(), pointer.id())
-        }
+        value => write!(f, "{}", scalar_ref(value)),
     }
-}
-
-// A double by its pattern of bits, in 16 hexadecimal digits.
-fn show_double<W: fmt::Write>(pattern: u64, f: &mut fmt::Formatter<W>) -> fmt::Result
-    ensures { WritesOnOk W.write_str_gives f.old result (codes "Double(0x" ++ sixteen_digits pattern ++ codes ")") f.new }
-{
-    write!(f, "Double(0x{pattern:016x})")
 }
 
 #[cycle(show)]

@@ -23,25 +23,37 @@ key_of MaxKey = codes "$maxKey"
 key_of DbPointer = codes "$dbPointer"
 key_of Undefined = codes "$undefined"
 
+abbrev pub last_wrapper : List ℕ → Option Wrapper
+last_wrapper key =
+    if bytes_eq key (codes "$timestamp") then Some Timestamp
+    else if bytes_eq key (codes "$date") then Some Date
+    else if bytes_eq key (codes "$minKey") then Some MinKey
+    else if bytes_eq key (codes "$maxKey") then Some MaxKey
+    else if bytes_eq key (codes "$undefined") then Some Undefined
+    else None
+
+abbrev pub number_wrapper : List ℕ → Option Wrapper
+number_wrapper key =
+    if bytes_eq key (codes "$numberInt") then Some NumberInt
+    else if bytes_eq key (codes "$numberLong") then Some NumberLong
+    else if bytes_eq key (codes "$numberDouble") then Some NumberDouble
+    else if bytes_eq key (codes "$numberDecimal") then Some NumberDecimal
+    else last_wrapper key
+
+abbrev pub later_wrapper : List ℕ → Option Wrapper
+later_wrapper key =
+    if bytes_eq key (codes "$uuid") then Some Uuid
+    else if bytes_eq key (codes "$code") then Some Code
+    else if bytes_eq key (codes "$dbPointer") then Some DbPointer
+    else number_wrapper key
+
 abbrev pub wrapper_of : List ℕ → Option Wrapper
 wrapper_of key =
     if bytes_eq key (codes "$oid") then Some Oid
     else if bytes_eq key (codes "$symbol") then Some Symbol
     else if bytes_eq key (codes "$regularExpression") then Some RegularExpression
-    else if bytes_eq key (codes "$numberInt") then Some NumberInt
-    else if bytes_eq key (codes "$numberLong") then Some NumberLong
-    else if bytes_eq key (codes "$numberDouble") then Some NumberDouble
-    else if bytes_eq key (codes "$numberDecimal") then Some NumberDecimal
     else if bytes_eq key (codes "$binary") then Some Binary
-    else if bytes_eq key (codes "$uuid") then Some Uuid
-    else if bytes_eq key (codes "$code") then Some Code
-    else if bytes_eq key (codes "$timestamp") then Some Timestamp
-    else if bytes_eq key (codes "$date") then Some Date
-    else if bytes_eq key (codes "$minKey") then Some MinKey
-    else if bytes_eq key (codes "$maxKey") then Some MaxKey
-    else if bytes_eq key (codes "$dbPointer") then Some DbPointer
-    else if bytes_eq key (codes "$undefined") then Some Undefined
-    else None
+    else later_wrapper key
 
 -- whether any key is a wrapper key
 abbrev pub has_wrapper : Members → Bool

@@ -1,6 +1,6 @@
 //! The sixteen wrapper keys of MongoDB Extended JSON v2, and whether an object has one.
 ghost use Rattle.std.specs.Prelude.{◌≡◌, IsTrue, None};
-ghost use Rattle.bson_leaf.specs.Table.{wrapper_of, key_of, has_wrapper};
+ghost use Rattle.bson_leaf.specs.Table.{wrapper_of, later_wrapper, number_wrapper, last_wrapper, key_of, has_wrapper};
 ghost use Rattle.serde_json.specs.View.{members_view};
 
 use serde_json::{Map, Value};
@@ -62,7 +62,33 @@ pub fn named(key: &str) -> Option<Wrapper>
         Some(Wrapper::Symbol)
     } else if key == "$regularExpression" {
         Some(Wrapper::RegularExpression)
-    } else if key == "$numberInt" {
+    } else if key == "$binary" {
+        Some(Wrapper::Binary)
+    } else {
+        named_later(key)
+    }
+}
+
+// Of the keys that are left: binaries, identifiers, code and pointers.
+fn named_later(key: &str) -> Option<Wrapper>
+    ensures { result ≡ later_wrapper key.now }
+{
+    if key == "$uuid" {
+        Some(Wrapper::Uuid)
+    } else if key == "$code" {
+        Some(Wrapper::Code)
+    } else if key == "$dbPointer" {
+        Some(Wrapper::DbPointer)
+    } else {
+        named_number(key)
+    }
+}
+
+// Of the keys that are left: the numbers.
+fn named_number(key: &str) -> Option<Wrapper>
+    ensures { result ≡ number_wrapper key.now }
+{
+    if key == "$numberInt" {
         Some(Wrapper::NumberInt)
     } else if key == "$numberLong" {
         Some(Wrapper::NumberLong)
@@ -70,13 +96,16 @@ pub fn named(key: &str) -> Option<Wrapper>
         Some(Wrapper::NumberDouble)
     } else if key == "$numberDecimal" {
         Some(Wrapper::NumberDecimal)
-    } else if key == "$binary" {
-        Some(Wrapper::Binary)
-    } else if key == "$uuid" {
-        Some(Wrapper::Uuid)
-    } else if key == "$code" {
-        Some(Wrapper::Code)
-    } else if key == "$timestamp" {
+    } else {
+        named_last(key)
+    }
+}
+
+// Of the keys that are left: times, and the kinds of one value.
+fn named_last(key: &str) -> Option<Wrapper>
+    ensures { result ≡ last_wrapper key.now }
+{
+    if key == "$timestamp" {
         Some(Wrapper::Timestamp)
     } else if key == "$date" {
         Some(Wrapper::Date)
@@ -84,8 +113,6 @@ pub fn named(key: &str) -> Option<Wrapper>
         Some(Wrapper::MinKey)
     } else if key == "$maxKey" {
         Some(Wrapper::MaxKey)
-    } else if key == "$dbPointer" {
-        Some(Wrapper::DbPointer)
     } else if key == "$undefined" {
         Some(Wrapper::Undefined)
     } else {

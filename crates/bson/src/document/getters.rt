@@ -26,7 +26,8 @@ pub type ValueAccessResult<T> = Result<T, ValueAccessError>;
 
 impl Document {
     ghost use Rattle.std.specs.Prelude.{◌≡◌};
-    ghost use Rattle.std.specs.Borrow.{LendsIfOk, sem};
+    ghost use Rattle.std.specs.Borrow.{sem};
+    ghost use Rattle.bson.specs.Lends.{LendsAtKey};
     ghost use Rattle.bson_store.specs.Pairs.{get, put};
     ghost use Rattle.bson.specs.declared.bson.Bson.TheVariants as value;
     ghost use Rattle.bson.specs.KindRows.{array_row, boolean_row, bytes_row, date_row, decimal_row, double_row, int32_row, int64_row, object_id_row, string_row, timestamp_row};
@@ -42,7 +43,7 @@ impl Document {
 
     /// The pattern of the double at the key, to write.
     pub fn get_f64_mut(&mut self, key: &str) -> ValueAccessResult<&mut u64>
-        ensures* writes_back { sem 𝓛 (LendsIfOk document_row double_row self.entry result (λ w. record { pairs = put key.now (value.Double w) self.old.pairs }) self.old) }
+        ensures* writes_back { sem 𝓛 (LendsAtKey double_row value.Double self.entry self.old key.now result) }
         ensures value { ok_copied_mut result ≡ accessed double_of (get key.now self.old.pairs) }
     {
         self.kind_at_mut::<u64>(key)
@@ -58,7 +59,7 @@ impl Document {
 
     /// The string at the key, to write.
     pub fn get_str_mut(&mut self, key: &str) -> ValueAccessResult<&mut String>
-        ensures* writes_back { sem 𝓛 (LendsIfOk document_row string_row self.entry result (λ w. record { pairs = put key.now (value.String w) self.old.pairs }) self.old) }
+        ensures* writes_back { sem 𝓛 (LendsAtKey string_row value.String self.entry self.old key.now result) }
         ensures value { ok_copied_mut result ≡ accessed string_of (get key.now self.old.pairs) }
     {
         self.kind_at_mut::<String>(key)
@@ -73,7 +74,7 @@ impl Document {
 
     /// The list at the key, to write.
     pub fn get_array_mut(&mut self, key: &str) -> ValueAccessResult<&mut Array>
-        ensures* writes_back { sem 𝓛 (LendsIfOk document_row array_row self.entry result (λ w. record { pairs = put key.now (value.Array w) self.old.pairs }) self.old) }
+        ensures* writes_back { sem 𝓛 (LendsAtKey array_row value.Array self.entry self.old key.now result) }
         ensures value { ok_copied_mut result ≡ accessed array_of (get key.now self.old.pairs) }
     {
         self.kind_at_mut::<Array>(key)
@@ -105,7 +106,7 @@ impl Document {
 
     /// The truth value at the key, to write.
     pub fn get_bool_mut(&mut self, key: &str) -> ValueAccessResult<&mut bool>
-        ensures* writes_back { sem 𝓛 (LendsIfOk document_row boolean_row self.entry result (λ w. record { pairs = put key.now (value.Boolean w) self.old.pairs }) self.old) }
+        ensures* writes_back { sem 𝓛 (LendsAtKey boolean_row value.Boolean self.entry self.old key.now result) }
         ensures value { ok_copied_mut result ≡ accessed boolean_of (get key.now self.old.pairs) }
     {
         self.kind_at_mut::<bool>(key)
@@ -120,7 +121,7 @@ impl Document {
 
     /// The number of 32 bits at the key, to write.
     pub fn get_i32_mut(&mut self, key: &str) -> ValueAccessResult<&mut i32>
-        ensures* writes_back { sem 𝓛 (LendsIfOk document_row int32_row self.entry result (λ w. record { pairs = put key.now (value.Int32 w) self.old.pairs }) self.old) }
+        ensures* writes_back { sem 𝓛 (LendsAtKey int32_row value.Int32 self.entry self.old key.now result) }
         ensures value { ok_copied_mut result ≡ accessed int32_of (get key.now self.old.pairs) }
     {
         self.kind_at_mut::<i32>(key)
@@ -135,7 +136,7 @@ impl Document {
 
     /// The number of 64 bits at the key, to write.
     pub fn get_i64_mut(&mut self, key: &str) -> ValueAccessResult<&mut i64>
-        ensures* writes_back { sem 𝓛 (LendsIfOk document_row int64_row self.entry result (λ w. record { pairs = put key.now (value.Int64 w) self.old.pairs }) self.old) }
+        ensures* writes_back { sem 𝓛 (LendsAtKey int64_row value.Int64 self.entry self.old key.now result) }
         ensures value { ok_copied_mut result ≡ accessed int64_of (get key.now self.old.pairs) }
     {
         self.kind_at_mut::<i64>(key)
@@ -150,7 +151,7 @@ impl Document {
 
     /// The timestamp at the key, to write.
     pub fn get_timestamp_mut(&mut self, key: &str) -> ValueAccessResult<&mut Timestamp>
-        ensures* writes_back { sem 𝓛 (LendsIfOk document_row timestamp_row self.entry result (λ w. record { pairs = put key.now (value.Timestamp w) self.old.pairs }) self.old) }
+        ensures* writes_back { sem 𝓛 (LendsAtKey timestamp_row value.Timestamp self.entry self.old key.now result) }
         ensures value { ok_copied_mut result ≡ accessed timestamp_of (get key.now self.old.pairs) }
     {
         self.kind_at_mut::<Timestamp>(key)
@@ -166,7 +167,7 @@ impl Document {
 
     /// The bytes of the binary of subtype `Generic` at the key, to write.
     pub fn get_binary_generic_mut(&mut self, key: &str) -> ValueAccessResult<&mut Vec<u8>>
-        ensures* writes_back { sem 𝓛 (LendsIfOk document_row bytes_row self.entry result (λ w. record { pairs = put key.now (generic w) self.old.pairs }) self.old) }
+        ensures* writes_back { sem 𝓛 (LendsAtKey bytes_row generic self.entry self.old key.now result) }
         ensures value { ok_copied_mut result ≡ accessed generic_of (get key.now self.old.pairs) }
     {
         self.kind_at_mut::<Vec<u8>>(key)
@@ -181,7 +182,7 @@ impl Document {
 
     /// The object id at the key, to write.
     pub fn get_object_id_mut(&mut self, key: &str) -> ValueAccessResult<&mut ObjectId>
-        ensures* writes_back { sem 𝓛 (LendsIfOk document_row object_id_row self.entry result (λ w. record { pairs = put key.now (value.ObjectId w) self.old.pairs }) self.old) }
+        ensures* writes_back { sem 𝓛 (LendsAtKey object_id_row value.ObjectId self.entry self.old key.now result) }
         ensures value { ok_copied_mut result ≡ accessed object_id_of (get key.now self.old.pairs) }
     {
         self.kind_at_mut::<ObjectId>(key)
@@ -196,7 +197,7 @@ impl Document {
 
     /// The moment at the key, to write.
     pub fn get_datetime_mut(&mut self, key: &str) -> ValueAccessResult<&mut DateTime>
-        ensures* writes_back { sem 𝓛 (LendsIfOk document_row date_row self.entry result (λ w. record { pairs = put key.now (value.DateTime w) self.old.pairs }) self.old) }
+        ensures* writes_back { sem 𝓛 (LendsAtKey date_row value.DateTime self.entry self.old key.now result) }
         ensures value { ok_copied_mut result ≡ accessed date_of (get key.now self.old.pairs) }
     {
         self.kind_at_mut::<DateTime>(key)
@@ -211,7 +212,7 @@ impl Document {
 
     /// The decimal at the key, to write.
     pub fn get_decimal128_mut(&mut self, key: &str) -> ValueAccessResult<&mut Decimal128>
-        ensures* writes_back { sem 𝓛 (LendsIfOk document_row decimal_row self.entry result (λ w. record { pairs = put key.now (value.Decimal128 w) self.old.pairs }) self.old) }
+        ensures* writes_back { sem 𝓛 (LendsAtKey decimal_row value.Decimal128 self.entry self.old key.now result) }
         ensures value { ok_copied_mut result ≡ accessed decimal_of (get key.now self.old.pairs) }
     {
         self.kind_at_mut::<Decimal128>(key)
@@ -227,7 +228,7 @@ impl Document {
 
     // The same, to write.
     fn kind_at_mut<T: Kind>(&mut self, key: &str) -> ValueAccessResult<&mut T>
-        ensures* writes_back { sem 𝓛 (LendsIfOk document_row T.row self.entry result (λ w. record { pairs = put key.now (T.made w) self.old.pairs }) self.old) }
+        ensures* writes_back { sem 𝓛 (LendsAtKey T.row T.made self.entry self.old key.now result) }
         ensures value { ok_copied_mut result ≡ accessed T.held (get key.now self.old.pairs) }
     {
         match self.get_mut(key) {

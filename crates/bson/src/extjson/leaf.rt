@@ -7,6 +7,7 @@ ghost use Rattle.bson_model.specs.Reading.{valued};
 ghost use Rattle.bson_model.specs.Writing.{with_scope};
 ghost use Rattle.bson_leaf.specs.View.{leaf_view};
 ghost use Rattle.bson_model.specs.Value.{scalar};
+ghost use Rattle.bson.specs.IsScalar.{IsScalar};
 ghost use Rattle.bson.specs.View.{bson_view};
 
 use crate::bson::Bson;
@@ -37,6 +38,34 @@ pub(crate) fn of_leaf(leaf: Leaf) -> Bson
         Leaf::DateTime(date) => Bson::DateTime(date),
         Leaf::Decimal128(decimal) => Bson::Decimal128(decimal),
         Leaf::DbPointer(pointer) => Bson::DbPointer(pointer),
+    }
+}
+
+// The same, the other way: of a value that holds no other.
+pub(crate) fn leaf_of(value: Bson) -> Leaf
+    requires { IsScalar (bson_view value) }
+    ensures { scalar (leaf_view result) ≡ bson_view value }
+{
+    match value {
+        Bson::Null => Leaf::Null,
+        Bson::Undefined => Leaf::Undefined,
+        Bson::MinKey => Leaf::MinKey,
+        Bson::MaxKey => Leaf::MaxKey,
+        Bson::Boolean(b) => Leaf::Boolean(b),
+        Bson::Double(pattern) => Leaf::Double(pattern),
+        Bson::Int32(z) => Leaf::Int32(z),
+        Bson::Int64(z) => Leaf::Int64(z),
+        Bson::String(text) => Leaf::String(text),
+        Bson::Symbol(text) => Leaf::Symbol(text),
+        Bson::JavaScriptCode(code) => Leaf::JavaScriptCode(code),
+        Bson::RegularExpression(regex) => Leaf::RegularExpression(regex),
+        Bson::Timestamp(stamp) => Leaf::Timestamp(stamp),
+        Bson::Binary(binary) => Leaf::Binary(binary),
+        Bson::ObjectId(id) => Leaf::ObjectId(id),
+        Bson::DateTime(date) => Leaf::DateTime(date),
+        Bson::Decimal128(decimal) => Leaf::Decimal128(decimal),
+        Bson::DbPointer(pointer) => Leaf::DbPointer(pointer),
+        _ => unreachable!(),
     }
 }
 

@@ -11,6 +11,7 @@ ghost use Rattle.bson.specs.View.{bson_view, scoped_view, document_view, values_
 
 use crate::bson::{Bson, JavaScriptCodeWithScope};
 use crate::document::Document;
+use crate::extjson::leaf::leaf_of;
 use crate::extjson::tokens::{put_int32, put_int64, put_members, put_object_id, put_tree};
 use crate::extjson::write::write_pairs;
 use bson_leaf::form::Form;
@@ -43,29 +44,7 @@ fn print(alloc: Global, form: Form, value: Bson, out: &mut Writer) -> Result<(),
         Bson::Array(values) => print_items(alloc, form, values, out),
         Bson::Document(document) => print_document(alloc, form, document, out),
         Bson::JavaScriptCodeWithScope(scoped) => print_scoped(alloc, form, scoped, out),
-        Bson::Null => print_leaf(alloc, form, Leaf::Null, out),
-        Bson::Undefined => print_leaf(alloc, form, Leaf::Undefined, out),
-        Bson::MinKey => print_leaf(alloc, form, Leaf::MinKey, out),
-        Bson::MaxKey => print_leaf(alloc, form, Leaf::MaxKey, out),
-        Bson::Boolean(b) => print_leaf(alloc, form, Leaf::Boolean(b), out),
-        Bson::Double(pattern) => print_leaf(alloc, form, Leaf::Double(pattern), out),
-        Bson::Int32(z) => print_leaf(alloc, form, Leaf::Int32(z), out),
-        Bson::Int64(z) => print_leaf(alloc, form, Leaf::Int64(z), out),
-        Bson::String(text) => print_leaf(alloc, form, Leaf::String(text), out),
-        Bson::Symbol(text) => print_leaf(alloc, form, Leaf::Symbol(text), out),
-        Bson::JavaScriptCode(code) => print_leaf(alloc, form, Leaf::JavaScriptCode(code), out),
-        Bson::RegularExpression(regex) => print_leaf(
-            alloc,
-            form,
-            Leaf::RegularExpression(regex),
-            out,
-        ),
-        Bson::Timestamp(stamp) => print_leaf(alloc, form, Leaf::Timestamp(stamp), out),
-        Bson::Binary(binary) => print_leaf(alloc, form, Leaf::Binary(binary), out),
-        Bson::ObjectId(id) => print_leaf(alloc, form, Leaf::ObjectId(id), out),
-        Bson::DateTime(date) => print_leaf(alloc, form, Leaf::DateTime(date), out),
-        Bson::Decimal128(decimal) => print_leaf(alloc, form, Leaf::Decimal128(decimal), out),
-        Bson::DbPointer(pointer) => print_leaf(alloc, form, Leaf::DbPointer(pointer), out),
+        value => print_leaf(alloc, form, leaf_of(value), out),
     }
 }
 

@@ -7,9 +7,8 @@ ghost use Rattle.bson.specs.View.{bson_view, scoped_view, document_view, values_
 
 use crate::bson::{Bson, JavaScriptCodeWithScope};
 use crate::document::Document;
-use crate::extjson::leaf::wrapped_code;
+use crate::extjson::leaf::{leaf_of, wrapped_code};
 use bson_leaf::form::Form;
-use bson_leaf::leaf::Leaf;
 use bson_leaf::write::write_leaf;
 use bson_leaf::write_error::WriteError;
 use serde_json::{Map, Value};
@@ -24,24 +23,7 @@ pub(crate) fn write(alloc: Global, form: Form, value: Bson) -> Result<Value, Wri
         Bson::Array(values) => Ok(Value::Array(write_items(alloc, form, values)?)),
         Bson::Document(document) => Ok(Value::Object(write_pairs(alloc, form, document)?)),
         Bson::JavaScriptCodeWithScope(scoped) => write_scoped(alloc, form, scoped),
-        Bson::Null => write_leaf(alloc, form, Leaf::Null),
-        Bson::Undefined => write_leaf(alloc, form, Leaf::Undefined),
-        Bson::MinKey => write_leaf(alloc, form, Leaf::MinKey),
-        Bson::MaxKey => write_leaf(alloc, form, Leaf::MaxKey),
-        Bson::Boolean(b) => write_leaf(alloc, form, Leaf::Boolean(b)),
-        Bson::Double(pattern) => write_leaf(alloc, form, Leaf::Double(pattern)),
-        Bson::Int32(z) => write_leaf(alloc, form, Leaf::Int32(z)),
-        Bson::Int64(z) => write_leaf(alloc, form, Leaf::Int64(z)),
-        Bson::String(text) => write_leaf(alloc, form, Leaf::String(text)),
-        Bson::Symbol(text) => write_leaf(alloc, form, Leaf::Symbol(text)),
-        Bson::JavaScriptCode(code) => write_leaf(alloc, form, Leaf::JavaScriptCode(code)),
-        Bson::RegularExpression(regex) => write_leaf(alloc, form, Leaf::RegularExpression(regex)),
-        Bson::Timestamp(stamp) => write_leaf(alloc, form, Leaf::Timestamp(stamp)),
-        Bson::Binary(binary) => write_leaf(alloc, form, Leaf::Binary(binary)),
-        Bson::ObjectId(id) => write_leaf(alloc, form, Leaf::ObjectId(id)),
-        Bson::DateTime(date) => write_leaf(alloc, form, Leaf::DateTime(date)),
-        Bson::Decimal128(decimal) => write_leaf(alloc, form, Leaf::Decimal128(decimal)),
-        Bson::DbPointer(pointer) => write_leaf(alloc, form, Leaf::DbPointer(pointer)),
+        value => write_leaf(alloc, form, leaf_of(value)),
     }
 }
 
