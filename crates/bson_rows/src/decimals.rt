@@ -1,8 +1,7 @@
-//! `decimal read TEXT`, `decimal bits TEXT`, `decimal print BYTES`, `decimal order`.
+//! `decimal read TEXT`, `decimal bits TEXT`, `decimal print BYTES`: decimals of 128 bits.
 use crate::stop::{Answer, Stop};
 use crate::words::{cut, put_hex, sixteen};
 use bson::Decimal128;
-use bson::decimal128::ParseError;
 
 pub fn call(rest: &str, out: &mut String) -> Answer {
     let (name, text) = cut(rest);
@@ -10,7 +9,6 @@ pub fn call(rest: &str, out: &mut String) -> Answer {
         "read" => read(text, out),
         "bits" => bits(text, out),
         "print" => print(text, out),
-        "error" => error(text, out),
         _ => Err(Stop::NotUnderstood),
     }
 }
@@ -38,16 +36,4 @@ fn print(text: &str, out: &mut String) -> Answer {
         return Ok(out.push_str("other bytes")?);
     }
     Ok(write!(out, "{decimal}")?)
-}
-
-/// The words of the refusal.
-fn error(text: &str, out: &mut String) -> Answer {
-    match text.parse::<Decimal128>() {
-        Ok(_) => Err(Stop::NotUnderstood),
-        Err(kind) => put_words(&kind, out),
-    }
-}
-
-fn put_words(kind: &ParseError, out: &mut String) -> Answer {
-    Ok(write!(out, "{kind}")?)
 }

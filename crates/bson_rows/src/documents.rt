@@ -1,6 +1,6 @@
 //! `document COMMAND ..` runs commands on an empty document, writes their replies, and then the document.
 //!
-//! Commands: `insert:KEY:N`, `remove:KEY`, `get:KEY`, `write:KEY:N`, `write_at:PLACE:N`, `entry:KEY:N`,
+//! Commands: `insert:KEY:N`, `remove:KEY`, `get:KEY`, `write:KEY:N`, `write_at:PLACE:N`, `place:PLACE:N`, `entry:KEY:N`,
 //! `entry_with:KEY:N`, `key:KEY`, `len`, `clear`, `clone`, `keys`, `values`.
 use crate::stop::{Answer, Stop};
 use crate::words::{cut_at_colon, number, put_word};
@@ -47,6 +47,7 @@ fn run_with(
     match name {
         "insert" => insert(alloc, document, key, value, out),
         "write" => write_value(document, key, value, out),
+        "place" => write_place(document, number::<usize>(key)?, value, out),
         "write_at" => write_at(document, number::<usize>(key)?, value, out),
         "entry" => entry(alloc, document, key, value, out),
         "entry_with" => entry_with(alloc, document, key, value, out),
@@ -86,6 +87,17 @@ fn write_at(document: &mut Document, at: usize, value: i32, out: &mut String) ->
         Some((key, place)) => {
             *place = Bson::Int32(value);
             put_word(out, key.as_str())
+        }
+        None => put_word(out, "None"),
+    }
+}
+
+fn write_place(document: &mut Document, at: usize, value: i32, out: &mut String) -> Answer {
+    match document.place_mut(at) {
+        Some(place) => {
+            put_word(out, place.key().as_str())?;
+            *place.into_value() = Bson::Int32(value);
+            Ok(())
         }
         None => put_word(out, "None"),
     }

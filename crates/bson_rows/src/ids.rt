@@ -2,14 +2,14 @@
 use crate::extended_json::put_id_fault;
 use crate::stop::{Answer, Stop};
 use crate::words::{bytes_of, cut, number};
-use bson::ObjectId;
+use bson::{DbPointer, ObjectId};
 use std::alloc::Global;
 
 pub fn call(alloc: Global, rest: &str, out: &mut String) -> Answer {
     let (name, text) = cut(rest);
     match name {
         "parse" => parse(alloc, text, out),
-        "error" => error(alloc, text, out),
+        "pointer" => pointer(alloc, text, out),
         "hex" => hex_of(alloc, text, out),
         "parts" => parts(alloc, text, out),
         "timestamp" => timestamp(text, out),
@@ -22,15 +22,6 @@ fn parse(alloc: Global, text: &str, out: &mut String) -> Answer {
     match ObjectId::parse_str(alloc, text) {
         Ok(id) => Ok(write!(out, "{id}")?),
         Err(fault) => put_id_fault(&fault, out),
-    }
-}
-
-/// The words of the refusal.
-fn error(alloc: Global, text: &str, out: &mut String) -> Answer {
-    match ObjectId::parse_str(alloc, text) {
-        Ok(_) => Err(Stop::NotUnderstood),
-        Err(bson::oid::Error::OutOfMemory) => Err(Stop::OutOfMemory),
-        Err(fault) => Ok(write!(out, "{fault}")?),
     }
 }
 
@@ -77,4 +68,19 @@ fn order(text: &str, out: &mut String) -> Answer {
     let (one, other) = cut(text);
     let order = id_of(one)?.cmp(&id_of(other)?);
     Ok(write!(out, "{order:?}")?)
+}
+
+/// `NAMESPACE BYTES`: what a pointer tells, and a copy of it, and its parts.
+fn pointer(alloc: Global, text: &str, out: &mut String) -> Answer {
+    let (namespace, id) = cut(text);
+    let pointer = DbPointer::new(String::from_str(alloc, namespace)?, id_of(id)?);
+    write!(out, "{} {}", pointer.namespace(), pointer.id())?;
+    let Ok(copy) = pointer.clone(alloc) else {
+        return Err(Stop::OutOfMemory);
+    };
+    if copy != pointer {
+        out.push_str(" another copy")?;
+    }
+    let (namespace, id) = copy.into_parts();
+    Ok(write!(out, " {namespace} {id}")?)
 }

@@ -6,9 +6,11 @@
 #![tactic(auto)]
 
 mod binaries;
+mod conversions;
 mod dates;
 mod decimals;
 mod documents;
+mod errors;
 mod extended_json;
 mod fnv;
 mod getters;

@@ -2,8 +2,8 @@
 use crate::stop::{Answer, Stop};
 use crate::words::cut;
 use crate::{
-    binaries, dates, decimals, documents, extended_json, getters, ids, kinds, stores, tables, texts,
-    vectors,
+    binaries, conversions, dates, decimals, documents, errors, extended_json, getters, ids, kinds,
+    stores, tables, texts, vectors,
 };
 use std::alloc::Global;
 
@@ -16,24 +16,34 @@ pub fn put_answer(alloc: Global, row: &str, answer: &mut String) {
     }
 }
 
-/// The calls by their subject.
+/// The calls on values, by their name.
 fn called(alloc: Global, row: &str, out: &mut String) -> Answer {
-    let (subject, rest) = cut(row);
-    match subject {
+    let (name, rest) = cut(row);
+    match name {
         "canonical" | "relaxed" | "show" | "debug" | "map" => {
-            extended_json::call(alloc, subject, rest, out)
+            extended_json::call(alloc, name, rest, out)
         }
         "pretty" => extended_json::pretty(alloc, rest, out),
         "kind" => kinds::call(alloc, rest, out),
         "get" => getters::call(alloc, rest, out),
         "same" => texts::same(alloc, rest, out),
         "hash" => texts::hash(alloc, rest, out),
+        "from" => conversions::call(alloc, rest, out),
+        "error" => errors::call(alloc, rest, out),
+        _ => of_subject(alloc, name, rest, out),
+    }
+}
+
+/// The calls of the other subjects.
+fn of_subject(alloc: Global, name: &str, rest: &str, out: &mut String) -> Answer {
+    match name {
         "date" => dates::call(alloc, rest, out),
         "decimal" => decimals::call(rest, out),
         "id" => ids::call(alloc, rest, out),
         "uuid" => binaries::uuid(alloc, rest, out),
         "binary" => binaries::call(alloc, rest, out),
         "vector" => vectors::call(alloc, rest, out),
+        "timestamp_order" => conversions::timestamp_order(rest, out),
         "tag" => tables::tag(rest, out),
         "subtype" => tables::subtype(rest, out),
         "store" => stores::call(alloc, rest, out),
