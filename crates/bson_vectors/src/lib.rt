@@ -1,17 +1,13 @@
-//! Worked rows of the library, tried from outside: one file a subject, each a table of inputs and what they must give.
+//! What rows can't tell of the library: documents and stores from call to call, what is lent, iterators, hashing by a
+//! real hasher, and what a refused request for memory leaves. The rows are in tests/rows.
+//!
+//! A test whose name begins with `refused_` is also run with each request for memory refused in turn: it must pass, or
+//! end by `?` with want of memory. What it asserts of a call, that call must then keep.
 #![tactic(auto)]
 
 #[cfg(test)]
 mod documents;
 #[cfg(test)]
-mod equality;
-#[cfg(test)]
-mod extended_json;
-#[cfg(test)]
-mod kinds;
-#[cfg(test)]
 mod stores;
 #[cfg(test)]
-mod texts;
-#[cfg(test)]
-mod trees;
+mod values;

@@ -1,91 +1,156 @@
-//! A list of commands run on both stores.
-use bson::Bson;
-use bson::store::replay::{Command, replay};
+//! What a refused request for memory leaves of a store. Each test runs on both stores.
+use bson::store::calls::{put, take};
+use bson::store::replay::{Command, Stopped, replay};
 use bson::store::{IndexedPairs, PairStore, SmallPairs};
 use std::alloc::{AllocError, Global};
+use std::process::Abort;
 use std::test::Fail;
 
-/// Put k1 1 to k9 9, Put k9 10, Take k1 twice.
-fn commands(alloc: Global) -> Result<Vec<Command<Bson>>, AllocError> {
-    let mut all = Vec::new(alloc);
-    for number in 1..10 {
-        let key = format!(in alloc; "k{number}")?;
-        all.push(Command::Put(key, Bson::Int32(number)))?;
-    }
-    all.push(Command::Put(String::from_str(alloc, "k9")?, Bson::Int32(10)))?;
-    all.push(Command::Take(String::from_str(alloc, "k1")?))?;
-    all.push(Command::Take(String::from_str(alloc, "k1")?))?;
-    Ok(all)
-}
+const PAIRS: [(&str, u32); 12] = [
+    ("k1", 1),
+    ("k2", 2),
+    ("k3", 3),
+    ("k4", 4),
+    ("k5", 5),
+    ("k6", 6),
+    ("k7", 7),
+    ("k8", 8),
+    ("k9", 9),
+    ("k10", 10),
+    ("k11", 11),
+    ("k12", 12),
+];
 
-/// Whether the reply is the number, or none.
-fn is_reply(reply: &Option<Bson>, number: Option<i32>) -> bool {
-    match (reply, number) {
-        (Some(value), Some(number)) => *value == Bson::Int32(number),
-        (None, None) => true,
-        _ => false,
-    }
-}
-
-/// Nine times none, then 9, 1 and none.
-fn are_replies(replies: &[Option<Bson>]) -> bool {
-    for i in 0..replies.len() {
-        let number = match i {
-            9 => Some(9),
-            10 => Some(1),
-            _ => None,
-        };
-        if !is_reply(&replies[i], number) {
-            return false;
-        }
-    }
-    true
-}
-
-/// Whether the store holds k2 2 to k8 8, then k9 10.
-fn holds_the_rest<S: PairStore<Bson>>(store: &S) -> bool {
-    const REST: [(&str, i32); 8] = [
-        ("k2", 2),
-        ("k3", 3),
-        ("k4", 4),
-        ("k5", 5),
-        ("k6", 6),
-        ("k7", 7),
-        ("k8", 8),
-        ("k9", 10),
-    ];
-    if store.len() != REST.len() {
+/// Whether the store holds exactly these pairs in this order, and finds each key at its place.
+fn holds<S: PairStore<u32>>(store: &S, pairs: &[(&str, u32)]) -> bool {
+    if store.len() != pairs.len() {
         return false;
     }
     for i in 0..store.len() {
-        let (key, number) = REST[i];
-        if store.key_at(i).as_str() != key || *store.value_at(i) != Bson::Int32(number) {
+        let (key, value) = pairs[i];
+        if store.key_at(i).as_str() != key || *store.value_at(i) != value {
+            return false;
+        }
+        if store.find(key) != Some(i) {
             return false;
         }
     }
     true
 }
 
-/// Whether the twelve commands answer what they must on an empty store and leave the rest.
-fn is_replayed<S: PairStore<Bson>>(alloc: Global, store: &mut S) -> Result<bool, Fail> {
-    let replies = replay(alloc, store, commands(alloc)?)?;
-    Ok(replies.len() == 12 && are_replies(replies.as_slice()) && holds_the_rest(store))
+fn fill<S: PairStore<u32>>(
+    alloc: Global,
+    store: &mut S,
+    pairs: &[(&str, u32)],
+) -> Result<(), AllocError> {
+    for &(key, value) in pairs {
+        if put(store, String::from_str(alloc, key)?, value).is_err() {
+            return Err(AllocError);
+        }
+    }
+    Ok(())
 }
 
-/// Whether they answer the same with a clear behind them, and leave nothing.
-fn is_cleared<S: PairStore<Bson>>(alloc: Global, store: &mut S) -> Result<bool, Fail> {
-    let mut cleared = commands(alloc)?;
-    cleared.push(Command::Clear)?;
-    let replies = replay(alloc, store, cleared)?;
-    Ok(replies.len() == 13 && are_replies(replies.as_slice()) && store.len() == 0)
+/// A refused push hands the pair back and leaves the store as it was; the next one succeeds.
+fn pushes<S: PairStore<u32>>(rt: &impl Abort, alloc: Global, store: &mut S) -> Result<(), Fail> {
+    for i in 0..PAIRS.len() {
+        let (key, value) = PAIRS[i];
+        let owned = String::from_str(alloc, key)?;
+        assert!(rt; store.find(owned.as_str()).is_none());
+        if let Err((back, same)) = store.push(owned, value) {
+            assert!(rt; back.as_str() == key && same == value);
+            assert!(rt; holds(store, &PAIRS[..i]));
+            return Err(Fail::from(AllocError));
+        }
+        assert!(rt; holds(store, &PAIRS[..i + 1]));
+    }
+    Ok(())
 }
 
 #[test]
-fn a_replay_answers_the_old_values(rt: HostRuntime) -> Result<(), Fail> {
+fn refused_push(rt: HostRuntime) -> Result<(), Fail> {
     let alloc = rt.alloc();
-    assert!(rt; is_replayed(alloc, &mut SmallPairs::new(alloc))?);
-    assert!(rt; is_replayed(alloc, &mut IndexedPairs::new(alloc))?);
-    assert!(rt; is_cleared(alloc, &mut SmallPairs::new(alloc))?);
-    assert!(rt; is_cleared(alloc, &mut IndexedPairs::new(alloc))?);
+    pushes(&rt, alloc, &mut IndexedPairs::new(alloc))?;
+    pushes(&rt, alloc, &mut IndexedPairs::with_capacity(alloc, 9)?)
+}
+
+#[test]
+fn refused_push_to_a_small_store(rt: HostRuntime) -> Result<(), Fail> {
+    let alloc = rt.alloc();
+    pushes(&rt, alloc, &mut SmallPairs::new(alloc))?;
+    pushes(&rt, alloc, &mut SmallPairs::with_capacity(alloc, 9)?)
+}
+
+/// Nine keys are taken out one by one, the rest is cleared, and none of it takes memory.
+fn takes_out<S: PairStore<u32>>(rt: &impl Abort, alloc: Global, store: &mut S) -> Result<(), Fail> {
+    fill(alloc, store, &PAIRS)?;
+    for i in 0..9 {
+        let (key, value) = PAIRS[i];
+        assert!(rt; take(store, key) == Some(value));
+        assert!(rt; holds(store, &PAIRS[i + 1..]));
+    }
+    store.clear();
+    assert!(rt; holds(store, &[]));
+    Ok(())
+}
+
+#[test]
+fn refused_nowhere_in_taking_out(rt: HostRuntime) -> Result<(), Fail> {
+    let alloc = rt.alloc();
+    takes_out(&rt, alloc, &mut IndexedPairs::new(alloc))?;
+    takes_out(&rt, alloc, &mut SmallPairs::new(alloc))
+}
+
+/// Put k1 1 to k9 9, Put k9 10, Take k1 twice, Clear.
+fn commands(alloc: Global) -> Result<Vec<Command<u32>>, AllocError> {
+    let mut all = Vec::new(alloc);
+    for &(key, value) in &PAIRS[..9] {
+        all.push(Command::Put(String::from_str(alloc, key)?, value))?;
+    }
+    all.push(Command::Put(String::from_str(alloc, "k9")?, 10))?;
+    all.push(Command::Take(String::from_str(alloc, "k1")?))?;
+    all.push(Command::Take(String::from_str(alloc, "k1")?))?;
+    all.push(Command::Clear)?;
+    Ok(all)
+}
+
+/// A stopped replay leaves the store as it is after the first `done` commands. From the tenth on none takes memory.
+fn replays<S: PairStore<u32>>(rt: &impl Abort, alloc: Global, store: &mut S) -> Result<(), Fail> {
+    match replay(alloc, store, commands(alloc)?) {
+        Ok(replies) => {
+            assert!(rt; replies.len() == 13 && store.len() == 0);
+            assert!(rt; replies[8].is_none() && replies[9] == Some(9) && replies[10] == Some(1));
+            Ok(())
+        }
+        Err(Stopped { done }) => {
+            assert!(rt; done < 9);
+            assert!(rt; holds(store, &PAIRS[..done]));
+            Err(Fail::from(AllocError))
+        }
+    }
+}
+
+#[test]
+fn refused_replay(rt: HostRuntime) -> Result<(), Fail> {
+    let alloc = rt.alloc();
+    replays(&rt, alloc, &mut IndexedPairs::new(alloc))?;
+    replays(&rt, alloc, &mut SmallPairs::new(alloc))
+}
+
+#[test]
+fn pairs_by_value_keep_their_order(rt: HostRuntime) -> Result<(), Fail> {
+    let alloc = rt.alloc();
+    let mut indexed = IndexedPairs::new(alloc);
+    let mut small = SmallPairs::new(alloc);
+    fill(indexed.allocator(), &mut indexed, &PAIRS)?;
+    fill(small.allocator(), &mut small, &PAIRS)?;
+    let mut others = small.into_pairs();
+    let mut expected = PAIRS.iter();
+    for (key, value) in indexed.into_pairs() {
+        assert!(rt; expected.next() == Some(&(key.as_str(), value)));
+        assert!(rt; others.next() == Some((key, value)));
+    }
+    assert!(rt; expected.next().is_none());
+    assert!(rt; others.next().is_none());
     Ok(())
 }

@@ -1,0 +1,28 @@
+//! The value that a row names: by a JSON text that is read, or `made` of steps.
+use crate::steps;
+use crate::stop::Stop;
+use bson::Bson;
+use bson::extjson::de::Error;
+use serde_json::Value;
+use std::alloc::Global;
+
+/// The tree that the text holds.
+pub fn tree(alloc: Global, text: &str) -> Result<Value, Stop> {
+    match Value::from_str(alloc, text) {
+        Ok(tree) => Ok(tree),
+        Err(error) if error.is_memory() => Err(Stop::NoRoom),
+        Err(_) => Err(Stop::NotUnderstood),
+    }
+}
+
+/// The value that the text names. What can't be read is no value of a row.
+pub fn value(alloc: Global, text: &str) -> Result<Bson, Stop> {
+    if let Some(made) = text.strip_prefix("made ") {
+        return steps::made(alloc, made);
+    }
+    match Bson::try_from_value(alloc, tree(alloc, text)?) {
+        Ok(value) => Ok(value),
+        Err(Error::OutOfMemory) => Err(Stop::NoRoom),
+        Err(_) => Err(Stop::NotUnderstood),
+    }
+}

@@ -1,0 +1,99 @@
+//! Values made step by step, for those that no tree means: a step puts a value on a pile, or takes from it.
+//!
+//! `doc` and `list` begin an empty one; `put:KEY` and `add` put the topmost value into the document or the list below
+//! it; `scope:CODE` makes code of the document on top; each other step is a value of its kind.
+use crate::stop::Stop;
+use crate::words::{byte_of, bytes_of, cut_at_colon, number, pattern_of, sixteen};
+use bson::binary::Binary;
+use bson::spec::BinarySubtype;
+use bson::{Bson, DateTime, Decimal128, Document, JavaScriptCodeWithScope, Regex};
+use std::alloc::Global;
+
+/// The value that is left on the pile.
+pub fn made(alloc: Global, steps: &str) -> Result<Bson, Stop> {
+    let mut pile = Vec::new(alloc);
+    for step in steps.split(' ') {
+        take_step(alloc, &mut pile, step)?;
+    }
+    pile.pop().ok_or(Stop::NotUnderstood)
+}
+
+fn take_step(alloc: Global, pile: &mut Vec<Bson>, step: &str) -> Result<(), Stop> {
+    let (name, rest) = cut_at_colon(step);
+    match name {
+        "put" => put(alloc, pile, rest),
+        "add" => add(pile),
+        "scope" => scope(alloc, pile, rest),
+        _ => Ok(pile.push(simple(alloc, name, rest)?)?),
+    }
+}
+
+/// A value that needs no other.
+fn simple(alloc: Global, name: &str, rest: &str) -> Result<Bson, Stop> {
+    match name {
+        "doc" => Ok(Bson::Document(Document::new(alloc))),
+        "list" => Ok(Bson::Array(Vec::new(alloc))),
+        "null" => Ok(Bson::Null),
+        "double" => Ok(Bson::Double(pattern_of(rest)?)),
+        "int32" => Ok(Bson::Int32(number::<i32>(rest)?)),
+        "int64" => Ok(Bson::Int64(number::<i64>(rest)?)),
+        "text" => Ok(Bson::String(String::from_str(alloc, rest)?)),
+        "date" => Ok(Bson::DateTime(DateTime::from_millis(number::<i64>(rest)?))),
+        "decimal" => Ok(Bson::Decimal128(Decimal128::from_bytes(sixteen(rest)?))),
+        "regex" => regex(alloc, rest),
+        "binary" => binary(alloc, rest),
+        _ => Err(Stop::NotUnderstood),
+    }
+}
+
+/// `PATTERN:OPTIONS`, the options as they are.
+fn regex(alloc: Global, rest: &str) -> Result<Bson, Stop> {
+    let (pattern, options) = cut_at_colon(rest);
+    let pattern = String::from_str(alloc, pattern)?;
+    let options = String::from_str(alloc, options)?;
+    Ok(Bson::RegularExpression(Regex { pattern, options }))
+}
+
+/// `generic:BYTES`, or the byte of a subtype, which is declared as the user's own.
+fn binary(alloc: Global, rest: &str) -> Result<Bson, Stop> {
+    let (subtype, bytes) = cut_at_colon(rest);
+    let subtype = if subtype == "generic" {
+        BinarySubtype::Generic
+    } else {
+        BinarySubtype::UserDefined(byte_of(subtype)?)
+    };
+    let bytes = bytes_of(alloc, bytes)?;
+    Ok(Bson::Binary(Binary { subtype, bytes }))
+}
+
+/// Puts the value on top into the document below it.
+fn put(alloc: Global, pile: &mut Vec<Bson>, key: &str) -> Result<(), Stop> {
+    let value = pile.pop().ok_or(Stop::NotUnderstood)?;
+    let key = String::from_str(alloc, key)?;
+    let Some(Bson::Document(document)) = pile.last_mut() else {
+        return Err(Stop::NotUnderstood);
+    };
+    match document.insert(key, value) {
+        Ok(_) => Ok(()),
+        Err(_) => Err(Stop::NoRoom),
+    }
+}
+
+/// Puts the value on top into the list below it.
+fn add(pile: &mut Vec<Bson>) -> Result<(), Stop> {
+    let value = pile.pop().ok_or(Stop::NotUnderstood)?;
+    let Some(Bson::Array(list)) = pile.last_mut() else {
+        return Err(Stop::NotUnderstood);
+    };
+    Ok(list.push(value)?)
+}
+
+/// Makes code of the document on top, which is its scope.
+fn scope(alloc: Global, pile: &mut Vec<Bson>, code: &str) -> Result<(), Stop> {
+    let Some(Bson::Document(scope)) = pile.pop() else {
+        return Err(Stop::NotUnderstood);
+    };
+    let code = String::from_str(alloc, code)?;
+    let made = JavaScriptCodeWithScope { code, scope };
+    Ok(pile.push(Bson::JavaScriptCodeWithScope(made))?)
+}

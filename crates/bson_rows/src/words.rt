@@ -1,0 +1,83 @@
+//! The parts of a row.
+use crate::stop::Stop;
+use std::alloc::Global;
+
+/// The text up to the first blank, and what stands behind it.
+pub fn cut(text: &str) -> (&str, &str) {
+    match text.split_once(' ') {
+        Some(parts) => parts,
+        None => (text, ""),
+    }
+}
+
+/// The text up to the first colon, and what stands behind it.
+pub fn cut_at_colon(text: &str) -> (&str, &str) {
+    match text.split_once(':') {
+        Some(parts) => parts,
+        None => (text, ""),
+    }
+}
+
+/// The bytes of hexadecimal digits.
+pub fn bytes_of(alloc: Global, text: &str) -> Result<Vec<u8>, Stop> {
+    match hex::decode(alloc, text) {
+        Ok(bytes) => Ok(bytes),
+        Err(hex::FromHexError::OutOfMemory) => Err(Stop::NoRoom),
+        Err(_) => Err(Stop::NotUnderstood),
+    }
+}
+
+/// So many bytes of hexadecimal digits.
+pub fn sixteen(text: &str) -> Result<[u8; 16], Stop> {
+    use hex::FromHex;
+    match <[u8; 16] as FromHex>::from_hex(text) {
+        Ok(bytes) => Ok(bytes),
+        Err(_) => Err(Stop::NotUnderstood),
+    }
+}
+
+/// The pattern of 64 bits that sixteen hexadecimal digits name.
+pub fn pattern_of(text: &str) -> Result<u64, Stop> {
+    use hex::FromHex;
+    match <[u8; 8] as FromHex>::from_hex(text) {
+        Ok(bytes) => Ok(u64::from_be_bytes(bytes)),
+        Err(_) => Err(Stop::NotUnderstood),
+    }
+}
+
+/// The byte that two hexadecimal digits name.
+pub fn byte_of(text: &str) -> Result<u8, Stop> {
+    use hex::FromHex;
+    match <[u8; 1] as FromHex>::from_hex(text) {
+        Ok([byte]) => Ok(byte),
+        Err(_) => Err(Stop::NotUnderstood),
+    }
+}
+
+/// A whole number.
+pub fn number<N: std::str::FromStr>(text: &str) -> Result<N, Stop>
+where
+    N::Err: Drop,
+{
+    match text.parse::<N>() {
+        Ok(number) => Ok(number),
+        Err(_) => Err(Stop::NotUnderstood),
+    }
+}
+
+/// Puts the hexadecimal digits of the bytes.
+pub fn put_hex(out: &mut String, bytes: &[u8]) -> Result<(), Stop> {
+    for byte in bytes {
+        write!(out, "{byte:02x}")?;
+    }
+    Ok(())
+}
+
+/// Puts a word, with a blank before it where it is not the first.
+pub fn put_word(out: &mut String, word: &str) -> Result<(), Stop> {
+    if !out.is_empty() {
+        out.push_str(" ")?;
+    }
+    out.push_str(word)?;
+    Ok(())
+}

@@ -1,0 +1,58 @@
+//! Equality and hashing by a real hasher, whatever the order of keys.
+use bson::{Bson, Document};
+use std::alloc::{AllocError, Global};
+use std::collections::HashMap;
+use std::hash::{DefaultHasher, Hash, Hasher};
+use std::test::Fail;
+
+fn hashed(value: &Bson) -> u64 {
+    let mut state = DefaultHasher::new();
+    value.hash(&mut state);
+    state.finish()
+}
+
+/// {x: 1, y: 2}, or with its keys turned.
+fn numbers(alloc: Global, turned: bool) -> Result<Document, AllocError> {
+    let pairs = if turned {
+        [("y", 2), ("x", 1)]
+    } else {
+        [("x", 1), ("y", 2)]
+    };
+    let mut document = Document::new(alloc);
+    for (key, value) in pairs {
+        if document
+            .insert(String::from_str(alloc, key)?, Bson::Int32(value))
+            .is_err()
+        {
+            return Err(AllocError);
+        }
+    }
+    Ok(document)
+}
+
+/// [{x: 1, y: 2}], or with its keys turned.
+fn listed(alloc: Global, turned: bool) -> Result<Bson, AllocError> {
+    let mut list = Vec::new(alloc);
+    list.push(Bson::Document(numbers(alloc, turned)?))?;
+    Ok(Bson::Array(list))
+}
+
+/// Comparing and hashing take no memory.
+#[test]
+fn refused_nowhere_in_comparing_and_hashing(rt: HostRuntime) -> Result<(), Fail> {
+    let one = listed(rt.alloc(), false)?;
+    let other = listed(rt.alloc(), true)?;
+    assert!(rt; one == other);
+    assert!(rt; hashed(&one) == hashed(&other));
+    assert!(rt; one != Bson::Null);
+    Ok(())
+}
+
+#[test]
+fn a_value_is_found_under_another_order_of_its_keys(rt: HostRuntime) -> Result<(), Fail> {
+    let alloc = rt.alloc();
+    let mut found: HashMap<Bson, u32> = HashMap::new(alloc);
+    drop(found.insert(listed(alloc, false)?, 7)?);
+    assert!(rt; found.get(&listed(alloc, true)?).copied() == Some(7));
+    Ok(())
+}
