@@ -6,7 +6,7 @@ use crate::pair_store::PairStore;
 use crate::places::{find_in, place_next, take_place};
 use crate::small_into_pairs::SmallIntoPairs;
 use std::alloc::{AllocError, Global};
-use std::collections::HashMap;
+use std::collections::BTreeMap;
 use std::marker::Model;
 
 // A key and its value.
@@ -16,12 +16,15 @@ pub(crate) struct Pair<V> {
     pub(crate) value: V,
 }
 
-/// A store whose pairs stand in one `Vec`, and above eight of them beside a map from each key to its place.
+/// A store whose pairs stand in one `Vec`, and above eight of them beside an ordered map from each key to its place.
 ///
-/// Up to eight pairs take one block of memory, and a key is found by a walk. Above that a key is found in constant time, and the map holds a copy of each key. A pair is taken out in time in proportion to those behind it, without memory.
+/// Up to eight pairs take one block of memory, and a key is found by a walk. Above that the map holds a copy of each
+/// key in ascending order, so that a key is found in the order of log n comparisons of keys, n being the number of
+/// pairs, whatever the keys are. `push` takes as many, and room for the list doubles; `remove_at` takes as many for
+/// each pair behind the one it takes out, and no memory.
 pub struct SmallPairs<V> {
     pairs: Vec<Pair<V>>,
-    places: Option<Box<HashMap<String, usize>>>,
+    places: Option<Box<BTreeMap<String, usize>>>,
 }
 
 impl<V> Model for SmallPairs<V> {
