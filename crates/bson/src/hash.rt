@@ -7,7 +7,6 @@ ghost use Rattle.bson.specs.View.{bson_view, scoped_view, values_view, pairs_vie
 use crate::bson::{Bson, JavaScriptCodeWithScope};
 use crate::document::Document;
 use bson_store::PairStore;
-use bson_store::order::next_above;
 use std::hash::{Hash, Hasher};
 
 impl Hash for Bson {
@@ -109,9 +108,9 @@ fn feed_pairs<H: Hasher>(document: &Document, state: &mut H)
     ensures { state.new ≡ fold H.write state.old (words_of (document_of (pairs_view document.now.pairs))) }
 {
     state.write_usize(document.pairs.len());
-    let mut last: Option<&str> = None;
-    while let Some(i) = next_above(&document.pairs, last) {
-        let key = document.pairs.key_at(i).as_str();
+    let mut last: Option<&String> = None;
+    while let Some(i) = document.pairs.next_above(last) {
+        let key = document.pairs.key_at(i);
         key.hash(state);
         feed(document.pairs.value_at(i), state);
         last = Some(key);
