@@ -1,15 +1,13 @@
 -- Pairs with a map of their keys' places, which is there where they are more than eight.
 use Rattle.std.specs.Prelude.{◌≡◌, ℕ, ◌<◌, ◌≤◌, List, map, length, Option, None, Some, String, Box, string_bytes}
-use Rattle.std.specs.HashMap.{HashMap, get_by_text}
+use Rattle.std.specs.BTreeMap.{BTreeMap, get_by_text}
 use Rattle.std.specs.declared.alloc.Global.{Global}
-use Rattle.std.specs.declared.hash.BuildHasherDefault.{BuildHasherDefault}
-use Rattle.std.specs.declared.hash.FoldHasher.{FoldHasher}
 use Rattle.bson_store.specs.declared.small.Pair.{Pair}
 use Rattle.bson_store.specs.Pairs.{place_of, HasDistinctKeys}
 
 -- a place for each of some keys
 abbrev pub Places : Type 0
-Places = HashMap (String Global) ℕ (BuildHasherDefault FoldHasher)
+Places = BTreeMap (String Global) ℕ
 
 -- the map of the places, where there is one
 abbrev pub Index : Type 0

@@ -2,14 +2,14 @@
 ghost use Rattle.std.specs.Prelude.{◌≡◌, ℕ, List, [], ◌∷◌, ◌++◌, Some, None, slice_get, remove, option_map, string_bytes, IfOk, OnOk, OnErr};
 ghost use Rattle.std.specs.Str.{bytes_eq};
 ghost use Rattle.std.specs.Map.{update};
-ghost use Rattle.std.specs.HashMap.{get_by_text};
+ghost use Rattle.std.specs.BTreeMap.{get_by_text};
 ghost use Rattle.bson_store.specs.Pairs.{place_of, HasDistinctKeys};
 ghost use Rattle.bson_store.specs.Small.{seen, HasPlaces, IsIndexed};
 ghost use Rattle.bson_store.specs.Raise.{raise};
 
 use crate::small::Pair;
 use std::alloc::{AllocError, Global};
-use std::collections::HashMap;
+use std::collections::BTreeMap;
 
 // So many pairs have no map.
 const FEW: usize = 8;
@@ -27,7 +27,7 @@ pub(crate) fn find_in<V>(pairs: &Vec<Pair<V>>, key: &str) -> Option<usize>
 }
 
 // Puts a copy of the key in the map, at the place.
-fn add(places: &mut HashMap<String, usize>, key: &String, at: usize) -> Result<(), AllocError>
+fn add(places: &mut BTreeMap<String, usize>, key: &String, at: usize) -> Result<(), AllocError>
     ensures ok { OnOk result ((k : List ℕ) → get_by_text places.new k ≡ update bytes_eq (get_by_text places.old) (string_bytes key.now) (Some at) k) }
     ensures err { OnErr result ((k : List ℕ) → get_by_text places.new k ≡ get_by_text places.old k) }
 {
@@ -37,17 +37,17 @@ fn add(places: &mut HashMap<String, usize>, key: &String, at: usize) -> Result<(
     }
 }
 
-// A map of each key to its place and of one more key to the next, with the room that the pairs have.
+// A map of each key to its place and of one more key to the next, in order.
 fn index_all<V>(
     alloc: Global,
     pairs: &Vec<Pair<V>>,
     key: &String,
-) -> Result<HashMap<String, usize>, AllocError>
+) -> Result<BTreeMap<String, usize>, AllocError>
     requires distinct { HasDistinctKeys (seen pairs.now.items) }
     requires absent { place_of (string_bytes key.now) (seen pairs.now.items) ≡ None }
     ensures { IfOk result (λ m. (v : V) → HasPlaces m (seen pairs.now.items ++ (string_bytes key.now, v) ∷ [])) }
 {
-    let mut places = HashMap::with_capacity(alloc, pairs.capacity())?;
+    let mut places = BTreeMap::new(alloc);
     for i in 0..pairs.len() {
         add(&mut places, &pairs[i].key, i)?;
     }
@@ -58,7 +58,7 @@ fn index_all<V>(
 // Makes the place of one more key, where there is a map or begins to be.
 pub(crate) fn place_next<V>(
     alloc: Global,
-    places: &mut Option<Box<HashMap<String, usize>>>,
+    places: &mut Option<Box<BTreeMap<String, usize>>>,
     pairs: &Vec<Pair<V>>,
     key: &String,
 ) -> Result<(), AllocError>
@@ -78,7 +78,7 @@ pub(crate) fn place_next<V>(
 }
 
 // Lowers by one each place behind the one that was left.
-fn lower<V>(places: &mut HashMap<String, usize>, pairs: &Vec<Pair<V>>, at: usize)
+fn lower<V>(places: &mut BTreeMap<String, usize>, pairs: &Vec<Pair<V>>, at: usize)
     requires distinct { HasDistinctKeys (seen pairs.now.items) }
     requires raised { (k : List ℕ) → get_by_text places.old k ≡ option_map (raise at) (place_of k (seen pairs.now.items)) }
     ensures { HasPlaces places.new (seen pairs.now.items) }
@@ -93,7 +93,7 @@ fn lower<V>(places: &mut HashMap<String, usize>, pairs: &Vec<Pair<V>>, at: usize
 
 // Takes out the place of a key that was taken out, and drops the map where eight keys are left.
 pub(crate) fn take_place<V>(
-    places: &mut Option<Box<HashMap<String, usize>>>,
+    places: &mut Option<Box<BTreeMap<String, usize>>>,
     pairs: &Vec<Pair<V>>,
     key: &str,
     at: usize,

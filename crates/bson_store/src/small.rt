@@ -1,12 +1,15 @@
 //! The store that indexes its keys only where there are many.
-ghost use Rattle.std.specs.Prelude.{◌≡◌, [], IfOk};
+ghost use Rattle.std.specs.Prelude.{◌≡◌, ◌<◌, [], length, slice_get, option_map, option_and_then, string_bytes, IfOk, IfSome};
+ghost use Rattle.bson_store.specs.Order.{IsLeast};
 ghost use Rattle.bson_store.specs.Pairs.{HasDistinctKeys};
 
+use crate::next::next_place;
+use crate::order::next_above;
 use crate::pair_store::PairStore;
 use crate::places::{find_in, place_next, take_place};
 use crate::small_into_pairs::SmallIntoPairs;
 use std::alloc::{AllocError, Global};
-use std::collections::HashMap;
+use std::collections::BTreeMap;
 use std::marker::Model;
 
 // A key and its value.
@@ -16,12 +19,14 @@ pub(crate) struct Pair<V> {
     pub(crate) value: V,
 }
 
-/// A store whose pairs stand in one `Vec`, and above eight of them beside a map from each key to its place.
+/// A store whose pairs stand in one `Vec`, and above eight of them beside an ordered map from each key to its place.
 ///
-/// Up to eight pairs take one block of memory, and a key is found by a walk. Above that a key is found in constant time, and the map holds a copy of each key. A pair is taken out in time in proportion to those behind it, without memory.
+/// Up to eight pairs take one block of memory, and a key is found by a walk. Above that the map holds a copy of each
+/// key in ascending order, so that among n pairs a key is found in the order of log n comparisons, whatever the keys
+/// are. `push` takes as many; `remove_at` takes as many for each pair behind the one it takes out, and no memory.
 pub struct SmallPairs<V> {
     pairs: Vec<Pair<V>>,
-    places: Option<Box<HashMap<String, usize>>>,
+    places: Option<Box<BTreeMap<String, usize>>>,
 }
 
 impl<V> Model for SmallPairs<V> {
@@ -81,9 +86,37 @@ impl<V> SmallPairs<V> {
         SmallIntoPairs::new(pairs.into_iter())
     }
 
+    /// The place of the pair with the least key above `last`, by the keys' bytes, or of the least key of all where
+    /// `last` is None. None where no key is above it.
+    ///
+    /// Called again with the key that it found, it walks all pairs by ascending key. Among n pairs, more than eight,
+    /// a call takes in the order of log n comparisons of keys; it takes no memory.
+    pub fn next_above(&self, last: Option<&String>) -> Option<usize>
+    where
+        V: Drop,
+        ensures in_bounds { IfSome result (λ i. i < length self.now) }
+        ensures least { IsLeast (option_map (λ s. string_bytes s.now) last.entry) self.now (option_and_then (slice_get self.now) result) }
+    {
+        match &self.places {
+            Some(places) => next_place(places, last),
+            None => next_by_walk(self, last),
+        }
+    }
+
     /// The allocator that the store takes its memory from.
     pub fn allocator(&self) -> Global {
         *self.pairs.allocator()
+    }
+}
+
+// The same by a look at each pair.
+fn next_by_walk<V: Drop>(store: &SmallPairs<V>, last: Option<&String>) -> Option<usize>
+    ensures in_bounds { IfSome result (λ i. i < length store.now) }
+    ensures least { IsLeast (option_map (λ s. string_bytes s.now) last.entry) store.now (option_and_then (slice_get store.now) result) }
+{
+    match last {
+        Some(key) => next_above(store, Some(key.as_str())),
+        None => next_above(store, None),
     }
 }
 

@@ -1,5 +1,4 @@
-use Rattle.std.proofs.Common.{string_bytes, ◌≡◌, ◌∙◌, sym, ap, length, drop, fold, arith, Some, refl, List, [], ◌∷◌, ℕ, zero, suc, ◌≤◌}
-use Rattle.std.specs.Option.{option_copied}
+use Rattle.std.proofs.Common.{string_bytes, option_map, ◌≡◌, ◌∙◌, sym, ap, length, drop, fold, arith, Some, refl, List, [], ◌∷◌, ℕ, zero, suc, ◌≤◌}
 use Rattle.std.specs.FinMap.Entries.{where_key}
 use Rattle.bson_store.specs.Order.{in_order, key_cmp, is_above}
 use Rattle.bson_store.proofs.Least.{least_none}
@@ -37,27 +36,23 @@ feed_pairs-feed-requires g t c κs within =
 pub feed_pairs-loop-i-smaller : goal.feed_pairs-loop-i-smaller
 feed_pairs-loop-i-smaller g t c =
     let ps = c.args.document.now.pairs in
-    let k = string_bytes c.key_at.result.now in
-    let here = pair_of ps c.in-Some.i k c.value_at.result.now c.key_at.ensures c.value_at.ensures in
-    let next = ap length (next_pair ps (option_copied c.loop-i.last) c.in-Some.i (k, c.value_at.result.now) here c.in-Some.ensures.least) in
-    let name : c.as_str-key.result.now ≡ k = c.as_str-key.ensures.value in
-    let now = ap (λ q. length (where_key key_cmp (is_above (Some q)) (in_order ps))) name in
-    omega (arith, next, now)
+    let k = string_bytes c.key_at-key.result.now in
+    let here = pair_of ps c.in-Some.i k c.value_at.result.now c.key_at-key.ensures c.value_at.ensures in
+    let next = ap length (next_pair ps (option_map (λ s. string_bytes s.now) c.loop-i.last) c.in-Some.i (k, c.value_at.result.now) here c.in-Some.ensures.least) in
+    omega (arith, next)
 
 pub feed_pairs-loop-i-preserved : goal.feed_pairs-loop-i-preserved
 feed_pairs-loop-i-preserved g t c =
     let ps = c.args.document.now.pairs in
-    let k = string_bytes c.key_at.result.now in
+    let k = string_bytes c.key_at-key.result.now in
     let v = c.value_at.result.now in
-    let here = pair_of ps c.in-Some.i k v c.key_at.ensures c.value_at.ensures in
-    let next = next_pair ps (option_copied c.loop-i.last) c.in-Some.i (k, v) here c.in-Some.ensures.least in
-    let name : c.as_str-key.result.now ≡ k = c.as_str-key.ensures.value in
-    let done = feeds_pair g.H.Hasher.write c.write_usize.new.self c.loop-i.state c.hash.new.state c.feed.new.state (in_order ps) _ _ k v next (rw (← name) c.hash.ensures) c.feed.ensures c.loop-i.invariant in
-    done ∙ ap (λ q. fold g.H.Hasher.write c.feed.new.state (turn_words (where_key key_cmp (is_above (Some q)) (in_order ps)))) (sym name)
+    let here = pair_of ps c.in-Some.i k v c.key_at-key.ensures c.value_at.ensures in
+    let next = next_pair ps (option_map (λ s. string_bytes s.now) c.loop-i.last) c.in-Some.i (k, v) here c.in-Some.ensures.least in
+    feeds_pair g.H.Hasher.write c.write_usize.new.self c.loop-i.state c.hash.new.state c.feed.new.state (in_order ps) _ _ k v next c.hash.ensures c.feed.ensures c.loop-i.invariant
 
 pub feed_pairs-returns : goal.feed_pairs-returns
 feed_pairs-returns g t c =
     let ps = c.args.document.now.pairs in
-    let none = least_none (option_copied c.loop-i.last) ps c.in_default.ensures.least in
+    let none = least_none (option_map (λ s. string_bytes s.now) c.loop-i.last) ps c.in_default.ensures.least in
     feeds_all g.H.Hasher.write c.args.state.now c.write_usize.new.self c.loop-i.state (turn_words (in_order ps)) c.len.result (length ps) (words_of (document (pairs_view ps))) c.write_usize.ensures c.len.ensures.len
     (c.loop-i.invariant ∙ ap (λ es. fold g.H.Hasher.write c.loop-i.state (turn_words es)) none) (document_words ps c.len.ensures.distinct)

@@ -1,6 +1,6 @@
 use Rattle.std.proofs.Common.{◌≡◌, ◌≤◌, [], ◌∷◌, ◌++◌, length, string_bytes, subst, sym, ap, ◌∙◌, arith}
 use Rattle.std.proofs.lemmas.List.{length-append}
-use Rattle.std.specs.HashMap.{get_by_text}
+use Rattle.std.specs.BTreeMap.{get_by_text}
 use Rattle.bson_store.specs.Small.{seen, IsPlaced}
 use Rattle.bson_store.proofs.Placed.{length-seen, distinct-push, indexed-last, on_ok, none_if}
 use Rattle.bson_store.proofs.places.place_next.Goals as goal

@@ -1,7 +1,7 @@
 use Rattle.std.proofs.Common.{None, cond, option_map, subst, sym, ap, ◌∙◌, arith}
-use Rattle.std.specs.HashMap.{get_by_text}
+use Rattle.std.specs.BTreeMap.{get_by_text}
 use Rattle.std.specs.Str.{bytes_eq}
-use Rattle.std.proofs.lemmas.Map.Text.{hash_map_updates_text}
+use Rattle.std.proofs.lemmas.Map.Text.{btree_map_updates_text}
 use Rattle.bson_store.specs.Pairs.{place_of, HasDistinctKeys}
 use Rattle.bson_store.specs.Small.{IsPlaced}
 use Rattle.bson_store.specs.Raise.{raise}
@@ -18,7 +18,7 @@ lower-requires-clause-raised g c = λ k.
     let old = subst (IsPlaced ps) c.in-Some.is c.requires.4.1 in
     let was = ap (λ m. get_by_text m k) c.deref_mut.ensures.value ∙ old.1 k in
     ap (λ m. get_by_text m k) c.deref_mut-in-Some.ensures.value
-    ∙ hash_map_updates_text key c.deref_mut.result.now c.remove.new.self None c.remove.ensures.updates k ∙ (λ j. cond (bytes_eq key k) None (was j))
+    ∙ btree_map_updates_text key c.deref_mut.result.now c.remove.new.self None c.remove.ensures.updates k ∙ (λ j. cond (bytes_eq key k) None (was j))
     ∙ place-removed ps c.args.at (key, c.requires.1) c.requires.4.0 c.requires.2 k ∙ ap (λ qs. option_map (raise c.args.at) (place_of k qs)) (sym c.requires.3)
 
 pub returns-then-len-le-FEW : goal.returns-then-len-le-FEW
