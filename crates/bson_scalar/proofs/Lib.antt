@@ -1,3 +1,4 @@
+pub mod ClearedBits
 pub mod OrderLemmas
 pub mod VectorLaws
 pub mod IdOrder

@@ -1,14 +1,15 @@
 -- A vector's bytes tell what it holds.
-use Rattle.std.proofs.Common.{◌≡◌, ◌<◌, ◌^◌, ◌%◌, ℕ, ℤ, List, [], ◌∷◌, length, map, refl, sym, ap, ap₂, ◌∙◌, arith, w8, w32, FitsSigned}
+use Rattle.std.proofs.Common.{◌≡◌, ◌<◌, ◌≤◌, ◌^◌, ◌%◌, ◌-◌, ℕ, ℤ, List, [], ◌∷◌, length, map, get_or, take, drop, false, refl, sym, ap, ap₂, ◌∙◌, arith, w8, w32, FitsSigned}
 use Rattle.std.specs.Int.{cast_signed, cast_unsigned, from_le_bytes}
 use Rattle.std.specs.List.{AllByRecursion}
 use Rattle.std.proofs.lemmas.Int.{to_z-of_z}
 use Rattle.std.proofs.lemmas.Nat.{from_le_bytes-to_le_bytes_4}
+use Rattle.std.proofs.Math.Seq.{take-length}
 use Rattle.std.specs.Prelude.{Result, Ok, Err, IfOk}
 use Rattle.bson_scalar.specs.declared.binary.Error.{Error}
 use Rattle.bson_scalar.specs.declared.vector.Vector.{Vector}
 use Rattle.bson_scalar.specs.declared.vector.Vector.TheVariants.{Int8, Float32, PackedBit}
-use Rattle.bson_scalar.specs.Vectors.{le_bytes_of, vector_bytes}
+use Rattle.bson_scalar.specs.Vectors.{is_vector_of_any_bits, le_bytes_of, vector_bytes}
 use Rattle.bson_scalar.specs.VectorData.{VectorData, IsInRange, IsOnlyOne, data_bytes, vector_view, int8, float32, packed}
 
 head_is : {X : Type 0} (x y : X) (xs ys : List X) → x ∷ xs ≡ y ∷ ys → x ≡ y
@@ -29,6 +30,20 @@ words _ = []
 words_back : (ns : List ℕ) → AllByRecursion (λ n. n < 2 ^ 32) ns → words (le_bytes_of ns) ≡ ns
 words_back [] h = refl
 words_back (n ∷ ns) h = ap₂ (λ x xs. x ∷ xs) (from_le_bytes-to_le_bytes_4 n h.0) (words_back ns h.1)
+
+-- bytes are their first two, and the rest
+pub parts : (xs : List ℕ) → 2 ≤ length xs → get_or xs 0 0 ∷ get_or xs 1 0 ∷ take (length xs - 2) (drop 2 xs) ≡ xs
+parts (x ∷ y ∷ rest) h =
+    let left : length (x ∷ y ∷ rest) - 2 ≡ length rest = omega arith in
+    rw (left, take-length rest) refl
+parts [] h = absurd (omega arith)
+parts (x ∷ []) h = absurd (omega arith)
+
+-- a single byte is no vector, nor is none
+pub short : (xs : List ℕ) → length xs < 2 → is_vector_of_any_bits xs ≡ false
+short [] h = refl
+short (x ∷ []) h = refl
+short (x ∷ y ∷ rest) h = absurd (omega arith)
 
 two_off : (a b c d : ℕ) (xs ys : List ℕ) → a ∷ b ∷ xs ≡ c ∷ d ∷ ys → xs ≡ ys
 two_off a b c d xs ys h = tail_is b d xs ys (tail_is a c (b ∷ xs) (d ∷ ys) h)
@@ -58,7 +73,8 @@ one_vector (float32 xs) (packed ys k) p q h = let e : 39 ≡ 16 = head_is 39 16 
 one_vector (packed xs j) (int8 ys) p q h = let e : 16 ≡ 3 = head_is 16 3 _ _ h in absurd (omega (arith, e))
 one_vector (packed xs j) (float32 ys) p q h = let e : 16 ≡ 39 = head_is 16 39 _ _ h in absurd (omega (arith, e))
 
-same_bytes : (v : Vector) → data_bytes (vector_view v) ≡ vector_bytes v
+-- both ways to write them
+pub same_bytes : (v : Vector) → data_bytes (vector_view v) ≡ vector_bytes v
 same_bytes (Int8 v) = refl
 same_bytes (Float32 v) = refl
 same_bytes (PackedBit v) = refl

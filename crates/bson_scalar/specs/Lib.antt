@@ -2,6 +2,7 @@ pub mod Subtype
 pub mod Orders
 pub mod Base64
 pub mod Fault
+pub mod IgnoredBits
 pub mod Packed
 pub mod Vectors
 pub mod Shown

@@ -1,8 +1,9 @@
 -- What a vector holds, and that its bytes tell it.
-use Rattle.std.specs.Prelude.{◌≡◌, ◌<◌, ◌^◌, ℕ, ℤ, List, ◌∷◌, map, FitsSigned}
+use Rattle.std.specs.Prelude.{◌≡◌, ◌<◌, ◌^◌, ℕ, ℤ, List, [], ◌∷◌, map, FitsSigned}
 use Rattle.std.specs.Int.{w8, cast_unsigned}
 use Rattle.std.specs.List.{AllByRecursion}
 use Rattle.bson_scalar.specs.Packed.{packed_bytes, packed_padding}
+use Rattle.bson_scalar.specs.IgnoredBits.{ignored_bits}
 use Rattle.bson_scalar.specs.Vectors.{le_bytes_of}
 use Rattle.bson_scalar.specs.declared.vector.Vector.{Vector}
 use Rattle.bson_scalar.specs.declared.vector.Vector.TheVariants as vector
@@ -25,11 +26,12 @@ data_bytes (int8 zs) = 0x03 ∷ 0 ∷ map (cast_unsigned w8) zs
 data_bytes (float32 ns) = 0x27 ∷ 0 ∷ le_bytes_of ns
 data_bytes (packed bs k) = 0x10 ∷ k ∷ bs
 
--- each number is in the range of its type
+-- each number is in the range of its type; a padding is below 8, and 0 where there are no bytes, and the bits that it
+-- leaves out are zero
 abbrev pub IsInRange : VectorData → Type 0
 IsInRange (int8 zs) = AllByRecursion (FitsSigned w8) zs
 IsInRange (float32 ns) = AllByRecursion (λ n. n < 2 ^ 32) ns
-IsInRange (packed bs k) = Unit {0}
+IsInRange (packed bs k) = (k < 8) × (bs ≡ [] → k ≡ 0) × (ignored_bits bs k ≡ 0)
 
 -- bytes tell what the vector holds: whatever has these bytes is this
 abbrev pub IsOnlyOne : List ℕ → VectorData → Type 0

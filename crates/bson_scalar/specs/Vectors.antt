@@ -1,8 +1,9 @@
 -- Vectors and their bytes (the MongoDB BSON binary vector format).
-use Rattle.std.specs.Prelude.{ℕ, ◌%◌, ◌==◌, ◌&&◌, ◌||◌, nat_lt, not, Bool, false, List, ◌∷◌, length, map, if◌then◌else◌}
+use Rattle.std.specs.Prelude.{ℕ, ◌%◌, ◌==◌, ◌&&◌, ◌||◌, nat_lt, not, Bool, false, true, List, ◌∷◌, length, map, if◌then◌else◌}
 use Rattle.std.specs.Int.{w8, w32, cast_unsigned, to_le_bytes}
 use Rattle.std.specs.List.{flat_map}
 use Rattle.bson_scalar.specs.Packed.{packed_bytes, packed_padding}
+use Rattle.bson_scalar.specs.IgnoredBits.{cleared, ignored_bits}
 use Rattle.bson_scalar.specs.declared.vector.Vector.{Vector}
 use Rattle.bson_scalar.specs.declared.vector.Vector.TheVariants.{Int8, Float32, PackedBit}
 
@@ -16,9 +17,24 @@ vector_bytes (Int8 v) = 0x03 ∷ 0 ∷ map (cast_unsigned w8) v.items
 vector_bytes (Float32 v) = 0x27 ∷ 0 ∷ le_bytes_of v.items
 vector_bytes (PackedBit v) = 0x10 ∷ packed_padding v ∷ packed_bytes v
 
--- the bytes of a vector: a known type, no padding but of packed bits, whole numbers of four bytes
-abbrev pub is_vector : List ℕ → Bool
-is_vector (kind ∷ padding ∷ rest) =
+-- the bytes of a vector whose ignored bits may be anything: a known type, no padding but of packed bits,
+-- whole numbers of four bytes
+abbrev pub is_vector_of_any_bits : List ℕ → Bool
+is_vector_of_any_bits (kind ∷ padding ∷ rest) =
     if kind == 0x10 then nat_lt padding 8 && (not (length rest == 0) || (padding == 0))
     else (padding == 0) && ((kind == 0x03) || ((kind == 0x27) && (length rest % 4 == 0)))
-is_vector _ = false
+is_vector_of_any_bits _ = false
+
+-- the ignored bits, which packed bits alone have, are zero
+abbrev pub has_zero_bits : List ℕ → Bool
+has_zero_bits (kind ∷ padding ∷ rest) = not (kind == 0x10) || (ignored_bits rest padding == 0)
+has_zero_bits _ = true
+
+-- the bytes of a vector
+abbrev pub is_vector : List ℕ → Bool
+is_vector bytes = is_vector_of_any_bits bytes && has_zero_bits bytes
+
+-- the same bytes with the ignored bits zero
+abbrev pub vector_cleared : List ℕ → List ℕ
+vector_cleared (kind ∷ padding ∷ rest) = kind ∷ padding ∷ (if kind == 0x10 then cleared rest padding else rest)
+vector_cleared bytes = bytes

@@ -304,7 +304,7 @@ fn comes_back(alloc: Global, bytes: &[u8]) -> binary::Result<bool> {
 
 const VECTORS: [&[u8]; 5] = [
     &[0x10, 4, 0xEE, 0xE0],
-    &[0x10, 4, 0xEE, 0xE1],
+    &[0x10, 0, 0xEE, 0xE1],
     &[0x10, 0],
     &[0x03, 0, 0xFF],
     &[0x27, 0, 1, 2, 3, 4],
@@ -318,6 +318,114 @@ fn vectors_come_back_from_their_bytes(rt: HostRuntime) {
             "at {bytes:?}"
         );
     }
+}
+
+// A vector read with its ignored bits made zero, written again.
+fn cleared(alloc: Global, bytes: &[u8]) -> binary::Result<Vec<u8>> {
+    let vector = Vector::from_bytes_clearing(alloc, bytes)?;
+    match Binary::from_vector(alloc, &vector) {
+        Ok(written) => Ok(written.bytes),
+        Err(_) => Err(binary::Error::OutOfMemory),
+    }
+}
+
+// The bytes of a vector, and the same with its ignored bits zero.
+const CLEARED: [(&[u8], &[u8]); 9] = [
+    (&[0x10, 4, 0xEE, 0xE0], &[0x10, 4, 0xEE, 0xE0]),
+    (&[0x10, 4, 0xEE, 0xE1], &[0x10, 4, 0xEE, 0xE0]),
+    (&[0x10, 4, 0xE1, 0xE0], &[0x10, 4, 0xE1, 0xE0]),
+    (&[0x10, 0, 0xEE, 0xE1], &[0x10, 0, 0xEE, 0xE1]),
+    (&[0x10, 7, 0x81], &[0x10, 7, 0x80]),
+    (&[0x10, 0], &[0x10, 0]),
+    (&[0x03, 0], &[0x03, 0]),
+    (&[0x03, 0, 0xFF], &[0x03, 0, 0xFF]),
+    (&[0x27, 0, 1, 2, 3, 4], &[0x27, 0, 1, 2, 3, 4]),
+];
+
+// A padding, a last byte, and the same with its ignored bits zero.
+const LAST_BYTES: [(u8, u8, u8); 32] = [
+    (0, 0x00, 0x00),
+    (1, 0x00, 0x00),
+    (2, 0x00, 0x00),
+    (3, 0x00, 0x00),
+    (4, 0x00, 0x00),
+    (5, 0x00, 0x00),
+    (6, 0x00, 0x00),
+    (7, 0x00, 0x00),
+    (0, 0x01, 0x01),
+    (1, 0x01, 0x00),
+    (2, 0x01, 0x00),
+    (3, 0x01, 0x00),
+    (4, 0x01, 0x00),
+    (5, 0x01, 0x00),
+    (6, 0x01, 0x00),
+    (7, 0x01, 0x00),
+    (0, 0x80, 0x80),
+    (1, 0x80, 0x80),
+    (2, 0x80, 0x80),
+    (3, 0x80, 0x80),
+    (4, 0x80, 0x80),
+    (5, 0x80, 0x80),
+    (6, 0x80, 0x80),
+    (7, 0x80, 0x80),
+    (0, 0xFF, 0xFF),
+    (1, 0xFF, 0xFE),
+    (2, 0xFF, 0xFC),
+    (3, 0xFF, 0xF8),
+    (4, 0xFF, 0xF0),
+    (5, 0xFF, 0xE0),
+    (6, 0xFF, 0xC0),
+    (7, 0xFF, 0x80),
+];
+
+#[test]
+fn ignored_bits_are_cleared_or_refused(rt: HostRuntime) {
+    for (bytes, zeros) in CLEARED {
+        let answer = Vector::from_bytes(rt.alloc(), bytes);
+        if bytes == zeros {
+            assert!(rt; matches!(&answer, Ok(_)), "at {bytes:?}");
+        } else {
+            assert!(rt;
+                matches!(&answer, Err(binary::Error::Vector { message: _ })),
+                "at {bytes:?}"
+            );
+        }
+        let written = cleared(rt.alloc(), bytes);
+        assert!(rt;
+            matches!(&written, Ok(back) if back.as_slice() == zeros),
+            "at {bytes:?}"
+        );
+    }
+    for bytes in [
+        &[0x10, 8, 0xEE][..],
+        &[0x10, 1][..],
+        &[0x10][..],
+        &[0x03, 1, 0][..],
+    ] {
+        let answer = cleared(rt.alloc(), bytes);
+        assert!(rt;
+            matches!(&answer, Err(binary::Error::Vector { message: _ })),
+            "at {bytes:?}"
+        );
+    }
+}
+
+#[test]
+fn each_padding_ignores_its_bits_of_the_last_byte(rt: HostRuntime) -> Result<(), Fail> {
+    for (padding, last, zeros) in LAST_BYTES {
+        let bytes = [0x10, padding, 0xFF, last];
+        let answer = Vector::from_bytes(rt.alloc(), &bytes);
+        assert_eq!(rt; matches!(&answer, Ok(_)), last == zeros, "at {bytes:?}");
+        let written = cleared(rt.alloc(), &bytes);
+        assert!(rt;
+            matches!(&written, Ok(back) if back.as_slice() == [0x10, padding, 0xFF, zeros].as_slice()),
+            "at {bytes:?}"
+        );
+        let data = Vec::from_slice(rt.alloc(), &[0xFF, last])?;
+        let bits = PackedBitVector::new(data, Some(padding));
+        assert_eq!(rt; matches!(&bits, Ok(_)), last == zeros, "at {bytes:?}");
+    }
+    Ok(())
 }
 
 #[test]
@@ -340,6 +448,8 @@ fn other_bytes_are_no_vectors(rt: HostRuntime) -> Result<(), Fail> {
         &[0x10, 1][..],
         &[0x03, 1][..],
         &[0x10, 8, 0xEE][..],
+        &[0x10, 4, 0xEE, 0xE1][..],
+        &[0x10, 7, 0x81][..],
         &[0x27, 0, 1, 2, 3][..],
         &[0x04, 0, 1][..],
         &[0x03][..],
@@ -470,6 +580,12 @@ fn refused_memory_leaves_vectors_right(rt: HostRuntime) {
             matches!(&answer, Ok(true)) || matches!(&answer, Err(binary::Error::OutOfMemory))
         );
     }
+    for (bytes, zeros) in CLEARED {
+        match cleared(rt.alloc(), bytes) {
+            Ok(written) => assert_eq!(rt; written.as_slice(), zeros),
+            Err(error) => assert!(rt; matches!(&error, binary::Error::OutOfMemory)),
+        }
+    }
 }
 
 #[test]
@@ -488,7 +604,7 @@ fn refused_memory_leaves_small_types_right(rt: HostRuntime) {
         }
     }
     if let Ok(bytes) = Vec::from_slice(rt.alloc(), &[0xEE]) {
-        if let Ok(bits) = PackedBitVector::new(bytes, Some(4)) {
+        if let Ok(bits) = PackedBitVector::new(bytes, Some(1)) {
             if let Ok(copy) = bits.clone(rt.alloc()) {
                 assert!(rt; copy == bits);
             }

@@ -4,8 +4,9 @@ ghost use Rattle.std.specs.Int.{cast_signed, cast_unsigned, w8};
 ghost use Rattle.std.specs.List.{AllByRecursion};
 ghost use Rattle.bson_scalar.specs.Fault.{IsOutOfMemory, IsVectorError};
 ghost use Rattle.bson_scalar.specs.Packed.{packed_bytes, packed_padding};
-ghost use Rattle.bson_scalar.specs.Vectors.{is_vector, le_bytes_of, vector_bytes};
-ghost use Rattle.bson_scalar.specs.VectorData.{IsInRange, IsOnlyOne, vector_view};
+ghost use Rattle.bson_scalar.specs.IgnoredBits.{cleared};
+ghost use Rattle.bson_scalar.specs.Vectors.{is_vector, is_vector_of_any_bits, le_bytes_of, vector_bytes, vector_cleared};
+ghost use Rattle.bson_scalar.specs.VectorData.{IsInRange, IsOnlyOne, packed, vector_view};
 
 use crate::binary::{Binary, Error, Result};
 use crate::packed::PackedBitVector;
@@ -17,6 +18,8 @@ const INT8: u8 = 0x03;
 const PACKED_BIT: u8 = 0x10;
 
 const FLOAT32: u8 = 0x27;
+
+const HEAD: &str = "a vector has a type and a padding";
 
 /// A vector as a binary of subtype Vector holds it.
 #[derive(Debug, Drop, PartialEq, Eq)]
@@ -33,10 +36,10 @@ impl Vector {
     /// Reads the bytes of a vector: its type, its padding and its data. Writing the vector gives the
     /// same bytes again, and no other vector has them.
     ///
-    /// Refused as `Vector` are fewer than 2 bytes, a type other than 03 (int8), 10 (packed bits) and
-    /// 27 (float32), a padding other than 0 of another type than packed bits, float32 data whose
+    /// Refused as `Vector` are fewer than 2 bytes, a type other than 0x03 (int8), 0x10 (packed bits)
+    /// and 0x27 (float32), a padding other than 0 of another type than packed bits, float32 data whose
     /// length is no multiple of 4, and packed bits with a padding above 7, or without data and with a
-    /// padding.
+    /// padding, or with an ignored bit that is not zero.
     pub fn from_bytes(alloc: Global, bytes: &[u8]) -> Result<Vector>
         ensures ok { IfOk result (λ v. vector_bytes v ≡ bytes.now) }
         ensures ranged { IfOk result (λ v. IsInRange (vector_view v)) }
@@ -46,12 +49,34 @@ impl Vector {
         ensures accepted { OnOk result (is_vector bytes.now ≡ true) }
         ensures refused { IfErr result (λ e. IsOutOfMemory e ⊎ (IsVectorError e × (is_vector bytes.now ≡ false))) }
     {
-        let [kind, padding, data @ ..] = bytes else {
-            return Err(Error::Vector {
-                message: "a vector has a type and a padding",
-            });
-        };
-        read_data(alloc, *kind, *padding, data)
+        match bytes {
+            [PACKED_BIT, padding, data @ ..] => packed_bits(alloc, *padding, data),
+            [kind, padding, data @ ..] => numbers(alloc, *kind, *padding, data),
+            _ => Err(Error::Vector { message: HEAD }),
+        }
+    }
+
+    /// Reads the bytes of a vector as `from_bytes` does, whatever its ignored bits hold, and makes
+    /// these zero: the vector written again is the input with the ignored bits zero. Where `from_bytes`
+    /// accepts, the two answers are equal.
+    pub fn from_bytes_clearing(alloc: Global, bytes: &[u8]) -> Result<Vector>
+        ensures ok { IfOk result (λ v. vector_bytes v ≡ vector_cleared bytes.now) }
+        ensures ranged { IfOk result (λ v. IsInRange (vector_view v)) }
+        ensures only { IfOk result (λ v. IsOnlyOne (vector_cleared bytes.now) (vector_view v)) }
+
+        // What `from_bytes` reads in these bytes is the same.
+        ensures same { IfOk result (λ v. IsOnlyOne bytes.now (vector_view v)) }
+        ensures takes_more { is_vector bytes.now ≡ true → is_vector_of_any_bits bytes.now ≡ true }
+
+        // Exactly the bytes of a vector are accepted, whatever its ignored bits.
+        ensures accepted { OnOk result (is_vector_of_any_bits bytes.now ≡ true) }
+        ensures refused { IfErr result (λ e. IsOutOfMemory e ⊎ (IsVectorError e × (is_vector_of_any_bits bytes.now ≡ false))) }
+    {
+        match bytes {
+            [PACKED_BIT, padding, data @ ..] => cleared_bits(alloc, *padding, data),
+            [kind, padding, data @ ..] => numbers(alloc, *kind, *padding, data),
+            _ => Err(Error::Vector { message: HEAD }),
+        }
     }
 
     /// Reads the bytes of a binary of subtype Vector. Another subtype is refused as `Vector`, and the
@@ -97,19 +122,37 @@ impl Vector {
     }
 }
 
-fn read_data(alloc: Global, kind: u8, padding: u8, contents: &[u8]) -> Result<Vector>
+fn packed_bits(alloc: Global, padding: u8, contents: &[u8]) -> Result<Vector>
+    ensures ok { IfOk result (λ v. vector_view v ≡ packed contents.now padding) }
+    ensures ranged { IfOk result (λ v. IsInRange (vector_view v)) }
+    ensures accepted { OnOk result (is_vector (0x10 ∷ padding ∷ contents.now) ≡ true) }
+    ensures refused { IfErr result (λ e. IsOutOfMemory e ⊎ (IsVectorError e × (is_vector (0x10 ∷ padding ∷ contents.now) ≡ false))) }
+{
+    let Ok(bytes) = Vec::from_slice(alloc, contents) else {
+        return Err(Error::OutOfMemory);
+    };
+    Ok(Vector::PackedBit(PackedBitVector::new(bytes, Some(padding))?))
+}
+
+fn cleared_bits(alloc: Global, padding: u8, contents: &[u8]) -> Result<Vector>
+    ensures ok { IfOk result (λ v. vector_view v ≡ packed (cleared contents.now padding) padding) }
+    ensures ranged { IfOk result (λ v. IsInRange (vector_view v)) }
+    ensures accepted { OnOk result (is_vector_of_any_bits (0x10 ∷ padding ∷ contents.now) ≡ true) }
+    ensures refused { IfErr result (λ e. IsOutOfMemory e ⊎ (IsVectorError e × (is_vector_of_any_bits (0x10 ∷ padding ∷ contents.now) ≡ false))) }
+{
+    let Ok(bytes) = Vec::from_slice(alloc, contents) else {
+        return Err(Error::OutOfMemory);
+    };
+    Ok(Vector::PackedBit(PackedBitVector::clearing(bytes, padding)?))
+}
+
+fn numbers(alloc: Global, kind: u8, padding: u8, contents: &[u8]) -> Result<Vector>
+    requires { kind ≢ 0x10 }
     ensures ok { IfOk result (λ v. vector_bytes v ≡ kind ∷ padding ∷ contents.now) }
     ensures ranged { IfOk result (λ v. IsInRange (vector_view v)) }
     ensures accepted { OnOk result (is_vector (kind ∷ padding ∷ contents.now) ≡ true) }
-    ensures refused { IfErr result (λ e. IsOutOfMemory e ⊎ (IsVectorError e × (is_vector (kind ∷ padding ∷ contents.now) ≡ false))) }
+    ensures refused { IfErr result (λ e. IsOutOfMemory e ⊎ (IsVectorError e × (is_vector_of_any_bits (kind ∷ padding ∷ contents.now) ≡ false))) }
 {
-    if kind == PACKED_BIT {
-        let Ok(bytes) = Vec::from_slice(alloc, contents) else {
-            return Err(Error::OutOfMemory);
-        };
-        let packed = PackedBitVector::new(bytes, Some(padding))?;
-        return Ok(Vector::PackedBit(packed));
-    }
     if padding != 0 {
         return Err(Error::Vector {
             message: "only packed bits have a padding",
