@@ -1,0 +1,119 @@
+"""What the program writes of a value: the canonical and the relaxed form of Extended JSON v2, and the shown text.
+
+Both forms are compact JSON text, the keys of each object ascending by their bytes. The relaxed form differs in three
+kinds: Int32 and Int64 are plain numbers, and a date of the years 1970 to 9999 is a text of RFC 3339.
+"""
+import base64
+import json
+
+import dates
+import decimal128
+
+LAST_RELAXED_DATE = 253402300799999
+
+
+def canonical(value):
+    """The compact text of the canonical form."""
+    return compact(tree(value, False))
+
+
+def relaxed(value):
+    """The compact text of the relaxed form."""
+    return compact(tree(value, True))
+
+
+def compact(written):
+    """JSON text without spaces; only quotes, backslashes and characters below U+0020 are escaped."""
+    return json.dumps(written, ensure_ascii=False, sort_keys=True, separators=(',', ':'))
+
+
+def tree(value, is_relaxed):
+    """The tree of a value: null, truth, text, list and document as JSON's own, each other kind in its wrapper."""
+    kind, content = value
+    if kind in ('Null', 'Boolean', 'String'):
+        return content
+    if kind == 'Array':
+        return [tree(item, is_relaxed) for item in content]
+    if kind == 'Document':
+        return object_of(content, is_relaxed)
+    if kind == 'JavaScriptCodeWithScope':
+        code, scope = content
+        return {'$code': code, '$scope': object_of(scope, is_relaxed)}
+    if is_relaxed and kind in ('Int32', 'Int64'):
+        return content
+    if is_relaxed and kind == 'DateTime' and 0 <= content <= LAST_RELAXED_DATE:
+        return {'$date': dates.rfc3339(content)}
+    key, inner = WRAPPERS[kind]
+    return {key: inner(content)}
+
+
+def object_of(pairs, is_relaxed):
+    return {key: tree(value, is_relaxed) for key, value in pairs}
+
+
+def base64_of(data):
+    return base64.b64encode(data).decode()
+
+
+# Of each kind that has one: its key, and what that holds.
+WRAPPERS = {
+    'Int32': ('$numberInt', str),
+    'Int64': ('$numberLong', str),
+    'Double': ('$numberDouble', str),
+    'Decimal128': ('$numberDecimal', decimal128.printed),
+    'ObjectId': ('$oid', str),
+    'Symbol': ('$symbol', str),
+    'RegularExpression': ('$regularExpression', lambda regex: {'pattern': regex[0], 'options': regex[1]}),
+    'Binary': ('$binary', lambda binary: {'base64': base64_of(binary[1]), 'subType': f'{binary[0]:02x}'}),
+    'JavaScriptCode': ('$code', str),
+    'Timestamp': ('$timestamp', lambda stamp: {'t': stamp[0], 'i': stamp[1]}),
+    'DateTime': ('$date', lambda ms: {'$numberLong': str(ms)}),
+    'MinKey': ('$minKey', lambda _: 1),
+    'MaxKey': ('$maxKey', lambda _: 1),
+    'Undefined': ('$undefined', lambda _: True),
+    'DbPointer': ('$dbPointer', lambda pointer: {'$ref': pointer[0], '$id': {'$oid': pointer[1]}}),
+}
+
+
+def shown(value):
+    """The text that a user is shown; texts and keys are not escaped."""
+    kind, content = value
+    if kind == 'Array':
+        return '[' + ', '.join(map(shown, content)) + ']'
+    if kind == 'Document':
+        inside = ', '.join(f'"{key}": {shown(inner)}' for key, inner in content)
+        return f'{{ {inside} }}' if content else '{}'
+    return SHOWN[kind](content)
+
+
+SHOWN = {
+    'Null': lambda _: 'null',
+    'Undefined': lambda _: 'undefined',
+    'MinKey': lambda _: 'MinKey',
+    'MaxKey': lambda _: 'MaxKey',
+    'Boolean': lambda truth: 'true' if truth else 'false',
+    'String': lambda text: f'"{text}"',
+    'Double': lambda text: f'Double(0x{DOUBLES[text]:016x})',
+    'RegularExpression': lambda regex: f'/{regex[0]}/{regex[1]}',
+    'JavaScriptCode': str,
+    'JavaScriptCodeWithScope': lambda code: code[0],
+    'Int32': str,
+    'Int64': str,
+    'Timestamp': lambda stamp: f'Timestamp({stamp[0]}, {stamp[1]})',
+    'Binary': lambda binary: f'Binary(0x{binary[0]:x}, {base64_of(binary[1])})',
+    'ObjectId': lambda text: f'ObjectId("{text}")',
+    'DateTime': lambda ms: f'DateTime("{dates.display(ms)}")',
+    'Symbol': lambda text: f'Symbol("{text}")',
+    'Decimal128': decimal128.printed,
+    'DbPointer': lambda pointer: f'DbPointer({pointer[0]}, {pointer[1]})',
+}
+
+# The patterns of the doubles that have a text (IEEE 754 binary64; the quiet NaN of each sign).
+DOUBLES = {
+    '0.0': 0x0000000000000000,
+    '-0.0': 0x8000000000000000,
+    'Infinity': 0x7FF0000000000000,
+    '-Infinity': 0xFFF0000000000000,
+    'NaN': 0x7FF8000000000000,
+    '-NaN': 0xFFF8000000000000,
+}

@@ -1,0 +1,80 @@
+"""Runs of the program, each a process of its own."""
+import os
+import signal
+from dataclasses import dataclass
+
+LONGEST_SECONDS = 60
+
+
+@dataclass(frozen=True)
+class Answer:
+    """What a run left: its status, standard output and standard error."""
+    status: int
+    output: bytes
+    error: bytes
+
+    def __str__(self):
+        return f'status {self.status}, output {clip(self.output)}, error {clip(self.error)}'
+
+
+def clip(data):
+    """Bytes as they are shown to a reader."""
+    return repr(data) if len(data) <= 2000 else f'{data[:1000]!r}..{data[-1000:]!r} ({len(data)} bytes)'
+
+
+def accepted(text):
+    """The answer that is this text and a newline."""
+    return Answer(0, text.encode() + b'\n', b'')
+
+
+def refused(line):
+    """The answer that is this line of a fault."""
+    return Answer(1, b'', line.encode() + b'\n')
+
+
+class Program:
+    """A program that is handed its mode and, on standard input, bytes."""
+
+    def __init__(self, path):
+        self.path = path
+
+    def answer(self, mode, data):
+        """Runs the program once. A run that doesn't end is killed, and its status tells so."""
+        input_end, input_start = os.pipe()
+        output_end, output_start = os.pipe()
+        error_end, error_start = os.pipe()
+        process = os.posix_spawn(
+            self.path, (self.path, mode), {}, setsigdef=(signal.SIGPIPE,),
+            file_actions=[(os.POSIX_SPAWN_DUP2, end, at)
+                          for at, end in enumerate((input_end, output_start, error_start))])
+        for end in (input_end, output_start, error_start):
+            os.close(end)
+        signal.signal(signal.SIGALRM, lambda *_: os.kill(process, signal.SIGKILL))
+        signal.alarm(LONGEST_SECONDS)
+        try:
+            write_all(input_start, data)
+            # (the error is one line, which its pipe has room for)
+            output, error = read_all(output_end), read_all(error_end)
+            status = os.waitstatus_to_exitcode(os.waitpid(process, 0)[1])
+        finally:
+            signal.alarm(0)
+        return Answer(status, output, error)
+
+
+def write_all(end, data):
+    """Writes the bytes, as far as they are read, and closes the pipe."""
+    try:
+        while data:
+            data = data[os.write(end, data):]
+    except BrokenPipeError:
+        pass
+    os.close(end)
+
+
+def read_all(end):
+    """Reads to the end, and closes the pipe."""
+    parts = []
+    while part := os.read(end, 1 << 20):
+        parts.append(part)
+    os.close(end)
+    return b''.join(parts)
