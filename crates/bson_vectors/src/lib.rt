@@ -2,6 +2,8 @@
 #![tactic(auto)]
 
 #[cfg(test)]
+mod chosen_keys;
+#[cfg(test)]
 mod documents;
 #[cfg(test)]
 mod equality;
