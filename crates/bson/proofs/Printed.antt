@@ -1,21 +1,28 @@
 -- What ends a list or a map of tokens well from where it was printed to ends it well from its start.
-use Rattle.std.proofs.Common.{◌≡◌, ℕ, suc, ◌+◌, ◌-◌, ◌<◌, ◌≤◌, inl, inr, List, [], ◌∷◌, ◌++◌, Result, Ok, Err, Some, slice_get, refl, sym, ap, ◌∙◌, subst, append_assoc, arith}
+use Rattle.std.proofs.Common.{◌≡◌, ℕ, None, cond, suc, ◌+◌, ◌-◌, ◌<◌, ◌≤◌, inl, inr, List, [], ◌∷◌, ◌++◌, Result, Ok, Err, Some, slice_get, refl, sym, ap, ◌∙◌, subst, append_assoc, arith}
 use Rattle.std.proofs.Math.Nat.{eq-or-lt_of_le}
-use Rattle.std.specs.declared.cmp.Ordering.TheVariants.{Less}
+use Rattle.std.specs.Ordering.{is_eq}
+use Rattle.std.specs.declared.cmp.Ordering.TheVariants.{Less, Equal, Greater}
+use Rattle.std.specs.FinMap.Entries.{find, by_order, put as put_entry}
+use Rattle.std.specs.List.{IsDistinct}
 use Rattle.json.specs.Token.{Token, end_object, key}
 use Rattle.json.specs.Tree.{items_tokens, members_tokens}
 use Rattle.serde_json.specs.Data.{Data, object, Items, item, Members, member, put}
 use Rattle.serde_json.specs.Written.{items_outline, members_outline}
-use Rattle.bson_leaf.specs.Written.{Refusal, ◌>>=◌, Stops}
+use Rattle.bson_leaf.specs.Written.{Refusal, finite, ◌>>=◌, Stops}
+use Rattle.std.specs.Prelude.{OnOk}
 use Rattle.bson_leaf.specs.declared.form.Form.{Form}
 use Rattle.bson_leaf.specs.declared.write_error.WriteError.{WriteError}
 use Rattle.bson_leaf.specs.declared.write_error.WriteError.TheVariants.{FiniteDouble, OutOfMemory}
-use Rattle.bson_store.specs.Order.{key_cmp}
-use Rattle.bson_store.specs.Pairs.{keys}
+use Rattle.bson_store.specs.Order.{key_cmp, in_order}
+use Rattle.bson_store.specs.Pairs.{keys, HasDistinctKeys}
 use Rattle.bson_model.specs.Value.{Value, code_scope, Values, value, Pairs, pair}
-use Rattle.bson_model.specs.Writing.{writes, writes_items, writes_pairs, with_scope}
+use Rattle.bson_model.specs.Writing.{writes, writes_items, writes_pairs, with_scope, InRange, PairsInRange}
+use Rattle.bson_store.proofs.Least.{find-in_order}
+use Rattle.bson_store.proofs.Turns.{lacks}
 use Rattle.bson.specs.Texts.{tokens_of, code_tokens, writes_in_order, KeysAscend}
 use Rattle.bson.specs.View.{bson_view, pairs_view}
+use Rattle.bson.specs.declared.bson.Bson.{Bson}
 use Rattle.bson.proofs.Onto.{Entry}
 
 -- ---- lists of tokens
@@ -81,14 +88,83 @@ put_first k l d h (Ok e) (Err x) = refl
 put_first k l d h (Err x) b = refl
 
 -- the map of a document whose keys ascend has its members in the document's order
-pub in_order : (f : Form) (xs : List Entry) → KeysAscend (keys xs) → writes_in_order f (pairs_view xs) ≡ writes_pairs f (pairs_view xs)
-in_order f [] h = refl
-in_order f (x ∷ []) h = refl
-in_order f (x ∷ y ∷ ys) h =
-    let rest = in_order f (y ∷ ys) (λ i. h (suc i)) in
+pub in_turn_is : (f : Form) (xs : List Entry) → KeysAscend (keys xs) → writes_in_order f (pairs_view xs) ≡ writes_pairs f (pairs_view xs)
+in_turn_is f [] h = refl
+in_turn_is f (x ∷ []) h = refl
+in_turn_is f (x ∷ y ∷ ys) h =
+    let rest = in_turn_is f (y ∷ ys) (λ i. h (suc i)) in
     bind_same (writes f (bson_view x.1)) _ _ (λ d.
     put_first x.0 y.0 d (h 0 x.0 y.0 refl refl) (writes f (bson_view y.1)) (writes_in_order f (pairs_view ys))
     ∙ ap (λ r. r >>= λ ms. Ok (put x.0 d ms)) rest)
+
+-- ---- documents by ascending key
+
+-- a key that is above the first one goes behind it
+put_later : (k l : List ℕ) → key_cmp k l ≡ Greater → (a b : Result Data Refusal) (r : Result Members Refusal)
+    → (a >>= λ x. (b >>= λ d. r >>= λ ms. Ok (put k d ms)) >>= λ ms. Ok (member l x ms)) ≡ (b >>= λ d. (a >>= λ x. r >>= λ ms. Ok (member l x ms)) >>= λ ms. Ok (put k d ms))
+put_later k l h (Ok x) (Ok d) (Ok ms) = rw h refl
+put_later k l h (Ok x) (Ok d) (Err e) = refl
+put_later k l h (Ok x) (Err e) r = refl
+put_later k l h (Err finite) (Ok d) r = refl
+put_later k l h (Err finite) (Err finite) r = refl
+
+written_put : (f : Form) (k : List ℕ) (v : Bson) (es : List Entry) → find key_cmp k es ≡ None
+    → writes_in_order f (pairs_view (put_entry key_cmp k v es)) ≡ (writes f (bson_view v) >>= λ d. writes_in_order f (pairs_view es) >>= λ ms. Ok (put k d ms))
+written_put f k v [] h = refl
+written_put f k v (e ∷ es) h =
+    let a = writes f (bson_view e.1) in
+    let r = writes_in_order f (pairs_view es) in
+    elim (key_cmp k e.0) as (λ o. key_cmp k e.0 ≡ o → cond (is_eq o) (Some e.1) (find key_cmp k es) ≡ None
+    → writes_in_order f (pairs_view (by_order o ((k, v) ∷ e ∷ es) ((e.0, v) ∷ es) (e ∷ put_entry key_cmp k v es))) ≡ (writes f (bson_view v) >>= λ d. (a >>= λ x. r >>= λ ms. Ok (member e.0 x ms)) >>= λ ms. Ok (put k d ms))) [
+      | Less ↦ λ o n. bind_same (writes f (bson_view v)) _ _ (λ d. put_first k e.0 d o a r)
+      | Equal ↦ λ o n. cc
+      | Greater ↦ λ o n. bind_same a _ _ (λ x. ap (λ q. q >>= λ ms. Ok (member e.0 x ms)) (written_put f k v es n)) ∙ put_later k e.0 o a (writes f (bson_view v)) r
+    ] refl h
+
+-- the map of a document has its members by ascending key
+pub by_key_is : (f : Form) (ps : List Entry) → HasDistinctKeys ps → writes_in_order f (pairs_view (in_order ps)) ≡ writes_pairs f (pairs_view ps)
+unfolding IsDistinct
+by_key_is f [] d = refl
+by_key_is f (p ∷ ps) d =
+    written_put f p.0 p.1 (in_order ps) (find-in_order p.0 ps ∙ lacks p.0 ps d.0)
+    ∙ bind_same (writes f (bson_view p.1)) _ _ (λ x. ap (λ r. r >>= λ ms. Ok (put p.0 x ms)) (by_key_is f ps d.1))
+
+ranged_put : (k : List ℕ) (v : Bson) (es : List Entry) → find key_cmp k es ≡ None → PairsInRange (pairs_view (put_entry key_cmp k v es)) → InRange (bson_view v) × PairsInRange (pairs_view es)
+ranged_put k v [] h r = r
+ranged_put k v (e ∷ es) h r =
+    elim (key_cmp k e.0) as (λ o. cond (is_eq o) (Some e.1) (find key_cmp k es) ≡ None → PairsInRange (pairs_view (by_order o ((k, v) ∷ e ∷ es) ((e.0, v) ∷ es) (e ∷ put_entry key_cmp k v es))) → InRange (bson_view v) × (InRange (bson_view e.1) × PairsInRange (pairs_view es))) [
+      | Less ↦ λ n r. r
+      | Equal ↦ λ n r. cc
+      | Greater ↦ λ n r. let rest = ranged_put k v es n r.1 in (rest.0, (r.0, rest.1))
+    ] h r
+
+pub ranged_by_key : (ps : List Entry) → HasDistinctKeys ps → PairsInRange (pairs_view (in_order ps)) → PairsInRange (pairs_view ps)
+unfolding IsDistinct
+ranged_by_key [] d r = tt
+ranged_by_key (p ∷ ps) d r =
+    let both = ranged_put p.0 p.1 (in_order ps) (find-in_order p.0 ps ∙ lacks p.0 ps d.0) r in
+    (both.0, ranged_by_key ps d.1 both.1)
+
+-- ---- one more pair of what is left
+
+module _ (left rest : List Entry) (k : List ℕ) (v : Bson) (here : left ≡ (k, v) ∷ rest) where
+  pub ends_more : (f : Form) (old near new end : List Token) → near ≡ old ++ key k ∷ [] → ((x : Data) × (writes f (bson_view v) ≡ Ok x) × (new ≡ near ++ tokens_of x)) → EndsMembers (writes_in_order f (pairs_view rest)) new end
+      → EndsMembers (writes_in_order f (pairs_view left)) old end
+  ends_more f old near new end n p h = subst (λ (xs : List Entry). EndsMembers (writes_in_order f (pairs_view xs)) old end) (sym here) (members_more f k (bson_view v) (pairs_view rest) old near new end n p h)
+
+  pub stops_here : (f : Form) (e : WriteError) → Stops e (writes f (bson_view v)) → Stops e (writes_in_order f (pairs_view left))
+  stops_here f e h = subst (λ (xs : List Entry). Stops e (writes_in_order f (pairs_view xs))) (sym here) (members_here f e k (bson_view v) (pairs_view rest) h)
+
+  pub stops_more : (f : Form) (e : WriteError) (d : Data) → writes f (bson_view v) ≡ Ok d → Stops e (writes_in_order f (pairs_view rest)) → Stops e (writes_in_order f (pairs_view left))
+  stops_more f e d p h = subst (λ (xs : List Entry). Stops e (writes_in_order f (pairs_view xs))) (sym here) (members_later f e k (bson_view v) d (pairs_view rest) p h)
+
+  pub ranged_more : InRange (bson_view v) → PairsInRange (pairs_view rest) → PairsInRange (pairs_view left)
+  ranged_more r h = subst (λ (xs : List Entry). PairsInRange (pairs_view xs)) (sym here) (r, h)
+
+-- what an Ok holds, brought further
+pub on_ok : {X E : Type 0} {P Q : Type 0} (r : Result X E) → (P → Q) → OnOk r P → OnOk r Q
+on_ok (Ok x) f h = f h
+on_ok (Err e) f h = tt
 
 -- ---- code with a scope
 

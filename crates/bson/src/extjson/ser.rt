@@ -62,32 +62,50 @@ impl Bson {
     ///
     /// A value that holds a finite double other than zero, at any depth, is refused as `FiniteDouble`, and want of
     /// memory is `OutOfMemory`.
+    pub fn to_canonical_text(&self, alloc: Global) -> Result<String, WriteError>
+        ensures text { IfOk result (λ s. IsTextIn Canonical (bson_view self.now) (string_bytes s)) }
+        ensures writable { OnOk result (writable (bson_view self.now) ≡ true) }
+        ensures finite { result ≡ Err WriteError.FiniteDouble → writable (bson_view self.now) ≡ false }
+    {
+        self.to_text(alloc, Form::Canonical)
+    }
+
+    /// [`Bson::to_canonical_text`] of a value that is then dropped.
     pub fn into_canonical_text(self, alloc: Global) -> Result<String, WriteError>
         ensures text { IfOk result (λ s. IsTextIn Canonical (bson_view self) (string_bytes s)) }
         ensures writable { OnOk result (writable (bson_view self) ≡ true) }
         ensures finite { result ≡ Err WriteError.FiniteDouble → writable (bson_view self) ≡ false }
     {
-        self.into_text(alloc, Form::Canonical)
+        self.to_canonical_text(alloc)
     }
 
-    /// The compact text of the relaxed tree of the value, as [`Bson::into_relaxed_extjson`] makes it and `serde_json`
-    /// writes it. It is written straight from the value, with no tree of the whole.
+    /// The compact text of the relaxed tree of the value, as [`Bson::into_relaxed_extjson`] makes it and
+    /// `serde_json` writes it. It is written straight from the value, with no tree of the whole.
     ///
     /// A value that holds a finite double other than zero, at any depth, is refused as `FiniteDouble`, and want of
     /// memory is `OutOfMemory`.
+    pub fn to_relaxed_text(&self, alloc: Global) -> Result<String, WriteError>
+        ensures text { IfOk result (λ s. IsTextIn Relaxed (bson_view self.now) (string_bytes s)) }
+        ensures writable { OnOk result (writable (bson_view self.now) ≡ true) }
+        ensures finite { result ≡ Err WriteError.FiniteDouble → writable (bson_view self.now) ≡ false }
+    {
+        self.to_text(alloc, Form::Relaxed)
+    }
+
+    /// [`Bson::to_relaxed_text`] of a value that is then dropped.
     pub fn into_relaxed_text(self, alloc: Global) -> Result<String, WriteError>
         ensures text { IfOk result (λ s. IsTextIn Relaxed (bson_view self) (string_bytes s)) }
         ensures writable { OnOk result (writable (bson_view self) ≡ true) }
         ensures finite { result ≡ Err WriteError.FiniteDouble → writable (bson_view self) ≡ false }
     {
-        self.into_text(alloc, Form::Relaxed)
+        self.to_relaxed_text(alloc)
     }
 
     // The text of the value in a form.
-    fn into_text(self, alloc: Global, form: Form) -> Result<String, WriteError>
-        ensures text { IfOk result (λ s. IsTextIn form (bson_view self) (string_bytes s)) }
-        ensures writable { OnOk result (writable (bson_view self) ≡ true) }
-        ensures finite { result ≡ Err WriteError.FiniteDouble → writable (bson_view self) ≡ false }
+    fn to_text(&self, alloc: Global, form: Form) -> Result<String, WriteError>
+        ensures text { IfOk result (λ s. IsTextIn form (bson_view self.now) (string_bytes s)) }
+        ensures writable { OnOk result (writable (bson_view self.now) ≡ true) }
+        ensures finite { result ≡ Err WriteError.FiniteDouble → writable (bson_view self.now) ≡ false }
     {
         text_of(alloc, form, self)
     }

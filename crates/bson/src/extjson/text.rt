@@ -1,30 +1,25 @@
 //! The text of a value in both forms, written with no tree of the whole.
 ghost use Rattle.std.specs.Prelude.{◌≡◌, ◌++◌, OnOk, true};
 ghost use Rattle.serde_json.specs.Data.{array, object};
-ghost use Rattle.bson_leaf.specs.Normal.{ScalarInRange};
-ghost use Rattle.bson_leaf.specs.View.{leaf_view};
-ghost use Rattle.bson_leaf.specs.Written.{writes_scalar};
 ghost use Rattle.bson_model.specs.Writing.{writes, writes_items, writes_pairs, InRange, ItemsInRange, PairsInRange};
-ghost use Rattle.bson_store.specs.Pairs.{keys};
+ghost use Rattle.bson_store.specs.Order.{in_order};
+ghost use Rattle.bson_store.specs.Pairs.{keys, HasDistinctKeys};
 ghost use Rattle.bson.specs.Texts.{Prints, GivesText, code_tokens, writes_in_order, KeysAscend};
-ghost use Rattle.bson.specs.View.{bson_view, scoped_view, document_view, values_view};
+ghost use Rattle.bson.specs.View.{bson_view, scoped_view, values_view, pairs_view};
 
 use crate::bson::{Bson, JavaScriptCodeWithScope};
 use crate::document::Document;
-use crate::extjson::leaf::leaf_of;
-use crate::extjson::tokens::{put_int32, put_int64, put_members, put_object_id, put_tree};
-use crate::extjson::write::write_pairs;
+use crate::extjson::tokens::{put_int32, put_int64, put_object_id, put_tree};
+use crate::extjson::write::write;
 use bson_leaf::form::Form;
-use bson_leaf::leaf::Leaf;
-use bson_leaf::write::write_leaf;
 use bson_leaf::write_error::WriteError;
 use bson_store::{PairStore, SmallPairs};
 use json::Writer;
 use std::alloc::{AllocError, Global};
 
-pub(crate) fn text_of(alloc: Global, form: Form, value: Bson) -> Result<String, WriteError>
-    ensures written { GivesText result (writes form (bson_view value)) }
-    ensures ranged { OnOk result (InRange (bson_view value)) }
+pub(crate) fn text_of(alloc: Global, form: Form, value: &Bson) -> Result<String, WriteError>
+    ensures written { GivesText result (writes form (bson_view value.now)) }
+    ensures ranged { OnOk result (InRange (bson_view value.now)) }
 {
     let mut out = Writer::new(Vec::with_capacity(alloc, 128)?);
     print(alloc, form, value, &mut out)?;
@@ -35,16 +30,20 @@ pub(crate) fn text_of(alloc: Global, form: Form, value: Bson) -> Result<String, 
 }
 
 #[cycle(print)]
-fn print(alloc: Global, form: Form, value: Bson, out: &mut Writer) -> Result<(), WriteError>
-    ensures printed { Prints (λ t. t) result (writes form (bson_view value)) out.old.tokens out.new.tokens }
+fn print(alloc: Global, form: Form, value: &Bson, out: &mut Writer) -> Result<(), WriteError>
+    ensures printed { Prints (λ t. t) result (writes form (bson_view value.now)) out.old.tokens out.new.tokens }
     ensures before { out.new.before ≡ out.old.before }
-    ensures ranged { OnOk result (InRange (bson_view value)) }
+    ensures ranged { OnOk result (InRange (bson_view value.now)) }
 {
     match value {
         Bson::Array(values) => print_items(alloc, form, values, out),
         Bson::Document(document) => print_document(alloc, form, document, out),
         Bson::JavaScriptCodeWithScope(scoped) => print_scoped(alloc, form, scoped, out),
-        value => print_leaf(alloc, form, leaf_of(value), out),
+        Bson::String(text) => Ok(out.string(text.as_str())?),
+        Bson::Int32(z) => Ok(put_int32(form, *z, out)?),
+        Bson::Int64(z) => Ok(put_int64(form, *z, out)?),
+        Bson::ObjectId(id) => Ok(put_object_id(alloc, *id, out)?),
+        value => print_tree(alloc, form, value, out),
     }
 }
 
@@ -52,16 +51,16 @@ fn print(alloc: Global, form: Form, value: Bson, out: &mut Writer) -> Result<(),
 fn print_items(
     alloc: Global,
     form: Form,
-    values: Vec<Bson>,
+    values: &Vec<Bson>,
     out: &mut Writer,
 ) -> Result<(), WriteError>
-    ensures printed { Prints array result (writes_items form (values_view values.items)) out.old.tokens out.new.tokens }
+    ensures printed { Prints array result (writes_items form (values_view values.now.items)) out.old.tokens out.new.tokens }
     ensures before { out.new.before ≡ out.old.before }
-    ensures ranged { OnOk result (ItemsInRange (values_view values.items)) }
+    ensures ranged { OnOk result (ItemsInRange (values_view values.now.items)) }
 {
     out.begin_array()?;
-    for value in values {
-        print(alloc, form, value, out)?;
+    for item in values {
+        print(alloc, form, item, out)?;
     }
     Ok(out.end_array()?)
 }
@@ -70,93 +69,85 @@ fn print_items(
 fn print_scoped(
     alloc: Global,
     form: Form,
-    scoped: JavaScriptCodeWithScope,
+    scoped: &JavaScriptCodeWithScope,
     out: &mut Writer,
 ) -> Result<(), WriteError>
-    ensures printed { Prints (λ t. t) result (writes form (scoped_view scoped)) out.old.tokens out.new.tokens }
+    ensures printed { Prints (λ t. t) result (writes form (scoped_view scoped.now)) out.old.tokens out.new.tokens }
     ensures before { out.new.before ≡ out.old.before }
-    ensures ranged { OnOk result (InRange (scoped_view scoped)) }
+    ensures ranged { OnOk result (InRange (scoped_view scoped.now)) }
 {
-    let JavaScriptCodeWithScope { code, scope } = scoped;
-    put_code(code.as_str(), out)?;
-    print_document(alloc, form, scope, out)?;
+    put_code(scoped.code.as_str(), out)?;
+    print_document(alloc, form, &scoped.scope, out)?;
     Ok(out.end_object()?)
 }
 
-// A document whose keys ascend is printed as it stands, and any other from its map.
+// A document whose keys ascend is printed as it stands, and any other by ascending key.
 #[cycle(print)]
 fn print_document(
     alloc: Global,
     form: Form,
-    document: Document,
+    document: &Document,
     out: &mut Writer,
 ) -> Result<(), WriteError>
-    ensures printed { Prints object result (writes_pairs form (document_view document)) out.old.tokens out.new.tokens }
+    ensures printed { Prints object result (writes_pairs form (pairs_view document.now.pairs)) out.old.tokens out.new.tokens }
     ensures before { out.new.before ≡ out.old.before }
-    ensures ranged { OnOk result (PairsInRange (document_view document)) }
+    ensures ranged { OnOk result (PairsInRange (pairs_view document.now.pairs)) }
 {
     if ascends(&document.pairs) {
-        print_in_order(alloc, form, document, out)
+        print_in_turn(alloc, form, document, out)
     } else {
-        print_map(alloc, form, document, out)
+        print_by_key(alloc, form, document, out)
     }
 }
 
 #[cycle(print)]
-fn print_in_order(
+fn print_in_turn(
     alloc: Global,
     form: Form,
-    document: Document,
+    document: &Document,
     out: &mut Writer,
 ) -> Result<(), WriteError>
-    ensures printed { Prints object result (writes_in_order form (document_view document)) out.old.tokens out.new.tokens }
+    ensures printed { Prints object result (writes_in_order form (pairs_view document.now.pairs)) out.old.tokens out.new.tokens }
     ensures before { out.new.before ≡ out.old.before }
-    ensures ranged { OnOk result (PairsInRange (document_view document)) }
+    ensures ranged { OnOk result (PairsInRange (pairs_view document.now.pairs)) }
 {
-    let Document { pairs } = document;
     out.begin_object()?;
-    for (key, value) in pairs.into_pairs() {
-        out.key(key.as_str())?;
-        print(alloc, form, value, out)?;
+    for i in 0..document.pairs.len() {
+        out.key(document.pairs.key_at(i).as_str())?;
+        print(alloc, form, document.pairs.value_at(i), out)?;
     }
     Ok(out.end_object()?)
 }
 
-fn print_map(
+#[cycle(print)]
+fn print_by_key(
     alloc: Global,
     form: Form,
-    document: Document,
+    document: &Document,
     out: &mut Writer,
 ) -> Result<(), WriteError>
-    ensures printed { Prints object result (writes_pairs form (document_view document)) out.old.tokens out.new.tokens }
+    ensures printed { Prints object result (writes_in_order form (pairs_view (in_order document.now.pairs))) out.old.tokens out.new.tokens }
     ensures before { out.new.before ≡ out.old.before }
-    ensures ranged { OnOk result (PairsInRange (document_view document)) }
+    ensures ranged { OnOk result (PairsInRange (pairs_view (in_order document.now.pairs))) }
 {
-    let members = write_pairs(alloc, form, document)?;
-    Ok(put_members(&members, out)?)
-}
-
-fn print_leaf(alloc: Global, form: Form, leaf: Leaf, out: &mut Writer) -> Result<(), WriteError>
-    ensures printed { Prints (λ t. t) result (writes_scalar form (leaf_view leaf)) out.old.tokens out.new.tokens }
-    ensures before { out.new.before ≡ out.old.before }
-    ensures ranged { OnOk result (ScalarInRange (leaf_view leaf)) }
-{
-    match leaf {
-        Leaf::String(text) => Ok(out.string(text.as_str())?),
-        Leaf::Int32(z) => Ok(put_int32(form, z, out)?),
-        Leaf::Int64(z) => Ok(put_int64(form, z, out)?),
-        Leaf::ObjectId(id) => Ok(put_object_id(alloc, id, out)?),
-        leaf => print_tree(alloc, form, leaf, out),
+    out.begin_object()?;
+    let mut last: Option<&String> = None;
+    while let Some(i) = document.pairs.next_above(last) {
+        let key = document.pairs.key_at(i);
+        out.key(key.as_str())?;
+        print(alloc, form, document.pairs.value_at(i), out)?;
+        last = Some(key);
     }
+    Ok(out.end_object()?)
 }
 
-// A scalar by its tree.
-fn print_tree(alloc: Global, form: Form, leaf: Leaf, out: &mut Writer) -> Result<(), WriteError>
-    ensures printed { Prints (λ t. t) result (writes_scalar form (leaf_view leaf)) out.old.tokens out.new.tokens }
+// A value by a tree of its own, made of a copy.
+fn print_tree(alloc: Global, form: Form, value: &Bson, out: &mut Writer) -> Result<(), WriteError>
+    ensures printed { Prints (λ t. t) result (writes form (bson_view value.now)) out.old.tokens out.new.tokens }
     ensures before { out.new.before ≡ out.old.before }
-    ensures ranged { OnOk result (ScalarInRange (leaf_view leaf)) }
+    ensures ranged { OnOk result (InRange (bson_view value.now)) }
 {
-    let tree = write_leaf(alloc, form, leaf)?;
+    let tree = write(alloc, form, value.clone(alloc)?)?;
     Ok(put_tree(&tree, out)?)
 }
 
@@ -173,7 +164,8 @@ fn put_code(code: &str, out: &mut Writer) -> Result<(), AllocError>
 
 // Each key is less than the next, by bytes.
 fn ascends(pairs: &SmallPairs<Bson>) -> bool
-    ensures { result ≡ true → KeysAscend (keys pairs.now) }
+    ensures ascends { result ≡ true → KeysAscend (keys pairs.now) }
+    ensures distinct { HasDistinctKeys pairs.now }
 {
     for at in 1..pairs.len() {
         let last = pairs.key_at(at - 1).as_str();

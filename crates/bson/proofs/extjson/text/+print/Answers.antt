@@ -1,90 +1,190 @@
-use Rattle.std.proofs.Common.{rules, ◌≡◌, List, [], ◌∷◌, ◌++◌, length, refl, sym, ap, ◌∙◌, subst, append_assoc, string_bytes, arith}
-use Rattle.std.specs.Vec.Iter.{into_iter_items}
+use Rattle.std.proofs.Common.{rules, ◌≡◌, ℕ, zero, suc, ◌+◌, ◌≤◌, List, [], ◌∷◌, ◌++◌, length, Some, Ok, option_map, refl, sym, ap, ◌∙◌, subst, string_bytes, arith, drop}
+use Rattle.std.proofs.lemmas.Result.{err_from_is_err_and}
+use Rattle.std.specs.FinMap.Entries.{where_key}
 use Rattle.json.specs.Token.{begin_array, begin_object, key}
 use Rattle.json.specs.Tree.{items_tokens, members_tokens}
-use Rattle.serde_json.specs.Data.{object, no_items, no_members}
+use Rattle.serde_json.specs.Data.{object, string, no_items, no_members}
 use Rattle.serde_json.specs.Written.{items_outline, members_outline}
+use Rattle.bson_leaf.specs.Ids.{oid_tree}
 use Rattle.bson_leaf.specs.Written.{Stops}
-use Rattle.bson_model.specs.Value.{code_scope}
-use Rattle.bson_model.specs.Writing.{writes, writes_items, writes_pairs, PairsInRange}
+use Rattle.bson_store.specs.Order.{in_order, key_cmp, is_above}
+use Rattle.bson_store.proofs.Distinct.{drop-at}
+use Rattle.bson_store.proofs.Least.{least_none}
+use Rattle.bson_store.proofs.Turns.{pair_of, next_pair, where_key-all}
+use Rattle.bson_leaf.specs.Scalar.{text, object_id}
+use Rattle.bson_model.specs.Value.{scalar, code_scope}
+use Rattle.bson_model.specs.Writing.{writes, writes_items, PairsInRange}
 use Rattle.bson.specs.Texts.{Prints, code_tokens, writes_in_order}
-use Rattle.bson.specs.View.{bson_view, scoped_view, document_view, values_view, pairs_view}
+use Rattle.bson.specs.View.{bson_view, scoped_view, values_view, pairs_view}
 use Rattle.bson.specs.declared.bson.Bson.{Bson}
+use Rattle.bson.specs.declared.bson.Bson as bson_form
 use Rattle.bson.specs.declared.bson.JavaScriptCodeWithScope.{the_lemmas}
 use Rattle.bson.proofs.Onto.{Entry}
-use Rattle.bson.proofs.Printed.{EndsItems, EndsMembers, in_turn, in_order, members_more, members_later, scoped}
-use Rattle.bson.proofs.Seen.{document_view-pairs}
+use Rattle.bson.proofs.Printed.{EndsItems, EndsMembers, in_turn, in_turn_is, by_key_is, ranged_by_key, ends_more, stops_here, stops_more, ranged_more, on_ok, scoped}
+use Rattle.bson.proofs.Sizes.{value_smaller}
 use Rattle.bson.proofs.extjson.text.+print.Goals as goal
 
-nothing_left : {X : Type 0} (l : List X) → length l ≡ 0 → l ≡ []
-nothing_left [] h = refl
-nothing_left (x ∷ xs) h = absurd (omega arith)
+nothing_left : {X : Type 0} (xs : List X) (i : ℕ) → length xs ≤ i → drop i xs ≡ []
+nothing_left [] zero h = refl
+nothing_left [] (suc i) h = refl
+nothing_left (x ∷ xs) zero h = absurd (omega arith)
+nothing_left (x ∷ xs) (suc i) h = nothing_left xs i (omega arith)
+
+pub print-returns-in_ok-string-in-String-clause-printed : goal.print-returns-in_ok-string-in-String-clause-printed
+print-returns-in_ok-string-in-String-clause-printed t c =
+    let f = c.args.form in
+    let seen : bson_view (bson_form.String c.in-String.text) ≡ scalar (text (string_bytes c.in-String.text)) = search (rules, bson_form.the_lemmas) in
+    let written = ap (λ v. writes f (bson_view v)) c.in-String.is ∙ ap (writes f) seen ∙ ap (λ r. Ok (string r)) (sym c.as_str.ensures.value) in
+    (string c.as_str.result.now, written, c.in_ok-string-in-String.ensures.ok)
+
+pub print-returns-in_ok-put_object_id-in-ObjectId-clause-printed : goal.print-returns-in_ok-put_object_id-in-ObjectId-clause-printed
+print-returns-in_ok-put_object_id-in-ObjectId-clause-printed t c =
+    let f = c.args.form in
+    let id = c.in-ObjectId.id in
+    let seen : bson_view (bson_form.ObjectId id) ≡ scalar (object_id id) = search (rules, bson_form.the_lemmas) in
+    (oid_tree id, ap (λ v. writes f (bson_view v)) c.in-ObjectId.is ∙ ap (writes f) seen, c.in_ok-put_object_id-in-ObjectId.ensures.put)
 
 pub print_items-returns-clause-printed : goal.print_items-returns-clause-printed
 print_items-returns-clause-printed t c =
-    let at = c.loop-value in
-    let none = c.in-None.ensures.steps in
-    let empty : into_iter_items at.value-iterator ≡ [] = nothing_left _ (sym at.invariant.left ∙ none.0) in
-    let end = c.end_array.new.self.tokens in
-    let done = at.invariant.ends end (subst (λ (xs : List Bson). EndsItems (writes_items c.args.form (values_view xs)) at.out.tokens end) (sym empty) (no_items, refl, c.in_ok-end_array.ensures.ok)) in
-    (done.0, done.1, in_turn c.args.out.now.tokens (begin_array ∷ []) c.begin_array.new.self.tokens (items_tokens (items_outline done.0)) end c.in_ok-begin_array.ensures.ok done.2)
-
-pub print_document-returns-then-ascends-clause-printed : goal.print_document-returns-then-ascends-clause-printed
-print_document-returns-then-ascends-clause-printed t c =
-    let d = c.args.document in
+    let at = c.loop-item in
     let f = c.args.form in
-    let seen = document_view-pairs d in
-    let same = ap (writes_in_order f) seen ∙ in_order f d.pairs (c.ascends.ensures c.if-ascends.true) ∙ ap (writes_pairs f) (sym seen) in
-    subst (λ w. Prints object c.print_in_order.result w c.args.out.now.tokens c.print_in_order.new.out.tokens) same c.print_in_order.ensures.printed
+    let all = c.args.values.now.items in
+    let value = c.deref-item-items.ensures.value in
+    let empty : drop at.item-index c.deref-item-items.result.now ≡ [] = nothing_left _ _ c.loop-item-test.false in
+    let end = c.end_array.new.self.tokens in
+    let done = at.invariant.ends end (subst (λ (xs : List Bson). EndsItems (writes_items f (values_view xs)) at.out.tokens end) (sym empty) (no_items, refl, c.in_ok-end_array.ensures.ok)) in
+    (done.0, ap (λ (xs : List Bson). writes_items f (values_view xs)) (sym value) ∙ done.1, in_turn c.args.out.now.tokens (begin_array ∷ []) c.begin_array.new.self.tokens (items_tokens (items_outline done.0)) end c.in_ok-begin_array.ensures.ok done.2)
 
 pub print_scoped-returns-clause-printed : goal.print_scoped-returns-clause-printed
 print_scoped-returns-clause-printed t c =
-    let it = c.args.scoped in
+    let it = c.args.scoped.now in
     let f = c.args.form in
     let s = string_bytes it.code in
     let old = c.args.out.now.tokens in
-    let seen : code_scope s (document_view it.scope) ≡ scoped_view it = search (rules, the_lemmas) in
+    let seen : code_scope s (pairs_view it.scope.pairs) ≡ scoped_view it = search (rules, the_lemmas) in
     let opened = subst (λ z. c.put_code.new.out.tokens ≡ old ++ code_tokens z) c.as_str.ensures.value c.in_ok-put_code.ensures.put in
-    let done = scoped f s (document_view it.scope) old c.put_code.new.out.tokens c.print_document.new.out.tokens c.end_object.new.self.tokens opened c.in_ok-print_document.ensures.printed c.in_ok-end_object.ensures.ok in
+    let done = scoped f s (pairs_view it.scope.pairs) old c.put_code.new.out.tokens c.print_document.new.out.tokens c.end_object.new.self.tokens opened c.in_ok-print_document.ensures.printed c.in_ok-end_object.ensures.ok in
     (done.0, ap (writes f) (sym seen) ∙ done.1, done.2)
 
-pub print_in_order-loop-key-init : goal.print_in_order-loop-key-init
-print_in_order-loop-key-init t c =
-    let f = c.args.form in
-    let all = c.args.document.pairs in
-    let start : c.into_iter-key-iterator.result ≡ all = c.into_iter-key-iterator.ensures.into_iter_gives ∙ c.into_pairs-key-items.ensures.pairs in
-    let seen : pairs_view c.into_iter-key-iterator.result ≡ document_view c.args.document = ap pairs_view start ∙ sym (document_view-pairs c.args.document) in
-    record {
-      split = ([], sym start);
-      before = refl;
-      ends = λ end h. subst (λ ps. EndsMembers (writes_in_order f ps) c.begin_object.new.self.tokens end) seen h;
-      stops = λ e h. subst (λ ps. Stops e (writes_in_order f ps)) seen h;
-      ranged = λ h. subst PairsInRange seen h;
-    }
+-- ---- documents
 
-pub print_in_order-loop-key-preserved : goal.print_in_order-loop-key-preserved
-print_in_order-loop-key-preserved t c =
+pub print_document-returns-then-ascends-clause-printed : goal.print_document-returns-then-ascends-clause-printed
+print_document-returns-then-ascends-clause-printed t c =
+    let same = in_turn_is c.args.form c.args.document.now.pairs (c.ascends.ensures.ascends c.if-ascends.true) in
+    subst (λ w. Prints object c.print_in_turn.result w c.args.out.now.tokens c.print_in_turn.new.out.tokens) same c.print_in_turn.ensures.printed
+
+pub print_document-returns-else-ascends-clause-printed : goal.print_document-returns-else-ascends-clause-printed
+print_document-returns-else-ascends-clause-printed t c =
+    let same = by_key_is c.args.form c.args.document.now.pairs c.ascends.ensures.distinct in
+    subst (λ w. Prints object c.print_by_key.result w c.args.out.now.tokens c.print_by_key.new.out.tokens) same c.print_by_key.ensures.printed
+
+pub print_document-returns-else-ascends-clause-ranged : goal.print_document-returns-else-ascends-clause-ranged
+print_document-returns-else-ascends-clause-ranged t c =
+    on_ok c.print_by_key.result (ranged_by_key c.args.document.now.pairs c.ascends.ensures.distinct) c.print_by_key.ensures.ranged
+
+-- ---- in the document's order
+
+pub print_in_turn-returns-in_err-print-clause-printed : goal.print_in_turn-returns-in_err-print-clause-printed
+print_in_turn-returns-in_err-print-clause-printed t c =
+    let ps = c.args.document.now.pairs in
+    let at = c.loop-i in
+    let k = string_bytes c.key_at.result.now in
+    let v = c.value_at.result.now in
+    let here = drop-at ps at.i (k, v) (pair_of ps at.i k v c.key_at.ensures c.value_at.ensures) in
+    let p = err_from_is_err_and c.from_residual-in_err-print.result c.from_residual-in_err-print.ensures.1 in
+    rw (p.1, p.2) (at.invariant.stops _ (stops_here _ (drop (at.i + 1) ps) k v here c.args.form _ c.in_err-print.ensures.printed))
+
+pub print_in_turn-loop-i-preserved : goal.print_in_turn-loop-i-preserved
+print_in_turn-loop-i-preserved t c =
     let f = c.args.form in
-    let steps = c.in-Some.ensures.steps in
-    let k = string_bytes c.in-Some.key in
-    let x : Entry = (k, c.in-Some.value) in
-    let v = bson_view c.in-Some.value in
-    let at = c.loop-key in
-    let front = at.invariant.split in
-    let left = c.next.new.self in
+    let ps = c.args.document.now.pairs in
+    let at = c.loop-i in
+    let k = string_bytes c.key_at.result.now in
+    let v = c.value_at.result.now in
+    let rest = drop (at.i + 1) ps in
+    let here = drop-at ps at.i (k, v) (pair_of ps at.i k v c.key_at.ensures c.value_at.ensures) in
     let p = c.in_ok-print.ensures.printed in
     let near : c.key.new.self.tokens ≡ at.out.tokens ++ key k ∷ [] = subst (λ z. c.key.new.self.tokens ≡ at.out.tokens ++ key z ∷ []) c.as_str.ensures.value c.in_ok-key.ensures.ok in
     record {
-      split = (front.0 ++ x ∷ [], front.1 ∙ ap (λ r. front.0 ++ r) steps ∙ sym (append_assoc front.0 (x ∷ []) left));
       before = c.in_ok-print.ensures.before ∙ c.in_ok-key.ensures.room.0 ∙ at.invariant.before;
-      ends = λ end h. at.invariant.ends end (subst (λ (xs : List Entry). EndsMembers (writes_in_order f (pairs_view xs)) at.out.tokens end) (sym steps) (members_more f k v (pairs_view left) at.out.tokens c.key.new.self.tokens c.print.new.out.tokens end near p h));
-      stops = λ e h. at.invariant.stops e (subst (λ (xs : List Entry). Stops e (writes_in_order f (pairs_view xs))) (sym steps) (members_later f e k v p.0 (pairs_view left) p.1 h));
-      ranged = λ h. at.invariant.ranged (subst (λ (xs : List Entry). PairsInRange (pairs_view xs)) (sym steps) (c.in_ok-print.ensures.ranged, h));
+      ends = λ end h. at.invariant.ends end (ends_more _ rest k v here f at.out.tokens c.key.new.self.tokens c.print.new.out.tokens end near p h);
+      stops = λ e h. at.invariant.stops e (stops_more _ rest k v here f e p.0 p.1 h);
+      ranged = λ h. at.invariant.ranged (ranged_more _ rest k v here c.in_ok-print.ensures.ranged h);
     }
 
-pub print_in_order-returns-clause-printed : goal.print_in_order-returns-clause-printed
-print_in_order-returns-clause-printed t c =
-    let at = c.loop-key in
+pub print_in_turn-returns-clause-printed : goal.print_in_turn-returns-clause-printed
+print_in_turn-returns-clause-printed t c =
+    let ps = c.args.document.now.pairs in
+    let at = c.loop-i in
     let end = c.end_object.new.self.tokens in
-    let done = at.invariant.ends end (subst (λ (xs : List Entry). EndsMembers (writes_in_order c.args.form (pairs_view xs)) at.out.tokens end) (sym c.in-None.ensures.steps.0) (no_members, refl, c.in_ok-end_object.ensures.ok)) in
+    let empty : drop at.i ps ≡ [] = nothing_left ps at.i (omega (arith, c.loop-i-test.false, c.len-i-end.ensures.len)) in
+    let done = at.invariant.ends end (subst (λ (xs : List Entry). EndsMembers (writes_in_order c.args.form (pairs_view xs)) at.out.tokens end) (sym empty) (no_members, refl, c.in_ok-end_object.ensures.ok)) in
     (done.0, done.1, in_turn c.args.out.now.tokens (begin_object ∷ []) c.begin_object.new.self.tokens (members_tokens (members_outline done.0)) end c.in_ok-begin_object.ensures.ok done.2)
+
+-- ---- by ascending key
+
+pub print_by_key-loop-i-init : goal.print_by_key-loop-i-init
+print_by_key-loop-i-init t c =
+    let f = c.args.form in
+    let all = where_key-all (in_order c.args.document.now.pairs) in
+    record {
+      before = refl;
+      ends = λ end h. subst (λ (xs : List Entry). EndsMembers (writes_in_order f (pairs_view xs)) c.begin_object.new.self.tokens end) all h;
+      stops = λ e h. subst (λ (xs : List Entry). Stops e (writes_in_order f (pairs_view xs))) all h;
+      ranged = λ h. subst (λ (xs : List Entry). PairsInRange (pairs_view xs)) all h;
+    }
+
+pub print_by_key-print-requires : goal.print_by_key-print-requires
+print_by_key-print-requires t c =
+    let h = value_smaller c.args.document.now c.in-Some.i c.value_at.result.now (sym c.value_at.ensures) in
+    (omega (arith, h, c.decreases), tt)
+
+pub print_by_key-loop-i-smaller : goal.print_by_key-loop-i-smaller
+print_by_key-loop-i-smaller t c =
+    let ps = c.args.document.now.pairs in
+    let k = string_bytes c.key_at-key.result.now in
+    let v = c.value_at.result.now in
+    let here = pair_of ps c.in-Some.i k v c.key_at-key.ensures c.value_at.ensures in
+    let next = ap length (next_pair ps (option_map (λ s. string_bytes s.now) c.loop-i.last) c.in-Some.i (k, v) here c.in-Some.ensures.least) in
+    omega (arith, next)
+
+pub print_by_key-returns-in_err-print-clause-printed : goal.print_by_key-returns-in_err-print-clause-printed
+print_by_key-returns-in_err-print-clause-printed t c =
+    let ps = c.args.document.now.pairs in
+    let at = c.loop-i in
+    let k = string_bytes c.key_at-key.result.now in
+    let v = c.value_at.result.now in
+    let here = next_pair ps (option_map (λ s. string_bytes s.now) at.last) c.in-Some.i (k, v) (pair_of ps c.in-Some.i k v c.key_at-key.ensures c.value_at.ensures) c.in-Some.ensures.least in
+    let p = err_from_is_err_and c.from_residual-in_err-print.result c.from_residual-in_err-print.ensures.1 in
+    rw (p.1, p.2) (at.invariant.stops _ (stops_here _ (where_key key_cmp (is_above (Some k)) (in_order ps)) k v here c.args.form _ c.in_err-print.ensures.printed))
+
+pub print_by_key-loop-i-preserved : goal.print_by_key-loop-i-preserved
+print_by_key-loop-i-preserved t c =
+    let f = c.args.form in
+    let ps = c.args.document.now.pairs in
+    let at = c.loop-i in
+    let k = string_bytes c.key_at-key.result.now in
+    let v = c.value_at.result.now in
+    let rest = where_key key_cmp (is_above (Some k)) (in_order ps) in
+    let here = next_pair ps (option_map (λ s. string_bytes s.now) at.last) c.in-Some.i (k, v) (pair_of ps c.in-Some.i k v c.key_at-key.ensures c.value_at.ensures) c.in-Some.ensures.least in
+    let p = c.in_ok-print.ensures.printed in
+    let near : c.key.new.self.tokens ≡ at.out.tokens ++ key k ∷ [] = subst (λ z. c.key.new.self.tokens ≡ at.out.tokens ++ key z ∷ []) c.as_str.ensures.value c.in_ok-key.ensures.ok in
+    record {
+      before = c.in_ok-print.ensures.before ∙ c.in_ok-key.ensures.room.0 ∙ at.invariant.before;
+      ends = λ end h. at.invariant.ends end (ends_more _ rest k v here f at.out.tokens c.key.new.self.tokens c.print.new.out.tokens end near p h);
+      stops = λ e h. at.invariant.stops e (stops_more _ rest k v here f e p.0 p.1 h);
+      ranged = λ h. at.invariant.ranged (ranged_more _ rest k v here c.in_ok-print.ensures.ranged h);
+    }
+
+pub print_by_key-returns-clause-printed : goal.print_by_key-returns-clause-printed
+print_by_key-returns-clause-printed t c =
+    let at = c.loop-i in
+    let end = c.end_object.new.self.tokens in
+    let empty = least_none (option_map (λ s. string_bytes s.now) at.last) c.args.document.now.pairs c.in_default.ensures.least in
+    let done = at.invariant.ends end (subst (λ (xs : List Entry). EndsMembers (writes_in_order c.args.form (pairs_view xs)) at.out.tokens end) (sym empty) (no_members, refl, c.in_ok-end_object.ensures.ok)) in
+    (done.0, done.1, in_turn c.args.out.now.tokens (begin_object ∷ []) c.begin_object.new.self.tokens (members_tokens (members_outline done.0)) end c.in_ok-begin_object.ensures.ok done.2)
+
+pub print_by_key-returns-clause-ranged : goal.print_by_key-returns-clause-ranged
+print_by_key-returns-clause-ranged t c =
+    let empty = least_none (option_map (λ s. string_bytes s.now) c.loop-i.last) c.args.document.now.pairs c.in_default.ensures.least in
+    c.loop-i.invariant.ranged (subst (λ (xs : List Entry). PairsInRange (pairs_view xs)) (sym empty) tt)
