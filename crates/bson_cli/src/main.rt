@@ -1,49 +1,47 @@
 //! The program `bson_cli MODE`: reads one JSON text from standard input, and writes the value that it means to
 //! standard output, in the form of MongoDB Extended JSON v2 that MODE names, or as it is shown, and a newline.
 //!
-//! `mode` and `fault` are what it is asked and what it refuses, `stream` reads and writes all bytes, and `run` is the
-//! whole way over any reader and writer.
+//! The library `bson_run` goes the whole way; here stand the arguments, the lines on standard error and the statuses.
 #![tactic(auto)]
 
-mod fault;
-mod mode;
-mod run;
-mod stream;
-#[cfg(test)]
-mod tests;
-
-use fault::Fault;
-use mode::{Mode, mode_of};
-use run::run;
-use std::alloc::AllocError;
+use bson_run::fault::Fault;
+use bson_run::mode::{Mode, mode_of};
+use bson_run::run::run;
+use std::env;
+use std::io::ErrorKind;
 use std::process::ExitCode;
-use std::{env, io};
 
 const USAGE: &str = "usage: bson_cli canonical|relaxed|show";
 
 /// Status 0: done. Status 1: refused, with one line on standard error. Status 2: other arguments, and nothing was read.
-fn main(rt: HostRuntime) -> io::Result<ExitCode> {
+fn main(rt: HostRuntime) -> ExitCode {
     let answer = match asked(&rt) {
         Ok(Some(mode)) => run(rt.alloc(), mode, &mut rt.stdin(), &mut rt.stdout()),
-        Ok(None) => {
-            rt.eprintln(USAGE)?;
-            return Ok(ExitCode::from(2));
-        }
-        Err(_) => Err(Fault::OutOfMemory),
+        Ok(None) => return ended(&rt, USAGE, 2),
+        Err(fault) => Err(fault),
     };
     match answer {
-        Ok(()) => Ok(ExitCode::SUCCESS),
-        Err(fault) => {
-            rt.eprintln(fault.line())?;
-            Ok(ExitCode::from(1))
-        }
+        Ok(()) => ExitCode::SUCCESS,
+        Err(fault) => ended(&rt, fault.line(), 1),
     }
 }
 
-/// The mode that the arguments ask for.
-fn asked(rt: &HostRuntime) -> io::Result<Option<Mode>> {
-    let mut words = env::args(rt)?;
+/// The status, once the line was given to standard error. Where that takes nothing, the status alone tells.
+fn ended(rt: &HostRuntime, line: &str, status: u8) -> ExitCode {
+    let _ = rt.eprintln(line);
+    ExitCode::from(status)
+}
+
+/// The mode that the arguments ask for. One that is no UTF-8 asks for none.
+fn asked(rt: &HostRuntime) -> Result<Option<Mode>, Fault> {
+    let mut words = match env::args(rt) {
+        Ok(words) => words,
+        Err(error) if error.kind() == ErrorKind::InvalidData => return Ok(None),
+        Err(_) => return Err(Fault::OutOfMemory),
+    };
     let _program = words.next();
-    let words: Vec<String> = words.collect(rt.alloc())?;
-    Ok(mode_of(&words))
+    match words.collect::<Vec<String>>(rt.alloc()) {
+        Ok(words) => Ok(mode_of(&words)),
+        Err(_) => Err(Fault::OutOfMemory),
+    }
 }

@@ -1,0 +1,3 @@
+pub mod Convert
+pub mod Run
+pub mod Words

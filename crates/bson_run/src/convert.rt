@@ -1,0 +1,105 @@
+//! One text to another: from bytes to bytes.
+ghost use Rattle.std.specs.Prelude.{◌≡◌, ◌⊎◌, ◌++◌, Err, IfOk, IfErr, ℕ, List, string_bytes};
+ghost use Rattle.serde_json.specs.Data.{Data};
+ghost use Rattle.serde_json.specs.View.{view};
+ghost use Rattle.bson_model.specs.Means.{Means};
+ghost use Rattle.bson_model.specs.Shown.{shown};
+ghost use Rattle.bson_model.specs.Value as model;
+ghost use Rattle.bson_model.specs.Writing.{HasMeaning, IsReadForm};
+ghost use Rattle.bson.specs.View.{bson_view};
+ghost use Rattle.bson_run.specs.Convert.{Converts, IsTextOf, IsNoText, IsOutput, IsRefused, IsTreeRefused, newline};
+
+use crate::fault::Fault;
+use crate::mode::Mode;
+use bson::Bson;
+use bson::extjson::WriteError;
+use bson::extjson::de::Error;
+use serde_json::Value;
+use std::alloc::Global;
+
+/// The text that the mode asks for of the one value that the bytes mean, and a newline.
+///
+/// It is Ok exactly where the bytes are UTF-8 and as a whole one JSON text (nested at most 127 deep), and its tree has a
+/// meaning in MongoDB Extended JSON v2; only want of memory may come in its place. `NotJson` is answered where there is
+/// no such text, `BadObjectId` where the first fault of its tree is the text of an object id, and `NotExtendedJson` where
+/// it is any other. `CannotRead` and `CannotWrite` are never answered.
+pub fn convert(alloc: Global, mode: Mode, bytes: &[u8]) -> Result<Vec<u8>, Fault>
+    ensures ok { IfOk result (λ output. Converts mode bytes.now output.items) }
+    ensures one { IfOk result (λ output. (other : List ℕ) → Converts mode bytes.now other → other ≡ output.items) }
+    ensures accepts { (tree : Data) (value : model.Value) → IsTextOf bytes.now tree → Means tree value
+        → IfErr result (λ fault. fault ≡ Fault.OutOfMemory) }
+    ensures fault { IfErr result (λ fault. IsRefused fault bytes.now) }
+{
+    let tree = parse(alloc, bytes)?;
+    let value = meaning(alloc, tree)?;
+    output(alloc, mode, value)
+}
+
+/// The tree whose text the bytes are.
+fn parse(alloc: Global, bytes: &[u8]) -> Result<Value, Fault>
+    ensures ok { IfOk result (λ tree. IsTextOf bytes.now (view tree)) }
+    ensures not_json { result ≡ Err Fault.NotJson → IsNoText bytes.now }
+    ensures fault { IfErr result (λ fault. (fault ≡ Fault.NotJson) ⊎ (fault ≡ Fault.OutOfMemory)) }
+{
+    match Value::from_slice(alloc, bytes) {
+        Ok(tree) => Ok(tree),
+        Err(error) if error.is_memory() => Err(Fault::OutOfMemory),
+        Err(_) => Err(Fault::NotJson),
+    }
+}
+
+/// The value that the tree means.
+fn meaning(alloc: Global, tree: Value) -> Result<Bson, Fault>
+    ensures ok { IfOk result (λ value. HasMeaning (view tree) (bson_view value)) }
+    ensures read_form { IfOk result (λ value. IsReadForm (bson_view value)) }
+    ensures fault { IfErr result (λ fault. IsTreeRefused fault (view tree)) }
+{
+    match Bson::try_from_value(alloc, tree) {
+        Ok(value) => Ok(value),
+        Err(Error::InvalidObjectId(_)) => Err(Fault::BadObjectId),
+        Err(Error::DeserializationError { .. }) => Err(Fault::NotExtendedJson),
+        Err(Error::OutOfMemory) => Err(Fault::OutOfMemory),
+    }
+}
+
+/// The value's text in the mode, and a newline.
+fn output(alloc: Global, mode: Mode, value: Bson) -> Result<Vec<u8>, Fault>
+    requires { IsReadForm (bson_view value) }
+    ensures ok { IfOk result (λ output. IsOutput mode (bson_view value) output.items) }
+    ensures fault { IfErr result (λ fault. fault ≡ Fault.OutOfMemory) }
+{
+    let text = match mode {
+        Mode::Canonical => value.into_canonical_text(alloc),
+        Mode::Relaxed => value.into_relaxed_text(alloc),
+        Mode::Show => return shown_line(alloc, &value),
+    };
+    match text {
+        Ok(text) => line(text),
+        // What was read holds no finite double but the zeros.
+        Err(WriteError::FiniteDouble) => unreachable!(),
+        Err(WriteError::OutOfMemory) => Err(Fault::OutOfMemory),
+    }
+}
+
+/// The text that shows the value, and a newline.
+fn shown_line(alloc: Global, value: &Bson) -> Result<Vec<u8>, Fault>
+    ensures ok { IfOk result (λ line. line.items ≡ shown (bson_view value.now) ++ newline) }
+    ensures fault { IfErr result (λ fault. fault ≡ Fault.OutOfMemory) }
+{
+    match format!(in alloc; "{value}\n") {
+        Ok(line) => Ok(line.into_bytes()),
+        Err(_) => Err(Fault::OutOfMemory),
+    }
+}
+
+/// The text, and a newline.
+fn line(text: String) -> Result<Vec<u8>, Fault>
+    ensures ok { IfOk result (λ line. line.items ≡ string_bytes text ++ newline) }
+    ensures fault { IfErr result (λ fault. fault ≡ Fault.OutOfMemory) }
+{
+    let mut line = text.into_bytes();
+    match line.push(b'\n') {
+        Ok(()) => Ok(line),
+        Err(_) => Err(Fault::OutOfMemory),
+    }
+}

@@ -1,0 +1,12 @@
+//! The way from a text to a text: MongoDB Extended JSON v2 is read as a value, and written in the form that is asked
+//! for. Programs and libraries for other languages stand on this crate.
+//!
+//! In reading order: `mode` and `fault` (what is asked, and what is refused), `convert` (bytes to bytes), `stream` (all
+//! bytes of a reader and to a writer) and `run` (the whole way from a reader to a writer).
+#![tactic(auto)]
+
+pub mod convert;
+pub mod fault;
+pub mod mode;
+pub mod run;
+mod stream;
