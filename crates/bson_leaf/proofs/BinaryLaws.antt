@@ -9,11 +9,14 @@ use Rattle.hex.proofs.HexLemmas.{decode_sized-encode_lower}
 use Rattle.base64.specs.Engines.{standard}
 use Rattle.base64.proofs.EngineFacts.{decode_of-encode_of}
 use Rattle.bson_scalar.specs.Base64.{base64_text}
-use Rattle.bson_scalar.specs.Orders.{parsed}
+use Rattle.bson_scalar.specs.Orders.{parsed_hyphenated}
 use Rattle.bson_scalar.specs.Subtype.{subtype_byte, subtype_of}
-use Rattle.bson_leaf.specs.Binaries.{BinaryRow, binary_read, UuidRow, uuid_read, byte_of, bytes_of, only_byte}
-use Rattle.bson_leaf.specs.Scalar.{binary}
-use Rattle.bson_leaf.proofs.InverseLemmas.{RowLaws, un_ok, un_some, some_then, text_then, two_then, two_same}
+use Rattle.serde_json.specs.Data.{Data}
+use Rattle.bson_leaf.specs.Means.{MeansScalar, binary, uuid}
+use Rattle.bson_leaf.specs.Reading.{binary_read, uuid_read, byte_of, bytes_of, only_byte}
+use Rattle.bson_leaf.specs.Scalar.{Scalar}
+use Rattle.bson_leaf.specs.Shapes.{one}
+use Rattle.bson_leaf.proofs.InverseLemmas.{means_by, un_ok, un_some, some_then, text_then, two_then, two_same}
 
 byte_is : (r : Result (List ℕ) FromHexError) (n : ℕ) → only_byte r ≡ Some n → r ≡ Ok (n ∷ [])
 byte_is (Ok []) n h = cc
@@ -44,25 +47,21 @@ subtype_at false false false false false false false false false false false n p
 pub subtype_byte-of : (n : ℕ) → subtype_byte (subtype_of n) ≡ n
 subtype_byte-of n = subtype_at _ _ _ _ _ _ _ _ _ _ _ n refl refl refl refl refl refl refl refl refl refl refl
 
-pub binary_laws : RowLaws binary_read BinaryRow
-binary_laws = record {
-  from = λ d x h.
-      let a = two_then (codes "base64") (codes "subType") d _ x h in
-      let b = text_then a.0 _ x a.3 in
-      let k = text_then a.1 _ x b.2 in
-      let bs = some_then (bytes_of b.0) _ x k.2 in
-      let n = some_then (byte_of k.0) _ x bs.2 in
-      (b.0, k.0, bs.0, n.0, a.2 ∙ two_same (codes "base64") (codes "subType") b.1 k.1, bytes_are _ bs.0 bs.1, byte_is _ n.0 n.1, un_ok _ _ n.2);
-  to = λ d x r. rw (r.4, r.5, r.6) (ap Ok (sym r.7));
-  form = λ d x r. rw r.7 (refl, ap (λ m. binary (subtype_of m) r.2) (subtype_byte-of r.3));
-}
+pub binary_from : (d : Data) (x : Scalar) → binary_read d ≡ Ok x → MeansScalar (one (codes "$binary") d) x
+binary_from d x h =
+    let a = two_then (codes "base64") (codes "subType") d _ x h in
+    let b = text_then a.0 _ x a.3 in
+    let k = text_then a.1 _ x b.2 in
+    let bs = some_then (bytes_of b.0) _ x k.2 in
+    let n = some_then (byte_of k.0) _ x bs.2 in
+    means_by (codes "$binary") d _ x _ (a.2 ∙ two_same (codes "base64") (codes "subType") b.1 k.1) (un_ok _ _ n.2)
+    (binary b.0 k.0 bs.0 n.0 (bytes_are _ bs.0 bs.1) (byte_is _ n.0 n.1))
 
-pub uuid_laws : RowLaws uuid_read UuidRow
-uuid_laws = record {
-  from = λ d x h. let t = text_then d _ x h in let i = some_then (parsed t.0) _ x t.2 in (t.0, i.0, t.1, i.1, un_ok _ _ i.2);
-  to = λ d x r. rw (r.2, r.3) (ap Ok (sym r.4));
-  form = λ d x r. rw r.4 (refl, refl);
-}
+pub uuid_from : (d : Data) (x : Scalar) → uuid_read d ≡ Ok x → MeansScalar (one (codes "$uuid") d) x
+uuid_from d x h =
+    let t = text_then d _ x h in
+    let i = some_then (parsed_hyphenated t.0) _ x t.2 in
+    means_by (codes "$uuid") d _ x _ t.1 (un_ok _ _ i.2) (uuid t.0 i.0 i.1)
 
 pub bytes_again : (bytes : List ℕ) → IsBytes bytes → bytes_of (base64_text bytes) ≡ Some bytes
 bytes_again bytes are = ap result_ok (decode_of-encode_of standard bytes refl are)

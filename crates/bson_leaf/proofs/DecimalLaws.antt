@@ -14,8 +14,12 @@ use Rattle.bson_decimal.specs.Steps.{finite}
 use Rattle.bson_decimal.specs.Text.{Parses, SpecialWord, nan, snan, infinity, inf, lowercase}
 use Rattle.bson_decimal.proofs.Parsing.{special-parses, finite-parses, refused-parses}
 use Rattle.bson_decimal.proofs.PrintedLaws.{printed-parses, printed-same, printed-canon}
-use Rattle.bson_leaf.specs.Decimals.{word_of, decimal_at, decimal_of, decimal_read, DecimalRow}
-use Rattle.bson_leaf.proofs.InverseLemmas.{RowLaws, un_ok, text_then, some_then}
+use Rattle.serde_json.specs.Data.{Data}
+use Rattle.bson_leaf.specs.Means.{MeansScalar, number_decimal}
+use Rattle.bson_leaf.specs.Reading.{word_of, decimal_at, decimal_of, decimal_read}
+use Rattle.bson_leaf.specs.Scalar.{Scalar}
+use Rattle.bson_leaf.specs.Shapes.{one}
+use Rattle.bson_leaf.proofs.InverseLemmas.{means_by, un_ok, text_then, some_then}
 
 same : (xs ys : List ℕ) → bytes_eq xs ys ≡ true → xs ≡ ys
 same xs ys h = (bytes_eq-Decides xs ys).0 h
@@ -90,14 +94,11 @@ parsed_decimal s (Err k) h = sym (none_from s _ (answers s) h.0)
 pub decimal_of-printed : (b : List ℕ) → decimal_of (printed b) ≡ Some (canon b)
 decimal_of-printed b = decimal_of-some (printed b) (canon b) (printed-parses b)
 
--- ---- the row
-
 pub canon-again : (b : List ℕ) → canon (canon b) ≡ canon b
 canon-again b = (printed-same (canon b) b).0 (printed-canon b)
 
-pub decimal_laws : RowLaws decimal_read DecimalRow
-decimal_laws = record {
-  from = λ d x h. let t = text_then d _ x h in let b = some_then (decimal_of t.0) _ x t.2 in (t.0, b.0, t.1, decimal_of-from t.0 b.0 b.1, un_ok _ _ b.2);
-  to = λ d x r. rw (r.2, decimal_of-some r.0 r.1 r.3) (ap Ok (sym r.4));
-  form = λ d x r. rw r.4 (refl, tt);
-}
+pub decimal_from : (d : Data) (x : Scalar) → decimal_read d ≡ Ok x → MeansScalar (one (codes "$numberDecimal") d) x
+decimal_from d x h =
+    let t = text_then d _ x h in
+    let b = some_then (decimal_of t.0) _ x t.2 in
+    means_by (codes "$numberDecimal") d _ x _ t.1 (un_ok _ _ b.2) (number_decimal t.0 b.0 (decimal_of-from t.0 b.0 b.1))

@@ -1,11 +1,17 @@
 -- `$numberDouble`.
-use Rattle.std.proofs.Common.{◌≡◌, ℕ, List, Bool, true, false, cond, Option, Some, None, refl, sym, ap, ◌∙◌, subst, nat_eq}
-use Rattle.std.specs.Prelude.{Ok, codes}
-use Rattle.std.proofs.lemmas.Bool.{eqb-true}
-use Rattle.bson_leaf.specs.Doubles.{DoubleRow, double_read, double_of, double_text, nan_form, is_nan, is_minus_nan}
+use Rattle.std.proofs.Common.{◌≡◌, ◌<◌, ◌^◌, ◌/◌, ℕ, List, Bool, true, false, ◌&&◌, ◌||◌, cond, Option, Some, None, refl, sym, ap, ◌∙◌, subst, nat_eq, nat_lt, arith}
+use Rattle.std.specs.Prelude.{Ok, codes, is_some}
+use Rattle.std.proofs.lemmas.Bool.{eqb-true, eqb-false, ltb-true, ltb-false, ne_eqb}
+use Rattle.serde_json.specs.Data.{Data}
+use Rattle.bson_leaf.specs.Doubles.{double_of, double_text, nan_form, is_nan, is_minus_nan, is_special}
+use Rattle.bson_leaf.specs.Means.{MeansScalar, number_double}
 use Rattle.bson_leaf.specs.Normal.{IsReadForm}
-use Rattle.bson_leaf.specs.Scalar.{double}
-use Rattle.bson_leaf.proofs.InverseLemmas.{RowLaws, un_ok, un_some, text_then, some_then}
+use Rattle.bson_leaf.specs.Reading.{double_read}
+use Rattle.bson_leaf.specs.Scalar.{Scalar, double}
+use Rattle.bson_leaf.specs.Shapes.{one}
+use Rattle.bson_leaf.proofs.InverseLemmas.{means_by, un_ok, un_some, text_then, some_then}
+
+-- ---- a text
 
 form_at : (a b c d e f : Bool) (p : ℕ)
     → cond a (Some 0) (cond b (Some 0x8000000000000000) (cond c (Some 0x7FF0000000000000) (cond d (Some 0xFFF0000000000000) (cond e (Some 0x7FF8000000000000) (cond f (Some 0xFFF8000000000000) None))))) ≡ Some p → IsReadForm (double p)
@@ -17,12 +23,14 @@ form_at false false false false true f p h = subst (λ x. IsReadForm (double x))
 form_at false false false false false true p h = subst (λ x. IsReadForm (double x)) (un_some _ _ h) (refl, refl)
 form_at false false false false false false p h = cc
 
-pub double_laws : RowLaws double_read DoubleRow
-double_laws = record {
-  from = λ d x h. let t = text_then d _ x h in let n = some_then (double_of t.0) _ x t.2 in (t.0, n.0, t.1, n.1, un_ok _ _ n.2);
-  to = λ d x r. rw (r.2, r.3) (ap Ok (sym r.4));
-  form = λ d x r. subst IsReadForm (sym r.4) (form_at _ _ _ _ _ _ r.1 r.3);
-}
+pub double_form : (s : List ℕ) (p : ℕ) → double_of s ≡ Some p → IsReadForm (double p)
+double_form s p h = form_at _ _ _ _ _ _ p h
+
+pub double_from : (d : Data) (x : Scalar) → double_read d ≡ Ok x → MeansScalar (one (codes "$numberDouble") d) x
+double_from d x h =
+    let t = text_then d _ x h in
+    let n = some_then (double_of t.0) _ x t.2 in
+    means_by (codes "$numberDouble") d _ x _ t.1 (un_ok _ _ n.2) (number_double t.0 n.0 n.1)
 
 -- ---- a pattern, its text and its form
 
@@ -67,3 +75,32 @@ form_again_at false false p m n = let form : nan_form p ≡ p = rw (m, n) refl i
 
 pub nan_form-again : (p : ℕ) → nan_form (nan_form p) ≡ nan_form p
 nan_form-again p = form_again_at _ _ p refl refl
+
+-- ---- the texts are those of the zeros, infinities and NaNs
+
+-- the exponent of the patterns past an infinity
+nan_test : (b c : Bool) (p : ℕ) → nat_lt 0x7FF0000000000000 p ≡ b → nat_lt p 0x8000000000000000 ≡ c → nat_eq p 0x7FF0000000000000 ≡ false → nat_eq (p / 2 ^ 52) 0x7FF ≡ (b && c)
+nan_test true true p l h n = let low = ltb-true _ p l in let high = ltb-true p _ h in let is : p / 2 ^ 52 ≡ 0x7FF = omega arith in rw is refl
+nan_test true false p l h n = let high = ltb-false p _ h in ne_eqb _ _ (λ is. omega (arith, is))
+nan_test false c p l h n = let low = ltb-false _ p l in let other = eqb-false p _ n in ne_eqb _ _ (λ is. omega (arith, is, other))
+
+minus_nan_test : (b c : Bool) (p : ℕ) → nat_lt 0xFFF0000000000000 p ≡ b → nat_lt p 0x10000000000000000 ≡ c → nat_eq p 0xFFF0000000000000 ≡ false → nat_eq (p / 2 ^ 52) 0xFFF ≡ (b && c)
+minus_nan_test true true p l h n = let low = ltb-true _ p l in let high = ltb-true p _ h in let is : p / 2 ^ 52 ≡ 0xFFF = omega arith in rw is refl
+minus_nan_test true false p l h n = let high = ltb-false p _ h in ne_eqb _ _ (λ is. omega (arith, is))
+minus_nan_test false c p l h n = let low = ltb-false _ p l in let other = eqb-false p _ n in ne_eqb _ _ (λ is. omega (arith, is, other))
+
+some_nan : (e f : Bool) → is_some (cond e (Some (codes "NaN")) (cond f (Some (codes "-NaN")) None)) ≡ (e || f)
+some_nan true f = refl
+some_nan false true = refl
+some_nan false false = refl
+
+special_at : (a b c d : Bool) (p : ℕ) → nat_eq p 0 ≡ a → nat_eq p 0x8000000000000000 ≡ b → nat_eq p 0x7FF0000000000000 ≡ c → nat_eq p 0xFFF0000000000000 ≡ d → is_some (double_text p) ≡ is_special p
+special_at true b c d p i j k l = subst (λ n. is_some (double_text n) ≡ is_special n) (sym (eqb-true p _ i)) refl
+special_at false true c d p i j k l = subst (λ n. is_some (double_text n) ≡ is_special n) (sym (eqb-true p _ j)) refl
+special_at false false true d p i j k l = subst (λ n. is_some (double_text n) ≡ is_special n) (sym (eqb-true p _ k)) refl
+special_at false false false true p i j k l = subst (λ n. is_some (double_text n) ≡ is_special n) (sym (eqb-true p _ l)) refl
+special_at false false false false p i j k l = rw (i, j, k, l, nan_test _ _ p refl refl k, minus_nan_test _ _ p refl refl l) (some_nan _ _)
+
+-- a pattern has a text exactly if it is a zero, an infinity or a NaN
+pub special_is : (p : ℕ) → is_some (double_text p) ≡ is_special p
+special_is p = special_at _ _ _ _ p refl refl refl refl

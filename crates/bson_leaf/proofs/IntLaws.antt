@@ -1,6 +1,6 @@
 -- `$numberInt`, `$numberLong` and plain numbers.
-use Rattle.std.proofs.Common.{◌≡◌, ◌<◌, ◌^◌, ℤ, pos, negsuc, Some, refl, sym, ap, w32, w64, arith}
-use Rattle.std.specs.Prelude.{Ok, FitsSigned}
+use Rattle.std.proofs.Common.{◌≡◌, ◌<◌, ◌^◌, ℤ, pos, negsuc, Bool, true, false, cond, Some, refl, ap, w32, w64, arith}
+use Rattle.std.specs.Prelude.{Ok, FitsSigned, codes}
 use Rattle.std.specs.Fmt.{signed_decimal}
 use Rattle.std.proofs.lemmas.Bool.{lt-ltb}
 use Rattle.std.proofs.lemmas.Fmt.{parse-signed_decimal}
@@ -9,24 +9,44 @@ use mir.Syntax.{Width}
 use mir.Val.{hbits}
 use Rattle.serde_json.specs.Find.{as_i64, of_integer}
 use Rattle.bson_leaf.specs.Faults.{◌>>=◌, or_bad}
-use Rattle.bson_leaf.specs.Full.{number_read, narrowest}
-use Rattle.bson_leaf.specs.Ints.{Int32Row, int32_read, Int64Row, int64_read, int_of}
-use Rattle.bson_leaf.proofs.InverseLemmas.{RowLaws, un_ok, text_then, some_then}
-use Rattle.bson_leaf.proofs.IntText.{int_of_some, int_of_from, int_of_parsed}
+use Rattle.serde_json.specs.Data.{Data, Num}
+use Rattle.serde_json.specs.Data as tree
+use Rattle.bson_leaf.specs.Ints.{fits_bits, narrowest}
+use Rattle.bson_leaf.specs.Means.{MeansScalar, narrow_number, wide_number, number_int, number_long}
+use Rattle.bson_leaf.specs.Reading.{number_read, int32_read, int64_read, int_of}
+use Rattle.bson_leaf.specs.Scalar.{Scalar, int32, int64}
+use Rattle.bson_leaf.specs.Shapes.{one}
+use Rattle.bson_leaf.proofs.InverseLemmas.{means_by, un_ok, text_then, some_then}
+use Rattle.bson_leaf.proofs.IntText.{fits_true, fits_from, int_of_from, int_of_parsed}
 
-pub int32_laws : RowLaws int32_read Int32Row
-int32_laws = record {
-  from = λ d x h. let t = text_then d _ x h in let n = some_then (int_of 31 t.0) _ x t.2 in (t.0, n.0, t.1, int_of_from w32 t.0 n.0 n.1, un_ok _ _ n.2);
-  to = λ d x r. rw (r.2, int_of_some w32 r.0 r.1 r.3) (ap Ok (sym r.4));
-  form = λ d x r. rw r.4 (refl, refl);
-}
+pub int32_from : (d : Data) (x : Scalar) → int32_read d ≡ Ok x → MeansScalar (one (codes "$numberInt") d) x
+int32_from d x h =
+    let t = text_then d _ x h in
+    let n = some_then (int_of 31 t.0) _ x t.2 in
+    means_by (codes "$numberInt") d _ x _ t.1 (un_ok _ _ n.2) (number_int t.0 n.0 (int_of_from w32 t.0 n.0 n.1))
 
-pub int64_laws : RowLaws int64_read Int64Row
-int64_laws = record {
-  from = λ d x h. let t = text_then d _ x h in let n = some_then (int_of 63 t.0) _ x t.2 in (t.0, n.0, t.1, int_of_from w64 t.0 n.0 n.1, un_ok _ _ n.2);
-  to = λ d x r. rw (r.2, int_of_some w64 r.0 r.1 r.3) (ap Ok (sym r.4));
-  form = λ d x r. rw r.4 (refl, refl);
-}
+pub int64_from : (d : Data) (x : Scalar) → int64_read d ≡ Ok x → MeansScalar (one (codes "$numberLong") d) x
+int64_from d x h =
+    let t = text_then d _ x h in
+    let n = some_then (int_of 63 t.0) _ x t.2 in
+    means_by (codes "$numberLong") d _ x _ t.1 (un_ok _ _ n.2) (number_long t.0 n.0 (int_of_from w64 t.0 n.0 n.1))
+
+number_at : (b : Bool) (n : Num) (z : ℤ) (x : Scalar) → as_i64 n ≡ Some z → fits_bits 31 z ≡ b → x ≡ cond b (int32 z) (int64 z) → MeansScalar (tree.number n) x
+number_at true n z x is h e = rw e (narrow_number n z is (record { sfits = fits_from 31 z h }))
+number_at false n z x is h e = rw e (wide_number n z is (λ f. let t = fits_true 31 z f.sfits in cc))
+
+pub number_from : (n : Num) (x : Scalar) → number_read n ≡ Ok x → MeansScalar (tree.number n) x
+number_from n x h = let t = some_then (as_i64 n) _ x h in number_at _ n t.0 x t.1 refl (un_ok _ _ t.2)
+
+wide : (b : Bool) (z : ℤ) → fits_bits 31 z ≡ b → (FitsSigned w32 z → ⊥) → fits_bits 31 z ≡ false
+wide true z h never = absurd (never (record { sfits = fits_from 31 z h }))
+wide false z h never = h
+
+pub narrow_read : (n : Num) (z : ℤ) → as_i64 n ≡ Some z → FitsSigned w32 z → number_read n ≡ Ok (int32 z)
+narrow_read n z is fits = rw is (rw (fits_true 31 z fits.sfits) refl)
+
+pub wide_read : (n : Num) (z : ℤ) → as_i64 n ≡ Some z → (FitsSigned w32 z → ⊥) → number_read n ≡ Ok (int64 z)
+wide_read n z is never = rw is (rw (wide _ z refl never) refl)
 
 -- a written number is read again
 pub int_again : (w : Width) (z : ℤ) → FitsSigned w z → mag z < 2 ^ 63 → int_of (hbits w) (signed_decimal z) ≡ Some z

@@ -9,8 +9,8 @@ use Rattle.std.specs.Str.Parse.{IsNumeral, ParsesSigned, digits_value, signed_di
 use lib.Signed.{mag}
 use mir.Syntax.{Width}
 use mir.Val.{hbits}
-use Rattle.bson_leaf.specs.Ints.{IsIntText}
-use Rattle.bson_leaf.specs.Ints.{fits_bits, int_of, is_numeral}
+use Rattle.bson_leaf.specs.Ints.{IsIntText, fits_bits}
+use Rattle.bson_leaf.specs.Reading.{int_of, is_numeral}
 
 own : IsNumeralModel (λ ds. all_ascii_digits ds ≡ true) (digits_value 10)
 own = numerals_by_value _ tells_all_ascii_digits

@@ -1,5 +1,5 @@
 -- What is known of a tree from which something was read.
-use Rattle.std.proofs.Common.{◌≡◌, ℕ, List, Bool, true, false, cond, Option, Some, None, Result, Ok, Err, refl, sym, ap, ◌∙◌}
+use Rattle.std.proofs.Common.{◌≡◌, ℕ, List, Bool, true, false, cond, Option, Some, None, Result, Ok, Err, refl, sym, ap, ◌∙◌, subst}
 use Rattle.std.proofs.lemmas.Bool.{and_parts}
 use Rattle.std.proofs.lemmas.Slice.Eq.{bytes_eq-Decides}
 use Rattle.std.specs.Str.{bytes_eq}
@@ -7,15 +7,10 @@ use Rattle.serde_json.specs.Data.{Data, Members, no_members, member}
 use Rattle.serde_json.specs.Data as tree
 use Rattle.serde_json.specs.Find.{as_str}
 use Rattle.bson_leaf.specs.Faults.{Fault, ◌>>=◌, or_bad}
-use Rattle.bson_leaf.specs.Normal.{IsReadForm}
+use Rattle.bson_leaf.specs.Means.{MeansScalar}
+use Rattle.bson_leaf.specs.Reading.{lone_member, two_members, on_text, on_lone, on_two}
 use Rattle.bson_leaf.specs.Scalar.{Scalar}
-use Rattle.bson_leaf.specs.Shapes.{one, two, lone_member, two_members, on_text, on_lone, on_two}
-
--- what is read is the row's, and is in normal form
-pub record RowLaws (reads : Data → Result Scalar Fault) (Row : Data → Scalar → Type 0) : Type 0 where
-  pub from : (d : Data) (x : Scalar) → reads d ≡ Ok x → Row d x
-  pub to : (d : Data) (x : Scalar) → Row d x → reads d ≡ Ok x
-  pub form : (d : Data) (x : Scalar) → Row d x → IsReadForm x
+use Rattle.bson_leaf.specs.Shapes.{one, two}
 
 pub un_ok : {A : Type 0} (x y : A) → ◌≡◌ {A = Result A Fault} (Ok x) (Ok y) → y ≡ x
 un_ok x y h = cc
@@ -85,3 +80,7 @@ two_then a b d f x h = let t = some_then (two_members a b d) (λ p. f p.0 p.1) x
 
 pub two_same : (a b : List ℕ) {d e f g : Data} → d ≡ e → f ≡ g → two a d b f ≡ two a e b g
 two_same a b {d} {e} {f} {g} p q = ap (λ x. two a x b f) p ∙ ap (λ x. two a e b x) q
+
+-- what the tree is, and what the scalar is, in a production
+pub means_by : (k : List ℕ) (d e : Data) (x y : Scalar) → d ≡ e → x ≡ y → MeansScalar (one k e) y → MeansScalar (one k d) x
+means_by k d e x y p q m = subst (λ t. MeansScalar (one k t) x) (sym p) (subst (λ z. MeansScalar (one k e) z) (sym q) m)

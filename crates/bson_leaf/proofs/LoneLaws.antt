@@ -1,14 +1,16 @@
 -- `$minKey`, `$maxKey` and `$undefined`.
-use Rattle.std.proofs.Common.{◌≡◌, ℤ, pos, negsuc, Bool, true, false, cond, Option, Some, None, Result, Ok, Err, refl, sym, ap, subst}
+use Rattle.std.proofs.Common.{◌≡◌, ℤ, pos, negsuc, Bool, true, false, cond, Option, Some, None, Result, Ok, Err, refl, ap}
 use Rattle.std.proofs.lemmas.Bool.{eqb-true}
+use Rattle.std.specs.Prelude.{codes}
 use Rattle.serde_json.specs.Data.{Data}
 use Rattle.serde_json.specs.Data as tree
 use Rattle.bson_leaf.specs.Faults.{Fault, bad}
-use Rattle.bson_leaf.specs.Lone.{OneRow, one_read, is_one, UndefinedRow, undefined_read}
-use Rattle.bson_leaf.specs.Normal.{IsReadForm}
-use Rattle.bson_leaf.specs.Scalar.{Scalar, undefined}
-use Rattle.bson_leaf.specs.Shapes.{whole}
-use Rattle.bson_leaf.proofs.InverseLemmas.{RowLaws, un_ok}
+use Rattle.bson_leaf.specs.Means.{MeansScalar, min_key, max_key, undefined}
+use Rattle.bson_leaf.specs.Reading.{one_read, is_one, undefined_read}
+use Rattle.bson_leaf.specs.Scalar.{Scalar}
+use Rattle.bson_leaf.specs.Scalar as kind
+use Rattle.bson_leaf.specs.Shapes.{whole, one}
+use Rattle.bson_leaf.proofs.InverseLemmas.{means_by, un_ok}
 
 if_ok : (b : Bool) (y x : Scalar) → ◌≡◌ {A = Result Scalar Fault} (cond b (Ok y) (Err bad)) (Ok x) → (b ≡ true) × (x ≡ y)
 if_ok true y x h = (refl, un_ok _ _ h)
@@ -19,24 +21,16 @@ one_is (Some (pos n)) h = ap (λ m. Some (pos m)) (eqb-true n 1 h)
 one_is (Some (negsuc n)) h = cc
 one_is None h = cc
 
-pub one_laws : (y : Scalar) → IsReadForm y → RowLaws (one_read y) (OneRow y)
-one_laws y form = record {
-  from = λ d x h. let t = if_ok _ y x h in (one_is (whole d) t.0, t.1);
-  to = λ d x r. rw r.0 (ap Ok (sym r.1));
-  form = λ d x r. subst IsReadForm (sym r.1) form;
-}
+pub min_key_from : (d : Data) (x : Scalar) → one_read kind.min_key d ≡ Ok x → MeansScalar (one (codes "$minKey") d) x
+min_key_from d x h = let t = if_ok _ kind.min_key x h in means_by (codes "$minKey") d d x _ refl t.1 (min_key d (one_is (whole d) t.0))
 
-undefined_from : (d : Data) (x : Scalar) → undefined_read d ≡ Ok x → UndefinedRow d x
+pub max_key_from : (d : Data) (x : Scalar) → one_read kind.max_key d ≡ Ok x → MeansScalar (one (codes "$maxKey") d) x
+max_key_from d x h = let t = if_ok _ kind.max_key x h in means_by (codes "$maxKey") d d x _ refl t.1 (max_key d (one_is (whole d) t.0))
+
+pub undefined_from : (d : Data) (x : Scalar) → undefined_read d ≡ Ok x → MeansScalar (one (codes "$undefined") d) x
 undefined_from tree.null x h = cc
-undefined_from (tree.boolean b) x h = let t = if_ok b undefined x h in (ap tree.boolean t.0, t.1)
+undefined_from (tree.boolean b) x h = let t = if_ok b kind.undefined x h in means_by (codes "$undefined") (tree.boolean b) (tree.boolean true) x _ (ap tree.boolean t.0) t.1 undefined
 undefined_from (tree.number n) x h = cc
 undefined_from (tree.string s) x h = cc
 undefined_from (tree.array ds) x h = cc
 undefined_from (tree.object ms) x h = cc
-
-pub undefined_laws : RowLaws undefined_read UndefinedRow
-undefined_laws = record {
-  from = undefined_from;
-  to = λ d x r. rw r.0 (ap Ok (sym r.1));
-  form = λ d x r. rw r.1 (refl, refl);
-}

@@ -3,7 +3,7 @@ use Rattle.std.proofs.Common.{◌≡◌, ℕ, List, [], ◌∷◌, length, Strin
 use Rattle.serde_json.specs.Data.{object}
 use Rattle.serde_json.specs.View.{members_view}
 use Rattle.serde_json.specs.declared.value.Value.{Value}
-use Rattle.bson_leaf.specs.Shapes.{two_members, lone_member}
+use Rattle.bson_leaf.specs.Reading.{two_members, lone_member}
 
 abbrev pub Member : Type 0
 Member = String Global × Value

@@ -1,18 +1,16 @@
 -- `$regularExpression`.
-use Rattle.std.proofs.Common.{refl, sym, ap, ◌∙◌}
-use Rattle.std.specs.Prelude.{codes, Ok}
-use Rattle.bson_scalar.proofs.SortedText.{sorted_text-again}
-use Rattle.bson_leaf.specs.Regexes.{RegexRow, regex_read}
-use Rattle.bson_leaf.specs.Scalar.{regex}
-use Rattle.bson_leaf.proofs.InverseLemmas.{RowLaws, un_ok, text_then, two_then, two_same}
+use Rattle.std.proofs.Common.{◌≡◌, Ok, ◌∙◌}
+use Rattle.std.specs.Prelude.{codes}
+use Rattle.serde_json.specs.Data.{Data}
+use Rattle.bson_leaf.specs.Means.{MeansScalar, regular_expression}
+use Rattle.bson_leaf.specs.Reading.{regex_read}
+use Rattle.bson_leaf.specs.Scalar.{Scalar}
+use Rattle.bson_leaf.specs.Shapes.{one}
+use Rattle.bson_leaf.proofs.InverseLemmas.{means_by, un_ok, text_then, two_then, two_same}
 
-pub regex_laws : RowLaws regex_read RegexRow
-regex_laws = record {
-  from = λ d x h.
-      let a = two_then (codes "options") (codes "pattern") d _ x h in
-      let o = text_then a.0 _ x a.3 in
-      let p = text_then a.1 _ x o.2 in
-      (p.0, o.0, a.2 ∙ two_same (codes "options") (codes "pattern") o.1 p.1, un_ok _ _ p.2);
-  to = λ d x r. rw r.2 (ap Ok (sym r.3));
-  form = λ d x r. rw r.3 (refl, ap (regex r.0) (sorted_text-again r.1));
-}
+pub regex_from : (d : Data) (x : Scalar) → regex_read d ≡ Ok x → MeansScalar (one (codes "$regularExpression") d) x
+regex_from d x h =
+    let a = two_then (codes "options") (codes "pattern") d _ x h in
+    let o = text_then a.0 _ x a.3 in
+    let p = text_then a.1 _ x o.2 in
+    means_by (codes "$regularExpression") d _ x _ (a.2 ∙ two_same (codes "options") (codes "pattern") o.1 p.1) (un_ok _ _ p.2) (regular_expression p.0 o.0)

@@ -1,10 +1,12 @@
 -- One lemma a law, for all scalars.
-use Rattle.std.proofs.Common.{◌≡◌, ◌<◌, ◌^◌, ℕ, ℤ, pos, negsuc, List, [], ◌∷◌, Bool, true, false, cond, Option, Some, None, Result, Ok, Err, refl, sym, ap, ◌∙◌, ◌⊎◌, inl, inr, w32, w64, arith}
+use Rattle.std.proofs.Common.{◌≡◌, ◌<◌, ◌^◌, ℕ, ℤ, pos, negsuc, List, [], ◌∷◌, Bool, true, false, ◌&&◌, cond, Option, Some, None, Result, Ok, Err, refl, sym, ap, ◌∙◌, subst, w32, w64, arith}
 use Rattle.std.specs.Prelude.{FitsSigned, is_ok, is_some, codes}
+use Rattle.std.specs.Str.{bytes_eq}
+use Rattle.std.proofs.lemmas.Bool.{and_parts}
 use Rattle.hex.specs.Hex.{encode_lower}
-use Rattle.serde_json.specs.Data.{Data, Num, Members, no_members, member}
+use Rattle.serde_json.specs.Data.{Data, no_members, member}
 use Rattle.serde_json.specs.Data as tree
-use Rattle.serde_json.specs.Find.{as_i64, of_integer}
+use Rattle.serde_json.specs.Find.{of_integer}
 use Rattle.serde_json.specs.Written.{has_float}
 use Rattle.bson_scalar.specs.Base64.{base64_text}
 use Rattle.bson_leaf.specs.Shapes.{one, two}
@@ -15,109 +17,161 @@ use Rattle.bson_leaf.specs.Dates.{is_recent, relaxed_date_tree}
 use lib.Signed.{mag}
 use Rattle.bson_leaf.specs.Decimals.{decimal_tree}
 use Rattle.bson_leaf.specs.Doubles.{double_text, double_tree, nan_form}
-use Rattle.bson_leaf.specs.Full.{FullScalar, scalar_read, NumberRow, number_read}
+use Rattle.bson_leaf.specs.Faults.{Fault, bad}
 use Rattle.bson_leaf.specs.Ints.{fits_bits}
+use Rattle.bson_leaf.specs.Means.{MeansScalar}
+use Rattle.bson_leaf.specs.Means as means
 use Rattle.bson_leaf.specs.Normal.{nf_scalar, settle, int64_settled, writable_scalar, ScalarInRange, IsReadForm}
+use Rattle.bson_leaf.specs.Reading.{code_beside, single, single_at, scalar_read}
 use Rattle.bson_leaf.specs.Regexes.{regex_tree}
-use Rattle.bson_leaf.specs.Rows.{Row, single, single_at}
 use Rattle.bson_leaf.specs.Scalar.{Scalar, null, undefined, min_key, max_key, boolean, double, int32, int64, text, symbol, code, regex, timestamp, binary, object_id, date, decimal, db_pointer}
-use Rattle.bson_leaf.specs.Table.{wrapper_of}
+use Rattle.bson_leaf.specs.Table.{key_of, wrapper_of}
 use Rattle.bson_leaf.specs.Written.{WrittenScalar, Refusal, ◌>>=◌, or_finite, writes_scalar, int32_form, int64_form, date_form}
 use Rattle.bson_leaf.specs.declared.form.Form.{Form}
 use Rattle.bson_leaf.specs.declared.form.Form.TheVariants.{Canonical, Relaxed}
 use Rattle.bson_leaf.specs.declared.wrapper.Wrapper.{Wrapper}
 use Rattle.bson_leaf.specs.declared.wrapper.Wrapper.TheVariants.{Oid, Symbol, RegularExpression, NumberInt, NumberLong, NumberDouble, NumberDecimal, Binary, Uuid, Code, Timestamp, Date, MinKey, MaxKey, DbPointer, Undefined}
-use Rattle.bson_leaf.proofs.InverseLemmas.{RowLaws}
 use Rattle.bson_leaf.proofs.InverseLemmas as inverse
-use Rattle.bson_leaf.proofs.IntText.{fits_true, fits_from}
-use Rattle.bson_leaf.proofs.BinaryLaws.{binary_laws, uuid_laws, bytes_again, byte_again, subtype_byte-of}
-use Rattle.bson_leaf.proofs.DateLaws.{date_laws, recent_denoted}
-use Rattle.bson_leaf.proofs.DecimalLaws.{decimal_laws, decimal_of-printed, canon-again}
-use Rattle.bson_leaf.proofs.DoubleLaws.{double_laws, double_text-form, double_again, nan_form-again}
-use Rattle.bson_leaf.proofs.IdLaws.{oid_laws, pointer_laws, id_again}
-use Rattle.bson_leaf.proofs.IntLaws.{int32_laws, int64_laws, int32_again, int64_again, number_again}
-use Rattle.bson_leaf.proofs.LoneLaws.{one_laws, undefined_laws}
-use Rattle.bson_leaf.proofs.RegexLaws.{regex_laws}
+use Rattle.bson_leaf.proofs.IntText.{fits_true, int_of_some}
+use Rattle.bson_leaf.proofs.BinaryLaws.{binary_from, uuid_from, bytes_again, byte_again, subtype_byte-of}
+use Rattle.bson_leaf.proofs.DateLaws.{date_from, recent_denoted}
+use Rattle.bson_leaf.proofs.DecimalLaws.{decimal_from, decimal_of-some, decimal_of-printed, canon-again}
+use Rattle.bson_leaf.proofs.DoubleLaws.{double_from, double_form, double_text-form, double_again, nan_form-again, special_is}
+use Rattle.bson_leaf.proofs.IdLaws.{oid_from, pointer_from, id_again}
+use Rattle.bson_leaf.proofs.IntLaws.{int32_from, int64_from, number_from, narrow_read, wide_read, int32_again, int64_again, number_again}
+use Rattle.bson_leaf.proofs.LoneLaws.{min_key_from, max_key_from, undefined_from}
+use Rattle.bson_leaf.proofs.RegexLaws.{regex_from}
 use Rattle.bson_scalar.proofs.SortedText.{sorted_text-again}
-use Rattle.bson_leaf.proofs.TextLaws.{symbol_laws, code_laws}
-use Rattle.bson_leaf.proofs.TimestampLaws.{timestamp_laws, natural_again}
-
--- ---- rows
-
-pub row_laws : (w : Wrapper) → RowLaws (single w) (Row w)
-row_laws Oid = oid_laws
-row_laws Symbol = symbol_laws
-row_laws RegularExpression = regex_laws
-row_laws NumberInt = int32_laws
-row_laws NumberLong = int64_laws
-row_laws NumberDouble = double_laws
-row_laws NumberDecimal = decimal_laws
-row_laws Binary = binary_laws
-row_laws Uuid = uuid_laws
-row_laws Code = code_laws
-row_laws Timestamp = timestamp_laws
-row_laws Date = date_laws
-row_laws MinKey = one_laws min_key (refl, refl)
-row_laws MaxKey = one_laws max_key (refl, refl)
-row_laws DbPointer = pointer_laws
-row_laws Undefined = undefined_laws
+use Rattle.bson_leaf.proofs.TextLaws.{symbol_from, code_from}
+use Rattle.bson_leaf.proofs.TimestampLaws.{timestamp_from, natural_again}
 
 -- ---- what is read is the meaning
 
-single_from : (o : Option Wrapper) (d : Data) (x : Scalar) → single_at o d ≡ Ok x → (w : Wrapper) × (o ≡ Some w) × Row w d x
-single_from (Some w) d x h = (w, refl, (row_laws w).from d x h)
-single_from None d x h = cc
+under : (w : Wrapper) (d : Data) (x : Scalar) → single w d ≡ Ok x → MeansScalar (one (key_of w) d) x
+under Oid = oid_from
+under Symbol = symbol_from
+under RegularExpression = regex_from
+under NumberInt = int32_from
+under NumberLong = int64_from
+under NumberDouble = double_from
+under NumberDecimal = decimal_from
+under Binary = binary_from
+under Uuid = uuid_from
+under Code = code_from
+under Timestamp = timestamp_from
+under Date = date_from
+under MinKey = min_key_from
+under MaxKey = max_key_from
+under DbPointer = pointer_from
+under Undefined = undefined_from
 
-number_cases : (b : Bool) (z : ℤ) (x : Scalar) → fits_bits 31 z ≡ b → x ≡ cond b (int32 z) (int64 z) → ((x ≡ int32 z) × FitsSigned w32 z) ⊎ ((x ≡ int64 z) × (FitsSigned w32 z → ⊥))
-number_cases true z x h e = inl (e, record { sfits = fits_from 31 z h })
-number_cases false z x h e = inr (e, λ f. let t = fits_true 31 z f.sfits in cc)
+-- the key of a wrapper that the table finds
+key_at : (k : List ℕ) (a : Wrapper) (b : Bool) (r : Option Wrapper) (w : Wrapper) → (b ≡ true → k ≡ key_of a) → (r ≡ Some w → k ≡ key_of w) → cond b (Some a) r ≡ Some w → k ≡ key_of w
+key_at k a true r w this rest h = let same : a ≡ w = cc in this refl ∙ ap key_of same
+key_at k a false r w this rest h = rest h
 
-number_from : (n : Num) (x : Scalar) → number_read n ≡ Ok x → NumberRow n x
-number_from n x h = let t = inverse.some_then (as_i64 n) _ x h in (t.0, t.1, number_cases _ t.0 x refl (inverse.un_ok _ _ t.2))
+pub key_from : (k : List ℕ) (w : Wrapper) → wrapper_of k ≡ Some w → k ≡ key_of w
+key_from k w =
+    let is = λ (a : Wrapper). inverse.key_is k (key_of a) in
+    key_at k Oid _ _ w (is Oid) (key_at k Symbol _ _ w (is Symbol) (key_at k RegularExpression _ _ w (is RegularExpression)
+    (key_at k NumberInt _ _ w (is NumberInt) (key_at k NumberLong _ _ w (is NumberLong) (key_at k NumberDouble _ _ w (is NumberDouble)
+    (key_at k NumberDecimal _ _ w (is NumberDecimal) (key_at k Binary _ _ w (is Binary) (key_at k Uuid _ _ w (is Uuid)
+    (key_at k Code _ _ w (is Code) (key_at k Timestamp _ _ w (is Timestamp) (key_at k Date _ _ w (is Date)
+    (key_at k MinKey _ _ w (is MinKey) (key_at k MaxKey _ _ w (is MaxKey) (key_at k DbPointer _ _ w (is DbPointer)
+    (key_at k Undefined _ _ w (is Undefined) (λ h. cc))))))))))))))))
 
-wide : (b : Bool) (z : ℤ) → fits_bits 31 z ≡ b → (FitsSigned w32 z → ⊥) → fits_bits 31 z ≡ false
-wide true z h never = absurd (never (record { sfits = fits_from 31 z h }))
-wide false z h never = h
+single_from : (k : List ℕ) (d : Data) (o : Option Wrapper) (x : Scalar) → o ≡ wrapper_of k → single_at o d ≡ Ok x → MeansScalar (one k d) x
+single_from k d (Some w) x is h = rw (key_from k w (sym is)) (under w d x h)
+single_from k d None x is h = cc
 
-number_to : (n : Num) (x : Scalar) → NumberRow n x → number_read n ≡ Ok x
-number_to n x r = rw r.1 elim r.2 [
-  | inl p ↦ rw (fits_true 31 r.0 p.1.sfits) (ap Ok (sym p.0))
-  | inr p ↦ rw (wide _ r.0 refl p.1) (ap Ok (sym p.0))
-]
+guarded : (b : Bool) (r : Result Scalar Fault) (x : Scalar) → cond b r (Err bad) ≡ Ok x → (b ≡ true) × (r ≡ Ok x)
+guarded true r x h = (refl, h)
+guarded false r x h = cc
 
-pub full_from : (t : Data) (x : Scalar) → scalar_read t ≡ Ok x → FullScalar t x
-full_from tree.null x h = inverse.un_ok _ _ h
-full_from (tree.boolean b) x h = inverse.un_ok _ _ h
-full_from (tree.number n) x h = number_from n x h
-full_from (tree.string s) x h = inverse.un_ok _ _ h
-full_from (tree.array ds) x h = cc
-full_from (tree.object no_members) x h = cc
-full_from (tree.object (member k d no_members)) x h = single_from (wrapper_of k) d x h
-full_from (tree.object (member k d (member l e ms))) x h = cc
+code_text : (e d : Data) (x : Scalar) → code_beside e d ≡ Ok x → MeansScalar (two (codes "$code") d (codes "$scope") e) x
+code_text tree.null d x h =
+    let t = inverse.text_then d _ x h in
+    subst (λ e. MeansScalar (two (codes "$code") e (codes "$scope") tree.null) x) (sym t.1)
+    (subst (λ y. MeansScalar (two (codes "$code") (tree.string t.0) (codes "$scope") tree.null) y) (sym (inverse.un_ok _ _ t.2)) (means.code_without_scope t.0))
+code_text (tree.boolean b) d x h = cc
+code_text (tree.number n) d x h = cc
+code_text (tree.string s) d x h = cc
+code_text (tree.array ds) d x h = cc
+code_text (tree.object ms) d x h = cc
 
-pub full_to : (t : Data) (x : Scalar) → FullScalar t x → scalar_read t ≡ Ok x
-full_to tree.null x h = ap Ok (sym h)
-full_to (tree.boolean b) x h = ap Ok (sym h)
-full_to (tree.number n) x h = number_to n x h
-full_to (tree.string s) x h = ap Ok (sym h)
-full_to (tree.array ds) x h = absurd h
-full_to (tree.object no_members) x h = absurd h
-full_to (tree.object (member k d no_members)) x h = rw h.1 ((row_laws h.0).to d x h.2)
-full_to (tree.object (member k d (member l e ms))) x h = absurd h
+scope_from : (k l : List ℕ) (d e : Data) (x : Scalar) → cond (bytes_eq k (codes "$code") && bytes_eq l (codes "$scope")) (code_beside e d) (Err bad) ≡ Ok x → MeansScalar (two k d l e) x
+scope_from k l d e x h =
+    let g = guarded _ _ x h in
+    let keys = and_parts _ _ g.0 in
+    subst (λ a. MeansScalar (two a d l e) x) (sym (inverse.key_is k _ keys.0))
+    (subst (λ a. MeansScalar (two (codes "$code") d a e) x) (sym (inverse.key_is l _ keys.1)) (code_text e d x g.1))
 
-pub full_one : (t : Data) (x y : Scalar) → FullScalar t x → FullScalar t y → x ≡ y
-full_one t x y h g = inverse.un_ok _ _ (sym (full_to t y g) ∙ full_to t x h)
+pub scalar_from : (t : Data) (x : Scalar) → scalar_read t ≡ Ok x → MeansScalar t x
+scalar_from tree.null x h = rw (inverse.un_ok _ _ h) means.null
+scalar_from (tree.boolean b) x h = rw (inverse.un_ok _ _ h) (means.boolean b)
+scalar_from (tree.number n) x h = number_from n x h
+scalar_from (tree.string s) x h = rw (inverse.un_ok _ _ h) (means.text s)
+scalar_from (tree.array ds) x h = cc
+scalar_from (tree.object no_members) x h = cc
+scalar_from (tree.object (member k d no_members)) x h = single_from k d (wrapper_of k) x refl h
+scalar_from (tree.object (member k d (member l e no_members))) x h = scope_from k l d e x h
+scalar_from (tree.object (member k d (member l e (member m f ms)))) x h = cc
 
--- a read scalar is writable, and in normal form but for decimals
-pub full_form : (t : Data) (x : Scalar) → FullScalar t x → IsReadForm x
-full_form tree.null x h = rw h (refl, refl)
-full_form (tree.boolean b) x h = rw h (refl, refl)
-full_form (tree.number n) x h = elim h.2 [ inl p ↦ rw p.0 (refl, refl) | inr p ↦ rw p.0 (refl, refl) ]
-full_form (tree.string s) x h = rw h (refl, refl)
-full_form (tree.array ds) x h = absurd h
-full_form (tree.object no_members) x h = absurd h
-full_form (tree.object (member k d no_members)) x h = (row_laws h.0).form d x h.2
-full_form (tree.object (member k d (member l e ms))) x h = absurd h
+pub scalar_to : {t : Data} {x : Scalar} → MeansScalar t x → scalar_read t ≡ Ok x
+scalar_to means.null = refl
+scalar_to (means.boolean b) = refl
+scalar_to (means.text s) = refl
+scalar_to (means.narrow_number n z is fits) = narrow_read n z is fits
+scalar_to (means.wide_number n z is never) = wide_read n z is never
+scalar_to (means.number_int s z is) = rw (int_of_some w32 s z is) refl
+scalar_to (means.number_long s z is) = rw (int_of_some w64 s z is) refl
+scalar_to (means.number_double s p is) = rw is refl
+scalar_to (means.number_decimal s b is) = rw (decimal_of-some s b is) refl
+scalar_to (means.symbol s) = refl
+scalar_to (means.code s) = refl
+scalar_to (means.code_without_scope s) = refl
+scalar_to (means.regular_expression p o) = refl
+scalar_to (means.oid s id is) = rw is refl
+scalar_to (means.db_pointer name s id is) = rw is refl
+scalar_to (means.timestamp i t m n i_is t_is) = rw (i_is, t_is) refl
+scalar_to (means.date_of_millis s z is) = rw (int_of_some w64 s z is) refl
+scalar_to (means.date_of_text s z is) = rw is refl
+scalar_to (means.date_of_number n z is) = rw is refl
+scalar_to (means.binary s k bytes n is byte) = rw (is, byte) refl
+scalar_to (means.uuid s id is) = rw is refl
+scalar_to (means.min_key d is) = rw is refl
+scalar_to (means.max_key d is) = rw is refl
+scalar_to means.undefined = refl
+
+pub scalar_one : (t : Data) (x y : Scalar) → MeansScalar t x → MeansScalar t y → x ≡ y
+scalar_one t x y h g = inverse.un_ok _ _ (sym (scalar_to g) ∙ scalar_to h)
+
+-- a scalar that is read is writable, and in normal form but for decimals
+pub scalar_form : {t : Data} {x : Scalar} → MeansScalar t x → IsReadForm x
+scalar_form (means.number_double s p is) = double_form s p is
+scalar_form (means.regular_expression p o) = (refl, ap (regex p) (sorted_text-again o))
+scalar_form (means.binary s k bytes n is byte) = (refl, ap (λ m. binary (subtype_of m) bytes) (subtype_byte-of n))
+scalar_form (means.number_decimal s b is) = (refl, tt)
+scalar_form means.null = (refl, refl)
+scalar_form (means.boolean b) = (refl, refl)
+scalar_form (means.text s) = (refl, refl)
+scalar_form (means.narrow_number n z is fits) = (refl, refl)
+scalar_form (means.wide_number n z is never) = (refl, refl)
+scalar_form (means.number_int s z is) = (refl, refl)
+scalar_form (means.number_long s z is) = (refl, refl)
+scalar_form (means.symbol s) = (refl, refl)
+scalar_form (means.code s) = (refl, refl)
+scalar_form (means.code_without_scope s) = (refl, refl)
+scalar_form (means.oid s id is) = (refl, refl)
+scalar_form (means.db_pointer name s id is) = (refl, refl)
+scalar_form (means.timestamp i t m n i_is t_is) = (refl, refl)
+scalar_form (means.date_of_millis s z is) = (refl, refl)
+scalar_form (means.date_of_text s z is) = (refl, refl)
+scalar_form (means.date_of_number n z is) = (refl, refl)
+scalar_form (means.uuid s id is) = (refl, refl)
+scalar_form (means.min_key d is) = (refl, refl)
+scalar_form (means.max_key d is) = (refl, refl)
+scalar_form means.undefined = (refl, refl)
 
 -- ---- what is written is the grammar's one tree
 
@@ -172,7 +226,7 @@ double_ok (Some s) = refl
 double_ok None = refl
 
 pub writable_is : (f : Form) (x : Scalar) → is_ok (writes_scalar f x) ≡ writable_scalar x
-writable_is f (double p) = double_ok (double_text p)
+writable_is f (double p) = double_ok (double_text p) ∙ special_is p
 writable_is f x = refl
 
 -- ---- a tree is read as the normal form, narrowed where it is a relaxed one
@@ -216,8 +270,8 @@ back f (date z) t h r = rw (un_ok _ _ h) (date_back f z r)
 back f (decimal b) t h r = rw (un_ok _ _ h) (rw (decimal_of-printed b) refl)
 back f (db_pointer s id) t h r = rw (un_ok _ _ h) (rw (id_again id r.0 r.1) refl)
 
-pub reads_back : (f : Form) (x : Scalar) (t : Data) → writes_scalar f x ≡ Ok t → ScalarInRange x → FullScalar t (settle f (nf_scalar x))
-reads_back f x t h r = full_from t _ (back f x t h r)
+pub reads_back : (f : Form) (x : Scalar) (t : Data) → writes_scalar f x ≡ Ok t → ScalarInRange x → MeansScalar t (settle f (nf_scalar x))
+reads_back f x t h r = scalar_from t _ (back f x t h r)
 
 -- ---- what reads back settles
 

@@ -1,19 +1,15 @@
 -- `$symbol` and `$code`.
-use Rattle.std.proofs.Common.{refl, sym, ap}
-use Rattle.std.specs.Prelude.{Ok}
-use Rattle.bson_leaf.specs.Texts.{SymbolRow, symbol_read, CodeRow, code_read}
-use Rattle.bson_leaf.proofs.InverseLemmas.{RowLaws, un_ok, text_then}
+use Rattle.std.proofs.Common.{◌≡◌, Ok}
+use Rattle.std.specs.Prelude.{codes}
+use Rattle.serde_json.specs.Data.{Data}
+use Rattle.bson_leaf.specs.Means.{MeansScalar, symbol, code}
+use Rattle.bson_leaf.specs.Reading.{symbol_read, code_read}
+use Rattle.bson_leaf.specs.Scalar.{Scalar}
+use Rattle.bson_leaf.specs.Shapes.{one}
+use Rattle.bson_leaf.proofs.InverseLemmas.{means_by, un_ok, text_then}
 
-pub symbol_laws : RowLaws symbol_read SymbolRow
-symbol_laws = record {
-  from = λ d x h. let t = text_then d _ x h in (t.0, t.1, un_ok _ _ t.2);
-  to = λ d x r. rw r.1 (ap Ok (sym r.2));
-  form = λ d x r. rw r.2 (refl, refl);
-}
+pub symbol_from : (d : Data) (x : Scalar) → symbol_read d ≡ Ok x → MeansScalar (one (codes "$symbol") d) x
+symbol_from d x h = let t = text_then d _ x h in means_by (codes "$symbol") d _ x _ t.1 (un_ok _ _ t.2) (symbol t.0)
 
-pub code_laws : RowLaws code_read CodeRow
-code_laws = record {
-  from = λ d x h. let t = text_then d _ x h in (t.0, t.1, un_ok _ _ t.2);
-  to = λ d x r. rw r.1 (ap Ok (sym r.2));
-  form = λ d x r. rw r.2 (refl, refl);
-}
+pub code_from : (d : Data) (x : Scalar) → code_read d ≡ Ok x → MeansScalar (one (codes "$code") d) x
+code_from d x h = let t = text_then d _ x h in means_by (codes "$code") d _ x _ t.1 (un_ok _ _ t.2) (code t.0)

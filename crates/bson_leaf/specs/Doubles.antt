@@ -1,14 +1,17 @@
 -- `$numberDouble` (MongoDB Extended JSON v2; `-NaN` is our own): six texts of zeros, infinities and NaNs.
 -- A double is its pattern of 64 bits (IEEE 754-2008 binary64). Read and written: {"$numberDouble": "-0.0"}.
-use Rattle.std.specs.Prelude.{◌≡◌, ◌&&◌, ◌==◌, nat_lt, ℕ, List, Bool, codes, Option, Some, None, if◌then◌else◌, Result, Ok}
+use Rattle.std.specs.Prelude.{◌&&◌, ◌||◌, ◌==◌, ◌/◌, ◌^◌, nat_lt, ℕ, List, Bool, codes, Option, Some, None, if◌then◌else◌}
 use Rattle.std.specs.Str.{bytes_eq}
 use Rattle.serde_json.specs.Data.{Data}
 use Rattle.serde_json.specs.Data as tree
-use Rattle.bson_leaf.specs.Faults.{Fault, ◌>>=◌, or_bad}
-use Rattle.bson_leaf.specs.Scalar.{Scalar, double}
-use Rattle.bson_leaf.specs.Shapes.{on_text, one}
+use Rattle.bson_leaf.specs.Shapes.{one}
 use Rattle.bson_leaf.specs.Table.{key_of}
 use Rattle.bson_leaf.specs.declared.wrapper.Wrapper.TheVariants.{NumberDouble}
+
+-- a zero, an infinity or a NaN: all bits but the sign are 0; or the exponent, 11 bits below the sign, is all ones
+-- (IEEE 754-2008 section 3.4)
+abbrev pub is_special : ℕ → Bool
+is_special p = (p == 0 || p == 2 ^ 63) || (p / 2 ^ 52 == 0x7FF || p / 2 ^ 52 == 0xFFF)
 
 -- the pattern that a text means
 abbrev pub double_of : List ℕ → Option ℕ
@@ -21,15 +24,12 @@ double_of s =
     else if bytes_eq s (codes "-NaN") then Some 0xFFF8000000000000
     else None
 
-abbrev pub DoubleRow : Data → Scalar → Type 0
-DoubleRow d x = (s : List ℕ) × (p : ℕ) × (d ≡ tree.string s) × (double_of s ≡ Some p) × (x ≡ double p)
-
 -- all bits of the exponent set, and one of the significand: with sign bit 0, and with sign bit 1
 abbrev pub is_nan : ℕ → Bool
 is_nan p = nat_lt 0x7FF0000000000000 p && nat_lt p 0x8000000000000000
 
 abbrev pub is_minus_nan : ℕ → Bool
-is_minus_nan p = nat_lt 0xFFF0000000000000 p
+is_minus_nan p = nat_lt 0xFFF0000000000000 p && nat_lt p 0x10000000000000000
 
 -- a NaN as the pattern that its text means
 abbrev pub nan_form : ℕ → ℕ
@@ -48,8 +48,3 @@ double_text p =
 
 abbrev pub double_tree : List ℕ → Data
 double_tree s = one (key_of NumberDouble) (tree.string s)
-
--- ---- the same as functions, for the proofs
-
-abbrev pub double_read : Data → Result Scalar Fault
-double_read d = on_text d (λ s. or_bad (double_of s) >>= λ p. Ok (double p))

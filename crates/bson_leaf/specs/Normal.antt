@@ -1,11 +1,11 @@
 -- Normal and narrowed forms, and what a scalar may be.
-use Rattle.std.specs.Prelude.{◌≡◌, ◌<◌, ◌^◌, ℤ, length, Bool, true, is_some, FitsSigned}
+use Rattle.std.specs.Prelude.{◌≡◌, ◌<◌, ◌^◌, ℤ, length, Bool, true, FitsSigned}
 use Rattle.std.specs.Int.{w32, w64}
 use Rattle.bson_scalar.specs.Subtype.{subtype_byte, subtype_of}
 use Rattle.bson_decimal.specs.Pattern.{canon}
 use Rattle.hex.specs.Hex.{IsBytes}
-use Rattle.bson_leaf.specs.Doubles.{nan_form, double_text}
-use Rattle.bson_leaf.specs.Full.{narrowest}
+use Rattle.bson_leaf.specs.Doubles.{nan_form, is_special}
+use Rattle.bson_leaf.specs.Ints.{narrowest}
 use Rattle.bson_scalar.specs.Regex.{sorted_text}
 use Rattle.bson_leaf.specs.declared.form.Form.{Form}
 use Rattle.bson_leaf.specs.declared.form.Form.TheVariants.{Canonical, Relaxed}
@@ -32,7 +32,7 @@ settle f x = x
 
 -- whether it has a tree: a double is a zero, an infinity or a NaN
 abbrev pub writable_scalar : Scalar → Bool
-writable_scalar (double p) = is_some (double_text p)
+writable_scalar (double p) = is_special p
 writable_scalar x = true
 
 -- each number in it is in the range of its Rust type

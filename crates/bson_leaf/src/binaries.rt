@@ -7,8 +7,9 @@ ghost use Rattle.serde_json.specs.View.{view};
 ghost use Rattle.hex.specs.Hex.{encode_lower, IsBytes};
 ghost use Rattle.bson_scalar.specs.Orders.{parsed};
 ghost use Rattle.bson_scalar.specs.Subtype.{subtype_byte};
-ghost use Rattle.bson_leaf.specs.Binaries.{binary_read, binary_tree, uuid_read, byte_of as byte_at, bytes_of as bytes_at};
+ghost use Rattle.bson_leaf.specs.Binaries.{binary_tree};
 ghost use Rattle.bson_leaf.specs.Faults.{Gives, or_bad};
+ghost use Rattle.bson_leaf.specs.Reading.{binary_read, uuid_read, byte_of as byte_at, bytes_of as bytes_at};
 ghost use Rattle.bson_leaf.specs.View.{leaf_view};
 
 use crate::error::Error;

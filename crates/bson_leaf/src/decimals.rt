@@ -2,8 +2,9 @@
 //! `{"$numberDecimal": "1.50"}`, and written as the printed text.
 ghost use Rattle.std.specs.Prelude.{◌≡◌, IfOk};
 ghost use Rattle.serde_json.specs.View.{view};
-ghost use Rattle.bson_leaf.specs.Decimals as spec;
+ghost use Rattle.bson_leaf.specs.Decimals.{decimal_tree};
 ghost use Rattle.bson_leaf.specs.Faults.{Gives};
+ghost use Rattle.bson_leaf.specs.Reading.{decimal_of as decimal_in, decimal_read};
 ghost use Rattle.bson_leaf.specs.View.{leaf_view};
 
 use crate::error::Error;
@@ -17,14 +18,14 @@ const SHAPE: &str = "`$numberDecimal` holds the text of a decimal that a Decimal
 
 /// The decimal of a text.
 pub fn decimal_of(text: &str) -> Option<Decimal128>
-    ensures { result ≡ spec.decimal_of text.now }
+    ensures { result ≡ decimal_in text.now }
 {
     text.parse::<Decimal128>().ok()
 }
 
 /// What `$numberDecimal` holds, as a decimal.
 pub fn read_decimal(value: Value) -> Result<Leaf, Error>
-    ensures { Gives leaf_view result (spec.decimal_read (view value)) }
+    ensures { Gives leaf_view result (decimal_read (view value)) }
 {
     let text = text_in(value, SHAPE)?;
     let decimal = expected(decimal_of(text.as_str()), SHAPE)?;
@@ -33,7 +34,7 @@ pub fn read_decimal(value: Value) -> Result<Leaf, Error>
 
 /// The tree of a decimal, in both forms.
 pub fn write_decimal(alloc: Global, decimal: Decimal128) -> Result<Value, AllocError>
-    ensures { IfOk result (λ t. view t ≡ spec.decimal_tree decimal) }
+    ensures { IfOk result (λ t. view t ≡ decimal_tree decimal) }
 {
     let text = format!(in alloc; "{decimal}")?;
     wrapped(alloc, "$numberDecimal", Value::String(text))

@@ -4,6 +4,7 @@ ghost use Rattle.std.specs.Prelude.{◌≡◌, option_map};
 ghost use Rattle.serde_json.specs.View.{view};
 ghost use Rattle.bson_leaf.specs.Doubles as spec;
 ghost use Rattle.bson_leaf.specs.Faults.{Gives};
+ghost use Rattle.bson_leaf.specs.Reading.{double_read};
 ghost use Rattle.bson_leaf.specs.View.{leaf_view};
 ghost use Rattle.bson_leaf.specs.Written.{Writes, double_writes};
 
@@ -39,7 +40,7 @@ pub fn double_of(text: &str) -> Option<u64>
 
 /// What `$numberDouble` holds, as the pattern of a double.
 pub fn read_double(value: Value) -> Result<Leaf, Error>
-    ensures { Gives leaf_view result (spec.double_read (view value)) }
+    ensures { Gives leaf_view result (double_read (view value)) }
 {
     let text = text_in(value, SHAPE)?;
     let pattern = expected(double_of(text.as_str()), SHAPE)?;

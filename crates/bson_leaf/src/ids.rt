@@ -6,7 +6,8 @@ ghost use Rattle.serde_json.specs.View.{view};
 ghost use Rattle.hex.specs.Hex.{IsBytes};
 ghost use Rattle.bson_scalar.specs.DbPointer.{namespace_of, id_of as pointer_id};
 ghost use Rattle.bson_leaf.specs.Faults.{Gives};
-ghost use Rattle.bson_leaf.specs.Ids.{id_of, oid_read, oid_tree, pointer_read, pointer_tree};
+ghost use Rattle.bson_leaf.specs.Ids.{oid_tree, pointer_tree};
+ghost use Rattle.bson_leaf.specs.Reading.{id_of, oid_read, pointer_read};
 ghost use Rattle.bson_leaf.specs.View.{leaf_view};
 
 use crate::error::Error;

@@ -3,7 +3,8 @@
 ghost use Rattle.std.specs.Prelude.{◌≡◌, IfOk};
 ghost use Rattle.serde_json.specs.View.{view};
 ghost use Rattle.bson_leaf.specs.Faults.{Gives};
-ghost use Rattle.bson_leaf.specs.Ints.{int_of, int32_read, int64_read, int32_tree, int64_tree};
+ghost use Rattle.bson_leaf.specs.Ints.{int32_tree, int64_tree};
+ghost use Rattle.bson_leaf.specs.Reading.{int_of, int32_read, int64_read};
 ghost use Rattle.bson_leaf.specs.Written.{int32_form, int64_form};
 ghost use Rattle.bson_leaf.specs.View.{leaf_view};
 

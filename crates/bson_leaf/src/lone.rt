@@ -3,7 +3,8 @@
 ghost use Rattle.std.specs.Prelude.{◌≡◌, IfOk};
 ghost use Rattle.serde_json.specs.View.{view};
 ghost use Rattle.bson_leaf.specs.Faults.{Gives};
-ghost use Rattle.bson_leaf.specs.Lone.{is_one as tells_one, one_read, undefined_read, min_key_tree, max_key_tree, undefined_tree};
+ghost use Rattle.bson_leaf.specs.Lone.{min_key_tree, max_key_tree, undefined_tree};
+ghost use Rattle.bson_leaf.specs.Reading.{is_one as tells_one, one_read, undefined_read};
 ghost use Rattle.bson_leaf.specs.Scalar.{min_key, max_key};
 ghost use Rattle.bson_leaf.specs.Shapes.{whole};
 ghost use Rattle.bson_leaf.specs.View.{leaf_view};

@@ -1,7 +1,7 @@
 //! Reads an object of one wrapper key: the table of wrappers and what each holds.
 ghost use Rattle.serde_json.specs.View.{view};
 ghost use Rattle.bson_leaf.specs.Faults.{Gives};
-ghost use Rattle.bson_leaf.specs.Rows.{single, single_at};
+ghost use Rattle.bson_leaf.specs.Reading.{single, single_at};
 ghost use Rattle.bson_leaf.specs.Table.{wrapper_of};
 ghost use Rattle.bson_leaf.specs.View.{leaf_view};
 

@@ -4,7 +4,8 @@ ghost use Rattle.std.specs.Prelude.{◌≡◌, IfOk, string_bytes};
 ghost use Rattle.serde_json.specs.View.{view};
 ghost use Rattle.bson_scalar.specs.Regex.{sorted_text};
 ghost use Rattle.bson_leaf.specs.Faults.{Gives};
-ghost use Rattle.bson_leaf.specs.Regexes.{regex_read, regex_tree};
+ghost use Rattle.bson_leaf.specs.Reading.{regex_read};
+ghost use Rattle.bson_leaf.specs.Regexes.{regex_tree};
 ghost use Rattle.bson_leaf.specs.View.{leaf_view};
 
 use crate::error::Error;

@@ -6,7 +6,8 @@ ghost use Rattle.serde_json.specs.Data.{object};
 ghost use Rattle.serde_json.specs.View.{view, members_view};
 ghost use Rattle.hex.specs.Hex.{IsBytes};
 ghost use Rattle.bson_leaf.specs.Faults.{Gives, or_bad};
-ghost use Rattle.bson_leaf.specs.Shapes.{lone_member, two_members, u32_at, whole, one, two};
+ghost use Rattle.bson_leaf.specs.Reading.{lone_member, two_members};
+ghost use Rattle.bson_leaf.specs.Shapes.{u32_at, whole, one, two};
 
 use crate::error::Error;
 use serde_json::{Map, Value};

@@ -2,7 +2,8 @@
 ghost use Rattle.std.specs.Prelude.{◌≡◌, IfOk, string_bytes};
 ghost use Rattle.serde_json.specs.View.{view};
 ghost use Rattle.bson_leaf.specs.Faults.{Gives};
-ghost use Rattle.bson_leaf.specs.Texts.{symbol_read, symbol_tree, code_read, code_tree};
+ghost use Rattle.bson_leaf.specs.Reading.{symbol_read, code_read};
+ghost use Rattle.bson_leaf.specs.Texts.{symbol_tree, code_tree};
 ghost use Rattle.bson_leaf.specs.View.{leaf_view};
 
 use crate::error::Error;

@@ -3,7 +3,8 @@
 ghost use Rattle.std.specs.Prelude.{◌≡◌, IfOk};
 ghost use Rattle.serde_json.specs.View.{view};
 ghost use Rattle.bson_leaf.specs.Faults.{Gives};
-ghost use Rattle.bson_leaf.specs.Timestamps.{timestamp_read, timestamp_tree};
+ghost use Rattle.bson_leaf.specs.Reading.{timestamp_read};
+ghost use Rattle.bson_leaf.specs.Timestamps.{timestamp_tree};
 ghost use Rattle.bson_leaf.specs.View.{leaf_view};
 
 use crate::error::Error;

@@ -13,7 +13,7 @@ use Rattle.bson_model.specs.Texts.{IsTree, HasEqualTexts, HasText, ComesBack}
 use Rattle.bson_model.specs.Same.{same}
 use Rattle.bson_model.specs.Value.{Value}
 use Rattle.bson_model.specs.Writing.{normal_form, settled, plain, writable, InRange, Written, writes}
-use Rattle.bson_model.proofs.MeansLaws.{full_from}
+use Rattle.bson_model.proofs.MeansLaws.{means_from}
 use Rattle.bson_model.proofs.NoFloats.{no_float}
 use Rattle.bson_model.proofs.RangeLaws.{in_range}
 use Rattle.bson_model.proofs.ReadBack.{reads_back_is, equal_is, same_trees, settled_form}
@@ -31,10 +31,13 @@ some_ok (Err e) h = cc
 tree_of : (f : Form) (v : Value) → writable v ≡ true → (u : Data) × (writes f v ≡ Ok u)
 tree_of f v h = some_ok (writes f v) (writable_is f v ∙ h)
 
+pub has_tree : (f : Form) (v : Value) → writable v ≡ true → (t : Data) × Written f (normal_form v) t
+has_tree f v h = let t = tree_of f v h in (t.0, canon_from f v t.0 t.1)
+
 -- the value that a tree of v means has that tree
 same_tree : (f : Form) (v : Value) (u : Data) (w : Value) → writes f v ≡ Ok u → Means u w → same w (settled f (normal_form v)) ≡ true → Written f (normal_form w) u
 same_tree f v u w h m is =
-    let own = tree_of f w (form u w m).1 in
+    let own = tree_of f w (form m).1 in
     let one : own.0 ≡ u = same_trees f w (settled f (normal_form v)) own.0 u own.1 (settled_form f v u h) (same_to w (settled f (normal_form v)) is) in
     canon_from f w u (own.1 ∙ ap Ok one)
 
@@ -60,9 +63,9 @@ comes_back v p w r f = let t = tree_of f v w in (t.0, has_text f v t.0 t.1 p r)
 
 -- what a tree means comes back
 pub read_comes_back : (t : Data) (v : Value) → IsTree t → Means t v → ComesBack v
-read_comes_back t v is m = let f = form t v m in comes_back v f.0 f.1 (in_range t v is m)
+read_comes_back t v is m = let f = form m in comes_back v f.0 f.1 (in_range m is)
 
 -- what a reader gave comes back
 pub read_back_ok : {X : Type 0} (see : X → Value) (t : Data) (r : Result X Error) → Gives see r (reads t) → IfOk r (λ v. IsTree t → ComesBack (see v))
-read_back_ok see t (Ok x) h = λ is. read_comes_back t (see x) is (full_from t (see x) h)
+read_back_ok see t (Ok x) h = λ is. read_comes_back t (see x) is (means_from t (see x) h)
 read_back_ok see t (Err e) h = tt

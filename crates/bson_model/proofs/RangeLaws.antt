@@ -1,23 +1,16 @@
 -- What a tree means is in range.
-use Rattle.std.proofs.Common.{◌≡◌, ◌<◌, ◌^◌, ℕ, ℤ, pos, negsuc, List, [], ◌∷◌, Bool, true, false, cond, Option, Some, None, refl, sym, subst, ◌⊎◌, inl, inr, w64, arith}
+use Rattle.std.proofs.Common.{◌≡◌, ◌<◌, ◌^◌, ℕ, ℤ, pos, negsuc, [], ◌∷◌, Bool, true, false, cond, Option, Some, None, refl, sym, subst, w64, arith}
 use Rattle.std.specs.Prelude.{FitsSigned}
-use Rattle.std.specs.Bool.{MatchBool}
 use Rattle.std.proofs.lemmas.Bool.{ltb-true}
-use Rattle.serde_json.specs.Data.{Data, Num, unsigned, negative, float, Items, no_items, item, Members, no_members, member}
-use Rattle.serde_json.specs.Data as tree
+use Rattle.serde_json.specs.Data.{Data, Num, unsigned, negative, float, Items, Members}
 use Rattle.serde_json.specs.Find.{as_i64}
-use Rattle.bson_leaf.specs.Full.{NumberRow}
+use Rattle.bson_leaf.specs.Means.{MeansScalar, narrow_number, wide_number, oid, number_int, number_long, number_double, binary, uuid, timestamp, date_of_millis, date_of_text, date_of_number, db_pointer}
 use Rattle.bson_leaf.specs.Normal.{ScalarInRange}
-use Rattle.bson_leaf.specs.Rows.{Row}
 use Rattle.bson_leaf.specs.Scalar.{Scalar}
 use Rattle.bson_leaf.specs.Shapes.{small_number, whole}
-use Rattle.bson_leaf.specs.Dates.{IsLongForm, IsTextForm, IsNumberForm}
-use Rattle.bson_leaf.specs.Table.{has_wrapper}
-use Rattle.bson_leaf.specs.declared.wrapper.Wrapper.{Wrapper}
-use Rattle.bson_leaf.specs.declared.wrapper.Wrapper.TheVariants.{Oid, Symbol, RegularExpression, NumberInt, NumberLong, NumberDouble, NumberDecimal, Binary, Uuid, Code, Timestamp, Date, MinKey, MaxKey, DbPointer, Undefined}
 use Rattle.bson_leaf.proofs.BinaryLaws.{subtype_byte-of}
 use Rattle.bson_model.specs.Value.{Value, Values, Pairs}
-use Rattle.bson_model.specs.Means.{Means, MeansItems, MeansDocument, MeansWrapper, MeansScope}
+use Rattle.bson_model.specs.Means.{Means, scalar, code_with_scope, array, document, MeansItems, nothing, then, MeansDocument, empty, entry}
 use Rattle.bson_model.specs.Texts.{NumberFits, IsTree, ItemsAreTrees, MembersAreTrees}
 use Rattle.bson_model.specs.Writing.{InRange, ItemsInRange, PairsInRange}
 use Rattle.bson_model.proofs.ByteRanges.{hex_bytes, base64_bytes, uuid_bytes}
@@ -41,12 +34,6 @@ whole_fits (negative (pos n)) z t h = absurd t
 whole_fits (negative (negsuc n)) z t h = subst (FitsSigned w64) (un_some _ _ h) (record { sfits = t })
 whole_fits (float x) z t h = absurd cc
 
-number_range : (n : Num) (x : Scalar) → NumberFits n → NumberRow n x → ScalarInRange x
-number_range n x t h = elim h.2 [
-  | inl p ↦ subst ScalarInRange (sym p.0) p.1
-  | inr p ↦ subst ScalarInRange (sym p.0) (whole_fits n h.0 t h.1)
-]
-
 small_range : (o : Option ℤ) (m : ℕ) → small_number o ≡ Some m → m < 2 ^ 32
 small_range (Some (pos n)) m h = let g = guarded _ n m h in subst (λ k. k < 2 ^ 32) g.1 (ltb-true n (2 ^ 32) g.0)
 small_range (Some (negsuc n)) m h = absurd cc
@@ -62,69 +49,39 @@ double_at false false false false true f p h = let is = un_some _ _ h in omega (
 double_at false false false false false true p h = let is = un_some _ _ h in omega (arith, is)
 double_at false false false false false false p h = absurd cc
 
--- ---- rows
+-- ---- scalars
 
-date_range : (d : Data) (z : ℤ) → IsTree d → IsLongForm d z ⊎ IsTextForm d z ⊎ IsNumberForm d z → FitsSigned w64 z
-date_range d z t (inl f) = f.2.2
-date_range d z t (inr (inl f)) = denoted_fits f.0 z f.2
-date_range d z t (inr (inr f)) = whole_fits f.0 z (subst IsTree f.1 t) f.2
-
-row_range : (w : Wrapper) (d : Data) (x : Scalar) → IsTree d → Row w d x → ScalarInRange x
-row_range Oid d x t r = subst ScalarInRange (sym r.4) (hex_bytes r.0 12 r.1 r.3)
-row_range Symbol d x t r = subst ScalarInRange (sym r.2) tt
-row_range RegularExpression d x t r = subst ScalarInRange (sym r.3) tt
-row_range NumberInt d x t r = subst ScalarInRange (sym r.4) r.3.2
-row_range NumberLong d x t r = subst ScalarInRange (sym r.4) r.3.2
-row_range NumberDouble d x t r = subst ScalarInRange (sym r.4) (double_at _ _ _ _ _ _ r.1 r.3)
-row_range NumberDecimal d x t r = subst ScalarInRange (sym r.4) tt
-row_range Binary d x t r =
-    let byte : r.3 < 256 = (hex_bytes r.1 1 (r.3 ∷ []) r.6).1 0 in
-    subst ScalarInRange (sym r.7) (subst (λ n. n < 256) (sym (subtype_byte-of r.3)) byte, base64_bytes r.0 r.2 r.5)
-row_range Uuid d x t r =
-    let byte : 4 < 256 = omega arith in
-    subst ScalarInRange (sym r.4) (byte, uuid_bytes r.0 r.1 r.3)
-row_range Code d x t r = subst ScalarInRange (sym r.2) tt
-row_range Timestamp d x t r = subst ScalarInRange (sym r.7) (small_range (whole r.1) r.3 r.6, small_range (whole r.0) r.2 r.5)
-row_range Date d x t r = subst ScalarInRange (sym r.2) (date_range d r.0 t r.1)
-row_range MinKey d x t r = subst ScalarInRange (sym r.1) tt
-row_range MaxKey d x t r = subst ScalarInRange (sym r.1) tt
-row_range DbPointer d x t r = subst ScalarInRange (sym r.5) (hex_bytes r.1 12 r.2 r.4)
-row_range Undefined d x t r = subst ScalarInRange (sym r.1) tt
+scalar_range : {t : Data} {x : Scalar} → MeansScalar t x → IsTree t → ScalarInRange x
+scalar_range (narrow_number n z is fits) t = fits
+scalar_range (wide_number n z is wide) t = whole_fits n z t is
+scalar_range (oid s id is) t = hex_bytes s 12 id is
+scalar_range (number_int s z is) t = is.2
+scalar_range (number_long s z is) t = is.2
+scalar_range (number_double s p is) t = double_at _ _ _ _ _ _ p is
+scalar_range (binary s k bytes n is byte) t =
+    let fits : n < 256 = (hex_bytes k 1 (n ∷ []) byte).1 0 in
+    (subst (λ m. m < 256) (sym (subtype_byte-of n)) fits, base64_bytes s bytes is)
+scalar_range (uuid s id is) t = let byte : 4 < 256 = omega arith in (byte, uuid_bytes s id is)
+scalar_range (timestamp i e m n i_is e_is) t = (small_range (whole e) n e_is, small_range (whole i) m i_is)
+scalar_range (date_of_millis s z is) t = is.2
+scalar_range (date_of_text s z is) t = denoted_fits s z is
+scalar_range (date_of_number n z is) t = whole_fits n z t.1.0 is
+scalar_range (db_pointer name s id is) t = hex_bytes s 12 id is
+scalar_range _ t = tt
 
 -- ---- values
 
-split : (b : Bool) (P Q R : Type 0) → MatchBool b P Q → (P → R) → (Q → R) → R
-split true P Q R h p q = p h
-split false P Q R h p q = q h
-
 mutual
-  pub in_range : (t : Data) (v : Value) → IsTree t → Means t v → InRange v
-  in_range tree.null v is h = subst InRange (sym h) tt
-  in_range (tree.boolean b) v is h = subst InRange (sym h) tt
-  in_range (tree.number n) v is h = subst InRange (sym h.1) (number_range n h.0 is h.2)
-  in_range (tree.string s) v is h = subst InRange (sym h) tt
-  in_range (tree.array ds) v is h = subst InRange (sym h.1) (items_range ds h.0 is h.2)
-  in_range (tree.object ms) v is h =
-      split (has_wrapper ms) _ _ (InRange v) h (λ g. wrapper_range ms v is.1 g) (λ g. subst InRange (sym g.1) (document_range ms g.0 is.1 g.2))
+  pub in_range : {t : Data} {v : Value} → Means t v → IsTree t → InRange v
+  in_range (scalar d x m) is = scalar_range m is
+  in_range (code_with_scope s ms ps m) is = document_range m is.1.1.0.1
+  in_range (array ds vs m) is = items_range m is
+  in_range (document ms ps none m) is = document_range m is.1
 
-  items_range : (ds : Items) (vs : Values) → ItemsAreTrees ds → MeansItems ds vs → ItemsInRange vs
-  items_range no_items vs is h = subst ItemsInRange (sym h) tt
-  items_range (item d ds) vs is h = subst ItemsInRange (sym h.2) (in_range d h.0 is.0 h.3, items_range ds h.1 is.1 h.4)
+  items_range : {ds : Items} {vs : Values} → MeansItems ds vs → ItemsAreTrees ds → ItemsInRange vs
+  items_range nothing is = tt
+  items_range (then d v ds vs m n) is = (in_range m is.0, items_range n is.1)
 
-  document_range : (ms : Members) (ps : Pairs) → MembersAreTrees ms → MeansDocument ms ps → PairsInRange ps
-  document_range no_members ps is h = subst PairsInRange (sym h) tt
-  document_range (member k d ms) ps is h = subst PairsInRange (sym h.2) (in_range d h.0 is.0 h.3, document_range ms h.1 is.1 h.4)
-
-  wrapper_range : (ms : Members) (v : Value) → MembersAreTrees ms → MeansWrapper ms v → InRange v
-  wrapper_range no_members v is h = absurd h
-  wrapper_range (member k d no_members) v is h = subst InRange (sym h.4) (row_range h.0 d h.1 is.0 h.3)
-  wrapper_range (member k d (member l e no_members)) v is h = scope_range h.2 e v is.1.0 h.4
-  wrapper_range (member k d (member l e (member m f ms))) v is h = absurd h
-
-  scope_range : (s : List ℕ) (e : Data) (v : Value) → IsTree e → MeansScope s e v → InRange v
-  scope_range s tree.null v is h = subst InRange (sym h) tt
-  scope_range s (tree.boolean b) v is h = absurd h
-  scope_range s (tree.number n) v is h = absurd h
-  scope_range s (tree.string t) v is h = absurd h
-  scope_range s (tree.array ds) v is h = absurd h
-  scope_range s (tree.object ms) v is h = subst InRange (sym h.1) (document_range ms h.0 is.1 h.2)
+  document_range : {ms : Members} {ps : Pairs} → MeansDocument ms ps → MembersAreTrees ms → PairsInRange ps
+  document_range empty is = tt
+  document_range (entry k d v ms ps m n) is = (in_range m is.0, document_range n is.1)

@@ -1,13 +1,12 @@
--- What a tree means, as a function: for the proofs and the order of faults. `Means` is the grammar.
+-- What a tree is read as, as a function: for the order of faults, and for the proofs. `Means` is the grammar, and the
+-- law `reading_is_meaning` joins the two.
 use Rattle.std.specs.Prelude.{ℕ, List, codes, ◌&&◌, if◌then◌else◌, Option, Some, None, Result, Ok, Err}
 use Rattle.std.specs.Str.{bytes_eq}
 use Rattle.serde_json.specs.Data.{Data, Items, no_items, item, Members, no_members, member}
 use Rattle.serde_json.specs.Data as tree
 use Rattle.bson_leaf.specs.Faults.{Fault, bad, ◌>>=◌}
-use Rattle.bson_leaf.specs.Full.{number_read}
-use Rattle.bson_leaf.specs.Rows.{single_at}
+use Rattle.bson_leaf.specs.Reading.{number_read, single_at, on_text}
 use Rattle.bson_leaf.specs.Scalar.{Scalar, null, boolean, text, code}
-use Rattle.bson_leaf.specs.Shapes.{on_text}
 use Rattle.bson_leaf.specs.Table.{wrapper_of, has_wrapper}
 use Rattle.bson_model.specs.Value.{Value, scalar, code_scope, array, document, Values, no_values, value, Pairs, no_pairs, pair}
 

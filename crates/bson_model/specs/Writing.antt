@@ -101,7 +101,7 @@ abbrev mutual
   WrittenDocument f (pair k v ps) ms = (d : Data) × (ns : Members) × Written f v d × WrittenDocument f ps ns × (ms ≡ put k d ns)
 
 abbrev mutual
-  -- each double in it is a zero or a NaN
+  -- each double in it is a zero, an infinity or a NaN
   pub writable : Value → Bool
   writable (scalar x) = writable_scalar x
   writable (code_scope s ps) = writable_pairs ps
@@ -142,6 +142,10 @@ abbrev mutual
 abbrev pub ReadsBack : Form → Value → Data → Type 0
 ReadsBack f v t = plain v ≡ true → (w : Value) × Means t w × (same w (settled f (normal_form v)) ≡ true)
 
+-- and whatever value it means is that
+abbrev pub ReadsBackAlone : Form → Value → Data → Value → Type 0
+ReadsBackAlone f v t w = plain v ≡ true → Means t w → same w (settled f (normal_form v)) ≡ true
+
 -- the tree t of v, and the tree u of w
 abbrev pub HasEqualTrees : Form → Value → Data → Value → Data → Type 0
 HasEqualTrees f v t w u = plain v ≡ true → plain w ≡ true → InRange w → Written f (normal_form w) u → ((t ≡ u) ↔ (same (settled f (normal_form v)) (settled f (normal_form w)) ≡ true))
@@ -164,6 +168,7 @@ pub record IsTreeOf (f : Form) (v : Value) (t : Data) : Type 0 where
   pub alike : (w : Value) (u : Data) → HasSameTree f v t w u
   -- read again, and told from the trees of other values
   pub reads_back : ReadsBack f v t
+  pub read_alone : (w : Value) → ReadsBackAlone f v t w
   pub equal : (w : Value) (u : Data) → HasEqualTrees f v t w u
   pub own_map : OwnMapReadsBack f v t
 

@@ -2,7 +2,7 @@
 ghost use Rattle.std.specs.Prelude.{◌≡◌, IfOk, string_bytes};
 ghost use Rattle.serde_json.specs.View.{view, number_view, members_view};
 ghost use Rattle.bson_leaf.specs.Faults.{Gives};
-ghost use Rattle.bson_leaf.specs.Full.{number_read};
+ghost use Rattle.bson_leaf.specs.Reading.{number_read};
 ghost use Rattle.bson_model.specs.Reading.{valued};
 ghost use Rattle.bson_model.specs.Writing.{with_scope};
 ghost use Rattle.bson_leaf.specs.View.{leaf_view};

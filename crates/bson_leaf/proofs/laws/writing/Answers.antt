@@ -1,3 +1,4 @@
+use Rattle.bson_leaf.proofs.DoubleLaws.{special_is}
 use Rattle.bson_leaf.proofs.ScalarLaws.{written_from, written_to, writable_is}
 use Rattle.bson_leaf.proofs.laws.writing.Goals as goal
 
@@ -5,4 +6,5 @@ pub returns : goal.returns
 returns c = record {
   tree = λ f x t. (written_from f x t, written_to f x t);
   writable = writable_is;
+  text = special_is;
 }

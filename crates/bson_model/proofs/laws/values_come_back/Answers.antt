@@ -1,0 +1,5 @@
+use Rattle.bson_model.proofs.ComesBack.{comes_back}
+use Rattle.bson_model.proofs.laws.values_come_back.Goals as goal
+
+pub returns : goal.returns
+returns c = comes_back
