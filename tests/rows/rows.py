@@ -33,6 +33,7 @@ class Row:
         if not arrow:
             raise SystemExit(f"{place}: no ' =>' in {line}")
         self.place = place
+        self.line = line
         self.name = call
         self.call = spelled(call)
         self.wanted = spelled(wanted.removeprefix(" "))
