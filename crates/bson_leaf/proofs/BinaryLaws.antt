@@ -9,7 +9,7 @@ use Rattle.hex.proofs.HexLemmas.{decode_sized-encode_lower}
 use Rattle.base64.specs.Engines.{standard}
 use Rattle.base64.proofs.EngineFacts.{decode_of-encode_of}
 use Rattle.bson_scalar.specs.Base64.{base64_text}
-use Rattle.bson_scalar.specs.Orders.{parsed}
+use Rattle.bson_scalar.specs.Orders.{parsed_hyphenated}
 use Rattle.bson_scalar.specs.Subtype.{subtype_byte, subtype_of}
 use Rattle.bson_leaf.specs.Binaries.{BinaryRow, binary_read, UuidRow, uuid_read, byte_of, bytes_of, only_byte}
 use Rattle.bson_leaf.specs.Scalar.{binary}
@@ -59,7 +59,7 @@ binary_laws = record {
 
 pub uuid_laws : RowLaws uuid_read UuidRow
 uuid_laws = record {
-  from = λ d x h. let t = text_then d _ x h in let i = some_then (parsed t.0) _ x t.2 in (t.0, i.0, t.1, i.1, un_ok _ _ i.2);
+  from = λ d x h. let t = text_then d _ x h in let i = some_then (parsed_hyphenated t.0) _ x t.2 in (t.0, i.0, t.1, i.1, un_ok _ _ i.2);
   to = λ d x r. rw (r.2, r.3) (ap Ok (sym r.4));
   form = λ d x r. rw r.4 (refl, refl);
 }

@@ -9,7 +9,7 @@ use Rattle.hex.specs.declared.error.FromHexError.{FromHexError}
 use Rattle.base64.specs.GeneralPurpose.{decode_of}
 use Rattle.base64.specs.Engines.{standard}
 use Rattle.bson_scalar.specs.Base64.{IsBase64, base64_text}
-use Rattle.uuid.specs.Text.{parsed_hyphenated}
+use Rattle.bson_scalar.specs.Orders.{parsed_hyphenated}
 use Rattle.bson_scalar.specs.Subtype.{subtype_byte, subtype_of}
 use Rattle.bson_scalar.specs.declared.spec.BinarySubtype.{BinarySubtype}
 use Rattle.bson_scalar.specs.declared.spec.BinarySubtype.TheVariants as kind

@@ -20,7 +20,7 @@ use Rattle.bson_model.specs.Value.{Value, Values, Pairs}
 use Rattle.bson_model.specs.Means.{Means, MeansItems, MeansDocument, MeansWrapper, MeansScope}
 use Rattle.bson_model.specs.Texts.{NumberFits, IsTree, ItemsAreTrees, MembersAreTrees}
 use Rattle.bson_model.specs.Writing.{InRange, ItemsInRange, PairsInRange}
-use Rattle.bson_model.proofs.ByteRanges.{hex_bytes, base64_bytes, uuid_bytes}
+use Rattle.bson_model.proofs.ByteRanges.{hex_bytes, base64_bytes, hyphenated_bytes}
 use Rattle.bson_model.proofs.DateRange.{denoted_fits}
 
 un_some : {A : Type 0} (x y : A) → Some x ≡ Some y → x ≡ y
@@ -82,7 +82,7 @@ row_range Binary d x t r =
     subst ScalarInRange (sym r.7) (subst (λ n. n < 256) (sym (subtype_byte-of r.3)) byte, base64_bytes r.0 r.2 r.5)
 row_range Uuid d x t r =
     let byte : 4 < 256 = omega arith in
-    subst ScalarInRange (sym r.4) (byte, uuid_bytes r.0 r.1 r.3)
+    subst ScalarInRange (sym r.4) (byte, hyphenated_bytes r.0 r.1 r.3)
 row_range Code d x t r = subst ScalarInRange (sym r.2) tt
 row_range Timestamp d x t r = subst ScalarInRange (sym r.7) (small_range (whole r.1) r.3 r.6, small_range (whole r.0) r.2 r.5)
 row_range Date d x t r = subst ScalarInRange (sym r.2) (date_range d r.0 t r.1)

@@ -87,15 +87,7 @@ fn trees_are_written_canonically(rt: HostRuntime) -> Result<(), Fail> {
             "{\"$binary\":{\"base64\":\"ABEiM0RVZneImaq7zN3u/w==\",\"subType\":\"04\"}}",
         ),
         (
-            "{\"$uuid\":\"00112233445566778899AABBCCDDEEFF\"}",
-            "{\"$binary\":{\"base64\":\"ABEiM0RVZneImaq7zN3u/w==\",\"subType\":\"04\"}}",
-        ),
-        (
-            "{\"$uuid\":\"{00112233-4455-6677-8899-aabbccddeeff}\"}",
-            "{\"$binary\":{\"base64\":\"ABEiM0RVZneImaq7zN3u/w==\",\"subType\":\"04\"}}",
-        ),
-        (
-            "{\"$uuid\":\"urn:uuid:00112233-4455-6677-8899-aabbccddeeff\"}",
+            "{\"$uuid\":\"00112233-4455-6677-8899-AABBCCDDEEFF\"}",
             "{\"$binary\":{\"base64\":\"ABEiM0RVZneImaq7zN3u/w==\",\"subType\":\"04\"}}",
         ),
         (
@@ -204,6 +196,26 @@ fn trees_without_meaning_tell_their_first_fault(rt: HostRuntime) -> Result<(), F
         ("{\"$maxKey\":true}", "refused"),
         ("{\"$minKey\":1,\"$maxKey\":1}", "refused"),
         ("{\"$undefined\":false}", "refused"),
+        (
+            "{\"$uuid\":\"00112233445566778899AABBCCDDEEFF\"}",
+            "refused",
+        ),
+        (
+            "{\"$uuid\":\"{00112233-4455-6677-8899-aabbccddeeff}\"}",
+            "refused",
+        ),
+        (
+            "{\"$uuid\":\"urn:uuid:00112233-4455-6677-8899-aabbccddeeff\"}",
+            "refused",
+        ),
+        (
+            "{\"$uuid\":\"0011223344556677-8899-aabb-ccdd-eeff\"}",
+            "refused",
+        ),
+        (
+            "{\"$uuid\":\"00112233-4455-6677-8899-aabbccddeefg\"}",
+            "refused",
+        ),
         ("{\"$regularExpression\":{\"pattern\":\"a\"}}", "refused"),
         ("{\"$date\":{\"$numberLong\":5}}", "refused"),
         ("{\"$date\":{\"$numberLong\":\"1\",\"x\":1}}", "refused"),
