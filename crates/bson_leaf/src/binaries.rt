@@ -1,11 +1,11 @@
-//! `$binary`: bytes and their subtype; and `$uuid`, the text of a UUID. Read and written as
+//! `$binary`: bytes and their subtype; and `$uuid`, the hyphenated text of a UUID. Read and written as
 //! `{"base64": "aGVsbG8=", "subType": "00"}` under `$binary` (RFC 4648 section 4, with padding; two
 //! hexadecimal digits, of which lower-case ones are written). `$uuid` is read alone, as
 //! `{"$uuid": "00112233-4455-6677-8899-aabbccddeeff"}`, and means a binary of subtype 04.
 ghost use Rattle.std.specs.Prelude.{◌≡◌, ◌<◌, IfOk, OnOk, ◌∷◌, [], string_bytes};
 ghost use Rattle.serde_json.specs.View.{view};
 ghost use Rattle.hex.specs.Hex.{encode_lower, IsBytes};
-ghost use Rattle.bson_scalar.specs.Orders.{parsed};
+ghost use Rattle.bson_scalar.specs.Orders.{parsed_hyphenated};
 ghost use Rattle.bson_scalar.specs.Subtype.{subtype_byte};
 ghost use Rattle.bson_leaf.specs.Binaries.{binary_tree};
 ghost use Rattle.bson_leaf.specs.Faults.{Gives, or_bad};
@@ -24,7 +24,7 @@ use std::alloc::{AllocError, Global};
 
 const BINARY_SHAPE: &str = "`$binary` holds the texts `base64` and `subType`";
 
-const UUID_SHAPE: &str = "`$uuid` holds the text of a UUID";
+const UUID_SHAPE: &str = "`$uuid` holds the hyphenated text of a UUID";
 
 /// The byte of a text of two hexadecimal digits.
 pub fn byte_of(text: &str) -> Option<u8>
@@ -67,16 +67,22 @@ pub fn read_binary(alloc: Global, value: Value) -> Result<Leaf, Error>
     }))
 }
 
+// The UUID of a text of the hyphenated form, the only one that has 36 bytes.
 fn uuid_of(text: &str) -> Option<Uuid>
-    ensures { result ≡ parsed text.now }
+    ensures { result ≡ parsed_hyphenated text.now }
 {
+    if text.len() != 36 {
+        return None;
+    }
     match Uuid::parse_str(text) {
         Ok(id) => Some(id),
         Err(_) => None,
     }
 }
 
-/// What `$uuid` holds, as a binary of the subtype of UUIDs.
+/// What `$uuid` holds, as a binary of the subtype of UUIDs: a text of 36 bytes, with `-` at places 8, 13,
+/// 18 and 23, counted from 0, and hexadecimal digits of either case elsewhere. The other spellings
+/// that `Uuid::parse_str` takes are refused.
 pub fn read_uuid(alloc: Global, value: Value) -> Result<Leaf, Error>
     ensures { Gives leaf_view result (uuid_read (view value)) }
 {

@@ -96,6 +96,11 @@ fn wrappers_are_read_and_written(rt: HostRuntime) -> Result<(), Fail> {
             r#"{"$binary":{"base64":"ABEiM0RVZneImaq7zN3u/w==","subType":"04"}}"#,
         ),
         (
+            "$uuid",
+            r#""00112233-4455-6677-8899-AABBCCDDEEFF""#,
+            r#"{"$binary":{"base64":"ABEiM0RVZneImaq7zN3u/w==","subType":"04"}}"#,
+        ),
+        (
             "$timestamp",
             r#"{"t":4294967295,"i":0}"#,
             r#"{"$timestamp":{"i":0,"t":4294967295}}"#,
@@ -192,6 +197,15 @@ fn other_trees_are_refused(rt: HostRuntime) -> Result<(), Fail> {
         ("$binary", r#"{"base64":"","subType":"00","x":1}"#),
         ("$binary", r#""AA==""#),
         ("$uuid", r#""00112233""#),
+        ("$uuid", r#""00112233445566778899aabbccddeeff""#),
+        ("$uuid", r#""{00112233-4455-6677-8899-aabbccddeeff}""#),
+        (
+            "$uuid",
+            r#""urn:uuid:00112233-4455-6677-8899-aabbccddeeff""#,
+        ),
+        ("$uuid", r#""0011223344556677-8899-aabb-ccdd-eeff""#),
+        ("$uuid", r#""001122334-455-6677-8899-aabbccddeeff""#),
+        ("$uuid", r#""00112233-4455-6677-8899-aabbccddeefg""#),
         ("$timestamp", r#"{"t":-1,"i":0}"#),
         ("$timestamp", r#"{"t":0,"i":4294967296}"#),
         ("$timestamp", "[1,2]"),

@@ -11,7 +11,7 @@ use Rattle.base64.specs.Decode.{IsDecodeTable, decode_group, decode_outcome, gro
 use Rattle.base64.specs.GeneralPurpose.{decode_of}
 use Rattle.base64.specs.Engines.{standard}
 use Rattle.base64.proofs.Tables.{are_tables_inverse, IsDecodeTable_from}
-use Rattle.uuid.specs.Text.{by_index, byte_of_digits, is_hex_digit, value_of, digits_of, parsed, parsed_simple, parsed_hyphenated, parsed_braced, parsed_urn}
+use Rattle.uuid.specs.Text.{by_index, byte_of_digits, is_hex_digit, value_of, digits_of, parsed_simple, parsed_hyphenated}
 use Rattle.uuid.proofs.TextLemmas.{by_index_at, by_index_length}
 
 -- ---- lists of bytes
@@ -188,19 +188,5 @@ simple_bytes s id h =
       | inr past ↦ rw (get_or_past (by_index 16 (byte_of_digits s)) i 0 (omega (arith, by_index_length 16 (byte_of_digits s)))) (omega arith)
     ])
 
-hyphenated_bytes : (s id : List ℕ) → parsed_hyphenated s ≡ Some id → IsBytes id
+pub hyphenated_bytes : (s id : List ℕ) → parsed_hyphenated s ≡ Some id → IsBytes id
 hyphenated_bytes s id h = simple_bytes (digits_of s) id (guarded _ (parsed_simple (digits_of s)) id h).1
-
-either : (a b c d : Bool) (w x y z : Option (List ℕ)) (id : List ℕ) → cond a w (cond b x (cond c y (cond d z None))) ≡ Some id
-    → (w ≡ Some id → IsBytes id) → (x ≡ Some id → IsBytes id) → (y ≡ Some id → IsBytes id) → (z ≡ Some id → IsBytes id) → IsBytes id
-either true b c d w x y z id h hw hx hy hz = hw h
-either false true c d w x y z id h hw hx hy hz = hx h
-either false false true d w x y z id h hw hx hy hz = hy h
-either false false false true w x y z id h hw hx hy hz = hz h
-either false false false false w x y z id h hw hx hy hz = absurd cc
-
-pub uuid_bytes : (s id : List ℕ) → parsed s ≡ Some id → IsBytes id
-uuid_bytes s id h =
-    either _ _ _ _ (parsed_simple s) (parsed_hyphenated s) (parsed_braced s) (parsed_urn s) id h (simple_bytes s id) (hyphenated_bytes s id)
-    (λ e. hyphenated_bytes (take 36 (drop 1 s)) id (guarded _ (parsed_hyphenated (take 36 (drop 1 s))) id e).1)
-    (λ e. hyphenated_bytes (drop 9 s) id (guarded _ (parsed_hyphenated (drop 9 s)) id e).1)

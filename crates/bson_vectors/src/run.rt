@@ -236,6 +236,28 @@ fn texts_that_are_not_accepted(rt: HostRuntime) -> Result<(), Fail> {
     Ok(())
 }
 
+// Other spellings of a UUID than the hyphenated one.
+const UUIDS: [&[u8]; 4] = [
+    b"{\"$uuid\":\"00112233445566778899AABBCCDDEEFF\"}",
+    b"{\"$uuid\":\"{00112233-4455-6677-8899-AABBCCDDEEFF}\"}",
+    b"{\"$uuid\":\"urn:uuid:00112233-4455-6677-8899-AABBCCDDEEFF\"}",
+    b"{\"$uuid\":\"0011223344556677-8899-aabb-ccdd-eeff\"}",
+];
+
+#[test]
+fn uuids_are_read_hyphenated_alone(rt: HostRuntime) -> Result<(), Fail> {
+    let alloc = rt.alloc();
+    let row = (
+        "{\"$uuid\":\"00112233-4455-6677-8899-AABBCCDDEEFF\"}",
+        "{\"$binary\":{\"base64\":\"ABEiM0RVZneImaq7zN3u/w==\",\"subType\":\"04\"}}",
+    );
+    check_rows(&rt, alloc, Mode::Canonical, &[row])?;
+    for input in UUIDS {
+        check_fault(&rt, alloc, input, Fault::NotExtendedJson)?;
+    }
+    Ok(())
+}
+
 const WRAPPER_KEYS: [&str; 16] = [
     "$oid",
     "$symbol",

@@ -1,4 +1,4 @@
-use Rattle.std.proofs.Common.{◌≡◌, bit_and, ap, ◌∙◌, arith}
+use Rattle.std.proofs.Common.{bit_and, ap, ◌∙◌, arith}
 use Rattle.std.proofs.lemmas.Nat.Bits.{and_high_mask, ones_shl}
 use Rattle.bson_scalar.proofs.packed.cleared_byte.Goals as goal
 

@@ -1,4 +1,4 @@
-use Rattle.std.proofs.Common.{◌≡◌, ◌&&◌, ap, inr}
+use Rattle.std.proofs.Common.{◌&&◌, ap, inr}
 use Rattle.bson_scalar.specs.Vectors.{has_zero_bits}
 use Rattle.bson_scalar.proofs.VectorLaws.{only_one-read, parts, short}
 use Rattle.bson_scalar.proofs.vector.Vector.from_bytes.Goals as goal

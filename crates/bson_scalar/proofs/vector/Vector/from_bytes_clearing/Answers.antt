@@ -1,4 +1,4 @@
-use Rattle.std.proofs.Common.{◌≡◌, inr}
+use Rattle.std.proofs.Common.{inr}
 use Rattle.bson_scalar.proofs.ClearedBits.{only_one-unchanged}
 use Rattle.bson_scalar.proofs.VectorLaws.{only_one-read, parts, short}
 use Rattle.bson_scalar.proofs.vector.Vector.from_bytes_clearing.Goals as goal
