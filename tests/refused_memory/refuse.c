@@ -1,5 +1,5 @@
 /* Loaded before the C library (LD_PRELOAD): refuses the request for memory whose number, counted from 1, stands in
-   the variable REFUSE, and at the end writes the number of requests that there were to file descriptor 9.
+   the variable REFUSE, and at the end writes the number of requests that there were to the file descriptor TELL.
 
    Where EACH_LINE is set the requests are counted anew behind each line that the program writes to standard output,
    a number is written for each, and none is refused before the first line. */
@@ -15,12 +15,14 @@ void *__libc_calloc(size_t count, size_t size);
 void *__libc_realloc(void *old, size_t size);
 
 static unsigned long requests, refused;
-static int each_line, is_armed;
+static int each_line, is_armed, to;
 
 /* What the loader asked for before the program began is neither counted nor refused. */
 __attribute__((constructor)) static void begin(void) {
     const char *number = getenv("REFUSE");
     refused = number ? strtoul(number, NULL, 10) : 0;
+    const char *descriptor = getenv("TELL");
+    to = descriptor ? atoi(descriptor) : 2;
     each_line = getenv("EACH_LINE") != NULL;
     is_armed = !each_line;
     requests = 0;
@@ -28,7 +30,7 @@ __attribute__((constructor)) static void begin(void) {
 
 static void tell(void) {
     is_armed = 0;
-    dprintf(9, "%lu\n", requests);
+    dprintf(to, "%lu\n", requests);
     requests = 0;
     is_armed = 1;
 }
@@ -48,8 +50,8 @@ void *malloc(size_t size) { return is_refused() ? NULL : __libc_malloc(size); }
 void *calloc(size_t count, size_t size) { return is_refused() ? NULL : __libc_calloc(count, size); }
 void *realloc(void *old, size_t size) { return is_refused() ? NULL : __libc_realloc(old, size); }
 
-ssize_t write(int to, const void *bytes, size_t count) {
-    ssize_t taken = syscall(SYS_write, to, bytes, count);
-    if (each_line && to == 1 && taken > 0 && ((const char *)bytes)[taken - 1] == '\n') tell();
+ssize_t write(int descriptor, const void *bytes, size_t count) {
+    ssize_t taken = syscall(SYS_write, descriptor, bytes, count);
+    if (each_line && descriptor == 1 && taken > 0 && ((const char *)bytes)[taken - 1] == '\n') tell();
     return taken;
 }

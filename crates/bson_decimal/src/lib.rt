@@ -93,6 +93,3 @@ pub enum ParseError {
     #[error("a character other than a digit lies where the digits are cut")]
     Unparseable,
 }
-
-#[cfg(test)]
-mod tests;

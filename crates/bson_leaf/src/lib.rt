@@ -22,8 +22,6 @@ pub mod lone;
 pub mod read;
 pub mod regexes;
 pub mod shapes;
-#[cfg(test)]
-mod tests;
 pub mod texts;
 pub mod timestamps;
 pub mod wrapper;

@@ -1,10 +1,10 @@
 //! `uuid CALL ARGS` and `binary CALL ARGS`: UUIDs, base64, and binaries that hold UUIDs.
 use crate::stop::{Answer, Stop};
 use crate::words::{byte_of, bytes_of, cut, put_hex, sixteen};
+use bson::Bson;
 use bson::binary::{self, Binary};
 use bson::spec::BinarySubtype;
 use bson::uuid::{self, Uuid, UuidRepresentation};
-use bson::Bson;
 use std::alloc::Global;
 
 /// `uuid parse TEXT`, `uuid to ORDER UUID`, `uuid from ORDER SUBTYPE BYTES`, `uuid value UUID`.
@@ -29,14 +29,20 @@ fn parse(text: &str, out: &mut String) -> Answer {
 fn put_uuid_error(error: &uuid::Error, out: &mut String) -> Answer {
     match error {
         uuid::Error::InvalidUuidString { message: _ } => Ok(out.push_str("InvalidUuidString")?),
-        uuid::Error::InvalidLength { length } => Ok(write!(out, "InvalidLength {length}, {error}")?),
+        uuid::Error::InvalidLength { length } => Ok(write!(
+            out,
+            "InvalidLength {length}, {error}"
+        )?),
         uuid::Error::RepresentationMismatch {
             expected_binary_subtype,
             actual_binary_subtype,
             requested_representation,
         } => {
             write!(out, "RepresentationMismatch {expected_binary_subtype:?} ")?;
-            Ok(write!(out, "{actual_binary_subtype:?} {requested_representation:?}")?)
+            Ok(write!(
+                out,
+                "{actual_binary_subtype:?} {requested_representation:?}"
+            )?)
         }
     }
 }
@@ -108,7 +114,12 @@ pub fn call(alloc: Global, rest: &str, out: &mut String) -> Answer {
         "base64" => base64(alloc, None, text, out),
         "base64_as" => {
             let (subtype, text) = cut(text);
-            base64(alloc, Some(BinarySubtype::from(byte_of(subtype)?)), text, out)
+            base64(
+                alloc,
+                Some(BinarySubtype::from(byte_of(subtype)?)),
+                text,
+                out,
+            )
         }
         "shown" => Ok(write!(out, "{}", binary_of(alloc, text)?)?),
         "clone" => copied(alloc, text, out),

@@ -65,7 +65,13 @@ fn put_reply(reply: Option<&Bson>, out: &mut String) -> Answer {
     }
 }
 
-fn insert(alloc: Global, document: &mut Document, key: &str, value: i32, out: &mut String) -> Answer {
+fn insert(
+    alloc: Global,
+    document: &mut Document,
+    key: &str,
+    value: i32,
+    out: &mut String,
+) -> Answer {
     match document.insert(String::from_str(alloc, key)?, Bson::Int32(value)) {
         Ok(old) => put_reply(old.as_ref(), out),
         Err(_) => Err(Stop::OutOfMemory),
@@ -104,7 +110,13 @@ fn write_place(document: &mut Document, at: usize, value: i32, out: &mut String)
 }
 
 /// What the entry lends is the reply.
-fn entry(alloc: Global, document: &mut Document, key: &str, value: i32, out: &mut String) -> Answer {
+fn entry(
+    alloc: Global,
+    document: &mut Document,
+    key: &str,
+    value: i32,
+    out: &mut String,
+) -> Answer {
     let entry = document.entry(String::from_str(alloc, key)?);
     match entry.or_insert(Bson::Int32(value)) {
         Ok(place) => put_reply(Some(place), out),

@@ -20,7 +20,13 @@ pub fn call(alloc: Global, rest: &str, out: &mut String) -> Answer {
         "tree" => unread(alloc, text, out),
         "value" => unwritten(alloc, text, out),
         "get" => get(alloc, text, out),
-        "stopped" => Ok(write!(out, "{}", Stopped { done: number::<usize>(text)? })?),
+        "stopped" => Ok(write!(
+            out,
+            "{}",
+            Stopped {
+                done: number::<usize>(text)?
+            }
+        )?),
         _ => Err(Stop::NotUnderstood),
     }
 }

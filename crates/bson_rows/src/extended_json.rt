@@ -81,10 +81,12 @@ fn put_written(alloc: Global, relaxed: bool, value: Bson, out: &mut String) -> A
             }
             Ok(())
         }
-        (Err(WriteError::FiniteDouble), Err(WriteError::FiniteDouble)) =>
-            Ok(out.push_str("FiniteDouble")?),
-        (Err(WriteError::OutOfMemory), _) | (_, Err(WriteError::OutOfMemory)) =>
-            Err(Stop::OutOfMemory),
+        (Err(WriteError::FiniteDouble), Err(WriteError::FiniteDouble)) => Ok(out.push_str(
+            "FiniteDouble",
+        )?),
+        (Err(WriteError::OutOfMemory), _) | (_, Err(WriteError::OutOfMemory)) => Err(
+            Stop::OutOfMemory,
+        ),
         _ => Ok(out.push_str("the tree and the text differ")?),
     }
 }

@@ -50,11 +50,7 @@ fn parts(alloc: Global, text: &str, out: &mut String) -> Answer {
     let ([a, b, c, d, e], [f, g, h]) = (process.as_slice(), counter.as_slice()) else {
         return Err(Stop::NotUnderstood);
     };
-    let id = ObjectId::from_parts(
-        number::<u32>(seconds)?,
-        [*a, *b, *c, *d, *e],
-        [*f, *g, *h],
-    );
+    let id = ObjectId::from_parts(number::<u32>(seconds)?, [*a, *b, *c, *d, *e], [*f, *g, *h]);
     Ok(write!(out, "{id}")?)
 }
 

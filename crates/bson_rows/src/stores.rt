@@ -21,14 +21,24 @@ pub fn call(alloc: Global, rest: &str, out: &mut String) -> Answer {
     }
 }
 
-fn run<S: PairStore<i32>>(alloc: Global, store: &mut S, commands: &str, out: &mut String) -> Answer {
+fn run<S: PairStore<i32>>(
+    alloc: Global,
+    store: &mut S,
+    commands: &str,
+    out: &mut String,
+) -> Answer {
     for command in commands.split_whitespace() {
         run_one(alloc, store, command, out)?;
     }
     put_pairs(store, out)
 }
 
-fn run_one<S: PairStore<i32>>(alloc: Global, store: &mut S, command: &str, out: &mut String) -> Answer {
+fn run_one<S: PairStore<i32>>(
+    alloc: Global,
+    store: &mut S,
+    command: &str,
+    out: &mut String,
+) -> Answer {
     let (name, rest) = cut_at_colon(command);
     match name {
         "put" => put(alloc, store, rest, out),
@@ -134,7 +144,12 @@ fn put_pairs<S: PairStore<i32>>(store: &S, out: &mut String) -> Answer {
 }
 
 /// The same commands by `replay`.
-fn replayed<S: PairStore<i32>>(alloc: Global, store: &mut S, text: &str, out: &mut String) -> Answer {
+fn replayed<S: PairStore<i32>>(
+    alloc: Global,
+    store: &mut S,
+    text: &str,
+    out: &mut String,
+) -> Answer {
     let mut commands = Vec::new(alloc);
     for part in text.split_whitespace() {
         commands.push(command(alloc, part)?)?;

@@ -2,9 +2,9 @@
 use crate::binaries::put_error;
 use crate::stop::{Answer, Stop};
 use crate::words::{byte_of, bytes_of, cut, number, put_hex};
+use bson::Bson;
 use bson::binary::{Binary, PackedBitVector, Vector};
 use bson::spec::BinarySubtype;
-use bson::Bson;
 use std::alloc::Global;
 
 pub fn call(alloc: Global, rest: &str, out: &mut String) -> Answer {

@@ -18,6 +18,3 @@ mod vector;
 
 pub use bson_datetime as datetime;
 pub use bson_decimal as decimal128;
-
-#[cfg(test)]
-mod tests;

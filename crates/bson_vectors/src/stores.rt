@@ -51,20 +51,27 @@ fn fill<S: PairStore<u32>>(
     Ok(())
 }
 
-/// A refused push hands the pair back and leaves the store as it was; the next one succeeds.
+/// A refused push hands the pair back and leaves the store as it was; the same pair is then pushed again.
 fn pushes<S: PairStore<u32>>(rt: &impl Abort, alloc: Global, store: &mut S) -> Result<(), Fail> {
+    let mut was_refused = false;
     for i in 0..PAIRS.len() {
         let (key, value) = PAIRS[i];
         let owned = String::from_str(alloc, key)?;
         assert!(rt; store.find(owned.as_str()).is_none());
         if let Err((back, same)) = store.push(owned, value) {
+            was_refused = true;
             assert!(rt; back.as_str() == key && same == value);
             assert!(rt; holds(store, &PAIRS[..i]));
-            return Err(Fail::from(AllocError));
+            assert!(rt; store.find(back.as_str()).is_none());
+            assert!(rt; store.push(back, same).is_ok());
         }
         assert!(rt; holds(store, &PAIRS[..i + 1]));
     }
-    Ok(())
+    if was_refused {
+        Err(Fail::from(AllocError))
+    } else {
+        Ok(())
+    }
 }
 
 #[test]
