@@ -42,7 +42,10 @@ fn chosen_keys_have_one_hash(rt: HostRuntime) -> Result<(), Fail> {
     let ordinary = hash_in_a_map(&key(alloc, Kind::Ordinary, 0)?);
     for number in [1u32, 2, 16, 4_096, 99_999] {
         assert_eq!(rt; hash_in_a_map(&key(alloc, Kind::Chosen, number)?), chosen);
-        assert_ne!(rt; hash_in_a_map(&key(alloc, Kind::Ordinary, number)?), ordinary);
+        assert_ne!(rt;
+            hash_in_a_map(&key(alloc, Kind::Ordinary, number)?),
+            ordinary
+        );
     }
     Ok(())
 }
@@ -177,9 +180,7 @@ fn ordinary_keys_are_written_in_ascending_order(rt: HostRuntime) -> Result<(), F
     are_written_by_key(&rt, rt.alloc(), Kind::Ordinary)
 }
 
-const TWELVE: [&str; 12] = [
-    "l", "k", "j", "i", "h", "g", "f", "e", "d", "c", "b", "a",
-];
+const TWELVE: [&str; 12] = ["l", "k", "j", "i", "h", "g", "f", "e", "d", "c", "b", "a"];
 
 #[test]
 fn an_index_gives_the_keys_in_ascending_order(rt: HostRuntime) -> Result<(), Fail> {
