@@ -1,4 +1,4 @@
-//! Binaries: bytes with a subtype (BSON 1.1, type 05), their base64 texts (RFC 4648 section 4), and
+//! Binaries: bytes with a subtype (BSON 1.1, type 0x05), their base64 texts (RFC 4648 section 4), and
 //! the UUIDs and vectors that they hold.
 ghost use Rattle.std.specs.Prelude.{◌≡◌, ◌≢◌, ◌⊎◌, ◌↔◌, ◌≤◌, ℕ, List, Some, IfErr, IfOk, IsOk, OnOk, length, true, unwrap_or, vec_len};
 ghost use Rattle.bson_scalar.specs.Base64.{IsBase64, base64_text};
@@ -42,8 +42,9 @@ pub struct Binary {
 }
 
 impl Binary {
-    /// Decodes a padded base64 text. The subtype is Generic where none is given. A text that is not
-    /// base64 is refused as `DecodingError`.
+    /// Decodes a base64 text (RFC 4648 section 4): with its padding, with zeros in the bits that the last
+    /// digit leaves over, and nothing else in it, as blanks or line ends. Any other text is refused as
+    /// `DecodingError`. The subtype is Generic where none is given.
     pub fn from_base64(alloc: Global, text: &str, subtype: Option<BinarySubtype>) -> Result<Binary>
         ensures subtype { IfOk result (λ b. b.subtype ≡ unwrap_or subtype BinarySubtype.Generic) }
         ensures ok { IfOk result (λ b. IsBase64 text.now b.bytes.items) }

@@ -1,4 +1,4 @@
-//! Pointers into a collection (BSON 1.1, type 0C, deprecated).
+//! Pointers into a collection (BSON 1.1, type 0x0C, deprecated).
 ghost use Rattle.std.specs.Prelude.{◌≡◌, IfOk, string_bytes};
 
 use crate::oid::ObjectId;

@@ -1,4 +1,4 @@
-//! Object ids (BSON 1.1, type 07), and their texts of 24 hexadecimal digits.
+//! Object ids (BSON 1.1, type 0x07), and their texts of 24 hexadecimal digits.
 ghost use Rattle.std.specs.Prelude.{◌≡◌, ◌++◌, ℕ, List, Ok, Some, IfOk, IfErr, length, not, string_bytes};
 ghost use Rattle.std.specs.Cmp.Lexicographic.{nat_list_cmp_total, slice_cmp, texts_po, texts_ties};
 ghost use Rattle.std.specs.Int.{w32, to_be_bytes};

@@ -1,4 +1,4 @@
-//! Regular expressions (BSON 1.1, type 0B).
+//! Regular expressions (BSON 1.1, type 0x0B).
 ghost use Rattle.std.specs.Prelude.{◌≡◌, IfOk, Some, string_bytes};
 ghost use Rattle.std.specs.Str.{chars, encode_utf8_all};
 ghost use Rattle.bson_scalar.specs.Regex.{sorted_text, ascending};

@@ -10,47 +10,47 @@ use std::hash::{Hash, Hasher};
 /// The type of an element, which its tag names.
 #[derive(Clone, Copy, Debug, PartialEq, Eq)]
 pub enum ElementType {
-    /// Tag 01: 64 bits of a binary floating point number.
+    /// Tag 0x01: 64 bits of a binary floating point number.
     Double,
-    /// Tag 02: a text of UTF-8.
+    /// Tag 0x02: a text of UTF-8.
     String,
-    /// Tag 03: a document inside another.
+    /// Tag 0x03: a document inside another.
     EmbeddedDocument,
-    /// Tag 04: a list of values.
+    /// Tag 0x04: a list of values.
     Array,
-    /// Tag 05: bytes with a subtype.
+    /// Tag 0x05: bytes with a subtype.
     Binary,
-    /// Tag 06, deprecated: the undefined value of JavaScript.
+    /// Tag 0x06, deprecated: the undefined value of JavaScript.
     Undefined,
-    /// Tag 07: an object id of 12 bytes.
+    /// Tag 0x07: an object id of 12 bytes.
     ObjectId,
-    /// Tag 08: true or false.
+    /// Tag 0x08: true or false.
     Boolean,
-    /// Tag 09: milliseconds since 1970-01-01T00:00:00Z.
+    /// Tag 0x09: milliseconds since 1970-01-01T00:00:00Z.
     DateTime,
-    /// Tag 0A: no value.
+    /// Tag 0x0A: no value.
     Null,
-    /// Tag 0B: a regular expression with its options.
+    /// Tag 0x0B: a regular expression with its options.
     RegularExpression,
-    /// Tag 0C, deprecated: a pointer into a collection.
+    /// Tag 0x0C, deprecated: a pointer into a collection.
     DbPointer,
-    /// Tag 0D: JavaScript code.
+    /// Tag 0x0D: JavaScript code.
     JavaScriptCode,
-    /// Tag 0E, deprecated: a symbol.
+    /// Tag 0x0E, deprecated: a symbol.
     Symbol,
-    /// Tag 0F, deprecated: JavaScript code with its scope.
+    /// Tag 0x0F, deprecated: JavaScript code with its scope.
     JavaScriptCodeWithScope,
-    /// Tag 10: a whole number of 32 bits.
+    /// Tag 0x10: a whole number of 32 bits.
     Int32,
-    /// Tag 11: a timestamp of MongoDB's own use.
+    /// Tag 0x11: a timestamp of MongoDB's own use.
     Timestamp,
-    /// Tag 12: a whole number of 64 bits.
+    /// Tag 0x12: a whole number of 64 bits.
     Int64,
-    /// Tag 13: a decimal of 128 bits.
+    /// Tag 0x13: a decimal of 128 bits.
     Decimal128,
-    /// Tag 7F: above every other value.
+    /// Tag 0x7F: above every other value.
     MaxKey,
-    /// Tag FF: below every other value.
+    /// Tag 0xFF: below every other value.
     MinKey,
 }
 
@@ -121,32 +121,32 @@ impl ElementType {
 ///
 /// Each byte names one subtype, and comes back from it. `Reserved` and `UserDefined` can be built
 /// with any byte, which they are then written as, while the byte reads as the subtype that it names:
-/// `UserDefined(0)` is written as 00, which reads as `Generic`. Hashing goes by the byte.
+/// `UserDefined(0)` is written as 0x00, which reads as `Generic`. Hashing goes by the byte.
 #[derive(Clone, Copy, Debug, PartialEq, Eq)]
 pub enum BinarySubtype {
-    /// 00: any bytes.
+    /// 0x00: any bytes.
     Generic,
-    /// 01: a function.
+    /// 0x01: a function.
     Function,
-    /// 02, deprecated: the old form of `Generic`.
+    /// 0x02, deprecated: the old form of `Generic`.
     BinaryOld,
-    /// 03, deprecated: a UUID in a byte order of its driver's own.
+    /// 0x03, deprecated: a UUID in a byte order of its driver's own.
     UuidOld,
-    /// 04: a UUID.
+    /// 0x04: a UUID.
     Uuid,
-    /// 05: an MD5 hash.
+    /// 0x05: an MD5 hash.
     Md5,
-    /// 06: an encrypted value.
+    /// 0x06: an encrypted value.
     Encrypted,
-    /// 07: a compressed column.
+    /// 0x07: a compressed column.
     Column,
-    /// 08: a value that is not to be logged.
+    /// 0x08: a value that is not to be logged.
     Sensitive,
-    /// 09: a vector of numbers or bits.
+    /// 0x09: a vector of numbers or bits.
     Vector,
-    /// Every other byte below 80, kept for later versions of BSON.
+    /// Every other byte below 0x80, kept for later versions of BSON.
     Reserved(u8),
-    /// A byte of 80 and above, for users.
+    /// A byte of 0x80 and above, for users.
     UserDefined(u8),
 }
 

@@ -1,4 +1,4 @@
-//! The timestamp that MongoDB uses internally (BSON 1.1, type 11).
+//! The timestamp that MongoDB uses internally (BSON 1.1, type 0x11).
 ghost use Rattle.std.specs.Prelude.{Some};
 
 use std::fmt;

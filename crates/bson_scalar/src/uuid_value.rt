@@ -33,17 +33,17 @@ pub enum Error {
 /// What a call on UUIDs answers.
 pub type Result<T> = std::result::Result<T, Error>;
 
-/// The byte order of a UUID in a binary. Drivers wrote subtype 03 in orders of their own before
-/// subtype 04 settled on the order of the text.
+/// The byte order of a UUID in a binary. Drivers wrote subtype 0x03 in orders of their own before
+/// subtype 0x04 settled on the order of the text.
 #[derive(Clone, Copy, Debug, PartialEq, Eq)]
 pub enum UuidRepresentation {
-    /// Subtype 04, the bytes as they are.
+    /// Subtype 0x04, the bytes as they are.
     Standard,
-    /// Subtype 03 of the C# driver: bytes 0 to 3, 4 to 5 and 6 to 7 each reversed.
+    /// Subtype 0x03 of the C# driver: bytes 0 to 3, 4 to 5 and 6 to 7 each reversed.
     CSharpLegacy,
-    /// Subtype 03 of the Java driver: bytes 0 to 7 and 8 to 15 each reversed.
+    /// Subtype 0x03 of the Java driver: bytes 0 to 7 and 8 to 15 each reversed.
     JavaLegacy,
-    /// Subtype 03 of the Python driver: the bytes as they are.
+    /// Subtype 0x03 of the Python driver: the bytes as they are.
     PythonLegacy,
 }
 
@@ -77,7 +77,8 @@ impl Uuid {
     }
 
     /// Reads 32 hexadecimal digits of either case: alone, hyphenated as 8-4-4-4-12, and hyphenated in
-    /// braces or after `urn:uuid:`. Any other text is `InvalidUuidString`.
+    /// braces or after `urn:uuid:`, whose letters may be of either case too. Any other text is
+    /// `InvalidUuidString`.
     pub fn parse_str(text: &str) -> Result<Uuid>
         ensures ok { IfOk result (λ id. IsUuidText text.now id) }
         ensures err { IfErr result (λ e. IsInvalidUuidString e × ((id : List ℕ) → ¬ (IsUuidText text.now id))) }

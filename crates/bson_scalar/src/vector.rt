@@ -26,7 +26,8 @@ const HEAD: &str = "a vector has a type and a padding";
 pub enum Vector {
     /// Signed whole numbers of 8 bits.
     Int8(Vec<i8>),
-    /// Floating point numbers of 32 bits, by their patterns.
+    /// Floating point numbers of 32 bits, by their patterns. In the bytes of a vector each is four
+    /// bytes, the lowest first.
     Float32(Vec<u32>),
     /// Single bits.
     PackedBit(PackedBitVector),
