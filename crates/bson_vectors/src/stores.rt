@@ -1,7 +1,6 @@
 //! A list of commands run on both stores.
 use bson::Bson;
-use bson::store::replay::{Command, replay};
-use bson::store::{IndexedPairs, PairStore, SmallPairs};
+use bson::store::{Command, IndexedPairs, PairStore, SmallPairs, replay};
 use std::alloc::{AllocError, Global};
 use std::test::Fail;
 
