@@ -1,12 +1,12 @@
 //! Documents.
 //!
 //! `get` looks up by key, `insert` puts and takes, `entry` is the place of one key, `place` is the pair at one place, and `iter` walks the pairs. The typed look-ups stand in `getters`.
-pub mod entry;
+mod entry;
 mod get;
 mod getters;
 mod insert;
-pub mod iter;
-pub mod place;
+mod iter;
+mod place;
 
 use crate::bson::Bson;
 use bson_store::{PairStore, SmallPairs};

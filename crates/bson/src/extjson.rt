@@ -2,7 +2,7 @@
 pub mod de;
 pub(crate) mod leaf;
 mod read;
-pub mod ser;
+mod ser;
 mod text;
 mod tokens;
 mod write;

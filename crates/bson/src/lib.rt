@@ -2,7 +2,7 @@
 #![tactic(auto)]
 
 mod accessors;
-pub mod bson;
+mod bson;
 mod clone;
 mod conversions;
 mod debug;
@@ -15,6 +15,7 @@ mod pretty;
 mod same;
 mod scalar;
 mod show;
+pub mod store;
 
 pub use bson::{Array, Bson, JavaScriptCodeWithScope};
 pub use bson_scalar::binary::Binary;
@@ -26,5 +27,4 @@ pub use bson_scalar::regex::Regex;
 pub use bson_scalar::timestamp::Timestamp;
 pub use bson_scalar::uuid_value::Uuid;
 pub use bson_scalar::{binary, datetime, decimal128, oid, spec, uuid_value as uuid};
-pub use bson_store as store;
 pub use document::Document;

@@ -3,7 +3,7 @@ use crate::held::{tree, value};
 use crate::stop::{Answer, Stop};
 use crate::words::{bytes_of, cut, number};
 use bson::binary::{Binary, Vector};
-use bson::store::replay::Stopped;
+use bson::store::Stopped;
 use bson::uuid::Uuid;
 use bson::{Bson, Decimal128, ObjectId, extjson, oid};
 use std::alloc::Global;

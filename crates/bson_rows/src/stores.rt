@@ -5,9 +5,9 @@
 //! `write:PLACE:N`, `write_pair:PLACE:N`, `remove_at:PLACE`, `above:KEY`, `first`.
 use crate::stop::{Answer, Stop};
 use crate::words::{cut, cut_at_colon, number, put_word};
-use bson::store::order::next_above;
-use bson::store::replay::{Command, replay};
-use bson::store::{IndexedPairs, PairStore, SmallPairs, calls};
+use bson_store::order::next_above;
+use bson::store::{Command, IndexedPairs, PairStore, SmallPairs, replay};
+use bson_store::calls;
 use std::alloc::Global;
 
 pub fn call(alloc: Global, rest: &str, out: &mut String) -> Answer {

@@ -11,6 +11,7 @@ use Rattle.bson_model.specs.Writing.{HasMeaning}
 use Rattle.bson_run.specs.Convert.{Converts, IsTextOf, IsWritten, IsOutput, newline}
 use Rattle.bson_run.specs.declared.mode.Mode.{Mode}
 use Rattle.bson_run.specs.declared.mode.Mode.TheVariants.{Canonical, Relaxed, Show}
+use Rattle.bson_run.specs.declared.fault.Fault.{Fault}
 
 tree_one : (bytes : List ℕ) (t u : Data) → IsTextOf bytes t → IsTextOf bytes u → t ≡ u
 tree_one bytes t u a b = same_Some t u (sym a.tree_read ∙ b.tree_read)

@@ -10,9 +10,11 @@ use super::Document;
 use crate::bson::Bson;
 use bson_store::{PairStore, calls};
 use std::alloc::Global;
+use thiserror::Error;
 
-/// Want of memory at a new key, with the pair that was not put.
-#[derive(Drop)]
+/// Want of memory at a new key, with the pair that was not put. It is an error with a text, so `?` carries it.
+#[derive(Drop, Error)]
+#[error("out of memory: the pair was not put")]
 pub struct Refused {
     /// The key.
     pub key: String,

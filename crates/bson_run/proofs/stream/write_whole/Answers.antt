@@ -1,4 +1,4 @@
-use Rattle.std.proofs.Common.{length, take, drop, ◌++◌, sym, subst, ap, ◌∙◌, rules}
+use Rattle.std.proofs.Common.{take, ◌++◌, sym, subst, ap, ◌∙◌, rules}
 use Rattle.std.specs.Io.KnownBytes.{Appends}
 use Rattle.std.proofs.KnownBytes.{Appends-trans}
 use Rattle.std.proofs.lemmas.List.{take_rest, places}
