@@ -73,12 +73,13 @@ key_at k a false r w this rest h = rest h
 pub key_from : (k : List ℕ) (w : Wrapper) → wrapper_of k ≡ Some w → k ≡ key_of w
 key_from k w =
     let is = λ (a : Wrapper). inverse.key_is k (key_of a) in
-    key_at k Oid _ _ w (is Oid) (key_at k Symbol _ _ w (is Symbol) (key_at k RegularExpression _ _ w (is RegularExpression)
-    (key_at k NumberInt _ _ w (is NumberInt) (key_at k NumberLong _ _ w (is NumberLong) (key_at k NumberDouble _ _ w (is NumberDouble)
-    (key_at k NumberDecimal _ _ w (is NumberDecimal) (key_at k Binary _ _ w (is Binary) (key_at k Uuid _ _ w (is Uuid)
-    (key_at k Code _ _ w (is Code) (key_at k Timestamp _ _ w (is Timestamp) (key_at k Date _ _ w (is Date)
-    (key_at k MinKey _ _ w (is MinKey) (key_at k MaxKey _ _ w (is MaxKey) (key_at k DbPointer _ _ w (is DbPointer)
-    (key_at k Undefined _ _ w (is Undefined) (λ h. cc))))))))))))))))
+    key_at k Oid _ _ w (is Oid) (key_at k Symbol _ _ w (is Symbol)
+    (key_at k RegularExpression _ _ w (is RegularExpression) (key_at k Binary _ _ w (is Binary)
+    (key_at k Uuid _ _ w (is Uuid) (key_at k Code _ _ w (is Code) (key_at k DbPointer _ _ w (is DbPointer)
+    (key_at k NumberInt _ _ w (is NumberInt) (key_at k NumberLong _ _ w (is NumberLong)
+    (key_at k NumberDouble _ _ w (is NumberDouble) (key_at k NumberDecimal _ _ w (is NumberDecimal)
+    (key_at k Timestamp _ _ w (is Timestamp) (key_at k Date _ _ w (is Date) (key_at k MinKey _ _ w (is MinKey)
+    (key_at k MaxKey _ _ w (is MaxKey) (key_at k Undefined _ _ w (is Undefined) (λ h. cc))))))))))))))))
 
 single_from : (k : List ℕ) (d : Data) (o : Option Wrapper) (x : Scalar) → o ≡ wrapper_of k → single_at o d ≡ Ok x → MeansScalar (one k d) x
 single_from k d (Some w) x is h = rw (key_from k w (sym is)) (under w d x h)

@@ -1,0 +1,4 @@
+pub mod Shapes
+pub mod Meanings
+pub mod Faults
+pub mod Trees

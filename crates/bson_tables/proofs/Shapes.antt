@@ -1,0 +1,27 @@
+-- Trees and values as the rows write them, and what proves a row.
+use Rattle.std.proofs.Common.{◌≡◌, ℕ, ℤ, List, Ok, Err}
+use Rattle.std.specs.Prelude.{String, codes}
+use Rattle.serde_json.specs.Data.{Data, unsigned, negative, no_items, item, no_members, member}
+use Rattle.serde_json.specs.Data as tree
+use Rattle.bson_leaf.specs.Faults.{Fault}
+use Rattle.bson_leaf.specs.Scalar.{Scalar}
+use Rattle.bson_model.specs.Fault.{MeansNothing}
+use Rattle.bson_model.specs.Means.{Means}
+use Rattle.bson_model.specs.Reading.{reads}
+use Rattle.bson_model.specs.Value.{Value}
+use Rattle.bson_model.specs.Value as model
+use Rattle.bson_model.proofs.MeansLaws.{means_from, means_to}
+
+abbrev pub whole : ℕ → Data
+whole n = tree.number (unsigned n)
+
+abbrev pub list_of_two : Data → Data → Data
+list_of_two d e = tree.array (item d (item e no_items))
+
+-- a row of the grammar
+pub row : (t : Data) (v : Value) → reads t ≡ Ok v → Means t v
+row = means_from
+
+-- a row of what means nothing
+pub none : (t : Data) (e : Fault) → reads t ≡ Err e → MeansNothing t
+none t e h v m = let g = means_to m in cc
