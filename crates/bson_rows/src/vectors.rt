@@ -11,7 +11,8 @@ pub fn call(alloc: Global, rest: &str, out: &mut String) -> Answer {
     let (name, text) = cut(rest);
     match name {
         "read" => read(alloc, text, out),
-        "back" => back(alloc, text, out),
+        "back" => put_back(alloc, &vector_of(alloc, text)?, out),
+        "cleared" => cleared(alloc, text, out),
         "binary" => from_binary(alloc, text, out),
         "clone" => copied(alloc, text, out),
         "packed" => packed(alloc, text, out),
@@ -58,10 +59,18 @@ fn put_packed(bits: &PackedBitVector, out: &mut String) -> Answer {
     put_hex(out, bits.as_bytes())
 }
 
-/// The bytes that are written for the vector of these bytes.
-fn back(alloc: Global, text: &str, out: &mut String) -> Answer {
-    let vector = vector_of(alloc, text)?;
-    match Binary::from_vector(alloc, &vector) {
+/// The bytes that are written for the vector of these bytes, whose ignored bits are made zero.
+fn cleared(alloc: Global, text: &str, out: &mut String) -> Answer {
+    let bytes = bytes_of(alloc, text)?;
+    match Vector::from_bytes_clearing(alloc, bytes.as_slice()) {
+        Ok(vector) => put_back(alloc, &vector, out),
+        Err(error) => put_error(&error, out),
+    }
+}
+
+/// The bytes that are written for a vector.
+fn put_back(alloc: Global, vector: &Vector, out: &mut String) -> Answer {
+    match Binary::from_vector(alloc, vector) {
         Ok(binary) => {
             write!(out, "{:?} ", binary.subtype)?;
             put_hex(out, binary.bytes.as_slice())
