@@ -1,7 +1,7 @@
 //! Look-ups by key, and the number of pairs.
 ghost use Rattle.std.specs.Prelude.{◌≡◌, ◌↔◌, [], length, Some, is_some, IsTrue, option_copied, option_map};
 ghost use Rattle.std.specs.Borrow.{LendsIf, sem};
-ghost use Rattle.bson_store.specs.Pairs.{get as value_of, put};
+ghost use Rattle.bson_store.specs.Pairs.{get as value_of, put, HasDistinctKeys};
 ghost use Rattle.bson.specs.Rows.{bson_row, document_row};
 ghost use Rattle.bson.specs.declared.bson.Bson.TheVariants.{Null};
 
@@ -10,9 +10,10 @@ use crate::bson::Bson;
 use bson_store::PairStore;
 
 impl Document {
-    /// The number of pairs.
+    /// The number of pairs, which is the number of keys: no key stands twice.
     pub fn len(&self) -> usize
-        ensures { result ≡ length self.now.pairs }
+        ensures len { result ≡ length self.now.pairs }
+        ensures distinct { HasDistinctKeys self.now.pairs }
     {
         self.pairs.len()
     }

@@ -6,7 +6,8 @@ ghost use Rattle.bson_model.specs.Value as model;
 ghost use Rattle.bson_model.specs.Value.{Pairs};
 ghost use Rattle.bson_leaf.specs.Faults.{Gives};
 ghost use Rattle.bson_model.specs.Means.{Means, MeansDocument};
-ghost use Rattle.bson_model.specs.Texts.{IsTree, ComesBack};
+ghost use Rattle.bson_model.specs.Sorted.{KeysAscend};
+ghost use Rattle.bson_model.specs.Texts.{Ascends, IsTree, ComesBack};
 ghost use Rattle.bson_model.specs.Writing.{HasMeaning, HasDocumentMeaning};
 ghost use Rattle.bson_model.specs.Fault.{IsFaultOf, IsDocumentFault};
 ghost use Rattle.bson.specs.View.{bson_view, document_view};
@@ -53,8 +54,17 @@ impl Document {
         ensures ok { IfOk result (λ v. HasDocumentMeaning (members_view map.entries) (document_view v)) }
         ensures accepts { (ps : Pairs) → MeansDocument (members_view map.entries) ps
             → Gives document_view result (Ok ps) }
+        ensures ascends { IfOk result (λ v. KeysAscend (document_view v)) }
         ensures fault { IfErr result (λ e. IsDocumentFault (members_view map.entries) e) }
     {
+        ascending(&map);
         read_members(alloc, map)
     }
+}
+
+// The keys of a map stand in ascending order.
+fn ascending(map: &Map<String, Value>)
+    ensures { Ascends (members_view map.now.entries) }
+{
+    let _pairs = map.iter();
 }

@@ -4,7 +4,7 @@ ghost use Rattle.serde_json.specs.View.{view};
 ghost use Rattle.bson_leaf.specs.declared.form.Form.TheVariants.{Canonical, Relaxed};
 ghost use Rattle.bson_leaf.specs.declared.write_error.WriteError.{WriteError};
 ghost use Rattle.bson_model.specs.Texts.{ReadsAgain};
-ghost use Rattle.bson_model.specs.Writing.{IsTreeOf, HasSettledForms, writable};
+ghost use Rattle.bson_model.specs.Writing.{IsTreeOf, HasSettledForms, InRange, writable};
 ghost use Rattle.bson.specs.Texts.{IsTextIn};
 ghost use Rattle.bson.specs.View.{bson_view};
 
@@ -26,6 +26,7 @@ impl Bson {
         ensures tree { IfOk result (λ t. IsTreeOf Canonical (bson_view self) (view t)) }
         ensures reads_again { IfOk result (λ t. ReadsAgain Canonical (bson_view self) (view t)) }
         ensures settles { HasSettledForms (bson_view self) }
+        ensures ranged { OnOk result (InRange (bson_view self)) }
         ensures writable { OnOk result (writable (bson_view self) ≡ true) }
         ensures finite { result ≡ Err WriteError.FiniteDouble → writable (bson_view self) ≡ false }
     {
@@ -40,6 +41,7 @@ impl Bson {
         ensures tree { IfOk result (λ t. IsTreeOf Relaxed (bson_view self) (view t)) }
         ensures reads_again { IfOk result (λ t. ReadsAgain Relaxed (bson_view self) (view t)) }
         ensures settles { HasSettledForms (bson_view self) }
+        ensures ranged { OnOk result (InRange (bson_view self)) }
         ensures writable { OnOk result (writable (bson_view self) ≡ true) }
         ensures finite { result ≡ Err WriteError.FiniteDouble → writable (bson_view self) ≡ false }
     {
@@ -51,6 +53,7 @@ impl Bson {
         ensures tree { IfOk result (λ t. IsTreeOf form (bson_view self) (view t)) }
         ensures reads_again { IfOk result (λ t. ReadsAgain form (bson_view self) (view t)) }
         ensures settles { HasSettledForms (bson_view self) }
+        ensures ranged { OnOk result (InRange (bson_view self)) }
         ensures writable { OnOk result (writable (bson_view self) ≡ true) }
         ensures finite { result ≡ Err WriteError.FiniteDouble → writable (bson_view self) ≡ false }
     {
@@ -64,6 +67,7 @@ impl Bson {
     /// memory is `OutOfMemory`.
     pub fn to_canonical_text(&self, alloc: Global) -> Result<String, WriteError>
         ensures text { IfOk result (λ s. IsTextIn Canonical (bson_view self.now) (string_bytes s)) }
+        ensures ranged { OnOk result (InRange (bson_view self.now)) }
         ensures writable { OnOk result (writable (bson_view self.now) ≡ true) }
         ensures finite { result ≡ Err WriteError.FiniteDouble → writable (bson_view self.now) ≡ false }
     {
@@ -73,6 +77,7 @@ impl Bson {
     /// [`Bson::to_canonical_text`] of a value that is then dropped.
     pub fn into_canonical_text(self, alloc: Global) -> Result<String, WriteError>
         ensures text { IfOk result (λ s. IsTextIn Canonical (bson_view self) (string_bytes s)) }
+        ensures ranged { OnOk result (InRange (bson_view self)) }
         ensures writable { OnOk result (writable (bson_view self) ≡ true) }
         ensures finite { result ≡ Err WriteError.FiniteDouble → writable (bson_view self) ≡ false }
     {
@@ -86,6 +91,7 @@ impl Bson {
     /// memory is `OutOfMemory`.
     pub fn to_relaxed_text(&self, alloc: Global) -> Result<String, WriteError>
         ensures text { IfOk result (λ s. IsTextIn Relaxed (bson_view self.now) (string_bytes s)) }
+        ensures ranged { OnOk result (InRange (bson_view self.now)) }
         ensures writable { OnOk result (writable (bson_view self.now) ≡ true) }
         ensures finite { result ≡ Err WriteError.FiniteDouble → writable (bson_view self.now) ≡ false }
     {
@@ -95,6 +101,7 @@ impl Bson {
     /// [`Bson::to_relaxed_text`] of a value that is then dropped.
     pub fn into_relaxed_text(self, alloc: Global) -> Result<String, WriteError>
         ensures text { IfOk result (λ s. IsTextIn Relaxed (bson_view self) (string_bytes s)) }
+        ensures ranged { OnOk result (InRange (bson_view self)) }
         ensures writable { OnOk result (writable (bson_view self) ≡ true) }
         ensures finite { result ≡ Err WriteError.FiniteDouble → writable (bson_view self) ≡ false }
     {
@@ -104,6 +111,7 @@ impl Bson {
     // The text of the value in a form.
     fn to_text(&self, alloc: Global, form: Form) -> Result<String, WriteError>
         ensures text { IfOk result (λ s. IsTextIn form (bson_view self.now) (string_bytes s)) }
+        ensures ranged { OnOk result (InRange (bson_view self.now)) }
         ensures writable { OnOk result (writable (bson_view self.now) ≡ true) }
         ensures finite { result ≡ Err WriteError.FiniteDouble → writable (bson_view self.now) ≡ false }
     {
