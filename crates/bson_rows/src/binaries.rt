@@ -8,7 +8,7 @@ use bson::uuid::{self, Uuid, UuidRepresentation};
 use std::alloc::Global;
 
 /// `uuid parse TEXT`, `uuid to ORDER UUID`, `uuid from ORDER SUBTYPE BYTES`, `uuid value UUID`.
-pub fn uuid(alloc: Global, rest: &str, out: &mut String) -> Answer {
+pub(crate) fn uuid(alloc: Global, rest: &str, out: &mut String) -> Answer {
     let (name, text) = cut(rest);
     match name {
         "parse" => parse(text, out),
@@ -108,7 +108,7 @@ fn as_value(alloc: Global, text: &str, out: &mut String) -> Answer {
 }
 
 /// `binary base64 TEXT`, `binary shown SUBTYPE BYTES`, `binary clone SUBTYPE BYTES`.
-pub fn call(alloc: Global, rest: &str, out: &mut String) -> Answer {
+pub(crate) fn call(alloc: Global, rest: &str, out: &mut String) -> Answer {
     let (name, text) = cut(rest);
     match name {
         "base64" => base64(alloc, None, text, out),
@@ -135,7 +135,7 @@ fn base64(alloc: Global, subtype: Option<BinarySubtype>, text: &str, out: &mut S
 }
 
 /// The kind of the refusal.
-pub fn put_error(error: &binary::Error, out: &mut String) -> Answer {
+pub(crate) fn put_error(error: &binary::Error, out: &mut String) -> Answer {
     match error {
         binary::Error::DecodingError { message: _ } => Ok(out.push_str("DecodingError")?),
         binary::Error::Vector { message: _ } => Ok(out.push_str("Vector")?),

@@ -5,7 +5,7 @@ use crate::words::{cut, number, sixteen};
 use bson::{Bson, DateTime, Decimal128, Document, JavaScriptCodeWithScope, Regex, Timestamp};
 use std::alloc::Global;
 
-pub fn call(alloc: Global, rest: &str, out: &mut String) -> Answer {
+pub(crate) fn call(alloc: Global, rest: &str, out: &mut String) -> Answer {
     let (name, text) = cut(rest);
     match name {
         "i32" => put(Bson::from(number::<i32>(text)?), out),
@@ -126,7 +126,7 @@ fn copy(alloc: Global, text: &str, out: &mut String) -> Answer {
 }
 
 /// `timestamp_order T,I T,I`: by time, then by increment.
-pub fn timestamp_order(rest: &str, out: &mut String) -> Answer {
+pub(crate) fn timestamp_order(rest: &str, out: &mut String) -> Answer {
     let (one, other) = cut(rest);
     let order = timestamp(one)?.cmp(&timestamp(other)?);
     Ok(write!(out, "{order:?}")?)

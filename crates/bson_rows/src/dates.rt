@@ -6,7 +6,7 @@ use bson::datetime::{DateTimeBuilder, Error};
 use std::alloc::Global;
 use std::time::Duration;
 
-pub fn call(alloc: Global, rest: &str, out: &mut String) -> Answer {
+pub(crate) fn call(alloc: Global, rest: &str, out: &mut String) -> Answer {
     let (name, text) = cut(rest);
     match name {
         "read" => put_moment(&DateTime::parse_rfc3339_str(text), out),

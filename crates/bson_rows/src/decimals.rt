@@ -3,7 +3,7 @@ use crate::stop::{Answer, Stop};
 use crate::words::{cut, put_hex, sixteen};
 use bson::Decimal128;
 
-pub fn call(rest: &str, out: &mut String) -> Answer {
+pub(crate) fn call(rest: &str, out: &mut String) -> Answer {
     let (name, text) = cut(rest);
     match name {
         "read" => read(text, out),

@@ -7,7 +7,7 @@ use crate::words::{cut_at_colon, number, put_word};
 use bson::{Bson, Document};
 use std::alloc::Global;
 
-pub fn call(alloc: Global, rest: &str, out: &mut String) -> Answer {
+pub(crate) fn call(alloc: Global, rest: &str, out: &mut String) -> Answer {
     let mut document = Document::new(alloc);
     for command in rest.split_whitespace() {
         run(alloc, &mut document, command, out)?;

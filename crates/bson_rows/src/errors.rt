@@ -8,7 +8,7 @@ use bson::uuid::Uuid;
 use bson::{Bson, Decimal128, ObjectId, extjson, oid};
 use std::alloc::Global;
 
-pub fn call(alloc: Global, rest: &str, out: &mut String) -> Answer {
+pub(crate) fn call(alloc: Global, rest: &str, out: &mut String) -> Answer {
     let (name, text) = cut(rest);
     match name {
         "id" => id(alloc, text, out),

@@ -28,7 +28,7 @@ fn form_of(word: &str) -> Form {
 }
 
 /// `FORM VALUE`: the value is read or made, and written. A refusal tells which one.
-pub fn call(alloc: Global, word: &str, rest: &str, out: &mut String) -> Answer {
+pub(crate) fn call(alloc: Global, word: &str, rest: &str, out: &mut String) -> Answer {
     if word == "map" {
         return map(alloc, rest, out);
     }
@@ -120,7 +120,7 @@ fn put_fault(error: &Error, out: &mut String) -> Answer {
 }
 
 /// Puts why a text is no object id.
-pub fn put_id_fault(fault: &oid::Error, out: &mut String) -> Answer {
+pub(crate) fn put_id_fault(fault: &oid::Error, out: &mut String) -> Answer {
     match fault {
         oid::Error::InvalidHexStringLength { length, hex } => {
             Ok(write!(out, "InvalidHexStringLength {length} in {hex}")?)
@@ -133,7 +133,7 @@ pub fn put_id_fault(fault: &oid::Error, out: &mut String) -> Answer {
 }
 
 /// `pretty N VALUE`: the text on several lines at the indent.
-pub fn pretty(alloc: Global, rest: &str, out: &mut String) -> Answer {
+pub(crate) fn pretty(alloc: Global, rest: &str, out: &mut String) -> Answer {
     let (indent, text) = cut(rest);
     let indent = number::<usize>(indent)?;
     let value = value(alloc, text)?;

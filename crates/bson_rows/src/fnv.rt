@@ -8,7 +8,7 @@ pub struct Fnv(u64);
 
 impl Fnv {
     /// Before the first byte.
-    pub fn new() -> Fnv {
+    pub(crate) fn new() -> Fnv {
         Fnv(0xCBF2_9CE4_8422_2325)
     }
 }

@@ -6,7 +6,7 @@ use bson::document::ValueAccessError;
 use bson::{Bson, Document};
 use std::alloc::Global;
 
-pub fn call(alloc: Global, rest: &str, out: &mut String) -> Answer {
+pub(crate) fn call(alloc: Global, rest: &str, out: &mut String) -> Answer {
     let (key, text) = cut(rest);
     let Bson::Document(mut document) = value(alloc, text)? else {
         return Err(Stop::NotUnderstood);

@@ -7,7 +7,7 @@ use serde_json::Value;
 use std::alloc::Global;
 
 /// The tree that the text holds.
-pub fn tree(alloc: Global, text: &str) -> Result<Value, Stop> {
+pub(crate) fn tree(alloc: Global, text: &str) -> Result<Value, Stop> {
     match Value::from_str(alloc, text) {
         Ok(tree) => Ok(tree),
         Err(error) if error.is_memory() => Err(Stop::NoRoom),
@@ -16,7 +16,7 @@ pub fn tree(alloc: Global, text: &str) -> Result<Value, Stop> {
 }
 
 /// The value that the text names. What can't be read is no value of a row.
-pub fn value(alloc: Global, text: &str) -> Result<Bson, Stop> {
+pub(crate) fn value(alloc: Global, text: &str) -> Result<Bson, Stop> {
     if let Some(made) = text.strip_prefix("made ") {
         return steps::made(alloc, made);
     }

@@ -5,7 +5,7 @@ use crate::words::{bytes_of, cut, number};
 use bson::{DbPointer, ObjectId};
 use std::alloc::Global;
 
-pub fn call(alloc: Global, rest: &str, out: &mut String) -> Answer {
+pub(crate) fn call(alloc: Global, rest: &str, out: &mut String) -> Answer {
     let (name, text) = cut(rest);
     match name {
         "parse" => parse(alloc, text, out),

@@ -4,7 +4,7 @@ use crate::stop::Answer;
 use bson::Bson;
 use std::alloc::Global;
 
-pub fn call(alloc: Global, rest: &str, out: &mut String) -> Answer {
+pub(crate) fn call(alloc: Global, rest: &str, out: &mut String) -> Answer {
     let mut value = value(alloc, rest)?;
     let element = value.element_type();
     write!(out, "{element:?} {:02x}", element.tag())?;

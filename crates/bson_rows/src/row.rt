@@ -8,7 +8,7 @@ use crate::{
 use std::alloc::Global;
 
 /// Makes the call of the row, and puts what it answers in place of what was in `answer`.
-pub fn put_answer(alloc: Global, row: &str, answer: &mut String) {
+pub(crate) fn put_answer(alloc: Global, row: &str, answer: &mut String) {
     answer.clear();
     if let Err(stop) = called(alloc, row, answer) {
         answer.clear();

@@ -10,7 +10,7 @@ use bson::{Bson, DateTime, Decimal128, Document, JavaScriptCodeWithScope, Regex}
 use std::alloc::Global;
 
 /// The value that is left on the pile.
-pub fn made(alloc: Global, steps: &str) -> Result<Bson, Stop> {
+pub(crate) fn made(alloc: Global, steps: &str) -> Result<Bson, Stop> {
     let mut pile = Vec::new(alloc);
     for step in steps.split(' ') {
         take_step(alloc, &mut pile, step)?;

@@ -14,7 +14,7 @@ pub enum Stop {
 
 impl Stop {
     /// What is written in place of an answer.
-    pub fn line(self) -> &'static str {
+    pub(crate) fn line(self) -> &'static str {
         match self {
             Stop::NotUnderstood => "this row is not understood",
             Stop::NoRoom => "no memory for the row",

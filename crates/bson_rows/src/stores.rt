@@ -5,12 +5,12 @@
 //! `write:PLACE:N`, `write_pair:PLACE:N`, `remove_at:PLACE`, `above:KEY`, `first`.
 use crate::stop::{Answer, Stop};
 use crate::words::{cut, cut_at_colon, number, put_word};
-use bson_store::order::next_above;
 use bson::store::{Command, IndexedPairs, PairStore, SmallPairs, replay};
 use bson_store::calls;
+use bson_store::order::next_above;
 use std::alloc::Global;
 
-pub fn call(alloc: Global, rest: &str, out: &mut String) -> Answer {
+pub(crate) fn call(alloc: Global, rest: &str, out: &mut String) -> Answer {
     let (store, rest) = cut(rest);
     match store {
         "small" => run(alloc, &mut SmallPairs::new(alloc), rest, out),

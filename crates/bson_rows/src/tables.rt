@@ -4,7 +4,7 @@ use crate::words::{byte_of, cut};
 use bson::spec::{BinarySubtype, ElementType};
 
 /// The element type of the tag, and its tag again.
-pub fn tag(rest: &str, out: &mut String) -> Answer {
+pub(crate) fn tag(rest: &str, out: &mut String) -> Answer {
     match ElementType::from(byte_of(rest)?) {
         Some(element) => Ok(write!(out, "{element:?} {:02x}", element.tag())?),
         None => Ok(out.push_str("None")?),
@@ -13,7 +13,7 @@ pub fn tag(rest: &str, out: &mut String) -> Answer {
 
 /// The subtype of the byte, its byte again, and its hexadecimal digits. `own BYTE` is the one that is declared as the
 /// user's.
-pub fn subtype(rest: &str, out: &mut String) -> Answer {
+pub(crate) fn subtype(rest: &str, out: &mut String) -> Answer {
     let (name, text) = cut(rest);
     let subtype = match name {
         "own" => BinarySubtype::UserDefined(byte_of(text)?),

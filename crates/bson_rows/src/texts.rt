@@ -6,7 +6,7 @@ use std::alloc::Global;
 use std::hash::{Hash, Hasher};
 
 /// Whether the values are equal, and whether they feed a hasher alike.
-pub fn same(alloc: Global, rest: &str, out: &mut String) -> Answer {
+pub(crate) fn same(alloc: Global, rest: &str, out: &mut String) -> Answer {
     let Some((one, other)) = rest.split_once(" and ") else {
         return Err(Stop::NotUnderstood);
     };
@@ -31,7 +31,7 @@ fn hashed<T: Hash>(value: &T) -> u64 {
 }
 
 /// What FNV-1a makes of the bytes that the value feeds it.
-pub fn hash(alloc: Global, rest: &str, out: &mut String) -> Answer {
+pub(crate) fn hash(alloc: Global, rest: &str, out: &mut String) -> Answer {
     let value = value(alloc, rest)?;
     Ok(write!(out, "{:016x}", hashed(&value))?)
 }

@@ -7,7 +7,7 @@ use bson::binary::{Binary, PackedBitVector, Vector};
 use bson::spec::BinarySubtype;
 use std::alloc::Global;
 
-pub fn call(alloc: Global, rest: &str, out: &mut String) -> Answer {
+pub(crate) fn call(alloc: Global, rest: &str, out: &mut String) -> Answer {
     let (name, text) = cut(rest);
     match name {
         "read" => read(alloc, text, out),

@@ -3,7 +3,7 @@ use crate::stop::Stop;
 use std::alloc::Global;
 
 /// The text up to the first blank, and what stands behind it.
-pub fn cut(text: &str) -> (&str, &str) {
+pub(crate) fn cut(text: &str) -> (&str, &str) {
     match text.split_once(' ') {
         Some(parts) => parts,
         None => (text, ""),
@@ -11,7 +11,7 @@ pub fn cut(text: &str) -> (&str, &str) {
 }
 
 /// The text up to the first colon, and what stands behind it.
-pub fn cut_at_colon(text: &str) -> (&str, &str) {
+pub(crate) fn cut_at_colon(text: &str) -> (&str, &str) {
     match text.split_once(':') {
         Some(parts) => parts,
         None => (text, ""),
@@ -19,7 +19,7 @@ pub fn cut_at_colon(text: &str) -> (&str, &str) {
 }
 
 /// The bytes of hexadecimal digits.
-pub fn bytes_of(alloc: Global, text: &str) -> Result<Vec<u8>, Stop> {
+pub(crate) fn bytes_of(alloc: Global, text: &str) -> Result<Vec<u8>, Stop> {
     match hex::decode(alloc, text) {
         Ok(bytes) => Ok(bytes),
         Err(hex::FromHexError::OutOfMemory) => Err(Stop::NoRoom),
@@ -28,7 +28,7 @@ pub fn bytes_of(alloc: Global, text: &str) -> Result<Vec<u8>, Stop> {
 }
 
 /// So many bytes of hexadecimal digits.
-pub fn sixteen(text: &str) -> Result<[u8; 16], Stop> {
+pub(crate) fn sixteen(text: &str) -> Result<[u8; 16], Stop> {
     use hex::FromHex;
     match <[u8; 16] as FromHex>::from_hex(text) {
         Ok(bytes) => Ok(bytes),
@@ -37,7 +37,7 @@ pub fn sixteen(text: &str) -> Result<[u8; 16], Stop> {
 }
 
 /// The pattern of 64 bits that sixteen hexadecimal digits name.
-pub fn pattern_of(text: &str) -> Result<u64, Stop> {
+pub(crate) fn pattern_of(text: &str) -> Result<u64, Stop> {
     use hex::FromHex;
     match <[u8; 8] as FromHex>::from_hex(text) {
         Ok(bytes) => Ok(u64::from_be_bytes(bytes)),
@@ -46,7 +46,7 @@ pub fn pattern_of(text: &str) -> Result<u64, Stop> {
 }
 
 /// The byte that two hexadecimal digits name.
-pub fn byte_of(text: &str) -> Result<u8, Stop> {
+pub(crate) fn byte_of(text: &str) -> Result<u8, Stop> {
     use hex::FromHex;
     match <[u8; 1] as FromHex>::from_hex(text) {
         Ok([byte]) => Ok(byte),
@@ -55,7 +55,7 @@ pub fn byte_of(text: &str) -> Result<u8, Stop> {
 }
 
 /// A whole number.
-pub fn number<N: std::str::FromStr>(text: &str) -> Result<N, Stop>
+pub(crate) fn number<N: std::str::FromStr>(text: &str) -> Result<N, Stop>
 where
     N::Err: Drop,
 {
@@ -66,7 +66,7 @@ where
 }
 
 /// Puts the hexadecimal digits of the bytes.
-pub fn put_hex(out: &mut String, bytes: &[u8]) -> Result<(), Stop> {
+pub(crate) fn put_hex(out: &mut String, bytes: &[u8]) -> Result<(), Stop> {
     for byte in bytes {
         write!(out, "{byte:02x}")?;
     }
@@ -74,7 +74,7 @@ pub fn put_hex(out: &mut String, bytes: &[u8]) -> Result<(), Stop> {
 }
 
 /// Puts a word, with a blank before it where it is not the first.
-pub fn put_word(out: &mut String, word: &str) -> Result<(), Stop> {
+pub(crate) fn put_word(out: &mut String, word: &str) -> Result<(), Stop> {
     if !out.is_empty() {
         out.push_str(" ")?;
     }
