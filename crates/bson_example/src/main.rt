@@ -1,0 +1,29 @@
+//! A caller of the library from another crate, with a contract of its own that stands on the library's.
+#![tactic(auto)]
+
+ghost use Rattle.std.specs.Prelude.{◌≡◌, [], IfOk, string_bytes};
+ghost use Rattle.bson_store.specs.Pairs.{put};
+ghost use Rattle.bson.specs.declared.bson.Bson.TheVariants as value;
+
+use bson::document::Refused;
+use bson::{Bson, Document};
+use std::alloc::Global;
+
+/// The document of one pair.
+fn counted(alloc: Global, key: String, count: i32) -> Result<Document, Refused>
+    ensures pair { IfOk result (λ document. document.pairs ≡ put (string_bytes key) (value.Int32 count) []) }
+{
+    let mut document = Document::new(alloc);
+    // A refused insertion hands the pair back and leaves the document as it was.
+    drop(document.insert(key, Bson::Int32(count))?);
+    Ok(document)
+}
+
+fn main(rt: HostRuntime) -> anyhow::Result<()> {
+    let alloc = rt.alloc();
+    let key = String::from_str(alloc, "apples")?;
+    let document = counted(alloc, key, 5)?;
+    let text = Bson::Document(document).into_canonical_text(alloc)?;
+    println!(rt; "{text}")?;
+    Ok(())
+}
