@@ -7,6 +7,10 @@
 
 pub mod convert;
 pub mod fault;
+mod gathered;
+pub mod line_fault;
+pub mod lines;
 pub mod mode;
+pub mod order;
 pub mod run;
 mod stream;
