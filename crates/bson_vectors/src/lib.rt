@@ -10,6 +10,8 @@ mod extended_json;
 #[cfg(test)]
 mod kinds;
 #[cfg(test)]
+mod lines;
+#[cfg(test)]
 mod run;
 #[cfg(test)]
 mod stores;
