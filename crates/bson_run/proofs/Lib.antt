@@ -1,2 +1,4 @@
 mod Again
 mod Converting
+pub mod LinesLaws
+pub mod LinesRuns

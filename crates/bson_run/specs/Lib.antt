@@ -1,3 +1,5 @@
 pub mod Convert
+pub mod Lines
+pub mod LinesSteps
 pub mod Run
 pub mod Words

@@ -2,11 +2,17 @@
 //! for. Programs and libraries for other languages stand on this crate.
 //!
 //! In reading order: `mode` and `fault` (what is asked, and what is refused), `convert` (bytes to bytes), `stream` (all
-//! bytes of a reader and to a writer) and `run` (the whole way from a reader to a writer).
+//! bytes of a reader and to a writer) and `run` (the whole way from a reader to a writer). Over lines: `order` and
+//! `line_fault` (what is asked, and what is refused), `gathered` (the line that is read, and what those before it gave)
+//! and `lines` (the whole way).
 #![tactic(auto)]
 
 pub mod convert;
 pub mod fault;
+mod gathered;
+pub mod line_fault;
+pub mod lines;
 pub mod mode;
+pub mod order;
 pub mod run;
 mod stream;

@@ -10,6 +10,8 @@ mod chosen_keys;
 #[cfg(test)]
 mod documents;
 #[cfg(test)]
+mod lines;
+#[cfg(test)]
 mod run;
 #[cfg(test)]
 mod stores;

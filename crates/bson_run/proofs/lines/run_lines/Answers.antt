@@ -1,0 +1,45 @@
+use Rattle.std.proofs.Common.{◌<◌, length, take, ap, arith}
+use Rattle.std.proofs.KnownBytes.{Keeps-refl}
+use Rattle.std.proofs.lemmas.Result.{err_from_is_err_and}
+use Rattle.bson_run.proofs.LinesLaws.{errs_alone, oks_with}
+use Rattle.bson_run.proofs.LinesRuns.{starts, unmoved, unread}
+use Rattle.bson_run.proofs.lines.run_lines.Goals as goal
+
+pub loop-init : goal.loop-init
+loop-init g c = record {
+  room = c.new-gathered.ensures.room;
+  running = starts _ _ _ c.new-gathered.result c.new-gathered.ensures.start;
+}
+
+pub returns-in_default-clause-fails : goal.returns-in_default-clause-fails
+returns-in_default-clause-fails g c =
+    rw c.stopped.ensures.fault (unread c.stopped.result.line _ _ _ _ _ _ _ c.loop.gathered c.stopped.ensures.line c.in_default.ensures.bytes c.loop.invariant.running)
+
+pub returns-then-count-eq0-clause-done : goal.returns-then-count-eq0-clause-done
+returns-then-count-eq0-clause-done g c =
+    let bytes = c.in-Ok.ensures.bytes in
+    let running = unmoved _ _ _ _ _ _ _ (take c.in-Ok.count c.read.new.buf) c.loop.gathered (ap (λ n. take n c.read.new.buf) c.if-count-eq0.true) bytes.0 c.loop.invariant.running in
+    let room : 0 < length c.read.new.buf = omega arith in
+    oks_with c.end.result c.end.ensures.done (λ counts done. done _ _ _ _ running (bytes.1 c.if-count-eq0.true room))
+
+pub returns-then-count-eq0-clause-fails : goal.returns-then-count-eq0-clause-fails
+returns-then-count-eq0-clause-fails g c =
+    let bytes = c.in-Ok.ensures.bytes in
+    let running = unmoved _ _ _ _ _ _ _ (take c.in-Ok.count c.read.new.buf) c.loop.gathered (ap (λ n. take n c.read.new.buf) c.if-count-eq0.true) bytes.0 c.loop.invariant.running in
+    let room : 0 < length c.read.new.buf = omega arith in
+    errs_alone c.end.result c.end.ensures.fails (λ e fails. fails _ _ _ _ running (bytes.1 c.if-count-eq0.true room))
+
+pub returns-in_err-pass_on-clause-fails : goal.returns-in_err-pass_on-clause-fails
+returns-in_err-pass_on-clause-fails g c =
+    let p = err_from_is_err_and c.from_residual.result c.from_residual.ensures.1 in
+    rw (p.1, p.2) (c.in_err-pass_on.ensures.fails _ _ _ _ _ c.loop.invariant.running c.in-Ok.ensures.bytes.0)
+
+pub loop-preserved : goal.loop-preserved
+loop-preserved g c = record {
+  room = c.in_ok-pass_on.ensures.room;
+  running = c.in_ok-pass_on.ensures.ok _ _ _ _ _ c.loop.invariant.running c.in-Ok.ensures.bytes.0;
+}
+
+pub returns-clause-fails : goal.returns-clause-fails
+returns-clause-fails g c =
+    rw c.stopped-2.ensures.fault (unread c.stopped-2.result.line _ _ _ _ _ _ _ c.loop.gathered c.stopped-2.ensures.line (Keeps-refl (g.R.Read.remaining c.loop.reader)) c.loop.invariant.running)

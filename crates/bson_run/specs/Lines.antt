@@ -1,0 +1,154 @@
+-- What a run over lines does: each line of the input is a text of its own.
+use Rattle.std.specs.Prelude.{◌≡◌, ◌⊎◌, ◌+◌, ◌==◌, ◌&&◌, ℕ, List, [], ◌∷◌, ◌++◌, Option, None, Some, length, drop, codes, All, if◌then◌else◌}
+use Rattle.std.specs.Fmt.{decimal}
+use Rattle.std.specs.List.{starts_with}
+use Rattle.std.specs.Io.KnownBytes.{Appends, Consumes}
+use Rattle.bson_run.specs.Convert.{Converts, IsRefused, newline}
+use Rattle.bson_run.specs.Run.{ReadsAll, WritesBeginning}
+use Rattle.bson_run.specs.declared.fault.Fault.{Fault}
+use Rattle.bson_run.specs.declared.fault.Fault.TheVariants.{CannotRead, NotJson, BadObjectId, NotExtendedJson, OutOfMemory, CannotWrite}
+use Rattle.bson_run.specs.declared.mode.Mode.TheVariants.{Canonical}
+use Rattle.bson_run.specs.declared.order.OnRefusal.{OnRefusal}
+use Rattle.bson_run.specs.declared.order.OnRefusal.TheVariants.{Stop, KeepGoing}
+use Rattle.bson_run.specs.declared.order.Task.{Task}
+use Rattle.bson_run.specs.declared.order.Task.TheVariants.{Write, Check}
+
+-- ---- the lines of an input
+
+-- the lines, where a byte stands before them
+abbrev pub onto_first : ℕ → List (List ℕ) → List (List ℕ)
+onto_first x [] = (x ∷ []) ∷ []
+onto_first x (line ∷ more) = (x ∷ line) ∷ more
+
+-- each newline ends a line; what stands after the last newline is a line too, unless it is empty
+abbrev pub lines : List ℕ → List (List ℕ)
+lines [] = []
+lines (x ∷ xs) = if x == 10 then [] ∷ lines xs else onto_first x (lines xs)
+
+-- U+FEFF in UTF-8
+abbrev pub byte_order_mark : List ℕ
+byte_order_mark = 239 ∷ 187 ∷ 191 ∷ []
+
+-- the text of a line that stands after so many others: a byte order mark at the start of the first is passed over
+abbrev pub text_of : ℕ → List ℕ → List ℕ
+text_of before line = if (before == 0) && starts_with (λ x y. x == y) line byte_order_mark then drop 3 line else line
+
+-- ---- what a line gives
+
+-- spaces, tabs and carriage returns
+abbrev pub IsBlank : List ℕ → Type 0
+IsBlank text = All (λ x. (x ≡ 32) ⊎ ((x ≡ 9) ⊎ (x ≡ 13))) text
+
+-- what is written of a text that is accepted: its output in the mode, or nothing where it is only checked
+abbrev pub Writes : Task → List ℕ → List ℕ → Type 0
+Writes (Write mode) text output = Converts mode text output
+Writes Check text output = ((whole : List ℕ) × Converts Canonical text whole) × (output ≡ [])
+
+-- the text is refused for the fault
+abbrev pub IsBadText : Fault → List ℕ → Type 0
+IsBadText CannotRead text = ⊥
+IsBadText NotJson text = IsRefused NotJson text
+IsBadText BadObjectId text = IsRefused BadObjectId text
+IsBadText NotExtendedJson text = IsRefused NotExtendedJson text
+IsBadText OutOfMemory text = ⊥
+IsBadText CannotWrite text = ⊥
+
+abbrev pub words_of : Fault → List ℕ
+words_of CannotRead = codes "cannot read"
+words_of NotJson = codes "not JSON"
+words_of BadObjectId = codes "bad object id"
+words_of NotExtendedJson = codes "not Extended JSON"
+words_of OutOfMemory = codes "out of memory"
+words_of CannotWrite = codes "cannot write"
+
+-- what is told of a refused line, by its number
+abbrev pub told_of : ℕ → Fault → List ℕ
+told_of number fault = codes "bson_lines: line " ++ decimal number ++ codes ": " ++ words_of fault ++ newline
+
+-- ---- what lines give, one after the other
+
+-- these lines give this output, what is told of them is this, and so many of them were refused
+pub data Outcomes (task : Task) (on_refusal : OnRefusal) : List (List ℕ) → List ℕ → List ℕ → ℕ → Type 0 where
+  none : Outcomes task on_refusal [] [] [] 0
+  blank : {before : List (List ℕ)} {output told : List ℕ} {refused : ℕ} (line : List ℕ) → Outcomes task on_refusal before output told refused → IsBlank (text_of (length before) line) → Outcomes task on_refusal (before ++ line ∷ []) output told refused
+  written : {before : List (List ℕ)} {output told : List ℕ} {refused : ℕ} (line more : List ℕ) → Outcomes task on_refusal before output told refused → Writes task (text_of (length before) line) more → Outcomes task on_refusal (before ++ line ∷ []) (output ++ more) told refused
+  passed_over : {before : List (List ℕ)} {output told : List ℕ} {refused : ℕ} (line : List ℕ) (fault : Fault) → Outcomes task on_refusal before output told refused → on_refusal ≡ KeepGoing → IsBadText fault (text_of (length before) line) → Outcomes task on_refusal (before ++ line ∷ []) output (told ++ told_of (length before + 1) fault) (refused + 1)
+
+-- ---- a run
+
+-- what the reader has left, where it is known
+abbrev pub left_of : Option (List ℕ) → List ℕ
+left_of None = []
+left_of (Some bytes) = bytes
+
+-- all lines of the input were done, and what they give was written and told
+pub record DoneLines (task : Task) (on_refusal : OnRefusal) (before after had holds told tells : Option (List ℕ)) (number refused : ℕ) : Type 0 where
+  pub bytes : List ℕ
+  pub output : List ℕ
+  pub verdicts : List ℕ
+  pub all : ReadsAll before after bytes
+  pub counted : number ≡ length (lines bytes)
+  pub outcomes : Outcomes task on_refusal (lines bytes) output verdicts refused
+  pub written : Appends had holds output
+  pub reported : Appends told tells verdicts
+
+-- what was read, with what the reader has left, is the lines that were done and others; this is what the first gave
+pub record Reaches (task : Task) (on_refusal : OnRefusal) (before after : Option (List ℕ)) (done others : List (List ℕ)) (output verdicts : List ℕ) : Type 0 where
+  pub bytes : List ℕ
+  pub refused : ℕ
+  pub given : Consumes before after bytes
+  pub whole : lines (bytes ++ left_of after) ≡ done ++ others
+  pub outcomes : Outcomes task on_refusal done output verdicts refused
+
+-- the run stopped at the line of this number: what the lines before it give was written and told
+pub record StopsAt (why : ℕ → List (List ℕ) → Type 0) (task : Task) (on_refusal : OnRefusal) (before after had holds told tells : Option (List ℕ)) (number : ℕ) : Type 0 where
+  pub done : List (List ℕ)
+  pub others : List (List ℕ)
+  pub output : List ℕ
+  pub verdicts : List ℕ
+  pub reaches : Reaches task on_refusal before after done others output verdicts
+  pub counted : number ≡ length done + 1
+  pub reason : why (length done) others
+  pub written : Appends had holds output
+  pub reported : Appends told tells verdicts
+
+-- no more than a beginning of what the lines before it give was written and told
+pub record CutShortAt (task : Task) (on_refusal : OnRefusal) (before after had holds told tells : Option (List ℕ)) (number : ℕ) : Type 0 where
+  pub done : List (List ℕ)
+  pub others : List (List ℕ)
+  pub output : List ℕ
+  pub verdicts : List ℕ
+  pub reaches : Reaches task on_refusal before after done others output verdicts
+  pub counted : number ≡ length done + 1
+  pub written : WritesBeginning had holds output
+  pub reported : WritesBeginning told tells verdicts
+
+-- why a run stops at a text: it is refused, and refusals stop the run; or for no reason that the bytes tell
+abbrev pub IsStopped : OnRefusal → Fault → List ℕ → Type 0
+IsStopped on_refusal CannotRead text = Unit {0}
+IsStopped on_refusal NotJson text = (on_refusal ≡ Stop) × IsBadText NotJson text
+IsStopped on_refusal BadObjectId text = (on_refusal ≡ Stop) × IsBadText BadObjectId text
+IsStopped on_refusal NotExtendedJson text = (on_refusal ≡ Stop) × IsBadText NotExtendedJson text
+IsStopped on_refusal OutOfMemory text = Unit {0}
+IsStopped on_refusal CannotWrite text = ⊥
+
+-- the same of the first of the lines that stand after so many others
+abbrev pub IsStoppedAt : OnRefusal → Fault → ℕ → List (List ℕ) → Type 0
+IsStoppedAt on_refusal CannotRead before others = Unit {0}
+IsStoppedAt on_refusal NotJson before [] = ⊥
+IsStoppedAt on_refusal NotJson before (line ∷ others) = IsStopped on_refusal NotJson (text_of before line)
+IsStoppedAt on_refusal BadObjectId before [] = ⊥
+IsStoppedAt on_refusal BadObjectId before (line ∷ others) = IsStopped on_refusal BadObjectId (text_of before line)
+IsStoppedAt on_refusal NotExtendedJson before [] = ⊥
+IsStoppedAt on_refusal NotExtendedJson before (line ∷ others) = IsStopped on_refusal NotExtendedJson (text_of before line)
+IsStoppedAt on_refusal OutOfMemory before others = Unit {0}
+IsStoppedAt on_refusal CannotWrite before others = ⊥
+
+-- what each fault says of the bytes, and of the line whose number stands beside it
+abbrev pub FailsAt : Fault → Task → OnRefusal → (before after had holds told tells : Option (List ℕ)) → ℕ → Type 0
+FailsAt CannotWrite task on_refusal before after had holds told tells number = CutShortAt task on_refusal before after had holds told tells number
+FailsAt CannotRead task on_refusal before after had holds told tells number = StopsAt (IsStoppedAt on_refusal CannotRead) task on_refusal before after had holds told tells number
+FailsAt NotJson task on_refusal before after had holds told tells number = StopsAt (IsStoppedAt on_refusal NotJson) task on_refusal before after had holds told tells number
+FailsAt BadObjectId task on_refusal before after had holds told tells number = StopsAt (IsStoppedAt on_refusal BadObjectId) task on_refusal before after had holds told tells number
+FailsAt NotExtendedJson task on_refusal before after had holds told tells number = StopsAt (IsStoppedAt on_refusal NotExtendedJson) task on_refusal before after had holds told tells number
+FailsAt OutOfMemory task on_refusal before after had holds told tells number = StopsAt (IsStoppedAt on_refusal OutOfMemory) task on_refusal before after had holds told tells number

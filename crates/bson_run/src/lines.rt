@@ -1,0 +1,143 @@
+//! One run over lines: each line of a reader is a text of its own.
+ghost use Rattle.std.specs.Prelude.{◌≡◌, ◌+◌, [], ℕ, List, Option, IfOk, IfErr, OnOk, OnErr};
+ghost use Rattle.std.specs.Io.KnownBytes.{Appends, Consumes, IsAtEnd};
+ghost use Rattle.bson_run.specs.Lines.{DoneLines, FailsAt};
+ghost use Rattle.bson_run.specs.LinesSteps.{HasRoom, HasWritten, Running};
+ghost use Rattle.bson_run.specs.Run.{WritesBeginning};
+
+use crate::fault::Fault;
+use crate::gathered::Gathered;
+use crate::line_fault::LineFault;
+use crate::order::{OnRefusal, Task};
+use crate::stream::write_whole;
+use std::alloc::Global;
+use std::io::{Read, Write};
+
+/// As much as a pipe holds.
+const BLOCK: usize = 65536;
+
+/// How many lines there were.
+#[derive(Clone, Copy, PartialEq, Eq, Debug)]
+pub struct Counts {
+    /// All lines, blank ones and refused ones too.
+    pub lines: u64,
+    /// Those that were refused.
+    pub refused: u64,
+}
+
+/// Reads lines until the reader has nothing left, each as one JSON text, and writes the output of each in the order of
+/// the lines. A newline ends a line; what stands behind the last newline is a line too, unless it is empty. Lines of
+/// spaces, tabs and carriage returns give nothing, and count. A byte order mark at the start of the input is passed over.
+///
+/// A line that is refused ends the run, or is told to `report` and left out, as `on_refusal` says. Where the run stops,
+/// the number of the first line that was not done stands beside the fault; all that the lines before it gave was written,
+/// and nothing of the line itself. At `CannotWrite` no more than a beginning of it was written. A fault of the reader
+/// or of a writer, Interrupted too, is `CannotRead` or `CannotWrite`, and so is a write that takes no byte.
+///
+/// Memory is that of the longest line and of a block of 64 KiB with its output. The output of a block is written before
+/// the next is read.
+pub fn run_lines<R: Read, W: Write, T: Write>(
+    alloc: Global,
+    task: Task,
+    on_refusal: OnRefusal,
+    reader: &mut R,
+    writer: &mut W,
+    report: &mut T,
+) -> Result<Counts, LineFault>
+    ensures done { IfOk result (λ counts. DoneLines task on_refusal (R.remaining reader.old) (R.remaining reader.new) (W.contents writer.old) (W.contents writer.new) (T.contents report.old) (T.contents report.new) counts.lines counts.refused) }
+    ensures fails { IfErr result (λ e. FailsAt e.fault task on_refusal (R.remaining reader.old) (R.remaining reader.new) (W.contents writer.old) (W.contents writer.new) (T.contents report.old) (T.contents report.new) e.line) }
+{
+    let mut gathered = Gathered::new(alloc);
+    let mut block = [0u8; BLOCK];
+    for _ in 0..u64::MAX {
+        let Ok(count) = reader.read(&mut block) else {
+            return Err(gathered.stopped(Fault::CannotRead));
+        };
+        if count == 0 {
+            return end(alloc, task, on_refusal, gathered, writer, report);
+        }
+        pass_on(
+            alloc,
+            task,
+            on_refusal,
+            &mut gathered,
+            &block[..count],
+            writer,
+            report,
+        )?;
+    }
+    // A count that no run reaches.
+    Err(gathered.stopped(Fault::CannotRead))
+}
+
+/// Takes a block, and writes what its lines gave.
+fn pass_on<W: Write, T: Write>(
+    alloc: Global,
+    task: Task,
+    on_refusal: OnRefusal,
+    gathered: &mut Gathered,
+    block: &[u8],
+    writer: &mut W,
+    report: &mut T,
+) -> Result<(), LineFault>
+    requires room { HasRoom gathered.old }
+    ensures room { HasRoom gathered.new }
+    ensures ok { OnOk result ((before given after had told : Option (List ℕ)) → Running task on_refusal before given had (W.contents writer.old) told (T.contents report.old) gathered.old → Consumes given after block.now
+        → Running task on_refusal before after had (W.contents writer.new) told (T.contents report.new) gathered.new) }
+    ensures fails { IfErr result (λ e. (before given after had told : Option (List ℕ)) → Running task on_refusal before given had (W.contents writer.old) told (T.contents report.old) gathered.old → Consumes given after block.now
+        → FailsAt e.fault task on_refusal before after had (W.contents writer.new) told (T.contents report.new) e.line) }
+{
+    let step = gathered.take(alloc, task, on_refusal, block);
+    write_out(gathered, writer, report)?;
+    step
+}
+
+/// Takes a last line that no newline ends, and writes what it gave.
+fn end<W: Write, T: Write>(
+    alloc: Global,
+    task: Task,
+    on_refusal: OnRefusal,
+    mut gathered: Gathered,
+    writer: &mut W,
+    report: &mut T,
+) -> Result<Counts, LineFault>
+    requires room { HasRoom gathered }
+    ensures done { IfOk result (λ counts. (before after had told : Option (List ℕ)) → Running task on_refusal before after had (W.contents writer.old) told (T.contents report.old) gathered → IsAtEnd after
+        → DoneLines task on_refusal before after had (W.contents writer.new) told (T.contents report.new) counts.lines counts.refused) }
+    ensures fails { IfErr result (λ e. (before after had told : Option (List ℕ)) → Running task on_refusal before after had (W.contents writer.old) told (T.contents report.old) gathered → IsAtEnd after
+        → FailsAt e.fault task on_refusal before after had (W.contents writer.new) told (T.contents report.new) e.line) }
+{
+    let step = gathered.take_last(alloc, task, on_refusal);
+    write_out(&mut gathered, writer, report)?;
+    step?;
+    Ok(Counts {
+        lines: gathered.lines,
+        refused: gathered.refused,
+    })
+}
+
+/// Writes what is held, and tells what is untold. The verdicts come first, so that a writer that takes no more hides none.
+fn write_out<W: Write, T: Write>(
+    gathered: &mut Gathered,
+    writer: &mut W,
+    report: &mut T,
+) -> Result<(), LineFault>
+    requires room { HasRoom gathered.old }
+    ensures room { HasRoom gathered.new }
+    ensures ok { OnOk result (HasWritten gathered.old gathered.new) }
+    ensures written { OnOk result (Appends (W.contents writer.old) (W.contents writer.new) gathered.old.output.items) }
+    ensures reported { OnOk result (Appends (T.contents report.old) (T.contents report.new) gathered.old.told.items) }
+    ensures cut { OnErr result (WritesBeginning (W.contents writer.old) (W.contents writer.new) gathered.old.output.items) }
+    ensures cut_report { OnErr result (WritesBeginning (T.contents report.old) (T.contents report.new) gathered.old.told.items) }
+    ensures fault { IfErr result (λ e. (e.fault ≡ Fault.CannotWrite) × (e.line ≡ gathered.old.lines + 1)) }
+{
+    let Ok(()) = write_whole(report, &gathered.told) else {
+        return Err(gathered.stopped(Fault::CannotWrite));
+    };
+    let Ok(()) = write_whole(writer, &gathered.output) else {
+        return Err(gathered.stopped(Fault::CannotWrite));
+    };
+    gathered.output.clear();
+    gathered.told.clear();
+    Ok(())
+}
