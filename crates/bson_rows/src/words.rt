@@ -49,7 +49,7 @@ pub(crate) fn pattern_of(text: &str) -> Result<u64, Stop> {
 pub(crate) fn byte_of(text: &str) -> Result<u8, Stop> {
     use hex::FromHex;
     match <[u8; 1] as FromHex>::from_hex(text) {
-        Ok([byte]) => Ok(byte),
+        Ok(bytes) => Ok(bytes[0]),
         Err(_) => Err(Stop::NotUnderstood),
     }
 }
