@@ -35,6 +35,16 @@ pub fn convert(alloc: Global, mode: Mode, bytes: &[u8]) -> Result<Vec<u8>, Fault
     output(alloc, mode, value)
 }
 
+/// The same of bytes that are let go once their tree is read, so that they take no memory beside the output.
+pub(crate) fn convert_whole(alloc: Global, mode: Mode, bytes: Vec<u8>) -> Result<Vec<u8>, Fault>
+    ensures ok { IfOk result (λ output. Converts mode bytes.items output.items) }
+    ensures fault { IfErr result (λ fault. IsRefused fault bytes.items) }
+{
+    let tree = parse(alloc, &bytes)?;
+    drop(bytes);
+    output(alloc, mode, meaning(alloc, tree)?)
+}
+
 /// The tree whose text the bytes are.
 fn parse(alloc: Global, bytes: &[u8]) -> Result<Value, Fault>
     ensures ok { IfOk result (λ tree. IsTextOf bytes.now (view tree)) }

@@ -2,7 +2,7 @@
 ghost use Rattle.std.specs.Prelude.{IfErr, OnOk};
 ghost use Rattle.bson_run.specs.Run.{Done, Fails};
 
-use crate::convert::convert;
+use crate::convert::convert_whole;
 use crate::fault::Fault;
 use crate::mode::Mode;
 use crate::stream::{read_whole, write_whole};
@@ -27,6 +27,6 @@ pub fn run<R: Read, W: Write>(
     ensures fails { IfErr result (λ fault. Fails fault mode (R.remaining reader.old) (R.remaining reader.new) (W.contents writer.old) (W.contents writer.new)) }
 {
     let bytes = read_whole(alloc, reader)?;
-    let output = convert(alloc, mode, &bytes)?;
+    let output = convert_whole(alloc, mode, bytes)?;
     write_whole(writer, &output)
 }
