@@ -200,7 +200,7 @@ fn lines_in_pieces(rt: HostRuntime) -> Result<(), Fail> {
 
 /// A text of `inside` letters in a list, on a line of its own.
 fn long_line(alloc: Global, inside: usize) -> Result<Vec<u8>, AllocError> {
-    let mut line = Vec::with_capacity(alloc, inside + 5)?;
+    let mut line = Vec::new(alloc);
     line.extend_from_slice(b"[\"")?;
     for _ in 0..inside {
         line.push(b'x')?;
