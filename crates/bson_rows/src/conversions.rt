@@ -77,7 +77,8 @@ fn slice(alloc: Global, text: &str, out: &mut String) -> Answer {
 
 fn values(alloc: Global, text: &str, out: &mut String) -> Answer {
     let list = list(alloc, text)?;
-    match Bson::from_values(alloc, list.into_iter()) {
+    // (the values of a list alone would be gathered in its own room)
+    match Bson::from_values(alloc, list.into_iter().chain(None)) {
         Ok(value) => put(value, out),
         Err(_) => Err(Stop::OutOfMemory),
     }

@@ -163,7 +163,7 @@ const VERDICTS: &str =
     "bson_lines: line 2: not JSON\nbson_lines: line 4: bad object id\nbson_lines: line 6: not Extended JSON\n";
 
 #[test]
-fn refused_lines_are_told_and_left_out(rt: HostRuntime) -> Result<(), Fail> {
+fn a_refused_line_is_told_and_left_out(rt: HostRuntime) -> Result<(), Fail> {
     for (task, output) in [(RELAXED, "5\n6\n"), (Task::Check, "")] {
         let ran = run_on(rt.alloc(), task, OnRefusal::KeepGoing, MIXED.as_bytes())?;
         assert_eq!(rt; ran.answer, counted(6, 3));
