@@ -1,6 +1,7 @@
 //! Whether two values have one canonical text, told from the public contracts of `bson` alone: an example of a caller
 //! whose contract is proved.
 #![tactic(auto)]
+
 ghost use Rattle.std.specs.Prelude.{◌≡◌, ◌↔◌, IfOk, true};
 ghost use Rattle.bson.specs.View.{bson_view};
 ghost use Rattle.bson_model.specs.Same.{same};
