@@ -1,9 +1,9 @@
 #!/usr/bin/env python3
-"""Proves and builds bson_cli and the libraries below it, each as soon as those that it uses are built.
+"""Proves and builds a program and the libraries below it, each as soon as those that it uses are built.
 
-    crates/bson_cli/build.py        (./bson calls it where the program is missing or older than a source)
+    crates/bson_cli/build.py [bson_lines]   (./bson calls it where the program is missing or older than a source)
 
-Standard error gets one line that says what happens, and on a terminal a line of progress, which is gone at the end.
+The program is bson_cli where none is named. Standard error gets one line that says what happens, and on a terminal a line of progress, which is gone at the end.
 All that `rt` prints goes to out/build.log beside the program. A second run that starts meanwhile waits for the first and
 builds nothing. Status 0: built, or waited; 3: it can't be built here.
 """
@@ -19,9 +19,9 @@ import time
 
 HERE = os.path.dirname(os.path.realpath(__file__))
 TOP = os.path.dirname(os.path.dirname(HERE))
-OUT = f"{HERE}/out"
+PROGRAM = sys.argv[1] if len(sys.argv) > 1 else "bson_cli"
+OUT = f"{TOP}/crates/{PROGRAM}/out"
 LOG = f"{OUT}/build.log"
-PROGRAM = "bson_cli"
 # What rt prints of a crate: how many of its functions are checked.
 SO_FAR = re.compile(r"so far: (\d+) of (\d+) functions")
 
