@@ -163,7 +163,7 @@ def main():
     if not lock:
         return 0
     uses = crates()
-    minutes = round(8 + 28 / processors())
+    minutes = round(4 + 17 / processors())
     print(f"bson: proving and building {PROGRAM}, from nothing about {minutes} minutes on {processors()} processors;"
           f" the log is {LOG}", file=sys.stderr)
     with open(f"{OUT}/built_from.new", "w"):

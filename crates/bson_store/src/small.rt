@@ -3,11 +3,13 @@ ghost use Rattle.std.specs.Prelude.{◌≡◌, ◌<◌, [], length, slice_get, o
 ghost use Rattle.bson_store.specs.Order.{IsLeast};
 ghost use Rattle.bson_store.specs.Pairs.{HasDistinctKeys};
 
+mod into_iter;
+
 use crate::next::next_place;
 use crate::order::next_above;
 use crate::pair_store::PairStore;
 use crate::places::{find_in, place_next, take_place};
-use crate::small_into_pairs::SmallIntoPairs;
+pub use into_iter::IntoIter;
 use std::alloc::{AllocError, Global};
 use std::collections::BTreeMap;
 use std::marker::Model;
@@ -75,7 +77,7 @@ impl<V> SmallPairs<V> {
     }
 
     /// The pairs by value, in their order.
-    pub fn into_pairs(self) -> SmallIntoPairs<V>
+    pub fn into_pairs(self) -> IntoIter<V>
     where
         V: Drop,
         ensures pairs { result ≡ self }
@@ -83,7 +85,7 @@ impl<V> SmallPairs<V> {
     {
         let SmallPairs { pairs, places } = self;
         drop(places);
-        SmallIntoPairs::new(pairs.into_iter())
+        IntoIter::new(pairs.into_iter())
     }
 
     /// The place of the pair with the least key above `last`, by the keys' bytes, or of the least key of all where

@@ -1,7 +1,8 @@
 //! The walks over a document. Each gives the pairs in their order, each once, and ends.
 use super::Document;
 use crate::bson::Bson;
-use bson_store::{PairStore, SmallIntoPairs, SmallPairs};
+use bson_store::small::IntoIter as PairsIntoIter;
+use bson_store::{PairStore, SmallPairs};
 
 /// The pairs that are left, each as a key and a value; `Document::iter` makes it.
 #[derive(Drop)]
@@ -25,7 +26,7 @@ pub struct Values<'a> {
 /// The pairs that are left, by value; `Document::into_iter` makes it.
 #[derive(Drop)]
 pub struct IntoIter {
-    pairs: SmallIntoPairs<Bson>,
+    pairs: PairsIntoIter<Bson>,
 }
 
 impl<'a> Iterator for Iter<'a> {

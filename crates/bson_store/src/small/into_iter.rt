@@ -8,12 +8,12 @@ use std::vec;
 
 /// An iterator over the pairs of a store, by value and in their order; `SmallPairs::into_pairs` makes it.
 #[derive(Drop)]
-pub struct SmallIntoPairs<V> {
+pub struct IntoIter<V> {
     pairs: vec::IntoIter<Pair<V>>,
 }
 
 // The pairs that are still to come.
-impl<V> Model for SmallIntoPairs<V> {
+impl<V> Model for IntoIter<V> {
     ghost use Rattle.std.specs.Prelude.{ℕ, List};
     ghost use Rattle.bson_store.specs.Pairs.{pairs_code};
     ghost use Rattle.bson_store.specs.Small.{seen};
@@ -25,15 +25,15 @@ impl<V> Model for SmallIntoPairs<V> {
     ghost view = { λ a. seen a.pairs.rest.items };
 }
 
-impl<V> SmallIntoPairs<V> {
-    pub(crate) fn new(pairs: vec::IntoIter<Pair<V>>) -> SmallIntoPairs<V>
+impl<V> IntoIter<V> {
+    pub(crate) fn new(pairs: vec::IntoIter<Pair<V>>) -> IntoIter<V>
         ensures { result ≡ seen pairs.rest.items }
     {
-        SmallIntoPairs { pairs }
+        IntoIter { pairs }
     }
 }
 
-impl<V: Drop> Iterator for SmallIntoPairs<V> {
+impl<V: Drop> Iterator for IntoIter<V> {
     type Item = (String, V);
 
     ghost use Rattle.std.specs.Prelude.{length, string_bytes};
