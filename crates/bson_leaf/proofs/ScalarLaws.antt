@@ -34,6 +34,7 @@ use Rattle.bson_leaf.specs.declared.wrapper.Wrapper.TheVariants.{Oid, Symbol, Re
 use Rattle.bson_leaf.proofs.InverseLemmas as inverse
 use Rattle.bson_leaf.proofs.IntText.{fits_true, int_of_some}
 use Rattle.bson_leaf.proofs.BinaryLaws.{binary_from, uuid_from, bytes_again, byte_again, subtype_byte-of}
+use Rattle.bson_datetime.proofs.GrammarLemmas.{denotes-names}
 use Rattle.bson_leaf.proofs.DateLaws.{date_from, recent_denoted}
 use Rattle.bson_leaf.proofs.DecimalLaws.{decimal_from, decimal_of-some, decimal_of-printed, canon-again}
 use Rattle.bson_leaf.proofs.DoubleLaws.{double_from, double_form, double_text-form, double_again, nan_form-again, special_is}
@@ -136,7 +137,7 @@ scalar_to (means.oid s id is) = rw is refl
 scalar_to (means.db_pointer name s id is) = rw is refl
 scalar_to (means.timestamp i t m n i_is t_is) = rw (i_is, t_is) refl
 scalar_to (means.date_of_millis s z is) = rw (int_of_some w64 s z is) refl
-scalar_to (means.date_of_text s z is) = rw is refl
+scalar_to (means.date_of_text s z is) = rw ((denotes-names s z).1 is) refl
 scalar_to (means.date_of_number n z is) = rw is refl
 scalar_to (means.binary s k bytes n is byte) = rw (is, byte) refl
 scalar_to (means.uuid s id is) = rw is refl
