@@ -5,3 +5,4 @@ pub mod IdOrder
 pub mod Sorting
 pub mod SortedText
 pub mod IdOrderParts
+pub mod HexLaws

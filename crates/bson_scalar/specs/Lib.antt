@@ -1,6 +1,7 @@
 pub mod Subtype
 pub mod Orders
 pub mod Base64
+pub mod HexText
 pub mod Fault
 pub mod IgnoredBits
 pub mod Packed
