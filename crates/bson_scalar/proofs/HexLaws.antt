@@ -5,7 +5,7 @@ use Rattle.std.proofs.lemmas.Bool.Decides.{nat_tests}
 use Rattle.hex.specs.declared.error.FromHexError.{FromHexError}
 use Rattle.hex.specs.Hex.{decode_of, decode_pairs, decode_sized, digit_or_error, hex_digit_value, pair_value, value_at, ◌>>=◌}
 use Rattle.hex.proofs.HexLemmas.{decode_of-even, decode_sized-ok, decode_sized-twice}
-use Rattle.bson_scalar.specs.HexText.{IsDigitOf, IsHexText, nothing, byte}
+use Rattle.bson_scalar.specs.HexText.{IsDigitOf, IsHexText, nothing, pair}
 
 -- ---- a digit
 
@@ -34,26 +34,27 @@ pairs_from i [] bytes h =
     rw (← e) nothing
 pairs_from i (c ∷ []) bytes h = cc h
 pairs_from i (c ∷ d ∷ text) bytes h =
-    let pair = then_ok (pair_value c d i) _ bytes h in
-    let high = then_ok (value_at c i) _ pair.0 pair.1 in
-    let low = then_ok (value_at d (i + 1)) _ pair.0 high.2 in
-    let rest = then_ok (decode_pairs (i + 2) text) _ bytes pair.2 in
-    let value : high.0 * 16 + low.0 ≡ pair.0 = ap (λ (r : Result ℕ FromHexError). result_unwrap_or r 0) low.2 in
-    let whole : pair.0 ∷ rest.0 ≡ bytes = ap (λ (r : Result (List ℕ) FromHexError). result_unwrap_or r []) rest.2 in
+    let both = then_ok (pair_value c d i) _ bytes h in
+    let high = then_ok (value_at c i) _ both.0 both.1 in
+    let low = then_ok (value_at d (i + 1)) _ both.0 high.2 in
+    let rest = then_ok (decode_pairs (i + 2) text) _ bytes both.2 in
+    let value : high.0 * 16 + low.0 ≡ both.0 = ap (λ (r : Result ℕ FromHexError). result_unwrap_or r 0) low.2 in
+    let whole : both.0 ∷ rest.0 ≡ bytes = ap (λ (r : Result (List ℕ) FromHexError). result_unwrap_or r []) rest.2 in
     let first = digit_from c high.0 (digit_read c i (hex_digit_value c) high.0 high.1) in
     let second = digit_from d low.0 (digit_read d (i + 1) (hex_digit_value d) low.0 low.1) in
-    let is = byte high.0 low.0 c d text rest.0 first second (pairs_from (i + 2) text rest.0 rest.1) in
+    let is = pair high.0 low.0 c d text rest.0 first second (pairs_from (i + 2) text rest.0 rest.1) in
     subst (IsHexText (c ∷ d ∷ text)) whole (subst (λ b. IsHexText (c ∷ d ∷ text) (b ∷ rest.0)) value is)
 
 pairs_to : (i : ℕ) {text bytes : List ℕ} → IsHexText text bytes → decode_pairs i text ≡ Ok bytes
 unfolding decode_pairs
 pairs_to i nothing = refl
-pairs_to i (byte high low c d text bytes first second rest) =
+pairs_to i (pair high low c d text bytes first second rest) =
     rw (digit_to c high first, digit_to d low second, pairs_to (i + 2) rest) refl
 
-twice : {text bytes : List ℕ} → IsHexText text bytes → length text ≡ 2 * length bytes
+-- two digits a byte
+pub twice : {text bytes : List ℕ} → IsHexText text bytes → length text ≡ 2 * length bytes
 twice nothing = refl
-twice (byte high low c d text bytes first second rest) = omega (arith, twice rest)
+twice (pair high low c d text bytes first second rest) = omega (arith, twice rest)
 
 pub sized_from : (n : ℕ) (text bytes : List ℕ) → decode_sized text n ≡ Ok bytes → IsHexText text bytes × (length bytes ≡ n)
 sized_from n text bytes h =

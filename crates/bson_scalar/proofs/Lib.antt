@@ -6,3 +6,4 @@ pub mod Sorting
 pub mod SortedText
 pub mod IdOrderParts
 pub mod HexLaws
+pub mod Base64Laws

@@ -14,5 +14,5 @@ IsDigitOf v c =
 -- the text has two digits for each byte, the higher one first
 pub data IsHexText : List ℕ → List ℕ → Type 0 where
   nothing : IsHexText [] []
-  byte : (high low c d : ℕ) (text bytes : List ℕ) → IsDigitOf high c → IsDigitOf low d → IsHexText text bytes
+  pair : (high low c d : ℕ) (text bytes : List ℕ) → IsDigitOf high c → IsDigitOf low d → IsHexText text bytes
       → IsHexText (c ∷ d ∷ text) ((high * 16 + low) ∷ bytes)

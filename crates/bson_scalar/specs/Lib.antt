@@ -1,13 +1,13 @@
 pub mod Subtype
 pub mod Orders
 pub mod Base64
-pub mod HexText
 pub mod Fault
 pub mod IgnoredBits
 pub mod Packed
 pub mod Vectors
 pub mod Shown
 pub mod VectorData
+pub mod HexText
 pub mod Oid
 pub mod OidFault
 pub mod Regex
