@@ -1,6 +1,6 @@
 -- The texts of RFC 3339 section 5.6 by their parts, and the moment that each of them names.
 -- No text is read here; `Rfc3339` has the same as a function that reads a text from the front.
-use Rattle.std.specs.Prelude.{◌≡◌, ◌⊎◌, ℕ, ◌+◌, ◌*◌, ◌/◌, ◌%◌, ◌<◌, ℤ, pos, neg_ℤ, int_div, List, [], ◌∷◌, ◌++◌}
+use Rattle.std.specs.Prelude.{◌≡◌, ◌⊎◌, ℕ, ◌+◌, ◌*◌, ◌/◌, ◌%◌, ◌<◌, ℤ, pos, neg_ℤ, int_div, List, [], ◌∷◌, ◌++◌, codes}
 use Rattle.std.specs.Char.{IsAsciiDigit}
 use Rattle.std.specs.List.{All}
 use Rattle.jiff_core.specs.Calendar.{IsCivilDate, days_from_civil}
@@ -28,19 +28,19 @@ pub record Parts : Type 0 where
 -- `Z`, or a sign, hours and minutes
 abbrev pub offset_text : Offset → List ℕ
 offset_text (zulu c) = c ∷ []
-offset_text (ahead h m) = 43 ∷ two h ++ 58 ∷ two m
-offset_text (behind h m) = 45 ∷ two h ++ 58 ∷ two m
+offset_text (ahead h m) = codes "+" ++ two h ++ codes ":" ++ two m
+offset_text (behind h m) = codes "-" ++ two h ++ codes ":" ++ two m
 
 -- a point and the fraction, where there is one
 abbrev pub fraction_text : List ℕ → List ℕ
 fraction_text [] = []
-fraction_text (d ∷ ds) = 46 ∷ d ∷ ds
+fraction_text (d ∷ ds) = codes "." ++ d ∷ ds
 
 -- `YYYY-MM-DDThh:mm:ss`, the fraction and the offset
 abbrev pub text_of : Parts → List ℕ
 text_of p =
-    two (p.year / 100) ++ two (p.year % 100) ++ 45 ∷ two p.month ++ 45 ∷ two p.day ++ p.separator ∷ two p.hour
-    ++ 58 ∷ two p.minute ++ 58 ∷ two p.second ++ fraction_text p.fraction ++ offset_text p.offset
+    two (p.year / 100) ++ two (p.year % 100) ++ codes "-" ++ two p.month ++ codes "-" ++ two p.day ++ p.separator ∷ two p.hour
+    ++ codes ":" ++ two p.minute ++ codes ":" ++ two p.second ++ fraction_text p.fraction ++ offset_text p.offset
 
 -- a letter of either case: a small letter lies 32 above its capital
 abbrev pub IsLetter : ℕ → ℕ → Type 0
