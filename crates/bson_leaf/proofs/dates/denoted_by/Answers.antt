@@ -1,4 +1,4 @@
-use Rattle.std.proofs.Common.{◌≡◌, ℤ, Option, Some, None, refl, sym}
+use Rattle.std.proofs.Common.{◌≡◌, Option, Some, None, refl, sym}
 use Rattle.bson_leaf.proofs.dates.denoted_by.Goals as goal
 
 none_of : {A : Type 0} (o : Option A) → ((x : A) → ¬ (o ≡ Some x)) → None ≡ o

@@ -1,4 +1,4 @@
-use Rattle.std.proofs.Common.{◌≡◌, List, ℕ, [], refl, sym, ap, ◌∙◌, arith}
+use Rattle.std.proofs.Common.{◌≡◌, [], refl, sym, ap, ◌∙◌, arith}
 use Rattle.std.specs.Result.{result_unwrap_or}
 use Rattle.bson_scalar.proofs.HexLaws.{sized_from, sized_to, twice}
 use Rattle.bson_scalar.proofs.oid.ObjectId.parse_str.Goals as goal
