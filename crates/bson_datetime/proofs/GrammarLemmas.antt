@@ -13,7 +13,7 @@ use Rattle.jiff.specs.Words.{days_in_month}
 use Rattle.jiff.proofs.SpanFacts.{signed_arith}
 use Rattle.jiff_core.specs.Calendar.{IsCivilDate, days_from_civil}
 use Rattle.bson_datetime.specs.Grammar.{Offset, zulu, ahead, behind, offset_text, fraction_text, IsLetter, IsOffset, offset_seconds, Names}
-use Rattle.bson_datetime.specs.Rfc3339.{Read, ◌>>=◌, two_digits, four_digits, digits_below, after, after_letter, day_number, date_part, time_part, fraction_part, fraction_value, hours_minutes, offset_part, denoted, Denotes}
+use Rattle.bson_datetime.specs.Rfc3339.{Read, ◌>>=◌, two_digits, four_digits, digits_below, after, after_letter, day_number, date_part, time_part, fraction_part, fraction_value, hours_minutes, offset_part, denoted}
 use Rattle.bson_datetime.specs.Shown.{two}
 use Rattle.bson_datetime.proofs.ReaderLemmas.{fraction_value-nil}
 use Rattle.bson_datetime.proofs.RoundTrip.{digits_below-pad2, date_part-text, time_part-text}
@@ -24,6 +24,9 @@ found x rest = Some (x, rest)
 
 un_some : {A : Type 0} (x y : A) → Some x ≡ Some y → x ≡ y
 un_some x y h = ap (λ o. unwrap_or o x) h
+
+some_none : {A : Type 0} (x : A) → ¬ (Some x ≡ None)
+some_none x h = cc
 
 -- the two steps of a reading that succeeds
 un_then : {A B : Type 0} (o : Option A) (f : A → Option B) (y : B) → o >>= f ≡ Some y → (x : A) × (o ≡ Some x) × (f x ≡ Some y)
@@ -465,6 +468,14 @@ names-denoted text ms n =
       offset-parts p.offset r.offset,
     ) (ap (λ z. Some z) (sym n.moment))
 
--- a text denotes a moment exactly if its parts name it
-pub denotes-names : (text : List ℕ) (ms : ℤ) → Denotes text ms ↔ Names text ms
+-- what is read from the front of a text is the moment that its parts name
+pub denotes-names : (text : List ℕ) (ms : ℤ) → (denoted text ≡ Some ms) ↔ Names text ms
 denotes-names text ms = (denoted-names text ms, names-denoted text ms)
+
+-- where a text names none, none is read
+pub denotes-none : (text : List ℕ) → denoted text ≡ None → (ms : ℤ) → ¬ (Names text ms)
+denotes-none text none ms n = some_none ms (sym (names-denoted text ms n) ∙ none)
+
+-- a text names one moment
+pub names-one : (text : List ℕ) (a b : ℤ) → Names text a → Names text b → a ≡ b
+names-one text a b n m = un_some a b (sym (names-denoted text a n) ∙ names-denoted text b m)

@@ -95,6 +95,10 @@ jiff_of-moment ms c is = omega (arith, signed_arith, civil_nanos-parts (jiff_of 
 pub civil_of-moment : (ms : ℤ) (c : Civil) → IsMoment ms c → civil_of ms ≡ c
 civil_of-moment ms c is = civil_of-jiff ms (jiff_of c is.0) (jiff_of-moment ms c is) ∙ fields_of-jiff_of c is.0
 
+-- and lies in the years that the calendar has
+pub moment-within : (ms : ℤ) (c : Civil) → IsMoment ms c → IsCivilMillis ms
+moment-within ms c is = moment-range ms (jiff_of c is.0) (jiff_of-moment ms c is)
+
 pub rfc-fields : (ms : ℤ) (c : Civil) → IsMoment ms c → rfc ms ≡ rfc_text c
 unfolding rfc
 rfc-fields ms c is = rw (civil_of-moment ms c is) refl

@@ -1,5 +1,5 @@
 -- Which error it is, and the words of its message.
-use Rattle.std.specs.Prelude.{ℕ, List, codes}
+use Rattle.std.specs.Prelude.{◌≡◌, ℕ, List, codes}
 use Rattle.bson_datetime.specs.declared.error.Message.{Message}
 use Rattle.bson_datetime.specs.declared.error.Message.TheVariants.{NotRfc3339, NoSuchDay, NoSuchTime, YearOutOfRange}
 use Rattle.bson_datetime.specs.declared.error.Error.{Error}
@@ -9,9 +9,15 @@ abbrev pub IsInvalidTimestamp : Error → Type 0
 IsInvalidTimestamp (InvalidTimestamp message) = Unit {0}
 IsInvalidTimestamp _ = ⊥
 
+-- with the one message that it has
 abbrev pub IsCannotFormat : Error → Type 0
-IsCannotFormat (CannotFormat message) = Unit {0}
+IsCannotFormat (CannotFormat message) = message ≡ YearOutOfRange
 IsCannotFormat _ = ⊥
+
+-- the text, or the parts, are refused with this message
+abbrev pub IsInvalidFor : Message → Error → Type 0
+IsInvalidFor why (InvalidTimestamp message) = message ≡ why
+IsInvalidFor why _ = ⊥
 
 abbrev pub IsOutOfMemory : Error → Type 0
 IsOutOfMemory OutOfMemory = Unit {0}

@@ -1,6 +1,6 @@
 -- The texts of RFC 3339 section 5.6 by their parts, and the moment that each of them names.
--- No text is read here: `Denotes` of `Rfc3339`, which reads one from the front, says the same.
-use Rattle.std.specs.Prelude.{◌≡◌, ◌⊎◌, ℕ, ◌+◌, ◌*◌, ◌/◌, ◌%◌, ◌<◌, ℤ, pos, neg_ℤ, int_div, List, [], ◌∷◌, ◌++◌}
+-- No text is read here; `Rfc3339` has the same as a function that reads a text from the front.
+use Rattle.std.specs.Prelude.{◌≡◌, ◌⊎◌, ℕ, ◌+◌, ◌*◌, ◌/◌, ◌%◌, ◌<◌, ℤ, pos, neg_ℤ, int_div, List, [], ◌∷◌, ◌++◌, codes}
 use Rattle.std.specs.Char.{IsAsciiDigit}
 use Rattle.std.specs.List.{All}
 use Rattle.jiff_core.specs.Calendar.{IsCivilDate, days_from_civil}
@@ -25,30 +25,34 @@ pub record Parts : Type 0 where
   pub fraction : List ℕ
   pub offset : Offset
 
--- `YYYY-MM-DDThh:mm:ss`, a point and the fraction where there is one, and the offset
+-- `Z`, or a sign, hours and minutes
 abbrev pub offset_text : Offset → List ℕ
 offset_text (zulu c) = c ∷ []
-offset_text (ahead h m) = 43 ∷ two h ++ 58 ∷ two m
-offset_text (behind h m) = 45 ∷ two h ++ 58 ∷ two m
+offset_text (ahead h m) = codes "+" ++ two h ++ codes ":" ++ two m
+offset_text (behind h m) = codes "-" ++ two h ++ codes ":" ++ two m
 
+-- a point and the fraction, where there is one
 abbrev pub fraction_text : List ℕ → List ℕ
 fraction_text [] = []
-fraction_text (d ∷ ds) = 46 ∷ d ∷ ds
+fraction_text (d ∷ ds) = codes "." ++ d ∷ ds
 
+-- `YYYY-MM-DDThh:mm:ss`, the fraction and the offset
 abbrev pub text_of : Parts → List ℕ
 text_of p =
-    two (p.year / 100) ++ two (p.year % 100) ++ 45 ∷ two p.month ++ 45 ∷ two p.day ++ p.separator ∷ two p.hour
-    ++ 58 ∷ two p.minute ++ 58 ∷ two p.second ++ fraction_text p.fraction ++ offset_text p.offset
+    two (p.year / 100) ++ two (p.year % 100) ++ codes "-" ++ two p.month ++ codes "-" ++ two p.day ++ p.separator ∷ two p.hour
+    ++ codes ":" ++ two p.minute ++ codes ":" ++ two p.second ++ fraction_text p.fraction ++ offset_text p.offset
 
--- the ranges of section 5.7, but for the second 60, which is refused
+-- a letter of either case: a small letter lies 32 above its capital
 abbrev pub IsLetter : ℕ → ℕ → Type 0
 IsLetter upper c = (c ≡ upper) ⊎ (c ≡ upper + 32)
 
+-- hours to 23 and minutes to 59, either way
 abbrev pub IsOffset : Offset → Type 0
 IsOffset (zulu c) = IsLetter 90 c
 IsOffset (ahead h m) = (h < 24) × (m < 60)
 IsOffset (behind h m) = (h < 24) × (m < 60)
 
+-- the ranges of section 5.7, but for the second 60, which is refused
 pub record IsInRanges (p : Parts) : Type 0 where
   pub year : p.year < 10_000
   pub date : IsCivilDate (pos p.year) p.month p.day
@@ -59,12 +63,13 @@ pub record IsInRanges (p : Parts) : Type 0 where
   pub fraction : All IsAsciiDigit p.fraction
   pub offset : IsOffset p.offset
 
--- the nanoseconds since 1970-01-01T00:00:00Z that the parts name; of the fraction nine digits count
+-- how many seconds the clock is ahead of UTC
 abbrev pub offset_seconds : Offset → ℤ
 offset_seconds (zulu c) = pos 0
 offset_seconds (ahead h m) = pos (h * 3600 + m * 60)
 offset_seconds (behind h m) = neg_ℤ (pos (h * 3600 + m * 60))
 
+-- the nanoseconds since 1970-01-01T00:00:00Z that the parts name; of the fraction nine digits count
 abbrev pub nanos_named : Parts → ℤ
 nanos_named p =
     nanos_of (days_from_civil (pos p.year) p.month p.day) (p.hour * 3600 + p.minute * 60 + p.second)

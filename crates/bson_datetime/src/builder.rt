@@ -2,8 +2,8 @@
 ghost use Rattle.std.specs.Prelude.{◌≡◌, ◌↔◌, None, Some, IsOk, IfOk, IfErr};
 ghost use Rattle.jiff.specs.Words.{IsEpochDay};
 ghost use Rattle.jiff_core.specs.Calendar.{IsCivilDate, days_from_civil};
-ghost use Rattle.bson_datetime.specs.Errors.{IsInvalidTimestamp};
-ghost use Rattle.bson_datetime.specs.Moment.{IsCivil, IsMoment, civil_of};
+ghost use Rattle.bson_datetime.specs.Errors.{IsInvalidFor, IsInvalidTimestamp};
+ghost use Rattle.bson_datetime.specs.Moment.{IsCivil, IsMoment, IsTimeOfDay, civil_of};
 
 use crate::error::Message;
 use crate::{DateTime, Error, Result};
@@ -190,12 +190,15 @@ impl DateTimeBuilder<Year, Month, Day> {
     ghost use Rattle.bson_datetime.specs.Builder.{told};
 
     /// The moment with the date and time that were set, on the proleptic Gregorian calendar. `InvalidTimestamp` exactly
-    /// where one of them is out of its range, or the month hasn't that day.
+    /// where one of them is out of its range, or the month hasn't that day: with the message `NoSuchTime` where the
+    /// time of day is out of range, else with `NoSuchDay`.
     pub fn build(self) -> Result<DateTime>
         ensures exists { IsOk result ↔ IsCivil (told self) }
         ensures value { IfOk result (λ ms. IsMoment ms (told self)) }
         ensures fields { IfOk result (λ ms. civil_of ms ≡ told self) }
         ensures err { IfErr result IsInvalidTimestamp }
+        ensures time { ¬ (IsTimeOfDay (told self)) → IfErr result (IsInvalidFor Message.NoSuchTime) }
+        ensures day { IsTimeOfDay (told self) → IfErr result (IsInvalidFor Message.NoSuchDay) }
     {
         let hour = self.hour.unwrap_or(0);
         let minute = self.minute.unwrap_or(0);
@@ -216,7 +219,7 @@ fn day_number(year: i32, month: u8, day: u8) -> Result<i64>
     ensures exists { IsOk result ↔ IsCivilDate year month day }
     ensures value { IfOk result (λ n. n ≡ days_from_civil year month day) }
     ensures bound { IfOk result IsEpochDay }
-    ensures err { IfErr result IsInvalidTimestamp }
+    ensures err { IfErr result (IsInvalidFor Message.NoSuchDay) }
 {
     if year < -9999 || year > 9999 || month > 12 || day > 31 {
         return Err(NO_SUCH_DAY);

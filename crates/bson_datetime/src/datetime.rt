@@ -2,7 +2,7 @@
 ghost use Rattle.std.specs.Prelude.{◌≡◌, ◌↔◌, pos, ℤ, ◌+ℤ◌, ◌-ℤ◌, ◌<ℤ◌, IsSome, IsNone, IfSome};
 ghost use Rattle.std.specs.Int.{saturate_signed, w64};
 ghost use Rattle.std.specs.Duration.{as_nanos};
-ghost use Rattle.bson_datetime.specs.Moment.{IsMoment, IsCivilMillis, civil_of};
+ghost use Rattle.bson_datetime.specs.Moment.{Civil, IsMoment, IsCivilMillis, civil_of};
 ghost use Rattle.bson_datetime.specs.Sums.{sum_with, millis_since, nanos_of_millis};
 ghost use Rattle.bson_datetime.specs.JiffSteps.{IsJiffMoment};
 
@@ -35,10 +35,10 @@ impl Model for DateTime {
 impl DateTime {
     ghost use Rattle.bson_datetime.specs.Builder.{unset};
 
-    /// The last moment.
+    /// The last moment: 2^63 - 1 milliseconds after 1970-01-01T00:00:00Z.
     pub const MAX: DateTime = DateTime { millis: i64::MAX };
 
-    /// The first moment.
+    /// The first moment: 2^63 milliseconds before 1970-01-01T00:00:00Z.
     pub const MIN: DateTime = DateTime { millis: i64::MIN };
 
     /// A builder with nothing set.
@@ -57,7 +57,12 @@ impl DateTime {
 
     /// The milliseconds since 1970-01-01T00:00:00Z, negative before it.
     pub fn timestamp_millis(self) -> i64
-        ensures { result ≡ self }
+        ensures value { result ≡ self }
+
+        // A moment of the years -9999 to 9999 has a date and time, which its texts show; it has only one, and
+        // no other moment has any.
+        ensures exists { IsCivilMillis self → IsMoment self (civil_of self) }
+        ensures only { (c : Civil) → IsMoment self c → IsCivilMillis self × (civil_of self ≡ c) }
     {
         self.millis
     }
@@ -66,8 +71,10 @@ impl DateTime {
     pub fn saturating_add_millis(self, millis: i64) -> DateTime
         ensures { result ≡ saturate_signed w64 (self +ℤ millis) }
     {
-        DateTime {
-            millis: self.millis.saturating_add(millis),
+        match self.millis.checked_add(millis) {
+            Some(sum) => DateTime { millis: sum },
+            None if millis < 0 => DateTime::MIN,
+            None => DateTime::MAX,
         }
     }
 
@@ -77,7 +84,7 @@ impl DateTime {
     {
         let sum = self.millis as i128 + duration.as_millis() as i128;
         DateTime {
-            millis: sum.min(i64::MAX as i128) as i64,
+            millis: sum.min(DateTime::MAX.millis as i128) as i64,
         }
     }
 
@@ -116,12 +123,12 @@ impl DateTime {
 }
 
 impl DateTime {
-    ghost use Rattle.std.specs.Prelude.{Ok, OnOk, IfOk, IfErr, string_bytes, ◌⊎◌};
-    ghost use Rattle.bson_datetime.specs.Moment.{Civil, IsRfcMillis};
-    ghost use Rattle.bson_datetime.specs.Rfc3339.{Denotes};
+    ghost use Rattle.std.specs.Prelude.{Ok, Some, OnOk, IfOk, IfErr, string_bytes, ◌⊎◌};
+    ghost use Rattle.bson_datetime.specs.Moment.{IsRfcMillis};
+    ghost use Rattle.bson_datetime.specs.Rfc3339.{denoted};
     ghost use Rattle.bson_datetime.specs.Grammar.{Names};
     ghost use Rattle.bson_datetime.specs.Shown.{rfc, rfc_text};
-    ghost use Rattle.bson_datetime.specs.Errors.{IsCannotFormat, IsOutOfMemory, IsInvalidTimestamp};
+    ghost use Rattle.bson_datetime.specs.Errors.{IsCannotFormat, IsInvalidFor, IsInvalidTimestamp, IsOutOfMemory};
 
     /// The RFC 3339 text (section 5.6) in UTC, as `1998-02-12T00:01:00.023Z`: the fraction without zeros at its end, and
     /// none where it is zero. The text reads back as this moment.
@@ -130,7 +137,7 @@ impl DateTime {
     pub fn try_to_rfc3339_string(self, alloc: Global) -> Result<String>
         ensures ok { IfOk result (λ text. string_bytes text ≡ rfc self) }
         ensures fields { IfOk result (λ text. (c : Civil) → IsMoment self c → string_bytes text ≡ rfc_text c) }
-        ensures reads_back { IfOk result (λ text. Denotes (string_bytes text) self) }
+        ensures reads_back { IfOk result (λ text. Names (string_bytes text) self) }
 
         ensures in_years { OnOk result (IsRfcMillis self) }
         ensures err { IfErr result (λ e. (IsCannotFormat e × ¬ (IsRfcMillis self)) ⊎ IsOutOfMemory e) }
@@ -152,11 +159,13 @@ impl DateTime {
     /// T and Z may be small letters. Of the fraction nine digits count, and the nanoseconds since 1970-01-01T00:00:00Z
     /// are cut to milliseconds towards zero. `InvalidTimestamp` exactly for every other text, a second of 60 among them.
     pub fn parse_rfc3339_str(text: &str) -> Result<DateTime>
-        ensures ok { IfOk result (λ ms. Denotes text.now ms) }
-        ensures refused { IfErr result (λ e. IsInvalidTimestamp e × ((ms : ℤ) → ¬ (Denotes text.now ms))) }
+        ensures ok { IfOk result (λ ms. Names text.now ms) }
+        ensures refused { IfErr result (λ e. IsInvalidTimestamp e × ((ms : ℤ) → ¬ (Names text.now ms))) }
+        ensures message { IfErr result (IsInvalidFor Message.NotRfc3339) }
 
-        // A text denotes the moment that its parts name.
-        ensures grammar { (ms : ℤ) → Denotes text.now ms ↔ Names text.now ms }
+        // A text names one moment at most, and `denoted`, which reads it from its front, gives that one.
+        ensures one { (a b : ℤ) → Names text.now a → Names text.now b → a ≡ b }
+        ensures grammar { (ms : ℤ) → (denoted text.now ≡ Some ms) ↔ Names text.now ms }
 
         // Every moment of the years 0000 to 9999 comes back from its text.
         ensures round_trip { (ms : ℤ) → IsRfcMillis ms → text.now ≡ rfc ms → result ≡ Ok ms }

@@ -1,5 +1,5 @@
 -- The grammar of the finite texts, and the number that each denotes.
-use Rattle.std.specs.Prelude.{◌≡◌, ℕ, ◌<◌, ℤ, pos, neg_ℤ, ◌-ℤ◌, Bool, true, false, ◌⊎◌, List, [], ◌∷◌, ◌++◌, length, Option, Some, None, if◌then◌else◌, ⊤, drop, ◌==◌}
+use Rattle.std.specs.Prelude.{◌≡◌, ℕ, ◌<◌, ℤ, pos, neg_ℤ, ◌-ℤ◌, Bool, true, false, ◌⊎◌, List, [], ◌∷◌, ◌++◌, length, Option, Some, None, if◌then◌else◌, ⊤, drop, ◌==◌, codes}
 use Rattle.std.specs.List.{prefix_len}
 use Rattle.std.specs.Str.Parse.{AllDigits, digits_value}
 
@@ -11,8 +11,8 @@ pub data Sign : Type 0 where
 
 abbrev pub sign_bytes : Sign → List ℕ
 sign_bytes none = []
-sign_bytes plus = 43 ∷ []
-sign_bytes minus = 45 ∷ []
+sign_bytes plus = codes "+"
+sign_bytes minus = codes "-"
 
 abbrev pub is_minus : Sign → Bool
 is_minus none = false
@@ -37,7 +37,7 @@ fraction_digits (Some ds) = ds
 
 abbrev pub fraction_bytes : Option (List ℕ) → List ℕ
 fraction_bytes None = []
-fraction_bytes (Some ds) = 46 ∷ ds
+fraction_bytes (Some ds) = codes "." ++ ds
 
 abbrev pub exponent_bytes : Exponent → List ℕ
 exponent_bytes unwritten = []

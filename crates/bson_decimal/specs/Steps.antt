@@ -83,7 +83,7 @@ scaled_exponent x fraction =
     else (if nat_lt x (length fraction) then Err Underflow
     else Ok (x - length fraction))
 
--- the digits that are kept, the exponent, and the number of zeros to add
+-- the second step, where the first found no fault
 abbrev pub bind : {A B : Type 0} → Result A ParseError → (A → Result B ParseError) → Result B ParseError
 bind (Ok x) f = f x
 bind (Err e) f = Err e

@@ -150,10 +150,10 @@ impl fmt::Display for Decimal128 {
             } => {
                 let mut buffer = [0; 34];
                 let start = write_digits(coefficient, &mut buffer);
-                let Ok(digits) = str::from_utf8(&buffer[start..]) else {
-                    return Err(fmt::Error);
-                };
-                write_signed(f, negative, digits, stored_exponent)
+                match str::from_utf8(&buffer[start..]) {
+                    Ok(digits) => write_signed(f, negative, digits, stored_exponent),
+                    Err(_) => unreachable!(),
+                }
             }
         }
     }

@@ -22,7 +22,8 @@ use std::str::FromStr;
 /// value, the answer is the one whose exponent is nearest to the written one less the number of
 /// digits after the point. So `1.50` keeps its zero, and a text whose value has no such pair is
 /// refused, never rounded (IEEE 754-2008, section 5.12). A `nan` is quiet, an `snan` signals, and
-/// each keeps its sign.
+/// each keeps its sign. A text past the limits of 16 bits, in items 1 to 3 below, is refused
+/// whatever its value.
 ///
 /// Where a text is refused, its first fault is told, in this order:
 /// 1. nothing after the `e` or `E` (`EmptyExponent`), or no exponent there (`InvalidExponent`);
@@ -30,9 +31,11 @@ use std::str::FromStr;
 /// 3. leading zeros dropped, past the 34th byte: a cut inside a character (`Unparseable`), another
 ///    character than `0` (`InexactRounding`), more than 32767 bytes, or an exponent above 32767
 ///    with them (`Overflow`);
-/// 4. an exponent below -6176: more bytes to drop than there are (`Underflow`), a cut inside a
-///    character (`Unparseable`), another character than `0` dropped (`InexactRounding`);
-/// 5. an exponent above 6111, and no room for the zeros that lower it (`Overflow`);
+/// 4. an exponent below -6176, where not all was leading zeros: more bytes to drop than there are
+///    (`Underflow`), a cut inside a character (`Unparseable`), another character than `0` dropped
+///    (`InexactRounding`);
+/// 5. an exponent above 6111, where not all was leading zeros, and no room for the zeros that lower
+///    it (`Overflow`);
 /// 6. other characters than digits, or no digit (`InvalidCoefficient`).
 impl FromStr for Decimal128 {
     type Err = ParseError;

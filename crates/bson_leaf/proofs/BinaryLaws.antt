@@ -11,6 +11,7 @@ use Rattle.base64.proofs.EngineFacts.{decode_of-encode_of}
 use Rattle.bson_scalar.specs.Base64.{base64_text}
 use Rattle.bson_scalar.specs.Orders.{parsed_hyphenated}
 use Rattle.bson_scalar.specs.Subtype.{subtype_byte, subtype_of}
+use Rattle.bson_scalar.proofs.HexLaws.{sized_from}
 use Rattle.serde_json.specs.Data.{Data}
 use Rattle.bson_leaf.specs.Means.{MeansScalar, binary, uuid}
 use Rattle.bson_leaf.specs.Reading.{binary_read, uuid_read, byte_of, bytes_of, only_byte}
@@ -55,7 +56,7 @@ binary_from d x h =
     let bs = some_then (bytes_of b.0) _ x k.2 in
     let n = some_then (byte_of k.0) _ x bs.2 in
     means_by (codes "$binary") d _ x _ (a.2 ∙ two_same (codes "base64") (codes "subType") b.1 k.1) (un_ok _ _ n.2)
-    (binary b.0 k.0 bs.0 n.0 (bytes_are _ bs.0 bs.1) (byte_is _ n.0 n.1))
+    (binary b.0 k.0 bs.0 n.0 (bytes_are _ bs.0 bs.1) (sized_from 1 k.0 (n.0 ∷ []) (byte_is _ n.0 n.1)).0)
 
 pub uuid_from : (d : Data) (x : Scalar) → uuid_read d ≡ Ok x → MeansScalar (one (codes "$uuid") d) x
 uuid_from d x h =

@@ -6,6 +6,7 @@ use Rattle.std.proofs.lemmas.Bool.Decides.{nat_tests}
 use Rattle.jiff.proofs.SpanFacts.{signed_arith}
 use Rattle.bson_datetime.specs.Rfc3339.{denoted, IsRfcMillis}
 use Rattle.bson_datetime.specs.Shown.{rfc}
+use Rattle.bson_datetime.proofs.GrammarLemmas.{denotes-names}
 use Rattle.bson_datetime.proofs.RoundTrip.{denoted-rfc}
 use Rattle.serde_json.specs.Data.{Data}
 use Rattle.serde_json.specs.Data as tree
@@ -21,7 +22,7 @@ millis_from : (d : Data) (z : ℤ) → millis_of d ≡ Ok z → MeansScalar (one
 millis_from tree.null z h = cc
 millis_from (tree.boolean b) z h = cc
 millis_from (tree.number n) z h = date_of_number n z (or_bad_ok _ z h)
-millis_from (tree.string s) z h = date_of_text s z (or_bad_ok _ z h)
+millis_from (tree.string s) z h = date_of_text s z ((denotes-names s z).0 (or_bad_ok _ z h))
 millis_from (tree.array ds) z h = cc
 millis_from (tree.object ms) z h =
     let a = lone_then (codes "$numberLong") (tree.object ms) _ z h in

@@ -34,6 +34,8 @@ use Rattle.bson_leaf.specs.declared.wrapper.Wrapper.TheVariants.{Oid, Symbol, Re
 use Rattle.bson_leaf.proofs.InverseLemmas as inverse
 use Rattle.bson_leaf.proofs.IntText.{fits_true, int_of_some}
 use Rattle.bson_leaf.proofs.BinaryLaws.{binary_from, uuid_from, bytes_again, byte_again, subtype_byte-of}
+use Rattle.bson_datetime.proofs.GrammarLemmas.{denotes-names}
+use Rattle.bson_scalar.proofs.HexLaws.{sized_to}
 use Rattle.bson_leaf.proofs.DateLaws.{date_from, recent_denoted}
 use Rattle.bson_leaf.proofs.DecimalLaws.{decimal_from, decimal_of-some, decimal_of-printed, canon-again}
 use Rattle.bson_leaf.proofs.DoubleLaws.{double_from, double_form, double_text-form, double_again, nan_form-again, special_is}
@@ -132,13 +134,13 @@ scalar_to (means.symbol s) = refl
 scalar_to (means.code s) = refl
 scalar_to (means.code_without_scope s) = refl
 scalar_to (means.regular_expression p o) = refl
-scalar_to (means.oid s id is) = rw is refl
-scalar_to (means.db_pointer name s id is) = rw is refl
+scalar_to (means.oid s id is) = rw (sized_to 12 s id is.0 is.1) refl
+scalar_to (means.db_pointer name s id is) = rw (sized_to 12 s id is.0 is.1) refl
 scalar_to (means.timestamp i t m n i_is t_is) = rw (i_is, t_is) refl
 scalar_to (means.date_of_millis s z is) = rw (int_of_some w64 s z is) refl
-scalar_to (means.date_of_text s z is) = rw is refl
+scalar_to (means.date_of_text s z is) = rw ((denotes-names s z).1 is) refl
 scalar_to (means.date_of_number n z is) = rw is refl
-scalar_to (means.binary s k bytes n is byte) = rw (is, byte) refl
+scalar_to (means.binary s k bytes n is at) = rw (is, sized_to 1 k (n ∷ []) at refl) refl
 scalar_to (means.uuid s id is) = rw is refl
 scalar_to (means.min_key d is) = rw is refl
 scalar_to (means.max_key d is) = rw is refl
@@ -151,7 +153,7 @@ scalar_one t x y h g = inverse.un_ok _ _ (sym (scalar_to g) ∙ scalar_to h)
 pub scalar_form : {t : Data} {x : Scalar} → MeansScalar t x → IsReadForm x
 scalar_form (means.number_double s p is) = double_form s p is
 scalar_form (means.regular_expression p o) = (refl, ap (regex p) (sorted_text-again o))
-scalar_form (means.binary s k bytes n is byte) = (refl, ap (λ m. binary (subtype_of m) bytes) (subtype_byte-of n))
+scalar_form (means.binary s k bytes n is at) = (refl, ap (λ m. binary (subtype_of m) bytes) (subtype_byte-of n))
 scalar_form (means.number_decimal s b is) = (refl, tt)
 scalar_form means.null = (refl, refl)
 scalar_form (means.boolean b) = (refl, refl)

@@ -2,8 +2,9 @@
 -- Read and written: {"$binary": {"base64": "aGVsbG8=", "subType": "00"}}.
 -- `$uuid`: the hyphenated text of a UUID (RFC 9562 section 4), read alone:
 -- {"$uuid": "00112233-4455-6677-8899-aabbccddeeff"}.
-use Rattle.std.specs.Prelude.{◌≡◌, ℕ, List, [], ◌∷◌, codes, Some, Ok}
-use Rattle.hex.specs.Hex.{decode_sized, encode_lower}
+use Rattle.std.specs.Prelude.{◌≡◌, ℕ, List, [], ◌∷◌, codes, Some}
+use Rattle.hex.specs.Hex.{encode_lower}
+use Rattle.bson_scalar.specs.HexText.{IsHexText}
 use Rattle.bson_scalar.specs.Base64.{base64_text}
 use Rattle.bson_scalar.specs.Orders.{parsed_hyphenated}
 use Rattle.bson_scalar.specs.Subtype.{subtype_byte}
@@ -16,7 +17,7 @@ use Rattle.bson_leaf.specs.declared.wrapper.Wrapper.TheVariants.{Binary}
 
 -- two hexadecimal digits of either case
 abbrev pub IsByteText : List ℕ → ℕ → Type 0
-IsByteText s n = decode_sized s 1 ≡ Ok (n ∷ [])
+IsByteText s n = IsHexText s (n ∷ [])
 
 -- the digits are written in lower case
 abbrev pub binary_tree : BinarySubtype → List ℕ → Data

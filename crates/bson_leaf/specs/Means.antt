@@ -10,7 +10,7 @@ use Rattle.bson_scalar.specs.Oid.{IsOidText}
 use Rattle.bson_scalar.specs.Regex.{sorted_text}
 use Rattle.bson_scalar.specs.Subtype.{subtype_of}
 use Rattle.bson_scalar.specs.declared.spec.BinarySubtype.TheVariants.{Uuid}
-use Rattle.bson_datetime.specs.Rfc3339.{Denotes}
+use Rattle.bson_datetime.specs.Grammar.{Names}
 use Rattle.bson_decimal.specs.Text.{Parses}
 use Rattle.bson_leaf.specs.Binaries.{IsByteText, IsHyphenatedText}
 use Rattle.bson_leaf.specs.Doubles.{double_of}
@@ -48,7 +48,7 @@ pub data MeansScalar : Data → Scalar → Type 0 where
       → MeansScalar (one (codes "$timestamp") (two (codes "i") i (codes "t") t)) (kind.timestamp n m)
   date_of_millis : (s : List ℕ) (z : ℤ) → IsIntText w64 s z
       → MeansScalar (one (codes "$date") (one (codes "$numberLong") (tree.string s))) (kind.date z)
-  date_of_text : (s : List ℕ) (z : ℤ) → Denotes s z → MeansScalar (one (codes "$date") (tree.string s)) (kind.date z)
+  date_of_text : (s : List ℕ) (z : ℤ) → Names s z → MeansScalar (one (codes "$date") (tree.string s)) (kind.date z)
   date_of_number : (n : Num) (z : ℤ) → as_i64 n ≡ Some z → MeansScalar (one (codes "$date") (tree.number n)) (kind.date z)
   binary : (s k bytes : List ℕ) (n : ℕ) → IsBase64 s bytes → IsByteText k n
       → MeansScalar (one (codes "$binary") (two (codes "base64") (tree.string s) (codes "subType") (tree.string k)))

@@ -1,4 +1,4 @@
--- A moment that a text denotes is in the range of an i64.
+-- A moment that a text names is in the range of an i64.
 use Rattle.std.proofs.Common.{◌<◌, ◌+◌, ◌-◌, ◌*◌, ◌^◌, ℕ, zero, suc, ℤ, pos, List, [], ◌∷◌, refl, sym, subst, w64, arith}
 use Rattle.std.specs.Prelude.{FitsSigned, int_div}
 use Rattle.std.specs.Char.{IsAsciiDigit}
@@ -10,9 +10,8 @@ use Rattle.jiff.specs.Types.{Date}
 use Rattle.jiff_core.proofs.DateLemmas.{epoch_day_range}
 use Rattle.jiff_fmt.specs.Reader.{fraction_value}
 use Rattle.jiff_fmt.proofs.ReaderLemmas.{tenth, ten_pow-pos}
-use Rattle.bson_datetime.specs.Rfc3339.{Denotes, nanos_of}
-use Rattle.bson_datetime.specs.Grammar.{Offset, zulu, ahead, behind, IsOffset, offset_seconds}
-use Rattle.bson_datetime.proofs.GrammarLemmas.{denotes-names}
+use Rattle.bson_datetime.specs.Rfc3339.{nanos_of}
+use Rattle.bson_datetime.specs.Grammar.{Names, Offset, zulu, ahead, behind, IsOffset, offset_seconds}
 
 day_range : (y m d : ℕ) → IsCivilDate (pos y) m d → IsEpochDay (days_from_civil (pos y) m d)
 day_range y m d is =
@@ -37,9 +36,8 @@ fraction_small (suc k) (d ∷ ds) are =
     let rest = fraction_small k ds (λ i x before. are (suc i) x (omega (arith, before))) in
     omega (arith, mul-add-lt (d - 48) (10 ^ k) (fraction_value k ds) 10 worth rest, tenth (suc k) k refl)
 
-pub denoted_fits : (s : List ℕ) (z : ℤ) → Denotes s z → FitsSigned w64 z
-denoted_fits s z h =
-    let n = (denotes-names s z).0 h in
+pub named_fits : (s : List ℕ) (z : ℤ) → Names s z → FitsSigned w64 z
+named_fits s z n =
     let p = n.parts in
     let r = n.in_ranges in
     let hour : p.hour < 24 = r.hour in

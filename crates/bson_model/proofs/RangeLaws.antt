@@ -14,7 +14,8 @@ use Rattle.bson_model.specs.Means.{Means, scalar, code_with_scope, array, docume
 use Rattle.bson_model.specs.Texts.{NumberFits, IsTree, ItemsAreTrees, MembersAreTrees}
 use Rattle.bson_model.specs.Writing.{InRange, ItemsInRange, PairsInRange}
 use Rattle.bson_model.proofs.ByteRanges.{hex_bytes, base64_bytes, hyphenated_bytes}
-use Rattle.bson_model.proofs.DateRange.{denoted_fits}
+use Rattle.bson_scalar.proofs.HexLaws.{sized_to}
+use Rattle.bson_model.proofs.DateRange.{named_fits}
 
 un_some : {A : Type 0} (x y : A) → Some x ≡ Some y → x ≡ y
 un_some x y h = cc
@@ -54,19 +55,19 @@ double_at false false false false false false p h = absurd cc
 scalar_range : {t : Data} {x : Scalar} → MeansScalar t x → IsTree t → ScalarInRange x
 scalar_range (narrow_number n z is fits) t = fits
 scalar_range (wide_number n z is wide) t = whole_fits n z t is
-scalar_range (oid s id is) t = hex_bytes s 12 id is
+scalar_range (oid s id is) t = hex_bytes s 12 id (sized_to 12 s id is.0 is.1)
 scalar_range (number_int s z is) t = is.2
 scalar_range (number_long s z is) t = is.2
 scalar_range (number_double s p is) t = double_at _ _ _ _ _ _ p is
 scalar_range (binary s k bytes n is byte) t =
-    let fits : n < 256 = (hex_bytes k 1 (n ∷ []) byte).1 0 in
+    let fits : n < 256 = (hex_bytes k 1 (n ∷ []) (sized_to 1 k (n ∷ []) byte refl)).1 0 in
     (subst (λ m. m < 256) (sym (subtype_byte-of n)) fits, base64_bytes s bytes is)
 scalar_range (uuid s id is) t = let byte : 4 < 256 = omega arith in (byte, hyphenated_bytes s id is)
 scalar_range (timestamp i e m n i_is e_is) t = (small_range (whole e) n e_is, small_range (whole i) m i_is)
 scalar_range (date_of_millis s z is) t = is.2
-scalar_range (date_of_text s z is) t = denoted_fits s z is
+scalar_range (date_of_text s z is) t = named_fits s z is
 scalar_range (date_of_number n z is) t = whole_fits n z t.1.0 is
-scalar_range (db_pointer name s id is) t = hex_bytes s 12 id is
+scalar_range (db_pointer name s id is) t = hex_bytes s 12 id (sized_to 12 s id is.0 is.1)
 scalar_range _ t = tt
 
 -- ---- values

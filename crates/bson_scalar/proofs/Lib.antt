@@ -5,3 +5,5 @@ pub mod IdOrder
 pub mod Sorting
 pub mod SortedText
 pub mod IdOrderParts
+pub mod HexLaws
+pub mod Base64Laws

@@ -1,16 +1,18 @@
 -- A vector's bytes tell what it holds.
-use Rattle.std.proofs.Common.{◌≡◌, ◌<◌, ◌≤◌, ◌^◌, ◌%◌, ◌-◌, ℕ, ℤ, List, [], ◌∷◌, length, map, get_or, take, drop, false, refl, sym, ap, ap₂, ◌∙◌, arith, w8, w32, FitsSigned}
+use Rattle.std.proofs.Common.{◌≡◌, ◌<◌, ◌≤◌, ◌^◌, ◌%◌, ◌-◌, ℕ, ℤ, List, [], ◌∷◌, length, map, get_or, take, drop, false, refl, sym, ap, ap₂, ◌∙◌, arith, w8, w32, Fits, FitsSigned, suc}
 use Rattle.std.specs.Int.{cast_signed, cast_unsigned, from_le_bytes}
 use Rattle.std.specs.List.{AllByRecursion}
-use Rattle.std.proofs.lemmas.Int.{to_z-of_z}
+use Rattle.std.proofs.lemmas.Int.{to_z-of_z, of_z-to_z}
+use Rattle.std.proofs.Math.Facts.{sfits_to_z}
 use Rattle.std.proofs.lemmas.Nat.{from_le_bytes-to_le_bytes_4}
 use Rattle.std.proofs.Math.Seq.{take-length}
-use Rattle.std.specs.Prelude.{Result, Ok, Err, IfOk}
+use Rattle.std.specs.Prelude.{Result, Ok, Err, IfOk, OnOk}
 use Rattle.bson_scalar.specs.declared.binary.Error.{Error}
 use Rattle.bson_scalar.specs.declared.vector.Vector.{Vector}
 use Rattle.bson_scalar.specs.declared.vector.Vector.TheVariants.{Int8, Float32, PackedBit}
+use Rattle.bson_scalar.specs.Oid.{IsBytes}
 use Rattle.bson_scalar.specs.Vectors.{is_vector_of_any_bits, le_bytes_of, vector_bytes}
-use Rattle.bson_scalar.specs.VectorData.{VectorData, IsInRange, IsOnlyOne, data_bytes, vector_view, int8, float32, packed}
+use Rattle.bson_scalar.specs.VectorData.{VectorData, IsInRange, IsOnlyOne, data_bytes, vector_held, vector_view, int8, float32, packed}
 
 head_is : {X : Type 0} (x y : X) (xs ys : List X) → x ∷ xs ≡ y ∷ ys → x ≡ y
 head_is x y xs ys h = cc
@@ -87,3 +89,42 @@ only_one v bytes range is = λ w in_range same. one_vector w (vector_view v) in_
 pub only_one-read : (r : Result Vector Error) (bytes : List ℕ) → IfOk r (λ v. vector_bytes v ≡ bytes) → IfOk r (λ v. IsInRange (vector_view v)) → IfOk r (λ v. IsOnlyOne bytes (vector_view v))
 only_one-read (Ok v) bytes is range = only_one v bytes range is
 only_one-read (Err e) bytes is range = tt
+
+-- ---- what a vector holds, each number in the range of its type
+
+fits_byte : (n : ℕ) → n < 256 → Fits w8 n
+fits_byte n small = record { fits = small }
+
+-- bytes and their signed forms
+held_range : (ns : List ℕ) → IsBytes ns → AllByRecursion (FitsSigned w8) (map (cast_signed w8) ns)
+held_range [] are = tt
+held_range (n ∷ ns) are = (sfits_to_z (fits_byte n (are 0)), held_range ns (λ i. are (suc i)))
+
+int8_held : (zs : List ℤ) → IsBytes (map (cast_unsigned w8) zs) → IsInRange (int8 (map (cast_signed w8) (map (cast_unsigned w8) zs)))
+int8_held zs are = held_range (map (cast_unsigned w8) zs) are
+
+pub int8_held_ok : {X Y : Type 0} (r : Result X Y) (zs : List ℤ) → OnOk r (IsBytes (map (cast_unsigned w8) zs))
+    → OnOk r (IsInRange (int8 (map (cast_signed w8) (map (cast_unsigned w8) zs))))
+int8_held_ok (Ok x) zs are = int8_held zs are
+int8_held_ok (Err e) zs are = tt
+
+held_back : (ns : List ℕ) → IsBytes ns → map (cast_unsigned w8) (map (cast_signed w8) ns) ≡ ns
+held_back [] are = refl
+held_back (n ∷ ns) are =
+    let first : cast_unsigned w8 (cast_signed w8 n) ≡ n = of_z-to_z w8 n (fits_byte n (are 0)).fits in
+    rw first (ap (λ xs. n ∷ xs) (held_back ns (λ i. are (suc i))))
+
+-- the bytes after the first two
+two_less : (x y : ℕ) (ns : List ℕ) → IsBytes (x ∷ y ∷ ns) → IsBytes ns
+two_less x y ns are = λ i. are (suc (suc i))
+
+same_held : (v : Vector) → IsBytes (vector_bytes v) → data_bytes (vector_held v) ≡ vector_bytes v
+same_held (Int8 v) are = ap (λ xs. 3 ∷ 0 ∷ xs) (held_back (map (cast_unsigned w8) v.items) (two_less 3 0 _ are))
+same_held (Float32 v) are = refl
+same_held (PackedBit v) are = refl
+
+-- a vector is the only one of its bytes
+pub only_held : (v : Vector) (bytes : List ℕ) → IsBytes bytes → IsInRange (vector_held v) → vector_bytes v ≡ bytes → IsOnlyOne bytes (vector_held v)
+only_held v bytes are range is =
+    let back = same_held v (rw is are) in
+    λ w in_range same. one_vector w (vector_held v) in_range range (same ∙ sym is ∙ sym back)

@@ -7,6 +7,7 @@ pub mod Packed
 pub mod Vectors
 pub mod Shown
 pub mod VectorData
+pub mod HexText
 pub mod Oid
 pub mod OidFault
 pub mod Regex

@@ -1,10 +1,11 @@
 -- What a vector holds, and that its bytes tell it.
 use Rattle.std.specs.Prelude.{◌≡◌, ◌<◌, ◌^◌, ℕ, ℤ, List, [], ◌∷◌, map, FitsSigned}
-use Rattle.std.specs.Int.{w8, cast_unsigned}
+use Rattle.std.specs.Int.{w8, cast_signed, cast_unsigned}
 use Rattle.std.specs.List.{AllByRecursion}
 use Rattle.bson_scalar.specs.Packed.{packed_bytes, packed_padding}
 use Rattle.bson_scalar.specs.IgnoredBits.{ignored_bits}
 use Rattle.bson_scalar.specs.Vectors.{le_bytes_of}
+use Rattle.bson_scalar.specs.declared.packed.PackedBitVector.{PackedBitVector}
 use Rattle.bson_scalar.specs.declared.vector.Vector.{Vector}
 use Rattle.bson_scalar.specs.declared.vector.Vector.TheVariants as vector
 
@@ -19,6 +20,16 @@ abbrev pub vector_view : Vector → VectorData
 vector_view (vector.Int8 v) = int8 v.items
 vector_view (vector.Float32 v) = float32 v.items
 vector_view (vector.PackedBit v) = packed (packed_bytes v) (packed_padding v)
+
+-- the same with each number of 8 bits as the one from -128 to 127 that has its byte: for a vector in range no other
+abbrev pub vector_held : Vector → VectorData
+vector_held (vector.Int8 v) = int8 (map (cast_signed w8) (map (cast_unsigned w8) v.items))
+vector_held (vector.Float32 v) = float32 v.items
+vector_held (vector.PackedBit v) = packed (packed_bytes v) (packed_padding v)
+
+-- what packed bits hold
+abbrev pub packed_view : PackedBitVector → VectorData
+packed_view v = packed (packed_bytes v) (packed_padding v)
 
 -- its bytes: type, padding, data
 abbrev pub data_bytes : VectorData → List ℕ

@@ -1,16 +1,18 @@
 //! Binaries: bytes with a subtype (BSON 1.1, type 0x05), their base64 texts (RFC 4648 section 4), and
 //! the UUIDs and vectors that they hold.
 ghost use Rattle.std.specs.Prelude.{◌≡◌, ◌≢◌, ◌⊎◌, ◌↔◌, ◌≤◌, ℕ, List, Some, IfErr, IfOk, IsOk, OnOk, length, true, unwrap_or, vec_len};
-ghost use Rattle.bson_scalar.specs.Base64.{IsBase64, base64_text};
+ghost use Rattle.bson_scalar.specs.Base64.{IsBase64, base64_text, padded_text};
+ghost use Rattle.bson_scalar.specs.Oid.{IsBytes};
 ghost use Rattle.bson_scalar.specs.Fault.{IsDecodingError, IsOutOfMemory};
 ghost use Rattle.bson_scalar.specs.Orders.{ordered, subtype_for};
-ghost use Rattle.bson_scalar.specs.VectorData.{IsInRange, IsOnlyOne, vector_view};
+ghost use Rattle.bson_scalar.specs.VectorData.{IsInRange, IsOnlyOne, vector_held, vector_view};
 ghost use Rattle.bson_scalar.specs.Vectors.{is_vector, vector_bytes};
 
 pub use crate::packed::PackedBitVector;
 use crate::spec::BinarySubtype;
 use crate::uuid_value::{self, Uuid, UuidRepresentation};
 pub use crate::vector::Vector;
+use crate::vector::are_bytes;
 use base64::engine::general_purpose::STANDARD;
 use std::alloc::{AllocError, Global};
 use std::fmt;
@@ -20,13 +22,30 @@ use std::fmt;
 pub enum Error {
     /// The text is no padded base64.
     #[error("{message}")]
-    DecodingError { message: &'static str },
+    DecodingError {
+        /// What is wrong, in words.
+        message: &'static str,
+    },
     /// The bytes, or the parts, are no vector's.
     #[error("{message}")]
-    Vector { message: &'static str },
+    Vector {
+        /// What is wrong, in words.
+        message: &'static str,
+    },
     /// A request for memory was refused.
     #[error("out of memory")]
     OutOfMemory,
+}
+
+impl From<AllocError> for Error {
+    ghost use Rattle.bson_scalar.specs.declared.binary.Error.TheVariants.{OutOfMemory};
+    ghost use Rattle.std.specs.Prelude.{◌≡◌};
+
+    ghost from_gives = { λ _ e. e ≡ OutOfMemory };
+
+    fn from(_refused: AllocError) -> Error {
+        Error::OutOfMemory
+    }
 }
 
 /// What a call on binaries and vectors answers.
@@ -49,14 +68,16 @@ impl Binary {
         ensures subtype { IfOk result (λ b. b.subtype ≡ unwrap_or subtype BinarySubtype.Generic) }
         ensures ok { IfOk result (λ b. IsBase64 text.now b.bytes.items) }
 
+        // Bytes have one text, the padded one of RFC 4648 section 4.
+        ensures standard { (bytes : List ℕ) → IsBytes bytes → IsBase64 text.now bytes ↔ (text.now ≡ padded_text bytes) }
+
         // No text that is base64 is refused.
         ensures err { IfErr result (λ e. IsOutOfMemory e ⊎ (IsDecodingError e × ((bytes : List ℕ) → ¬ (IsBase64 text.now bytes)))) }
     {
         let input = text.as_bytes();
+        are_bytes(input);
         let room = input.len() / 4 * 3 + 3;
-        let Ok(mut bytes) = vec![in alloc; 0u8; room] else {
-            return Err(Error::OutOfMemory);
-        };
+        let mut bytes = vec![in alloc; 0u8; room]?;
         match STANDARD.decode_slice_unchecked(input, bytes.as_mut_slice()) {
             Ok(len) => {
                 bytes.truncate(len);
@@ -114,10 +135,16 @@ impl Binary {
         // What reading back asks for, and gives.
         ensures readable { IfOk result (λ b. is_vector b.bytes.items ≡ true) }
         ensures only { IfOk result (λ b. IsInRange (vector_view vector.now) → IsOnlyOne b.bytes.items (vector_view vector.now)) }
+
+        // The same of any vector: `held` is `view` but for numbers of 8 bits that a clause has out of their range.
+        ensures ranged { OnOk result (IsInRange (vector_held vector.now)) }
+        ensures held { IfOk result (λ b. IsOnlyOne b.bytes.items (vector_held vector.now)) }
     {
+        let bytes = vector.to_bytes(alloc)?;
+        are_bytes(bytes.as_slice());
         Ok(Binary {
             subtype: BinarySubtype::Vector,
-            bytes: vector.to_bytes(alloc)?,
+            bytes,
         })
     }
 

@@ -20,13 +20,36 @@ pub enum Error {
     /// The first byte that is no hexadecimal digit: the character whose number is that byte, and its
     /// place, counted in bytes from 0.
     #[error("the character '{c}' at {index} in \"{hex}\" is no hexadecimal digit")]
-    InvalidHexStringCharacter { c: char, index: usize, hex: String },
+    InvalidHexStringCharacter {
+        /// The character whose number is the byte.
+        c: char,
+        /// The byte's place, counted from 0.
+        index: usize,
+        /// A copy of the text.
+        hex: String,
+    },
     /// A number of bytes other than 24.
     #[error("an object id has 24 digits, but \"{hex}\" has {length}")]
-    InvalidHexStringLength { length: usize, hex: String },
+    InvalidHexStringLength {
+        /// The number of bytes of the text.
+        length: usize,
+        /// A copy of the text.
+        hex: String,
+    },
     /// No memory was found for the copy of the text.
     #[error("out of memory")]
     OutOfMemory,
+}
+
+impl From<AllocError> for Error {
+    ghost use Rattle.bson_scalar.specs.declared.oid.Error.TheVariants.{OutOfMemory};
+    ghost use Rattle.std.specs.Prelude.{◌≡◌};
+
+    ghost from_gives = { λ _ e. e ≡ OutOfMemory };
+
+    fn from(_refused: AllocError) -> Error {
+        Error::OutOfMemory
+    }
 }
 
 /// What a call on object ids answers.

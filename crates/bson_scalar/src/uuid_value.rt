@@ -13,19 +13,24 @@ pub enum Error {
     /// The text is no UUID.
     #[error("{message}")]
     InvalidUuidString {
+        /// What is wrong, in words.
         message: &'static str,
     },
     /// The binary has another subtype than the requested representation is stored with.
     #[error("the subtype {actual_binary_subtype:?} is not {expected_binary_subtype:?}, which {requested_representation:?} \
          has")]
     RepresentationMismatch {
+        /// The subtype that the representation is stored with.
         expected_binary_subtype: BinarySubtype,
+        /// The subtype of the binary.
         actual_binary_subtype: BinarySubtype,
+        /// The representation that was asked for.
         requested_representation: UuidRepresentation,
     },
     /// The binary has another number of bytes than 16.
     #[error("a UUID has 16 bytes, not {length}")]
     InvalidLength {
+        /// The number of its bytes.
         length: usize,
     },
 }

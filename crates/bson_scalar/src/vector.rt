@@ -2,11 +2,12 @@
 ghost use Rattle.std.specs.Prelude.{◌≡◌, ◌≢◌, [], ◌∷◌, ◌⊎◌, ◌<◌, ◌^◌, ◌%◌, FitsSigned, IfErr, IfOk, OnOk, false, length, map, true};
 ghost use Rattle.std.specs.Int.{cast_signed, cast_unsigned, w8};
 ghost use Rattle.std.specs.List.{AllByRecursion};
+ghost use Rattle.bson_scalar.specs.Oid.{IsBytes};
 ghost use Rattle.bson_scalar.specs.Fault.{IsOutOfMemory, IsVectorError};
 ghost use Rattle.bson_scalar.specs.Packed.{packed_bytes, packed_padding};
 ghost use Rattle.bson_scalar.specs.IgnoredBits.{cleared};
 ghost use Rattle.bson_scalar.specs.Vectors.{is_vector, is_vector_of_any_bits, le_bytes_of, vector_bytes, vector_cleared};
-ghost use Rattle.bson_scalar.specs.VectorData.{IsInRange, IsOnlyOne, packed, vector_view};
+ghost use Rattle.bson_scalar.specs.VectorData.{IsInRange, IsOnlyOne, packed, packed_view, vector_held, vector_view};
 
 use crate::binary::{Binary, Error, Result};
 use crate::packed::PackedBitVector;
@@ -114,6 +115,7 @@ impl Vector {
     pub(crate) fn to_bytes(&self, alloc: Global) -> Result<Vec<u8>, AllocError>
         ensures bytes { IfOk result (λ v. v.items ≡ vector_bytes self.now) }
         ensures readable { OnOk result (is_vector (vector_bytes self.now) ≡ true) }
+        ensures ranged { OnOk result (IsInRange (vector_held self.now)) }
     {
         match self {
             Vector::Int8(items) => int8_bytes(alloc, items.as_slice()),
@@ -213,7 +215,13 @@ fn words(alloc: Global, contents: &[u8]) -> Result<Vec<u32>>
     Ok(words)
 }
 
-// What the type says of numbers.
+// What the types say of numbers.
+pub(crate) fn are_bytes(bytes: &[u8])
+    ensures { IsBytes bytes.now }
+{
+    let _len = bytes.len();
+}
+
 fn words_in_range(items: &[u32])
     ensures { AllByRecursion (λ n. n < 2 ^ 32) items.now }
 {
@@ -223,19 +231,23 @@ fn words_in_range(items: &[u32])
 fn int8_bytes(alloc: Global, items: &[i8]) -> Result<Vec<u8>, AllocError>
     ensures bytes { IfOk result (λ v. v.items ≡ 0x03 ∷ 0 ∷ map (cast_unsigned w8) items.now) }
     ensures readable { OnOk result (is_vector (0x03 ∷ 0 ∷ map (cast_unsigned w8) items.now) ≡ true) }
+    ensures range { OnOk result (IsBytes (map (cast_unsigned w8) items.now)) }
 {
     let mut bytes = head(alloc, INT8, 0, items.len())?;
     'items: for item in items {
         bytes.push(item.cast_unsigned())?;
     }
+    are_bytes(bytes.as_slice());
     Ok(bytes)
 }
 
 #[tactic(auto, using(crate::proofs::VectorLaws::vector_lemmas))]
 fn float32_bytes(alloc: Global, items: &[u32]) -> Result<Vec<u8>, AllocError>
     ensures bytes { IfOk result (λ v. v.items ≡ 0x27 ∷ 0 ∷ le_bytes_of items.now) }
+    ensures range { OnOk result (AllByRecursion (λ n. n < 2 ^ 32) items.now) }
     ensures readable { OnOk result (is_vector (0x27 ∷ 0 ∷ le_bytes_of items.now) ≡ true) }
 {
+    words_in_range(items);
     let mut bytes = head(alloc, FLOAT32, 0, items.len().saturating_mul(4))?;
     'items: for item in items {
         bytes.extend_from_slice(&item.to_le_bytes())?;
@@ -245,6 +257,7 @@ fn float32_bytes(alloc: Global, items: &[u32]) -> Result<Vec<u8>, AllocError>
 
 fn packed_bytes_of(alloc: Global, packed: &PackedBitVector) -> Result<Vec<u8>, AllocError>
     ensures bytes { IfOk result (λ v. v.items ≡ 0x10 ∷ packed_padding packed.now ∷ packed_bytes packed.now) }
+    ensures range { OnOk result (IsInRange (packed_view packed.now)) }
     ensures readable { OnOk result (is_vector (0x10 ∷ packed_padding packed.now ∷ packed_bytes packed.now) ≡ true) }
 {
     let data = packed.as_bytes();

@@ -11,7 +11,7 @@ use Rattle.bson_leaf.specs.Binaries.{IsHyphenatedText}
 use Rattle.bson_scalar.specs.Regex.{sorted_text}
 use Rattle.bson_scalar.specs.Subtype.{subtype_of}
 use Rattle.bson_scalar.specs.declared.spec.BinarySubtype.TheVariants.{Uuid}
-use Rattle.bson_datetime.specs.Rfc3339.{Denotes}
+use Rattle.bson_datetime.specs.Grammar.{Names}
 use Rattle.bson_decimal.specs.Text.{Parses}
 use Rattle.bson_leaf.specs.Binaries.{IsByteText}
 use Rattle.bson_leaf.specs.Means as means
@@ -124,7 +124,7 @@ binary_row s k bytes n is byte = scalar _ _ (means.binary s k bytes n is byte)
 uuid_row : (s id : List ℕ) → IsHyphenatedText s id → Means (one (codes "$uuid") (tree.string s)) (model.scalar (kind.binary Uuid id))
 uuid_row s id is = scalar _ _ (means.uuid s id is)
 
-date_text_row : (s : List ℕ) (z : ℤ) → Denotes s z → Means (one (codes "$date") (tree.string s)) (model.scalar (kind.date z))
+date_text_row : (s : List ℕ) (z : ℤ) → Names s z → Means (one (codes "$date") (tree.string s)) (model.scalar (kind.date z))
 date_text_row s z is = scalar _ _ (means.date_of_text s z is)
 
 decimal_row : (s b : List ℕ) → Parses s b → Means (one (codes "$numberDecimal") (tree.string s)) (model.scalar (kind.decimal b))

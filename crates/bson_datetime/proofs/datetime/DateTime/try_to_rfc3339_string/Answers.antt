@@ -1,8 +1,9 @@
-use Rattle.std.proofs.Common.{arith, inl, pos, ◌<ℤ◌, ◌≤ℤ◌, sym, ◌∙◌}
+use Rattle.std.proofs.Common.{arith, inl, refl, pos, ◌<ℤ◌, ◌≤ℤ◌, sym, ◌∙◌}
 use Rattle.jiff.proofs.SpanFacts.{signed_arith}
 use Rattle.jiff.proofs.Family.{civil_nanos_range}
 use Rattle.bson_datetime.proofs.RfcLemmas.{rfc-jiff}
 use Rattle.bson_datetime.proofs.ShownLemmas.{rfc-fields}
+use Rattle.bson_datetime.proofs.GrammarLemmas.{denotes-names}
 use Rattle.bson_datetime.proofs.RoundTrip.{denoted-rfc}
 use Rattle.bson_datetime.proofs.MomentLemmas.{moment-negative, moment-natural, natural_year}
 use Rattle.bson_datetime.proofs.datetime.DateTime.try_to_rfc3339_string.Goals as goal
@@ -11,7 +12,7 @@ pub returns-then-year-lt0-clause-err : goal.returns-then-year-lt0-clause-err
 returns-then-year-lt0-clause-err c =
     let low : c.in-Some.at.date.year <ℤ pos 0 = omega (arith, signed_arith) in
     let below = moment-negative c.args.self c.in-Some.at c.in-Some.ensures.value low in
-    inl (tt, λ h. omega (arith, signed_arith, h.0))
+    inl (refl, λ h. omega (arith, signed_arith, h.0))
 
 -- what was written, and in which years
 written : goal.returns-in-Ok-clause-ok
@@ -35,7 +36,9 @@ pub returns-in-Ok-clause-fields : goal.returns-in-Ok-clause-fields
 returns-in-Ok-clause-fields c = λ fields is. written c ∙ rfc-fields c.args.self fields is
 
 pub returns-in-Ok-clause-reads_back : goal.returns-in-Ok-clause-reads_back
-returns-in-Ok-clause-reads_back c = rw (written c) (denoted-rfc c.args.self (in_years c))
+returns-in-Ok-clause-reads_back c =
+    let denotes = denoted-rfc c.args.self (in_years c) in
+    rw (written c) ((denotes-names _ c.args.self).0 denotes)
 
 pub returns-in-Ok-clause-in_years : goal.returns-in-Ok-clause-in_years
 returns-in-Ok-clause-in_years c = in_years c

@@ -1,0 +1,18 @@
+-- Texts of hexadecimal digits, of either case (RFC 4648 section 8).
+use Rattle.std.specs.Prelude.{◌≡◌, ◌⊎◌, ◌<◌, ◌≤◌, ℕ, ◌+◌, ◌-◌, ◌*◌, List, [], ◌∷◌, codes, slice_index}
+
+-- the number of the character that is this text
+abbrev pub code : List ℕ → ℕ
+code text = slice_index text 0
+
+-- the character c is a digit of the value v: `0` to `9`, and then `a` to `f` or `A` to `F`
+abbrev pub IsDigitOf : ℕ → ℕ → Type 0
+IsDigitOf v c =
+    ((v < 10) × (c ≡ code (codes "0") + v))
+    ⊎ ((10 ≤ v) × (v < 16) × ((c ≡ code (codes "a") + (v - 10)) ⊎ (c ≡ code (codes "A") + (v - 10))))
+
+-- the text has two digits for each byte, the higher one first
+pub data IsHexText : List ℕ → List ℕ → Type 0 where
+  nothing : IsHexText [] []
+  pair : (high low c d : ℕ) (text bytes : List ℕ) → IsDigitOf high c → IsDigitOf low d → IsHexText text bytes
+      → IsHexText (c ∷ d ∷ text) ((high * 16 + low) ∷ bytes)
