@@ -66,6 +66,6 @@ pub read_comes_back : (t : Data) (v : Value) → IsTree t → Means t v → Come
 read_comes_back t v is m = let f = form m in comes_back v f.0 f.1 (in_range m is)
 
 -- what a reader gave comes back
-pub read_back_ok : {X : Type 0} (see : X → Value) (t : Data) (r : Result X Error) → Gives see r (reads t) → IfOk r (λ v. IsTree t → ComesBack (see v))
-read_back_ok see t (Ok x) h = λ is. read_comes_back t (see x) is (means_from t (see x) h)
-read_back_ok see t (Err e) h = tt
+pub read_back_ok : {X : Type 0} (see : X → Value) (t : Data) (r : Result X Error) → Gives see r (reads t) → IfOk r (λ v. InRange (see v)) → IfOk r (λ v. ComesBack (see v))
+read_back_ok see t (Ok x) h ranged = let f = form (means_from t (see x) h) in comes_back (see x) f.0 f.1 ranged
+read_back_ok see t (Err e) h ranged = tt

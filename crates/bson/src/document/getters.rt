@@ -25,9 +25,11 @@ pub enum ValueAccessError {
 pub type ValueAccessResult<T> = Result<T, ValueAccessError>;
 
 impl Document {
-    ghost use Rattle.std.specs.Prelude.{◌≡◌};
-    ghost use Rattle.std.specs.Borrow.{sem};
+    ghost use Rattle.std.specs.Prelude.{◌≡◌, Ok, Err, IfOk, IfErr};
+    ghost use Rattle.std.specs.Borrow.{MutBor, sem};
+    ghost use Rattle.std.specs.Fn.{FnOnceReturnsAtMut};
     ghost use Rattle.bson.specs.Lends.{LendsAtKey};
+    ghost use Rattle.bson.specs.declared.document.Document as document;
     ghost use Rattle.bson_store.specs.Pairs.{get, put};
     ghost use Rattle.bson.specs.declared.bson.Bson.TheVariants as value;
     ghost use Rattle.bson.specs.KindRows.{array_row, boolean_row, bytes_row, date_row, decimal_row, double_row, int32_row, int64_row, object_id_row, string_row, timestamp_row};
@@ -89,12 +91,35 @@ impl Document {
 
     /// The document at the key, to write.
     ///
-    /// No contract can say what is written through it: where a proof needs that, ask `get_mut` for the value and
-    /// `Bson::as_document_mut` for the document in it.
+    /// Nothing is promised of this document after the call, also where it is refused: its contract can't say so in this
+    /// form. [`Document::change_document`] promises it whole, and so do [`Document::get_mut`] and then
+    /// [`Bson::as_document_mut`](crate::Bson::as_document_mut).
     pub fn get_document_mut(&mut self, key: &str) -> ValueAccessResult<&mut Document>
         ensures value { ok_copied_mut result ≡ accessed document_of (get key.now self.old.pairs) }
     {
         self.kind_at_mut::<Document>(key)
+    }
+
+    /// Calls `change` on the document at the key, and answers what that returned.
+    ///
+    /// The document that `change` leaves becomes the value of the key; the key keeps its place, and the other pairs stay.
+    /// Where the call is refused, `change` was not called and this document is as it was.
+    pub fn change_document<U, F: FnOnce(&mut Document) -> U>(
+        &mut self,
+        key: &str,
+        change: F,
+    ) -> ValueAccessResult<U>
+        requires { (d : MutBor document.Document) → accessed document_of (get key.now self.old.pairs) ≡ Ok d.now → F.pre change d }
+        ensures changed { IfOk result (λ u. (d e : document.Document) × (accessed document_of (get key.now self.old.pairs) ≡ Ok d) × FnOnceReturnsAtMut F.FnOnce change d u e × (self.new.pairs ≡ put key.now (value.Document e) self.old.pairs)) }
+        ensures refused { IfErr result (λ e. (accessed document_of (get key.now self.old.pairs) ≡ Err e) × (self.new.pairs ≡ self.old.pairs)) }
+    {
+        match self.get_mut(key) {
+            None => Err(ValueAccessError::NotPresent),
+            Some(value) => match value.as_document_mut() {
+                Some(document) => Ok(change(document)),
+                None => Err(ValueAccessError::UnexpectedType),
+            },
+        }
     }
 
     /// The truth value at the key.

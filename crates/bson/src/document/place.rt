@@ -1,9 +1,11 @@
 //! The pair at one place of a document, to be looked at or written.
 //!
 //! A clause `writes_back` says what the document holds once the reference that the call returns has ended.
-ghost use Rattle.std.specs.Prelude.{◌≡◌, ◌<◌, ◌≤◌, Some, length, slice_get, IfSome, IfNone, string_bytes};
-ghost use Rattle.std.specs.Borrow.{RestsIfNone, follows, sem};
+ghost use Rattle.std.specs.Prelude.{◌≡◌, ◌<◌, ◌≤◌, Some, length, slice_get, IfSome, IfNone, String, string_bytes};
+ghost use Rattle.std.specs.Borrow.{Bor, MutBor, RestsIfNone, follows, sem};
+ghost use Rattle.std.specs.declared.alloc.Global.{Global};
 ghost use Rattle.bson_store.specs.Pairs.{keys, values, with_value};
+ghost use Rattle.bson.specs.declared.bson.Bson as value;
 ghost use Rattle.bson.specs.Rows.{bson_row, document_row};
 
 use super::Document;
@@ -19,9 +21,12 @@ pub struct PlaceMut<'a> {
 }
 
 impl Document {
+    ghost use Rattle.bson.specs.Changes.{ChangesEach};
+
     /// The pair at a place, from 0, its value to be written. None past the last pair.
     ///
-    /// No contract can say here that a write changes nothing else; `place_mut` hands out the same value with that promise.
+    /// Nothing is promised of the document after this call, also where it answers None: its contract can't say so in
+    /// this form. [`Document::change_index`] and [`Document::place_mut`] promise it whole.
     pub fn get_index_mut(&mut self, at: usize) -> Option<(&String, &mut Bson)>
         ensures pair { IfSome result (λ p. Some (string_bytes p.0.now, p.1.now) ≡ slice_get self.old.pairs at) }
         ensures none { IfNone result (length self.old.pairs ≤ at) }
@@ -30,6 +35,40 @@ impl Document {
             Some(self.pairs.pair_at_mut(at))
         } else {
             None
+        }
+    }
+
+    /// Calls `change` on the pair at a place, from 0, and answers what that returned. None past the last pair.
+    ///
+    /// The value that `change` leaves becomes the value of the pair; its key and the other pairs stay. Where the answer is
+    /// None, `change` was not called and the document is as it was.
+    pub fn change_index<U, F: FnOnce(&String, &mut Bson) -> U>(
+        &mut self,
+        at: usize,
+        change: F,
+    ) -> Option<U>
+        requires { (k : Bor (String Global)) (v : MutBor value.Bson) → slice_get self.old.pairs at ≡ Some (string_bytes k.now, v.now) → F.pre change k v }
+        ensures changed { IfSome result (λ u. (k : Bor (String Global)) × (v w : MutBor value.Bson) × (slice_get self.old.pairs at ≡ Some (string_bytes k.now, v.now)) × F.post change k v u w × (self.new.pairs ≡ with_value self.old.pairs at w.now)) }
+        ensures none { IfNone result ((length self.old.pairs ≤ at) × (self.new.pairs ≡ self.old.pairs)) }
+    {
+        if at < self.pairs.len() {
+            let (key, value) = self.pairs.pair_at_mut(at);
+            Some(change(key, value))
+        } else {
+            None
+        }
+    }
+
+    /// Calls `change` on each pair in turn, its value to be written.
+    ///
+    /// What a call leaves becomes the value of its pair; the keys and their order stay.
+    pub fn change_values<F: FnMut(&String, &mut Bson)>(&mut self, mut change: F)
+        requires { F.IsAlwaysCallable change }
+        ensures { (last : F) × ChangesEach F.FnMut change self.old.pairs last self.new.pairs }
+    {
+        for at in 0..self.pairs.len() {
+            let (key, value) = self.pairs.pair_at_mut(at);
+            change(key, value);
         }
     }
 

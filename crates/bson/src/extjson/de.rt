@@ -7,8 +7,8 @@ ghost use Rattle.bson_model.specs.Value.{Pairs};
 ghost use Rattle.bson_leaf.specs.Faults.{Gives};
 ghost use Rattle.bson_model.specs.Means.{Means, MeansDocument};
 ghost use Rattle.bson_model.specs.Sorted.{KeysAscend};
-ghost use Rattle.bson_model.specs.Texts.{Ascends, IsTree, ComesBack};
-ghost use Rattle.bson_model.specs.Writing.{HasMeaning, HasDocumentMeaning};
+ghost use Rattle.bson_model.specs.Texts.{Ascends, ComesBack};
+ghost use Rattle.bson_model.specs.Writing.{HasMeaning, HasDocumentMeaning, InRange, PairsInRange};
 ghost use Rattle.bson_model.specs.Fault.{IsFaultOf, IsDocumentFault};
 ghost use Rattle.bson.specs.View.{bson_view, document_view};
 
@@ -25,11 +25,14 @@ impl Bson {
     /// An object with a wrapper key has exactly the shape of that wrapper, or is refused. A refusal tells the first fault:
     /// of a list's elements in order, of a document's values by ascending key, of a wrapper as a whole.
     /// It is `InvalidObjectId` where the text of an object id alone is wrong, else `DeserializationError`.
+    ///
+    /// What is read comes back from the compact text of its tree in either form, unless that nests more than 127 deep.
     pub fn try_from_value(alloc: Global, value: Value) -> Result<Bson>
         ensures ok { IfOk result (λ v. HasMeaning (view value) (bson_view v)) }
         ensures accepts { (v : model.Value) → Means (view value) v → Gives bson_view result (Ok v) }
         ensures fault { IfErr result (λ e. IsFaultOf (view value) e) }
-        ensures comes_back { IfOk result (λ v. IsTree (view value) → ComesBack (bson_view v)) }
+        ensures ranged { IfOk result (λ v. InRange (bson_view v)) }
+        ensures comes_back { IfOk result (λ v. ComesBack (bson_view v)) }
     {
         read(alloc, value)
     }
@@ -40,6 +43,8 @@ impl Bson {
         ensures accepts { (v : model.Value) → Means (object (members_view map.entries)) v
             → Gives bson_view result (Ok v) }
         ensures fault { IfErr result (λ e. IsFaultOf (object (members_view map.entries)) e) }
+        ensures ranged { IfOk result (λ v. InRange (bson_view v)) }
+        ensures comes_back { IfOk result (λ v. ComesBack (bson_view v)) }
     {
         Bson::try_from_value(alloc, Value::Object(map))
     }
@@ -56,6 +61,7 @@ impl Document {
             → Gives document_view result (Ok ps) }
         ensures ascends { IfOk result (λ v. KeysAscend (document_view v)) }
         ensures fault { IfErr result (λ e. IsDocumentFault (members_view map.entries) e) }
+        ensures ranged { IfOk result (λ v. PairsInRange (document_view v)) }
     {
         ascending(&map);
         read_members(alloc, map)

@@ -1,11 +1,15 @@
 //! The kinds that hold no other value.
-ghost use Rattle.std.specs.Prelude.{◌≡◌, IfOk, string_bytes};
+ghost use Rattle.std.specs.Prelude.{◌≡◌, ◌<◌, IfOk, string_bytes};
 ghost use Rattle.serde_json.specs.View.{view, number_view, members_view};
 ghost use Rattle.bson_leaf.specs.Faults.{Gives};
 ghost use Rattle.bson_leaf.specs.Reading.{number_read};
 ghost use Rattle.bson_model.specs.Reading.{valued};
 ghost use Rattle.bson_model.specs.Writing.{with_scope};
 ghost use Rattle.bson_leaf.specs.View.{leaf_view};
+ghost use Rattle.bson_model.specs.Writing.{InRange};
+ghost use Rattle.bson_scalar.specs.DbPointer.{id_of};
+ghost use Rattle.bson_scalar.specs.Oid.{IsBytes, IsObjectId};
+ghost use Rattle.bson_scalar.specs.Subtype.{subtype_byte};
 ghost use Rattle.bson_model.specs.Value.{scalar};
 ghost use Rattle.bson.specs.IsScalar.{IsScalar};
 ghost use Rattle.bson.specs.View.{bson_view};
@@ -13,11 +17,16 @@ ghost use Rattle.bson.specs.View.{bson_view};
 use crate::bson::Bson;
 use bson_leaf::error::Error;
 use bson_leaf::leaf::Leaf;
+use bson_scalar::binary::Binary;
+use bson_scalar::db_pointer::DbPointer;
+use bson_scalar::oid::ObjectId;
+use bson_scalar::spec::BinarySubtype;
 use serde_json::{Map, Number, Value};
 use std::alloc::{AllocError, Global};
 
 pub(crate) fn of_leaf(leaf: Leaf) -> Bson
-    ensures { bson_view result ≡ scalar (leaf_view leaf) }
+    ensures value { bson_view result ≡ scalar (leaf_view leaf) }
+    ensures ranged { InRange (bson_view result) }
 {
     match leaf {
         Leaf::Null => Bson::Null,
@@ -33,12 +42,50 @@ pub(crate) fn of_leaf(leaf: Leaf) -> Bson
         Leaf::JavaScriptCode(code) => Bson::JavaScriptCode(code),
         Leaf::RegularExpression(regex) => Bson::RegularExpression(regex),
         Leaf::Timestamp(stamp) => Bson::Timestamp(stamp),
-        Leaf::Binary(binary) => Bson::Binary(binary),
-        Leaf::ObjectId(id) => Bson::ObjectId(id),
+        Leaf::Binary(binary) => Bson::Binary(of_bytes(binary)),
+        Leaf::ObjectId(id) => Bson::ObjectId(of_twelve(id)),
         Leaf::DateTime(date) => Bson::DateTime(date),
         Leaf::Decimal128(decimal) => Bson::Decimal128(decimal),
-        Leaf::DbPointer(pointer) => Bson::DbPointer(pointer),
+        Leaf::DbPointer(pointer) => Bson::DbPointer(to_twelve(pointer)),
     }
+}
+
+// These tell that numbers of the type u8 are below 256, and that an object id has twelve.
+fn are_bytes(bytes: &[u8])
+    ensures { IsBytes bytes.now }
+{
+    let _len = bytes.len();
+}
+
+fn has_byte(subtype: BinarySubtype)
+    ensures { subtype_byte subtype < 256 }
+{
+    let _byte = u8::from(subtype);
+}
+
+fn of_bytes(binary: Binary) -> Binary
+    ensures same { result ≡ binary }
+    ensures ranged { (subtype_byte binary.subtype < 256) × IsBytes binary.bytes.items }
+{
+    are_bytes(binary.bytes.as_slice());
+    has_byte(binary.subtype);
+    binary
+}
+
+fn of_twelve(id: ObjectId) -> ObjectId
+    ensures same { result ≡ id }
+    ensures ranged { IsObjectId id }
+{
+    let _bytes = id.bytes();
+    id
+}
+
+fn to_twelve(pointer: DbPointer) -> DbPointer
+    ensures same { result ≡ pointer }
+    ensures ranged { IsObjectId (id_of pointer) }
+{
+    let _id = of_twelve(pointer.id());
+    pointer
 }
 
 // The same, the other way: of a value that holds no other.
@@ -71,7 +118,8 @@ pub(crate) fn leaf_of(value: Bson) -> Leaf
 
 // A whole number as an Int32 where it fits, else as an Int64.
 pub(crate) fn read_number(n: Number) -> Result<Bson, Error>
-    ensures { Gives bson_view result (valued (number_read (number_view n))) }
+    ensures given { Gives bson_view result (valued (number_read (number_view n))) }
+    ensures ranged { IfOk result (λ v. InRange (bson_view v)) }
 {
     match n.as_i64() {
         Some(z) => if i32::MIN as i64 <= z && z <= i32::MAX as i64 {

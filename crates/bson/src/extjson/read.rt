@@ -1,11 +1,12 @@
 //! The reader.
 ghost use Rattle.serde_json.specs.View.{view, number_view, items_view, members_view};
 ghost use Rattle.serde_json.specs.Data.{object};
-ghost use Rattle.std.specs.Prelude.{◌≡◌, ◌&&◌, codes, string_bytes};
+ghost use Rattle.std.specs.Prelude.{◌≡◌, ◌&&◌, IfOk, codes, string_bytes};
 ghost use Rattle.std.specs.Str.{bytes_eq};
 ghost use Rattle.bson_model.specs.Value.{code_scope};
 ghost use Rattle.bson_leaf.specs.Faults.{Gives};
 ghost use Rattle.bson_model.specs.Reading.{valued, reads, reads_items, reads_members, reads_wrapper, reads_scope, scoped, code_at};
+ghost use Rattle.bson_model.specs.Writing.{InRange, ItemsInRange, PairsInRange};
 ghost use Rattle.bson_leaf.specs.Reading.{single_at};
 ghost use Rattle.bson_leaf.specs.Table.{wrapper_of};
 ghost use Rattle.bson.specs.View.{bson_view, document_view, values_view};
@@ -21,7 +22,8 @@ use serde_json::{Map, Value};
 use std::alloc::Global;
 
 fn read_single(alloc: Global, key: &str, value: Value) -> Result<Bson, Error>
-    ensures { Gives bson_view result (valued (single_at (wrapper_of key.now) (view value))) }
+    ensures given { Gives bson_view result (valued (single_at (wrapper_of key.now) (view value))) }
+    ensures ranged { IfOk result (λ v. InRange (bson_view v)) }
 {
     Ok(of_leaf(read_leaf(alloc, key, value)?))
 }
@@ -32,7 +34,8 @@ const CODE: &str = "`$code` stands alone, or beside `$scope` with a text";
 
 #[cycle(read)]
 pub(crate) fn read(alloc: Global, value: Value) -> Result<Bson, Error>
-    ensures { Gives bson_view result (reads (view value)) }
+    ensures given { Gives bson_view result (reads (view value)) }
+    ensures ranged { IfOk result (λ v. InRange (bson_view v)) }
 {
     match value {
         Value::Null => Ok(Bson::Null),
@@ -46,7 +49,8 @@ pub(crate) fn read(alloc: Global, value: Value) -> Result<Bson, Error>
 
 #[cycle(read)]
 fn read_items(alloc: Global, items: Vec<Value>) -> Result<Vec<Bson>, Error>
-    ensures { Gives (λ v. values_view v.items) result (reads_items (items_view items.items)) }
+    ensures given { Gives (λ v. values_view v.items) result (reads_items (items_view items.items)) }
+    ensures ranged { IfOk result (λ v. ItemsInRange (values_view v.items)) }
 {
     let mut values = Vec::with_capacity(alloc, items.len())?;
     for item in items {
@@ -57,7 +61,8 @@ fn read_items(alloc: Global, items: Vec<Value>) -> Result<Vec<Bson>, Error>
 
 #[cycle(read)]
 fn read_object(alloc: Global, members: Map<String, Value>) -> Result<Bson, Error>
-    ensures { Gives bson_view result (reads (object (members_view members.entries))) }
+    ensures given { Gives bson_view result (reads (object (members_view members.entries))) }
+    ensures ranged { IfOk result (λ v. InRange (bson_view v)) }
 {
     if any_wrapper(&members) {
         read_wrapper(alloc, members)
@@ -68,7 +73,8 @@ fn read_object(alloc: Global, members: Map<String, Value>) -> Result<Bson, Error
 
 #[cycle(read)]
 pub(crate) fn read_members(alloc: Global, members: Map<String, Value>) -> Result<Document, Error>
-    ensures { Gives document_view result (reads_members (members_view members.entries)) }
+    ensures given { Gives document_view result (reads_members (members_view members.entries)) }
+    ensures ranged { IfOk result (λ d. PairsInRange (document_view d)) }
 {
     let mut pairs = SmallPairs::with_capacity(alloc, members.len())?;
     for (key, value) in members {
@@ -83,7 +89,8 @@ pub(crate) fn read_members(alloc: Global, members: Map<String, Value>) -> Result
 
 #[cycle(read)]
 fn read_wrapper(alloc: Global, mut members: Map<String, Value>) -> Result<Bson, Error>
-    ensures { Gives bson_view result (reads_wrapper (members_view members.entries)) }
+    ensures given { Gives bson_view result (reads_wrapper (members_view members.entries)) }
+    ensures ranged { IfOk result (λ v. InRange (bson_view v)) }
 {
     let Some((key, value)) = members.pop_first() else {
         return Err(Error::DeserializationError { message: SHAPE });
@@ -105,8 +112,9 @@ fn read_code(
     value: Value,
     key: &str,
 ) -> Result<Bson, Error>
-    ensures { Gives bson_view result
+    ensures given { Gives bson_view result
         (code_at key.now (view value) other.now (reads_scope (view scope))) }
+    ensures ranged { IfOk result (λ v. InRange (bson_view v)) }
 {
     if !is_code_with_scope(key, other) {
         return Err(Error::DeserializationError { message: CODE });
@@ -131,8 +139,9 @@ fn with_scope(code: String, scope: Document) -> Bson
 
 #[cycle(read)]
 fn read_scope(alloc: Global, scope: Value, code: String) -> Result<Bson, Error>
-    ensures { Gives bson_view result
+    ensures given { Gives bson_view result
         (scoped (string_bytes code) (reads_scope (view scope))) }
+    ensures ranged { IfOk result (λ v. InRange (bson_view v)) }
 {
     match scope {
         Value::Null => Ok(Bson::JavaScriptCode(code)),

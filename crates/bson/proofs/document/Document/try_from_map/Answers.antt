@@ -4,13 +4,13 @@ use Rattle.bson_model.proofs.ReadLaws.{document_read_ok, document_read_fault, do
 use Rattle.bson.proofs.document.Document.try_from_map.Goals as goal
 
 pub returns-clause-ok : goal.returns-clause-ok
-returns-clause-ok c = document_read_ok document_view (members_view c.args.map.entries) c.read_members.result c.read_members.ensures
+returns-clause-ok c = document_read_ok document_view (members_view c.args.map.entries) c.read_members.result c.read_members.ensures.given
 
 pub returns-clause-accepts : goal.returns-clause-accepts
-returns-clause-accepts c = document_read_accepts document_view (members_view c.args.map.entries) c.read_members.result c.read_members.ensures
+returns-clause-accepts c = document_read_accepts document_view (members_view c.args.map.entries) c.read_members.result c.read_members.ensures.given
 
 pub returns-clause-fault : goal.returns-clause-fault
-returns-clause-fault c = document_read_fault document_view (members_view c.args.map.entries) c.read_members.result c.read_members.ensures
+returns-clause-fault c = document_read_fault document_view (members_view c.args.map.entries) c.read_members.result c.read_members.ensures.given
 
 pub returns-clause-ascends : goal.returns-clause-ascends
-returns-clause-ascends c = document_read_ascends document_view (members_view c.args.map.entries) c.read_members.result c.read_members.ensures c.ascending.ensures
+returns-clause-ascends c = document_read_ascends document_view (members_view c.args.map.entries) c.read_members.result c.read_members.ensures.given c.ascending.ensures

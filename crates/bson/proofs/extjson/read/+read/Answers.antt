@@ -6,6 +6,8 @@ use Rattle.serde_json.specs.View.{view, items_view, members_view}
 use Rattle.serde_json.specs.declared.value.Value.{Value}
 use Rattle.bson.specs.View.{bson_view}
 use Rattle.bson_model.specs.Reading.{reads_items, reads_members}
+use Rattle.bson_model.specs.Writing.{PairsInRange}
+use Rattle.bson.proofs.Ranged.{items-snoc, pairs-snoc}
 use Rattle.bson.specs.declared.bson.Bson.{Bson}
 use Rattle.bson_model.proofs.Members.{more_than_two, just_two, just_one}
 use Rattle.std.specs.Prelude.{IsSome}
@@ -22,14 +24,14 @@ map-snoc : (xs : List Bson) (x : Bson) → map bson_view (xs ++ x ∷ []) ≡ ma
 map-snoc [] x = refl
 map-snoc (y ∷ xs) x = ap (λ l. bson_view y ∷ l) (map-snoc xs x)
 
-pub read_items-returns-in_err-read : goal.read_items-returns-in_err-read
-read_items-returns-in_err-read t c =
+pub read_items-returns-in_err-read-clause-given : goal.read_items-returns-in_err-read-clause-given
+read_items-returns-in_err-read-clause-given t c =
     let p = err_from_is_err_and c.from_residual-in_err-read.result c.from_residual-in_err-read.ensures.1 in
     let steps : into_iter_items c.loop-item.item-iterator ≡ c.in-Some.item ∷ into_iter_items c.next.new.self = c.in-Some.ensures.steps.0 in
     let total = reads_items (items_view c.args.items.items) in
     let done = map bson_view c.loop-item.values.items in
     let now = subst (λ (xs : List Value). onto_values done (reads_items (items_view xs)) ≡ total) steps c.loop-item.invariant.read in
-    rw (p.1, p.2) (values_fault _ done (view c.in-Some.item) (items_view (into_iter_items c.next.new.self)) total c.in_err-read.ensures now)
+    rw (p.1, p.2) (values_fault _ done (view c.in-Some.item) (items_view (into_iter_items c.next.new.self)) total c.in_err-read.ensures.given now)
 
 pub read_items-loop-item-preserved : goal.read_items-loop-item-preserved
 read_items-loop-item-preserved t c =
@@ -46,11 +48,12 @@ read_items-loop-item-preserved t c =
       read =
           let pushed = ap (map bson_view) c.in_ok-push.ensures.items ∙ map-snoc c.loop-item.values.items c.in_ok-read.field-0 in
           ap (λ xs. onto_values xs (reads_items (items_view (into_iter_items c.next.new.self)))) pushed
-          ∙ values_step done (view c.in-Some.item) (bson_view c.in_ok-read.field-0) (items_view (into_iter_items c.next.new.self)) total c.in_ok-read.ensures now;
+          ∙ values_step done (view c.in-Some.item) (bson_view c.in_ok-read.field-0) (items_view (into_iter_items c.next.new.self)) total c.in_ok-read.ensures.given now;
+      ranged = rw c.in_ok-push.ensures.items (items-snoc c.loop-item.values.items c.in_ok-read.field-0 c.loop-item.invariant.ranged c.in_ok-read.ensures.ranged);
     }
 
-pub read_items-returns : goal.read_items-returns
-read_items-returns t c =
+pub read_items-returns-clause-given : goal.read_items-returns-clause-given
+read_items-returns-clause-given t c =
     let at = c.loop-item in
     let none = c.in-None.ensures.steps in
     let empty : into_iter_items at.item-iterator ≡ [] = nothing_left _ (sym at.invariant.left ∙ none.0) in
@@ -59,14 +62,14 @@ read_items-returns t c =
     let now = subst (λ (xs : List Value). onto_values done (reads_items (items_view xs)) ≡ total) empty at.invariant.read in
     sym now ∙ onto_values-ok done
 
-pub read_members-returns-in_err-read : goal.read_members-returns-in_err-read
-read_members-returns-in_err-read t c =
+pub read_members-returns-in_err-read-clause-given : goal.read_members-returns-in_err-read-clause-given
+read_members-returns-in_err-read-clause-given t c =
     let p = err_from_is_err_and c.from_residual-in_err-read.result c.from_residual-in_err-read.ensures.1 in
     let steps = c.in-Some.ensures.steps in
     let total = reads_members (members_view c.args.members.entries) in
     let done = c.loop-key.pairs in
     let now = subst (λ (xs : List (String Global × Value)). onto_pairs done (reads_members (members_view xs)) ≡ total) steps c.loop-key.invariant.read in
-    rw (p.1, p.2) (pairs_fault _ done (string_bytes c.in-Some.key) (view c.in-Some.value) (members_view c.next.new.self) total c.in_err-read.ensures now)
+    rw (p.1, p.2) (pairs_fault _ done (string_bytes c.in-Some.key) (view c.in-Some.value) (members_view c.next.new.self) total c.in_err-read.ensures.given now)
 
 pub read_members-loop-key-init : goal.read_members-loop-key-init
 read_members-loop-key-init t c =
@@ -74,6 +77,7 @@ read_members-loop-key-init t c =
     record {
       fresh = rw (c.in_ok-pairs.ensures, given.0) (fresh_start Bson c.args.members.entries given.5);
       read = rw (c.in_ok-pairs.ensures, given.0) refl;
+      ranged = rw c.in_ok-pairs.ensures tt;
     }
 
 pub read_members-loop-key-preserved : goal.read_members-loop-key-preserved
@@ -88,31 +92,35 @@ read_members-loop-key-preserved t c =
       fresh = rw c.in-Ok.ensures.ok (fresh_next done (c.in-Some.key, c.in-Some.value) c.in_ok-read.read c.next.new.self f);
       read =
           ap (λ xs. onto_pairs xs (reads_members (members_view c.next.new.self))) c.in-Ok.ensures.ok
-          ∙ pairs_step done x (view c.in-Some.value) (members_view c.next.new.self) total c.in_ok-read.ensures now;
+          ∙ pairs_step done x (view c.in-Some.value) (members_view c.next.new.self) total c.in_ok-read.ensures.given now;
+      ranged = rw c.in-Ok.ensures.ok (pairs-snoc done (string_bytes c.in-Some.key) c.in_ok-read.read c.loop-key.invariant.ranged c.in_ok-read.ensures.ranged);
     }
 
-pub read_members-returns : goal.read_members-returns
-read_members-returns t c =
+pub read_members-returns-clause-given : goal.read_members-returns-clause-given
+read_members-returns-clause-given t c =
     let none = c.in-None.ensures.steps.0 in
     let total = reads_members (members_view c.args.members.entries) in
     let done = c.loop-key.pairs in
     let now = subst (λ (xs : List (String Global × Value)). onto_pairs done (reads_members (members_view xs)) ≡ total) none c.loop-key.invariant.read in
     sym now ∙ onto_pairs-ok done ∙ sym (ap Ok (document_view-pairs record { pairs = done }))
 
-pub read_wrapper-returns-then-not-is_empty : goal.read_wrapper-returns-then-not-is_empty
-read_wrapper-returns-then-not-is_empty t c =
+pub read_members-returns-clause-ranged : goal.read_members-returns-clause-ranged
+read_members-returns-clause-ranged t c = subst PairsInRange (sym (document_view-pairs record { pairs = c.loop-key.pairs })) c.loop-key.invariant.ranged
+
+pub read_wrapper-returns-then-not-is_empty-clause-given : goal.read_wrapper-returns-then-not-is_empty-clause-given
+read_wrapper-returns-then-not-is_empty-clause-given t c =
     let no = c.if-not-is_empty.true in
     let some : length c.pop_first-2.new.self.entries ≡ 0 → ⊥ = λ e. false≢true (sym no ∙ c.is_empty.ensures.1 e) in
     more_than_two _ (c.in-Some.key, c.in-Some.value) (c.in-Some-pop_first.other, c.in-Some-pop_first.scope) _ _ c.in-Some.ensures.removal c.in-Some-pop_first.ensures.removal some
 
-pub read_wrapper-returns : goal.read_wrapper-returns
-read_wrapper-returns t c =
+pub read_wrapper-returns-clause-given : goal.read_wrapper-returns-clause-given
+read_wrapper-returns-clause-given t c =
     let none : length c.pop_first-2.new.self.entries ≡ 0 = c.is_empty.ensures.0 c.if-not-is_empty.false in
     let two = just_two _ (c.in-Some.key, c.in-Some.value) (c.in-Some-pop_first.other, c.in-Some-pop_first.scope) _ _ c.in-Some.ensures.removal c.in-Some-pop_first.ensures.removal none in
-    rw two (grind (arith, c.read_code.ensures))
+    rw two (grind (arith, c.read_code.ensures.given))
 
-pub read_wrapper-returns-in_default-pop_first : goal.read_wrapper-returns-in_default-pop_first
-read_wrapper-returns-in_default-pop_first t c =
+pub read_wrapper-returns-in_default-pop_first-clause-given : goal.read_wrapper-returns-in_default-pop_first-clause-given
+read_wrapper-returns-in_default-pop_first-clause-given t c =
     let gone : IsSome c.pop_first-2.result → ⊥ = λ s. false≢true (rw c.in_default-pop_first.is at s) in
     let one = just_one _ (c.in-Some.key, c.in-Some.value) _ (IsSome c.pop_first-2.result) c.in-Some.ensures.removal c.pop_first-2.ensures.variant.1 gone in
-    rw (one, sym c.as_str.ensures.value) c.read_single.ensures
+    rw (one, sym c.as_str.ensures.value) c.read_single.ensures.given

@@ -1,0 +1,203 @@
+//! Values that are written in their place: what a closure makes of them, and that a call which finds nothing to write
+//! leaves the whole document as it was.
+use bson::document::ValueAccessError;
+use bson::{Bson, Document};
+use std::alloc::{AllocError, Global};
+use std::process::Abort;
+use std::test::Fail;
+
+/// Puts the value, and lets the pair go where there is no memory for it.
+fn put(document: &mut Document, alloc: Global, key: &str, value: Bson) -> Result<(), AllocError> {
+    match document.insert(String::from_str(alloc, key)?, value) {
+        Ok(_) => Ok(()),
+        Err(_) => Err(AllocError),
+    }
+}
+
+/// Each key of one letter in the text, with 1, 2 and so on.
+fn lettered(alloc: Global, keys: &str) -> Result<Document, AllocError> {
+    let mut document = Document::new(alloc);
+    let mut number = 0i32;
+    for letter in keys.chars() {
+        number = number.wrapping_add(1);
+        let mut key = String::new(alloc);
+        key.push(letter)?;
+        if document.insert(key, Bson::Int32(number)).is_err() {
+            return Err(AllocError);
+        }
+    }
+    Ok(document)
+}
+
+/// `b` with 1, `inner` with the lettered document of `keys`, and `a` with 3.
+fn nested(alloc: Global, keys: &str) -> Result<Document, AllocError> {
+    let mut document = Document::new(alloc);
+    put(&mut document, alloc, "b", Bson::Int32(1))?;
+    let inner = Bson::Document(lettered(alloc, keys)?);
+    put(&mut document, alloc, "inner", inner)?;
+    put(&mut document, alloc, "a", Bson::Int32(3))?;
+    Ok(document)
+}
+
+/// Whether the two documents have the same pairs in the same order, and the first finds each of its keys.
+fn is_as(document: &Document, before: &Document) -> bool {
+    let mut left = before.iter();
+    for (key, value) in document {
+        let found = document.get(key.as_str());
+        let same = match (left.next(), found) {
+            (Some((k, v)), Some(w)) => k == key && v == value && w == value,
+            _ => false,
+        };
+        if !same {
+            return false;
+        }
+    }
+    left.next().is_none()
+}
+
+/// Where there is no such place, nothing is called and the document is as it was, with few pairs and with many.
+#[test]
+fn refused_nowhere_behind_the_last_place(rt: HostRuntime) -> Result<(), Fail> {
+    let alloc = rt.alloc();
+    for keys in ["", "cab", "mlkjihgfedcba"] {
+        let mut document = lettered(alloc, keys)?;
+        let before = document.clone()?;
+        let last = document.len();
+        for at in [last, usize::MAX] {
+            let mut called = false;
+            let answer = document.change_index(at, |_, value| {
+                called = true;
+                *value = Bson::Null;
+            });
+            assert!(rt; answer.is_none() && !called);
+            assert!(rt; is_as(&document, &before));
+            assert!(rt; document.get_index_mut(at).is_none());
+            assert!(rt; is_as(&document, &before));
+            assert!(rt; document.place_mut(at).is_none());
+            assert!(rt; is_as(&document, &before));
+        }
+    }
+    Ok(())
+}
+
+/// What the closure leaves is the value at the place, its answer comes back, and the other pairs stay.
+#[test]
+fn refused_nowhere_at_a_place(rt: HostRuntime) -> Result<(), Fail> {
+    let alloc = rt.alloc();
+    for keys in ["cab", "mlkjihgfedcba"] {
+        let mut document = lettered(alloc, keys)?;
+        let before = document.clone()?;
+        for at in 0..document.len() {
+            let old = document.change_index(at, |key, value| {
+                let old = value.as_i32();
+                *value = Bson::Int32(-1);
+                (key.len(), old)
+            });
+            assert!(rt; matches!(old, Some((1, Some(number))) if number as usize == at + 1));
+            assert!(rt; document != before);
+            let back = document.change_index(at, |_, value| {
+                let was = value.as_i32();
+                *value = Bson::Int32(old.unwrap_or((0, None)).1.unwrap_or(0));
+                was
+            });
+            assert!(rt; back == Some(Some(-1)));
+            assert!(rt; is_as(&document, &before));
+        }
+    }
+    Ok(())
+}
+
+/// Where the key is absent, or has no document, nothing is called and the whole document is as it was.
+#[test]
+fn refused_nowhere_at_no_document(rt: HostRuntime) -> Result<(), Fail> {
+    let alloc = rt.alloc();
+    let mut document = nested(alloc, "zy")?;
+    let before = document.clone()?;
+    let asked = [
+        ("c", ValueAccessError::NotPresent),
+        ("", ValueAccessError::NotPresent),
+        ("z", ValueAccessError::NotPresent),
+        ("b", ValueAccessError::UnexpectedType),
+        ("a", ValueAccessError::UnexpectedType),
+    ];
+    for (key, fault) in asked {
+        let mut called = false;
+        let answer = document.change_document(key, |inner| {
+            called = true;
+            inner.clear();
+        });
+        assert!(rt; answer == Err(fault) && !called);
+        assert!(rt; is_as(&document, &before));
+        assert!(rt; matches!(document.get_document_mut(key), Err(e) if e == fault));
+        assert!(rt; is_as(&document, &before));
+    }
+    Ok(())
+}
+
+/// What the closure leaves is the document at the key, its answer comes back, and the other pairs stay.
+#[test]
+fn refused_nowhere_in_a_document_within(rt: HostRuntime) -> Result<(), Fail> {
+    let alloc = rt.alloc();
+    let mut document = nested(alloc, "zyx")?;
+    let wanted = nested(alloc, "zy")?;
+    let taken = document.change_document("inner", |inner| inner.remove("x"));
+    assert!(rt; matches!(taken, Ok(Some(Bson::Int32(3)))));
+    assert!(rt; is_as(&document, &wanted));
+    let deeper = document.change_document("inner", |inner| {
+        inner.change_document("z", |innermost| innermost.clear())
+    });
+    assert!(rt; matches!(deeper, Ok(Err(ValueAccessError::UnexpectedType))));
+    assert!(rt; is_as(&document, &wanted));
+    Ok(())
+}
+
+/// An insertion within, refused or done, leaves the document as it was or with that pair.
+#[test]
+fn refused_insert_within(rt: HostRuntime) -> Result<(), Fail> {
+    let alloc = rt.alloc();
+    let mut document = nested(alloc, "zy")?;
+    let before = nested(alloc, "zy")?;
+    let wanted = nested(alloc, "zyx")?;
+    let key = String::from_str(alloc, "x")?;
+    let done = document.change_document("inner", |inner| inner.insert(key, Bson::Int32(3)).is_ok());
+    match done {
+        Ok(true) => {
+            assert!(rt; is_as(&document, &wanted));
+            Ok(())
+        }
+        Ok(false) => {
+            assert!(rt; is_as(&document, &before));
+            Err(Fail::from(AllocError))
+        }
+        Err(_) => {
+            assert!(rt; false);
+            Ok(())
+        }
+    }
+}
+
+/// Each value is shown once, in order, with its key, and becomes what the closure leaves.
+#[test]
+fn refused_nowhere_in_all_values(rt: HostRuntime) -> Result<(), Fail> {
+    let alloc = rt.alloc();
+    for keys in ["", "a", "cab", "mlkjihgfedcba"] {
+        let mut document = lettered(alloc, keys)?;
+        let before = document.clone()?;
+        let mut seen = 0i32;
+        let mut in_order = true;
+        document.change_values(|key, value| {
+            seen = seen.wrapping_add(1);
+            in_order = in_order && key.len() == 1 && value.as_i32() == Some(seen);
+            *value = Bson::Int32(seen.wrapping_neg());
+        });
+        assert!(rt; in_order && seen as usize == before.len());
+        assert!(rt; document.is_empty() || document != before);
+        document.change_values(|_, value| {
+            if let Bson::Int32(number) = value {
+                *number = number.wrapping_neg();
+            }
+        });
+        assert!(rt; is_as(&document, &before));
+    }
+    Ok(())
+}
