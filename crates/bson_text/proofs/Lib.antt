@@ -1,0 +1,4 @@
+mod Turns
+mod PutReads
+mod Places
+pub mod Accepted
