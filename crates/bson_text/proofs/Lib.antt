@@ -1,4 +1,5 @@
-mod Turns
-mod PutReads
-mod Places
 pub mod Accepted
+mod Places
+mod PutReads
+mod Turns
+mod Wrapped

@@ -1,12 +1,14 @@
 -- The members of an object by ascending key, and the place of one more. For private clauses.
 use Rattle.std.specs.Prelude.{◌≡◌, ℕ, zero, suc, List, [], ◌∷◌, map, String, string_bytes}
-use Rattle.std.specs.declared.alloc.Global.{Global}
-use Rattle.std.specs.Ordering.{nat_cmp}
 use Rattle.std.specs.Cmp.Lexicographic.{slice_cmp}
+use Rattle.std.specs.Ordering.{nat_cmp}
+use Rattle.std.specs.declared.alloc.Global.{Global}
 use Rattle.std.specs.declared.cmp.Ordering.TheVariants.{Less, Equal, Greater}
 use Rattle.bson_model.specs.Value.{Pairs}
 use Rattle.bson.specs.View.{pairs_view}
 use Rattle.bson.specs.declared.bson.Bson.{Bson}
+use Rattle.bson_text.specs.declared.gathered.Gathered.{Gathered}
+use Rattle.bson_text.specs.declared.gathered.Gathered.TheVariants.{Few, Many}
 
 abbrev pub Member : Type 0
 Member = String Global × Bson
@@ -17,6 +19,10 @@ by_bytes ms = map (λ m. (string_bytes m.0, m.1)) ms
 
 abbrev pub seen : List Member → Pairs
 seen ms = pairs_view (by_bytes ms)
+
+abbrev pub gathered : Gathered → Pairs
+gathered (Few v) = seen v.items
+gathered (Many m) = seen m.entries
 
 -- the key stands at the place, and is above all before it
 abbrev pub StandsAt : List ℕ → List Member → ℕ → Type 0

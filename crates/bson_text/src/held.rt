@@ -7,39 +7,16 @@ ghost use Rattle.serde_json.specs.View.{view, members_view};
 ghost use Rattle.bson_leaf.specs.View.{leaf_view};
 ghost use Rattle.bson_model.specs.Value.{scalar};
 ghost use Rattle.bson.specs.View.{bson_view};
-ghost use Rattle.bson_text.specs.Straight.{HeldMeans};
 
 use crate::number::number;
 use crate::unread::Unread;
 use bson::Bson;
 use bson_leaf::leaf::Leaf;
-use bson_leaf::read::read_single;
 use json::{Reader, Token};
 use serde_json::{Map, Value};
 use std::alloc::Global;
 
-// What the wrapper means whose key was read, where it has no other key.
-#[inline(never)]
-pub(crate) fn read_held(
-    alloc: Global,
-    reader: &mut Reader<'_>,
-    depth: usize,
-    key: &str,
-) -> Result<Bson, Unread>
-    ensures ok { IfOk result (λ v. HeldMeans depth key.now reader.old (bson_view v) reader.new) }
-    ensures shorter { OnOk result (length reader.new < length reader.old) }
-{
-    let held = read_tree(alloc, reader, depth)?;
-    match reader.next_key()? {
-        Some(_) => Err(Unread::LeftToTree),
-        None => {
-            let leaf = read_single(alloc, key, held)?;
-            Ok(of_leaf(leaf))
-        }
-    }
-}
-
-fn of_leaf(leaf: Leaf) -> Bson
+pub(crate) fn of_leaf(leaf: Leaf) -> Bson
     ensures { bson_view result ≡ scalar (leaf_view leaf) }
 {
     match leaf {
@@ -66,7 +43,11 @@ fn of_leaf(leaf: Leaf) -> Bson
 
 // The tree under a wrapper's key: no wrapper of one key holds a list.
 #[cycle(tree)]
-fn read_tree(alloc: Global, reader: &mut Reader<'_>, depth: usize) -> Result<Value, Unread>
+pub(crate) fn read_tree(
+    alloc: Global,
+    reader: &mut Reader<'_>,
+    depth: usize,
+) -> Result<Value, Unread>
     ensures ok { IfOk result (λ t. converted of_json (value depth reader.old) ≡ Some (view t, reader.new)) }
     ensures shorter { OnOk result (length reader.new < length reader.old) }
 {

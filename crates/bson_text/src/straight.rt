@@ -2,20 +2,26 @@
 //!
 //! What is read here has its meaning by the grammar. A refusal tells nothing of the text: it may have a fault, or a shape
 //! that is left to the reader over trees, which also finds the fault.
-ghost use Rattle.std.specs.Prelude.{◌<◌, length, IfOk, OnOk};
+ghost use Rattle.std.specs.Prelude.{◌≡◌, ◌<◌, ◌&&◌, length, codes, option_map, string_bytes, IfOk, OnOk};
 ghost use Rattle.json.specs.Json.{value, items, members};
 ghost use Rattle.serde_json.specs.Data.{no_members};
 ghost use Rattle.serde_json.specs.Read.{of_json, of_items, of_members, converted};
-ghost use Rattle.bson.specs.View.{bson_view, values_view};
-ghost use Rattle.bson_text.specs.Straight.{TreeMeans, ItemsMean, ObjectMeans};
+ghost use Rattle.serde_json.specs.View.{view};
+ghost use Rattle.std.specs.Str.{bytes_eq};
+ghost use Rattle.bson_model.specs.Reading.{coded as coded_value};
+ghost use Rattle.bson_model.specs.Value.{code_scope};
+ghost use Rattle.bson.specs.View.{bson_view, document_view, values_view};
+ghost use Rattle.bson_text.specs.Straight.{TreeMeans, ItemsMean, ObjectMeans, PairsMean, ScopeMeans, WrapperMeans, CodeMeans};
 
-use crate::gathered::{document_of, put};
-use crate::held::read_held;
+use crate::gathered::{document_of, is_none, none, put};
+use crate::held::{of_leaf, read_tree};
 use crate::number::{number, of_number};
 use crate::unread::Unread;
-use bson::Bson;
+use bson::{Bson, Document, JavaScriptCodeWithScope};
+use bson_leaf::read::read_single;
 use bson_leaf::wrapper::named;
 use json::{Reader, Token};
+use serde_json::Value;
 use std::alloc::Global;
 
 #[cycle(straight)]
@@ -69,7 +75,7 @@ fn read_items(alloc: Global, reader: &mut Reader<'_>, depth: usize) -> Result<Ve
     Ok(found)
 }
 
-// A document, or a wrapper of one key.
+// A document, or a wrapper.
 #[cycle(straight)]
 #[inline(never)]
 fn read_object(alloc: Global, reader: &mut Reader<'_>, depth: usize) -> Result<Bson, Unread>
@@ -77,18 +83,127 @@ fn read_object(alloc: Global, reader: &mut Reader<'_>, depth: usize) -> Result<B
         (λ v. ObjectMeans (converted (λ ms. of_members ms no_members) (members (value depth) (length reader.old) reader.old)) (bson_view v) reader.new) }
     ensures shorter { OnOk result (length reader.new < length reader.old) }
 {
-    let mut found = Vec::new(alloc);
+    let mut found = none(alloc);
     'members: while let Some(name) = reader.next_key()? {
         if named(name).is_some() {
-            if found.is_empty() {
-                return read_held(alloc, reader, depth, name);
+            if is_none(&found) {
+                return read_wrapper(alloc, reader, depth, name);
             }
             return Err(Unread::LeftToTree);
         }
         let key = String::from_str(alloc, name)?;
         let member = read_value(alloc, reader, depth)?;
-        put(&mut found, key, member)?;
+        found = put(alloc, found, key, member)?;
     }
     let document = document_of(alloc, found)?;
     Ok(Bson::Document(document))
+}
+
+// What the wrapper means whose key was read: one of that key alone, or code with its scope.
+#[cycle(straight)]
+#[inline(never)]
+fn read_wrapper(
+    alloc: Global,
+    reader: &mut Reader<'_>,
+    depth: usize,
+    key: &str,
+) -> Result<Bson, Unread>
+    ensures ok { IfOk result (λ v. WrapperMeans depth key.now reader.old (bson_view v) reader.new) }
+    ensures shorter { OnOk result (length reader.new < length reader.old) }
+{
+    let held = read_tree(alloc, reader, depth)?;
+    match reader.next_key()? {
+        Some(other) => read_code(alloc, reader, depth, key, held, other),
+        None => {
+            let leaf = read_single(alloc, key, held)?;
+            Ok(of_leaf(leaf))
+        }
+    }
+}
+
+// Code, behind whose key another one was read.
+#[cycle(straight)]
+fn read_code(
+    alloc: Global,
+    reader: &mut Reader<'_>,
+    depth: usize,
+    key: &str,
+    held: Value,
+    other: &str,
+) -> Result<Bson, Unread>
+    ensures ok { IfOk result
+        (λ v. CodeMeans depth key.now (view held) other.now reader.old (bson_view v) reader.new) }
+    ensures shorter { OnOk result (length reader.new < length reader.old) }
+{
+    if !is_code_with_scope(key, other) {
+        return Err(Unread::LeftToTree);
+    }
+    let Value::String(code) = held else {
+        return Err(Unread::LeftToTree);
+    };
+    let scope = read_scope(alloc, reader, depth)?;
+    if reader.next_key()?.is_some() {
+        return Err(Unread::LeftToTree);
+    }
+    Ok(coded(code, scope))
+}
+
+fn is_code_with_scope(key: &str, other: &str) -> bool
+    ensures { result ≡ (bytes_eq key.now (codes "$code") && bytes_eq other.now (codes "$scope")) }
+{
+    key == "$code" && other == "$scope"
+}
+
+fn coded(code: String, scope: Option<Document>) -> Bson
+    ensures { bson_view result ≡ coded_value (string_bytes code) (option_map document_view scope) }
+{
+    match scope {
+        None => Bson::JavaScriptCode(code),
+        Some(scope) => with_scope(code, scope),
+    }
+}
+
+fn with_scope(code: String, scope: Document) -> Bson
+    ensures { bson_view result ≡ code_scope (string_bytes code) (document_view scope) }
+{
+    Bson::JavaScriptCodeWithScope(JavaScriptCodeWithScope { code, scope })
+}
+
+// The scope of code: null, or a document whose keys are not tested.
+#[cycle(straight)]
+fn read_scope(
+    alloc: Global,
+    reader: &mut Reader<'_>,
+    depth: usize,
+) -> Result<Option<Document>, Unread>
+    ensures ok { IfOk result
+        (λ scope. ScopeMeans (converted of_json (value depth reader.old)) (option_map document_view scope) reader.new) }
+    ensures shorter { OnOk result (length reader.new < length reader.old) }
+{
+    let token = reader.next().ok_or(Unread::LeftToTree)?;
+    match token {
+        Token::Null => Ok(None),
+        Token::BeginObject => {
+            if depth == 0 {
+                return Err(Unread::LeftToTree);
+            }
+            Ok(Some(read_pairs(alloc, reader, depth - 1)?))
+        }
+        _ => Err(Unread::LeftToTree),
+    }
+}
+
+#[cycle(straight)]
+fn read_pairs(alloc: Global, reader: &mut Reader<'_>, depth: usize) -> Result<Document, Unread>
+    ensures ok { IfOk result
+        (λ v. PairsMean (converted (λ ms. of_members ms no_members) (members (value depth) (length reader.old) reader.old)) (document_view v) reader.new) }
+    ensures shorter { OnOk result (length reader.new < length reader.old) }
+{
+    let mut found = none(alloc);
+    'members: while let Some(name) = reader.next_key()? {
+        let key = String::from_str(alloc, name)?;
+        let member = read_value(alloc, reader, depth)?;
+        found = put(alloc, found, key, member)?;
+    }
+    document_of(alloc, found)
 }

@@ -28,8 +28,8 @@ const MAX_DEPTH: usize = 127;
 /// `NotExtendedJson` with the first fault of its tree where that has no meaning.
 ///
 /// What has a meaning is read straight, with no tree of the whole. A text that is refused so is read again by its tree,
-/// which finds the fault; so are, and then accepted, an object with a wrapper's key behind another key, code with its
-/// scope, and an object of many keys that do not ascend.
+/// which finds the fault. So is, and is then accepted, a text that has an object in which a wrapper's key stands twice,
+/// or behind another key (`$scope` before `$code`), or in which a value of no meaning gives way to a later one of its key.
 pub fn try_from_text(alloc: Global, bytes: &[u8]) -> Result<Bson, TextError>
     ensures ok { IfOk result (λ v. HasTextMeaning bytes.now (bson_view v)) }
     ensures accepts { (t : Data) (v : model.Value) → IsTextOf bytes.now t → Means t v

@@ -1,4 +1,4 @@
-use Rattle.std.proofs.Common.{◌≡◌, ◌-◌, ◌<◌, suc, length, string_bytes, nat_cmp, Equal, Greater, sym, ap, ◌∙◌, subst, arith}
+use Rattle.std.proofs.Common.{◌≡◌, ◌-◌, suc, string_bytes, nat_cmp, Equal, Greater, sym, ap, ◌∙◌, subst, arith}
 use Rattle.std.specs.Cmp.Lexicographic.{slice_cmp}
 use Rattle.bson_text.specs.Gathered.{FitsAt}
 use Rattle.bson_text.proofs.Places.{key_at, IsBelowAt, stands, fits, fits_first}

@@ -7,17 +7,29 @@ use Rattle.bson_model.specs.Reading.{reads_items, reads_members}
 use Rattle.bson_model.specs.Sorted.{KeysAscend}
 use Rattle.bson.proofs.Onto.{onto_values}
 use Rattle.bson.specs.View.{bson_view}
-use Rattle.bson_text.specs.Gathered.{seen}
+use Rattle.bson_text.specs.Gathered.{gathered}
 use Rattle.bson_text.proofs.straight.+straight.Given as goal
 
 abbrev pub decreases-read_value : goal.decreases-read_value
-decreases-read_value l = 2 * l.depth
+decreases-read_value l = 8 * l.depth
 
 abbrev pub decreases-read_items : goal.decreases-read_items
-decreases-read_items l = 2 * l.depth + 1
+decreases-read_items l = 8 * l.depth + 1
+
+abbrev pub decreases-read_pairs : goal.decreases-read_pairs
+decreases-read_pairs l = 8 * l.depth + 1
+
+abbrev pub decreases-read_scope : goal.decreases-read_scope
+decreases-read_scope l = 8 * l.depth + 1
+
+abbrev pub decreases-read_code : goal.decreases-read_code
+decreases-read_code l = 8 * l.depth + 2
+
+abbrev pub decreases-read_wrapper : goal.decreases-read_wrapper
+decreases-read_wrapper l = 8 * l.depth + 3
 
 abbrev pub decreases-read_object : goal.decreases-read_object
-decreases-read_object l = 2 * l.depth + 1
+decreases-read_object l = 8 * l.depth + 4
 
 -- what was read stands before what is left
 abbrev pub invariant-read_items-items : goal.invariant-read_items-items
@@ -41,10 +53,24 @@ invariant-read_object-members l = record {
   so_far : Members;
   all : converted (λ ms. of_members ms no_members) (members (value l.depth) (length l.initial.reader) l.initial.reader) ≡ converted (λ ms. of_members ms so_far) (members (value l.depth) n l.reader);
   plain : has_wrapper so_far ≡ false;
-  read : reads_members so_far ≡ Ok (seen l.found.items);
-  ascends : KeysAscend (seen l.found.items);
+  read : reads_members so_far ≡ Ok (gathered l.found);
+  ascends : KeysAscend (gathered l.found);
   shorter : length l.reader ≤ length l.initial.reader;
 }
 
 abbrev pub decreases-read_object-members : goal.decreases-read_object-members
 decreases-read_object-members l = length l.reader
+
+abbrev pub invariant-read_pairs-members : goal.invariant-read_pairs-members
+invariant-read_pairs-members l = record {
+  n : ℕ;
+  enough : length l.reader ≤ n;
+  so_far : Members;
+  all : converted (λ ms. of_members ms no_members) (members (value l.depth) (length l.initial.reader) l.initial.reader) ≡ converted (λ ms. of_members ms so_far) (members (value l.depth) n l.reader);
+  read : reads_members so_far ≡ Ok (gathered l.found);
+  ascends : KeysAscend (gathered l.found);
+  shorter : length l.reader ≤ length l.initial.reader;
+}
+
+abbrev pub decreases-read_pairs-members : goal.decreases-read_pairs-members
+decreases-read_pairs-members l = length l.reader

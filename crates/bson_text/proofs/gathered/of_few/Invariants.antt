@@ -2,7 +2,7 @@ use Rattle.std.proofs.Common.{◌≡◌, ◌++◌, length}
 use Rattle.std.specs.Vec.Iter.{into_iter_items, into_iter_len}
 use Rattle.bson.proofs.Fresh.{Fresh}
 use Rattle.bson_text.specs.Gathered.{by_bytes}
-use Rattle.bson_text.proofs.gathered.document_of.Given as goal
+use Rattle.bson_text.proofs.gathered.of_few.Given as goal
 
 abbrev pub invariant-pairs : goal.invariant-pairs
 invariant-pairs l = record {

@@ -1,24 +1,12 @@
-use Rattle.std.proofs.Common.{◌≡◌, [], ◌∷◌, ◌++◌, List, length, string_bytes, refl, sym, ap, ◌∙◌, subst, arith}
+use Rattle.std.proofs.Common.{◌≡◌, [], ◌∷◌, ◌++◌, length, string_bytes, refl, sym, ap, ◌∙◌, subst, arith}
 use Rattle.std.specs.Vec.Iter.{into_iter_items}
 use Rattle.bson.proofs.Fresh.{Fresh, fresh_next}
 use Rattle.bson.proofs.Seen.{document_view-pairs}
 use Rattle.bson.specs.View.{pairs_view}
 use Rattle.bson_store.proofs.Found.{put-absent}
 use Rattle.bson_text.specs.Gathered.{by_bytes}
-use Rattle.bson_text.proofs.Places.{fresh}
-use Rattle.bson_text.proofs.gathered.document_of.Goals as goal
-
-nothing_left : {X : Type 0} (xs : List X) → length xs ≡ 0 → xs ≡ []
-nothing_left [] h = refl
-nothing_left (x ∷ xs) h = absurd (omega arith)
-
-then_last : {X : Type 0} (xs : List X) (x : X) (ys : List X) → (xs ++ x ∷ []) ++ ys ≡ xs ++ x ∷ ys
-then_last [] x ys = refl
-then_last (y ∷ xs) x ys = ap (λ l. y ∷ l) (then_last xs x ys)
-
-at_end : {X : Type 0} (xs : List X) → xs ++ [] ≡ xs
-at_end [] = refl
-at_end (x ∷ xs) = ap (λ l. x ∷ l) (at_end xs)
+use Rattle.bson_text.proofs.Places.{fresh, nothing_left, then_last, at_end}
+use Rattle.bson_text.proofs.gathered.of_few.Goals as goal
 
 pub pairs-init : goal.pairs-init
 pairs-init c =
