@@ -1,6 +1,5 @@
 -- The bytes have one tree, it one value, and that one output.
 use Rattle.std.proofs.Common.{◌≡◌, ◌++◌, ℕ, List, Result, Ok, Err, Vec, Global, IfOk, sym, ap, ◌∙◌, subst}
-use Rattle.std.proofs.lemmas.Option.{same_Some}
 use Rattle.serde_json.specs.Data.{Data}
 use Rattle.serde_json.specs.Written.{compact_text}
 use Rattle.bson_leaf.specs.declared.form.Form.{Form}
@@ -8,13 +7,12 @@ use Rattle.bson_leaf.specs.declared.form.Form.TheVariants as form
 use Rattle.bson_model.specs.Means.{Means}
 use Rattle.bson_model.specs.Value.{Value}
 use Rattle.bson_model.specs.Writing.{HasMeaning}
-use Rattle.bson_run.specs.Convert.{Converts, IsTextOf, IsWritten, IsOutput, newline}
+use Rattle.bson_run.specs.Convert.{Converts, IsWritten, IsOutput, newline}
 use Rattle.bson_run.specs.declared.mode.Mode.{Mode}
 use Rattle.bson_run.specs.declared.mode.Mode.TheVariants.{Canonical, Relaxed, Show}
 use Rattle.bson_run.specs.declared.fault.Fault.{Fault}
-
-tree_one : (bytes : List ℕ) (t u : Data) → IsTextOf bytes t → IsTextOf bytes u → t ≡ u
-tree_one bytes t u a b = same_Some t u (sym a.tree_read ∙ b.tree_read)
+use Rattle.bson_text.specs.Text.{IsTextOf}
+use Rattle.bson_text.proofs.Accepted.{tree_one}
 
 written_one : (f : Form) (v : Value) (a b : List ℕ) → IsWritten f v a → IsWritten f v b → b ≡ a
 written_one f v a b x y = y.line.text ∙ ap (λ t. compact_text t ++ newline) (x.is_tree.one y.tree y.is_tree.written) ∙ sym x.line.text

@@ -1,5 +1,5 @@
 -- What converting makes of bytes: the output of the one value that they mean as a text, or why they mean none.
-use Rattle.std.specs.Prelude.{◌≡◌, ◌≤◌, ℕ, List, [], ◌∷◌, ◌++◌, Some, None, IsUtf8}
+use Rattle.std.specs.Prelude.{◌≡◌, ◌≤◌, ℕ, List, [], ◌∷◌, ◌++◌, Some}
 use Rattle.serde_json.specs.Data.{Data, depth}
 use Rattle.serde_json.specs.Read.{read, max_depth}
 use Rattle.serde_json.specs.Written.{compact_text}
@@ -11,21 +11,11 @@ use Rattle.bson_model.specs.Means.{Means}
 use Rattle.bson_model.specs.Shown.{shown}
 use Rattle.bson_model.specs.Value.{Value}
 use Rattle.bson_model.specs.Writing.{HasMeaning, IsTreeOf, Written, normal_form}
+use Rattle.bson_text.specs.Text.{IsTextOf, IsNoText}
 use Rattle.bson_run.specs.declared.mode.Mode.{Mode}
 use Rattle.bson_run.specs.declared.mode.Mode.TheVariants.{Canonical, Relaxed, Show}
 use Rattle.bson_run.specs.declared.fault.Fault.{Fault}
 use Rattle.bson_run.specs.declared.fault.Fault.TheVariants.{CannotRead, NotJson, BadObjectId, NotExtendedJson, OutOfMemory, CannotWrite}
-
--- ---- the input
-
--- the bytes as a whole are a JSON text of the tree
-pub record IsTextOf (bytes : List ℕ) (tree : Data) : Type 0 where
-  pub utf8 : IsUtf8 bytes
-  pub tree_read : read bytes ≡ Some tree
-
--- the bytes are no UTF-8, or no JSON text
-abbrev pub IsNoText : List ℕ → Type 0
-IsNoText bytes = IsUtf8 bytes → read bytes ≡ None
 
 -- ---- the output
 
@@ -83,12 +73,3 @@ IsRefused NotExtendedJson bytes = HasNoMeaning IsBad bytes
 IsRefused OutOfMemory bytes = Unit {0}
 IsRefused CannotRead bytes = ⊥
 IsRefused CannotWrite bytes = ⊥
-
--- ---- for private clauses
-
--- why the tree gave no value
-abbrev pub IsTreeRefused : Fault → Data → Type 0
-IsTreeRefused BadObjectId tree = MeansNothing tree × IsBadId (fault_of tree)
-IsTreeRefused NotExtendedJson tree = MeansNothing tree × IsBad (fault_of tree)
-IsTreeRefused OutOfMemory tree = Unit {0}
-IsTreeRefused _ tree = ⊥

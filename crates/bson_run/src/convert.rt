@@ -1,20 +1,20 @@
 //! One text to another: from bytes to bytes.
-ghost use Rattle.std.specs.Prelude.{◌≡◌, ◌⊎◌, ◌++◌, Err, IfOk, IfErr, ℕ, List, string_bytes};
+ghost use Rattle.std.specs.Prelude.{◌≡◌, ◌++◌, IfOk, IfErr, ℕ, List, string_bytes};
 ghost use Rattle.serde_json.specs.Data.{Data};
-ghost use Rattle.serde_json.specs.View.{view};
 ghost use Rattle.bson_model.specs.Means.{Means};
 ghost use Rattle.bson_model.specs.Shown.{shown};
 ghost use Rattle.bson_model.specs.Value as model;
-ghost use Rattle.bson_model.specs.Writing.{HasMeaning, IsReadForm};
+ghost use Rattle.bson_model.specs.Writing.{IsReadForm};
 ghost use Rattle.bson.specs.View.{bson_view};
-ghost use Rattle.bson_run.specs.Convert.{Converts, IsTextOf, IsNoText, IsOutput, IsRefused, IsTreeRefused, newline};
+ghost use Rattle.bson_run.specs.Convert.{Converts, IsOutput, IsRefused, newline};
+ghost use Rattle.bson_text.specs.Text.{IsTextOf, HasTextMeaning};
 
 use crate::fault::Fault;
 use crate::mode::Mode;
 use bson::Bson;
 use bson::extjson::WriteError;
 use bson::extjson::de::Error;
-use serde_json::Value;
+use bson_text::{TextError, try_from_text};
 use std::alloc::Global;
 
 /// The text that the mode asks for of the one value that the bytes mean, and a newline.
@@ -30,45 +30,35 @@ pub fn convert(alloc: Global, mode: Mode, bytes: &[u8]) -> Result<Vec<u8>, Fault
         → IfErr result (λ fault. fault ≡ Fault.OutOfMemory) }
     ensures fault { IfErr result (λ fault. IsRefused fault bytes.now) }
 {
-    let tree = parse(alloc, bytes)?;
-    let value = meaning(alloc, tree)?;
+    let value = meaning(alloc, bytes)?;
     output(alloc, mode, value)
 }
 
-/// The same of bytes that are let go once their tree is read, so that they take no memory beside the output.
+/// The same of bytes that are let go once their value is read, so that they take no memory beside the output.
 pub(crate) fn convert_whole(alloc: Global, mode: Mode, bytes: Vec<u8>) -> Result<Vec<u8>, Fault>
     ensures ok { IfOk result (λ output. Converts mode bytes.items output.items) }
     ensures fault { IfErr result (λ fault. IsRefused fault bytes.items) }
 {
-    let tree = parse(alloc, &bytes)?;
+    let read = meaning(alloc, &bytes)?;
     drop(bytes);
-    output(alloc, mode, meaning(alloc, tree)?)
+    output(alloc, mode, read)
 }
 
-/// The tree whose text the bytes are.
-fn parse(alloc: Global, bytes: &[u8]) -> Result<Value, Fault>
-    ensures ok { IfOk result (λ tree. IsTextOf bytes.now (view tree)) }
-    ensures not_json { result ≡ Err Fault.NotJson → IsNoText bytes.now }
-    ensures fault { IfErr result (λ fault. (fault ≡ Fault.NotJson) ⊎ (fault ≡ Fault.OutOfMemory)) }
-{
-    match Value::from_slice(alloc, bytes) {
-        Ok(tree) => Ok(tree),
-        Err(error) if error.is_memory() => Err(Fault::OutOfMemory),
-        Err(_) => Err(Fault::NotJson),
-    }
-}
-
-/// The value that the tree means.
-fn meaning(alloc: Global, tree: Value) -> Result<Bson, Fault>
-    ensures ok { IfOk result (λ value. HasMeaning (view tree) (bson_view value)) }
+/// The value that the bytes mean as a text.
+fn meaning(alloc: Global, bytes: &[u8]) -> Result<Bson, Fault>
+    ensures ok { IfOk result (λ value. HasTextMeaning bytes.now (bson_view value)) }
     ensures read_form { IfOk result (λ value. IsReadForm (bson_view value)) }
-    ensures fault { IfErr result (λ fault. IsTreeRefused fault (view tree)) }
+    ensures fault { IfErr result (λ fault. IsRefused fault bytes.now) }
 {
-    match Bson::try_from_value(alloc, tree) {
+    match try_from_text(alloc, bytes) {
         Ok(value) => Ok(value),
-        Err(Error::InvalidObjectId(_)) => Err(Fault::BadObjectId),
-        Err(Error::DeserializationError { .. }) => Err(Fault::NotExtendedJson),
-        Err(Error::OutOfMemory) => Err(Fault::OutOfMemory),
+        Err(TextError::NotJson) => Err(Fault::NotJson),
+        Err(TextError::NotExtendedJson(Error::InvalidObjectId(_))) => Err(Fault::BadObjectId),
+        Err(TextError::NotExtendedJson(Error::DeserializationError { .. })) => {
+            Err(Fault::NotExtendedJson)
+        }
+        Err(TextError::NotExtendedJson(Error::OutOfMemory)) => Err(Fault::OutOfMemory),
+        Err(TextError::OutOfMemory) => Err(Fault::OutOfMemory),
     }
 }
 

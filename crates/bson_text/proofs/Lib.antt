@@ -1,0 +1,5 @@
+pub mod Accepted
+mod Places
+mod PutReads
+mod Turns
+mod Wrapped

@@ -1,0 +1,71 @@
+-- A turn of the grammar's loops over tokens, where each part that is read becomes a part of the tree.
+use Rattle.std.proofs.Common.{◌≡◌, ℕ, ◌-◌, ◌<◌, ◌≤◌, List, length, Option, Some, None, option_map, refl, ap, ◌∙◌}
+use Rattle.std.proofs.lemmas.Option.{same_Some}
+use Rattle.json.specs.Token.{Token}
+use Rattle.json.specs.Json as json
+use Rattle.json.specs.Json.{Parse, parse_map, after_end_array, read_key, items, members}
+use Rattle.json.proofs.Grammar.{items_end, items_more, members_end, members_more}
+use Rattle.serde_json.specs.Data.{Data, array, object, no_items, item, Members, no_members, put}
+use Rattle.serde_json.specs.Read.{of_json, of_items, of_members, converted}
+
+-- what became a part of the tree, beside the tokens that are left
+beside : {B : Type 0} (x : Option B) (r s : List Token) (b : B) → option_map {U = B × List Token} (λ y. (y, r)) x ≡ Some (b, s) → (x ≡ Some b) × (r ≡ s)
+beside None r s b e = cc
+beside {B} (Some y) r s b e = let same : (y, r) ≡ (b, s) = same_Some {A = B × List Token} (y, r) (b, s) e in (ap (λ p. Some p.0) same, ap (λ p. p.1) same)
+
+-- what became a part of the tree was read
+was_read : {A B : Type 0} (f : A → Option B) (o : Option (A × List Token)) (b : B) (r : List Token) → converted f o ≡ Some (b, r) → (a : A) × (o ≡ Some (a, r)) × (f a ≡ Some b)
+was_read f None b r e = cc
+was_read f (Some (a, s)) b r e = let h = beside (f a) s r b e in (a, ap (λ t. Some (a, t)) h.1, h.0)
+
+-- a function of the part, before or after the tokens that are left come to it
+under : {A B : Type 0} (g : A → B) (x : Option A) (r : List Token) → option_map (λ b. (b, r)) (option_map g x) ≡ parse_map g (option_map (λ a. (a, r)) x)
+under g None r = refl
+under g (Some a) r = refl
+
+pub array_converted : (o : Option (json.Items × List Token)) → converted of_json (parse_map json.array o) ≡ parse_map array (converted of_items o)
+array_converted None = refl
+array_converted (Some (js, r)) = under array (of_items js) r
+
+pub object_converted : (o : Option (json.Members × List Token)) → converted of_json (parse_map json.object o) ≡ parse_map object (converted (λ ms. of_members ms no_members) o)
+object_converted None = refl
+object_converted (Some (js, r)) = under object (of_members js no_members) r
+
+first_item : (j : json.Json) (d : Data) (o : Option (json.Items × List Token)) → of_json j ≡ Some d → converted of_items (parse_map (json.item j) o) ≡ parse_map (item d) (converted of_items o)
+first_item j d None h = refl
+first_item j d (Some (js, r)) h = rw h (under (item d) (of_items js) r)
+
+first_member : (k : List ℕ) (j : json.Json) (d : Data) (old : Members) (o : Option (json.Members × List Token)) → of_json j ≡ Some d
+    → converted (λ ms. of_members ms old) (parse_map (json.member k j) o) ≡ converted (λ ms. of_members ms (put k d old)) o
+first_member k j d old None h = refl
+first_member k j d old (Some (js, r)) h = rw h refl
+
+module _ (p : Parse json.Json) (n : ℕ) where
+  -- one more element, and the end of the list
+  pub one_item : (ts r : List Token) (d : Data) → 0 < n → after_end_array ts ≡ None → converted of_json (p ts) ≡ Some (d, r)
+      → converted of_items (items p n ts) ≡ parse_map (item d) (converted of_items (items p (n - 1) r))
+  one_item ts r d left going e =
+      let j = was_read of_json (p ts) d r e in
+      ap (converted of_items) (items_more p n ts r j.0 left going j.1) ∙ first_item j.0 d _ j.2
+
+  pub last_item : (ts r : List Token) → length ts ≤ n → after_end_array ts ≡ Some r → converted of_items (items p n ts) ≡ Some (no_items, r)
+  last_item ts r enough e = ap (converted of_items) (items_end p n ts r enough e)
+
+  -- one more member, and the end of the object
+  pub one_member : (old : Members) (k : List ℕ) (ts s r : List Token) (d : Data) → 0 < n → read_key ts ≡ Some (Some k, s) → converted of_json (p s) ≡ Some (d, r)
+      → converted (λ ms. of_members ms old) (members p n ts) ≡ converted (λ ms. of_members ms (put k d old)) (members p (n - 1) r)
+  one_member old k ts s r d left key e =
+      let j = was_read of_json (p s) d r e in
+      ap (converted (λ ms. of_members ms old)) (members_more p n k ts s r j.0 left key j.1) ∙ first_member k j.0 d old _ j.2
+
+  pub last_member : (old : Members) (ts r : List Token) → length ts ≤ n → read_key ts ≡ Some (None, r) → converted (λ ms. of_members ms old) (members p n ts) ≡ Some (old, r)
+  last_member old ts r enough e = ap (converted (λ ms. of_members ms old)) (members_end p n ts r enough e)
+
+-- what was read, under two functions in turn, and under none
+pub fused : {A B C : Type 0} (f : B → C) (g : A → B) (o : Option (A × List Token)) → parse_map f (parse_map g o) ≡ parse_map (λ a. f (g a)) o
+fused f g None = refl
+fused f g (Some p) = refl
+
+pub as_it_is : {A : Type 0} (o : Option (A × List Token)) → o ≡ parse_map (λ a. a) o
+as_it_is None = refl
+as_it_is (Some p) = refl

@@ -1,0 +1,37 @@
+use Rattle.std.proofs.Common.{◌≡◌, [], ◌∷◌, ◌++◌, string_bytes, refl, sym, ap, ◌∙◌, subst}
+use Rattle.bson.proofs.Fresh.{Fresh, fresh_next}
+use Rattle.bson.proofs.Seen.{document_view-pairs}
+use Rattle.bson.specs.View.{pairs_view}
+use Rattle.bson_store.proofs.Found.{put-absent}
+use Rattle.bson_text.specs.Gathered.{by_bytes}
+use Rattle.bson_text.proofs.Places.{fresh, then_last, at_end}
+use Rattle.bson_text.proofs.gathered.of_many.Goals as goal
+
+pub pairs-init : goal.pairs-init
+pairs-init c =
+    let given = c.into_iter-key-iterator.ensures.into_iter_gives in
+    record {
+      fresh = rw (c.new-document.ensures, given.0) (fresh c.args.found.entries c.requires);
+      all = rw (c.new-document.ensures, given.0) refl;
+    }
+
+pub pairs-preserved : goal.pairs-preserved
+pairs-preserved c =
+    let at = c.pairs in
+    let steps = c.in-Some.ensures.steps in
+    let was = subst (λ ms. Fresh at.document.pairs ms) steps at.invariant.fresh in
+    let k = string_bytes c.in-Some.key in
+    let put : c.append.new.document.pairs ≡ at.document.pairs ++ (k, c.in-Some.value) ∷ [] = c.in_ok-append.ensures ∙ sym (put-absent k at.document.pairs c.in-Some.value was.0) in
+    record {
+      fresh = rw put (fresh_next at.document.pairs (c.in-Some.key, c.in-Some.value) c.in-Some.value c.next.new.self was);
+      all =
+          ap (λ ps. ps ++ by_bytes c.next.new.self) put
+          ∙ then_last at.document.pairs (k, c.in-Some.value) (by_bytes c.next.new.self)
+          ∙ ap (λ ms. at.document.pairs ++ by_bytes ms) (sym steps) ∙ at.invariant.all;
+    }
+
+pub returns : goal.returns
+returns c =
+    let at = c.pairs in
+    let none = c.in-None.ensures.steps.0 in
+    document_view-pairs at.document ∙ ap pairs_view (sym (at_end at.document.pairs) ∙ ap (λ ms. at.document.pairs ++ by_bytes ms) (sym none) ∙ at.invariant.all)

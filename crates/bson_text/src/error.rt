@@ -1,0 +1,19 @@
+//! Why bytes give no value.
+use bson_leaf::error::Error;
+
+/// Why bytes give no value.
+#[derive(Debug, Drop, thiserror::Error)]
+pub enum TextError {
+    /// The bytes are not one JSON text: they are no UTF-8, nest deeper than 127, or break the grammar.
+    #[error("not JSON")]
+    NotJson,
+
+    /// The JSON text has no meaning in MongoDB Extended JSON v2, for the first fault of its tree. It is never want of
+    /// memory.
+    #[error("{0}")]
+    NotExtendedJson(Error),
+
+    /// A request for memory was refused.
+    #[error("out of memory")]
+    OutOfMemory,
+}
