@@ -260,3 +260,13 @@ two_left x y (z ∷ rest) h = absurd (omega arith)
 
 pub two_members_left : (es : List Member) (x y : Member) (mid rest : List Member) → es ≡ x ∷ mid → mid ≡ y ∷ rest → length rest ≡ 0 → members_view es ≡ member (string_bytes x.0) (view x.1) (member (string_bytes y.0) (view y.1) no_members)
 two_members_left es x y mid rest a b h = rw (a, b) (two_left x y rest h)
+
+-- ---- the text of a way
+
+pub dotted_more : (turn : Turn) (out : List Turn) → 0 < length out → dotted (turn ∷ out) ≡ dotted out ++ codes "." ++ word_of turn
+dotted_more turn [] some = absurd (omega arith)
+dotted_more turn (u ∷ out) some = refl
+
+pub dotted_one : (turn : Turn) (out : List Turn) → length out ≡ 0 → dotted (turn ∷ out) ≡ word_of turn
+dotted_one turn [] none = refl
+dotted_one turn (u ∷ out) none = absurd (omega arith)

@@ -1,5 +1,6 @@
 -- Where the first fault of a tree lies: the way to it, a step for each list and object that it is in.
 use Rattle.std.specs.Prelude.{◌≡◌, ℕ, ◌+◌, List, [], ◌∷◌, ◌++◌, map, codes, string_bytes, true, false, Ok, Err, Option}
+use Rattle.std.specs.Fmt.{decimal}
 use Rattle.serde_json.specs.Data.{Data, Num, Items, item, Members, no_members, member}
 use Rattle.serde_json.specs.Data as tree
 use Rattle.bson_leaf.specs.Faults.{Fault, bad, bad_id, IsIdFault}
@@ -28,6 +29,19 @@ turn_of (declared.Element n) = element n
 -- from the fault outward
 abbrev pub way_of : Place → List Turn
 way_of place = map turn_of place.steps.items
+
+-- ---- its text
+
+-- a key as it is; a place in a list as its number, counted from 0
+abbrev pub word_of : Turn → List ℕ
+word_of (key k) = k
+word_of (element n) = decimal n
+
+-- the words from the tree inward, with points between
+abbrev pub dotted : List Turn → List ℕ
+dotted [] = []
+dotted (turn ∷ []) = word_of turn
+dotted (turn ∷ out ∷ more) = dotted (out ∷ more) ++ codes "." ++ word_of turn
 
 -- ---- where the fault lies
 
