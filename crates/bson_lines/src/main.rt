@@ -1,38 +1,62 @@
-//! The program `bson_lines MODE`: reads documents, one a line, from standard input, and writes the output of each on a
-//! line of its own to standard output, in constant memory.
+//! The program `bson_lines MODE [FILE ..]`: reads documents, one a line, and writes the output of each on a line of its
+//! own, in constant memory.
 //!
-//! The library `bson_run` goes the whole way; here stand the arguments, the lines on standard error and the statuses.
+//! The library `bson_run` goes the whole way; here stand the arguments (`order`), the files (`streams`, `run`), the line
+//! of progress (`progress`), and the lines on standard error and the statuses.
 #![tactic(auto)]
 
+mod order;
+mod progress;
+mod run;
+mod streams;
+mod words;
+
+use crate::order::{Asked, Order, asked_by};
+use crate::run::{Stop, run};
+use crate::words::{HELP, OUT_OF_MEMORY, USAGE, VERSION};
 use bson_run::fault::Fault;
 use bson_run::line_fault::LineFault;
-use bson_run::lines::{Counts, run_lines};
-use bson_run::mode::Mode;
-use bson_run::order::{OnRefusal, Task};
+use bson_run::lines::Counts;
 use std::alloc::{AllocError, Global};
 use std::env;
 use std::io::ErrorKind;
 use std::process::ExitCode;
 
-const USAGE: &str = "usage: bson_lines canonical|relaxed|show|check [--keep-going]";
-
-/// What stands on standard error where there is no memory for anything else.
-const OUT_OF_MEMORY: &str = "bson_lines: out of memory";
-
 /// Status 0: done, and no line was refused. Status 1: a line was refused, or the run could not go on, which standard
 /// error tells. Status 2: other arguments, and nothing was read.
 fn main(rt: HostRuntime) -> ExitCode {
-    let (task, on_refusal) = match asked(&rt) {
-        Ok(Some(order)) => order,
-        Ok(None) => return ended(&rt, USAGE, 2),
-        Err(_) => return ended(&rt, OUT_OF_MEMORY, 1),
+    match given(&rt) {
+        Ok(Asked::Run(order)) => done(&rt, &order),
+        Ok(Asked::Help) => shown(&rt, HELP),
+        Ok(Asked::Version) => shown(&rt, VERSION),
+        Ok(Asked::Nothing) => ended(&rt, USAGE, 2),
+        Err(_) => ended(&rt, OUT_OF_MEMORY, 1),
+    }
+}
+
+/// What the arguments ask for. One that is no UTF-8 asks for nothing.
+fn given(rt: &HostRuntime) -> Result<Asked, Fault> {
+    let mut words = match env::args(rt) {
+        Ok(words) => words,
+        Err(error) if error.kind() == ErrorKind::InvalidData => return Ok(Asked::Nothing),
+        Err(_) => return Err(Fault::OutOfMemory),
     };
-    let alloc = rt.alloc();
-    let (reader, writer, report) = (&mut rt.stdin(), &mut rt.stdout(), &mut rt.stderr());
-    match run_lines(alloc, task, on_refusal, reader, writer, report) {
+    let _program = words.next();
+    let Ok(words) = words.collect::<Vec<String>>(rt.alloc()) else {
+        return Err(Fault::OutOfMemory);
+    };
+    match asked_by(rt.alloc(), words) {
+        Ok(asked) => Ok(asked),
+        Err(_) => Err(Fault::OutOfMemory),
+    }
+}
+
+/// Runs, and tells what came of it.
+fn done(rt: &HostRuntime, order: &Order) -> ExitCode {
+    match run(rt, order) {
         Ok(counts) if counts.refused == 0 => ExitCode::SUCCESS,
-        Ok(counts) => told(&rt, summary(alloc, counts)),
-        Err(fault) => told(&rt, line_of(alloc, fault)),
+        Ok(counts) => told(rt, summary(rt.alloc(), counts)),
+        Err(stop) => told(rt, line_of(rt.alloc(), stop)),
     }
 }
 
@@ -44,8 +68,22 @@ fn summary(alloc: Global, counts: Counts) -> Result<String, AllocError> {
     )
 }
 
+/// What stopped the run, and where.
+fn line_of(alloc: Global, stop: Stop<'_>) -> Result<String, AllocError> {
+    match stop {
+        Stop::Input(name) => format!(in alloc; "bson_lines: cannot read {name}"),
+        Stop::Output(name) => format!(in alloc; "bson_lines: cannot write {name}"),
+        Stop::Both(name) => format!(in alloc; "bson_lines: {name} is read and written"),
+        Stop::Line(at, None) => at_line(alloc, at),
+        Stop::Line(at, Some(name)) => {
+            let line = at_line(alloc, at)?;
+            format!(in alloc; "bson_lines: {name}:\n{line}")
+        }
+    }
+}
+
 /// What stopped the run, and at which line; a reader or writer stops it wherever it is.
-fn line_of(alloc: Global, stopped: LineFault) -> Result<String, AllocError> {
+fn at_line(alloc: Global, stopped: LineFault) -> Result<String, AllocError> {
     let words = stopped.words();
     match stopped.fault {
         Fault::CannotRead | Fault::CannotWrite => format!(in alloc; "bson_lines: {words}"),
@@ -67,40 +105,10 @@ fn ended(rt: &HostRuntime, line: &str, status: u8) -> ExitCode {
     ExitCode::from(status)
 }
 
-/// What the arguments ask for. One that is no UTF-8 asks for nothing.
-fn asked(rt: &HostRuntime) -> Result<Option<(Task, OnRefusal)>, Fault> {
-    let mut words = match env::args(rt) {
-        Ok(words) => words,
-        Err(error) if error.kind() == ErrorKind::InvalidData => return Ok(None),
-        Err(_) => return Err(Fault::OutOfMemory),
-    };
-    let _program = words.next();
-    match words.collect::<Vec<String>>(rt.alloc()) {
-        Ok(words) => Ok(order_of(&words)),
-        Err(_) => Err(Fault::OutOfMemory),
-    }
-}
-
-/// The task, and `--keep-going` behind it or nothing.
-fn order_of(words: &[String]) -> Option<(Task, OnRefusal)> {
-    let (word, rest) = words.split_first()?;
-    let task = task_of(word.as_str())?;
-    let Some((flag, more)) = rest.split_first() else {
-        return Some((task, OnRefusal::Stop));
-    };
-    if flag.as_str() == "--keep-going" && more.is_empty() {
-        return Some((task, OnRefusal::KeepGoing));
-    }
-    None
-}
-
-/// The task of this name.
-fn task_of(word: &str) -> Option<Task> {
-    match word {
-        "canonical" => Some(Task::Write(Mode::Canonical)),
-        "relaxed" => Some(Task::Write(Mode::Relaxed)),
-        "show" => Some(Task::Write(Mode::Show)),
-        "check" => Some(Task::Check),
-        _ => None,
+/// Writes what the program says of itself.
+fn shown(rt: &HostRuntime, text: &str) -> ExitCode {
+    match rt.println(text) {
+        Ok(()) => ExitCode::SUCCESS,
+        Err(_) => ended(rt, "bson_lines: cannot write", 1),
     }
 }

@@ -44,10 +44,10 @@ abbrev pub Writes : Task → List ℕ → List ℕ → Type 0
 Writes (Write mode) text output = Converts mode text output
 Writes Check text output = ((whole : List ℕ) × Converts Canonical text whole) × (output ≡ [])
 
--- the text is refused for the fault
+-- the text is refused for the fault; one that is blank is not
 abbrev pub IsBadText : Fault → List ℕ → Type 0
 IsBadText CannotRead text = ⊥
-IsBadText NotJson text = IsRefused NotJson text
+IsBadText NotJson text = IsRefused NotJson text × (IsBlank text → ⊥)
 IsBadText BadObjectId text = IsRefused BadObjectId text
 IsBadText NotExtendedJson text = IsRefused NotExtendedJson text
 IsBadText OutOfMemory text = ⊥

@@ -1,5 +1,5 @@
 //! The line that is being gathered, and what the lines before it gave.
-ghost use Rattle.std.specs.Prelude.{◌≡◌, ◌⊎◌, ◌++◌, ◌+◌, [], ◌∷◌, ℕ, List, length, IfOk, IfErr, OnOk, OnErr, None, Ok, true, codes, string_bytes, MatchOption, MatchResult, IfSome, All, ◌≢◌, ◌<◌, take, slice_index};
+ghost use Rattle.std.specs.Prelude.{◌≡◌, ◌⊎◌, ◌++◌, ◌+◌, [], ◌∷◌, ℕ, List, length, IfOk, IfErr, OnOk, OnErr, None, Ok, IsTrue, ◌↔◌, codes, string_bytes, MatchOption, MatchResult, IfSome, All, ◌≢◌, ◌<◌, take, slice_index};
 ghost use Rattle.bson_run.specs.Lines.{IsBlank, IsBadText, IsStopped, Outcomes, Writes, told_of, words_of, text_of};
 ghost use Rattle.bson_run.specs.LinesSteps.{Ends, HasRoom, HaveSameOutcomes, IsJudged, IsOpen, IsStart, StopsLast, StopsWithin, Takes, TakesLine};
 ghost use Rattle.bson_run.specs.declared.order.OnRefusal.TheVariants.{Stop, KeepGoing};
@@ -46,7 +46,7 @@ fn text(before: u64, line: &[u8]) -> &[u8]
 
 /// Whether there are only spaces, tabs and carriage returns.
 fn is_blank(text: &[u8]) -> bool
-    ensures { result ≡ true → IsBlank text.now }
+    ensures { IsTrue result ↔ IsBlank text.now }
 {
     text.iter()
         .all(|byte| *byte == b' ' || *byte == b'\t' || *byte == b'\r')

@@ -1,0 +1,61 @@
+//! The place of a fault.
+ghost use Rattle.std.specs.Prelude.{◌≡◌, ◌++◌, map, IfOk, OnOk, string_bytes};
+ghost use Rattle.bson_place.specs.Place.{dotted, turn_of, way_of, word_of};
+
+use bson_leaf::error::Error;
+use std::alloc::{AllocError, Global};
+
+/// A step of the way to a fault.
+#[derive(Debug, Drop)]
+pub enum Step {
+    /// Into the value at a key.
+    Key(String),
+    /// Into an element of a list, counted from 0.
+    Element(usize),
+}
+
+/// The first fault of a tree, and the way to it.
+#[derive(Drop)]
+pub struct Place {
+    /// What is wrong there; never want of memory.
+    pub error: Error,
+    /// The way, from the fault outward.
+    pub steps: Vec<Step>,
+}
+
+impl Place {
+    /// The way from the tree inward: keys as they are and places in lists by their numbers, with points between, as
+    /// `orders.3._id.$oid`. It is empty where the fault is the tree's own.
+    pub fn path(&self, alloc: Global) -> Result<String, AllocError>
+        ensures { IfOk result (λ text. string_bytes text ≡ dotted (way_of self.now)) }
+    {
+        let mut path = String::new(alloc);
+        write_way(alloc, &self.steps, &mut path)?;
+        Ok(path)
+    }
+}
+
+/// Adds the words of the steps, the last of which comes first.
+fn write_way(alloc: Global, steps: &[Step], path: &mut String) -> Result<(), AllocError>
+    ensures { OnOk result (string_bytes path.new ≡ string_bytes path.old ++ dotted (map turn_of steps.now)) }
+{
+    let Some((step, outer)) = steps.split_first() else {
+        return Ok(());
+    };
+    if !outer.is_empty() {
+        write_way(alloc, outer, path)?;
+        path.push_str(".")?;
+    }
+    let word = word(alloc, step)?;
+    path.push_str(&word)
+}
+
+/// A key, or the number of a place in a list.
+fn word(alloc: Global, step: &Step) -> Result<String, AllocError>
+    ensures { IfOk result (λ word. string_bytes word ≡ word_of (turn_of step.now)) }
+{
+    match step {
+        Step::Key(key) => key.clone(),
+        Step::Element(at) => format!(in alloc; "{at}"),
+    }
+}
