@@ -4,6 +4,7 @@ use bson::{Bson, Document, JavaScriptCodeWithScope};
 use std::alloc::{AllocError, Global};
 use std::process::Abort;
 use std::test::Fail;
+use std::vec::IntoIter;
 
 fn is_pair(found: Option<(&String, &Bson)>, key: &str, value: i32) -> bool {
     match found {
@@ -137,45 +138,63 @@ fn ends(did_all: bool) -> Result<(), Fail> {
     }
 }
 
-/// The refused item is handed back, and exactly those before it are put in.
+/// Whether the items that are left are exactly these.
+fn leaves(rest: &mut IntoIter<(String, Bson)>, others: &[(String, i32)]) -> bool {
+    for (key, number) in others {
+        if !is_owned_pair(rest.next(), key.as_str(), *number) {
+            return false;
+        }
+    }
+    rest.next().is_none()
+}
+
+/// The refused item is handed back, exactly those before it are put in, and those behind it are left. It is then
+/// inserted.
 #[test]
 fn refused_extend(rt: HostRuntime) -> Result<(), Fail> {
     let alloc = rt.alloc();
     let others = numbered(alloc)?;
-    let items = items(alloc)?;
+    let mut rest = items(alloc)?.into_iter();
     let mut document = filled(alloc, &[("a", 1)])?;
-    let Err(Refused { key, value }) = document.extend(items.into_iter()) else {
-        assert!(rt; follows(&document, 9, others.as_slice()));
+    let Err(Refused { key, value }) = document.extend(&mut rest) else {
+        assert!(rt; rest.next().is_none());
+        assert!(rt; follows(&document, 9, &others));
         return Ok(());
     };
-    let done = place_of(others.as_slice(), key.as_str());
+    let done = place_of(&others, key.as_str());
     assert!(rt; done.is_some());
     let done = done.unwrap_or(0);
     assert!(rt; done < others.len());
     assert!(rt; value.as_i32() == Some(others[done].1));
+    assert!(rt; leaves(&mut rest, &others[done + 1..]));
     assert!(rt; follows(&document, 9, &others[..done]));
+    assert!(rt; matches!(document.insert(key, value), Ok(None)));
+    assert!(rt; follows(&document, 9, &others[..done + 1]));
     ends(false)
 }
 
-/// The refused item is handed back.
+/// The refused item is handed back, and those behind it are left.
 #[test]
 fn refused_from_pairs(rt: HostRuntime) -> Result<(), Fail> {
     let alloc = rt.alloc();
     let others = numbered(alloc)?;
-    let items = items(alloc)?;
-    let Refused { key, value } = match Document::from_pairs(alloc, items.into_iter()) {
+    let mut rest = items(alloc)?.into_iter();
+    let Refused { key, value } = match Document::from_pairs(alloc, &mut rest) {
         Ok(document) => {
-            assert!(rt; follows(&document, 9, others.as_slice()));
+            assert!(rt; rest.next().is_none());
+            assert!(rt; follows(&document, 9, &others));
             return Ok(());
         }
         Err(refused) => refused,
     };
-    let number = match place_of(others.as_slice(), key.as_str()) {
-        Some(at) if at < others.len() => others[at].1,
-        _ => 9,
+    let behind = match place_of(&others, key.as_str()) {
+        Some(at) if at < others.len() => at + 1,
+        _ => 0,
     };
-    assert!(rt; number != 9 || key.as_str() == "a" || key.as_str() == "k9");
+    let number = if behind == 0 { 9 } else { others[behind - 1].1 };
+    assert!(rt; behind > 0 || key.as_str() == "a");
     assert!(rt; value.as_i32() == Some(number));
+    assert!(rt; leaves(&mut rest, &others[behind..]));
     ends(false)
 }
 
