@@ -1,4 +1,5 @@
-"""Rows on documents of many keys that were chosen to have one hash, under the hasher of std's maps, and on as many others.
+"""Rows on documents of many keys that were chosen to have one hash, under the hasher of std's maps, and on as many
+others.
 
 Each is a call of bson_rows: the keys put in descending or ascending order and found, taken out from both ends, compared
 and hashed in another order, and written. A step that takes time in proportion to the number of keys would take minutes.

@@ -1,4 +1,5 @@
-//! Keys that were chosen to have one hash under the hasher of std's maps, and the order in which an index gives its keys.
+//! Keys that were chosen to have one hash under the hasher of std's maps, and the order in which an index gives its
+//! keys.
 //!
 //! tests/rows/many_keys.py makes the same keys, and puts 100,000 of them into a document.
 use bson::Bson;
