@@ -8,72 +8,29 @@ For each number of keys N (10000, 100000 and 400000 where none is given) it prin
 peak memory of `bson_cli canonical` on one object of N chosen keys, and of N keys that differ from these in one byte.
 A time is the least of five runs; the programs run in turns. A run past the longest, 60 s, is cut off and shown as >.
 
-Where `crates/bson_vectors` is tested, so that `out/bson_vectors_tests` stands, it also times its tests in
-`chosen_keys.rs` (100000 keys put, found, taken out, hashed, compared, written) in both kinds.
+Where `crates/bson_rows` is built it also times the rows of `tests/rows/many_keys.py` (100000 keys put, found, taken
+out, hashed, compared, written) in both kinds; reading the row and writing its answer are counted.
 """
 import argparse
 import os
 import resource
 import subprocess
+import sys
 import tempfile
 
+sys.dont_write_bytecode = True
 TOP = os.path.dirname(os.path.dirname(os.path.abspath(__file__)))
+sys.path.insert(0, os.path.join(TOP, "tests", "rows"))
+
+import many_keys
+
 OWN = os.path.join(TOP, "crates", "bson_cli", "out", "bson_cli")
-TESTS = os.path.join(TOP, "crates", "bson_vectors", "out", "bson_vectors_tests")
+ROWS = os.path.join(TOP, "crates", "bson_rows", "out", "bson_rows")
 SIZES = [10_000, 100_000, 400_000]
-
-WORD = (1 << 64) - 1
-START = 0x243F6A8885A308D3
-MULTIPLIER = 0x9E3779B97F4A7C15
-
-
-def folded(a, b):
-    product = a * b
-    return (product & WORD) ^ (product >> 64)
-
-
-def number_at(data, at):
-    return int.from_bytes(data[at:at + 8], "little")
-
-
-def absorbed(state, data, one, two):
-    return folded(number_at(data, one) ^ state, number_at(data, two) ^ MULTIPLIER)
-
-
-def hashed(data):
-    """The hash of more than eight bytes by the hasher of std's maps."""
-    state = (START + len(data)) & WORD
-    for at in range(0, (len(data) - 1) // 16 * 16, 16):
-        state = absorbed(state, data, at, at + 8)
-    return absorbed(state, data, len(data) - 16, len(data) - 8)
-
-
-def is_plain(data):
-    return all(0x20 <= byte < 0x7F and byte not in b'"\\' for byte in data)
-
-
-def undoing_head(length):
-    """24 bytes after which a key of this length has state 0, whatever the next eight are."""
-    for attempt in range(1_000_000):
-        head = b"k%015d" % attempt
-        undo = absorbed((START + length) & WORD, head, 0, 8).to_bytes(8, "little")
-        if is_plain(undo):
-            return head + undo
-    raise SystemExit("no head found")
-
-
-def keys(count, chosen):
-    head = undoing_head(48)
-    if not chosen:
-        head = head[:-1] + bytes([head[-1] + 1])
-    return [head + b"%08x" % number + b"T" * 16 for number in range(count)]
 
 
 def generate(path, count, chosen):
-    made = keys(count, chosen)
-    distinct = len({hashed(key) for key in made[:1000]})
-    if (distinct == 1) != chosen:
-        raise SystemExit(f"{distinct} hashes among the first 1000 keys")
+    made = many_keys.keys(count, chosen)
     with open(path, "wb") as out:
         out.write(b"{" + b",".join(b'"%s":%d' % pair for pair in zip(made, range(count))) + b"}")
 
@@ -119,15 +76,15 @@ def texts(room, sizes, programs, longest):
             print(f"| {count} | {kind} | " + " | ".join(cell(result, count, longest) for result in results) + " |", flush=True)
 
 
-def tests(longest):
-    print("\n| 100000 keys | chosen | ordinary |")
-    print("|---|---|---|")
-    for name in ["are_found", "are_taken_from_both_ends", "in_any_order_are_one_document",
-                 "are_written_in_ascending_order"]:
-        commands = [[TESTS, f"chosen_keys::{kind}_keys_{name}"] for kind in ["chosen", "ordinary"]]
-        results = best(commands, os.devnull, longest)
-        print(f"| {name} | " + " | ".join("> %d s" % longest if r is None else "%.2f s" % r[0] for r in results) + " |",
-              flush=True)
+def calls(room, longest):
+    print(f"\n| {many_keys.COUNT} keys | time |")
+    print("|---|---|")
+    path = os.path.join(room, "row")
+    for row in many_keys.rows():
+        with open(path, "wb") as out:
+            out.write(row.call + b"\n")
+        result, = best([[ROWS]], path, longest)
+        print(f"| {row.name} | " + ("> %d s" % longest if result is None else "%.2f s" % result[0]) + " |", flush=True)
 
 
 def main():
@@ -138,8 +95,8 @@ def main():
     given = parser.parse_args()
     with tempfile.TemporaryDirectory() as room:
         texts(room, given.keys, given.programs or [OWN], given.longest)
-    if os.path.exists(TESTS):
-        tests(given.longest)
+        if os.path.exists(ROWS):
+            calls(room, given.longest)
 
 
 if __name__ == "__main__":

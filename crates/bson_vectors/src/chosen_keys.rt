@@ -1,35 +1,31 @@
-//! Documents whose keys were chosen to have one hash, and of as many others: every call gives the same for both.
+//! Keys that were chosen to have one hash under the hasher of std's maps, and the order in which an index gives its
+//! keys.
 //!
-//! `bench/chosen_keys.py` times these tests side by side.
+//! tests/rows/many_keys.py makes the same keys, and puts 100,000 of them into a document.
+use bson::Bson;
 use bson::store::{PairStore, SmallPairs};
-use bson::{Bson, Document};
-use std::alloc::{AllocError, Global};
-use std::hash::{DefaultHasher, FoldHasher, Hash, Hasher};
-use std::process::Abort;
+use std::hash::{FoldHasher, Hash, Hasher};
 use std::test::Fail;
 
-const KEYS: u32 = 100_000;
+/// Keys of one hash under the hasher that std's maps have, which starts from a fixed, public state. The first 16 bytes
+/// lead it to a state that the next 8 undo, so that what comes after them is multiplied by zero; the last 16 go in by
+/// themselves, and are alike.
+const CHOSEN: [&str; 4] = [
+    "k000000000002398]rCpp7mg00000000TTTTTTTTTTTTTTTT",
+    "k000000000002398]rCpp7mg00000001TTTTTTTTTTTTTTTT",
+    "k000000000002398]rCpp7mg00001000TTTTTTTTTTTTTTTT",
+    "k000000000002398]rCpp7mg0001869fTTTTTTTTTTTTTTTT",
+];
 
-/// How the keys are made. Both have 48 bytes, and ascend with their number.
-#[derive(Clone, Copy)]
-enum Kind {
-    /// Keys of one hash under the hasher that std's maps have, which starts from a fixed, public state. The first 16
-    /// bytes lead it to a state that the next 8 undo, so that what comes after them is multiplied by zero; the last 16
-    /// go in by themselves, and are alike.
-    Chosen,
-    /// Keys like these, whose hashes differ.
-    Ordinary,
-}
+/// Keys like these, whose hashes differ.
+const ORDINARY: [&str; 4] = [
+    "k000000000002398]rCpp7mh00000000TTTTTTTTTTTTTTTT",
+    "k000000000002398]rCpp7mh00000001TTTTTTTTTTTTTTTT",
+    "k000000000002398]rCpp7mh00001000TTTTTTTTTTTTTTTT",
+    "k000000000002398]rCpp7mh0001869fTTTTTTTTTTTTTTTT",
+];
 
-fn key(alloc: Global, kind: Kind, number: u32) -> Result<String, AllocError> {
-    let head = match kind {
-        Kind::Chosen => "k000000000002398]rCpp7mg",
-        Kind::Ordinary => "k000000000002398]rCpp7mh",
-    };
-    format!(in alloc; "{head}{number:08x}TTTTTTTTTTTTTTTT")
-}
-
-fn hash_in_a_map(key: &String) -> u64 {
+fn hash_in_a_map(key: &str) -> u64 {
     let mut state = FoldHasher::default();
     key.hash(&mut state);
     state.finish()
@@ -37,147 +33,11 @@ fn hash_in_a_map(key: &String) -> u64 {
 
 #[test]
 fn chosen_keys_have_one_hash(rt: HostRuntime) -> Result<(), Fail> {
-    let alloc = rt.alloc();
-    let chosen = hash_in_a_map(&key(alloc, Kind::Chosen, 0)?);
-    let ordinary = hash_in_a_map(&key(alloc, Kind::Ordinary, 0)?);
-    for number in [1u32, 2, 16, 4_096, 99_999] {
-        assert_eq!(rt; hash_in_a_map(&key(alloc, Kind::Chosen, number)?), chosen);
-        assert_ne!(rt;
-            hash_in_a_map(&key(alloc, Kind::Ordinary, number)?),
-            ordinary
-        );
+    for at in 1..4 {
+        assert_eq!(rt; hash_in_a_map(CHOSEN[at]), hash_in_a_map(CHOSEN[0]));
+        assert_ne!(rt; hash_in_a_map(ORDINARY[at]), hash_in_a_map(ORDINARY[0]));
     }
     Ok(())
-}
-
-fn put(alloc: Global, document: &mut Document, kind: Kind, number: u32) -> Result<(), Fail> {
-    let key = key(alloc, kind, number)?;
-    drop(document.insert(key, Bson::Int64(number as i64)));
-    Ok(())
-}
-
-fn ascending(alloc: Global, kind: Kind) -> Result<Document, Fail> {
-    let mut document = Document::new(alloc);
-    for number in 0..KEYS {
-        put(alloc, &mut document, kind, number)?;
-    }
-    Ok(document)
-}
-
-fn descending(alloc: Global, kind: Kind) -> Result<Document, Fail> {
-    let mut document = Document::new(alloc);
-    for number in (0..KEYS).rev() {
-        put(alloc, &mut document, kind, number)?;
-    }
-    Ok(document)
-}
-
-/// Whether the document has the number at its key.
-fn has(alloc: Global, document: &Document, kind: Kind, number: u32) -> Result<bool, Fail> {
-    let key = key(alloc, kind, number)?;
-    Ok(document.get(key.as_str()) == Some(&Bson::Int64(number as i64)))
-}
-
-fn finds_each(rt: &impl Abort, alloc: Global, kind: Kind) -> Result<(), Fail> {
-    let document = descending(alloc, kind)?;
-    assert_eq!(rt; document.len(), 100_000);
-    for number in 0..KEYS {
-        assert!(rt; has(alloc, &document, kind, number)?);
-    }
-    assert!(rt; !has(alloc, &document, kind, KEYS)?);
-    Ok(())
-}
-
-#[test]
-fn chosen_keys_are_found(rt: HostRuntime) -> Result<(), Fail> {
-    finds_each(&rt, rt.alloc(), Kind::Chosen)
-}
-
-#[test]
-fn ordinary_keys_are_found(rt: HostRuntime) -> Result<(), Fail> {
-    finds_each(&rt, rt.alloc(), Kind::Ordinary)
-}
-
-/// Takes a key out, and says whether it was there and is no more.
-fn takes(alloc: Global, document: &mut Document, kind: Kind, number: u32) -> Result<bool, Fail> {
-    let key = key(alloc, kind, number)?;
-    let taken = document.remove(key.as_str());
-    Ok(taken == Some(Bson::Int64(number as i64)) && !has(alloc, document, kind, number)?)
-}
-
-fn takes_from_both_ends(rt: &impl Abort, alloc: Global, kind: Kind) -> Result<(), Fail> {
-    let mut document = ascending(alloc, kind)?;
-    for number in [0u32, 99_999, 1, 99_998, 2, 99_997] {
-        assert!(rt; takes(alloc, &mut document, kind, number)?);
-    }
-    assert_eq!(rt; document.len(), 99_994);
-    for number in 3..KEYS - 3 {
-        assert!(rt; has(alloc, &document, kind, number)?);
-    }
-    Ok(())
-}
-
-#[test]
-fn chosen_keys_are_taken_from_both_ends(rt: HostRuntime) -> Result<(), Fail> {
-    takes_from_both_ends(&rt, rt.alloc(), Kind::Chosen)
-}
-
-#[test]
-fn ordinary_keys_are_taken_from_both_ends(rt: HostRuntime) -> Result<(), Fail> {
-    takes_from_both_ends(&rt, rt.alloc(), Kind::Ordinary)
-}
-
-fn hashed(document: &Document) -> u64 {
-    let mut state = DefaultHasher::new();
-    document.hash(&mut state);
-    state.finish()
-}
-
-fn are_one_in_any_order(rt: &impl Abort, alloc: Global, kind: Kind) -> Result<(), Fail> {
-    let mut one = ascending(alloc, kind)?;
-    let other = descending(alloc, kind)?;
-    assert!(rt; one == other);
-    assert_eq!(rt; hashed(&one), hashed(&other));
-    drop(one.insert(key(alloc, kind, 7)?, Bson::Null));
-    assert!(rt; one != other);
-    Ok(())
-}
-
-#[test]
-fn chosen_keys_in_any_order_are_one_document(rt: HostRuntime) -> Result<(), Fail> {
-    are_one_in_any_order(&rt, rt.alloc(), Kind::Chosen)
-}
-
-#[test]
-fn ordinary_keys_in_any_order_are_one_document(rt: HostRuntime) -> Result<(), Fail> {
-    are_one_in_any_order(&rt, rt.alloc(), Kind::Ordinary)
-}
-
-fn text_of(alloc: Global, document: Document) -> Result<String, Fail> {
-    match Bson::Document(document).into_relaxed_text(alloc) {
-        Ok(text) => Ok(text),
-        Err(_) => Ok(String::new(alloc)),
-    }
-}
-
-fn are_written_by_key(rt: &impl Abort, alloc: Global, kind: Kind) -> Result<(), Fail> {
-    let text = text_of(alloc, descending(alloc, kind)?)?;
-    assert!(rt; text == text_of(alloc, ascending(alloc, kind)?)?);
-    let first = format!(in alloc; "{{\"{}\":0,", key(alloc, kind, 0)?)?;
-    let last = format!(in alloc; "\"{}\":99999}}", key(alloc, kind, 99_999)?)?;
-    assert!(rt; text.as_str().starts_with(first.as_str()));
-    assert!(rt; text.as_str().ends_with(last.as_str()));
-    Ok(())
-}
-
-#[test]
-fn chosen_keys_are_written_in_ascending_order(rt: HostRuntime) -> Result<(), Fail> {
-    are_written_by_key(&rt, rt.alloc(), Kind::Chosen)
-}
-
-#[test]
-fn ordinary_keys_are_written_in_ascending_order(rt: HostRuntime) -> Result<(), Fail> {
-    are_written_by_key(&rt, rt.alloc(), Kind::Ordinary)
 }
 
 const TWELVE: [&str; 12] = ["l", "k", "j", "i", "h", "g", "f", "e", "d", "c", "b", "a"];

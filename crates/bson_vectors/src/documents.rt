@@ -1,9 +1,12 @@
 //! Documents from call to call, and what a refused request for memory leaves of them.
+ghost use Rattle.std.specs.Prelude.{◌<◌, length, IfSome};
+
 use bson::document::Refused;
 use bson::{Bson, Document, JavaScriptCodeWithScope};
 use std::alloc::{AllocError, Global};
 use std::process::Abort;
 use std::test::Fail;
+use std::vec::IntoIter;
 
 fn is_pair(found: Option<(&String, &Bson)>, key: &str, value: i32) -> bool {
     match found {
@@ -66,18 +69,20 @@ fn numbered(alloc: Global) -> Result<Vec<(String, i32)>, AllocError> {
     Ok(all)
 }
 
-/// a with 9, then k1 to k40 with their numbers.
-fn items(alloc: Global) -> Result<Vec<(String, Bson)>, AllocError> {
+/// a with 9, then the others.
+fn items(alloc: Global, others: &[(String, i32)]) -> Result<Vec<(String, Bson)>, AllocError> {
     let mut all = Vec::new(alloc);
     all.push((String::from_str(alloc, "a")?, Bson::Int32(9)))?;
-    for number in 1..41 {
-        all.push((format!(in alloc; "k{number}")?, Bson::Int32(number)))?;
+    for (key, number) in others {
+        all.push((key.clone()?, Bson::Int32(*number)))?;
     }
     Ok(all)
 }
 
 /// The place of the key among the pairs.
-fn place_of(pairs: &[(String, i32)], key: &str) -> Option<usize> {
+fn place_of(pairs: &[(String, i32)], key: &str) -> Option<usize>
+    ensures { IfSome result (λ at. at < length pairs.now) }
+{
     for at in 0..pairs.len() {
         if pairs[at].0.as_str() == key {
             return Some(at);
@@ -87,7 +92,7 @@ fn place_of(pairs: &[(String, i32)], key: &str) -> Option<usize> {
 }
 
 /// Whether inserting the key and number, refused, gave both back and left the document with `a` 1 and the others.
-fn is_refused(answer: Result<Option<Bson>, Refused>, key: &str, value: i32) -> bool {
+fn is_refused(answer: &Result<Option<Bson>, Refused>, key: &str, value: i32) -> bool {
     match answer {
         Err(refused) => refused.key.as_str() == key && refused.value.as_i32() == Some(value),
         Ok(_) => false,
@@ -116,7 +121,7 @@ fn refused_insert(rt: HostRuntime) -> Result<(), Fail> {
         let owned = key.clone()?;
         let answer = document.insert(owned, Bson::Int32(*value));
         if answer.is_err() {
-            assert!(rt; is_refused(answer, key.as_str(), *value));
+            assert!(rt; is_refused(&answer, key.as_str(), *value));
             break;
         }
         done = i + 1;
@@ -137,46 +142,73 @@ fn ends(did_all: bool) -> Result<(), Fail> {
     }
 }
 
-/// The refused item is handed back, and exactly those before it are put in.
+/// Whether the items that are left are exactly these.
+fn leaves(rest: &mut IntoIter<(String, Bson)>, others: &[(String, i32)]) -> bool {
+    for (key, number) in others {
+        if !is_owned_pair(rest.next(), key.as_str(), *number) {
+            return false;
+        }
+    }
+    rest.next().is_none()
+}
+
+/// Whether the refused pair is `a` 9 or one of the others, and those behind it are left.
+fn hands_back(
+    refused: &Refused,
+    rest: &mut IntoIter<(String, Bson)>,
+    others: &[(String, i32)],
+) -> bool {
+    let value = refused.value.as_i32();
+    match place_of(others, refused.key.as_str()) {
+        Some(at) => value == Some(others[at].1) && leaves(rest, &others[at + 1..]),
+        None => refused.key.as_str() == "a" && value == Some(9) && leaves(rest, others),
+    }
+}
+
+/// Whether the document has `a` 9 and exactly the others before the refused pair.
+fn stops_at(document: &Document, refused: &Refused, others: &[(String, i32)]) -> bool {
+    match place_of(others, refused.key.as_str()) {
+        Some(done) => follows(document, 9, &others[..done]),
+        None => false,
+    }
+}
+
+/// The refused item is handed back, exactly those before it are put in, and those behind it are left.
 #[test]
 fn refused_extend(rt: HostRuntime) -> Result<(), Fail> {
     let alloc = rt.alloc();
     let others = numbered(alloc)?;
-    let items = items(alloc)?;
+    let mut rest = items(alloc, &others)?.into_iter();
     let mut document = filled(alloc, &[("a", 1)])?;
-    let Err(Refused { key, value }) = document.extend(items.into_iter()) else {
-        assert!(rt; follows(&document, 9, others.as_slice()));
-        return Ok(());
-    };
-    let done = place_of(others.as_slice(), key.as_str());
-    assert!(rt; done.is_some());
-    let done = done.unwrap_or(0);
-    assert!(rt; done < others.len());
-    assert!(rt; value.as_i32() == Some(others[done].1));
-    assert!(rt; follows(&document, 9, &others[..done]));
-    ends(false)
+    match document.extend(&mut rest) {
+        Ok(()) => {
+            assert!(rt; leaves(&mut rest, &[]) && follows(&document, 9, &others));
+            ends(true)
+        }
+        Err(refused) => {
+            assert!(rt; hands_back(&refused, &mut rest, &others));
+            assert!(rt; stops_at(&document, &refused, &others));
+            ends(false)
+        }
+    }
 }
 
-/// The refused item is handed back.
+/// The refused item is handed back, and those behind it are left.
 #[test]
 fn refused_from_pairs(rt: HostRuntime) -> Result<(), Fail> {
     let alloc = rt.alloc();
     let others = numbered(alloc)?;
-    let items = items(alloc)?;
-    let Refused { key, value } = match Document::from_pairs(alloc, items.into_iter()) {
+    let mut rest = items(alloc, &others)?.into_iter();
+    match Document::from_pairs(alloc, &mut rest) {
         Ok(document) => {
-            assert!(rt; follows(&document, 9, others.as_slice()));
-            return Ok(());
+            assert!(rt; leaves(&mut rest, &[]) && follows(&document, 9, &others));
+            ends(true)
         }
-        Err(refused) => refused,
-    };
-    let number = match place_of(others.as_slice(), key.as_str()) {
-        Some(at) if at < others.len() => others[at].1,
-        _ => 9,
-    };
-    assert!(rt; number != 9 || key.as_str() == "a" || key.as_str() == "k9");
-    assert!(rt; value.as_i32() == Some(number));
-    ends(false)
+        Err(refused) => {
+            assert!(rt; hands_back(&refused, &mut rest, &others));
+            ends(false)
+        }
+    }
 }
 
 /// A vacant entry that is refused leaves the document as it was.
@@ -207,24 +239,29 @@ fn refused_entry(rt: HostRuntime) -> Result<(), Fail> {
 #[test]
 fn refused_nowhere_at_an_occupied_entry(rt: HostRuntime) -> Result<(), Fail> {
     let alloc = rt.alloc();
-    let first = String::from_str(alloc, "a")?;
-    let second = String::from_str(alloc, "a")?;
+    let key = String::from_str(alloc, "a")?;
     let mut document = filled(alloc, &[("a", 1)])?;
     let mut called = false;
-    match document.entry(first).or_insert_with(|| {
+    let answer = document.entry(key).or_insert_with(|| {
         called = true;
         Bson::Null
-    }) {
-        Ok(value) => assert!(rt; value.as_i32() == Some(1)),
-        Err(_) => assert!(rt; false),
-    }
+    });
+    assert!(rt; matches!(answer, Ok(value) if value.as_i32() == Some(1)));
     assert!(rt; !called);
-    match document.entry(second).or_insert(Bson::Null) {
-        Ok(value) => {
-            assert!(rt; value.as_i32() == Some(1));
-            *value = Bson::Int32(2);
-        }
-        Err(_) => assert!(rt; false),
+    assert!(rt; holds(&document, &[("a", 1)]));
+    Ok(())
+}
+
+/// So does one with a value in the place of a closure; what is lent is written.
+#[test]
+fn refused_nowhere_in_writing_an_occupied_entry(rt: HostRuntime) -> Result<(), Fail> {
+    let alloc = rt.alloc();
+    let key = String::from_str(alloc, "a")?;
+    let mut document = filled(alloc, &[("a", 1)])?;
+    if let Ok(value) = document.entry(key).or_insert(Bson::Null)
+        && value.as_i32() == Some(1)
+    {
+        *value = Bson::Int32(2);
     }
     assert!(rt; holds(&document, &[("a", 2)]));
     Ok(())

@@ -120,12 +120,28 @@ fn commands(alloc: Global) -> Result<Vec<Command<u32>>, AllocError> {
     Ok(all)
 }
 
+const REPLIES: [Option<u32>; 13] = [
+    None,
+    None,
+    None,
+    None,
+    None,
+    None,
+    None,
+    None,
+    None,
+    Some(9),
+    Some(1),
+    None,
+    None,
+];
+
 /// A stopped replay leaves the store as it is after the first `done` commands. From the tenth on none takes memory.
 fn replays<S: PairStore<u32>>(rt: &impl Abort, alloc: Global, store: &mut S) -> Result<(), Fail> {
     match replay(alloc, store, commands(alloc)?) {
         Ok(replies) => {
-            assert!(rt; replies.len() == 13 && store.len() == 0);
-            assert!(rt; replies[8].is_none() && replies[9] == Some(9) && replies[10] == Some(1));
+            assert!(rt; replies.as_slice() == REPLIES.as_slice());
+            assert!(rt; holds(store, &[]));
             Ok(())
         }
         Err(Stopped { done }) => {

@@ -1,0 +1,71 @@
+//! A reader that gives its bytes in pieces, and a writer that takes one byte a call. Both fail in the end.
+ghost use Rattle.std.specs.Prelude.{◌≡◌, IfOk};
+
+use std::io;
+use std::io::{ErrorKind, Read, Write};
+
+/// What a reader or a writer does once it goes no further.
+#[derive(Clone, Copy, PartialEq, Eq, Debug)]
+pub(crate) enum End {
+    /// It answers an error of this kind.
+    Fails(ErrorKind),
+    /// It gives, or takes, no byte.
+    NoByte,
+}
+
+impl End {
+    fn answer(self) -> io::Result<usize>
+        ensures { IfOk result (λ count. count ≡ 0) }
+    {
+        match self {
+            End::Fails(kind) => Err(io::Error::from(kind)),
+            End::NoByte => Ok(0),
+        }
+    }
+}
+
+/// Gives at most `piece` bytes a read, until `reads` reads were done.
+#[derive(Drop)]
+pub(crate) struct Pieces<'a> {
+    pub rest: &'a [u8],
+    pub piece: usize,
+    pub reads: u64,
+    pub end: End,
+}
+
+impl Read for Pieces<'_> {
+    fn read(&mut self, buf: &mut [u8]) -> io::Result<usize> {
+        if self.reads == 0 {
+            return self.end.answer();
+        }
+        self.reads -= 1;
+        let most = buf.len().min(self.piece);
+        self.rest.read(&mut buf[..most])
+    }
+}
+
+/// Takes one byte a call, until `calls` calls were done.
+#[derive(Drop)]
+pub(crate) struct Drip {
+    pub taken: Vec<u8>,
+    pub calls: u64,
+    pub end: End,
+}
+
+impl Write for Drip {
+    fn write(&mut self, buf: &[u8]) -> io::Result<usize> {
+        let Some(first) = buf.first() else {
+            return Ok(0);
+        };
+        if self.calls == 0 {
+            return self.end.answer();
+        }
+        self.calls -= 1;
+        self.taken.push(*first)?;
+        Ok(1)
+    }
+
+    fn flush(&mut self) -> io::Result<()> {
+        Ok(())
+    }
+}

@@ -1,0 +1,41 @@
+//! The program `bson_streams`: runs of the library `bson_run` over readers that give their bytes in pieces and writers
+//! that take one byte a call, and that fail. tests/streams has the runs and what each must give.
+//!
+//! Standard input has an order a line, then an empty line, and then the input of each run. For each order it writes a
+//! line `WRITTEN REPORTED ANSWER`, the bytes that the writer took and those that the report took, and a newline: the
+//! first two words are the numbers of these bytes.
+#![tactic(auto)]
+
+mod failing;
+mod order;
+mod ran;
+
+use order::order_of;
+use ran::ran;
+use std::io;
+use std::io::{Read, Write};
+
+fn main(rt: HostRuntime) -> io::Result<()> {
+    let alloc = rt.alloc();
+    let mut given = Vec::new(alloc);
+    rt.stdin().read_to_end(&mut given)?;
+    let (orders, input) = cut_at_empty_line(&given);
+    for line in orders.split(|byte| *byte == b'\n') {
+        let answer = match order_of(line) {
+            Some(order) => ran(alloc, order, input)?,
+            None => Vec::from_slice(alloc, b"this order is not understood\n")?,
+        };
+        rt.stdout().write_all(&answer)?;
+    }
+    Ok(())
+}
+
+/// What stands before the first empty line, and what stands behind it.
+fn cut_at_empty_line(given: &[u8]) -> (&[u8], &[u8]) {
+    for at in 0..given.len() {
+        if given[at..].starts_with(b"\n\n") {
+            return (&given[..at], &given[at + 2..]);
+        }
+    }
+    (given, &[])
+}

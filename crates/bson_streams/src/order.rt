@@ -1,0 +1,92 @@
+//! What a line orders.
+use crate::failing::End;
+use bson_run::mode::Mode;
+use bson_run::order::{OnRefusal, Task};
+use std::io::ErrorKind;
+use std::str;
+
+/// The call of an order.
+#[derive(Clone, Copy, PartialEq, Eq, Debug)]
+pub(crate) enum Call {
+    Run(Mode),
+    Convert(Mode),
+    RunLines(Task, OnRefusal),
+}
+
+/// A line `CALL PIECE READS WRITES REPORTS END`.
+#[derive(Clone, Copy, PartialEq, Eq, Debug)]
+pub(crate) struct Order {
+    pub call: Call,
+    /// The reader gives so many bytes a read at most.
+    pub piece: usize,
+    /// The reader gives so many reads.
+    pub reads: u64,
+    /// The writer takes so many bytes.
+    pub writes: u64,
+    /// The report takes so many bytes.
+    pub reports: u64,
+    /// What each of them then does.
+    pub end: End,
+}
+
+/// The order of the line.
+pub(crate) fn order_of(line: &[u8]) -> Option<Order> {
+    let mut words = str::from_utf8(line).ok()?.split(' ');
+    Some(Order {
+        call: call_of(words.next()?)?,
+        piece: words.next()?.parse::<usize>().ok()?,
+        reads: words.next()?.parse::<u64>().ok()?,
+        writes: words.next()?.parse::<u64>().ok()?,
+        reports: words.next()?.parse::<u64>().ok()?,
+        end: end_of(words.next()?)?,
+    })
+}
+
+/// `MODE`, `convert:MODE`, or `lines:TASK:stop` or `lines:TASK:keep-going`.
+fn call_of(word: &str) -> Option<Call> {
+    let Some((name, rest)) = word.split_once(':') else {
+        return Some(Call::Run(mode_of(word)?));
+    };
+    if name == "convert" {
+        return Some(Call::Convert(mode_of(rest)?));
+    }
+    if name != "lines" {
+        return None;
+    }
+    let (task, on_refusal) = rest.split_once(':')?;
+    Some(Call::RunLines(task_of(task)?, on_refusal_of(on_refusal)?))
+}
+
+fn mode_of(word: &str) -> Option<Mode> {
+    match word {
+        "canonical" => Some(Mode::Canonical),
+        "relaxed" => Some(Mode::Relaxed),
+        "show" => Some(Mode::Show),
+        _ => None,
+    }
+}
+
+fn task_of(word: &str) -> Option<Task> {
+    if word == "check" {
+        return Some(Task::Check);
+    }
+    Some(Task::Write(mode_of(word)?))
+}
+
+fn on_refusal_of(word: &str) -> Option<OnRefusal> {
+    match word {
+        "stop" => Some(OnRefusal::Stop),
+        "keep-going" => Some(OnRefusal::KeepGoing),
+        _ => None,
+    }
+}
+
+fn end_of(word: &str) -> Option<End> {
+    match word {
+        "interrupted" => Some(End::Fails(ErrorKind::Interrupted)),
+        "would_block" => Some(End::Fails(ErrorKind::WouldBlock)),
+        "broken_pipe" => Some(End::Fails(ErrorKind::BrokenPipe)),
+        "no_byte" => Some(End::NoByte),
+        _ => None,
+    }
+}

@@ -1,0 +1,111 @@
+//! A run, and what is told of it.
+use crate::failing::{Drip, Pieces};
+use crate::order::{Call, Order};
+use bson_run::convert::convert;
+use bson_run::lines::run_lines;
+use bson_run::mode::Mode;
+use bson_run::order::{OnRefusal, Task};
+use bson_run::run::run;
+use std::alloc::{AllocError, Global};
+
+/// The longest output for which no memory is asked while it is written.
+const ROOM: usize = 4096;
+
+/// The reader and the writers of a run.
+#[derive(Drop)]
+struct Ends<'a> {
+    reader: Pieces<'a>,
+    writer: Drip,
+    report: Drip,
+}
+
+impl<'a> Ends<'a> {
+    fn of(alloc: Global, order: Order, input: &'a [u8]) -> Result<Ends<'a>, AllocError> {
+        Ok(Ends {
+            reader: Pieces {
+                rest: input,
+                piece: order.piece,
+                reads: order.reads,
+                end: order.end,
+            },
+            writer: Drip {
+                taken: Vec::with_capacity(alloc, ROOM)?,
+                calls: order.writes,
+                end: order.end,
+            },
+            report: Drip {
+                taken: Vec::with_capacity(alloc, ROOM)?,
+                calls: order.reports,
+                end: order.end,
+            },
+        })
+    }
+}
+
+/// Makes the run that is ordered, and tells what it answered and what its writers took.
+pub(crate) fn ran(alloc: Global, order: Order, input: &[u8]) -> Result<Vec<u8>, AllocError> {
+    let mut ends = Ends::of(alloc, order, input)?;
+    let answer = match order.call {
+        Call::Run(mode) => whole(alloc, mode, &mut ends)?,
+        Call::Convert(mode) => converted(alloc, mode, input, &mut ends)?,
+        Call::RunLines(task, on_refusal) => by_lines(alloc, task, on_refusal, &mut ends)?,
+    };
+    told(
+        alloc,
+        answer.as_str(),
+        &ends.writer.taken,
+        &ends.report.taken,
+    )
+}
+
+/// The answer of `run`: `done`, or the line of its fault.
+fn whole(alloc: Global, mode: Mode, ends: &mut Ends<'_>) -> Result<String, AllocError> {
+    match run(alloc, mode, &mut ends.reader, &mut ends.writer) {
+        Ok(()) => String::from_str(alloc, "done"),
+        Err(fault) => String::from_str(alloc, fault.line()),
+    }
+}
+
+/// The answer of `convert`, as that of `run`. What it gives stands where a writer would have taken it.
+fn converted(
+    alloc: Global,
+    mode: Mode,
+    input: &[u8],
+    ends: &mut Ends<'_>,
+) -> Result<String, AllocError> {
+    match convert(alloc, mode, input) {
+        Ok(output) => {
+            ends.writer.taken = output;
+            String::from_str(alloc, "done")
+        }
+        Err(fault) => String::from_str(alloc, fault.line()),
+    }
+}
+
+/// The answer of `run_lines`: `LINES REFUSED`, or the line where it stopped and the words for its fault.
+fn by_lines(
+    alloc: Global,
+    task: Task,
+    on_refusal: OnRefusal,
+    ends: &mut Ends<'_>,
+) -> Result<String, AllocError> {
+    let (reader, writer, report) = (&mut ends.reader, &mut ends.writer, &mut ends.report);
+    match run_lines(alloc, task, on_refusal, reader, writer, report) {
+        Ok(counts) => format!(in alloc; "{} {}", counts.lines, counts.refused),
+        Err(stopped) => format!(in alloc; "line {}: {}", stopped.line, stopped.words()),
+    }
+}
+
+fn told(
+    alloc: Global,
+    answer: &str,
+    written: &[u8],
+    reported: &[u8],
+) -> Result<Vec<u8>, AllocError> {
+    let head = format!(in alloc; "{} {} {answer}\n", written.len(), reported.len())?;
+    let mut line = Vec::from_slice(alloc, head.as_bytes())?;
+    line.extend_from_slice(written)?;
+    line.extend_from_slice(reported)?;
+    line.push(b'\n')?;
+    Ok(line)
+}
