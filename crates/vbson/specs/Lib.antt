@@ -1,0 +1,3 @@
+pub mod Convert
+pub mod Room
+pub mod Text
