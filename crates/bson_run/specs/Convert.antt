@@ -27,6 +27,12 @@ pub record IsTextOf (bytes : List ℕ) (tree : Data) : Type 0 where
 abbrev pub IsNoText : List ℕ → Type 0
 IsNoText bytes = IsUtf8 bytes → read bytes ≡ None
 
+-- the bytes are the text of a tree, which means the value
+pub record IsMeaningOf (bytes : List ℕ) (value : Value) : Type 0 where
+  pub tree : Data
+  pub text : IsTextOf bytes tree
+  pub meaning : HasMeaning tree value
+
 -- ---- the output
 
 abbrev pub newline : List ℕ

@@ -46,7 +46,7 @@ pub(crate) fn convert_whole(alloc: Global, mode: Mode, bytes: Vec<u8>) -> Result
 }
 
 /// The tree whose text the bytes are.
-fn parse(alloc: Global, bytes: &[u8]) -> Result<Value, Fault>
+pub(crate) fn parse(alloc: Global, bytes: &[u8]) -> Result<Value, Fault>
     ensures ok { IfOk result (λ tree. IsTextOf bytes.now (view tree)) }
     ensures not_json { result ≡ Err Fault.NotJson → IsNoText bytes.now }
     ensures fault { IfErr result (λ fault. (fault ≡ Fault.NotJson) ⊎ (fault ≡ Fault.OutOfMemory)) }
@@ -59,7 +59,7 @@ fn parse(alloc: Global, bytes: &[u8]) -> Result<Value, Fault>
 }
 
 /// The value that the tree means.
-fn meaning(alloc: Global, tree: Value) -> Result<Bson, Fault>
+pub(crate) fn meaning(alloc: Global, tree: Value) -> Result<Bson, Fault>
     ensures ok { IfOk result (λ value. HasMeaning (view tree) (bson_view value)) }
     ensures read_form { IfOk result (λ value. IsReadForm (bson_view value)) }
     ensures fault { IfErr result (λ fault. IsTreeRefused fault (view tree)) }

@@ -26,3 +26,6 @@ pub const NO_TEXT: u32 = 7;
 
 /// The room is too small.
 pub const NO_ROOM: u32 = 8;
+
+/// The two texts mean different values.
+pub const DIFFERENT: u32 = 9;
