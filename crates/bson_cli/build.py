@@ -1,7 +1,8 @@
 #!/usr/bin/env python3
 """Proves and builds a program and the libraries below it, each as soon as those that it uses are built.
 
-    crates/bson_cli/build.py [bson_lines]   (./bson calls it where the program is missing or older than a source)
+    crates/bson_cli/build.py [bson_lines|vbson]   (./bson calls it where the program is missing or older than a source,
+                                                   ./vbson for the library for other languages)
 
 The program is bson_cli where none is named. Standard error gets one line that says what happens, and on a terminal a line of progress, which is gone at the end.
 All that `rt` prints goes to out/build.log beside the program. A second run that starts meanwhile waits for the first and
@@ -87,7 +88,8 @@ class Build:
         """Builds one crate, once those below it are built."""
         if not all(self.runs[it].result() for it in self.uses[name]):
             return False
-        words = ["run", "--jobs", str(self.jobs), "--", "canonical"] if name == PROGRAM else ["lib", "--jobs", str(self.jobs)]
+        is_program = os.path.exists(f"{TOP}/crates/{name}/src/main.rt")
+        words = ["run", "--jobs", str(self.jobs), "--", "canonical"] if is_program else ["lib", "--jobs", str(self.jobs)]
         how = {"cwd": f"{TOP}/crates/{name}", "stdout": subprocess.PIPE, "stderr": subprocess.STDOUT}
         with self.changing:
             if self.has_failed:

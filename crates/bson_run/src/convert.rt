@@ -45,7 +45,7 @@ pub(crate) fn convert_whole(alloc: Global, mode: Mode, bytes: Vec<u8>) -> Result
 }
 
 /// The value that the bytes mean as a text.
-fn meaning(alloc: Global, bytes: &[u8]) -> Result<Bson, Fault>
+pub(crate) fn meaning(alloc: Global, bytes: &[u8]) -> Result<Bson, Fault>
     ensures ok { IfOk result (λ value. HasTextMeaning bytes.now (bson_view value)) }
     ensures read_form { IfOk result (λ value. IsReadForm (bson_view value)) }
     ensures fault { IfErr result (λ fault. IsRefused fault bytes.now) }

@@ -1,0 +1,14 @@
+use Rattle.std.proofs.Common.{ap, sym, ◌∙◌, fold}
+use Rattle.std.specs.Hash.DefaultHasher as sip
+use Rattle.bson_model.proofs.SameSorted.{same_feeds}
+use Rattle.bson_model.specs.Feed.{feed}
+use Rattle.bson.specs.View.{bson_view}
+use Rattle.vbson.proofs.values.hash_of.Goals as goal
+
+-- values that are the same feed a hasher the same words
+pub returns-clause-alike : goal.returns-clause-alike
+returns-clause-alike c other h =
+    let words = feed (bson_view c.args.value.now) in
+    let fed = c.hash.ensures ∙ ap (λ state. fold sip.write state words) c.new-hasher.ensures in
+    ap (λ ws. sip.finish (fold sip.write sip.initial ws)) (sym (same_feeds.fed (bson_view c.args.value.now) other h))
+    ∙ sym (c.finish.ensures ∙ ap sip.finish fed)

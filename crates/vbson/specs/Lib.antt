@@ -1,0 +1,4 @@
+pub mod Convert
+pub mod Room
+pub mod Text
+pub mod Values

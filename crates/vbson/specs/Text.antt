@@ -1,0 +1,11 @@
+-- Texts that the caller has.
+use Rattle.std.specs.Prelude.{◌≡◌, ℕ, List, [], ◌∷◌, ◌++◌, length}
+use Rattle.vbson.specs.declared.text.Text.{Text}
+
+abbrev pub nul : List ℕ
+nul = 0 ∷ []
+
+-- the bytes are the text and a NUL, and the length is the text's
+pub record IsText (text : List ℕ) (out : Text) : Type 0 where
+  pub bytes : out.bytes.now ≡ text ++ nul
+  pub len : out.len ≡ length text

@@ -1,0 +1,74 @@
+//! One text to another.
+ghost use Rattle.std.specs.Prelude.{◌≡◌, ◌≢◌, ◌↔◌, ◌<◌, ◌≤◌, List, ℕ, Some};
+ghost use Rattle.serde_json.specs.Data.{Data};
+ghost use Rattle.bson_model.specs.Means.{Means};
+ghost use Rattle.bson_model.specs.Value as model;
+ghost use Rattle.bson_run.specs.Convert.{HasNoMeaning, IsBad, IsBadId};
+ghost use Rattle.bson_text.specs.Text.{IsNoText, IsTextOf};
+ghost use Rattle.bson_run.specs.declared.mode.Mode.{Mode};
+ghost use Rattle.vbson.specs.Convert.{IsConverted, IsOfText, mode_at, status_of};
+
+use crate::status;
+use crate::text::{Text, text_of_line};
+use bson_run::convert::convert;
+use bson_run::fault::Fault;
+use bson_run::mode::Mode;
+use std::alloc::Global;
+
+/// Reads the text as one text of Extended JSON, and leaves the text of its value in a mode: 0 the canonical form, 1 the
+/// relaxed form, 2 the text of Display. The block of the new text is the caller's, who frees it by `free`.
+#[unsafe(no_mangle)]
+pub extern "C" fn vbson_convert(
+    alloc: Global,
+    mode: u32,
+    text: &[u8],
+    out: &mut Text<'static>,
+) -> u32
+    ensures done { result ≡ 0 → IsConverted mode text.now out.new }
+    ensures accepts { (tree : Data) (value : model.Value) → mode ≤ 2 → IsTextOf text.now tree → Means tree value → 0 < result → result ≡ 5 }
+
+    // When each other status comes, and that nothing is left then.
+    ensures no_mode { result ≡ 1 ↔ 2 < mode }
+    ensures not_json { result ≡ 2 → IsNoText text.now }
+    ensures bad_object_id { result ≡ 3 → HasNoMeaning IsBadId text.now }
+    ensures not_extended_json { result ≡ 4 → HasNoMeaning IsBad text.now }
+    ensures listed { result ≤ 5 }
+    ensures kept { 0 < result → out.new ≡ out.old }
+{
+    let Some(mode) = mode_of(mode) else {
+        return status::NO_MODE;
+    };
+    match convert(alloc, mode, text) {
+        Ok(line) => {
+            *out = text_of_line(line);
+            status::DONE
+        }
+        Err(fault) => status_of(fault),
+    }
+}
+
+/// The mode of a number.
+fn mode_of(number: u32) -> Option<Mode>
+    ensures { result ≡ mode_at number }
+{
+    match number {
+        0 => Some(Mode::Canonical),
+        1 => Some(Mode::Relaxed),
+        2 => Some(Mode::Show),
+        _ => None,
+    }
+}
+
+/// The status of a fault that a text can have.
+pub fn status_of(fault: Fault) -> u32
+    requires { IsOfText fault }
+    ensures { result ≡ status_of fault }
+{
+    match fault {
+        Fault::NotJson => status::NOT_JSON,
+        Fault::BadObjectId => status::BAD_OBJECT_ID,
+        Fault::NotExtendedJson => status::NOT_EXTENDED_JSON,
+        Fault::OutOfMemory => status::OUT_OF_MEMORY,
+        Fault::CannotRead | Fault::CannotWrite => unreachable!(),
+    }
+}

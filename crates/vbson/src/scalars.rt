@@ -1,0 +1,131 @@
+//! Decimals, object ids and moments: from a text to plain bytes or a number, and back.
+ghost use Rattle.std.specs.Prelude.{◌≡◌, ◌⊎◌, ◌<◌, ℕ, ℤ, List, IsUtf8};
+ghost use Rattle.bson_decimal.specs.Text.{Parses};
+ghost use Rattle.bson_decimal.specs.Printed.{printed};
+ghost use Rattle.bson_scalar.specs.Oid.{IsOidText, encode_lower};
+ghost use Rattle.bson_datetime.specs.Grammar.{Names};
+ghost use Rattle.bson_datetime.specs.Moment.{IsRfcMillis};
+ghost use Rattle.bson_datetime.specs.Shown.{rfc};
+ghost use Rattle.vbson.specs.Room.{HasNoRoom, IsPut};
+
+use crate::room::put;
+use crate::status;
+use bson_datetime::{DateTime, Error as DateTimeError};
+use bson_decimal::Decimal128;
+use hex::FromHex;
+use std::alloc::Global;
+use std::str;
+use std::str::FromStr;
+
+/// The 16 bytes, the lowest first, of the decimal that the text denotes. No value is rounded.
+#[unsafe(no_mangle)]
+pub extern "C" fn vbson_decimal128_parse(text: &[u8], out: &mut [u8; 16]) -> u32
+    ensures done { result ≡ 0 → Parses text.now out.new }
+    ensures no_such_text { result ≡ 6 → IsUtf8 text.now → (b : List ℕ) → ¬ (Parses text.now b) }
+    ensures listed { (result ≡ 0) ⊎ (result ≡ 6) }
+    ensures kept { 0 < result → out.new ≡ out.old }
+{
+    let Ok(text) = str::from_utf8(text) else {
+        return status::NO_SUCH_TEXT;
+    };
+    match Decimal128::from_str(text) {
+        Ok(decimal) => {
+            *out = decimal.bytes();
+            status::DONE
+        }
+        Err(_) => status::NO_SUCH_TEXT,
+    }
+}
+
+/// The text of the decimal of 16 bytes, of at most 43 bytes. Every 16 bytes have one.
+#[unsafe(no_mangle)]
+pub extern "C" fn vbson_decimal128_print(
+    alloc: Global,
+    bytes: &[u8; 16],
+    room: &mut [u8],
+    len: &mut usize,
+) -> u32
+    ensures done { result ≡ 0 → IsPut (printed bytes.now) room.old room.new len.new }
+    ensures no_room { result ≡ 8 → HasNoRoom (printed bytes.now) room.old room.new len.new }
+    ensures listed { (result ≡ 0) ⊎ (result ≡ 5) ⊎ (result ≡ 8) }
+    ensures kept { result ≡ 5 → (room.new ≡ room.old) × (len.new ≡ len.old) }
+{
+    match format!(in alloc; "{}", Decimal128::from_bytes(*bytes)) {
+        Ok(text) => put(text.as_bytes(), room, len),
+        Err(_) => status::OUT_OF_MEMORY,
+    }
+}
+
+/// The 12 bytes of the object id whose 24 hexadecimal digits, of either case, the text is.
+#[unsafe(no_mangle)]
+pub extern "C" fn vbson_object_id_parse(text: &[u8], out: &mut [u8; 12]) -> u32
+    ensures done { result ≡ 0 → IsOidText text.now out.new }
+    ensures no_such_text { result ≡ 6 → (id : List ℕ) → ¬ (IsOidText text.now id) }
+    ensures listed { (result ≡ 0) ⊎ (result ≡ 6) }
+    ensures kept { 0 < result → out.new ≡ out.old }
+{
+    match <[u8; 12] as FromHex>::from_hex(text) {
+        Ok(id) => {
+            *out = id;
+            status::DONE
+        }
+        Err(_) => status::NO_SUCH_TEXT,
+    }
+}
+
+/// The 24 lower-case hexadecimal digits of the 12 bytes.
+#[unsafe(no_mangle)]
+pub extern "C" fn vbson_object_id_print(bytes: &[u8; 12], room: &mut [u8], len: &mut usize) -> u32
+    ensures done { result ≡ 0 → IsPut (encode_lower bytes.now) room.old room.new len.new }
+    ensures no_room { result ≡ 8 → HasNoRoom (encode_lower bytes.now) room.old room.new len.new }
+    ensures listed { (result ≡ 0) ⊎ (result ≡ 8) }
+{
+    let mut digits = [0u8; 24];
+    match hex::encode_to_slice(bytes.as_slice(), &mut digits) {
+        Ok(()) => put(&digits, room, len),
+        Err(_) => unreachable!(),
+    }
+}
+
+/// The milliseconds since 1970-01-01T00:00:00Z of the moment whose text of RFC 3339 (section 5.6) this is.
+#[unsafe(no_mangle)]
+pub extern "C" fn vbson_date_time_parse(text: &[u8], out: &mut i64) -> u32
+    ensures done { result ≡ 0 → Names text.now out.new }
+    ensures no_such_text { result ≡ 6 → IsUtf8 text.now → (ms : ℤ) → ¬ (Names text.now ms) }
+    ensures listed { (result ≡ 0) ⊎ (result ≡ 6) }
+    ensures kept { 0 < result → out.new ≡ out.old }
+{
+    let Ok(text) = str::from_utf8(text) else {
+        return status::NO_SUCH_TEXT;
+    };
+    match DateTime::parse_rfc3339_str(text) {
+        Ok(moment) => {
+            *out = moment.timestamp_millis();
+            status::DONE
+        }
+        Err(_) => status::NO_SUCH_TEXT,
+    }
+}
+
+/// The text of RFC 3339 of the moment so many milliseconds after 1970-01-01T00:00:00Z, of at most 24 bytes. Moments of
+/// the years 0000 to 9999 have one.
+#[unsafe(no_mangle)]
+pub extern "C" fn vbson_date_time_print(
+    alloc: Global,
+    millis: i64,
+    room: &mut [u8],
+    len: &mut usize,
+) -> u32
+    ensures done { result ≡ 0 → IsPut (rfc millis) room.old room.new len.new }
+    ensures no_room { result ≡ 8 → HasNoRoom (rfc millis) room.old room.new len.new }
+    ensures no_text { result ≡ 7 → ¬ (IsRfcMillis millis) }
+    ensures in_years { (result ≡ 0) ⊎ (result ≡ 8) → IsRfcMillis millis }
+    ensures listed { (result ≡ 0) ⊎ (result ≡ 5) ⊎ (result ≡ 7) ⊎ (result ≡ 8) }
+    ensures kept { (result ≡ 5) ⊎ (result ≡ 7) → (room.new ≡ room.old) × (len.new ≡ len.old) }
+{
+    match DateTime::from_millis(millis).try_to_rfc3339_string(alloc) {
+        Ok(text) => put(text.as_bytes(), room, len),
+        Err(DateTimeError::CannotFormat { .. }) => status::NO_TEXT,
+        Err(_) => status::OUT_OF_MEMORY,
+    }
+}

@@ -1,0 +1,25 @@
+//! A text that the caller has.
+ghost use Rattle.std.specs.Prelude.{◌≡◌, ◌<◌, ◌-◌, ◌++◌, length, take};
+ghost use Rattle.vbson.specs.Text.{IsText, nul};
+
+/// A text that the caller has: its bytes with a NUL behind them, in a block of their own which the caller frees by
+/// `free`, and its length without the NUL.
+#[repr(C)]
+#[derive(Drop)]
+pub struct Text<'a> {
+    pub bytes: &'a [u8],
+    pub len: usize,
+}
+
+/// The line with a NUL in its newline's place.
+pub fn text_of_line(mut line: Vec<u8>) -> Text<'static>
+    requires { 0 < length line.items }
+    ensures { IsText (take (length line.items - 1) line.items) result }
+{
+    let len = line.len() - 1;
+    line[len] = 0;
+    Text {
+        bytes: line.leak(),
+        len,
+    }
+}

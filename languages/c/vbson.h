@@ -1,0 +1,145 @@
+/* vbson.h: MongoDB Extended JSON v2 and the small values of BSON, from a library whose calls are proved (Rattle).
+ * For C11 and C++, on x86-64 Linux with glibc and a processor with SSE4.2 and POPCNT (x86-64-v2).
+ *
+ * Each call but vbson_version answers a status of the list below, VBSON_DONE where it did what it is for. On every
+ * other status all that it was handed is as it was, except that VBSON_NO_ROOM sets *len.
+ *
+ * What a caller owes, on every call; nothing checks it:
+ *   - A pointer and a length that stand for bytes: the bytes can be read (written, where not const) for the whole of the
+ *     call, they are at most PTRDIFF_MAX, and the pointer is not null, not even for no bytes.
+ *   - Any other pointer is not null, is aligned for its type, and points to a valid value of it, also where the call
+ *     writes it: begin with VBSON_TEXT_NONE, a number, or an array that was filled.
+ *   - What a call may write overlaps nothing else that the call is handed.
+ *   - malloc, realloc and free are of one allocator, whose blocks are aligned to 16 bytes.
+ *   - No call is made from a signal handler, or from the child that fork() makes of a process with several threads.
+ *   - 384 KiB of stack are left, which the deepest texts (nested 127 deep) need.
+ *
+ * The library keeps nothing between calls and holds no state, so any number of threads may call at once.
+ *
+ * Texts are UTF-8 in every direction. No text that is handed in needs a NUL at its end.
+ */
+#ifndef VBSON_H
+#define VBSON_H
+
+#include <stddef.h>
+#include <stdint.h>
+#include <stdlib.h>
+
+#ifdef __cplusplus
+extern "C" {
+#endif
+
+#define VBSON_VERSION 200 /* 10000 * major + 100 * minor + patch */
+#define VBSON_VERSION_TEXT "0.2.0"
+
+/* VBSON_VERSION of the library that is linked. */
+uint32_t vbson_version(void);
+
+/* ---- statuses: no number is ever given another meaning */
+
+enum vbson_status {
+    VBSON_DONE = 0,
+    VBSON_NO_MODE = 1,           /* the number of a mode is none */
+    VBSON_NOT_JSON = 2,          /* the bytes are not UTF-8, not one JSON text, or nest deeper than 127 */
+    VBSON_BAD_OBJECT_ID = 3,     /* the first fault is the text of an object id */
+    VBSON_NOT_EXTENDED_JSON = 4, /* the first fault is any other: the JSON text means nothing in Extended JSON v2 */
+    VBSON_OUT_OF_MEMORY = 5,     /* malloc or realloc refused a request */
+    VBSON_NO_SUCH_TEXT = 6,      /* the bytes are no text of the kind that was asked for */
+    VBSON_NO_TEXT = 7,           /* the value has no text of the kind that was asked for */
+    VBSON_NO_ROOM = 8,           /* the room is smaller than the text; *len is what the text needs */
+    VBSON_DIFFERENT = 9          /* the two texts mean different values */
+};
+
+/* A few words for a status. */
+static inline const char *vbson_status_text(uint32_t status) {
+    switch (status) {
+    case VBSON_DONE: return "done";
+    case VBSON_NO_MODE: return "no such mode";
+    case VBSON_NOT_JSON: return "not JSON";
+    case VBSON_BAD_OBJECT_ID: return "bad object id";
+    case VBSON_NOT_EXTENDED_JSON: return "not Extended JSON";
+    case VBSON_OUT_OF_MEMORY: return "out of memory";
+    case VBSON_NO_SUCH_TEXT: return "no such text";
+    case VBSON_NO_TEXT: return "no text";
+    case VBSON_NO_ROOM: return "no room";
+    case VBSON_DIFFERENT: return "different";
+    default: return "no such status";
+    }
+}
+
+/* ---- texts */
+
+enum vbson_mode {
+    VBSON_CANONICAL = 0, /* the canonical form of Extended JSON v2, which keeps every type */
+    VBSON_RELAXED = 1,   /* the relaxed form, with plain numbers, and dates as texts */
+    VBSON_SHOW = 2       /* the value for people to read; no JSON */
+};
+
+/* A text in a block of its own: len bytes, and a NUL behind them, so that it is a C string too (which ends earlier where
+ * the text holds U+0000, as only VBSON_SHOW can write it). It is the holder's, who frees it by vbson_text_free. */
+typedef struct vbson_text {
+    const uint8_t *bytes;
+    size_t size; /* of the block: len + 1, or 0 where there is no block */
+    size_t len;
+} vbson_text;
+
+#define VBSON_TEXT_NONE { (const uint8_t *)"", 0, 0 }
+
+/* Frees the block, if there is one; afterwards the text is VBSON_TEXT_NONE. */
+static inline void vbson_text_free(vbson_text *text) {
+    if (text->size != 0) free((void *)(uintptr_t)text->bytes);
+    text->bytes = (const uint8_t *)"";
+    text->size = 0;
+    text->len = 0;
+}
+
+/* Reads the len bytes as one text of Extended JSON, in either form or mixed, and writes its value in the mode. Keys come
+ * out in ascending order of their bytes, at every depth; of a key that stands twice the last value counts; a double
+ * other than a zero, an infinity or a NaN is refused. *out is written over: what it held is not freed.
+ * VBSON_NO_MODE, VBSON_NOT_JSON, VBSON_BAD_OBJECT_ID, VBSON_NOT_EXTENDED_JSON, VBSON_OUT_OF_MEMORY. */
+uint32_t vbson_convert(uint32_t mode, const uint8_t *text, size_t len, vbson_text *out);
+
+/* Whether two texts mean the same value: the same kind, lists place by place, documents with the same keys and the same
+ * values under each, in any order. VBSON_DONE where they do, VBSON_DIFFERENT where they mean two values; the fault of a,
+ * else that of b: VBSON_NOT_JSON, VBSON_BAD_OBJECT_ID, VBSON_NOT_EXTENDED_JSON, VBSON_OUT_OF_MEMORY. */
+uint32_t vbson_same(const uint8_t *a, size_t a_len, const uint8_t *b, size_t b_len);
+
+/* The hash of the value that the text means: one number for all texts that vbson_same finds the same, on every run and
+ * machine. It is SipHash-1-3 under the key 0, so whoever chooses the texts can choose many of one hash.
+ * VBSON_NOT_JSON, VBSON_BAD_OBJECT_ID, VBSON_NOT_EXTENDED_JSON, VBSON_OUT_OF_MEMORY. */
+uint32_t vbson_hash(const uint8_t *text, size_t len, uint64_t *out);
+
+/* ---- small values
+ *
+ * A call named print puts a text, with no NUL, at the front of the room, leaves the rest of the room as it was, and sets
+ * *len to the text's length. VBSON_NO_ROOM where the room is smaller: then nothing is put, and *len is set all the same. */
+
+#define VBSON_DECIMAL128_ROOM 43 /* no text of a decimal is longer */
+#define VBSON_OBJECT_ID_ROOM 24
+#define VBSON_DATE_TIME_ROOM 24
+
+/* The decimal that a text denotes, as BSON's 16 bytes (IEEE 754-2008 decimal128), the lowest first. A text that would
+ * have to be rounded is refused. VBSON_NO_SUCH_TEXT. */
+uint32_t vbson_decimal128_parse(const uint8_t *text, size_t len, uint8_t out[16]);
+
+/* The text of a decimal; every 16 bytes have one. VBSON_NO_ROOM, VBSON_OUT_OF_MEMORY. */
+uint32_t vbson_decimal128_print(const uint8_t bytes[16], uint8_t *room, size_t size, size_t *len);
+
+/* The object id whose 24 hexadecimal digits, of either case, the text is. Takes no memory. VBSON_NO_SUCH_TEXT. */
+uint32_t vbson_object_id_parse(const uint8_t *text, size_t len, uint8_t out[12]);
+
+/* The 24 lower-case digits of an object id. Takes no memory. VBSON_NO_ROOM. */
+uint32_t vbson_object_id_print(const uint8_t bytes[12], uint8_t *room, size_t size, size_t *len);
+
+/* The milliseconds since 1970-01-01T00:00:00Z, negative before it, of the moment that a text of RFC 3339 (section 5.6)
+ * names; a finer fraction is cut towards zero. VBSON_NO_SUCH_TEXT. */
+uint32_t vbson_date_time_parse(const uint8_t *text, size_t len, int64_t *out);
+
+/* The text of RFC 3339, in UTC, of the moment so many milliseconds after 1970-01-01T00:00:00Z. VBSON_NO_TEXT outside the
+ * years 0000 to 9999; VBSON_NO_ROOM, VBSON_OUT_OF_MEMORY. */
+uint32_t vbson_date_time_print(int64_t millis, uint8_t *room, size_t size, size_t *len);
+
+#ifdef __cplusplus
+}
+#endif
+#endif

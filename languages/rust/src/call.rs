@@ -1,0 +1,140 @@
+//! The calls of `vbson.h` under safe signatures. A slice's pointer is never null, as the header wants it.
+use crate::Error;
+
+/// `vbson_text`.
+#[repr(C)]
+pub struct RawText {
+    pub bytes: *const u8,
+    pub size: usize,
+    pub len: usize,
+}
+
+extern "C" {
+    fn vbson_version() -> u32;
+    fn vbson_convert(mode: u32, text: *const u8, len: usize, out: *mut RawText) -> u32;
+    fn vbson_same(a: *const u8, a_len: usize, b: *const u8, b_len: usize) -> u32;
+    fn vbson_hash(text: *const u8, len: usize, out: *mut u64) -> u32;
+    fn vbson_decimal128_parse(text: *const u8, len: usize, out: *mut [u8; 16]) -> u32;
+    fn vbson_decimal128_print(bytes: *const [u8; 16], room: *mut u8, size: usize, len: *mut usize) -> u32;
+    fn vbson_object_id_parse(text: *const u8, len: usize, out: *mut [u8; 12]) -> u32;
+    fn vbson_object_id_print(bytes: *const [u8; 12], room: *mut u8, size: usize, len: *mut usize) -> u32;
+    fn vbson_date_time_parse(text: *const u8, len: usize, out: *mut i64) -> u32;
+    fn vbson_date_time_print(millis: i64, room: *mut u8, size: usize, len: *mut usize) -> u32;
+}
+
+const DONE: u32 = 0;
+const NO_MODE: u32 = 1;
+const NOT_JSON: u32 = 2;
+const BAD_OBJECT_ID: u32 = 3;
+const NOT_EXTENDED_JSON: u32 = 4;
+const OUT_OF_MEMORY: u32 = 5;
+const NO_SUCH_TEXT: u32 = 6;
+const NO_TEXT: u32 = 7;
+const NO_ROOM: u32 = 8;
+const DIFFERENT: u32 = 9;
+
+/// No text of a small value is longer: see the ROOMs of `vbson.h`.
+pub const ROOM: usize = 64;
+
+/// The archive's instructions, which it does not test for itself. (The answer is kept by `std`.)
+fn wants_processor() {
+    let has_all = std::is_x86_feature_detected!("sse4.2") && std::is_x86_feature_detected!("popcnt");
+    assert!(has_all, "vbson needs a processor with SSE4.2 and POPCNT");
+}
+
+fn wants_done(status: u32) -> Result<(), Error> {
+    match status {
+        DONE => Ok(()),
+        NOT_JSON => Err(Error::NotJson),
+        BAD_OBJECT_ID => Err(Error::BadObjectId),
+        NOT_EXTENDED_JSON => Err(Error::NotExtendedJson),
+        OUT_OF_MEMORY => Err(Error::OutOfMemory),
+        NO_SUCH_TEXT => Err(Error::NoSuchText),
+        NO_TEXT => Err(Error::NoText),
+        // `Mode` has no other number, `ROOM` is enough, and `same` looks for DIFFERENT itself.
+        NO_MODE | NO_ROOM | DIFFERENT => unreachable!(),
+        other => unreachable!("status {other}"),
+    }
+}
+
+pub fn version() -> u32 {
+    wants_processor();
+    // SAFETY: the call takes nothing.
+    unsafe { vbson_version() }
+}
+
+/// The text in a block of its own, which the caller frees by `free`.
+pub fn convert(mode: u32, text: &[u8]) -> Result<RawText, Error> {
+    wants_processor();
+    let mut out = RawText { bytes: b"".as_ptr(), size: 0, len: 0 };
+    // SAFETY: the slice is readable, and `out` is a valid text that overlaps nothing.
+    wants_done(unsafe { vbson_convert(mode, text.as_ptr(), text.len(), &mut out) })?;
+    Ok(out)
+}
+
+pub fn same(a: &[u8], b: &[u8]) -> Result<bool, Error> {
+    wants_processor();
+    // SAFETY: the slices are readable.
+    match unsafe { vbson_same(a.as_ptr(), a.len(), b.as_ptr(), b.len()) } {
+        DIFFERENT => Ok(false),
+        status => wants_done(status).map(|()| true),
+    }
+}
+
+pub fn hash(text: &[u8]) -> Result<u64, Error> {
+    wants_processor();
+    let mut out = 0;
+    // SAFETY: the slice is readable, and `out` overlaps nothing.
+    wants_done(unsafe { vbson_hash(text.as_ptr(), text.len(), &mut out) })?;
+    Ok(out)
+}
+
+pub fn decimal128_parse(text: &[u8]) -> Result<[u8; 16], Error> {
+    wants_processor();
+    let mut out = [0; 16];
+    // SAFETY: the slice is readable, and `out` overlaps nothing.
+    wants_done(unsafe { vbson_decimal128_parse(text.as_ptr(), text.len(), &mut out) })?;
+    Ok(out)
+}
+
+pub fn object_id_parse(text: &[u8]) -> Result<[u8; 12], Error> {
+    wants_processor();
+    let mut out = [0; 12];
+    // SAFETY: the slice is readable, and `out` overlaps nothing.
+    wants_done(unsafe { vbson_object_id_parse(text.as_ptr(), text.len(), &mut out) })?;
+    Ok(out)
+}
+
+pub fn date_time_parse(text: &[u8]) -> Result<i64, Error> {
+    wants_processor();
+    let mut out = 0;
+    // SAFETY: the slice is readable, and `out` overlaps nothing.
+    wants_done(unsafe { vbson_date_time_parse(text.as_ptr(), text.len(), &mut out) })?;
+    Ok(out)
+}
+
+/// The room, and the length of the text that the call put at its front.
+pub type Printed = ([u8; ROOM], usize);
+
+pub fn decimal128_print(bytes: &[u8; 16]) -> Result<Printed, Error> {
+    // SAFETY: the bytes are readable, and the room and the length overlap nothing.
+    print(|room, len| unsafe { vbson_decimal128_print(bytes, room, ROOM, len) })
+}
+
+pub fn object_id_print(bytes: &[u8; 12]) -> Result<Printed, Error> {
+    // SAFETY: as above.
+    print(|room, len| unsafe { vbson_object_id_print(bytes, room, ROOM, len) })
+}
+
+pub fn date_time_print(millis: i64) -> Result<Printed, Error> {
+    // SAFETY: as above.
+    print(|room, len| unsafe { vbson_date_time_print(millis, room, ROOM, len) })
+}
+
+fn print(call: impl FnOnce(*mut u8, *mut usize) -> u32) -> Result<Printed, Error> {
+    wants_processor();
+    let mut room = [0; ROOM];
+    let mut len = 0;
+    wants_done(call(room.as_mut_ptr(), &mut len))?;
+    Ok((room, len))
+}

@@ -1,0 +1,62 @@
+//! MongoDB Extended JSON v2 and the small values of BSON, over `libvbson.a`, whose calls are proved (`vbson.h` says what
+//! each answers).
+//!
+//! It runs on x86-64 Linux with glibc alone, on a processor with SSE4.2 and POPCNT: on any other the first call panics.
+//! Reading the deepest text (nested 127 deep) takes 384 KiB of stack, which the threads of `std` have.
+//!
+//! ```
+//! use vbson::{convert, Mode};
+//! let text = convert(Mode::Relaxed, br#"{"at": {"$date": {"$numberLong": "0"}}}"#)?;
+//! assert_eq!(&*text, r#"{"at":{"$date":"1970-01-01T00:00:00Z"}}"#);
+//! # Ok::<(), vbson::Error>(())
+//! ```
+
+#[cfg(not(all(target_os = "linux", target_arch = "x86_64", target_env = "gnu")))]
+compile_error!("libvbson.a is made for x86-64 Linux with glibc alone");
+
+mod call;
+mod scalar;
+mod text;
+
+pub use scalar::{DateTime, Decimal128, ObjectId};
+pub use text::{convert, hash, same, Mode, Text};
+
+use std::fmt;
+
+/// Why a call was refused.
+#[derive(Clone, Copy, Debug, PartialEq, Eq)]
+pub enum Error {
+    /// The bytes are not UTF-8, not one JSON text, or nest deeper than 127.
+    NotJson,
+    /// The first fault of a JSON text is the text of an object id.
+    BadObjectId,
+    /// The JSON text means nothing in Extended JSON v2.
+    NotExtendedJson,
+    /// A request for memory was refused.
+    OutOfMemory,
+    /// The text is none of the kind that was asked for.
+    NoSuchText,
+    /// The value has no text of the kind that was asked for.
+    NoText,
+}
+
+impl fmt::Display for Error {
+    fn fmt(&self, f: &mut fmt::Formatter<'_>) -> fmt::Result {
+        f.write_str(match self {
+            Error::NotJson => "not JSON",
+            Error::BadObjectId => "bad object id",
+            Error::NotExtendedJson => "not Extended JSON",
+            Error::OutOfMemory => "out of memory",
+            Error::NoSuchText => "no such text",
+            Error::NoText => "no text",
+        })
+    }
+}
+
+impl std::error::Error for Error {}
+
+/// The version of the library that is linked, as (0, 2, 0).
+pub fn version() -> (u32, u32, u32) {
+    let number = call::version();
+    (number / 10000, number / 100 % 100, number % 100)
+}

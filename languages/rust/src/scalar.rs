@@ -1,0 +1,71 @@
+//! Decimals, object ids and moments.
+use crate::call::{self, Printed};
+use crate::Error;
+use std::fmt;
+use std::str::{self, FromStr};
+
+/// A decimal of 128 bits as BSON has it: 16 bytes, the lowest first. Equal are equal bytes, so `1.5` is not `1.50`.
+#[derive(Clone, Copy, Debug, PartialEq, Eq, Hash)]
+pub struct Decimal128(pub [u8; 16]);
+
+/// An object id of 12 bytes.
+#[derive(Clone, Copy, Debug, PartialEq, Eq, PartialOrd, Ord, Hash)]
+pub struct ObjectId(pub [u8; 12]);
+
+/// A moment, in milliseconds since 1970-01-01T00:00:00Z.
+#[derive(Clone, Copy, Debug, PartialEq, Eq, PartialOrd, Ord, Hash)]
+pub struct DateTime(pub i64);
+
+impl FromStr for Decimal128 {
+    type Err = Error;
+
+    /// No value is rounded: a text with too many digits is `NoSuchText`, as any other that is no decimal.
+    fn from_str(text: &str) -> Result<Decimal128, Error> {
+        call::decimal128_parse(text.as_bytes()).map(Decimal128)
+    }
+}
+
+impl FromStr for ObjectId {
+    type Err = Error;
+
+    /// 24 hexadecimal digits of either case; else `NoSuchText`.
+    fn from_str(text: &str) -> Result<ObjectId, Error> {
+        call::object_id_parse(text.as_bytes()).map(ObjectId)
+    }
+}
+
+impl FromStr for DateTime {
+    type Err = Error;
+
+    /// A text of RFC 3339 (section 5.6); else `NoSuchText`.
+    fn from_str(text: &str) -> Result<DateTime, Error> {
+        call::date_time_parse(text.as_bytes()).map(DateTime)
+    }
+}
+
+impl DateTime {
+    /// The text of RFC 3339, in UTC. `NoText` outside the years 0000 to 9999.
+    pub fn to_rfc3339(self) -> Result<String, Error> {
+        let printed = call::date_time_print(self.0)?;
+        Ok(text_of(&printed).to_owned())
+    }
+}
+
+/// `fmt::Error` where a request for memory was refused.
+impl fmt::Display for Decimal128 {
+    fn fmt(&self, f: &mut fmt::Formatter<'_>) -> fmt::Result {
+        let printed = call::decimal128_print(&self.0).map_err(|_| fmt::Error)?;
+        f.pad(text_of(&printed))
+    }
+}
+
+impl fmt::Display for ObjectId {
+    fn fmt(&self, f: &mut fmt::Formatter<'_>) -> fmt::Result {
+        let printed = call::object_id_print(&self.0).map_err(|_| fmt::Error)?;
+        f.pad(text_of(&printed))
+    }
+}
+
+fn text_of((room, len): &Printed) -> &str {
+    str::from_utf8(&room[..*len]).expect("the library writes UTF-8")
+}

@@ -1,0 +1,88 @@
+//! Texts of Extended JSON.
+use crate::{call, Error};
+use std::ffi::c_void;
+use std::ops::Deref;
+use std::ptr::NonNull;
+use std::{fmt, slice, str};
+
+extern "C" {
+    fn free(block: *mut c_void);
+}
+
+/// What `convert` writes.
+#[derive(Clone, Copy, Debug, PartialEq, Eq)]
+#[repr(u32)]
+pub enum Mode {
+    /// The canonical form of Extended JSON v2, which keeps every type.
+    Canonical = 0,
+    /// The relaxed form, with plain numbers, and dates as texts.
+    Relaxed = 1,
+    /// The value for people to read; no JSON.
+    Show = 2,
+}
+
+/// A text of the library's own, freed when it is dropped.
+pub struct Text {
+    bytes: NonNull<u8>,
+    len: usize,
+}
+
+// SAFETY: the block is plain bytes that nobody else has, and `free` takes it on any thread.
+unsafe impl Send for Text {}
+// SAFETY: a shared text is only read.
+unsafe impl Sync for Text {}
+
+impl Drop for Text {
+    fn drop(&mut self) {
+        // SAFETY: the header says that the holder frees the block by `free`, once.
+        unsafe { free(self.bytes.as_ptr().cast()) }
+    }
+}
+
+impl Deref for Text {
+    type Target = str;
+
+    fn deref(&self) -> &str {
+        // SAFETY: `len` bytes of the block are the text.
+        let bytes = unsafe { slice::from_raw_parts(self.bytes.as_ptr(), self.len) };
+        debug_assert!(str::from_utf8(bytes).is_ok());
+        // SAFETY: `convert` looked at the bytes, which nobody changes.
+        unsafe { str::from_utf8_unchecked(bytes) }
+    }
+}
+
+impl fmt::Display for Text {
+    fn fmt(&self, f: &mut fmt::Formatter<'_>) -> fmt::Result {
+        f.pad(self)
+    }
+}
+
+impl fmt::Debug for Text {
+    fn fmt(&self, f: &mut fmt::Formatter<'_>) -> fmt::Result {
+        fmt::Debug::fmt(&**self, f)
+    }
+}
+
+/// The text, in the mode, of the value that a text of Extended JSON means, in either form or mixed.
+///
+/// Keys come out in ascending order at every depth; of a key that stands twice the last value counts. A double other
+/// than a zero, an infinity or a NaN is `NotExtendedJson`.
+pub fn convert(mode: Mode, text: &[u8]) -> Result<Text, Error> {
+    let raw = call::convert(mode as u32, text)?;
+    let bytes = NonNull::new(raw.bytes.cast_mut()).expect("a text has a block");
+    let text = Text { bytes, len: raw.len };
+    // SAFETY: `len` bytes of the block are the text.
+    let written = unsafe { slice::from_raw_parts(text.bytes.as_ptr(), text.len) };
+    assert!(str::from_utf8(written).is_ok(), "the library writes UTF-8");
+    Ok(text)
+}
+
+/// Whether two texts of Extended JSON mean the same value. The fault of the first is told before that of the second.
+pub fn same(a: &[u8], b: &[u8]) -> Result<bool, Error> {
+    call::same(a, b)
+}
+
+/// The hash of the value that a text means: one number for all texts that `same` finds the same.
+pub fn hash(text: &[u8]) -> Result<u64, Error> {
+    call::hash(text)
+}

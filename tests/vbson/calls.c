@@ -1,0 +1,182 @@
+/* Every call, on every status that it answers, and what it leaves behind. */
+#include "check.h"
+
+/* ---- texts */
+
+static int converts(uint32_t mode, const char *text, const char *wanted) {
+    vbson_text out = VBSON_TEXT_NONE;
+    int is_right = vbson_convert(mode, TEXT(text), &out) == VBSON_DONE && out.len == strlen(wanted)
+        && out.size == out.len + 1 && memcmp(out.bytes, wanted, out.size) == 0;
+    vbson_text_free(&out);
+    return is_right && out.size == 0 && out.len == 0;
+}
+
+/* The status, and that `out` is as it was. */
+static int refuses(uint32_t mode, const char *text, size_t len, uint32_t status) {
+    static const uint8_t before[] = "before";
+    vbson_text out = {before, 7, 6};
+    uint32_t found = vbson_convert(mode, (const uint8_t *)text, len, &out);
+    return found == status && out.bytes == before && out.size == 7 && out.len == 6;
+}
+
+static void convert(void) {
+    const char *date = "{\"$date\":{\"$numberLong\":\"1590972160292\"}}";
+    CHECK(converts(VBSON_CANONICAL, "{\"b\":2147483648,\"a\":-5}", "{\"a\":{\"$numberInt\":\"-5\"},\"b\":{\"$numberLong\":\"2147483648\"}}"));
+    CHECK(converts(VBSON_CANONICAL, date, date));
+    CHECK(converts(VBSON_RELAXED, date, "{\"$date\":\"2020-06-01T00:42:40.292Z\"}"));
+    CHECK(converts(VBSON_SHOW, "{\"$code\":\"\"}", ""));
+    CHECK(converts(VBSON_SHOW, "\"a\\nb\"", "\"a\nb\""));
+    CHECK(converts(VBSON_RELAXED, "\"a\\nb\"", "\"a\\nb\""));
+    CHECK(converts(VBSON_RELAXED, "{\"a\":1,\"a\":2}", "{\"a\":2}"));
+    CHECK(converts(VBSON_RELAXED, "[]", "[]"));
+
+    /* a text with U+0000 in it, which ends the C string early */
+    vbson_text out = VBSON_TEXT_NONE;
+    CHECK(vbson_convert(VBSON_SHOW, TEXT("\"a\\u0000b\""), &out) == VBSON_DONE);
+    CHECK(out.len == 5 && memcmp(out.bytes, "\"a\0b\"", 6) == 0);
+    vbson_text_free(&out);
+    vbson_text_free(&out);
+
+    /* only the bytes that are told are read */
+    CHECK(vbson_convert(VBSON_RELAXED, (const uint8_t *)"[1]]]", 3, &out) == VBSON_DONE && out.len == 3);
+    vbson_text_free(&out);
+}
+
+static void convert_refused(void) {
+    CHECK(refuses(3, "{}", 2, VBSON_NO_MODE));
+    CHECK(refuses(UINT32_MAX, "not JSON", 8, VBSON_NO_MODE));
+    CHECK(refuses(VBSON_CANONICAL, "", 0, VBSON_NOT_JSON));
+    CHECK(refuses(VBSON_SHOW, "{}x", 3, VBSON_NOT_JSON));
+    CHECK(refuses(VBSON_SHOW, "{} {}", 5, VBSON_NOT_JSON));
+    CHECK(refuses(VBSON_RELAXED, "\"\xff\"", 3, VBSON_NOT_JSON));
+    CHECK(refuses(VBSON_CANONICAL, "\xef\xbb\xbf{}", 5, VBSON_NOT_JSON));
+    CHECK(refuses(VBSON_RELAXED, "{\"$oid\":\"53e3\"}", 15, VBSON_BAD_OBJECT_ID));
+    CHECK(refuses(VBSON_RELAXED, "1.5", 3, VBSON_NOT_EXTENDED_JSON));
+    CHECK(refuses(VBSON_RELAXED, "[{\"$oid\":5},1]", 14, VBSON_NOT_EXTENDED_JSON));
+}
+
+/* ---- values */
+
+static void same(void) {
+    CHECK(vbson_same(TEXT("{\"a\":1,\"b\":[2,3]}"), TEXT("{ \"b\": [2, {\"$numberInt\":\"3\"}], \"a\": 1 }")) == VBSON_DONE);
+    CHECK(vbson_same(TEXT("[1,2]"), TEXT("[2,1]")) == VBSON_DIFFERENT);
+    CHECK(vbson_same(TEXT("1"), TEXT("{\"$numberLong\":\"1\"}")) == VBSON_DIFFERENT);
+    CHECK(vbson_same(TEXT("{\"a\":1}"), TEXT("{\"a\":1,\"b\":1}")) == VBSON_DIFFERENT);
+    CHECK(vbson_same(TEXT("{\"a\":1,\"b\":1}"), TEXT("{\"a\":1}")) == VBSON_DIFFERENT);
+    CHECK(vbson_same(TEXT(""), TEXT("1.5")) == VBSON_NOT_JSON);
+    CHECK(vbson_same(TEXT("1.5"), TEXT("")) == VBSON_NOT_EXTENDED_JSON);
+    CHECK(vbson_same(TEXT("1"), TEXT("{\"$oid\":\"\"}")) == VBSON_BAD_OBJECT_ID);
+    const uint8_t one[] = "{\"x\":null}";
+    CHECK(vbson_same(one, 10, one, 10) == VBSON_DONE);
+}
+
+static uint64_t hash_of(const char *text) {
+    uint64_t number = 0;
+    CHECK(vbson_hash(TEXT(text), &number) == VBSON_DONE);
+    return number;
+}
+
+static void hash(void) {
+    uint64_t number = 7;
+    CHECK(hash_of("{\"a\":1,\"b\":[2,3]}") == hash_of("{ \"b\": [2, {\"$numberInt\":\"3\"}], \"a\": 1 }"));
+    CHECK(hash_of("[1,2]") != hash_of("[2,1]"));
+    CHECK(hash_of("{\"a\":1}") != hash_of("{\"a\":2}"));
+    /* SipHash-1-3 under the key 0 of no bytes, and of the four bytes of the number 5 */
+    CHECK(hash_of("null") == UINT64_C(0xd1fba762150c532c));
+    CHECK(vbson_hash(TEXT("]"), &number) == VBSON_NOT_JSON && number == 7);
+    CHECK(vbson_hash(TEXT("{\"$oid\":\"x\"}"), &number) == VBSON_BAD_OBJECT_ID && number == 7);
+    CHECK(vbson_hash(TEXT("1e400"), &number) == VBSON_NOT_JSON && number == 7);
+    CHECK(vbson_hash(TEXT("{\"$date\":\"x\"}"), &number) == VBSON_NOT_EXTENDED_JSON && number == 7);
+}
+
+/* ---- small values */
+
+static uint8_t room[64];
+static size_t len;
+
+/* The room holds the text, and behind it what it held before. */
+static int holds(const char *text) {
+    size_t i = strlen(text);
+    if (len != i || memcmp(room, text, i) != 0) return 0;
+    while (i < sizeof room && room[i] == 0xa5) i++;
+    return i == sizeof room;
+}
+
+static uint8_t *fresh(void) {
+    len = 99;
+    return memset(room, 0xa5, sizeof room);
+}
+
+static int is_fresh(size_t wanted_len) {
+    size_t i = 0;
+    while (i < sizeof room && room[i] == 0xa5) i++;
+    return i == sizeof room && len == wanted_len;
+}
+
+static int decimal_prints(const char *text, const char *wanted) {
+    uint8_t bytes[16] = {0};
+    return vbson_decimal128_parse(TEXT(text), bytes) == VBSON_DONE
+        && vbson_decimal128_print(bytes, fresh(), sizeof room, &len) == VBSON_DONE && holds(wanted);
+}
+
+static void decimals(void) {
+    static const uint8_t five[16] = {5, 0, 0, 0, 0, 0, 0, 0, 0, 0, 0, 0, 0, 0, 0x40, 0x30};
+    uint8_t bytes[16] = {9, 9};
+    CHECK(vbson_decimal128_parse(TEXT("5"), bytes) == VBSON_DONE && memcmp(bytes, five, 16) == 0);
+    CHECK(decimal_prints("19.90", "19.90"));
+    CHECK(decimal_prints("-inf", "-Infinity"));
+    CHECK(decimal_prints("nan", "NaN"));
+    CHECK(decimal_prints("1E+3", "1E+3"));
+    CHECK(decimal_prints("-1234567890123456789012345678901234E-6176", "-1.234567890123456789012345678901234E-6143"));
+    CHECK(decimal_prints("-0.000001234567890123456789012345678901234", "-0.000001234567890123456789012345678901234"));
+    CHECK(vbson_decimal128_print(five, fresh(), 0, &len) == VBSON_NO_ROOM && is_fresh(1));
+    CHECK(vbson_decimal128_print(five, fresh(), 1, &len) == VBSON_DONE && holds("5"));
+    static const char *const none[] = {"", "x", "\xff", "1e", "1.2.3", "12345678901234567890123456789012345", "1E6145"};
+    for (size_t i = 0; i < sizeof none / sizeof *none; i++) {
+        CHECK(vbson_decimal128_parse(TEXT(none[i]), bytes) == VBSON_NO_SUCH_TEXT && memcmp(bytes, five, 16) == 0);
+    }
+}
+
+static void object_ids(void) {
+    static const uint8_t wanted[12] = {0x53, 0xe3, 0x7d, 0x08, 0x77, 0x6f, 0x72, 0x4e, 0x42};
+    uint8_t id[12] = {1, 2, 3};
+    CHECK(vbson_object_id_parse(TEXT("53E37d08776f724e42000000"), id) == VBSON_DONE && memcmp(id, wanted, 12) == 0);
+    CHECK(vbson_object_id_print(id, fresh(), sizeof room, &len) == VBSON_DONE && holds("53e37d08776f724e42000000"));
+    CHECK(vbson_object_id_print(id, fresh(), 24, &len) == VBSON_DONE && holds("53e37d08776f724e42000000"));
+    CHECK(vbson_object_id_print(id, fresh(), 23, &len) == VBSON_NO_ROOM && is_fresh(24));
+    static const char *const none[] = {"", "53e3", "53e37d08776f724e4200000g", "53e37d08776f724e420000000", "\xff"};
+    for (size_t i = 0; i < sizeof none / sizeof *none; i++) {
+        CHECK(vbson_object_id_parse(TEXT(none[i]), id) == VBSON_NO_SUCH_TEXT && memcmp(id, wanted, 12) == 0);
+    }
+}
+
+static void moments(void) {
+    int64_t millis = 0;
+    CHECK(vbson_date_time_parse(TEXT("2020-06-01T00:42:40.292Z"), &millis) == VBSON_DONE && millis == INT64_C(1590972160292));
+    CHECK(vbson_date_time_print(millis, fresh(), 24, &len) == VBSON_DONE && holds("2020-06-01T00:42:40.292Z"));
+    CHECK(vbson_date_time_print(millis, fresh(), 23, &len) == VBSON_NO_ROOM && is_fresh(24));
+    CHECK(vbson_date_time_print(0, fresh(), 20, &len) == VBSON_DONE && holds("1970-01-01T00:00:00Z"));
+    CHECK(vbson_date_time_print(INT64_C(-62167219200000), fresh(), 64, &len) == VBSON_DONE && holds("0000-01-01T00:00:00Z"));
+    CHECK(vbson_date_time_print(INT64_C(-62167219200001), fresh(), 64, &len) == VBSON_NO_TEXT && is_fresh(99));
+    CHECK(vbson_date_time_print(INT64_C(253402300800000), fresh(), 64, &len) == VBSON_NO_TEXT && is_fresh(99));
+    CHECK(vbson_date_time_print(INT64_MAX, fresh(), 0, &len) == VBSON_NO_TEXT && is_fresh(99));
+    CHECK(vbson_date_time_print(INT64_MIN, fresh(), 64, &len) == VBSON_NO_TEXT && is_fresh(99));
+    CHECK(vbson_date_time_parse(TEXT("1969-12-31T23:59:59.9995+00:00"), &millis) == VBSON_DONE && millis == 0);
+    static const char *const none[] = {"", "2020", "\xff", "2020-02-30T00:00:00Z", "2020-06-01T00:42:60Z"};
+    for (size_t i = 0; i < sizeof none / sizeof *none; i++) {
+        CHECK(vbson_date_time_parse(TEXT(none[i]), &millis) == VBSON_NO_SUCH_TEXT && millis == 0);
+    }
+}
+
+int main(void) {
+    CHECK(vbson_version() == VBSON_VERSION);
+    convert();
+    convert_refused();
+    same();
+    hash();
+    decimals();
+    object_ids();
+    moments();
+    CHECK(strcmp(vbson_status_text(VBSON_NO_ROOM), "no room") == 0);
+    return end();
+}

@@ -1,0 +1,123 @@
+"""Each call of vbson.py, and each error. The last line is 'N passed, M failed'."""
+import struct
+import sys
+import threading
+
+import signatures
+import vbson
+
+passed = failed = 0
+
+
+def want(name, found, wanted):
+    global passed, failed
+    if found == wanted:
+        passed += 1
+    else:
+        failed += 1
+        print(f"FAILED: {name}: {found!r} and not {wanted!r}")
+
+
+def raises(name, error, call, *arguments):
+    try:
+        found = call(*arguments)
+    except Exception as it:
+        found = type(it)
+    want(name, found, error)
+
+
+def sip13(data):
+    """SipHash-1-3 under the key 0 (Aumasson and Bernstein)."""
+    mask = 2**64 - 1
+    v = [0x736F6D6570736575, 0x646F72616E646F6D, 0x6C7967656E657261, 0x7465646279746573]
+
+    def turn(it, by):
+        return (it << by | it >> 64 - by) & mask
+
+    def step():
+        a, b, c, d = v
+        a, c = a + b & mask, c + d & mask
+        b, d = turn(b, 13) ^ a, turn(d, 16) ^ c
+        a, c = turn(a, 32) + d & mask, c + b & mask
+        b, d = turn(b, 17) ^ c, turn(d, 21) ^ a
+        v[:] = a, b, turn(c, 32), d
+
+    last = (len(data) & 255) << 56
+    whole = len(data) // 8 * 8
+    words = [*struct.unpack(f"<{whole // 8}Q", data[:whole]), last | int.from_bytes(data[whole:], "little")]
+    for word in words:
+        v[3] ^= word
+        step()
+        v[0] ^= word
+    v[2] ^= 255
+    for _ in range(3):
+        step()
+    return v[0] ^ v[1] ^ v[2] ^ v[3]
+
+
+def try_texts():
+    want("canonical", vbson.convert('{"b":2147483648,"a":-5}'), '{"a":{"$numberInt":"-5"},"b":{"$numberLong":"2147483648"}}')
+    want("relaxed", vbson.convert(b'{"$numberLong":"5"}', vbson.RELAXED), "5")
+    want("shown", vbson.convert('{"$code":""}', vbson.SHOW), "")
+    want("U+0000", vbson.convert('"a\\u0000b"', vbson.SHOW), '"a\0b"')
+    want("other scripts", vbson.convert('"\u00e9\U0001f600"', vbson.RELAXED), '"\u00e9\U0001f600"')
+    want("a bytearray", vbson.convert(bytearray(b"[1]"), vbson.RELAXED), "[1]")
+    raises("no text", vbson.NotJson, vbson.convert, "")
+    raises("a lone surrogate", vbson.NotJson, vbson.convert, '"\ud800"')
+    raises("a number", TypeError, vbson.convert, 5)
+    raises("no mode", ValueError, vbson.convert, "{}", 3)
+    raises("a bad id", vbson.BadObjectId, vbson.convert, '{"$oid":"5"}')
+    raises("a double", vbson.NotExtendedJson, vbson.convert, "1.5")
+    want("same", vbson.same('{"a":1,"b":2}', '{"b":2,"a":1}'), True)
+    want("different", vbson.same("[1,2]", "[2,1]"), False)
+    raises("the first fault", vbson.NotJson, vbson.same, "", "1.5")
+
+
+def try_hashes():
+    want("no words", vbson.hash_of("null"), sip13(b""))
+    want("an Int32", vbson.hash_of("5"), sip13(struct.pack("<i", 5)))
+    want("a text", vbson.hash_of('"abc"'), sip13(b"abc\xff"))
+    pairs = struct.pack("<Q", 2) + b"a\xff" + struct.pack("<i", 1) + b"b\xff" + struct.pack("<Q", 1) + b"\1"
+    want("a document", vbson.hash_of('{"b":[true],"a":1}'), sip13(pairs))
+    raises("a hash of nothing", vbson.NotJson, vbson.hash_of, "")
+
+
+def try_small_values():
+    want("a decimal", vbson.decimal128("5"), bytes([5, *[0] * 13, 0x40, 0x30]))
+    want("a decimal's text", vbson.decimal128_text(vbson.decimal128("19.90")), "19.90")
+    want("any pattern has a text", vbson.decimal128_text(b"\xff" * 16), "NaN")
+    raises("no decimal", vbson.NoSuchText, vbson.decimal128, "1.2.3")
+    raises("15 bytes", ValueError, vbson.decimal128_text, b"\0" * 15)
+    want("an object id", vbson.object_id("53E37d08776f724e42000000").hex(), "53e37d08776f724e42000000")
+    want("an object id's text", vbson.object_id_text(b"\0\xff" * 6), "00ff" * 6)
+    raises("no object id", vbson.NoSuchText, vbson.object_id, "53e3")
+    want("a moment", vbson.date_time("2020-06-01T00:42:40.292Z"), 1590972160292)
+    want("a moment's text", vbson.date_time_text(-1), "1969-12-31T23:59:59.999Z")
+    raises("no moment", vbson.NoSuchText, vbson.date_time, "2020")
+    raises("a moment of no text", vbson.NoText, vbson.date_time_text, 2**62)
+    raises("a moment past 64 bits", vbson.NoText, vbson.date_time_text, 2**63)
+
+
+def try_threads():
+    faults = []
+
+    def rounds(i):
+        for n in range(500):
+            if vbson.convert(f"[{i}, {n}]", vbson.RELAXED) != f"[{i},{n}]":
+                faults.append((i, n))
+
+    threads = [threading.Thread(target=rounds, args=(i,)) for i in range(8)]
+    for it in threads:
+        it.start()
+    for it in threads:
+        it.join()
+    want("eight threads", faults, [])
+
+
+want("version", vbson.version(), signatures.version())
+try_texts()
+try_hashes()
+try_small_values()
+try_threads()
+print(f"{passed} passed, {failed} failed")
+sys.exit(1 if failed else 0)

@@ -1,0 +1,115 @@
+/* Refuses the first request for memory of a call, then the second, up to the first call that meets no refusal: each
+ * answers OUT_OF_MEMORY and leaves what it was handed as it was, or answers as it does with ample memory; and nothing is
+ * left behind. Linked with --wrap=malloc,--wrap=realloc,--wrap=free. */
+#include "check.h"
+
+void *__real_malloc(size_t size);
+void *__real_realloc(void *old, size_t size);
+void __real_free(void *block);
+
+/* How many requests there were since `call`, which one is refused, and how many blocks there are more than then. */
+static long requests, refused, live;
+
+static int is_refused(void) { return ++requests == refused; }
+
+void *__wrap_malloc(size_t size) {
+    void *block = is_refused() ? NULL : __real_malloc(size);
+    live += block != NULL;
+    return block;
+}
+
+void *__wrap_realloc(void *old, size_t size) {
+    void *block = is_refused() ? NULL : __real_realloc(old, size);
+    live += old == NULL && block != NULL;
+    return block;
+}
+
+void __wrap_free(void *block) {
+    live -= block != NULL;
+    __real_free(block);
+}
+
+static const char *const texts[] = {
+    "{\"a\":[1,{\"$numberLong\":\"5\"},\"xyz\"],\"b\":{\"$date\":\"2020-06-01T00:42:40.292Z\"},"
+    "\"c\":{\"$oid\":\"53e37d08776f724e42000000\"},\"d\":{\"$numberDecimal\":\"1.50\"},"
+    "\"e\":{\"$code\":\"f\",\"$scope\":{\"x\":1}},\"f\":{\"$binary\":{\"base64\":\"AQID\",\"subType\":\"00\"}},"
+    "\"g\":{\"$regularExpression\":{\"pattern\":\"a\",\"options\":\"xi\"}},\"h\":{\"$symbol\":\"s\"},"
+    "\"i\":{\"$dbPointer\":{\"$ref\":\"n\",\"$id\":{\"$oid\":\"53e37d08776f724e42000000\"}}},\"j\":{\"$minKey\":1},"
+    "\"k\":{\"$uuid\":\"c8edabc3-f738-4ca3-b68d-ab92a91478a3\"},\"l\":{\"$numberDouble\":\"-Infinity\"}}",
+    "[1,{\"$oid\":\"53e3\"}]", "[{\"a\":[1.5]}]", "{\"a\":[\"b\"", "[]", "\"a\\u0000b\""};
+enum { TEXTS = sizeof texts / sizeof *texts, KINDS = 7 };
+
+/* What a call of each kind answers, and all that it can write. */
+struct answer {
+    uint32_t status;
+    vbson_text text;
+    uint64_t number;
+    uint8_t room[64];
+    size_t len;
+};
+
+static const uint8_t before[] = "before";
+
+static struct answer nothing(void) {
+    struct answer it;
+    memset(&it, 0, sizeof it);
+    it.text = (vbson_text){before, 7, 6};
+    it.number = 42;
+    memset(it.room, 0xa5, sizeof it.room);
+    it.len = 99;
+    return it;
+}
+
+static struct answer call(int kind, const char *text, long number) {
+    static const uint8_t decimal[16] = {5, 0, 0, 0, 0, 0, 0, 0, 0, 0, 0, 0, 0, 0, 0x40, 0x30};
+    struct answer it = nothing();
+    requests = live = 0;
+    refused = number;
+    if (kind < 3) it.status = vbson_convert((uint32_t)kind, TEXT(text), &it.text);
+    else if (kind == 3) it.status = vbson_same(TEXT(text), TEXT(texts[0]));
+    else if (kind == 4) it.status = vbson_hash(TEXT(text), &it.number);
+    else if (kind == 5) it.status = vbson_decimal128_print(decimal, it.room, sizeof it.room, &it.len);
+    else it.status = vbson_date_time_print(-1, it.room, sizeof it.room, &it.len);
+    refused = 0;
+    return it;
+}
+
+static int is_same_text(vbson_text a, vbson_text b) {
+    return a.size == b.size && a.len == b.len && memcmp(a.bytes, b.bytes, a.size) == 0;
+}
+
+/* With what was handed in as it was: status aside. */
+static int is_alike(const struct answer *a, const struct answer *b) {
+    return is_same_text(a->text, b->text) && a->number == b->number && memcmp(a->room, b->room, sizeof a->room) == 0
+        && a->len == b->len;
+}
+
+static void let_go(struct answer *it) {
+    if (it->text.bytes != before) vbson_text_free(&it->text);
+}
+
+static long refuse_each(int kind, const char *text) {
+    struct answer ample = call(kind, text, 0), none = nothing();
+    long number = 0, wants = 0, asked;
+    do {
+        struct answer it = call(kind, text, ++number);
+        asked = requests;
+        int is_want = it.status == VBSON_OUT_OF_MEMORY;
+        CHECK(is_want ? asked >= number && is_alike(&it, &none) && it.text.bytes == before
+                      : it.status == ample.status && is_alike(&it, &ample));
+        let_go(&it);
+        CHECK(live == 0);
+        wants += is_want;
+    } while (asked >= number);
+    let_go(&ample);
+    return wants;
+}
+
+int main(void) {
+    for (int kind = 0; kind < KINDS; kind++) {
+        long wants = 0;
+        for (int i = 0; i < TEXTS; i++) wants += refuse_each(kind, texts[i]);
+        CHECK(wants > 0);
+    }
+    return end();
+}

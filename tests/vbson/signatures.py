@@ -1,0 +1,159 @@
+"""Holds languages/c/vbson.h and the wrappers to the sources of crates/vbson: the calls with their types, the statuses with
+their numbers, which statuses each call answers, the text's fields, and the version."""
+import re
+from pathlib import Path
+
+ROOT = Path(__file__).resolve().parents[2]
+SOURCES = ROOT / "crates/vbson/src"
+LANGUAGES = ROOT / "languages"
+HEADER = LANGUAGES / "c/vbson.h"
+NUMBERS = {"u32": "uint32_t", "i64": "int64_t", "u64": "uint64_t", "usize": "size_t"}
+EXPORT = re.compile(r'#\[unsafe\(no_mangle\)\]\npub (?:unsafe )?extern "C" fn (\w+)\(([^)]*)\) -> (\w+)\n(.*?)\n\{\n', re.S)
+
+
+def as_c(name, kind):
+    """The C parameters of one of Rattle's."""
+    if kind == "Global":
+        return []
+    if kind in NUMBERS:
+        return [f"{NUMBERS[kind]} {name}"]
+    const, inner = ("", kind[5:]) if kind.startswith("&mut ") else ("const ", kind[1:])
+    array = re.fullmatch(r"\[u8; (\d+)\]", inner)
+    if array:
+        return [f"{const}uint8_t {name}[{array[1]}]"]
+    if inner == "[u8]":
+        return [f"{const}uint8_t *{name}", "size_t"]
+    if inner in NUMBERS:
+        return [f"{const}{NUMBERS[inner]} *{name}"]
+    if inner == "Text<'static>":
+        return [f"{const}vbson_text *{name}"]
+    raise ValueError(f"no C type is known for {kind}")
+
+
+def exports():
+    """Each export: its C parameters and result, and its contract."""
+    found = {}
+    for file in sorted(SOURCES.glob("*.rt")):
+        text = file.read_text()
+        for name, parameters, result, contract in EXPORT.findall(text):
+            parts = [it.strip().split(": ") for it in parameters.split(",") if it.strip()]
+            found[name] = ([it for part in parts for it in as_c(*part)], NUMBERS[result], contract)
+        if text.count("no_mangle") != len(EXPORT.findall(text)):
+            raise ValueError(f"{file.name}: an export is not read")
+    return found
+
+
+def without_inline(text):
+    return re.sub(r"static inline [^{;]*\{.*?\n\}\n", "", text, flags=re.S)
+
+
+def declared():
+    """Each call of the header: its parameters and result, and the statuses that the comment above it names."""
+    found = {}
+    text = without_inline(HEADER.read_text())
+    about = re.findall(r"/\*((?:(?!\*/).)*)\*/\n(\w+) (vbson_\w+)\(([^)]*)\);", text, flags=re.S)
+    for comment, result, name, parameters in about:
+        parts = [] if parameters == "void" else [it.strip() for it in parameters.split(",")]
+        found[name] = (parts, result, set(re.findall(r"VBSON_[A-Z_]+", comment)))
+    if text.count(");") != len(found):
+        raise ValueError("vbson.h: a call is not read")
+    return found
+
+
+def statuses():
+    """The number of each status, as the sources have it."""
+    return {name: int(number) for name, number in re.findall(r"(?m)^pub const (\w+): u32 = (\d+);$", (SOURCES / "status.rt").read_text())}
+
+
+def answers(contract):
+    """The numbers for which the clause `listed` of a contract holds."""
+    clause = re.search(r"(?m)^    ensures listed \{ (.*) \}$", contract)
+    if not clause:
+        return None
+    test = clause[1].replace("≡", "==").replace("⊎", "or").replace("×", "and").replace("≤", "<=")
+    if not re.fullmatch(r"(result|or|and|==|<=|\d+|[ ()])+", test):
+        raise ValueError(f"the clause is not read: {clause[1]}")
+    return {number for number in range(1000) if eval(test, {"result": number})}
+
+
+def is_alike(of_source, of_header):
+    """A length may have any name, every other parameter has its own."""
+    return len(of_source) == len(of_header) and all(
+        b == a or (a == "size_t" and re.fullmatch(r"size_t \w+", b)) for a, b in zip(of_source, of_header))
+
+
+def call_faults():
+    of_source, of_header, numbers = exports(), declared(), statuses()
+    for name in sorted({*of_source} ^ {*of_header}):
+        yield name, "it stands in the sources or in vbson.h alone"
+    for name in sorted({*of_source} & {*of_header}):
+        (parameters, result, contract), (written, told, named) = of_source[name], of_header[name]
+        yield name, None if is_alike(parameters, written) and result == told else f"{written} is not {parameters}"
+        yield f"{name} requires nothing", "it has a requires" if "requires" in contract else None
+        if name == "vbson_version":
+            continue
+        can = answers(contract)
+        wanted = {numbers[it.removeprefix("VBSON_")] for it in named if it.removeprefix("VBSON_") in numbers} | {0}
+        yield f"{name}'s statuses", None if can == wanted else f"vbson.h says {sorted(wanted)}, and the contract {can}"
+
+
+def status_faults():
+    numbers = statuses()
+    yield "no number twice", None if len({*numbers.values()}) == len(numbers) else "two statuses have one number"
+    text = HEADER.read_text()
+    enum = dict(re.findall(r"VBSON_(\w+) = (\d+)\b", text[text.index("enum vbson_status"):text.index("};")]))
+    kinds = {"vbson.h": {name: int(number) for name, number in enum.items()}}
+    rust = re.findall(r"(?m)^const (\w+): u32 = (\d+);$", (LANGUAGES / "rust/src/call.rs").read_text())
+    kinds["call.rs"] = {name: int(number) for name, number in rust}
+    kinds["vbson.py"] = {}
+    for names, values in re.findall(r"(?m)^([A-Z_, ]+) = ([\d, ]+)$", (LANGUAGES / "python/vbson.py").read_text()):
+        kinds["vbson.py"] |= dict(zip(names.split(", "), map(int, values.split(", "))))
+    modes = {"CANONICAL": 0, "RELAXED": 1, "SHOW": 2}
+    for file, found in kinds.items():
+        found = {name: number for name, number in found.items() if name not in modes}
+        yield f"the statuses of {file}", None if found == numbers else f"{found} is not {numbers}"
+    for name in numbers:
+        yield f"words for {name}", None if f"case VBSON_{name}: return" in text else "vbson_status_text has none"
+    for name, number in modes.items():
+        yield f"the mode {name}", None if f"VBSON_{name} = {number}" in text and kinds["vbson.py"].get(name) == number else "other numbers"
+
+
+def text_fault():
+    source = (SOURCES / "text.rt").read_text()
+    has_fields = "#[repr(C)]\n#[derive(Drop)]\npub struct Text<'a> {\n    pub bytes: &'a [u8],\n    pub len: usize,\n}" in source
+    fields = re.search(r"typedef struct vbson_text \{(.*?)\} vbson_text;", HEADER.read_text(), flags=re.S)[1]
+    names = re.findall(r"(\S[^;/*]*\*?\w+);", re.sub(r"/\*.*?\*/", "", fields))
+    return None if has_fields and names == ["const uint8_t *bytes", "size_t size", "size_t len"] else f"{names}"
+
+
+def version():
+    """That of ./bson, where it stands."""
+    return re.search(r"(?m)^version=(.*)$", (ROOT / "bson").read_text())[1]
+
+
+def version_faults():
+    words = version()
+    major, minor, patch = map(int, words.split("."))
+    number = 10000 * major + 100 * minor + patch
+    text = HEADER.read_text()
+    places = {
+        "VBSON_VERSION": f"#define VBSON_VERSION {number} " in text,
+        "VBSON_VERSION_TEXT": f'#define VBSON_VERSION_TEXT "{words}"\n' in text,
+        "vbson_version": f"ensures {{ result ≡ {number} }}" in (SOURCES / "version.rt").read_text(),
+        "Cargo.toml": f'\nversion = "{words}"\n' in (LANGUAGES / "rust/Cargo.toml").read_text(),
+    }
+    for name, is_right in places.items():
+        yield f"the version of {name}", None if is_right else f"it is not that of ./bson, {words}"
+
+
+def faults():
+    """What was compared, and beside it what is wrong, or None."""
+    yield from call_faults()
+    yield from status_faults()
+    yield "the fields of vbson_text", text_fault()
+    yield from version_faults()
+
+
+if __name__ == "__main__":
+    for name, fault in faults():
+        print(name, fault or "is right")

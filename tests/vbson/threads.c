@@ -1,0 +1,45 @@
+/* Eight threads that make every call at once, on texts of their own and on one that they share. */
+#include "check.h"
+#include <pthread.h>
+
+enum { THREADS = 8, ROUNDS = 1000 };
+static const char shared[] = "{\"b\":{\"$numberLong\":\"5\"},\"a\":[1,2,{\"c\":\"d\"}]}";
+
+static int round_of(int thread, int round) {
+    char text[64], wanted[64], printed[64];
+    uint8_t room[64];
+    size_t len;
+    uint64_t one = 0, other = 1;
+    int64_t millis;
+    snprintf(text, sizeof text, "{\"r\":%d,\"i\":%d}", round, thread);
+    snprintf(wanted, sizeof wanted, "{\"i\":%d,\"r\":%d}", thread, round);
+    vbson_text out = VBSON_TEXT_NONE;
+    if (vbson_convert(VBSON_RELAXED, TEXT(text), &out) != VBSON_DONE) return 0;
+    int is_right = strcmp((const char *)out.bytes, wanted) == 0 && vbson_same(TEXT(text), out.bytes, out.len) == VBSON_DONE
+        && vbson_hash(TEXT(text), &one) == VBSON_DONE && vbson_hash(out.bytes, out.len, &other) == VBSON_DONE && one == other;
+    vbson_text_free(&out);
+    snprintf(printed, sizeof printed, "2020-06-01T00:42:%02d.%03dZ", round % 60, thread + 1);
+    return is_right && vbson_date_time_parse(TEXT(printed), &millis) == VBSON_DONE
+        && vbson_date_time_print(millis, room, sizeof room, &len) == VBSON_DONE && memcmp(room, printed, len) == 0
+        && vbson_same(TEXT(shared), TEXT(shared)) == VBSON_DONE;
+}
+
+static void *work(void *number) {
+    size_t right = 0;
+    for (int round = 0; round < ROUNDS; round++) right += (size_t)round_of(*(int *)number, round);
+    return (void *)right;
+}
+
+int main(void) {
+    pthread_t threads[THREADS];
+    int numbers[THREADS];
+    for (int i = 0; i < THREADS; i++) {
+        numbers[i] = i;
+        CHECK(pthread_create(&threads[i], NULL, work, &numbers[i]) == 0);
+    }
+    for (int i = 0; i < THREADS; i++) {
+        void *right = NULL;
+        CHECK(pthread_join(threads[i], &right) == 0 && (size_t)right == ROUNDS);
+    }
+    return end();
+}
