@@ -1,5 +1,5 @@
 -- What a run does to the bytes that a reader has left and to those that a writer holds, where these are known.
-use Rattle.std.specs.Prelude.{ℕ, List, Option}
+use Rattle.std.specs.Prelude.{ℕ, ◌<◌, List, length, Option}
 use Rattle.std.specs.Io.{StartsWith}
 use Rattle.std.specs.Io.KnownBytes.{Keeps, Appends, Consumes, IsAtEnd}
 use Rattle.bson_run.specs.Convert.{Converts, IsRefused}
@@ -18,6 +18,13 @@ pub record WritesBeginning (had holds : Option (List ℕ)) (output : List ℕ) :
   pub starts : StartsWith output beginning
   pub written : Appends had holds beginning
 
+-- a beginning of the output was written, and not all of it
+pub record WritesPart (had holds : Option (List ℕ)) (output : List ℕ) : Type 0 where
+  pub beginning : List ℕ
+  pub starts : StartsWith output beginning
+  pub short : length beginning < length output
+  pub written : Appends had holds beginning
+
 -- all that the reader had is converted to the output
 pub record Accepts (mode : Mode) (before after : Option (List ℕ)) (output : List ℕ) : Type 0 where
   pub bytes : List ℕ
@@ -30,11 +37,11 @@ pub record Done (mode : Mode) (before after had holds : Option (List ℕ)) : Typ
   pub accepted : Accepts mode before after output
   pub written : Appends had holds output
 
--- the input was accepted, and a beginning of the output written
+-- the input was accepted, and the output not written whole
 pub record CutShort (mode : Mode) (before after had holds : Option (List ℕ)) : Type 0 where
   pub output : List ℕ
   pub accepted : Accepts mode before after output
-  pub written : WritesBeginning had holds output
+  pub written : WritesPart had holds output
 
 -- all that the reader had is refused for the fault
 pub record Refuses (fault : Fault) (before after : Option (List ℕ)) : Type 0 where

@@ -1,7 +1,7 @@
 //! All bytes of a reader, and all bytes to a writer.
 ghost use Rattle.std.specs.Prelude.{◌≡◌, ◌⊎◌, IfOk, IfErr, OnOk, OnErr};
 ghost use Rattle.std.specs.Io.KnownBytes.{Keeps, Consumes, IsAtEnd, Appends};
-ghost use Rattle.bson_run.specs.Run.{ReadsAll, WritesBeginning};
+ghost use Rattle.bson_run.specs.Run.{ReadsAll, WritesBeginning, WritesPart};
 
 use crate::fault::Fault;
 use std::alloc::Global;
@@ -34,6 +34,7 @@ pub fn read_whole<R: Read>(alloc: Global, reader: &mut R) -> Result<Vec<u8>, Fau
 pub fn write_whole<W: Write>(writer: &mut W, bytes: &[u8]) -> Result<(), Fault>
     ensures ok { OnOk result (Appends (W.contents writer.old) (W.contents writer.new) bytes.now) }
     ensures cut { OnErr result (WritesBeginning (W.contents writer.old) (W.contents writer.new) bytes.now) }
+    ensures part { OnErr result (WritesPart (W.contents writer.old) (W.contents writer.new) bytes.now) }
     ensures fault { IfErr result (λ e. e ≡ Fault.CannotWrite) }
 {
     let mut at = 0;
