@@ -2,10 +2,10 @@
 use Rattle.std.proofs.Common.{◌≡◌, true, ℕ, List, sym, ◌∙◌}
 use Rattle.std.specs.Prelude.{◌↔◌}
 use Rattle.bson.specs.Texts.{IsTextIn}
-use Rattle.bson_leaf.specs.declared.form.Form.{Form}
-use Rattle.bson_model.specs.Same.{same}
-use Rattle.bson_model.specs.Value.{Value}
-use Rattle.bson_model.specs.Writing.{normal_form, settled, plain, InRange}
+use Rattle.bson.specs.Form.{Form}
+use Rattle.bson.specs.Same.{same}
+use Rattle.bson.specs.Value.{Value}
+use Rattle.bson.specs.Writing.{normal_form, settled, plain, InRange}
 
 pub texts_equal : (f : Form) (v w : Value) (s t : List ℕ) → IsTextIn f v s → IsTextIn f w t → InRange w → plain v ≡ true → plain w ≡ true → (s ≡ t) ↔ (same (settled f (normal_form v)) (settled f (normal_form w)) ≡ true)
 texts_equal f v w s t a b r p q =

@@ -4,11 +4,11 @@
 
 ghost use Rattle.std.specs.Prelude.{◌≡◌, ◌↔◌, IfOk, true};
 ghost use Rattle.bson.specs.View.{bson_view};
-ghost use Rattle.bson_model.specs.Same.{same};
-ghost use Rattle.bson_model.specs.Writing.{normal_form, plain};
+ghost use Rattle.bson.specs.Same.{same};
+ghost use Rattle.bson.specs.Writing.{normal_form, plain};
 
 use bson::Bson;
-use bson_leaf::write_error::WriteError;
+use bson::extjson::WriteError;
 use std::alloc::Global;
 
 /// Whether the canonical texts of two values are equal. Of plain values, in which no document has a wrapper key of its

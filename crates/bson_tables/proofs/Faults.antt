@@ -1,9 +1,8 @@
 -- Why a tree means nothing, a row each: an object id's text where that alone is wrong, and the first fault of several.
-use Rattle.std.proofs.Common.{◌≡◌, ℕ, ℤ, pos, negsuc, List, [], ◌∷◌, true, false, refl}
+use Rattle.std.proofs.Common.{◌≡◌, false, refl}
 use Rattle.std.specs.Prelude.{codes}
 use Rattle.serde_json.specs.Data.{Data, negative}
 use Rattle.serde_json.specs.Data as tree
-use Rattle.bson_leaf.specs.Scalar as kind
 use Rattle.bson_leaf.specs.Shapes.{one, two}
 use Rattle.bson_leaf.specs.Faults.{bad, bad_id}
 use Rattle.bson_model.specs.Fault.{fault_of, MeansNothing}

@@ -2,3 +2,5 @@ pub mod Shapes
 pub mod Meanings
 pub mod Faults
 pub mod Trees
+pub mod Standards
+pub mod Dates

@@ -1,5 +1,5 @@
 -- Which tree means which value, a row each (MongoDB Extended JSON v2).
-use Rattle.std.proofs.Common.{◌≡◌, ℕ, ℤ, pos, negsuc, List, [], ◌∷◌, true, false, refl}
+use Rattle.std.proofs.Common.{ℕ, ℤ, pos, negsuc, List, true, refl}
 use Rattle.std.specs.Prelude.{codes}
 use Rattle.serde_json.specs.Data.{Data, negative}
 use Rattle.serde_json.specs.Data as tree

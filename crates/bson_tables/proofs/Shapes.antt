@@ -1,15 +1,12 @@
 -- Trees and values as the rows write them, and what proves a row.
-use Rattle.std.proofs.Common.{◌≡◌, ℕ, ℤ, List, Ok, Err}
-use Rattle.std.specs.Prelude.{String, codes}
+use Rattle.std.proofs.Common.{◌≡◌, ℕ, Ok, Err}
 use Rattle.serde_json.specs.Data.{Data, unsigned, negative, no_items, item, no_members, member}
 use Rattle.serde_json.specs.Data as tree
 use Rattle.bson_leaf.specs.Faults.{Fault}
-use Rattle.bson_leaf.specs.Scalar.{Scalar}
 use Rattle.bson_model.specs.Fault.{MeansNothing}
 use Rattle.bson_model.specs.Means.{Means}
 use Rattle.bson_model.specs.Reading.{reads}
 use Rattle.bson_model.specs.Value.{Value}
-use Rattle.bson_model.specs.Value as model
 use Rattle.bson_model.proofs.MeansLaws.{means_from, means_to}
 
 abbrev pub whole : ℕ → Data

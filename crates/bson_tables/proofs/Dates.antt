@@ -1,0 +1,55 @@
+-- Rows of `$date`, computed: the texts of RFC 3339 section 5.6 that are read, and the one that the relaxed form has.
+use Rattle.std.proofs.Common.{ℤ, pos, refl, subst, rules}
+use Rattle.std.specs.Prelude.{codes, ℕ, List}
+use Rattle.jiff_core.specs.Calendar.{days_of_years, days_of_months, day_count, days_from_civil}
+use Rattle.bson_datetime.specs.Rfc3339.{denoted, date_part, time_part, fraction_part, offset_part, hours_minutes, digits_below, after, after_letter, day_number, two_digits, four_digits}
+use Rattle.jiff_fmt.specs.Reader.{fraction_value}
+use Rattle.bson_datetime.specs.Moment.{Civil, IsCivil, IsMoment}
+use Rattle.bson_datetime.proofs.ShownLemmas.{rfc-fields}
+use Rattle.bson_leaf.specs.Scalar as kind
+use Rattle.bson_leaf.specs.Shapes.{one}
+use Rattle.bson_leaf.specs.declared.form.Form.TheVariants.{Relaxed}
+use Rattle.bson_model.specs.Means.{Means}
+use Rattle.bson_model.specs.Value as model
+use Rattle.bson_model.specs.Writing.{Written, normal_form}
+use Rattle.bson_model.proofs.WriteLaws.{canon_from}
+use Rattle.serde_json.specs.Data as tree
+use Rattle.bson_tables.proofs.Shapes.{row}
+
+millis_read : Means (one (codes "$date") (tree.string (codes "1970-01-01T00:00:00.005Z"))) (model.scalar (kind.date (pos 5)))
+unfolding denoted date_part time_part fraction_part offset_part hours_minutes digits_below after after_letter day_number two_digits four_digits fraction_value days_of_years days_of_months day_count days_from_civil
+millis_read = row _ _ refl
+
+offset_read : Means (one (codes "$date") (tree.string (codes "1970-01-01T01:00:00+01:00"))) (model.scalar (kind.date (pos 0)))
+unfolding denoted date_part time_part fraction_part offset_part hours_minutes digits_below after after_letter day_number two_digits four_digits fraction_value days_of_years days_of_months day_count days_from_civil
+offset_read = row _ _ refl
+
+-- the relaxed form has this text
+abbrev HasText : ℤ → List ℕ → Type 0
+HasText ms s = Written Relaxed (normal_form (model.scalar (kind.date ms))) (one (codes "$date") (tree.string s))
+
+first : Civil
+first = record { year = pos 1970; month = 1; day = 1; hour = 0; minute = 0; second = 0; millisecond = 0 }
+
+first_is : IsMoment (pos 0) first
+unfolding first days_of_years days_of_months day_count days_from_civil
+first_is = search rules
+
+first_written : HasText (pos 0) (codes "1970-01-01T00:00:00Z")
+unfolding first
+first_written = subst (HasText (pos 0)) (rfc-fields (pos 0) first first_is) (canon_from Relaxed (model.scalar (kind.date (pos 0))) _ refl)
+
+last : Civil
+last = record { year = pos 9999; month = 12; day = 31; hour = 23; minute = 59; second = 59; millisecond = 999 }
+
+last_exists : IsCivil last
+unfolding last
+last_exists = search rules
+
+last_is : IsMoment (pos 253_402_300_799_999) last
+unfolding last days_of_years days_of_months day_count days_from_civil
+last_is = (last_exists, refl)
+
+last_written : HasText (pos 253_402_300_799_999) (codes "9999-12-31T23:59:59.999Z")
+unfolding last
+last_written = subst (HasText (pos 253_402_300_799_999)) (rfc-fields _ last last_is) (canon_from Relaxed (model.scalar (kind.date (pos 253_402_300_799_999))) _ refl)
