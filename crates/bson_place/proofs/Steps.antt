@@ -1,5 +1,5 @@
 -- Places of what a tree holds are places of the tree.
-use Rattle.std.proofs.Common.{◌≡◌, ◌+◌, ℕ, List, [], ◌∷◌, ◌++◌, Bool, true, false, cond, Option, Some, None, IsSome, ℤ, Result, Ok, Err, IfOk, MatchOption, MatchBool, ◌&&◌, refl, sym, ap, subst, ◌∙◌, String, Global, string_bytes, rules, length, arith}
+use Rattle.std.proofs.Common.{◌<◌, ◌≡◌, ◌+◌, ℕ, List, [], ◌∷◌, ◌++◌, Bool, true, false, cond, Option, Some, None, IsSome, ℤ, Result, Ok, Err, IfOk, MatchOption, MatchBool, ◌&&◌, refl, sym, ap, subst, ◌∙◌, String, Global, string_bytes, rules, length, arith}
 use Rattle.std.specs.Prelude.{codes}
 use Rattle.std.specs.Str.{bytes_eq}
 use Rattle.std.proofs.lemmas.Bool.{and_parts}
@@ -24,7 +24,7 @@ use Rattle.bson_model.specs.Value.{Value, Values, value, Pairs, pair}
 use Rattle.bson_model.specs.Value as model
 use Rattle.bson_model.proofs.Members.{Member}
 use Rattle.bson_place.specs.declared.place.Place.{Place}
-use Rattle.bson_place.specs.Place.{Turn, key, way_of, FaultAt, FaultAmong, FaultIn, number, array, document, wrapper, scope, shape, later, behind, HasValue, IsErrorOf, IsPlace, HasScope, IsScopeFault, in_scope, no_scope, IsOpen, code_with_scope}
+use Rattle.bson_place.specs.Place.{dotted, word_of, Turn, key, way_of, FaultAt, FaultAmong, FaultIn, number, array, document, wrapper, scope, shape, later, behind, HasValue, IsErrorOf, IsPlace, HasScope, IsScopeFault, in_scope, no_scope, IsOpen, code_with_scope}
 
 -- ---- what a value stands for
 
