@@ -101,10 +101,10 @@ fn as_value(alloc: Global, text: &str, out: &mut Answer) -> Outcome {
 pub(crate) fn call(alloc: Global, rest: &str, out: &mut Answer) -> Outcome {
     let (name, text) = cut(rest);
     match name {
-        "base64" => base64(alloc, None, text, out),
-        "base64_as" => base64_as(alloc, text, out),
         "shown" => shown(alloc, text, out),
         "clone" => copied(alloc, text, out),
+        "base64" => base64(alloc, None, text, out),
+        "base64_as" => base64_as(alloc, text, out),
         _ => Err(Stop::NotUnderstood),
     }
 }

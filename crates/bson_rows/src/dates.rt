@@ -10,15 +10,9 @@ use std::time::Duration;
 pub(crate) fn call(alloc: Global, rest: &str, out: &mut Answer) -> Outcome {
     let (name, text) = cut(rest);
     match name {
-        "read" => {
-            put_moment(DateTime::parse_rfc3339_str(text), out);
-            Ok(())
-        }
+        "read" => put_moment(DateTime::parse_rfc3339_str(text), out),
         "build" => build(text, out),
-        _ => {
-            let (at, rest) = cut(text);
-            of_moment(alloc, name, moment(at)?, rest, out)
-        }
+        _ => of_moment(alloc, name, text, out),
     }
 }
 
@@ -30,15 +24,18 @@ fn moment(text: &str) -> Result<DateTime, Stop> {
     }
 }
 
-fn put_moment(answer: bson::datetime::Result<DateTime>, out: &mut Answer) {
+fn put_moment(answer: bson::datetime::Result<DateTime>, out: &mut Answer) -> Outcome {
     match answer {
         Ok(at) => out.put(&at.timestamp_millis()),
         Err(error) => out.refuse(&error),
     }
+    Ok(())
 }
 
 /// The calls on a moment.
-fn of_moment(alloc: Global, name: &str, at: DateTime, rest: &str, out: &mut Answer) -> Outcome {
+fn of_moment(alloc: Global, name: &str, text: &str, out: &mut Answer) -> Outcome {
+    let (at, rest) = cut(text);
+    let at = moment(at)?;
     match name {
         "written" => out.result(at.try_to_rfc3339_string(alloc)),
         "shown" => out.show(&at),
@@ -69,8 +66,7 @@ fn build(text: &str, out: &mut Answer) -> Outcome {
     for part in rest.split_whitespace() {
         builder = with_part(builder, part)?;
     }
-    put_moment(builder.build(), out);
-    Ok(())
+    put_moment(builder.build(), out)
 }
 
 type Builder = DateTimeBuilder<Year, Month, Day>;

@@ -1,6 +1,6 @@
 //! One row: its call, and the answer in place.
 use crate::answer::{Answer, Style};
-use crate::stop::{Outcome, Stop};
+use crate::stop::Outcome;
 use crate::words::cut;
 use crate::{
     binaries, conversions, dates, decimals, documents, errors, extended_json, getters, ids, kinds,
@@ -25,7 +25,7 @@ pub(crate) fn put_answer(alloc: Global, row: &str, answer: &mut Answer) {
     }
 }
 
-/// The calls on values, by their name.
+/// The calls, by their name.
 fn called(alloc: Global, row: &str, out: &mut Answer) -> Outcome {
     let (name, rest) = cut(row);
     match name {
@@ -38,27 +38,17 @@ fn called(alloc: Global, row: &str, out: &mut Answer) -> Outcome {
         "same" => texts::same(alloc, rest, out),
         "hash" => texts::hash(alloc, rest, out),
         "from" => conversions::call(alloc, rest, out),
-        _ => of_subject(alloc, name, rest, out),
-    }
-}
-
-/// The calls of the other subjects.
-fn of_subject(alloc: Global, name: &str, rest: &str, out: &mut Answer) -> Outcome {
-    match name {
         "date" => dates::call(alloc, rest, out),
         "decimal" => decimals::call(rest, out),
         "id" => ids::call(alloc, rest, out),
         "uuid" => binaries::uuid_call(alloc, rest, out),
         "binary" => binaries::call(alloc, rest, out),
         "vector" => vectors::call(alloc, rest, out),
-        "timestamp" | "timestamp_order" | "regex" | "code" | "representation" => {
-            small_kinds::call(alloc, name, rest, out)
-        }
         "tag" => tables::tag(rest, out),
         "subtype" => tables::subtype(rest, out),
         "store" => stores::call(alloc, rest, out),
         "document" => documents::call(alloc, rest, out),
         "error" => errors::call(alloc, rest, out),
-        _ => Err(Stop::NotUnderstood),
+        _ => small_kinds::call(alloc, name, rest, out),
     }
 }

@@ -14,7 +14,8 @@ pub(crate) fn call(alloc: Global, name: &str, rest: &str, out: &mut Answer) -> O
         "timestamp_order" => return timestamp_order(rest, out),
         "regex" => regex(alloc, rest, out),
         "representation" => out.show_debug(&order_of(rest)?),
-        _ => return code(alloc, rest, out),
+        "code" => return code(alloc, rest, out),
+        _ => return Err(Stop::NotUnderstood),
     }
     Ok(())
 }
