@@ -1,5 +1,8 @@
 """The rows of this folder: a line `CALL ARGS => ANSWER` each, and comments behind '#'.
 
+A value is written by Display and a refusal by Debug, unless the row begins with `{}`, `{:?}` or `{:#?}`, which then
+stands for both. Of a DeserializationError only its name is written, unless the row begins so.
+
 In a row `{x*3}` stands for xxx, `{byte:ff}` for that byte, `↵` in an answer for the end of a line, and
 `{fnv:BYTES}` for FNV-1a of 64 bits over the bytes of these hexadecimal digits.
 """
@@ -51,7 +54,7 @@ class Row:
         wanted = self.wanted.replace("↵".encode(), b"\n")
         if wanted == b"DeserializationError":
             wanted = b"bson_cli: not Extended JSON"
-        elif wanted.startswith(b"InvalidObjectId "):
+        elif wanted.startswith(b"InvalidObjectId("):
             wanted = b"bson_cli: bad object id"
         refused = wanted.startswith(b"bson_cli: ")
         return form, text, (1, b"", wanted + b"\n") if refused else (0, wanted + b"\n", b"")

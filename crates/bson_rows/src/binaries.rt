@@ -1,17 +1,21 @@
 //! `uuid CALL ARGS` and `binary CALL ARGS`: UUIDs, base64, and binaries that hold UUIDs.
-use crate::stop::{Answer, Stop};
-use crate::words::{byte_of, bytes_of, cut, put_hex, sixteen};
+use crate::answer::Answer;
+use crate::stop::{Outcome, Refusal, Stop};
+use crate::words::{byte_of, bytes_of, cut, sixteen};
 use bson::Bson;
-use bson::binary::{self, Binary};
+use bson::binary::Binary;
 use bson::spec::BinarySubtype;
 use bson::uuid::{self, Uuid, UuidRepresentation};
 use std::alloc::Global;
 
 /// `uuid parse TEXT`, `uuid to ORDER UUID`, `uuid from ORDER SUBTYPE BYTES`, `uuid value UUID`.
-pub(crate) fn uuid(alloc: Global, rest: &str, out: &mut String) -> Answer {
+pub(crate) fn uuid_call(alloc: Global, rest: &str, out: &mut Answer) -> Outcome {
     let (name, text) = cut(rest);
     match name {
-        "parse" => parse(text, out),
+        "parse" => {
+            put_uuid(&Uuid::parse_str(text), out);
+            Ok(())
+        }
         "to" => to_order(alloc, text, out),
         "from" => from_order(alloc, text, out),
         "value" => as_value(alloc, text, out),
@@ -19,35 +23,19 @@ pub(crate) fn uuid(alloc: Global, rest: &str, out: &mut String) -> Answer {
     }
 }
 
-fn parse(text: &str, out: &mut String) -> Answer {
-    match Uuid::parse_str(text) {
-        Ok(id) => Ok(write!(out, "{id}")?),
-        Err(error) => put_uuid_error(&error, out),
-    }
-}
-
-fn put_uuid_error(error: &uuid::Error, out: &mut String) -> Answer {
-    match error {
-        uuid::Error::InvalidUuidString { message: _ } => Ok(out.push_str("InvalidUuidString")?),
-        uuid::Error::InvalidLength { length } => Ok(write!(
-            out,
-            "InvalidLength {length}, {error}"
-        )?),
-        uuid::Error::RepresentationMismatch {
-            expected_binary_subtype,
-            actual_binary_subtype,
-            requested_representation,
-        } => {
-            write!(out, "RepresentationMismatch {expected_binary_subtype:?} ")?;
-            Ok(write!(
-                out,
-                "{actual_binary_subtype:?} {requested_representation:?}"
-            )?)
+/// Puts the UUID's text, and its bytes.
+fn put_uuid(read: &uuid::Result<Uuid>, out: &mut Answer) {
+    match read {
+        Ok(id) => {
+            out.show(id);
+            out.text(" ");
+            out.hex(&id.bytes());
         }
+        Err(error) => out.refuse(error),
     }
 }
 
-fn order_of(word: &str) -> Result<UuidRepresentation, Stop> {
+pub(crate) fn order_of(word: &str) -> Result<UuidRepresentation, Stop> {
     match word {
         "standard" => Ok(UuidRepresentation::Standard),
         "csharp" => Ok(UuidRepresentation::CSharpLegacy),
@@ -58,96 +46,91 @@ fn order_of(word: &str) -> Result<UuidRepresentation, Stop> {
 }
 
 /// The subtype and the bytes of the binary. `plain` stands for `from_uuid`.
-fn to_order(alloc: Global, text: &str, out: &mut String) -> Answer {
+fn to_order(alloc: Global, text: &str, out: &mut Answer) -> Outcome {
     let (word, bytes) = cut(text);
     let id = Uuid::from_bytes(sixteen(bytes)?);
-    let made = if word == "plain" {
-        Binary::from_uuid(alloc, id)
+    if word == "plain" {
+        put_binary(Binary::from_uuid(alloc, id), out);
     } else {
-        Binary::from_uuid_with_representation(alloc, id, order_of(word)?)
-    };
-    match made {
-        Ok(binary) => put_binary(&binary, out),
-        Err(_) => Err(Stop::OutOfMemory),
+        let order = order_of(word)?;
+        put_binary(Binary::from_uuid_with_representation(alloc, id, order), out);
     }
+    Ok(())
 }
 
-fn put_binary(binary: &Binary, out: &mut String) -> Answer {
-    write!(out, "{:?} ", binary.subtype)?;
-    put_hex(out, binary.bytes.as_slice())
+/// Puts the subtype by its name, and the bytes.
+pub(crate) fn put_binary<E: Refusal>(made: Result<Binary, E>, out: &mut Answer) {
+    match made {
+        Ok(binary) => {
+            out.debug(&binary.subtype);
+            out.text(" ");
+            out.hex(binary.bytes.as_slice());
+        }
+        Err(error) => out.refuse(&error),
+    }
 }
 
 /// The UUID of a binary of the subtype's byte and these bytes. `plain` stands for `to_uuid`.
-fn from_order(alloc: Global, text: &str, out: &mut String) -> Answer {
+fn from_order(alloc: Global, text: &str, out: &mut Answer) -> Outcome {
     let (word, rest) = cut(text);
     let binary = binary_of(alloc, rest)?;
-    let read = if word == "plain" {
-        binary.to_uuid()
+    if word == "plain" {
+        put_uuid(&binary.to_uuid(), out);
     } else {
-        binary.to_uuid_with_representation(order_of(word)?)
-    };
-    match read {
-        Ok(id) => put_hex(out, &id.bytes()),
-        Err(error) => put_uuid_error(&error, out),
+        let order = order_of(word)?;
+        put_uuid(&binary.to_uuid_with_representation(order), out);
     }
+    Ok(())
 }
 
 /// `SUBTYPE BYTES`.
-fn binary_of(alloc: Global, text: &str) -> Result<Binary, Stop> {
+pub(crate) fn binary_of(alloc: Global, text: &str) -> Result<Binary, Stop> {
     let (subtype, bytes) = cut(text);
     let subtype = BinarySubtype::from(byte_of(subtype)?);
     let bytes = bytes_of(alloc, bytes)?;
     Ok(Binary { subtype, bytes })
 }
 
-fn as_value(alloc: Global, text: &str, out: &mut String) -> Answer {
-    match Bson::from_uuid(alloc, Uuid::from_bytes(sixteen(text)?)) {
-        Ok(value) => Ok(write!(out, "{value}")?),
-        Err(_) => Err(Stop::OutOfMemory),
-    }
+fn as_value(alloc: Global, text: &str, out: &mut Answer) -> Outcome {
+    let id = Uuid::from_bytes(sixteen(text)?);
+    out.result(Bson::from_uuid(alloc, id));
+    Ok(())
 }
 
-/// `binary base64 TEXT`, `binary shown SUBTYPE BYTES`, `binary clone SUBTYPE BYTES`.
-pub(crate) fn call(alloc: Global, rest: &str, out: &mut String) -> Answer {
+/// `binary base64 TEXT`, `binary base64_as SUBTYPE TEXT`, `binary shown SUBTYPE BYTES`, `binary clone SUBTYPE BYTES`.
+pub(crate) fn call(alloc: Global, rest: &str, out: &mut Answer) -> Outcome {
     let (name, text) = cut(rest);
     match name {
-        "base64" => base64(alloc, None, text, out),
-        "base64_as" => {
-            let (subtype, text) = cut(text);
-            base64(
-                alloc,
-                Some(BinarySubtype::from(byte_of(subtype)?)),
-                text,
-                out,
-            )
-        }
-        "shown" => Ok(write!(out, "{}", binary_of(alloc, text)?)?),
+        "shown" => shown(alloc, text, out),
         "clone" => copied(alloc, text, out),
+        "base64" => base64(alloc, None, text, out),
+        "base64_as" => base64_as(alloc, text, out),
         _ => Err(Stop::NotUnderstood),
     }
 }
 
-fn base64(alloc: Global, subtype: Option<BinarySubtype>, text: &str, out: &mut String) -> Answer {
-    match Binary::from_base64(alloc, text, subtype) {
-        Ok(binary) => put_binary(&binary, out),
-        Err(error) => put_error(&error, out),
-    }
+fn base64(alloc: Global, subtype: Option<BinarySubtype>, text: &str, out: &mut Answer) -> Outcome {
+    put_binary(Binary::from_base64(alloc, text, subtype), out);
+    Ok(())
 }
 
-/// The kind of the refusal.
-pub(crate) fn put_error(error: &binary::Error, out: &mut String) -> Answer {
-    match error {
-        binary::Error::DecodingError { message: _ } => Ok(out.push_str("DecodingError")?),
-        binary::Error::Vector { message: _ } => Ok(out.push_str("Vector")?),
-        binary::Error::OutOfMemory => Err(Stop::OutOfMemory),
-    }
+fn base64_as(alloc: Global, text: &str, out: &mut Answer) -> Outcome {
+    let (subtype, text) = cut(text);
+    base64(
+        alloc,
+        Some(BinarySubtype::from(byte_of(subtype)?)),
+        text,
+        out,
+    )
 }
 
-fn copied(alloc: Global, text: &str, out: &mut String) -> Answer {
+fn shown(alloc: Global, text: &str, out: &mut Answer) -> Outcome {
+    out.show(&binary_of(alloc, text)?);
+    Ok(())
+}
+
+fn copied(alloc: Global, text: &str, out: &mut Answer) -> Outcome {
     let binary = binary_of(alloc, text)?;
-    match binary.clone(alloc) {
-        Ok(copy) if copy == binary => put_binary(&copy, out),
-        Ok(_) => Ok(out.push_str("another")?),
-        Err(_) => Err(Stop::OutOfMemory),
-    }
+    out.copy(&binary, binary.clone(alloc));
+    Ok(())
 }

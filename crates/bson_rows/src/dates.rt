@@ -1,21 +1,18 @@
 //! `date CALL ARGS`: the calls of dates. A moment is a number of milliseconds, MIN or MAX.
-use crate::stop::{Answer, Stop};
+use crate::answer::Answer;
+use crate::stop::{Outcome, Stop};
 use crate::words::{cut, cut_at_colon, number};
 use bson::DateTime;
-use bson::datetime::{DateTimeBuilder, Error};
+use bson::datetime::{DateTimeBuilder, Day, Month, Year};
 use std::alloc::Global;
 use std::time::Duration;
 
-pub(crate) fn call(alloc: Global, rest: &str, out: &mut String) -> Answer {
+pub(crate) fn call(alloc: Global, rest: &str, out: &mut Answer) -> Outcome {
     let (name, text) = cut(rest);
     match name {
-        "read" => put_moment(&DateTime::parse_rfc3339_str(text), out),
-        "written" => written(alloc, text, out),
-        "shown" => Ok(write!(out, "{}", moment(text)?)?),
-        "debug" => Ok(write!(out, "{:?}", moment(text)?)?),
-        "build" => put_moment(&built(text)?, out),
-        "order" => order(text, out),
-        _ => sums(name, text, out),
+        "read" => put_moment(DateTime::parse_rfc3339_str(text), out),
+        "build" => build(text, out),
+        _ => of_moment(alloc, name, text, out),
     }
 }
 
@@ -27,71 +24,66 @@ fn moment(text: &str) -> Result<DateTime, Stop> {
     }
 }
 
-fn put_moment(answer: &Result<DateTime, Error>, out: &mut String) -> Answer {
+fn put_moment(answer: bson::datetime::Result<DateTime>, out: &mut Answer) -> Outcome {
     match answer {
-        Ok(at) => Ok(write!(out, "{}", at.timestamp_millis())?),
-        Err(error) => put_error(error, out),
+        Ok(at) => out.put(&at.timestamp_millis()),
+        Err(error) => out.refuse(&error),
     }
+    Ok(())
 }
 
-/// The kind of a refusal and its text.
-fn put_error(error: &Error, out: &mut String) -> Answer {
-    match error {
-        Error::InvalidTimestamp { message: _ } => Ok(write!(out, "InvalidTimestamp, {error}")?),
-        Error::CannotFormat { message: _ } => Ok(write!(out, "CannotFormat, {error}")?),
-        Error::OutOfMemory => Err(Stop::OutOfMemory),
+/// The calls on a moment.
+fn of_moment(alloc: Global, name: &str, text: &str, out: &mut Answer) -> Outcome {
+    let (at, rest) = cut(text);
+    let at = moment(at)?;
+    match name {
+        "written" => out.result(at.try_to_rfc3339_string(alloc)),
+        "shown" => out.show(&at),
+        "order" => out.order(at, moment(rest)?),
+        "since" => put_since(at, moment(rest)?, out),
+        "add_millis" => out.put(
+            &at.saturating_add_millis(number::<i64>(rest)?)
+                .timestamp_millis(),
+        ),
+        "add_duration" => out.put(
+            &at.saturating_add_duration(duration(rest)?)
+                .timestamp_millis(),
+        ),
+        _ => return Err(Stop::NotUnderstood),
     }
-}
-
-fn written(alloc: Global, text: &str, out: &mut String) -> Answer {
-    match moment(text)?.try_to_rfc3339_string(alloc) {
-        Ok(written) => Ok(out.push_str(written.as_str())?),
-        Err(error) => put_error(&error, out),
-    }
+    Ok(())
 }
 
 /// `YEAR MONTH DAY` and then any of `hour:H minute:M second:S millisecond:MS`, of which the last call of each counts.
-fn built(text: &str) -> Result<Result<DateTime, Error>, Stop> {
+fn build(text: &str, out: &mut Answer) -> Outcome {
     let (year, rest) = cut(text);
     let (month, rest) = cut(rest);
     let (day, rest) = cut(rest);
-    let mut builder = DateTimeBuilder::default()
+    let mut builder = DateTime::builder()
         .day(number::<u8>(day)?)
         .year(number::<i32>(year)?)
         .month(number::<u8>(month)?);
     for part in rest.split_whitespace() {
-        let (name, amount) = cut_at_colon(part);
-        builder = match name {
-            "hour" => builder.hour(number::<u8>(amount)?),
-            "minute" => builder.minute(number::<u8>(amount)?),
-            "second" => builder.second(number::<u8>(amount)?),
-            _ => builder.millisecond(number::<u16>(amount)?),
-        };
+        builder = with_part(builder, part)?;
     }
-    Ok(builder.build())
+    put_moment(builder.build(), out)
 }
 
-fn order(text: &str, out: &mut String) -> Answer {
-    let (one, other) = cut(text);
-    let order = moment(one)?.cmp(&moment(other)?);
-    Ok(write!(out, "{order:?}")?)
-}
+type Builder = DateTimeBuilder<Year, Month, Day>;
 
-/// Sums and differences. A duration is `Nms` or `Nus`.
-fn sums(name: &str, text: &str, out: &mut String) -> Answer {
-    let (at, amount) = cut(text);
-    let at = moment(at)?;
+fn with_part(builder: Builder, part: &str) -> Result<Builder, Stop> {
+    let (name, amount) = cut_at_colon(part);
+    let amount = number::<u16>(amount)?;
+    if name == "millisecond" {
+        return Ok(builder.millisecond(amount));
+    }
+    let Ok(amount) = u8::try_from(amount) else {
+        return Err(Stop::NotUnderstood);
+    };
     match name {
-        "add_millis" => {
-            let sum = at.saturating_add_millis(number::<i64>(amount)?);
-            Ok(write!(out, "{}", sum.timestamp_millis())?)
-        }
-        "add_duration" => {
-            let sum = at.saturating_add_duration(duration(amount)?);
-            Ok(write!(out, "{}", sum.timestamp_millis())?)
-        }
-        "since" => put_since(at, moment(amount)?, out),
-        _ => Err(Stop::NotUnderstood),
+        "hour" => Ok(builder.hour(amount)),
+        "minute" => Ok(builder.minute(amount)),
+        _ => Ok(builder.second(amount)),
     }
 }
 
@@ -107,11 +99,16 @@ fn duration(text: &str) -> Result<Duration, Stop> {
 }
 
 /// The checked difference, and the saturating one behind it.
-fn put_since(at: DateTime, earlier: DateTime, out: &mut String) -> Answer {
+fn put_since(at: DateTime, earlier: DateTime, out: &mut Answer) {
     match at.checked_duration_since(earlier) {
-        Some(difference) => write!(out, "{} ms", difference.as_millis())?,
-        None => out.push_str("None")?,
+        Some(difference) => put_millis(difference, out),
+        None => out.text("None"),
     }
-    let saturating = at.saturating_duration_since(earlier);
-    Ok(write!(out, ", {} ms", saturating.as_millis())?)
+    out.text(", ");
+    put_millis(at.saturating_duration_since(earlier), out);
+}
+
+fn put_millis(difference: Duration, out: &mut Answer) {
+    out.put(&difference.as_millis());
+    out.text(" ms");
 }

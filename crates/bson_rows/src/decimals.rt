@@ -1,39 +1,35 @@
 //! `decimal read TEXT`, `decimal bits TEXT`, `decimal print BYTES`: decimals of 128 bits.
-use crate::stop::{Answer, Stop};
-use crate::words::{cut, put_hex, sixteen};
+use crate::answer::Answer;
+use crate::stop::{Outcome, Stop};
+use crate::words::{cut, sixteen};
 use bson::Decimal128;
 
-pub(crate) fn call(rest: &str, out: &mut String) -> Answer {
+pub(crate) fn call(rest: &str, out: &mut Answer) -> Outcome {
     let (name, text) = cut(rest);
     match name {
-        "read" => read(text, out),
+        "read" => out.result(text.parse::<Decimal128>()),
         "bits" => bits(text, out),
-        "print" => print(text, out),
-        _ => Err(Stop::NotUnderstood),
+        "print" => return print(text, out),
+        _ => return Err(Stop::NotUnderstood),
     }
-}
-
-/// The text is read, and printed again.
-fn read(text: &str, out: &mut String) -> Answer {
-    match text.parse::<Decimal128>() {
-        Ok(decimal) => Ok(write!(out, "{decimal}")?),
-        Err(kind) => Ok(write!(out, "{kind:?}")?),
-    }
+    Ok(())
 }
 
 /// The 16 bytes of what is read.
-fn bits(text: &str, out: &mut String) -> Answer {
+fn bits(text: &str, out: &mut Answer) {
     match text.parse::<Decimal128>() {
-        Ok(decimal) => put_hex(out, &decimal.bytes()),
-        Err(kind) => Ok(write!(out, "{kind:?}")?),
+        Ok(decimal) => out.hex(&decimal.bytes()),
+        Err(error) => out.refuse(&error),
     }
 }
 
 /// What the 16 bytes print as.
-fn print(text: &str, out: &mut String) -> Answer {
-    let decimal = Decimal128::from_bytes(sixteen(text)?);
-    if decimal.bytes() != sixteen(text)? {
-        return Ok(out.push_str("other bytes")?);
+fn print(text: &str, out: &mut Answer) -> Outcome {
+    let bytes = sixteen(text)?;
+    let decimal = Decimal128::from_bytes(bytes);
+    if decimal.bytes() != bytes {
+        out.text("other bytes ");
     }
-    Ok(write!(out, "{decimal}")?)
+    out.show(&decimal);
+    Ok(())
 }

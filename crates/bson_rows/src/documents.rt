@@ -2,36 +2,41 @@
 //!
 //! Commands: `insert:KEY:N`, `remove:KEY`, `get:KEY`, `write:KEY:N`, `write_at:PLACE:N`, `place:PLACE:N`, `entry:KEY:N`,
 //! `entry_with:KEY:N`, `key:KEY`, `len`, `clear`, `clone`, `keys`, `values`.
-use crate::stop::{Answer, Stop};
-use crate::words::{cut_at_colon, number, put_word};
+use crate::answer::Answer;
+use crate::stop::{Outcome, Stop};
+use crate::words::{cut_at_colon, number};
+use bson::document::Entry;
 use bson::{Bson, Document};
 use std::alloc::Global;
 
-pub(crate) fn call(alloc: Global, rest: &str, out: &mut String) -> Answer {
+pub(crate) fn call(alloc: Global, rest: &str, out: &mut Answer) -> Outcome {
     let mut document = Document::new(alloc);
-    for command in rest.split_whitespace() {
-        run(alloc, &mut document, command, out)?;
-    }
-    put_word(out, "->")?;
-    Ok(write!(out, " {document}")?)
+    let done = run_all(alloc, &mut document, rest, out);
+    out.word("-> ");
+    out.show(&document);
+    done
 }
 
-fn run(alloc: Global, document: &mut Document, command: &str, out: &mut String) -> Answer {
+fn run_all(alloc: Global, document: &mut Document, rest: &str, out: &mut Answer) -> Outcome {
+    for command in rest.split_whitespace() {
+        run(alloc, document, command, out)?;
+    }
+    Ok(())
+}
+
+fn run(alloc: Global, document: &mut Document, command: &str, out: &mut Answer) -> Outcome {
     let (name, rest) = cut_at_colon(command);
     match name {
-        "remove" => put_reply(document.remove(rest).as_ref(), out),
-        "get" => put_reply(document.get(rest), out),
-        "clear" => {
-            document.clear();
-            Ok(())
-        }
+        "remove" => out.reply(document.remove(rest)),
+        "get" => out.reply(document.get(rest)),
+        "clear" => document.clear(),
         "len" => put_len(document, out),
         "keys" => put_keys(document, out),
         "values" => put_values(document, out),
         "clone" => put_copy(document, out),
-        "key" => put_entry_key(alloc, document, rest, out),
-        _ => run_with(alloc, document, name, rest, out),
+        _ => return run_with(alloc, document, name, rest, out),
     }
+    Ok(())
 }
 
 /// The commands with a number.
@@ -40,28 +45,15 @@ fn run_with(
     document: &mut Document,
     name: &str,
     rest: &str,
-    out: &mut String,
-) -> Answer {
+    out: &mut Answer,
+) -> Outcome {
     let (key, value) = cut_at_colon(rest);
-    let value = number::<i32>(value)?;
     match name {
-        "insert" => insert(alloc, document, key, value, out),
-        "write" => write_value(document, key, value, out),
-        "place" => write_place(document, number::<usize>(key)?, value, out),
-        "write_at" => write_at(document, number::<usize>(key)?, value, out),
-        "entry" => entry(alloc, document, key, value, out),
-        "entry_with" => entry_with(alloc, document, key, value, out),
-        _ => Err(Stop::NotUnderstood),
-    }
-}
-
-fn put_reply(reply: Option<&Bson>, out: &mut String) -> Answer {
-    match reply {
-        Some(value) => {
-            put_word(out, "")?;
-            Ok(write!(out, "{value}")?)
-        }
-        None => put_word(out, "None"),
+        "insert" => insert(alloc, document, key, number::<i32>(value)?, out),
+        "write" => write_value(document, key, number::<i32>(value)?, out),
+        "place" => write_place(document, number::<usize>(key)?, number::<i32>(value)?, out),
+        "write_at" => write_at(document, number::<usize>(key)?, number::<i32>(value)?, out),
+        _ => of_entry(alloc, document, name, rest, out),
     }
 }
 
@@ -70,108 +62,103 @@ fn insert(
     document: &mut Document,
     key: &str,
     value: i32,
-    out: &mut String,
-) -> Answer {
-    match document.insert(String::from_str(alloc, key)?, Bson::Int32(value)) {
-        Ok(old) => put_reply(old.as_ref(), out),
-        Err(_) => Err(Stop::OutOfMemory),
+    out: &mut Answer,
+) -> Outcome {
+    let key = String::from_str(alloc, key)?;
+    match document.insert(key, Bson::Int32(value)) {
+        Ok(old) => out.reply(old),
+        Err(error) => out.refuse(&error),
     }
+    Ok(())
 }
 
-fn write_value(document: &mut Document, key: &str, value: i32, out: &mut String) -> Answer {
+fn set(place: &mut Bson, value: i32) {
+    *place = Bson::Int32(value);
+}
+
+fn write_value(document: &mut Document, key: &str, value: i32, out: &mut Answer) -> Outcome {
     match document.get_mut(key) {
-        Some(place) => {
-            *place = Bson::Int32(value);
-            Ok(())
-        }
-        None => put_word(out, "None"),
+        Some(place) => set(place, value),
+        None => out.word("None"),
     }
+    Ok(())
 }
 
-fn write_at(document: &mut Document, at: usize, value: i32, out: &mut String) -> Answer {
+fn write_at(document: &mut Document, at: usize, value: i32, out: &mut Answer) -> Outcome {
     match document.get_index_mut(at) {
         Some((key, place)) => {
-            *place = Bson::Int32(value);
-            put_word(out, key.as_str())
+            set(place, value);
+            out.item(key);
         }
-        None => put_word(out, "None"),
+        None => out.word("None"),
     }
+    Ok(())
 }
 
-fn write_place(document: &mut Document, at: usize, value: i32, out: &mut String) -> Answer {
+fn write_place(document: &mut Document, at: usize, value: i32, out: &mut Answer) -> Outcome {
     match document.place_mut(at) {
         Some(place) => {
-            put_word(out, place.key().as_str())?;
-            *place.into_value() = Bson::Int32(value);
-            Ok(())
+            out.item(place.key());
+            set(place.into_value(), value);
         }
-        None => put_word(out, "None"),
+        None => out.word("None"),
     }
+    Ok(())
 }
 
-/// What the entry lends is the reply.
-fn entry(
+/// The commands of an entry: what it lends is the reply, or its key.
+fn of_entry(
     alloc: Global,
     document: &mut Document,
-    key: &str,
-    value: i32,
-    out: &mut String,
-) -> Answer {
-    let entry = document.entry(String::from_str(alloc, key)?);
+    name: &str,
+    rest: &str,
+    out: &mut Answer,
+) -> Outcome {
+    let (key, value) = cut_at_colon(rest);
+    let key = String::from_str(alloc, key)?;
+    match name {
+        "key" => out.word(document.entry(key).key()),
+        "entry" => put_entry(document.entry(key), number::<i32>(value)?, out),
+        "entry_with" => put_entry_with(document.entry(key), number::<i32>(value)?, out),
+        _ => return Err(Stop::NotUnderstood),
+    }
+    Ok(())
+}
+
+fn put_entry(entry: Entry<'_>, value: i32, out: &mut Answer) {
     match entry.or_insert(Bson::Int32(value)) {
-        Ok(place) => put_reply(Some(place), out),
-        Err(_) => Err(Stop::OutOfMemory),
+        Ok(place) => out.item(place),
+        Err(error) => out.refuse(&error),
     }
 }
 
-fn entry_with(
-    alloc: Global,
-    document: &mut Document,
-    key: &str,
-    value: i32,
-    out: &mut String,
-) -> Answer {
-    let entry = document.entry(String::from_str(alloc, key)?);
+fn put_entry_with(entry: Entry<'_>, value: i32, out: &mut Answer) {
     match entry.or_insert_with(|| Bson::Int32(value)) {
-        Ok(place) => put_reply(Some(place), out),
-        Err(_) => Err(Stop::OutOfMemory),
+        Ok(place) => out.item(place),
+        Err(error) => out.refuse(&error),
     }
 }
 
-fn put_entry_key(alloc: Global, document: &mut Document, key: &str, out: &mut String) -> Answer {
-    let entry = document.entry(String::from_str(alloc, key)?);
-    put_word(out, entry.key())
-}
-
-fn put_len(document: &Document, out: &mut String) -> Answer {
-    put_word(out, "")?;
-    write!(out, "{}", document.len())?;
+fn put_len(document: &Document, out: &mut Answer) {
+    out.item(&document.len());
     if document.is_empty() {
-        put_word(out, "empty")?;
+        out.word("empty");
     }
-    Ok(())
 }
 
-fn put_keys(document: &Document, out: &mut String) -> Answer {
+fn put_keys(document: &Document, out: &mut Answer) {
     for key in document.keys() {
-        put_word(out, key.as_str())?;
+        out.item(key);
     }
-    Ok(())
 }
 
-fn put_values(document: &Document, out: &mut String) -> Answer {
+fn put_values(document: &Document, out: &mut Answer) {
     for value in document.values() {
-        put_reply(Some(value), out)?;
+        out.item(value);
     }
-    Ok(())
 }
 
-fn put_copy(document: &Document, out: &mut String) -> Answer {
-    match document.clone() {
-        Ok(copy) => {
-            put_word(out, "")?;
-            Ok(write!(out, "{copy}")?)
-        }
-        Err(_) => Err(Stop::OutOfMemory),
-    }
+fn put_copy(document: &Document, out: &mut Answer) {
+    out.gap();
+    out.copy(document, document.clone());
 }

@@ -1,8 +1,8 @@
 //! The value that a row names: by a JSON text that is read, or `made` of steps.
 use crate::steps;
 use crate::stop::Stop;
-use bson::Bson;
 use bson::extjson::de::Error;
+use bson::{Bson, Document};
 use serde_json::Value;
 use std::alloc::Global;
 
@@ -24,5 +24,13 @@ pub(crate) fn value(alloc: Global, text: &str) -> Result<Bson, Stop> {
         Ok(value) => Ok(value),
         Err(Error::OutOfMemory) => Err(Stop::NoRoom),
         Err(_) => Err(Stop::NotUnderstood),
+    }
+}
+
+/// The document that the text names.
+pub(crate) fn document(alloc: Global, text: &str) -> Result<Document, Stop> {
+    match value(alloc, text)? {
+        Bson::Document(document) => Ok(document),
+        _ => Err(Stop::NotUnderstood),
     }
 }

@@ -1,10 +1,11 @@
 //! The program `bson_rows`: for each line `CALL ARGS` of standard input it makes that call of the library, and writes
 //! a line with what the call answered. The rows of tests/rows are run by it.
 //!
-//! In reading order: `row` (a line and its call), `stop` (why a call gives no answer), `words` (the parts of a line),
-//! `held` (values that a line names); then the calls, a file a subject.
+//! In reading order: `row` (a line and its call), `answer` (what is written for it), `stop` (why a call gives no
+//! answer), `words` (the parts of a line), `held` (values that a line names); then the calls, a file a subject.
 #![tactic(auto)]
 
+mod answer;
 mod binaries;
 mod conversions;
 mod dates;
@@ -18,6 +19,7 @@ mod held;
 mod ids;
 mod kinds;
 mod row;
+mod small_kinds;
 mod steps;
 mod stop;
 mod stores;
@@ -26,6 +28,7 @@ mod texts;
 mod vectors;
 mod words;
 
+use answer::Answer;
 use row::put_answer;
 use std::io;
 
@@ -35,10 +38,10 @@ const ROOM: usize = 1 << 20;
 fn main(rt: HostRuntime) -> io::Result<()> {
     let alloc = rt.alloc();
     let rows = io::read_to_string(alloc, rt.reader())?;
-    let mut answer = String::with_capacity(alloc, ROOM)?;
+    let mut answer = Answer::new(String::with_capacity(alloc, ROOM)?);
     for row in rows.as_str().lines() {
         put_answer(alloc, row, &mut answer);
-        write_line(&rt, answer.as_str())?;
+        write_line(&rt, answer.line())?;
     }
     Ok(())
 }

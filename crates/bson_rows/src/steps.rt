@@ -13,18 +13,36 @@ use std::alloc::Global;
 pub(crate) fn made(alloc: Global, steps: &str) -> Result<Bson, Stop> {
     let mut pile = Vec::new(alloc);
     for step in steps.split(' ') {
-        take_step(alloc, &mut pile, step)?;
+        let value = made_by(alloc, &mut pile, step)?;
+        if pile.push(value).is_err() {
+            return Err(Stop::NoRoom);
+        }
     }
-    pile.pop().ok_or(Stop::NotUnderstood)
+    taken(&mut pile)
 }
 
-fn take_step(alloc: Global, pile: &mut Vec<Bson>, step: &str) -> Result<(), Stop> {
+/// The value that the step puts on the pile.
+fn made_by(alloc: Global, pile: &mut Vec<Bson>, step: &str) -> Result<Bson, Stop> {
     let (name, rest) = cut_at_colon(step);
     match name {
         "put" => put(alloc, pile, rest),
         "add" => add(pile),
         "scope" => scope(alloc, pile, rest),
-        _ => Ok(pile.push(simple(alloc, name, rest)?)?),
+        "regex" => regex(alloc, rest),
+        "binary" => binary(alloc, rest),
+        _ => simple(alloc, name, rest),
+    }
+}
+
+/// The topmost value, which leaves the pile.
+fn taken(pile: &mut Vec<Bson>) -> Result<Bson, Stop> {
+    pile.pop().ok_or(Stop::NotUnderstood)
+}
+
+fn document(pile: &mut Vec<Bson>) -> Result<Document, Stop> {
+    match pile.pop() {
+        Some(Bson::Document(document)) => Ok(document),
+        _ => Err(Stop::NotUnderstood),
     }
 }
 
@@ -40,8 +58,6 @@ fn simple(alloc: Global, name: &str, rest: &str) -> Result<Bson, Stop> {
         "text" => Ok(Bson::String(String::from_str(alloc, rest)?)),
         "date" => Ok(Bson::DateTime(DateTime::from_millis(number::<i64>(rest)?))),
         "decimal" => Ok(Bson::Decimal128(Decimal128::from_bytes(sixteen(rest)?))),
-        "regex" => regex(alloc, rest),
-        "binary" => binary(alloc, rest),
         _ => Err(Stop::NotUnderstood),
     }
 }
@@ -57,43 +73,40 @@ fn regex(alloc: Global, rest: &str) -> Result<Bson, Stop> {
 /// `generic:BYTES`, or the byte of a subtype, which is declared as the user's own.
 fn binary(alloc: Global, rest: &str) -> Result<Bson, Stop> {
     let (subtype, bytes) = cut_at_colon(rest);
-    let subtype = if subtype == "generic" {
-        BinarySubtype::Generic
-    } else {
-        BinarySubtype::UserDefined(byte_of(subtype)?)
+    let subtype = match subtype {
+        "generic" => BinarySubtype::Generic,
+        _ => BinarySubtype::UserDefined(byte_of(subtype)?),
     };
     let bytes = bytes_of(alloc, bytes)?;
     Ok(Bson::Binary(Binary { subtype, bytes }))
 }
 
-/// Puts the value on top into the document below it.
-fn put(alloc: Global, pile: &mut Vec<Bson>, key: &str) -> Result<(), Stop> {
-    let value = pile.pop().ok_or(Stop::NotUnderstood)?;
+/// The document below the topmost value, with the value put into it.
+fn put(alloc: Global, pile: &mut Vec<Bson>, key: &str) -> Result<Bson, Stop> {
     let key = String::from_str(alloc, key)?;
-    let Some(Bson::Document(document)) = pile.last_mut() else {
-        return Err(Stop::NotUnderstood);
-    };
+    let value = taken(pile)?;
+    let mut document = document(pile)?;
     match document.insert(key, value) {
-        Ok(_) => Ok(()),
+        Ok(_) => Ok(Bson::Document(document)),
         Err(_) => Err(Stop::NoRoom),
     }
 }
 
-/// Puts the value on top into the list below it.
-fn add(pile: &mut Vec<Bson>) -> Result<(), Stop> {
-    let value = pile.pop().ok_or(Stop::NotUnderstood)?;
-    let Some(Bson::Array(list)) = pile.last_mut() else {
+/// The list below the topmost value, with the value put into it.
+fn add(pile: &mut Vec<Bson>) -> Result<Bson, Stop> {
+    let value = taken(pile)?;
+    let Bson::Array(mut list) = taken(pile)? else {
         return Err(Stop::NotUnderstood);
     };
-    Ok(list.push(value)?)
+    match list.push(value) {
+        Ok(()) => Ok(Bson::Array(list)),
+        Err(_) => Err(Stop::NoRoom),
+    }
 }
 
-/// Makes code of the document on top, which is its scope.
-fn scope(alloc: Global, pile: &mut Vec<Bson>, code: &str) -> Result<(), Stop> {
-    let Some(Bson::Document(scope)) = pile.pop() else {
-        return Err(Stop::NotUnderstood);
-    };
+/// Code with the topmost document as its scope.
+fn scope(alloc: Global, pile: &mut Vec<Bson>, code: &str) -> Result<Bson, Stop> {
     let code = String::from_str(alloc, code)?;
-    let made = JavaScriptCodeWithScope { code, scope };
-    Ok(pile.push(Bson::JavaScriptCodeWithScope(made))?)
+    let scope = document(pile)?;
+    Ok(Bson::JavaScriptCodeWithScope(JavaScriptCodeWithScope { code, scope }))
 }

@@ -1,8 +1,13 @@
 //! Why a call gives no answer of its own.
+use bson::document::Refused;
+use bson::extjson::WriteError;
+use bson::store::Stopped;
+use bson::{binary, datetime, decimal128, extjson, oid, uuid};
 use std::alloc::{AllocError, AllocFailed};
+use std::fmt;
 
 /// What stands in place of an answer.
-#[derive(Clone, Copy, PartialEq, Eq, Debug)]
+#[derive(Clone, Copy)]
 pub enum Stop {
     /// The row names no call, or its arguments are none of it.
     NotUnderstood,
@@ -35,5 +40,67 @@ impl<T: Drop> From<AllocFailed<T>> for Stop {
     }
 }
 
-/// What a call puts into the answer, or why it has none.
-pub type Answer = Result<(), Stop>;
+/// Whether a row's call was made, and answered.
+pub type Outcome = Result<(), Stop>;
+
+/// What a call may answer in place of a value.
+pub trait Refusal: fmt::Display + fmt::Debug + Drop {
+    /// Whether it is want of memory, for which all rows have one line.
+    fn is_want_of_memory(&self) -> bool {
+        false
+    }
+}
+
+impl Refusal for decimal128::ParseError {}
+
+impl Refusal for uuid::Error {}
+
+impl Refusal for bson::document::ValueAccessError {}
+
+impl Refusal for AllocError {
+    fn is_want_of_memory(&self) -> bool {
+        true
+    }
+}
+
+impl Refusal for Refused {
+    fn is_want_of_memory(&self) -> bool {
+        true
+    }
+}
+
+impl Refusal for Stopped {
+    fn is_want_of_memory(&self) -> bool {
+        true
+    }
+}
+
+impl Refusal for oid::Error {
+    fn is_want_of_memory(&self) -> bool {
+        matches!(self, oid::Error::OutOfMemory)
+    }
+}
+
+impl Refusal for datetime::Error {
+    fn is_want_of_memory(&self) -> bool {
+        matches!(self, datetime::Error::OutOfMemory)
+    }
+}
+
+impl Refusal for binary::Error {
+    fn is_want_of_memory(&self) -> bool {
+        matches!(self, binary::Error::OutOfMemory)
+    }
+}
+
+impl Refusal for extjson::de::Error {
+    fn is_want_of_memory(&self) -> bool {
+        matches!(self, extjson::de::Error::OutOfMemory)
+    }
+}
+
+impl Refusal for WriteError {
+    fn is_want_of_memory(&self) -> bool {
+        matches!(self, WriteError::OutOfMemory)
+    }
+}

@@ -3,14 +3,15 @@
 //!
 //! Commands: `put:KEY:N`, `take:KEY`, `clear`; of `store` alone: `push:KEY:N`, `find:KEY`, `at:PLACE`,
 //! `write:PLACE:N`, `write_pair:PLACE:N`, `remove_at:PLACE`, `above:KEY`, `first`.
-use crate::stop::{Answer, Stop};
-use crate::words::{cut, cut_at_colon, number, put_word};
+use crate::answer::Answer;
+use crate::stop::{Outcome, Stop};
+use crate::words::{cut, cut_at_colon, number};
 use bson::store::{Command, IndexedPairs, PairStore, SmallPairs, replay};
 use bson_store::calls;
 use bson_store::order::next_above;
 use std::alloc::Global;
 
-pub(crate) fn call(alloc: Global, rest: &str, out: &mut String) -> Answer {
+pub(crate) fn call(alloc: Global, rest: &str, out: &mut Answer) -> Outcome {
     let (store, rest) = cut(rest);
     match store {
         "small" => run(alloc, &mut SmallPairs::new(alloc), rest, out),
@@ -25,25 +26,28 @@ fn run<S: PairStore<i32>>(
     alloc: Global,
     store: &mut S,
     commands: &str,
-    out: &mut String,
-) -> Answer {
+    out: &mut Answer,
+) -> Outcome {
     for command in commands.split_whitespace() {
         run_one(alloc, store, command, out)?;
     }
-    put_pairs(store, out)
+    put_pairs(store, out);
+    Ok(())
 }
 
 fn run_one<S: PairStore<i32>>(
     alloc: Global,
     store: &mut S,
     command: &str,
-    out: &mut String,
-) -> Answer {
+    out: &mut Answer,
+) -> Outcome {
     let (name, rest) = cut_at_colon(command);
     match name {
-        "put" => put(alloc, store, rest, out),
-        "push" => push(alloc, store, rest),
-        "take" => put_reply(calls::take(store, rest), out),
+        "put" | "push" => put(alloc, store, name, rest, out),
+        "take" => {
+            out.reply(calls::take(store, rest));
+            Ok(())
+        }
         "clear" => {
             store.clear();
             Ok(())
@@ -55,20 +59,30 @@ fn run_one<S: PairStore<i32>>(
     }
 }
 
-fn put<S: PairStore<i32>>(alloc: Global, store: &mut S, rest: &str, out: &mut String) -> Answer {
+/// A push of a key that is there is none.
+fn put<S: PairStore<i32>>(
+    alloc: Global,
+    store: &mut S,
+    name: &str,
+    rest: &str,
+    out: &mut Answer,
+) -> Outcome {
     let (key, value) = cut_at_colon(rest);
     let value = number::<i32>(value)?;
-    match calls::put(store, String::from_str(alloc, key)?, value) {
-        Ok(old) => put_reply(old, out),
+    let key = String::from_str(alloc, key)?;
+    if name == "push" {
+        return push(store, key, value);
+    }
+    match calls::put(store, key, value) {
+        Ok(old) => {
+            out.reply(old);
+            Ok(())
+        }
         Err(_) => Err(Stop::OutOfMemory),
     }
 }
 
-/// A push of a key that is there is none.
-fn push<S: PairStore<i32>>(alloc: Global, store: &mut S, rest: &str) -> Answer {
-    let (key, value) = cut_at_colon(rest);
-    let value = number::<i32>(value)?;
-    let key = String::from_str(alloc, key)?;
+fn push<S: PairStore<i32>>(store: &mut S, key: String, value: i32) -> Outcome {
     if store.find(key.as_str()).is_some() {
         return Err(Stop::NotUnderstood);
     }
@@ -79,7 +93,7 @@ fn push<S: PairStore<i32>>(alloc: Global, store: &mut S, rest: &str) -> Answer {
 }
 
 /// The commands at a place.
-fn run_at<S: PairStore<i32>>(store: &mut S, name: &str, rest: &str, out: &mut String) -> Answer {
+fn run_at<S: PairStore<i32>>(store: &mut S, name: &str, rest: &str, out: &mut Answer) -> Outcome {
     let (place, value) = cut_at_colon(rest);
     let at = number::<usize>(place)?;
     if at >= store.len() {
@@ -87,60 +101,47 @@ fn run_at<S: PairStore<i32>>(store: &mut S, name: &str, rest: &str, out: &mut St
     }
     match name {
         "at" => put_pair(store.key_at(at), *store.value_at(at), out),
-        "write" => {
-            *store.value_at_mut(at) = number::<i32>(value)?;
-            Ok(())
-        }
+        "write" => *store.value_at_mut(at) = number::<i32>(value)?,
         "write_pair" => write_pair(store.pair_at_mut(at), number::<i32>(value)?, out),
         "remove_at" => {
             let (key, value) = store.remove_at(at);
-            put_pair(&key, value, out)
+            put_pair(&key, value, out);
         }
-        _ => Err(Stop::NotUnderstood),
+        _ => return Err(Stop::NotUnderstood),
     }
+    Ok(())
 }
 
-fn write_pair(pair: (&String, &mut i32), value: i32, out: &mut String) -> Answer {
+fn write_pair(pair: (&String, &mut i32), value: i32, out: &mut Answer) {
     let (key, place) = pair;
     *place = value;
-    put_word(out, key.as_str())
+    out.item(key);
 }
 
-fn put_reply(reply: Option<i32>, out: &mut String) -> Answer {
-    match reply {
-        Some(value) => {
-            put_word(out, "")?;
-            Ok(write!(out, "{value}")?)
-        }
-        None => put_word(out, "None"),
-    }
-}
-
-fn put_place(place: Option<usize>, out: &mut String) -> Answer {
+fn put_place(place: Option<usize>, out: &mut Answer) -> Outcome {
+    out.word("@");
     match place {
-        Some(at) => {
-            put_word(out, "@")?;
-            Ok(write!(out, "{at}")?)
-        }
-        None => put_word(out, "@None"),
+        Some(at) => out.put(&at),
+        None => out.text("None"),
     }
+    Ok(())
 }
 
-fn put_pair(key: &String, value: i32, out: &mut String) -> Answer {
-    put_word(out, key.as_str())?;
-    Ok(write!(out, "={value}")?)
+fn put_pair(key: &String, value: i32, out: &mut Answer) {
+    out.item(key);
+    out.text("=");
+    out.put(&value);
 }
 
 /// The pairs in order. Each is looked up by its key, which must find its place.
-fn put_pairs<S: PairStore<i32>>(store: &S, out: &mut String) -> Answer {
-    put_word(out, "->")?;
+fn put_pairs<S: PairStore<i32>>(store: &S, out: &mut Answer) {
+    out.word("->");
     for at in 0..store.len() {
-        put_pair(store.key_at(at), *store.value_at(at), out)?;
+        put_pair(store.key_at(at), *store.value_at(at), out);
         if store.find(store.key_at(at).as_str()) != Some(at) {
-            out.push_str(" not found there")?;
+            out.text(" not found there");
         }
     }
-    Ok(())
 }
 
 /// The same commands by `replay`.
@@ -148,27 +149,33 @@ fn replayed<S: PairStore<i32>>(
     alloc: Global,
     store: &mut S,
     text: &str,
-    out: &mut String,
-) -> Answer {
+    out: &mut Answer,
+) -> Outcome {
     let mut commands = Vec::new(alloc);
     for part in text.split_whitespace() {
         commands.push(command(alloc, part)?)?;
     }
-    let Ok(replies) = replay(alloc, store, commands) else {
-        return Err(Stop::OutOfMemory);
-    };
-    for reply in replies {
-        put_reply(reply, out)?;
+    match replay(alloc, store, commands) {
+        Ok(replies) => put_replies(replies, out),
+        Err(error) => out.refuse(&error),
     }
-    put_pairs(store, out)
+    put_pairs(store, out);
+    Ok(())
+}
+
+fn put_replies(replies: Vec<Option<i32>>, out: &mut Answer) {
+    for reply in replies {
+        out.reply(reply);
+    }
 }
 
 fn command(alloc: Global, part: &str) -> Result<Command<i32>, Stop> {
     let (name, rest) = cut_at_colon(part);
     let (key, value) = cut_at_colon(rest);
+    let key = String::from_str(alloc, key)?;
     match name {
-        "put" => Ok(Command::Put(String::from_str(alloc, key)?, number::<i32>(value)?)),
-        "take" => Ok(Command::Take(String::from_str(alloc, key)?)),
+        "put" => Ok(Command::Put(key, number::<i32>(value)?)),
+        "take" => Ok(Command::Take(key)),
         "clear" => Ok(Command::Clear),
         _ => Err(Stop::NotUnderstood),
     }

@@ -1,25 +1,35 @@
 //! `tag BYTE`, `subtype BYTE`, `subtype own|reserved BYTE`: the tables of BSON 1.1.
-use crate::stop::Answer;
+use crate::answer::Answer;
+use crate::stop::Outcome;
 use crate::words::{byte_of, cut};
 use bson::spec::{BinarySubtype, ElementType};
 
 /// The element type of the tag, and its tag again.
-pub(crate) fn tag(rest: &str, out: &mut String) -> Answer {
+pub(crate) fn tag(rest: &str, out: &mut Answer) -> Outcome {
     match ElementType::from(byte_of(rest)?) {
-        Some(element) => Ok(write!(out, "{element:?} {:02x}", element.tag())?),
-        None => Ok(out.push_str("None")?),
+        Some(element) => put_element(element, out),
+        None => out.text("None"),
     }
+    Ok(())
 }
 
-/// The subtype of the byte, its byte again, and its hexadecimal digits. `own BYTE` is the one that is declared as the
-/// user's.
-pub(crate) fn subtype(rest: &str, out: &mut String) -> Answer {
+pub(crate) fn put_element(element: ElementType, out: &mut Answer) {
+    out.show_debug(&element);
+    out.text(" ");
+    out.hex(&[element.tag()]);
+}
+
+/// The subtype of the byte, its byte again, and its hexadecimal digits. `own BYTE` and `reserved BYTE` are declared so.
+pub(crate) fn subtype(rest: &str, out: &mut Answer) -> Outcome {
     let (name, text) = cut(rest);
     let subtype = match name {
         "own" => BinarySubtype::UserDefined(byte_of(text)?),
         "reserved" => BinarySubtype::Reserved(byte_of(text)?),
         _ => BinarySubtype::from(byte_of(name)?),
     };
-    let byte = u8::from(subtype);
-    Ok(write!(out, "{subtype:?} {byte:02x} {subtype:x}")?)
+    out.show_debug(&subtype);
+    out.text(" ");
+    out.hex(&[u8::from(subtype)]);
+    out.lower_hex(subtype);
+    Ok(())
 }

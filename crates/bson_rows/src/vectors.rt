@@ -1,129 +1,76 @@
 //! `vector CALL ARGS`: vectors and their bytes.
-use crate::binaries::put_error;
-use crate::stop::{Answer, Stop};
-use crate::words::{byte_of, bytes_of, cut, number, put_hex};
+use crate::answer::Answer;
+use crate::binaries::{binary_of, put_binary};
+use crate::stop::{Outcome, Stop};
+use crate::words::{bytes_of, cut, number};
 use bson::Bson;
-use bson::binary::{Binary, PackedBitVector, Vector};
-use bson::spec::BinarySubtype;
+use bson::binary::{Binary, PackedBitVector, Result as Made, Vector};
 use std::alloc::Global;
 
-pub(crate) fn call(alloc: Global, rest: &str, out: &mut String) -> Answer {
+pub(crate) fn call(alloc: Global, rest: &str, out: &mut Answer) -> Outcome {
     let (name, text) = cut(rest);
     match name {
-        "read" => read(alloc, text, out),
-        "back" => put_back(alloc, &vector_of(alloc, text)?, out),
-        "cleared" => cleared(alloc, text, out),
         "binary" => from_binary(alloc, text, out),
-        "clone" => copied(alloc, text, out),
         "packed" => packed(alloc, text, out),
-        "value" => as_value(alloc, text, out),
-        _ => Err(Stop::NotUnderstood),
+        _ => of_bytes(alloc, name, bytes_of(alloc, text)?, out),
     }
 }
 
-fn vector_of(alloc: Global, text: &str) -> Result<Vector, Stop> {
-    let bytes = bytes_of(alloc, text)?;
-    match Vector::from_bytes(alloc, bytes.as_slice()) {
-        Ok(vector) => Ok(vector),
-        Err(_) => Err(Stop::NoRoom),
-    }
-}
-
-/// What the bytes hold.
-fn read(alloc: Global, text: &str, out: &mut String) -> Answer {
-    let bytes = bytes_of(alloc, text)?;
-    match Vector::from_bytes(alloc, bytes.as_slice()) {
-        Ok(vector) => put_vector(&vector, out),
-        Err(error) => put_error(&error, out),
-    }
-}
-
-fn put_vector(vector: &Vector, out: &mut String) -> Answer {
+/// The calls on the vector of the bytes.
+fn of_bytes(alloc: Global, name: &str, bytes: Vec<u8>, out: &mut Answer) -> Outcome {
+    let vector = if name == "cleared" {
+        Vector::from_bytes_clearing(alloc, bytes.as_slice())
+    } else {
+        Vector::from_bytes(alloc, bytes.as_slice())
+    };
     match vector {
-        Vector::Int8(items) => Ok(write!(out, "Int8 {items:?}")?),
-        Vector::Float32(items) => put_patterns(items, out),
-        Vector::PackedBit(bits) => put_packed(bits, out),
+        Ok(vector) => of_vector(alloc, name, vector, out),
+        Err(error) => {
+            out.refuse(&error);
+            Ok(())
+        }
     }
 }
 
-fn put_patterns(items: &Vec<u32>, out: &mut String) -> Answer {
-    out.push_str("Float32")?;
-    for pattern in items {
-        write!(out, " {pattern:08x}")?;
+fn of_vector(alloc: Global, name: &str, vector: Vector, out: &mut Answer) -> Outcome {
+    match name {
+        "read" => out.show_debug(&vector),
+        "back" | "cleared" => put_binary(Binary::from_vector(alloc, &vector), out),
+        "value" => out.result(Bson::from_vector(alloc, &vector)),
+        "clone" => out.copy_debug(&vector, vector.clone(alloc)),
+        _ => return Err(Stop::NotUnderstood),
     }
     Ok(())
 }
 
-fn put_packed(bits: &PackedBitVector, out: &mut String) -> Answer {
-    write!(out, "PackedBit padding {} bytes ", bits.padding())?;
-    put_hex(out, bits.as_bytes())
-}
-
-/// The bytes that are written for the vector of these bytes, whose ignored bits are made zero.
-fn cleared(alloc: Global, text: &str, out: &mut String) -> Answer {
-    let bytes = bytes_of(alloc, text)?;
-    match Vector::from_bytes_clearing(alloc, bytes.as_slice()) {
-        Ok(vector) => put_back(alloc, &vector, out),
-        Err(error) => put_error(&error, out),
-    }
-}
-
-/// The bytes that are written for a vector.
-fn put_back(alloc: Global, vector: &Vector, out: &mut String) -> Answer {
-    match Binary::from_vector(alloc, vector) {
-        Ok(binary) => {
-            write!(out, "{:?} ", binary.subtype)?;
-            put_hex(out, binary.bytes.as_slice())
-        }
-        Err(_) => Err(Stop::OutOfMemory),
-    }
-}
-
 /// `SUBTYPE BYTES`: the vector that the binary holds.
-fn from_binary(alloc: Global, text: &str, out: &mut String) -> Answer {
-    let (subtype, bytes) = cut(text);
-    let subtype = BinarySubtype::from(byte_of(subtype)?);
-    let bytes = bytes_of(alloc, bytes)?;
-    match Vector::from_binary(alloc, &Binary { subtype, bytes }) {
-        Ok(vector) => put_vector(&vector, out),
-        Err(error) => put_error(&error, out),
-    }
+fn from_binary(alloc: Global, text: &str, out: &mut Answer) -> Outcome {
+    let binary = binary_of(alloc, text)?;
+    out.result_debug(Vector::from_binary(alloc, &binary));
+    Ok(())
 }
 
-fn copied(alloc: Global, text: &str, out: &mut String) -> Answer {
-    let vector = vector_of(alloc, text)?;
-    match vector.clone(alloc) {
-        Ok(copy) if copy == vector => put_vector(&copy, out),
-        Ok(_) => Ok(out.push_str("another")?),
-        Err(_) => Err(Stop::OutOfMemory),
-    }
-}
-
-/// `PADDING BYTES`, the padding a number or `none`, and a copy of it.
-fn packed(alloc: Global, text: &str, out: &mut String) -> Answer {
+/// `PADDING BYTES`, the padding a number or `none`: the padding and the bytes, and a copy.
+fn packed(alloc: Global, text: &str, out: &mut Answer) -> Outcome {
     let (padding, bytes) = cut(text);
-    let bytes = bytes_of(alloc, bytes)?;
     let padding = match padding {
         "none" => None,
         _ => Some(number::<u8>(padding)?),
     };
-    match PackedBitVector::new(bytes, padding) {
-        Ok(bits) => put_packed_copy(alloc, &bits, out),
-        Err(error) => put_error(&error, out),
-    }
+    let bytes = bytes_of(alloc, bytes)?;
+    put_packed(alloc, PackedBitVector::new(bytes, padding), out);
+    Ok(())
 }
 
-fn put_packed_copy(alloc: Global, bits: &PackedBitVector, out: &mut String) -> Answer {
-    match bits.clone(alloc) {
-        Ok(copy) if copy == *bits => put_packed(&copy, out),
-        Ok(_) => Ok(out.push_str("another")?),
-        Err(_) => Err(Stop::OutOfMemory),
-    }
-}
-
-fn as_value(alloc: Global, text: &str, out: &mut String) -> Answer {
-    match Bson::from_vector(alloc, &vector_of(alloc, text)?) {
-        Ok(value) => Ok(write!(out, "{value}")?),
-        Err(_) => Err(Stop::OutOfMemory),
+fn put_packed(alloc: Global, made: Made<PackedBitVector>, out: &mut Answer) {
+    match made {
+        Ok(bits) => {
+            out.put(&bits.padding());
+            out.text(" ");
+            out.hex(bits.as_bytes());
+            out.text(" ");
+            out.copy_debug(&bits, bits.clone(alloc));
+        }
+        Err(error) => out.refuse(&error),
     }
 }

@@ -64,20 +64,3 @@ where
         Err(_) => Err(Stop::NotUnderstood),
     }
 }
-
-/// Puts the hexadecimal digits of the bytes.
-pub(crate) fn put_hex(out: &mut String, bytes: &[u8]) -> Result<(), Stop> {
-    for byte in bytes {
-        write!(out, "{byte:02x}")?;
-    }
-    Ok(())
-}
-
-/// Puts a word, with a blank before it where it is not the first.
-pub(crate) fn put_word(out: &mut String, word: &str) -> Result<(), Stop> {
-    if !out.is_empty() {
-        out.push_str(" ")?;
-    }
-    out.push_str(word)?;
-    Ok(())
-}

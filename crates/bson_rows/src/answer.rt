@@ -1,0 +1,226 @@
+//! What is written for a row.
+use crate::stop::{Refusal, Stop};
+use bson::spec::BinarySubtype;
+use std::alloc::AllocError;
+use std::fmt::{Debug, Display};
+
+/// How what a call answers is written.
+#[derive(Clone, Copy)]
+pub enum Style {
+    /// A value by Display, a refusal by Debug.
+    Plain,
+    /// `{}`.
+    Display,
+    /// `{:?}`.
+    Debug,
+    /// `{:#?}`.
+    Pretty,
+}
+
+/// The answer of a row, as far as it is written.
+#[derive(Drop)]
+pub struct Answer {
+    text: String,
+    style: Style,
+    stop: Option<Stop>,
+}
+
+impl Answer {
+    /// No answer yet. What is written stands in the text's room as long as that suffices.
+    pub(crate) fn new(text: String) -> Answer {
+        Answer {
+            text,
+            style: Style::Plain,
+            stop: None,
+        }
+    }
+
+    /// Begins the answer of the next row.
+    pub(crate) fn begin(&mut self, style: Style) {
+        self.text.clear();
+        self.style = style;
+        self.stop = None;
+    }
+
+    /// Leaves the row without an answer of its own.
+    pub(crate) fn stop(&mut self, stop: Stop) {
+        self.stop = Some(stop);
+    }
+
+    /// What is written for the row.
+    pub(crate) fn line(&self) -> &str {
+        match self.stop {
+            Some(stop) => stop.line(),
+            None => self.text.as_str(),
+        }
+    }
+
+    /// The style that refusals are written in, which is plain where the row names none.
+    pub(crate) fn style(&self) -> Style {
+        self.style
+    }
+
+    fn note(&mut self, written: Result<(), AllocError>) {
+        if written.is_err() {
+            self.stop = Some(Stop::NoRoom);
+        }
+    }
+
+    /// Puts a text as it is.
+    pub(crate) fn text(&mut self, text: &str) {
+        let written = self.text.push_str(text);
+        self.note(written);
+    }
+
+    /// Puts a part by Display, whatever the style.
+    pub(crate) fn put<T: Display>(&mut self, part: &T) {
+        let written = write!(self.text, "{part}");
+        self.note(written);
+    }
+
+    /// Puts a part by Debug, whatever the style.
+    pub(crate) fn debug<T: Debug>(&mut self, part: &T) {
+        let written = write!(self.text, "{part:?}");
+        self.note(written);
+    }
+
+    fn debug_pretty<T: Debug>(&mut self, part: &T) {
+        let written = write!(self.text, "{part:#?}");
+        self.note(written);
+    }
+
+    /// Puts the two hexadecimal digits of each byte.
+    pub(crate) fn hex(&mut self, bytes: &[u8]) {
+        for byte in bytes {
+            let written = write!(self.text, "{byte:02x}");
+            self.note(written);
+        }
+    }
+
+    /// Puts `{:x}` of the subtype behind a blank.
+    pub(crate) fn lower_hex(&mut self, subtype: BinarySubtype) {
+        let written = write!(self.text, " {subtype:x}");
+        self.note(written);
+    }
+
+    /// Puts a blank, unless the answer begins here.
+    pub(crate) fn gap(&mut self) {
+        if !self.text.is_empty() {
+            self.text(" ");
+        }
+    }
+
+    /// Puts a text behind a blank.
+    pub(crate) fn word(&mut self, word: &str) {
+        self.gap();
+        self.text(word);
+    }
+
+    /// Puts a part by Display behind a blank.
+    pub(crate) fn item<T: Display>(&mut self, part: &T) {
+        self.gap();
+        self.put(part);
+    }
+
+    /// Puts the value in the row's style, by Display where it names none.
+    pub(crate) fn show<T: Display + Debug>(&mut self, value: &T) {
+        match self.style {
+            Style::Plain | Style::Display => self.put(value),
+            Style::Debug => self.debug(value),
+            Style::Pretty => self.debug_pretty(value),
+        }
+    }
+
+    /// Puts a value that has no Display.
+    pub(crate) fn show_debug<T: Debug>(&mut self, value: &T) {
+        match self.style {
+            Style::Pretty => self.debug_pretty(value),
+            _ => self.debug(value),
+        }
+    }
+
+    /// Puts why a call gave no value, in the row's style, by Debug where it names none.
+    pub(crate) fn refuse<E: Refusal>(&mut self, error: &E) {
+        if error.is_want_of_memory() {
+            self.stop = Some(Stop::OutOfMemory);
+            return;
+        }
+        match self.style {
+            Style::Display => self.put(error),
+            Style::Pretty => self.debug_pretty(error),
+            _ => self.debug(error),
+        }
+    }
+
+    /// Puts what a call answered.
+    pub(crate) fn result<T: Display + Debug + Drop, E: Refusal>(&mut self, answer: Result<T, E>) {
+        match answer {
+            Ok(value) => self.show(&value),
+            Err(error) => self.refuse(&error),
+        }
+    }
+
+    /// Puts what a call answered whose value has no Display.
+    pub(crate) fn result_debug<T: Debug + Drop, E: Refusal>(&mut self, answer: Result<T, E>) {
+        match answer {
+            Ok(value) => self.show_debug(&value),
+            Err(error) => self.refuse(&error),
+        }
+    }
+
+    /// Puts a copy of the value, and before it whether it is another one.
+    pub(crate) fn copy<T: Display + Debug + PartialEq + Drop, E: Refusal>(
+        &mut self,
+        value: &T,
+        copy: Result<T, E>,
+    ) {
+        match copy {
+            Ok(copy) => {
+                if copy != *value {
+                    self.text("another ");
+                }
+                self.show(&copy)
+            }
+            Err(error) => self.refuse(&error),
+        }
+    }
+
+    /// Puts a copy of a value that has no Display, and before it whether it is another one.
+    pub(crate) fn copy_debug<T: Debug + PartialEq + Drop, E: Refusal>(
+        &mut self,
+        value: &T,
+        copy: Result<T, E>,
+    ) {
+        match copy {
+            Ok(copy) => {
+                if copy != *value {
+                    self.text("another ");
+                }
+                self.show_debug(&copy)
+            }
+            Err(error) => self.refuse(&error),
+        }
+    }
+
+    /// Puts what is there behind a blank, or `None`.
+    pub(crate) fn reply<T: Display + Drop>(&mut self, reply: Option<T>) {
+        match reply {
+            Some(value) => self.item(&value),
+            None => self.word("None"),
+        }
+    }
+
+    /// Puts how the two compare.
+    pub(crate) fn order<T: Ord + Drop>(&mut self, one: T, other: T) {
+        self.debug(&one.cmp(&other));
+    }
+
+    /// Puts ` NAME=` and what is there, if anything is.
+    pub(crate) fn named<T: Debug + Drop>(&mut self, name: &str, found: Option<T>) {
+        if let Some(value) = found {
+            self.word(name);
+            self.text("=");
+            self.debug(&value);
+        }
+    }
+}
