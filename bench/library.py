@@ -7,10 +7,12 @@ A million calls on a document of 103 bytes, the best of three runs; and each kin
 program's wall time (the best of five runs), the first call of a C program, and its best of five. libbson reads numbers
 and keys as they stand, in their order; it takes a document alone, so it gets only the kind that is one.
 """
-import os
 import shutil
 import subprocess
+import sys
 import tempfile
+
+sys.dont_write_bytecode = True
 
 from run import HERE, KINDS, TOP, best_of, generate
 
@@ -28,7 +30,7 @@ def libbson(room):
     for name in ("bson2", "libbson-1.0"):
         found = subprocess.run(["pkg-config", "--cflags", "--libs", name], capture_output=True, text=True)
         if found.returncode == 0:
-            return built(room, "libbson", ["-DLIBBSON", "-include", "bson/bson.h", *found.stdout.split()])
+            return built(room, "libbson", ["-DLIBBSON", *found.stdout.split()])
     return None
 
 
