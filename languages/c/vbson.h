@@ -114,7 +114,8 @@ uint32_t vbson_hash(const uint8_t *text, size_t len, uint64_t *out);
  * A call named print puts a text, with no NUL, at the front of the room, leaves the rest of the room as it was, and sets
  * *len to the text's length. VBSON_NO_ROOM where the room is smaller: then nothing is put, and *len is set all the same. */
 
-#define VBSON_DECIMAL128_ROOM 43 /* no text of a decimal is longer */
+/* Room for each text of a kind. */
+#define VBSON_DECIMAL128_ROOM 42
 #define VBSON_OBJECT_ID_ROOM 24
 #define VBSON_DATE_TIME_ROOM 24
 

@@ -81,7 +81,7 @@ static void hash(void) {
     CHECK(hash_of("{\"a\":1,\"b\":[2,3]}") == hash_of("{ \"b\": [2, {\"$numberInt\":\"3\"}], \"a\": 1 }"));
     CHECK(hash_of("[1,2]") != hash_of("[2,1]"));
     CHECK(hash_of("{\"a\":1}") != hash_of("{\"a\":2}"));
-    /* SipHash-1-3 under the key 0 of no bytes, and of the four bytes of the number 5 */
+    /* SipHash-1-3 under the key 0 of no bytes; python_calls.py has more */
     CHECK(hash_of("null") == UINT64_C(0xd1fba762150c532c));
     CHECK(vbson_hash(TEXT("]"), &number) == VBSON_NOT_JSON && number == 7);
     CHECK(vbson_hash(TEXT("{\"$oid\":\"x\"}"), &number) == VBSON_BAD_OBJECT_ID && number == 7);
@@ -127,8 +127,11 @@ static void decimals(void) {
     CHECK(decimal_prints("-inf", "-Infinity"));
     CHECK(decimal_prints("nan", "NaN"));
     CHECK(decimal_prints("1E+3", "1E+3"));
+    /* the two longest kinds of texts */
     CHECK(decimal_prints("-1234567890123456789012345678901234E-6176", "-1.234567890123456789012345678901234E-6143"));
+    CHECK(len == VBSON_DECIMAL128_ROOM);
     CHECK(decimal_prints("-0.000001234567890123456789012345678901234", "-0.000001234567890123456789012345678901234"));
+    CHECK(len == VBSON_DECIMAL128_ROOM);
     CHECK(vbson_decimal128_print(five, fresh(), 0, &len) == VBSON_NO_ROOM && is_fresh(1));
     CHECK(vbson_decimal128_print(five, fresh(), 1, &len) == VBSON_DONE && holds("5"));
     static const char *const none[] = {"", "x", "\xff", "1e", "1.2.3", "12345678901234567890123456789012345", "1E6145"};

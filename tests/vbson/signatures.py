@@ -43,6 +43,28 @@ def exports():
     return found
 
 
+def of_rust(name, kind):
+    """The C parameter of one of the wrapper's in Rust."""
+    if kind in NUMBERS:
+        return f"{NUMBERS[kind]} {name}"
+    found = re.fullmatch(r"\*(const|mut) (?:\[u8; (\d+)\]|(\w+))", kind)
+    const = "const " if found[1] == "const" else ""
+    kinds = {"u8": "uint8_t", "RawText": "vbson_text", **NUMBERS}
+    if found[2]:
+        return f"{const}uint8_t {name}[{found[2]}]"
+    return f"{const}{kinds[found[3]]} *{name}"
+
+
+def declared_by_rust():
+    """Each call that the wrapper in Rust declares: its parameters and result, as C has them."""
+    found = {}
+    text = (LANGUAGES / "rust/src/call.rs").read_text()
+    for name, parameters, result in re.findall(r"(?m)^    fn (vbson_\w+)\((.*)\) -> (\w+);$", text):
+        parts = re.findall(r"(\w+): ([^,]+)", parameters)
+        found[name] = ([of_rust(*it) for it in parts], NUMBERS[result])
+    return found
+
+
 def without_inline(text):
     return re.sub(r"static inline [^{;]*\{.*?\n\}\n", "", text, flags=re.S)
 
@@ -97,6 +119,13 @@ def call_faults():
         yield f"{name}'s statuses", None if can == wanted else f"vbson.h says {sorted(wanted)}, and the contract {can}"
 
 
+def rust_faults():
+    of_rust, of_header = declared_by_rust(), declared()
+    for name in sorted({*of_rust} | {*of_header}):
+        wanted = of_header[name][:2] if name in of_header else None
+        yield f"{name} in Rust", None if of_rust.get(name) == wanted else f"{of_rust.get(name)} and not {wanted}"
+
+
 def status_faults():
     numbers = statuses()
     yield "no number twice", None if len({*numbers.values()}) == len(numbers) else "two statuses have one number"
@@ -149,6 +178,7 @@ def version_faults():
 def faults():
     """What was compared, and beside it what is wrong, or None."""
     yield from call_faults()
+    yield from rust_faults()
     yield from status_faults()
     yield "the fields of vbson_text", text_fault()
     yield from version_faults()

@@ -1,0 +1,68 @@
+#!/usr/bin/env python3
+"""Times the library for C beside the program, and beside libbson where Debian's libbson-dev is installed.
+
+    bench/library.py
+
+A million calls on a document of 103 bytes, the best of three runs; and each kind of input of bench/run.py at 10 MB: the
+program's wall time (the best of five runs), the first call of a C program, and its best of five. libbson reads numbers
+and keys as they stand, in their order; it takes a document alone, so it gets only the kind that is one.
+"""
+import shutil
+import subprocess
+import sys
+import tempfile
+
+sys.dont_write_bytecode = True
+
+from run import HERE, KINDS, TOP, best_of, generate
+
+PROGRAM = f"{TOP}/crates/bson_cli/out/bson_cli"
+
+
+def built(room, name, words):
+    done = subprocess.run(["cc", "-O2", f"{HERE}/library.c", "-o", f"{room}/{name}", *words], capture_output=True)
+    return f"{room}/{name}" if done.returncode == 0 else None
+
+
+def libbson(room):
+    if not shutil.which("pkg-config"):
+        return None
+    for name in ("bson2", "libbson-1.0"):
+        found = subprocess.run(["pkg-config", "--cflags", "--libs", name], capture_output=True, text=True)
+        if found.returncode == 0:
+            return built(room, "libbson", ["-DLIBBSON", *found.stdout.split()])
+    return None
+
+
+def nanoseconds(program):
+    runs = [subprocess.run([program, "small", "1000000"], capture_output=True, text=True, check=True) for _ in range(3)]
+    return min(int(it.stdout) for it in runs)
+
+
+def seconds(program, path):
+    with open(path, "rb") as given:
+        ran = subprocess.run([program, "whole", "5"], stdin=given, capture_output=True, text=True, check=True)
+    return [float(it) for it in ran.stdout.split()]
+
+
+def main():
+    subprocess.run([f"{TOP}/vbson", "build"], check=True)
+    with tempfile.TemporaryDirectory() as room:
+        ours = built(room, "library", [f"-I{TOP}/languages/out/include", f"{TOP}/languages/out/lib/libvbson.a"])
+        theirs = libbson(room)
+        print(f"a call on 103 bytes: {nanoseconds(ours)} ns")
+        print(f"the same by libbson: {nanoseconds(theirs)} ns" if theirs else "libbson is not here")
+        print("| input of 10 MB | bson_cli, s | C, first call, s | C, best call, s |\n|---|---|---|---|")
+        for name, make, opening, closing in KINDS:
+            path = f"{room}/input.json"
+            generate(path, make, opening, closing, 10_000_000)
+            [(program, _)] = best_of(5, [[PROGRAM, "canonical"]], path)
+            first, least = seconds(ours, path)
+            print(f"| {name} | {program:.2f} | {first:.2f} | {least:.2f} |", flush=True)
+            if theirs and opening == "{":
+                first, least = seconds(theirs, path)
+                print(f"| the same by libbson | | {first:.2f} | {least:.2f} |")
+
+
+if __name__ == "__main__":
+    main()
