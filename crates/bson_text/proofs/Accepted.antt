@@ -1,12 +1,15 @@
--- Bytes that have a meaning are not refused.
-use Rattle.std.proofs.Common.{◌≡◌, ℕ, List, Result, Ok, Err, Some, None, IfErr, refl, sym, ◌∙◌, subst}
+-- Bytes that have a meaning are not refused, and what they mean comes back.
+use Rattle.std.proofs.Common.{◌≡◌, ℕ, List, Result, Ok, Err, Some, None, IfOk, IfErr, refl, sym, ◌∙◌, subst}
 use Rattle.std.proofs.lemmas.Option.{same_Some}
 use Rattle.serde_json.specs.Data.{Data}
 use Rattle.serde_json.specs.Read.{read}
 use Rattle.bson_leaf.specs.declared.error.Error.TheVariants as tree_error
 use Rattle.bson_model.specs.Means.{Means}
+use Rattle.bson_model.specs.Texts.{ComesBack}
 use Rattle.bson_model.specs.Value.{Value}
-use Rattle.bson_text.specs.Text.{IsTextOf, IsTextFault}
+use Rattle.bson_model.proofs.ComesBack.{read_comes_back}
+use Rattle.bson_model.proofs.ReadTrees.{read_tree}
+use Rattle.bson_text.specs.Text.{IsTextOf, HasTextMeaning, IsTextFault}
 use Rattle.bson_text.specs.declared.error.TextError.{TextError}
 use Rattle.bson_text.specs.declared.error.TextError.TheVariants.{NotJson, NotExtendedJson, OutOfMemory}
 
@@ -23,3 +26,7 @@ memory_alone bytes t v is m (NotExtendedJson (tree_error.InvalidObjectId e)) f =
 pub accepted : {X : Type 0} (bytes : List ℕ) (r : Result X TextError) → IfErr r (λ e. IsTextFault bytes e) → (t : Data) (v : Value) → IsTextOf bytes t → Means t v → IfErr r (λ e. e ≡ OutOfMemory)
 accepted bytes (Ok x) f t v is m = tt
 accepted bytes (Err e) f t v is m = memory_alone bytes t v is m e f
+
+pub came_back : {X E : Type 0} (see : X → Value) (bytes : List ℕ) (r : Result X E) → IfOk r (λ x. HasTextMeaning bytes (see x)) → IfOk r (λ x. ComesBack (see x))
+came_back see bytes (Ok x) h = read_comes_back h.tree (see x) (read_tree bytes h.tree h.text.tree_read) h.meaning.means
+came_back see bytes (Err e) h = tt

@@ -2,6 +2,7 @@
 ghost use Rattle.std.specs.Prelude.{◌≡◌, IfOk, IfErr};
 ghost use Rattle.serde_json.specs.Data.{Data};
 ghost use Rattle.bson_model.specs.Means.{Means};
+ghost use Rattle.bson_model.specs.Texts.{ComesBack};
 ghost use Rattle.bson_model.specs.Value as model;
 ghost use Rattle.bson.specs.View.{bson_view};
 ghost use Rattle.bson_text.specs.Text.{IsTextOf, HasTextMeaning, IsTextFault};
@@ -27,6 +28,8 @@ const MAX_DEPTH: usize = 127;
 /// a document has its keys in ascending order of bytes. `NotJson` is answered where there is no such text, and
 /// `NotExtendedJson` with the first fault of its tree where that has no meaning.
 ///
+/// What is read comes back: its text in either form is read as the same value again, unless it nests deeper than 127.
+///
 /// What has a meaning is read straight, with no tree of the whole. A text that is refused so is read again by its tree,
 /// which finds the fault. So is, and is then accepted, a text that has an object in which a wrapper's key stands twice,
 /// or behind another key (`$scope` before `$code`), or in which a value of no meaning gives way to a later one of its key.
@@ -35,6 +38,7 @@ pub fn try_from_text(alloc: Global, bytes: &[u8]) -> Result<Bson, TextError>
     ensures accepts { (t : Data) (v : model.Value) → IsTextOf bytes.now t → Means t v
         → IfErr result (λ e. e ≡ OutOfMemory) }
     ensures fault { IfErr result (λ e. IsTextFault bytes.now e) }
+    ensures comes_back { IfOk result (λ v. ComesBack (bson_view v)) }
 {
     read_bytes(alloc, bytes)
 }
