@@ -6,7 +6,7 @@ use Rattle.std.proofs.lemmas.Bool.Decides.{nat_tests}
 use Rattle.jiff.proofs.SpanFacts.{signed_arith}
 use Rattle.bson_datetime.specs.Rfc3339.{denoted, IsRfcMillis}
 use Rattle.bson_datetime.specs.Shown.{rfc}
-use Rattle.bson_datetime.proofs.GrammarLemmas.{denotes-names}
+use Rattle.bson_datetime.proofs.NamesLaws.{denotes-names}
 use Rattle.bson_datetime.proofs.RoundTrip.{denoted-rfc}
 use Rattle.serde_json.specs.Data.{Data}
 use Rattle.serde_json.specs.Data as tree

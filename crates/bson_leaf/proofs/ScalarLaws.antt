@@ -34,7 +34,7 @@ use Rattle.bson_leaf.specs.declared.wrapper.Wrapper.TheVariants.{Oid, Symbol, Re
 use Rattle.bson_leaf.proofs.InverseLemmas as inverse
 use Rattle.bson_leaf.proofs.IntText.{fits_true, int_of_some}
 use Rattle.bson_leaf.proofs.BinaryLaws.{binary_from, uuid_from, bytes_again, byte_again, subtype_byte-of}
-use Rattle.bson_datetime.proofs.GrammarLemmas.{denotes-names}
+use Rattle.bson_datetime.proofs.NamesLaws.{denotes-names}
 use Rattle.bson_scalar.proofs.HexLaws.{sized_to}
 use Rattle.bson_leaf.proofs.DateLaws.{date_from, recent_denoted}
 use Rattle.bson_leaf.proofs.DecimalLaws.{decimal_from, decimal_of-some, decimal_of-printed, canon-again}

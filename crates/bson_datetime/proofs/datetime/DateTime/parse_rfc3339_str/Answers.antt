@@ -1,6 +1,6 @@
 use Rattle.std.proofs.Common.{arith, sym, rules, to_z-of_z, FitsSigned, w64}
 use Rattle.std.proofs.lemmas.Grind.{common_steps}
-use Rattle.bson_datetime.proofs.GrammarLemmas.{denotes-names, denotes-none, names-one}
+use Rattle.bson_datetime.proofs.NamesLaws.{denotes-names, denotes-none, names-one}
 use Rattle.bson_datetime.proofs.RoundTrip.{denoted-rfc}
 use Rattle.bson_datetime.proofs.datetime.DateTime.parse_rfc3339_str.Goals as goal
 

@@ -3,7 +3,7 @@ use Rattle.jiff.proofs.SpanFacts.{signed_arith}
 use Rattle.jiff.proofs.Family.{civil_nanos_range}
 use Rattle.bson_datetime.proofs.RfcLemmas.{rfc-jiff}
 use Rattle.bson_datetime.proofs.ShownLemmas.{rfc-fields}
-use Rattle.bson_datetime.proofs.GrammarLemmas.{denotes-names}
+use Rattle.bson_datetime.proofs.NamesLaws.{denotes-names}
 use Rattle.bson_datetime.proofs.RoundTrip.{denoted-rfc}
 use Rattle.bson_datetime.proofs.MomentLemmas.{moment-negative, moment-natural, natural_year}
 use Rattle.bson_datetime.proofs.datetime.DateTime.try_to_rfc3339_string.Goals as goal
