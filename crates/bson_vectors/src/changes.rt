@@ -93,7 +93,9 @@ fn refused_nowhere_at_a_place(rt: HostRuntime) -> Result<(), Fail> {
                 *value = Bson::Int32(-1);
                 (key.len(), old)
             });
-            assert!(rt; matches!(old, Some((1, Some(number))) if number as usize == at + 1));
+            assert!(rt;
+                matches!(old, Some((1, Some(number))) if usize::try_from(number).ok() == Some(at + 1))
+            );
             assert!(rt; document != before);
             let back = document.change_index(at, |_, value| {
                 let was = value.as_i32();
@@ -184,13 +186,15 @@ fn refused_nowhere_in_all_values(rt: HostRuntime) -> Result<(), Fail> {
         let mut document = lettered(alloc, keys)?;
         let before = document.clone()?;
         let mut seen = 0i32;
+        let mut calls = 0usize;
         let mut in_order = true;
         document.change_values(|key, value| {
             seen = seen.wrapping_add(1);
+            calls = calls.wrapping_add(1);
             in_order = in_order && key.len() == 1 && value.as_i32() == Some(seen);
             *value = Bson::Int32(seen.wrapping_neg());
         });
-        assert!(rt; in_order && seen as usize == before.len());
+        assert!(rt; in_order && calls == before.len());
         assert!(rt; document.is_empty() || document != before);
         document.change_values(|_, value| {
             if let Bson::Int32(number) = value {
