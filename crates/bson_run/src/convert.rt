@@ -46,7 +46,7 @@ pub(crate) fn convert_whole(alloc: Global, mode: Mode, bytes: Vec<u8>) -> Result
 }
 
 /// The tree whose text the bytes are.
-fn parse(alloc: Global, bytes: &[u8]) -> Result<Value, Fault>
+pub(crate) fn parse(alloc: Global, bytes: &[u8]) -> Result<Value, Fault>
     ensures ok { IfOk result (λ tree. IsTextOf bytes.now (view tree)) }
     ensures not_json { result ≡ Err Fault.NotJson → IsNoText bytes.now }
     ensures fault { IfErr result (λ fault. (fault ≡ Fault.NotJson) ⊎ (fault ≡ Fault.OutOfMemory)) }
