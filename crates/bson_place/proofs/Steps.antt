@@ -71,7 +71,7 @@ carried {A} {B} p q t f way error is = record {
 
 -- the same place, seen from further out
 seen : {A B : Fault → List Turn → Type 0} (p : Place) → ((f : Fault) (way : List Turn) → A f way → B f way) → IsPlace A p → IsPlace B p
-seen p f is = record { fault = is.fault; way = f is.fault (way_of p) is.way; error = is.error; }
+seen p f is = record { fault = is.fault; way = f is.fault (way_of p) is.way; error = is.error }
 
 pub found_from : {V W : Type 0} {A B : Fault → List Turn → Type 0} (r : Result (Option Place) AllocError) → (V → W) → ((f : Fault) (way : List Turn) → A f way → B f way)
     → IfOk r (λ found. MatchOption found V (IsPlace A)) → IfOk r (λ found. MatchOption found W (IsPlace B))
@@ -90,7 +90,7 @@ pub record IsRest (n : ℕ) (rest all : Items) : Type 0 where
   pub fault : (f : Fault) (way : List Turn) → FaultAmong f n rest way → FaultAmong f 0 all way
 
 pub all_items : (all : Items) → IsRest 0 all all
-all_items all = record { value = λ h. h; fault = λ f way h. h; }
+all_items all = record { value = λ h. h; fault = λ f way h. h }
 
 pub one_less : (n : ℕ) (d : Data) (rest all : Items) → HasValue d → IsRest n (item d rest) all → IsRest (n + 1) rest all
 one_less n d rest all v is = record {
@@ -115,7 +115,7 @@ pub record IsRestOf (rest all : Members) : Type 0 where
   pub fault : (f : Fault) (way : List Turn) → FaultIn f rest way → FaultIn f all way
 
 pub all_members : (all : Members) → IsRestOf all all
-all_members all = record { value = λ h. h; fault = λ f way h. h; }
+all_members all = record { value = λ h. h; fault = λ f way h. h }
 
 pub member_less : (k : List ℕ) (d : Data) (rest all : Members) → HasValue d → IsRestOf (member k d rest) all → IsRestOf rest all
 member_less k d rest all v is = record {
@@ -141,7 +141,7 @@ lone_value k d x h e = (model.scalar x, wrapped (member k d no_members) h ∙ ap
 
 -- a place at a tree itself
 pub at_once : {A : Fault → List Turn → Type 0} (p : Place) → IsErrorOf bad p.error → way_of p ≡ [] → A bad [] → IsPlace A p
-at_once {A} p error way a = record { fault = bad; way = subst (A bad) (sym way) a; error = error; }
+at_once {A} p error way a = record { fault = bad; way = subst (A bad) (sym way) a; error = error }
 
 -- two keys that are not those of code and its scope
 not_open_by_keys : (k : List ℕ) (d : Data) (l : List ℕ) (e : Data) → (bytes_eq k (codes "$code") && bytes_eq l (codes "$scope")) ≡ false → IsOpen (member k d (member l e no_members)) → ⊥

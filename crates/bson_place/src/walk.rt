@@ -206,7 +206,11 @@ fn of_scope(alloc: Global, scope: Value, key: String) -> Result<Option<Place>, A
 }
 
 #[cycle(walk)]
-fn of_scope_map(alloc: Global, members: Map<String, Value>, key: String) -> Result<Option<Place>, AllocError>
+fn of_scope_map(
+    alloc: Global,
+    members: Map<String, Value>,
+    key: String,
+) -> Result<Option<Place>, AllocError>
     ensures { IfOk result (λ found. MatchOption found (HasScope (object (members_view members.entries))) (IsPlace (IsScopeFault (string_bytes key) (object (members_view members.entries))))) }
 {
     match of_members(alloc, members)? {

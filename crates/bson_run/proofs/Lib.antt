@@ -1,4 +1,5 @@
 mod Again
 mod Converting
+mod Explaining
 pub mod LinesLaws
 pub mod LinesRuns

@@ -3,13 +3,12 @@ use Rattle.std.proofs.Common.{◌≡◌, ◌≢◌, ◌<◌, ◌+◌, ℕ, List,
 use Rattle.std.proofs.Math.Seq.{drop-cons}
 use Rattle.std.proofs.lemmas.List.{take_rest}
 use Rattle.std.proofs.lemmas.List.Elements.{All-append, All-head, All-tail}
-use Rattle.bson_run.specs.Lines.{lines, onto_first, text_of, told_of, IsBlank, IsBadText, Writes, Outcomes, blank, written, passed_over, IsStopped, IsStoppedAt}
-use Rattle.bson_run.specs.LinesSteps.{IsOpen, IsJudged, HaveSameOutcomes, TakesLine, Progress, Takes, Ends, Reached, Stopped, StopsWithin, StopsLast}
+use Rattle.bson_run.specs.Lines.{lines, onto_first, text_of, Tells, IsBlank, IsBadText, Writes, Outcomes, blank, written, passed_over, IsStopped, IsStoppedAt}
+use Rattle.bson_run.specs.LinesSteps.{IsOpen, IsJudged, IsTold, HaveSameOutcomes, TakesLine, Progress, Takes, Ends, Reached, Stopped, StopsWithin, StopsLast}
 use Rattle.bson_run.specs.declared.fault.Fault.{Fault}
 use Rattle.bson_run.specs.declared.fault.Fault.TheVariants.{CannotRead, NotJson, BadObjectId, NotExtendedJson, OutOfMemory, CannotWrite}
 use Rattle.bson_run.specs.declared.gathered.Gathered.{Gathered}
 use Rattle.bson_run.specs.declared.order.OnRefusal.{OnRefusal}
-use Rattle.bson_run.specs.declared.order.OnRefusal.TheVariants.{KeepGoing}
 use Rattle.bson_run.specs.declared.order.Task.{Task}
 
 -- a newline ends what stands before it
@@ -103,13 +102,14 @@ module _ {task : Task} {on_refusal : OnRefusal} where
     outcomes = λ before output verdicts e p. rw (grown, told, refused, ← append_assoc output s.output.items more) (written s.line.items more p (subst (λ n. Writes task (text_of n s.line.items) more) e h));
   }
 
-  pub told_taken : (s t : Gathered) (fault : Fault) → t.line.items ≡ [] → t.lines ≡ s.lines + 1 → t.output.items ≡ s.output.items → t.told.items ≡ s.told.items ++ told_of (s.lines + 1) fault → t.refused ≡ s.refused + 1
-      → on_refusal ≡ KeepGoing → IsBadText fault (text_of s.lines s.line.items) → TakesLine task on_refusal s t
-  told_taken s t fault line number output grown refused goes h = record {
+  pub told_taken : (s t : Gathered) (fault : Fault) → t.line.items ≡ [] → t.lines ≡ s.lines + 1 → t.output.items ≡ s.output.items → t.refused ≡ s.refused + 1
+      → IsBadText fault (text_of s.lines s.line.items) → IsTold on_refusal (s.lines + 1) fault (text_of s.lines s.line.items) s.told.items t.told.items → TakesLine task on_refusal s t
+  told_taken s t fault line number output refused h told = record {
     line = line;
     lines = number;
     outcomes = λ before written verdicts e p.
-        rw (output, grown, refused, ← append_assoc verdicts s.told.items (told_of (s.lines + 1) fault), e) (passed_over s.line.items fault p goes (subst (λ n. IsBadText fault (text_of n s.line.items)) e h));
+        rw (output, told.2, refused, ← append_assoc verdicts s.told.items told.0)
+        (passed_over s.line.items fault told.0 p (subst (λ n. IsBadText fault (text_of n s.line.items)) e h) (subst (λ n. Tells on_refusal (n + 1) fault (text_of n s.line.items) told.0) e (told.1 h)));
   }
 
   -- ---- taking bytes

@@ -4,12 +4,13 @@ use Rattle.std.specs.Fmt.{decimal}
 use Rattle.std.specs.List.{starts_with}
 use Rattle.std.specs.Io.KnownBytes.{Appends, Consumes}
 use Rattle.bson_run.specs.Convert.{Converts, IsRefused, newline}
+use Rattle.bson_run.specs.Place.{IsWhere}
 use Rattle.bson_run.specs.Run.{ReadsAll, WritesBeginning}
 use Rattle.bson_run.specs.declared.fault.Fault.{Fault}
 use Rattle.bson_run.specs.declared.fault.Fault.TheVariants.{CannotRead, NotJson, BadObjectId, NotExtendedJson, OutOfMemory, CannotWrite}
 use Rattle.bson_run.specs.declared.mode.Mode.TheVariants.{Canonical}
 use Rattle.bson_run.specs.declared.order.OnRefusal.{OnRefusal}
-use Rattle.bson_run.specs.declared.order.OnRefusal.TheVariants.{Stop, KeepGoing}
+use Rattle.bson_run.specs.declared.order.OnRefusal.TheVariants.{Stop, KeepGoing, Explain}
 use Rattle.bson_run.specs.declared.order.Task.{Task}
 use Rattle.bson_run.specs.declared.order.Task.TheVariants.{Write, Check}
 
@@ -65,6 +66,16 @@ words_of CannotWrite = codes "cannot write"
 abbrev pub told_of : ℕ → Fault → List ℕ
 told_of number fault = codes "bson_lines: line " ++ decimal number ++ codes ": " ++ words_of fault ++ newline
 
+-- the same with the place of the fault
+abbrev pub told_at : ℕ → Fault → List ℕ → List ℕ
+told_at number fault place = codes "bson_lines: line " ++ decimal number ++ codes ": " ++ words_of fault ++ place ++ newline
+
+-- what is told of a refused line where the run goes on
+abbrev pub Tells : OnRefusal → ℕ → Fault → List ℕ → List ℕ → Type 0
+Tells Stop number fault text told = ⊥
+Tells KeepGoing number fault text told = told ≡ told_of number fault
+Tells Explain number fault text told = (place : List ℕ) × IsWhere fault text place × (told ≡ told_at number fault place)
+
 -- ---- what lines give, one after the other
 
 -- these lines give this output, what is told of them is this, and so many of them were refused
@@ -72,7 +83,8 @@ pub data Outcomes (task : Task) (on_refusal : OnRefusal) : List (List ℕ) → L
   none : Outcomes task on_refusal [] [] [] 0
   blank : {before : List (List ℕ)} {output told : List ℕ} {refused : ℕ} (line : List ℕ) → Outcomes task on_refusal before output told refused → IsBlank (text_of (length before) line) → Outcomes task on_refusal (before ++ line ∷ []) output told refused
   written : {before : List (List ℕ)} {output told : List ℕ} {refused : ℕ} (line more : List ℕ) → Outcomes task on_refusal before output told refused → Writes task (text_of (length before) line) more → Outcomes task on_refusal (before ++ line ∷ []) (output ++ more) told refused
-  passed_over : {before : List (List ℕ)} {output told : List ℕ} {refused : ℕ} (line : List ℕ) (fault : Fault) → Outcomes task on_refusal before output told refused → on_refusal ≡ KeepGoing → IsBadText fault (text_of (length before) line) → Outcomes task on_refusal (before ++ line ∷ []) output (told ++ told_of (length before + 1) fault) (refused + 1)
+  passed_over : {before : List (List ℕ)} {output told : List ℕ} {refused : ℕ} (line : List ℕ) (fault : Fault) (more : List ℕ) → Outcomes task on_refusal before output told refused → IsBadText fault (text_of (length before) line)
+      → Tells on_refusal (length before + 1) fault (text_of (length before) line) more → Outcomes task on_refusal (before ++ line ∷ []) output (told ++ more) (refused + 1)
 
 -- ---- a run
 

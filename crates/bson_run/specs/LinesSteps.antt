@@ -1,7 +1,7 @@
 -- For private clauses: how far a run over lines has come.
 use Rattle.std.specs.Prelude.{◌≡◌, ◌≢◌, ◌<◌, ◌≤◌, ◌+◌, ◌-◌, ◌^◌, ℕ, List, [], ◌∷◌, ◌++◌, Option, length, All}
 use Rattle.std.specs.Io.KnownBytes.{Appends, Consumes}
-use Rattle.bson_run.specs.Lines.{lines, Outcomes, IsBadText, IsStoppedAt}
+use Rattle.bson_run.specs.Lines.{lines, Outcomes, IsBadText, IsStoppedAt, Tells}
 use Rattle.bson_run.specs.declared.fault.Fault.{Fault}
 use Rattle.bson_run.specs.declared.fault.Fault.TheVariants.{OutOfMemory}
 use Rattle.bson_run.specs.declared.gathered.Gathered.{Gathered}
@@ -21,6 +21,10 @@ pub record HasRoom (s : Gathered) : Type 0 where
 abbrev pub IsJudged : Fault → List ℕ → Type 0
 IsJudged OutOfMemory text = Unit {0}
 IsJudged fault text = IsBadText fault text
+
+-- the verdict on a text was added to what was told
+abbrev pub IsTold : OnRefusal → ℕ → Fault → List ℕ → List ℕ → List ℕ → Type 0
+IsTold on_refusal number fault text before after = (more : List ℕ) × (IsBadText fault text → Tells on_refusal number fault text more) × (after ≡ before ++ more)
 
 -- nothing was gathered
 pub record IsStart (s : Gathered) : Type 0 where

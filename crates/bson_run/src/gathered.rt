@@ -1,11 +1,12 @@
 //! The line that is being gathered, and what the lines before it gave.
 ghost use Rattle.std.specs.Prelude.{◌≡◌, ◌⊎◌, ◌++◌, ◌+◌, [], ◌∷◌, ℕ, List, length, IfOk, IfErr, OnOk, OnErr, None, Ok, IsTrue, ◌↔◌, codes, string_bytes, MatchOption, MatchResult, IfSome, All, ◌≢◌, ◌<◌, take, slice_index};
-ghost use Rattle.bson_run.specs.Lines.{IsBlank, IsBadText, IsStopped, Outcomes, Writes, told_of, words_of, text_of};
-ghost use Rattle.bson_run.specs.LinesSteps.{Ends, HasRoom, HaveSameOutcomes, IsJudged, IsOpen, IsStart, StopsLast, StopsWithin, Takes, TakesLine};
-ghost use Rattle.bson_run.specs.declared.order.OnRefusal.TheVariants.{Stop, KeepGoing};
+ghost use Rattle.bson_run.specs.Lines.{IsBlank, IsBadText, IsStopped, Outcomes, Tells, Writes, told_at, told_of, words_of, text_of};
+ghost use Rattle.bson_run.specs.LinesSteps.{Ends, HasRoom, HaveSameOutcomes, IsJudged, IsOpen, IsStart, IsTold, StopsLast, StopsWithin, Takes, TakesLine};
+ghost use Rattle.bson_run.specs.declared.order.OnRefusal.TheVariants.{Stop, Explain};
 ghost use Rattle.bson_run.specs.Words.{line_of};
 
 use crate::convert::convert;
+use crate::explain::explain;
 use crate::fault::Fault;
 use crate::line_fault::LineFault;
 use crate::mode::Mode;
@@ -86,11 +87,50 @@ pub fn words(fault: Fault) -> &'static str
 }
 
 /// What is told of a line that is refused.
-fn verdict(alloc: Global, number: u64, fault: Fault) -> Result<String, AllocError>
+fn verdict(
+    alloc: Global,
+    on_refusal: OnRefusal,
+    number: u64,
+    fault: Fault,
+    text: &[u8],
+) -> Result<String, AllocError>
+    requires { on_refusal ≢ Stop }
+    ensures { IfOk result (λ told. IsBadText fault text.now → Tells on_refusal number fault text.now (string_bytes told)) }
+{
+    match on_refusal {
+        OnRefusal::Stop => unreachable!(),
+        OnRefusal::KeepGoing => bare_verdict(alloc, number, fault),
+        OnRefusal::Explain => placed_verdict(alloc, number, fault, text),
+    }
+}
+
+/// The number of the line, and the words for the fault.
+fn bare_verdict(alloc: Global, number: u64, fault: Fault) -> Result<String, AllocError>
     ensures { IfOk result (λ told. string_bytes told ≡ told_of number fault) }
 {
     let words = words(fault);
     format!(in alloc; "bson_lines: line {number}: {words}\n")
+}
+
+/// The same, and the place of the fault.
+fn placed_verdict(
+    alloc: Global,
+    number: u64,
+    fault: Fault,
+    text: &[u8],
+) -> Result<String, AllocError>
+    ensures { IfOk result (λ told. IsBadText fault text.now → Tells Explain number fault text.now (string_bytes told)) }
+{
+    let place = explain(alloc, fault, text)?;
+    at_place(alloc, number, fault, &place)
+}
+
+/// The number of the line, the words for the fault, and its place.
+fn at_place(alloc: Global, number: u64, fault: Fault, place: &str) -> Result<String, AllocError>
+    ensures { IfOk result (λ told. string_bytes told ≡ told_at number fault place.now) }
+{
+    let words = words(fault);
+    format!(in alloc; "bson_lines: line {number}: {words}{place}\n")
 }
 
 impl Gathered {
@@ -182,7 +222,7 @@ impl Gathered {
         fault: Fault,
     ) -> Result<(), LineFault>
         requires room { HasRoom self.old }
-        ensures ok { OnOk result ((on_refusal ≡ KeepGoing) × (fault ≢ Fault.OutOfMemory) × (self.new.told.items ≡ self.old.told.items ++ told_of (self.old.lines + 1) fault) × (self.new.refused ≡ self.old.refused + 1)) }
+        ensures ok { OnOk result ((fault ≢ Fault.OutOfMemory) × (self.new.refused ≡ self.old.refused + 1) × IsTold on_refusal (self.old.lines + 1) fault (text_of self.old.lines self.old.line.items) self.old.told.items self.new.told.items) }
         ensures err { OnErr result ((self.new.told.items ≡ self.old.told.items) × (self.new.refused ≡ self.old.refused)) }
         ensures same { (self.new.line ≡ self.old.line) × (self.new.output ≡ self.old.output) × (self.new.lines ≡ self.old.lines) }
         ensures fault { IfErr result (λ e. ((e.fault ≡ Fault.OutOfMemory) ⊎ ((on_refusal ≡ Stop) × (e.fault ≡ fault))) × (e.line ≡ self.old.lines + 1)) }
@@ -190,7 +230,7 @@ impl Gathered {
         if fault == Fault::OutOfMemory || on_refusal == OnRefusal::Stop {
             return Err(self.stopped(fault));
         }
-        match self.tell(alloc, fault) {
+        match self.tell(alloc, on_refusal, fault) {
             Ok(()) => {}
             Err(_) => return Err(self.stopped(Fault::OutOfMemory)),
         }
@@ -199,13 +239,21 @@ impl Gathered {
     }
 
     /// Adds the verdict on the line.
-    fn tell(&mut self, alloc: Global, fault: Fault) -> Result<(), AllocError>
+    fn tell(&mut self, alloc: Global, on_refusal: OnRefusal, fault: Fault) -> Result<(), AllocError>
         requires room { HasRoom self.old }
-        ensures ok { OnOk result (self.new.told.items ≡ self.old.told.items ++ told_of (self.old.lines + 1) fault) }
+        requires goes { on_refusal ≢ Stop }
+        ensures ok { OnOk result (IsTold on_refusal (self.old.lines + 1) fault (text_of self.old.lines self.old.line.items) self.old.told.items self.new.told.items) }
         ensures err { OnErr result (self.new.told.items ≡ self.old.told.items) }
         ensures same { (self.new.line ≡ self.old.line) × (self.new.output ≡ self.old.output) × (self.new.lines ≡ self.old.lines) × (self.new.refused ≡ self.old.refused) }
     {
-        let verdict = verdict(alloc, self.lines + 1, fault)?;
+        let number = self.lines + 1;
+        let verdict = verdict(
+            alloc,
+            on_refusal,
+            number,
+            fault,
+            text(self.lines, &self.line),
+        )?;
         self.told.extend_from_slice(verdict.as_bytes())
     }
 

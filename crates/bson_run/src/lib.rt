@@ -8,6 +8,7 @@
 #![tactic(auto)]
 
 pub mod convert;
+pub mod explain;
 pub mod fault;
 mod gathered;
 pub mod line_fault;

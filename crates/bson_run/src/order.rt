@@ -17,4 +17,6 @@ pub enum OnRefusal {
     Stop,
     /// The line is told and left out, and the run goes on.
     KeepGoing,
+    /// The same, and the place of the fault in the line is told too.
+    Explain,
 }

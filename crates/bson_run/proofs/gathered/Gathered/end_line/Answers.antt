@@ -1,6 +1,6 @@
-use Rattle.std.proofs.Common.{◌≡◌, ℕ, Vec, Global, IfSome, ◌+◌, ◌++◌, Ok, ap, ◌∙◌, subst}
+use Rattle.std.proofs.Common.{◌≡◌, ℕ, Vec, Global, IfSome, ◌+◌, ◌++◌, Ok, ap, sym, ◌∙◌, subst}
 use Rattle.bson_run.specs.Lines.{text_of, IsBlank, Writes}
-use Rattle.bson_run.specs.LinesSteps.{IsJudged}
+use Rattle.bson_run.specs.LinesSteps.{IsJudged, IsTold}
 use Rattle.bson_run.specs.declared.gathered.Gathered.{Gathered}
 use Rattle.bson_run.proofs.LinesLaws.{blank_taken, written_taken, told_taken, judged_bad}
 use Rattle.bson_run.proofs.gathered.Gathered.end_line.Goals as goal
@@ -27,8 +27,7 @@ returns-clause-ok c =
           told_taken self _ w.in-Err.fault c.clear.ensures.items
           (ap (λ (s : Gathered). s.lines + 1) w.self-is ∙ ap (λ n. n + 1) refused.same.2)
           (ap (λ (s : Gathered). s.output.items) w.self-is ∙ ap (λ v. v.items) refused.same.1)
-          (ap (λ (s : Gathered). s.told.items) w.self-is ∙ refused.ok.2)
-          (ap (λ (s : Gathered). s.refused) w.self-is ∙ refused.ok.3)
-          refused.ok.0
-          (judged_bad w.in-Err.fault _ (subst (IsJudged w.in-Err.fault) text w.in-Err.ensures.fault) refused.ok.1)
+          (ap (λ (s : Gathered). s.refused) w.self-is ∙ refused.ok.1)
+          (judged_bad w.in-Err.fault _ (subst (IsJudged w.in-Err.fault) text w.in-Err.ensures.fault) refused.ok.0)
+          (subst (IsTold c.args.on_refusal (self.lines + 1) w.in-Err.fault (text_of self.lines self.line.items) self.told.items) (sym (ap (λ (s : Gathered). s.told.items) w.self-is)) refused.ok.2)
     ]

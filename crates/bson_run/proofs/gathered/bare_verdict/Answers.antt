@@ -1,7 +1,7 @@
 use Rattle.std.proofs.Common.{◌≡◌, ◌++◌, IfOk, string_bytes, append_assoc, codes, subst}
 use Rattle.std.specs.Fmt.{decimal}
 use Rattle.bson_run.specs.Convert.{newline}
-use Rattle.bson_run.proofs.gathered.verdict.Goals as goal
+use Rattle.bson_run.proofs.gathered.bare_verdict.Goals as goal
 
 pub returns : goal.returns
 returns c =

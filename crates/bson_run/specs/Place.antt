@@ -1,0 +1,39 @@
+-- Where the fault of a refused text lies, in words.
+use Rattle.std.specs.Prelude.{◌≡◌, ℕ, List, [], ◌∷◌, ◌++◌, codes}
+use Rattle.std.specs.Fmt.{decimal}
+use Rattle.serde_json.specs.Data.{Data}
+use Rattle.bson_leaf.specs.Faults.{Fault as TreeFault}
+use Rattle.bson_place.specs.Place.{Turn, FaultAt, dotted}
+use Rattle.bson_text.specs.Text.{IsTextOf}
+use Rattle.bson_run.specs.declared.fault.Fault.{Fault}
+use Rattle.bson_run.specs.declared.fault.Fault.TheVariants.{CannotRead, NotJson, BadObjectId, NotExtendedJson, OutOfMemory, CannotWrite}
+
+-- a path that has no word is left out
+abbrev pub at_path : List ℕ → List ℕ
+at_path [] = []
+at_path (x ∷ xs) = codes " at " ++ x ∷ xs
+
+-- the way, and a message
+abbrev pub IsShown : List Turn → List ℕ → Type 0
+IsShown way words = (message : List ℕ) × (words ≡ at_path (dotted way) ++ codes " (" ++ message ++ codes ")")
+
+-- the way to the first fault of the text's tree
+pub record IsPlaced (text words : List ℕ) : Type 0 where
+  pub tree : Data
+  pub fault : TreeFault
+  pub way : List Turn
+  pub is_text : IsTextOf text tree
+  pub lies : FaultAt fault tree way
+  pub shown : IsShown way words
+
+-- a column; which one no contract says
+abbrev pub IsColumn : List ℕ → Type 0
+IsColumn words = (n : ℕ) × (words ≡ codes " at column " ++ decimal n)
+
+abbrev pub IsWhere : Fault → List ℕ → List ℕ → Type 0
+IsWhere CannotRead text words = words ≡ []
+IsWhere NotJson text words = IsColumn words
+IsWhere BadObjectId text words = IsPlaced text words
+IsWhere NotExtendedJson text words = IsPlaced text words
+IsWhere OutOfMemory text words = words ≡ []
+IsWhere CannotWrite text words = words ≡ []

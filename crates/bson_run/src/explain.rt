@@ -1,0 +1,84 @@
+//! Where the fault of a refused text lies, in words.
+ghost use Rattle.std.specs.Prelude.{◌≡◌, ◌⊎◌, Err, IfOk, IfErr, string_bytes};
+ghost use Rattle.serde_json.specs.Data.{Data};
+ghost use Rattle.serde_json.specs.View.{view};
+ghost use Rattle.bson_model.specs.Fault.{MeansNothing};
+ghost use Rattle.bson_place.specs.Place.{way_of};
+ghost use Rattle.bson_run.specs.Lines.{IsBadText};
+ghost use Rattle.bson_run.specs.Place.{IsColumn, IsPlaced, IsShown, IsWhere};
+ghost use Rattle.bson_text.specs.Text.{IsTextOf, IsNoText};
+
+use crate::fault::Fault;
+use bson_place::place::Place;
+use bson_place::walk::place_of_fault;
+use serde_json::Value;
+use std::alloc::{AllocError, Global};
+
+/// Where the fault of a refused text lies, to be put behind the words for it; empty for a fault that no text has.
+///
+/// For `NotJson` it is ` at column N`, the column of the byte at which `serde_json` stopped, counted from 1. For the
+/// others it is ` at orders.3._id.$oid (MESSAGE)`: the way to the first fault, its keys as they are and places in lists
+/// counted from 0, and what is wrong there; with the message alone where the fault is that of the whole text.
+pub fn explain(alloc: Global, fault: Fault, text: &[u8]) -> Result<String, AllocError>
+    ensures { IfOk result (λ place. IsBadText fault text.now → IsWhere fault text.now (string_bytes place)) }
+{
+    match fault {
+        Fault::NotJson => column(alloc, text),
+        Fault::BadObjectId => path(alloc, text),
+        Fault::NotExtendedJson => path(alloc, text),
+        _ => Ok(String::new(alloc)),
+    }
+}
+
+/// The column at which a text is no JSON.
+fn column(alloc: Global, text: &[u8]) -> Result<String, AllocError>
+    ensures { IfOk result (λ place. IsNoText text.now → IsColumn (string_bytes place)) }
+{
+    match Value::from_slice(alloc, text) {
+        Ok(_) => Ok(String::new(alloc)),
+        Err(error) if error.is_memory() => Err(AllocError),
+        Err(error) => {
+            let column = error.column();
+            format!(in alloc; " at column {column}")
+        }
+    }
+}
+
+/// The tree whose text the bytes are.
+fn parse(alloc: Global, bytes: &[u8]) -> Result<Value, Fault>
+    ensures ok { IfOk result (λ tree. IsTextOf bytes.now (view tree)) }
+    ensures not_json { result ≡ Err Fault.NotJson → IsNoText bytes.now }
+    ensures fault { IfErr result (λ fault. (fault ≡ Fault.NotJson) ⊎ (fault ≡ Fault.OutOfMemory)) }
+{
+    match Value::from_slice(alloc, bytes) {
+        Ok(tree) => Ok(tree),
+        Err(error) if error.is_memory() => Err(Fault::OutOfMemory),
+        Err(_) => Err(Fault::NotJson),
+    }
+}
+
+/// The way to the first fault of a text's tree.
+fn path(alloc: Global, text: &[u8]) -> Result<String, AllocError>
+    ensures { IfOk result (λ place. (tree : Data) → IsTextOf text.now tree → MeansNothing tree → IsPlaced text.now (string_bytes place)) }
+{
+    let Ok(tree) = parse(alloc, text) else {
+        // (a text that has a tree is refused for want of memory alone)
+        return Err(AllocError);
+    };
+    match place_of_fault(alloc, tree)? {
+        None => Ok(String::new(alloc)),
+        Some(place) => shown(alloc, &place),
+    }
+}
+
+/// The words for a place.
+fn shown(alloc: Global, place: &Place) -> Result<String, AllocError>
+    ensures { IfOk result (λ words. IsShown (way_of place.now) (string_bytes words)) }
+{
+    let path = place.path(alloc)?;
+    let message = format!(in alloc; "{}", place.error)?;
+    if path.is_empty() {
+        return format!(in alloc; " ({message})");
+    }
+    format!(in alloc; " at {path} ({message})")
+}
