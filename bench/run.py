@@ -29,6 +29,19 @@ def wide_member(rng, i):
     return '"key%07d":{"$numberLong":"%d"}' % (i, rng.randrange(-10**18, 10**18))
 
 
+def random_member(rng, i):
+    # A step that shares no factor with the prime gives each key once.
+    return '"key%07d":{"$numberLong":"%d"}' % (i * 7_654_321 % 9_999_991, rng.randrange(-10**18, 10**18))
+
+
+def descending_member(rng, i):
+    return '"key%07d":{"$numberLong":"%d"}' % (9_999_999 - i, rng.randrange(-10**18, 10**18))
+
+
+def code_with_scope(rng, i):
+    return '{"$code":"function() { return x; }","$scope":{"x":%d,"b":{"a":[1,{"c":%d}]}}}' % (rng.randrange(10**6), i)
+
+
 def deep_value(rng, i):
     depth = rng.randrange(1, 60)
     return '{"a":[' * depth + '{"$numberInt":"%d"}' % rng.randrange(10**6) + "]}" * depth
@@ -59,6 +72,8 @@ def large_binary(rng, i):
 
 
 KINDS = [("small documents", small_document, "[", "]"), ("one wide object", wide_member, "{", "}"),
+         ("wide, keys in random order", random_member, "{", "}"),
+         ("wide, keys descending", descending_member, "{", "}"), ("code with scope", code_with_scope, "[", "]"),
          ("deep and mixed", deep_value, "[", "]"), ("decimals", decimal, "[", "]"), ("dates", date, "[", "]"),
          ("binaries", binary, "[", "]"), ("binaries of 10 MB", large_binary, "[", "]")]
 
