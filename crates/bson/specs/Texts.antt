@@ -1,11 +1,11 @@
--- Texts of values, which are written with no tree of the whole.
+-- Texts of values, which are written with no tree.
 use Rattle.std.specs.Prelude.{◌≡◌, ℕ, suc, [], ◌∷◌, ◌++◌, codes, List, Result, Ok, Err, Some, String, string_bytes, slice_get}
 use Rattle.std.specs.declared.alloc.Global.{Global}
 use Rattle.std.specs.declared.cmp.Ordering.TheVariants.{Less}
 use Rattle.json.specs.Token.{Token, begin_object, key, string}
-use Rattle.json.specs.Tree.{json_tokens}
 use Rattle.serde_json.specs.Data.{Data, Members, no_members, member}
-use Rattle.serde_json.specs.Written.{outline, compact_text}
+use Rattle.serde_json.specs.Written.{compact_text}
+pub use Rattle.bson_leaf.specs.Tokens.{tokens_of}
 use Rattle.bson_leaf.specs.Written.{Refusal, Stops, ◌>>=◌}
 use Rattle.bson_leaf.specs.declared.form.Form.{Form}
 use Rattle.bson_leaf.specs.declared.write_error.WriteError.{WriteError}
@@ -22,10 +22,6 @@ pub record IsTextIn (f : Form) (v : Value) (text : List ℕ) : Type 0 where
   pub compact : text ≡ compact_text tree
 
 -- ---- for private clauses
-
--- the tokens of a tree that has no float
-abbrev pub tokens_of : Data → List Token
-tokens_of t = json_tokens (outline t)
 
 -- what stands before the scope of a code
 abbrev pub code_tokens : List ℕ → List Token

@@ -4,7 +4,6 @@ pub(crate) mod leaf;
 mod read;
 mod ser;
 mod text;
-mod tokens;
 mod write;
 
 pub use bson_leaf::write_error::WriteError;

@@ -91,7 +91,7 @@ pub fn read_uuid(alloc: Global, value: Value) -> Result<Leaf, Error>
     Ok(Leaf::Binary(Binary::from_uuid(alloc, id)?))
 }
 
-fn byte_text(alloc: Global, subtype: BinarySubtype) -> Result<String, AllocError>
+pub(crate) fn byte_text(alloc: Global, subtype: BinarySubtype) -> Result<String, AllocError>
     ensures text { IfOk result (λ s. string_bytes s ≡ encode_lower (subtype_byte subtype ∷ [])) }
     ensures ranged { OnOk result (subtype_byte subtype < 256) }
 {

@@ -23,7 +23,7 @@ use std::alloc::{AllocError, Global};
 const SHAPE: &str = "`$date` holds `$numberLong`, an RFC 3339 text or a whole number";
 
 // The last millisecond of the year 9999.
-const LAST_RELAXED: i64 = 253_402_300_799_999;
+pub(crate) const LAST_RELAXED: i64 = 253_402_300_799_999;
 
 fn denoted_by(text: &str) -> Option<DateTime>
     ensures { result ≡ denoted text.now }
@@ -64,7 +64,7 @@ fn wrapped_date(alloc: Global, date: DateTime) -> Result<Value, AllocError>
     wrapped(alloc, "$date", millis)
 }
 
-fn text(alloc: Global, date: DateTime) -> Result<String, AllocError>
+pub(crate) fn text(alloc: Global, date: DateTime) -> Result<String, AllocError>
     requires from { pos 0 ≤ℤ date }
     requires to { date ≤ℤ pos 253_402_300_799_999 }
     ensures { IfOk result (λ s. string_bytes s ≡ rfc date) }

@@ -47,7 +47,7 @@ pub fn read_double(value: Value) -> Result<Leaf, Error>
     Ok(Leaf::Double(pattern))
 }
 
-fn double_text(pattern: u64) -> Option<&'static str>
+pub(crate) fn double_text(pattern: u64) -> Option<&'static str>
     ensures { option_map (λ s. s.now) result ≡ spec.double_text pattern }
 {
     if pattern == 0 {

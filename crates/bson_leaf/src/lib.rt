@@ -5,7 +5,8 @@
 //! In reading order: `leaf` (a scalar value), `form` (the two forms), `wrapper` (the table of
 //! wrapper keys), `error` and `write_error`; `shapes` (a text, an object of one key or two); a
 //! module for the wrappers of each subject, `ints`, `doubles`, `decimals`, `texts`, `regexes`,
-//! `ids`, `timestamps`, `dates`, `binaries`, `lone`; `read` and `write` over all of them; `laws`.
+//! `ids`, `timestamps`, `dates`, `binaries`, `lone`; `read` and `write` over all of them; `tokens`, which
+//! writes the same trees as text; `laws`.
 #![tactic(auto)]
 
 pub mod binaries;
@@ -24,6 +25,7 @@ pub mod regexes;
 pub mod shapes;
 pub mod texts;
 pub mod timestamps;
+pub mod tokens;
 pub mod wrapper;
 pub mod write;
 pub mod write_error;

@@ -61,7 +61,7 @@ impl Bson {
     }
 
     /// The compact text of the canonical tree of the value, as [`Bson::into_canonical_extjson`] makes it and
-    /// `serde_json` writes it. It is written straight from the value, with no tree of the whole.
+    /// `serde_json` writes it. It is written straight from the value, with no tree.
     ///
     /// A value that holds a finite double other than zero, at any depth, is refused as `FiniteDouble`, and want of
     /// memory is `OutOfMemory`.
@@ -85,7 +85,7 @@ impl Bson {
     }
 
     /// The compact text of the relaxed tree of the value, as [`Bson::into_relaxed_extjson`] makes it and
-    /// `serde_json` writes it. It is written straight from the value, with no tree of the whole.
+    /// `serde_json` writes it. It is written straight from the value, with no tree.
     ///
     /// A value that holds a finite double other than zero, at any depth, is refused as `FiniteDouble`, and want of
     /// memory is `OutOfMemory`.

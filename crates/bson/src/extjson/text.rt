@@ -1,4 +1,4 @@
-//! The text of a value in both forms, written with no tree of the whole.
+//! The text of a value in both forms, written with no tree.
 ghost use Rattle.std.specs.Prelude.{◌≡◌, ◌++◌, OnOk, true};
 ghost use Rattle.serde_json.specs.Data.{array, object};
 ghost use Rattle.bson_model.specs.Writing.{writes, writes_items, writes_pairs, InRange, ItemsInRange, PairsInRange};
@@ -9,9 +9,9 @@ ghost use Rattle.bson.specs.View.{bson_view, scoped_view, values_view, pairs_vie
 
 use crate::bson::{Bson, JavaScriptCodeWithScope};
 use crate::document::Document;
-use crate::extjson::tokens::{put_int32, put_int64, put_object_id, put_tree};
-use crate::extjson::write::write;
+use crate::scalar::scalar_ref;
 use bson_leaf::form::Form;
+use bson_leaf::tokens::{put_binary, put_leaf};
 use bson_leaf::write_error::WriteError;
 use bson_store::{PairStore, SmallPairs};
 use json::Writer;
@@ -40,10 +40,8 @@ fn print(alloc: Global, form: Form, value: &Bson, out: &mut Writer) -> Result<()
         Bson::Document(document) => print_document(alloc, form, document, out),
         Bson::JavaScriptCodeWithScope(scoped) => print_scoped(alloc, form, scoped, out),
         Bson::String(text) => Ok(out.string(text.as_str())?),
-        Bson::Int32(z) => Ok(put_int32(form, *z, out)?),
-        Bson::Int64(z) => Ok(put_int64(form, *z, out)?),
-        Bson::ObjectId(id) => Ok(put_object_id(alloc, *id, out)?),
-        value => print_tree(alloc, form, value, out),
+        Bson::Binary(binary) => Ok(put_binary(alloc, binary, out)?),
+        value => put_leaf(alloc, form, &scalar_ref(value).to_owned(alloc)?, out),
     }
 }
 
@@ -139,16 +137,6 @@ fn print_by_key(
         last = Some(key);
     }
     Ok(out.end_object()?)
-}
-
-// A value by a tree of its own, made of a copy.
-fn print_tree(alloc: Global, form: Form, value: &Bson, out: &mut Writer) -> Result<(), WriteError>
-    ensures printed { Prints (λ t. t) result (writes form (bson_view value.now)) out.old.tokens out.new.tokens }
-    ensures before { out.new.before ≡ out.old.before }
-    ensures ranged { OnOk result (InRange (bson_view value.now)) }
-{
-    let tree = write(alloc, form, value.clone(alloc)?)?;
-    Ok(put_tree(&tree, out)?)
 }
 
 // What stands before the scope.

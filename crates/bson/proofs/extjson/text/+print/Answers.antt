@@ -5,13 +5,13 @@ use Rattle.json.specs.Token.{begin_array, begin_object, key}
 use Rattle.json.specs.Tree.{items_tokens, members_tokens}
 use Rattle.serde_json.specs.Data.{object, string, no_items, no_members}
 use Rattle.serde_json.specs.Written.{items_outline, members_outline}
-use Rattle.bson_leaf.specs.Ids.{oid_tree}
 use Rattle.bson_leaf.specs.Written.{Stops}
 use Rattle.bson_store.specs.Order.{in_order, key_cmp, is_above}
 use Rattle.bson_store.proofs.Distinct.{drop-at}
 use Rattle.bson_store.proofs.Least.{least_none}
 use Rattle.bson_store.proofs.Turns.{pair_of, next_pair, where_key-all}
-use Rattle.bson_leaf.specs.Scalar.{text, object_id}
+use Rattle.bson_leaf.specs.Binaries.{binary_tree}
+use Rattle.bson_leaf.specs.Scalar.{text, binary}
 use Rattle.bson_model.specs.Value.{scalar, code_scope}
 use Rattle.bson_model.specs.Writing.{writes, writes_items, PairsInRange}
 use Rattle.bson.specs.Texts.{Prints, code_tokens, writes_in_order}
@@ -37,12 +37,12 @@ print-returns-in_ok-string-in-String-clause-printed t c =
     let written = ap (λ v. writes f (bson_view v)) c.in-String.is ∙ ap (writes f) seen ∙ ap (λ r. Ok (string r)) (sym c.as_str.ensures.value) in
     (string c.as_str.result.now, written, c.in_ok-string-in-String.ensures.ok)
 
-pub print-returns-in_ok-put_object_id-in-ObjectId-clause-printed : goal.print-returns-in_ok-put_object_id-in-ObjectId-clause-printed
-print-returns-in_ok-put_object_id-in-ObjectId-clause-printed t c =
+pub print-returns-in_ok-put_binary-in-Binary-clause-printed : goal.print-returns-in_ok-put_binary-in-Binary-clause-printed
+print-returns-in_ok-put_binary-in-Binary-clause-printed t c =
     let f = c.args.form in
-    let id = c.in-ObjectId.id in
-    let seen : bson_view (bson_form.ObjectId id) ≡ scalar (object_id id) = search (rules, bson_form.the_lemmas) in
-    (oid_tree id, ap (λ v. writes f (bson_view v)) c.in-ObjectId.is ∙ ap (writes f) seen, c.in_ok-put_object_id-in-ObjectId.ensures.put)
+    let b = c.in-Binary.binary in
+    let seen : bson_view (bson_form.Binary b) ≡ scalar (binary b.subtype b.bytes.items) = search (rules, bson_form.the_lemmas) in
+    (binary_tree b.subtype b.bytes.items, ap (λ v. writes f (bson_view v)) c.in-Binary.is ∙ ap (writes f) seen, c.in_ok-put_binary-in-Binary.ensures.put)
 
 pub print_items-returns-clause-printed : goal.print_items-returns-clause-printed
 print_items-returns-clause-printed t c =

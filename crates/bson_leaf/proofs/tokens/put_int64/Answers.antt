@@ -1,7 +1,7 @@
 use Rattle.std.proofs.Common.{◌≡◌, ◌++◌, OnOk, to_z-of_z, w64, subst}
 use Rattle.bson_leaf.specs.Ints.{int64_tree}
-use Rattle.bson.specs.Texts.{tokens_of}
-use Rattle.bson.proofs.extjson.tokens.put_int64.Goals as goal
+use Rattle.bson_leaf.specs.Tokens.{tokens_of}
+use Rattle.bson_leaf.proofs.tokens.put_int64.Goals as goal
 
 pub returns-in-Canonical-clause-put : goal.returns-in-Canonical-clause-put
 returns-in-Canonical-clause-put c =
