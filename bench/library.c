@@ -16,8 +16,8 @@
 #include <vbson.h>
 #endif
 
-static const char small[] = "{\"_id\":{\"$oid\":\"53e37d08776f724e42000000\"},\"n\":-12345,\"name\":\"xxxxxxxx\",\"ok\":true,"
-                            "\"tags\":[\"a\",\"b\",\"c\"]}";
+static const char small[] = "{\"_id\":{\"$oid\":\"53e37d08776f724e42000000\"},\"n\":-12345,\"name\":\"xxxxxxxx\","
+                            "\"ok\":true,\"tags\":[\"a\",\"b\",\"c\"]}";
 
 static double now(void) {
     struct timespec it;

@@ -5,8 +5,8 @@
  * other status all that it was handed is as it was, except that VBSON_NO_ROOM sets *len.
  *
  * What a caller owes, on every call; nothing checks it:
- *   - A pointer and a length that stand for bytes: the bytes can be read (written, where not const) for the whole of the
- *     call, they are at most PTRDIFF_MAX, and the pointer is not null, not even for no bytes.
+ *   - A pointer and a length that stand for bytes: the bytes can be read (written, where not const) for the whole of
+ *     the call, they are at most PTRDIFF_MAX, and the pointer is not null, not even for no bytes.
  *   - Any other pointer is not null, is aligned for its type, and points to a valid value of it, also where the call
  *     writes it: begin with VBSON_TEXT_NONE, a number, or an array that was filled.
  *   - What a call may write overlaps nothing else that the call is handed.
@@ -75,8 +75,8 @@ enum vbson_mode {
     VBSON_SHOW = 2       /* the value for people to read; no JSON */
 };
 
-/* A text in a block of its own: len bytes, and a NUL behind them, so that it is a C string too (which ends earlier where
- * the text holds U+0000, as only VBSON_SHOW can write it). It is the holder's, who frees it by vbson_text_free. */
+/* A text in a block of its own: len bytes, and a NUL behind them, so that it is a C string too (which ends earlier
+ * where the text holds U+0000, as only VBSON_SHOW can write it). Its holder frees it by vbson_text_free. */
 typedef struct vbson_text {
     const uint8_t *bytes;
     size_t size; /* of the block: len + 1, or 0 where there is no block */
@@ -93,15 +93,15 @@ static inline void vbson_text_free(vbson_text *text) {
     text->len = 0;
 }
 
-/* Reads the len bytes as one text of Extended JSON, in either form or mixed, and writes its value in the mode. Keys come
- * out in ascending order of their bytes, at every depth; of a key that stands twice the last value counts; a double
- * other than a zero, an infinity or a NaN is refused. *out is written over: what it held is not freed.
+/* Reads the len bytes as one text of Extended JSON, in either form or mixed, and writes its value in the mode. Keys
+ * come out in ascending order of their bytes, at every depth; of a key that stands twice the last value counts; a
+ * double other than a zero, an infinity or a NaN is refused. *out is written over: what it held is not freed.
  * VBSON_NO_MODE, VBSON_NOT_JSON, VBSON_BAD_OBJECT_ID, VBSON_NOT_EXTENDED_JSON, VBSON_OUT_OF_MEMORY. */
 uint32_t vbson_convert(uint32_t mode, const uint8_t *text, size_t len, vbson_text *out);
 
-/* Whether two texts mean the same value: the same kind, lists place by place, documents with the same keys and the same
- * values under each, in any order. VBSON_DONE where they do, VBSON_DIFFERENT where they mean two values; the fault of a,
- * else that of b: VBSON_NOT_JSON, VBSON_BAD_OBJECT_ID, VBSON_NOT_EXTENDED_JSON, VBSON_OUT_OF_MEMORY. */
+/* Whether two texts mean the same value: the same kind, lists place by place, documents with the same keys and the
+ * same values under each, in any order. VBSON_DONE where they do, VBSON_DIFFERENT where they mean two values; the fault
+ * of a, else that of b: VBSON_NOT_JSON, VBSON_BAD_OBJECT_ID, VBSON_NOT_EXTENDED_JSON, VBSON_OUT_OF_MEMORY. */
 uint32_t vbson_same(const uint8_t *a, size_t a_len, const uint8_t *b, size_t b_len);
 
 /* The hash of the value that the text means: one number for all texts that vbson_same finds the same, on every run and
@@ -111,8 +111,9 @@ uint32_t vbson_hash(const uint8_t *text, size_t len, uint64_t *out);
 
 /* ---- small values
  *
- * A call named print puts a text, with no NUL, at the front of the room, leaves the rest of the room as it was, and sets
- * *len to the text's length. VBSON_NO_ROOM where the room is smaller: then nothing is put, and *len is set all the same. */
+ * A call named print puts a text, with no NUL, at the front of the room, leaves the rest of the room as it was, and
+ * sets *len to the text's length. VBSON_NO_ROOM where the room is smaller: then nothing is put, and *len is set all the
+ * same. */
 
 /* Room for each text of a kind. */
 #define VBSON_DECIMAL128_ROOM 42
@@ -136,8 +137,8 @@ uint32_t vbson_object_id_print(const uint8_t bytes[12], uint8_t *room, size_t si
  * names; a finer fraction is cut towards zero. VBSON_NO_SUCH_TEXT. */
 uint32_t vbson_date_time_parse(const uint8_t *text, size_t len, int64_t *out);
 
-/* The text of RFC 3339, in UTC, of the moment so many milliseconds after 1970-01-01T00:00:00Z. VBSON_NO_TEXT outside the
- * years 0000 to 9999; VBSON_NO_ROOM, VBSON_OUT_OF_MEMORY. */
+/* The text of RFC 3339, in UTC, of the moment so many milliseconds after 1970-01-01T00:00:00Z. VBSON_NO_TEXT outside
+ * the years 0000 to 9999; VBSON_NO_ROOM, VBSON_OUT_OF_MEMORY. */
 uint32_t vbson_date_time_print(int64_t millis, uint8_t *room, size_t size, size_t *len);
 
 #ifdef __cplusplus

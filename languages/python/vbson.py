@@ -147,7 +147,10 @@ def same(a, b):
 
 
 def hash_of(text):
-    """The hash of the value that a text means: one number for all texts that `same` finds the same. Raises as convert does."""
+    """The hash of the value that a text means: one number for all texts that `same` finds the same.
+
+    Raises as convert does.
+    """
     given, out = _bytes(text), ctypes.c_uint64()
     _wants_done(_library.vbson_hash(given, len(given), ctypes.byref(out)))
     return out.value

@@ -21,7 +21,8 @@ static int refuses(uint32_t mode, const char *text, size_t len, uint32_t status)
 
 static void convert(void) {
     const char *date = "{\"$date\":{\"$numberLong\":\"1590972160292\"}}";
-    CHECK(converts(VBSON_CANONICAL, "{\"b\":2147483648,\"a\":-5}", "{\"a\":{\"$numberInt\":\"-5\"},\"b\":{\"$numberLong\":\"2147483648\"}}"));
+    CHECK(converts(VBSON_CANONICAL, "{\"b\":2147483648,\"a\":-5}",
+        "{\"a\":{\"$numberInt\":\"-5\"},\"b\":{\"$numberLong\":\"2147483648\"}}"));
     CHECK(converts(VBSON_CANONICAL, date, date));
     CHECK(converts(VBSON_RELAXED, date, "{\"$date\":\"2020-06-01T00:42:40.292Z\"}"));
     CHECK(converts(VBSON_SHOW, "{\"$code\":\"\"}", ""));
@@ -58,7 +59,9 @@ static void convert_refused(void) {
 /* ---- values */
 
 static void same(void) {
-    CHECK(vbson_same(TEXT("{\"a\":1,\"b\":[2,3]}"), TEXT("{ \"b\": [2, {\"$numberInt\":\"3\"}], \"a\": 1 }")) == VBSON_DONE);
+    const char *one = "{\"a\":1,\"b\":[2,3]}";
+    CHECK(vbson_same(TEXT(one), TEXT("{ \"b\": [2, {\"$numberInt\":\"3\"}], \"a\": 1 }")) == VBSON_DONE);
+    CHECK(vbson_same(TEXT(one), TEXT(one)) == VBSON_DONE);
     CHECK(vbson_same(TEXT("[1,2]"), TEXT("[2,1]")) == VBSON_DIFFERENT);
     CHECK(vbson_same(TEXT("1"), TEXT("{\"$numberLong\":\"1\"}")) == VBSON_DIFFERENT);
     CHECK(vbson_same(TEXT("{\"a\":1}"), TEXT("{\"a\":1,\"b\":1}")) == VBSON_DIFFERENT);
@@ -66,8 +69,6 @@ static void same(void) {
     CHECK(vbson_same(TEXT(""), TEXT("1.5")) == VBSON_NOT_JSON);
     CHECK(vbson_same(TEXT("1.5"), TEXT("")) == VBSON_NOT_EXTENDED_JSON);
     CHECK(vbson_same(TEXT("1"), TEXT("{\"$oid\":\"\"}")) == VBSON_BAD_OBJECT_ID);
-    const uint8_t one[] = "{\"x\":null}";
-    CHECK(vbson_same(one, 10, one, 10) == VBSON_DONE);
 }
 
 static uint64_t hash_of(const char *text) {
@@ -155,11 +156,13 @@ static void object_ids(void) {
 
 static void moments(void) {
     int64_t millis = 0;
-    CHECK(vbson_date_time_parse(TEXT("2020-06-01T00:42:40.292Z"), &millis) == VBSON_DONE && millis == INT64_C(1590972160292));
+    CHECK(vbson_date_time_parse(TEXT("2020-06-01T00:42:40.292Z"), &millis) == VBSON_DONE);
+    CHECK(millis == INT64_C(1590972160292));
     CHECK(vbson_date_time_print(millis, fresh(), 24, &len) == VBSON_DONE && holds("2020-06-01T00:42:40.292Z"));
     CHECK(vbson_date_time_print(millis, fresh(), 23, &len) == VBSON_NO_ROOM && is_fresh(24));
     CHECK(vbson_date_time_print(0, fresh(), 20, &len) == VBSON_DONE && holds("1970-01-01T00:00:00Z"));
-    CHECK(vbson_date_time_print(INT64_C(-62167219200000), fresh(), 64, &len) == VBSON_DONE && holds("0000-01-01T00:00:00Z"));
+    CHECK(vbson_date_time_print(INT64_C(-62167219200000), fresh(), 64, &len) == VBSON_DONE);
+    CHECK(holds("0000-01-01T00:00:00Z"));
     CHECK(vbson_date_time_print(INT64_C(-62167219200001), fresh(), 64, &len) == VBSON_NO_TEXT && is_fresh(99));
     CHECK(vbson_date_time_print(INT64_C(253402300800000), fresh(), 64, &len) == VBSON_NO_TEXT && is_fresh(99));
     CHECK(vbson_date_time_print(INT64_MAX, fresh(), 0, &len) == VBSON_NO_TEXT && is_fresh(99));

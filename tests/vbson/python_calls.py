@@ -56,7 +56,8 @@ def sip13(data):
 
 
 def try_texts():
-    want("canonical", vbson.convert('{"b":2147483648,"a":-5}'), '{"a":{"$numberInt":"-5"},"b":{"$numberLong":"2147483648"}}')
+    want("canonical", vbson.convert('{"b":2147483648,"a":-5}'),
+         '{"a":{"$numberInt":"-5"},"b":{"$numberLong":"2147483648"}}')
     want("relaxed", vbson.convert(b'{"$numberLong":"5"}', vbson.RELAXED), "5")
     want("shown", vbson.convert('{"$code":""}', vbson.SHOW), "")
     want("U+0000", vbson.convert('"a\\u0000b"', vbson.SHOW), '"a\0b"')

@@ -1,5 +1,5 @@
-"""Holds languages/c/vbson.h and the wrappers to the sources of crates/vbson: the calls with their types, the statuses with
-their numbers, which statuses each call answers, the text's fields, and the version."""
+"""Holds languages/c/vbson.h and the wrappers to the sources of crates/vbson: the calls with their types, the statuses
+with their numbers, which statuses each call answers, the text's fields, and the version."""
 import re
 from pathlib import Path
 
@@ -8,7 +8,8 @@ SOURCES = ROOT / "crates/vbson/src"
 LANGUAGES = ROOT / "languages"
 HEADER = LANGUAGES / "c/vbson.h"
 NUMBERS = {"u32": "uint32_t", "i64": "int64_t", "u64": "uint64_t", "usize": "size_t"}
-EXPORT = re.compile(r'#\[unsafe\(no_mangle\)\]\npub (?:unsafe )?extern "C" fn (\w+)\(([^)]*)\) -> (\w+)\n(.*?)\n\{\n', re.S)
+EXPORT = re.compile(
+    r'#\[unsafe\(no_mangle\)\]\npub (?:unsafe )?extern "C" fn (\w+)\(([^)]*)\) -> (\w+)\n(.*?)\n\{\n', re.S)
 
 
 def as_c(name, kind):
@@ -84,7 +85,8 @@ def declared():
 
 def statuses():
     """The number of each status, as the sources have it."""
-    return {name: int(number) for name, number in re.findall(r"(?m)^pub const (\w+): u32 = (\d+);$", (SOURCES / "status.rt").read_text())}
+    found = re.findall(r"(?m)^pub const (\w+): u32 = (\d+);$", (SOURCES / "status.rt").read_text())
+    return {name: int(number) for name, number in found}
 
 
 def answers(contract):
@@ -144,12 +146,14 @@ def status_faults():
     for name in numbers:
         yield f"words for {name}", None if f"case VBSON_{name}: return" in text else "vbson_status_text has none"
     for name, number in modes.items():
-        yield f"the mode {name}", None if f"VBSON_{name} = {number}" in text and kinds["vbson.py"].get(name) == number else "other numbers"
+        is_right = f"VBSON_{name} = {number}" in text and kinds["vbson.py"].get(name) == number
+        yield f"the mode {name}", None if is_right else "other numbers"
 
 
 def text_fault():
     source = (SOURCES / "text.rt").read_text()
-    has_fields = "#[repr(C)]\n#[derive(Drop)]\npub struct Text<'a> {\n    pub bytes: &'a [u8],\n    pub len: usize,\n}" in source
+    wanted = "#[repr(C)]\n#[derive(Drop)]\npub struct Text<'a> {\n    pub bytes: &'a [u8],\n    pub len: usize,\n}"
+    has_fields = wanted in source
     fields = re.search(r"typedef struct vbson_text \{(.*?)\} vbson_text;", HEADER.read_text(), flags=re.S)[1]
     names = re.findall(r"(\S[^;/*]*\*?\w+);", re.sub(r"/\*.*?\*/", "", fields))
     return None if has_fields and names == ["const uint8_t *bytes", "size_t size", "size_t len"] else f"{names}"

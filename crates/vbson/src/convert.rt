@@ -1,12 +1,13 @@
 //! One text to another.
-ghost use Rattle.std.specs.Prelude.{◌≡◌, ◌≢◌, ◌↔◌, ◌<◌, ◌≤◌, List, ℕ, Some};
+ghost use Rattle.std.specs.Prelude.{◌≡◌, ◌↔◌, ◌<◌, ◌≤◌, ◌++◌, List, ℕ, Some};
 ghost use Rattle.serde_json.specs.Data.{Data};
 ghost use Rattle.bson_model.specs.Means.{Means};
 ghost use Rattle.bson_model.specs.Value as model;
-ghost use Rattle.bson_run.specs.Convert.{HasNoMeaning, IsBad, IsBadId};
+ghost use Rattle.bson_run.specs.Convert.{Converts, HasNoMeaning, IsBad, IsBadId, newline};
 ghost use Rattle.bson_text.specs.Text.{IsNoText, IsTextOf};
 ghost use Rattle.bson_run.specs.declared.mode.Mode.{Mode};
 ghost use Rattle.vbson.specs.Convert.{IsConverted, IsOfText, mode_at, status_of};
+ghost use Rattle.vbson.specs.Text.{nul};
 
 use crate::status;
 use crate::text::{Text, text_of_line};
@@ -25,6 +26,7 @@ pub extern "C" fn vbson_convert(
     out: &mut Text<'static>,
 ) -> u32
     ensures done { result ≡ 0 → IsConverted mode text.now out.new }
+    ensures one { result ≡ 0 → (m : Mode) (other : List ℕ) → mode_at mode ≡ Some m → Converts m text.now (other ++ newline) → out.new.bytes.now ≡ other ++ nul }
     ensures accepts { (tree : Data) (value : model.Value) → mode ≤ 2 → IsTextOf text.now tree → Means tree value → 0 < result → result ≡ 5 }
 
     // When each other status comes, and that nothing is left then.

@@ -37,7 +37,7 @@ pub extern "C" fn vbson_decimal128_parse(text: &[u8], out: &mut [u8; 16]) -> u32
     }
 }
 
-/// The text of the decimal of 16 bytes, of at most 43 bytes. Every 16 bytes have one.
+/// The text of the decimal of 16 bytes, of at most 42 bytes. Every 16 bytes have one.
 #[unsafe(no_mangle)]
 pub extern "C" fn vbson_decimal128_print(
     alloc: Global,

@@ -1,6 +1,6 @@
 //! A text that the caller has.
-ghost use Rattle.std.specs.Prelude.{◌≡◌, ◌<◌, ◌-◌, ◌++◌, length, take};
-ghost use Rattle.vbson.specs.Text.{IsText, nul};
+ghost use Rattle.std.specs.Prelude.{◌<◌, ◌-◌, length, take};
+ghost use Rattle.vbson.specs.Text.{IsText};
 
 /// A text that the caller has: its bytes with a NUL behind them, in a block of their own which the caller frees by
 /// `free`, and its length without the NUL.

@@ -1,5 +1,5 @@
-//! MongoDB Extended JSON v2 and the small values of BSON, over `libvbson.a`, whose calls are proved (`vbson.h` says what
-//! each answers).
+//! MongoDB Extended JSON v2 and the small values of BSON, over `libvbson.a`, whose calls are proved (`vbson.h` says
+//! what each answers).
 //!
 //! It runs on x86-64 Linux with glibc alone, on a processor with SSE4.2 and POPCNT: on any other the first call panics.
 //! Reading the deepest text (nested 127 deep) takes 384 KiB of stack, which the threads of `std` have.
