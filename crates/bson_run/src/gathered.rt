@@ -25,6 +25,8 @@ pub struct Gathered {
     pub told: Vec<u8>,
     pub lines: u64,
     pub refused: u64,
+    /// Where the fault of the line lies that stopped the run.
+    pub place: String,
 }
 
 /// Where the first newline stands.
@@ -145,6 +147,7 @@ impl Gathered {
             told: Vec::new(alloc),
             lines: 0,
             refused: 0,
+            place: String::new(alloc),
         }
     }
 
@@ -227,7 +230,11 @@ impl Gathered {
         ensures same { (self.new.line ≡ self.old.line) × (self.new.output ≡ self.old.output) × (self.new.lines ≡ self.old.lines) }
         ensures fault { IfErr result (λ e. ((e.fault ≡ Fault.OutOfMemory) ⊎ ((on_refusal ≡ Stop) × (e.fault ≡ fault))) × (e.line ≡ self.old.lines + 1)) }
     {
-        if fault == Fault::OutOfMemory || on_refusal == OnRefusal::Stop {
+        if fault == Fault::OutOfMemory {
+            return Err(self.stopped(fault));
+        }
+        if on_refusal == OnRefusal::Stop {
+            self.keep_place(alloc, fault);
             return Err(self.stopped(fault));
         }
         match self.tell(alloc, on_refusal, fault) {
@@ -236,6 +243,15 @@ impl Gathered {
         }
         self.refused += 1;
         Ok(())
+    }
+
+    /// Keeps the place of the line's fault, unless memory is wanting.
+    fn keep_place(&mut self, alloc: Global, fault: Fault)
+        ensures same { (self.new.line ≡ self.old.line) × (self.new.output ≡ self.old.output) × (self.new.told ≡ self.old.told) × (self.new.lines ≡ self.old.lines) × (self.new.refused ≡ self.old.refused) }
+    {
+        if let Ok(place) = explain(alloc, fault, text(self.lines, &self.line)) {
+            self.place = place;
+        }
     }
 
     /// Adds the verdict on the line.

@@ -14,6 +14,15 @@ pub struct LineFault {
     pub fault: Fault,
 }
 
+/// The same, and where the fault lies in the line.
+#[derive(Drop)]
+pub struct Refusal {
+    /// Where the run stopped, and why.
+    pub at: LineFault,
+    /// Where the fault lies, to be put behind its words; empty where no place is known.
+    pub place: String,
+}
+
 impl LineFault {
     /// The words for the fault, without the line.
     pub fn words(&self) -> &'static str

@@ -2,12 +2,12 @@
 ghost use Rattle.std.specs.Prelude.{◌≡◌, ◌+◌, [], ℕ, List, Option, IfOk, IfErr, OnOk, OnErr};
 ghost use Rattle.std.specs.Io.KnownBytes.{Appends, Consumes, IsAtEnd};
 ghost use Rattle.bson_run.specs.Lines.{DoneLines, FailsAt};
-ghost use Rattle.bson_run.specs.LinesSteps.{HasRoom, HasWritten, Running};
+ghost use Rattle.bson_run.specs.LinesSteps.{HasRoom, HasWritten, IsStart, Running};
 ghost use Rattle.bson_run.specs.Run.{WritesBeginning};
 
 use crate::fault::Fault;
 use crate::gathered::Gathered;
-use crate::line_fault::LineFault;
+use crate::line_fault::{LineFault, Refusal};
 use crate::order::{OnRefusal, Task};
 use crate::stream::write_whole;
 use std::alloc::Global;
@@ -48,6 +48,47 @@ pub fn run_lines<R: Read, W: Write, T: Write>(
     ensures fails { IfErr result (λ e. FailsAt e.fault task on_refusal (R.remaining reader.old) (R.remaining reader.new) (W.contents writer.old) (W.contents writer.new) (T.contents report.old) (T.contents report.new) e.line) }
 {
     let mut gathered = Gathered::new(alloc);
+    run_on(alloc, task, on_refusal, &mut gathered, reader, writer, report)
+}
+
+/// The same, and where the run stops at a refused line, the place of its fault too, in the words of `explain`; which are
+/// empty where the run stops for another reason, or memory is wanting for them.
+pub fn run_lines_explained<R: Read, W: Write, T: Write>(
+    alloc: Global,
+    task: Task,
+    on_refusal: OnRefusal,
+    reader: &mut R,
+    writer: &mut W,
+    report: &mut T,
+) -> Result<Counts, Refusal>
+    ensures done { IfOk result (λ counts. DoneLines task on_refusal (R.remaining reader.old) (R.remaining reader.new) (W.contents writer.old) (W.contents writer.new) (T.contents report.old) (T.contents report.new) counts.lines counts.refused) }
+    ensures fails { IfErr result (λ e. FailsAt e.at.fault task on_refusal (R.remaining reader.old) (R.remaining reader.new) (W.contents writer.old) (W.contents writer.new) (T.contents report.old) (T.contents report.new) e.at.line) }
+{
+    let mut gathered = Gathered::new(alloc);
+    match run_on(alloc, task, on_refusal, &mut gathered, reader, writer, report) {
+        Ok(counts) => Ok(counts),
+        Err(at) => Err(Refusal {
+            at,
+            place: gathered.place,
+        }),
+    }
+}
+
+/// A run that has gathered nothing yet.
+fn run_on<R: Read, W: Write, T: Write>(
+    alloc: Global,
+    task: Task,
+    on_refusal: OnRefusal,
+    gathered: &mut Gathered,
+    reader: &mut R,
+    writer: &mut W,
+    report: &mut T,
+) -> Result<Counts, LineFault>
+    requires start { IsStart gathered.old }
+    requires room { HasRoom gathered.old }
+    ensures done { IfOk result (λ counts. DoneLines task on_refusal (R.remaining reader.old) (R.remaining reader.new) (W.contents writer.old) (W.contents writer.new) (T.contents report.old) (T.contents report.new) counts.lines counts.refused) }
+    ensures fails { IfErr result (λ e. FailsAt e.fault task on_refusal (R.remaining reader.old) (R.remaining reader.new) (W.contents writer.old) (W.contents writer.new) (T.contents report.old) (T.contents report.new) e.line) }
+{
     let mut block = [0u8; BLOCK];
     for _ in 0..u64::MAX {
         let Ok(count) = reader.read(&mut block) else {
@@ -60,7 +101,7 @@ pub fn run_lines<R: Read, W: Write, T: Write>(
             alloc,
             task,
             on_refusal,
-            &mut gathered,
+            gathered,
             &block[..count],
             writer,
             report,
@@ -97,18 +138,18 @@ fn end<W: Write, T: Write>(
     alloc: Global,
     task: Task,
     on_refusal: OnRefusal,
-    mut gathered: Gathered,
+    gathered: &mut Gathered,
     writer: &mut W,
     report: &mut T,
 ) -> Result<Counts, LineFault>
-    requires room { HasRoom gathered }
-    ensures done { IfOk result (λ counts. (before after had told : Option (List ℕ)) → Running task on_refusal before after had (W.contents writer.old) told (T.contents report.old) gathered → IsAtEnd after
+    requires room { HasRoom gathered.old }
+    ensures done { IfOk result (λ counts. (before after had told : Option (List ℕ)) → Running task on_refusal before after had (W.contents writer.old) told (T.contents report.old) gathered.old → IsAtEnd after
         → DoneLines task on_refusal before after had (W.contents writer.new) told (T.contents report.new) counts.lines counts.refused) }
-    ensures fails { IfErr result (λ e. (before after had told : Option (List ℕ)) → Running task on_refusal before after had (W.contents writer.old) told (T.contents report.old) gathered → IsAtEnd after
+    ensures fails { IfErr result (λ e. (before after had told : Option (List ℕ)) → Running task on_refusal before after had (W.contents writer.old) told (T.contents report.old) gathered.old → IsAtEnd after
         → FailsAt e.fault task on_refusal before after had (W.contents writer.new) told (T.contents report.new) e.line) }
 {
     let step = gathered.take_last(alloc, task, on_refusal);
-    write_out(&mut gathered, writer, report)?;
+    write_out(gathered, writer, report)?;
     step?;
     Ok(Counts {
         lines: gathered.lines,

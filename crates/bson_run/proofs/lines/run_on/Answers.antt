@@ -3,12 +3,12 @@ use Rattle.std.proofs.KnownBytes.{Keeps-refl}
 use Rattle.std.proofs.lemmas.Result.{err_from_is_err_and}
 use Rattle.bson_run.proofs.LinesLaws.{errs_alone, oks_with}
 use Rattle.bson_run.proofs.LinesRuns.{starts, unmoved, unread}
-use Rattle.bson_run.proofs.lines.run_lines.Goals as goal
+use Rattle.bson_run.proofs.lines.run_on.Goals as goal
 
 pub loop-init : goal.loop-init
 loop-init g c = record {
-  room = c.new-gathered.ensures.room;
-  running = starts _ _ _ c.new-gathered.result c.new-gathered.ensures.start;
+  room = c.requires.room;
+  running = starts _ _ _ c.args.gathered.now c.requires.start;
 }
 
 pub returns-in_default-clause-fails : goal.returns-in_default-clause-fails

@@ -1,5 +1,5 @@
 use Rattle.bson_run.specs.LinesSteps.{HasRoom, Running}
-use Rattle.bson_run.proofs.lines.run_lines.Given as goal
+use Rattle.bson_run.proofs.lines.run_on.Given as goal
 
 abbrev pub invariant-loop : goal.invariant-loop
 invariant-loop g l = record {
