@@ -15,7 +15,7 @@ use crate::order::{Asked, Order, asked_by};
 use crate::run::{Stop, run};
 use crate::words::{HELP, OUT_OF_MEMORY, USAGE, VERSION};
 use bson_run::fault::Fault;
-use bson_run::line_fault::LineFault;
+use bson_run::line_fault::Refusal;
 use bson_run::lines::Counts;
 use std::alloc::{AllocError, Global};
 use std::env;
@@ -74,20 +74,25 @@ fn line_of(alloc: Global, stop: Stop<'_>) -> Result<String, AllocError> {
         Stop::Input(name) => format!(in alloc; "bson_lines: cannot read {name}"),
         Stop::Output(name) => format!(in alloc; "bson_lines: cannot write {name}"),
         Stop::Both(name) => format!(in alloc; "bson_lines: {name} is read and written"),
-        Stop::Line(at, None) => at_line(alloc, at),
-        Stop::Line(at, Some(name)) => {
-            let line = at_line(alloc, at)?;
-            format!(in alloc; "bson_lines: {name}:\n{line}")
-        }
+        Stop::Line(stopped, title) => at_title(alloc, title, &at_line(alloc, stopped)?),
     }
 }
 
-/// What stopped the run, and at which line; a reader or writer stops it wherever it is.
-fn at_line(alloc: Global, stopped: LineFault) -> Result<String, AllocError> {
-    let words = stopped.words();
-    match stopped.fault {
+/// The line, behind the name of its file where it is not told yet.
+fn at_title(alloc: Global, title: Option<&str>, line: &str) -> Result<String, AllocError> {
+    match title {
+        None => String::from_str(alloc, line),
+        Some(name) => format!(in alloc; "bson_lines: {name}:\n{line}"),
+    }
+}
+
+/// What stopped the run, at which line and where in it; a reader or writer stops it wherever it is.
+fn at_line(alloc: Global, stopped: Refusal) -> Result<String, AllocError> {
+    let words = stopped.at.words();
+    let place = stopped.place;
+    match stopped.at.fault {
         Fault::CannotRead | Fault::CannotWrite => format!(in alloc; "bson_lines: {words}"),
-        _ => format!(in alloc; "bson_lines: line {}: {words}", stopped.line),
+        _ => format!(in alloc; "bson_lines: line {}: {words}{place}", stopped.at.line),
     }
 }
 

@@ -81,7 +81,7 @@ fn order_of(alloc: Global, task: Task, words: &[String]) -> Result<Option<Order>
             order.output = Some(word.clone()?);
             names_output = false;
         } else if word.as_str() == "--keep-going" && order.on_refusal == OnRefusal::Stop {
-            order.on_refusal = OnRefusal::KeepGoing;
+            order.on_refusal = OnRefusal::Explain;
         } else if word.as_str() == "-o" && order.output.is_none() && task != Task::Check {
             names_output = true;
         } else if word.starts_with("-") {

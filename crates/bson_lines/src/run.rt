@@ -3,8 +3,8 @@ use crate::order::Order;
 use crate::progress::{Counted, Progress, Verdicts};
 use crate::streams::{Sink, Source};
 use bson_run::fault::Fault;
-use bson_run::line_fault::LineFault;
-use bson_run::lines::{Counts, run_lines};
+use bson_run::line_fault::Refusal;
+use bson_run::lines::{Counts, run_lines_explained};
 use bson_run::order::Task;
 use std::fs;
 use std::fs::{File, Metadata};
@@ -21,7 +21,7 @@ pub enum Stop<'a> {
     /// The file is read and written.
     Both(&'a str),
     /// At a line, of this file where there are several.
-    Line(LineFault, Option<&'a str>),
+    Line(Refusal, Option<&'a str>),
 }
 
 /// Converts the lines of all files in their order. It stops where a file can't be read or written, or as `run_lines`
@@ -81,7 +81,7 @@ fn run_one<'a>(
         title,
         progress,
     };
-    match run_lines(
+    match run_lines_explained(
         rt.alloc(),
         order.task,
         order.on_refusal,
@@ -97,11 +97,11 @@ fn run_one<'a>(
 /// What stopped the run.
 fn stopped_by<'a>(
     order: &'a Order,
-    stopped: LineFault,
+    stopped: Refusal,
     name: Option<&'a str>,
     title: Option<&'a str>,
 ) -> Stop<'a> {
-    match (stopped.fault, name, &order.output) {
+    match (stopped.at.fault, name, &order.output) {
         (Fault::CannotRead, Some(name), _) => Stop::Input(name),
         (Fault::CannotWrite, _, Some(name)) => Stop::Output(name.as_str()),
         _ => Stop::Line(stopped, title),

@@ -48,7 +48,15 @@ pub fn run_lines<R: Read, W: Write, T: Write>(
     ensures fails { IfErr result (λ e. FailsAt e.fault task on_refusal (R.remaining reader.old) (R.remaining reader.new) (W.contents writer.old) (W.contents writer.new) (T.contents report.old) (T.contents report.new) e.line) }
 {
     let mut gathered = Gathered::new(alloc);
-    run_on(alloc, task, on_refusal, &mut gathered, reader, writer, report)
+    run_on(
+        alloc,
+        task,
+        on_refusal,
+        &mut gathered,
+        reader,
+        writer,
+        report,
+    )
 }
 
 /// The same, and where the run stops at a refused line, the place of its fault too, in the words of `explain`; which are
@@ -65,7 +73,15 @@ pub fn run_lines_explained<R: Read, W: Write, T: Write>(
     ensures fails { IfErr result (λ e. FailsAt e.at.fault task on_refusal (R.remaining reader.old) (R.remaining reader.new) (W.contents writer.old) (W.contents writer.new) (T.contents report.old) (T.contents report.new) e.at.line) }
 {
     let mut gathered = Gathered::new(alloc);
-    match run_on(alloc, task, on_refusal, &mut gathered, reader, writer, report) {
+    match run_on(
+        alloc,
+        task,
+        on_refusal,
+        &mut gathered,
+        reader,
+        writer,
+        report,
+    ) {
         Ok(counts) => Ok(counts),
         Err(at) => Err(Refusal {
             at,
