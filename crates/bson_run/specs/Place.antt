@@ -1,5 +1,6 @@
 -- Where the fault of a refused text lies, in words.
-use Rattle.std.specs.Prelude.{◌≡◌, ℕ, List, [], ◌∷◌, ◌++◌, codes}
+use Rattle.std.specs.Prelude.{◌≡◌, ◌≢◌, ◌⊎◌, ◌≤◌, ℕ, List, [], ◌∷◌, ◌++◌, codes}
+use Rattle.std.specs.List.{All}
 use Rattle.std.specs.Fmt.{decimal}
 use Rattle.serde_json.specs.Data.{Data}
 use Rattle.bson_leaf.specs.Faults.{Fault as TreeFault}
@@ -17,6 +18,15 @@ at_path (x ∷ xs) = codes " at " ++ x ∷ xs
 abbrev pub IsShown : List Turn → List ℕ → Type 0
 IsShown way words = (message : List ℕ) × (words ≡ at_path (dotted way) ++ codes " (" ++ message ++ codes ")")
 
+-- no control character of ASCII, which could break a line or steer a terminal
+abbrev pub IsVisible : ℕ → Type 0
+IsVisible byte = (32 ≤ byte) × (byte ≢ 127)
+
+-- the words as they are, where a terminal shows them so; else that they have other characters
+abbrev pub IsTold : List ℕ → List ℕ → Type 0
+IsTold words told =
+    (All IsVisible words × (told ≡ words)) ⊎ (¬ (All IsVisible words) × (told ≡ codes " at a text with control characters"))
+
 -- the way to the first fault of the text's tree
 pub record IsPlaced (text words : List ℕ) : Type 0 where
   pub tree : Data
@@ -24,7 +34,9 @@ pub record IsPlaced (text words : List ℕ) : Type 0 where
   pub way : List Turn
   pub is_text : IsTextOf text tree
   pub lies : FaultAt fault tree way
-  pub shown : IsShown way words
+  pub shown : List ℕ
+  pub is_shown : IsShown way shown
+  pub told : IsTold shown words
 
 -- a column; which one no contract says
 abbrev pub IsColumn : List ℕ → Type 0

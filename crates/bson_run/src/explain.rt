@@ -1,11 +1,12 @@
 //! Where the fault of a refused text lies, in words.
-ghost use Rattle.std.specs.Prelude.{◌≡◌, ◌⊎◌, Err, IfOk, IfErr, string_bytes};
+ghost use Rattle.std.specs.Prelude.{◌≡◌, ◌⊎◌, ◌↔◌, Err, IfOk, IfErr, IsTrue, string_bytes};
+ghost use Rattle.std.specs.List.{All};
 ghost use Rattle.serde_json.specs.Data.{Data};
 ghost use Rattle.serde_json.specs.View.{view};
 ghost use Rattle.bson_model.specs.Fault.{MeansNothing};
 ghost use Rattle.bson_place.specs.Place.{way_of};
 ghost use Rattle.bson_run.specs.Lines.{IsBadText};
-ghost use Rattle.bson_run.specs.Place.{IsColumn, IsPlaced, IsShown, IsWhere};
+ghost use Rattle.bson_run.specs.Place.{IsColumn, IsPlaced, IsShown, IsTold, IsVisible, IsWhere};
 ghost use Rattle.bson_text.specs.Text.{IsTextOf, IsNoText};
 
 use crate::fault::Fault;
@@ -18,7 +19,8 @@ use std::alloc::{AllocError, Global};
 ///
 /// For `NotJson` it is ` at column N`, the column of the byte at which `serde_json` stopped, counted from 1. For the
 /// others it is ` at orders.3._id.$oid (MESSAGE)`: the way to the first fault, its keys as they are and places in lists
-/// counted from 0, and what is wrong there; with the message alone where the fault is that of the whole text.
+/// counted from 0, and what is wrong there; with the message alone where the fault is that of the whole text. Where a
+/// control character of ASCII stands in it, which could break a line or steer a terminal, only that is told.
 pub fn explain(alloc: Global, fault: Fault, text: &[u8]) -> Result<String, AllocError>
     ensures { IfOk result (λ place. IsBadText fault text.now → IsWhere fault text.now (string_bytes place)) }
 {
@@ -67,7 +69,7 @@ fn path(alloc: Global, text: &[u8]) -> Result<String, AllocError>
     };
     match place_of_fault(alloc, tree)? {
         None => Ok(String::new(alloc)),
-        Some(place) => shown(alloc, &place),
+        Some(place) => told(alloc, shown(alloc, &place)?),
     }
 }
 
@@ -81,4 +83,21 @@ fn shown(alloc: Global, place: &Place) -> Result<String, AllocError>
         return format!(in alloc; " ({message})");
     }
     format!(in alloc; " at {path} ({message})")
+}
+
+/// The words, where they have no control character.
+fn told(alloc: Global, words: String) -> Result<String, AllocError>
+    ensures { IfOk result (λ said. IsTold (string_bytes words) (string_bytes said)) }
+{
+    if is_visible(words.as_bytes()) {
+        return Ok(words);
+    }
+    String::from_str(alloc, " at a text with control characters")
+}
+
+/// Whether no byte is a control character of ASCII.
+fn is_visible(words: &[u8]) -> bool
+    ensures { IsTrue result ↔ All IsVisible words.now }
+{
+    words.iter().all(|byte| *byte >= 32 && *byte != 127)
 }
