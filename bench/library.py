@@ -1,12 +1,14 @@
 #!/usr/bin/env python3
-"""Times the library for C beside the program, and beside libbson where Debian's libbson-dev is installed.
+"""Times the library for C and Rust beside the program, and beside libbson where Debian's libbson-dev is installed.
 
     bench/library.py
 
 A million calls on a document of 103 bytes, the best of three runs; and each kind of input of bench/run.py at 10 MB: the
-program's wall time (the best of five runs), the first call of a C program, and its best of five. libbson reads numbers
+program's wall time (the best of five runs), the first call of a C program and its best of five, and the same of a Rust
+program where cargo is. libbson reads numbers
 and keys as they stand, in their order; it takes a document alone, so it gets only the kind that is one.
 """
+import os
 import shutil
 import subprocess
 import sys
@@ -34,6 +36,18 @@ def libbson(room):
     return None
 
 
+def rust(room):
+    if not shutil.which("cargo"):
+        return None
+    shutil.copytree(f"{TOP}/languages/rust", f"{room}/rust")
+    os.mkdir(f"{room}/rust/examples")
+    shutil.copy(f"{HERE}/library.rs", f"{room}/rust/examples")
+    where = {**os.environ, "VBSON_LIB": f"{TOP}/languages/out/lib", "CARGO_TARGET_DIR": f"{room}/target"}
+    words = ["cargo", "build", "--offline", "--quiet", "--release", "--example", "library"]
+    done = subprocess.run(words, cwd=f"{room}/rust", env=where)
+    return f"{room}/target/release/examples/library" if done.returncode == 0 else None
+
+
 def nanoseconds(program):
     runs = [subprocess.run([program, "small", "1000000"], capture_output=True, text=True, check=True) for _ in range(3)]
     return min(int(it.stdout) for it in runs)
@@ -49,16 +63,18 @@ def main():
     subprocess.run([f"{TOP}/vbson", "build"], check=True)
     with tempfile.TemporaryDirectory() as room:
         ours = built(room, "library", [f"-I{TOP}/languages/out/include", f"{TOP}/languages/out/lib/libvbson.a"])
-        theirs = libbson(room)
+        theirs, in_rust = libbson(room), rust(room)
         print(f"a call on 103 bytes: {nanoseconds(ours)} ns")
         print(f"the same by libbson: {nanoseconds(theirs)} ns" if theirs else "libbson is not here")
-        print("| input of 10 MB | bson_cli, s | C, first call, s | C, best call, s |\n|---|---|---|---|")
+        print(f"the same from Rust: {nanoseconds(in_rust)} ns" if in_rust else "cargo is not here")
+        print("| input of 10 MB | bson_cli, s | C, first call, s | C, best call, s | Rust, first call, s | Rust, best call, s |\n|---|---|---|---|---|---|")
         for name, make, opening, closing in KINDS:
             path = f"{room}/input.json"
             generate(path, make, opening, closing, 10_000_000)
             [(program, _)] = best_of(5, [[PROGRAM, "canonical"]], path)
             first, least = seconds(ours, path)
-            print(f"| {name} | {program:.2f} | {first:.2f} | {least:.2f} |", flush=True)
+            cells = [program, first, least, *(seconds(in_rust, path) if in_rust else [])]
+            print(f"| {name} | {' | '.join(f'{it:.2f}' for it in cells)} |", flush=True)
             if theirs and opening == "{":
                 first, least = seconds(theirs, path)
                 print(f"| the same by libbson | | {first:.2f} | {least:.2f} |")
