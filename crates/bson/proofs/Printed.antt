@@ -1,5 +1,5 @@
 -- What ends a list or a map of tokens well from where it was printed to ends it well from its start.
-use Rattle.std.proofs.Common.{◌≡◌, ℕ, None, cond, suc, ◌+◌, ◌-◌, ◌<◌, ◌≤◌, inl, inr, List, [], ◌∷◌, ◌++◌, Result, Ok, Err, Some, slice_get, refl, sym, ap, ◌∙◌, subst, append_assoc, arith}
+use Rattle.std.proofs.Common.{◌≡◌, ℕ, None, cond, suc, ◌+◌, ◌-◌, ◌<◌, ◌≤◌, inl, inr, List, [], ◌∷◌, ◌++◌, Result, Ok, Err, Some, slice_get, refl, sym, ap, ◌∙◌, subst, arith}
 use Rattle.std.proofs.Math.Nat.{eq-or-lt_of_le}
 use Rattle.std.specs.Ordering.{is_eq}
 use Rattle.std.specs.declared.cmp.Ordering.TheVariants.{Less, Equal, Greater}
@@ -9,8 +9,8 @@ use Rattle.json.specs.Token.{Token, end_object, key}
 use Rattle.json.specs.Tree.{items_tokens, members_tokens}
 use Rattle.serde_json.specs.Data.{Data, object, Items, item, Members, member, put}
 use Rattle.serde_json.specs.Written.{items_outline, members_outline}
+use Rattle.bson_leaf.proofs.InTurn.{in_turn}
 use Rattle.bson_leaf.specs.Written.{Refusal, finite, ◌>>=◌, Stops}
-use Rattle.std.specs.Prelude.{OnOk}
 use Rattle.bson_leaf.specs.declared.form.Form.{Form}
 use Rattle.bson_leaf.specs.declared.write_error.WriteError.{WriteError}
 use Rattle.bson_leaf.specs.declared.write_error.WriteError.TheVariants.{FiniteDouble, OutOfMemory}
@@ -24,16 +24,6 @@ use Rattle.bson.specs.Texts.{tokens_of, code_tokens, writes_in_order, KeysAscend
 use Rattle.bson.specs.View.{bson_view, pairs_view}
 use Rattle.bson.specs.declared.bson.Bson.{Bson}
 use Rattle.bson.proofs.Onto.{Entry}
-
--- ---- lists of tokens
-
--- a part that was written moves over
-pub moved : (old part rest new all : List Token) → new ≡ old ++ part → old ++ (part ++ rest) ≡ all → new ++ rest ≡ all
-moved old part rest new all p q = ap (λ l. l ++ rest) p ∙ append_assoc old part rest ∙ q
-
--- two parts that were written in turn
-pub in_turn : (old one near two new : List Token) → near ≡ old ++ one → new ≡ near ++ two → new ≡ old ++ (one ++ two)
-in_turn old one near two new p q = q ∙ ap (λ l. l ++ two) p ∙ append_assoc old one two
 
 -- ---- lists
 
@@ -160,11 +150,6 @@ module _ (left rest : List Entry) (k : List ℕ) (v : Bson) (here : left ≡ (k,
 
   pub ranged_more : InRange (bson_view v) → PairsInRange (pairs_view rest) → PairsInRange (pairs_view left)
   ranged_more r h = subst (λ (xs : List Entry). PairsInRange (pairs_view xs)) (sym here) (r, h)
-
--- what an Ok holds, brought further
-pub on_ok : {X E : Type 0} {P Q : Type 0} (r : Result X E) → (P → Q) → OnOk r P → OnOk r Q
-on_ok (Ok x) f h = f h
-on_ok (Err e) f h = tt
 
 -- ---- code with a scope
 

@@ -10,6 +10,7 @@ use Rattle.bson_store.specs.Order.{in_order, key_cmp, is_above}
 use Rattle.bson_store.proofs.Distinct.{drop-at}
 use Rattle.bson_store.proofs.Least.{least_none}
 use Rattle.bson_store.proofs.Turns.{pair_of, next_pair, where_key-all}
+use Rattle.bson_leaf.proofs.InTurn.{in_turn, on_ok}
 use Rattle.bson_leaf.specs.Binaries.{binary_tree}
 use Rattle.bson_leaf.specs.Scalar.{text, binary}
 use Rattle.bson_model.specs.Value.{scalar, code_scope}
@@ -20,7 +21,7 @@ use Rattle.bson.specs.declared.bson.Bson.{Bson}
 use Rattle.bson.specs.declared.bson.Bson as bson_form
 use Rattle.bson.specs.declared.bson.JavaScriptCodeWithScope.{the_lemmas}
 use Rattle.bson.proofs.Onto.{Entry}
-use Rattle.bson.proofs.Printed.{EndsItems, EndsMembers, in_turn, in_turn_is, by_key_is, ranged_by_key, ends_more, stops_here, stops_more, ranged_more, on_ok, scoped}
+use Rattle.bson.proofs.Printed.{EndsItems, EndsMembers, in_turn_is, by_key_is, ranged_by_key, ends_more, stops_here, stops_more, ranged_more, scoped}
 use Rattle.bson.proofs.Sizes.{value_smaller}
 use Rattle.bson.proofs.extjson.text.+print.Goals as goal
 
