@@ -18,6 +18,10 @@ int_too_large : MeansNothing (one (codes "$numberInt") (tree.string (codes "2147
 unfolding Rattle.bson_leaf.specs.Reading.int_of
 int_too_large = (none _ bad refl, refl)
 
+int_too_small : MeansNothing (one (codes "$numberInt") (tree.string (codes "-2147483649"))) × (fault_of (one (codes "$numberInt") (tree.string (codes "-2147483649"))) ≡ bad)
+unfolding Rattle.bson_leaf.specs.Reading.int_of
+int_too_small = (none _ bad refl, refl)
+
 int_space : MeansNothing (one (codes "$numberInt") (tree.string (codes "7 "))) × (fault_of (one (codes "$numberInt") (tree.string (codes "7 "))) ≡ bad)
 unfolding Rattle.bson_leaf.specs.Reading.int_of
 int_space = (none _ bad refl, refl)
