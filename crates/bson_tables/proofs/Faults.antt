@@ -3,6 +3,8 @@ use Rattle.std.proofs.Common.{◌≡◌, false, refl}
 use Rattle.std.specs.Prelude.{codes}
 use Rattle.serde_json.specs.Data.{Data, negative}
 use Rattle.serde_json.specs.Data as tree
+use Rattle.bson_decimal.specs.Steps.{cut_at_34, raise_to_least, zeros_to_add, exponent_value, written_exponent, scaled_exponent, coefficient, settled, finite}
+use Rattle.bson_leaf.specs.Reading.{decimal_of}
 use Rattle.bson_leaf.specs.Shapes.{one, two}
 use Rattle.bson_leaf.specs.Faults.{bad, bad_id}
 use Rattle.bson_model.specs.Fault.{fault_of, MeansNothing}
@@ -18,9 +20,21 @@ int_too_large : MeansNothing (one (codes "$numberInt") (tree.string (codes "2147
 unfolding Rattle.bson_leaf.specs.Reading.int_of
 int_too_large = (none _ bad refl, refl)
 
+int_too_small : MeansNothing (one (codes "$numberInt") (tree.string (codes "-2147483649"))) × (fault_of (one (codes "$numberInt") (tree.string (codes "-2147483649"))) ≡ bad)
+unfolding Rattle.bson_leaf.specs.Reading.int_of
+int_too_small = (none _ bad refl, refl)
+
 int_space : MeansNothing (one (codes "$numberInt") (tree.string (codes "7 "))) × (fault_of (one (codes "$numberInt") (tree.string (codes "7 "))) ≡ bad)
 unfolding Rattle.bson_leaf.specs.Reading.int_of
 int_space = (none _ bad refl, refl)
+
+decimal_too_large : MeansNothing (one (codes "$numberDecimal") (tree.string (codes "1E+6145"))) × (fault_of (one (codes "$numberDecimal") (tree.string (codes "1E+6145"))) ≡ bad)
+unfolding decimal_of cut_at_34 raise_to_least zeros_to_add exponent_value written_exponent scaled_exponent coefficient settled finite
+decimal_too_large = (none _ bad refl, refl)
+
+decimal_too_small : MeansNothing (one (codes "$numberDecimal") (tree.string (codes "1E-6177"))) × (fault_of (one (codes "$numberDecimal") (tree.string (codes "1E-6177"))) ≡ bad)
+unfolding decimal_of cut_at_34 raise_to_least zeros_to_add exponent_value written_exponent scaled_exponent coefficient settled finite
+decimal_too_small = (none _ bad refl, refl)
 
 oid_short : MeansNothing (one (codes "$oid") (tree.string (codes "zz"))) × (fault_of (one (codes "$oid") (tree.string (codes "zz"))) ≡ (bad_id (codes "zz")))
 oid_short = (none _ (bad_id (codes "zz")) refl, refl)

@@ -4,3 +4,4 @@ pub mod Faults
 pub mod Trees
 pub mod Standards
 pub mod Dates
+pub mod Words

@@ -37,6 +37,9 @@ int64_row = row _ _ refl
 least_int32_row : Means (tree.number (negative (negsuc 2147483647))) (model.scalar (kind.int32 (negsuc 2147483647)))
 least_int32_row = row _ _ refl
 
+below_int32_row : Means (tree.number (negative (negsuc 2147483648))) (model.scalar (kind.int64 (negsuc 2147483648)))
+below_int32_row = row _ _ refl
+
 number_int_row : Means (one (codes "$numberInt") (tree.string (codes "+007"))) (model.scalar (kind.int32 (pos 7)))
 unfolding Rattle.bson_leaf.specs.Reading.int_of
 number_int_row = row _ _ refl

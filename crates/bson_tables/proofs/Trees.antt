@@ -73,6 +73,10 @@ code_scope_tree f = canon_from f (model.code_scope (codes "s") model.no_pairs) _
 document_tree : (f : Form) → Written f (normal_form (model.document (model.pair (codes "b") (model.scalar kind.null) (model.pair (codes "a") (model.scalar (kind.boolean true)) model.no_pairs)))) (two (codes "a") (tree.boolean true) (codes "b") tree.null)
 document_tree f = canon_from f (model.document (model.pair (codes "b") (model.scalar kind.null) (model.pair (codes "a") (model.scalar (kind.boolean true)) model.no_pairs))) _ refl
 
+-- the keys ascend by their bytes, not by their lengths
+bytes_of_keys_tree : (f : Form) → Written f (normal_form (model.document (model.pair (codes "b") (model.scalar kind.null) (model.pair (codes "aa") (model.scalar (kind.boolean true)) model.no_pairs)))) (two (codes "aa") (tree.boolean true) (codes "b") tree.null)
+bytes_of_keys_tree f = canon_from f (model.document (model.pair (codes "b") (model.scalar kind.null) (model.pair (codes "aa") (model.scalar (kind.boolean true)) model.no_pairs))) _ refl
+
 array_tree : (f : Form) → Written f (normal_form (model.array (model.value (model.scalar kind.null) (model.value (model.scalar (kind.boolean true)) model.no_values)))) (list_of_two tree.null (tree.boolean true))
 array_tree f = canon_from f (model.array (model.value (model.scalar kind.null) (model.value (model.scalar (kind.boolean true)) model.no_values))) _ refl
 
