@@ -5,3 +5,4 @@ pub mod Trees
 pub mod Standards
 pub mod Dates
 pub mod Words
+pub mod Displays
