@@ -1,7 +1,7 @@
 -- The text of a value on one line and on several, computed.
-use Rattle.std.proofs.Common.{◌≡◌, pos, negsuc, true, refl}
+use Rattle.std.proofs.Common.{◌≡◌, true, refl}
 use Rattle.std.specs.Prelude.{codes}
-use Rattle.std.specs.Fmt.{decimal, signed_decimal, digits}
+use Rattle.std.specs.Fmt.{digits}
 use Rattle.bson_leaf.specs.Scalar as kind
 use Rattle.bson_model.specs.Pretty.{pretty}
 use Rattle.bson_model.specs.Shown.{shown}
@@ -59,14 +59,6 @@ document_pretty = refl
 
 no_indent_pretty : pretty 0 (under_a (model.scalar kind.null)) ≡ codes "{\n\"a\": null\n}"
 no_indent_pretty = refl
-
-int32_shown : shown (model.scalar (kind.int32 (negsuc 6))) ≡ codes "-7"
-unfolding signed_decimal decimal digits
-int32_shown = refl
-
-timestamp_shown : shown (model.scalar (kind.timestamp 1 23)) ≡ codes "Timestamp(1, 23)"
-unfolding decimal digits
-timestamp_shown = refl
 
 double_shown : shown (model.scalar (kind.double 0x7FF0000000000000)) ≡ codes "Double(0x7ff0000000000000)"
 unfolding digits
