@@ -8,7 +8,7 @@ use Rattle.std.specs.Hash.{HashWrites, usize, le_bytes, str}
 use Rattle.std.specs.Ordering.{match_ordering}
 use Rattle.bson_store.specs.Order.{in_order, key_cmp}
 use Rattle.bson_store.specs.Pairs.{HasDistinctKeys}
-use Rattle.bson_store.proofs.Turns.{length-in_order}
+use Rattle.bson_store.proofs.Offered.{length-in_order}
 use Rattle.bson_model.specs.Value.{Value, array, document, pair}
 use Rattle.bson_model.specs.Feed.{feed, items_words, pairs_words, items_count, pairs_count}
 use Rattle.bson_model.specs.Sorted.{sorted, sorted_items, sorted_pairs, put_pair}

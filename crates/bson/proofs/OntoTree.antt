@@ -12,7 +12,7 @@ use Rattle.bson_leaf.specs.Written.{Refusal, finite, ◌>>=◌, Stops}
 use Rattle.bson_model.specs.Writing.{writes, writes_items, writes_pairs}
 use Rattle.bson_leaf.specs.declared.write_error.WriteError.{WriteError}
 use Rattle.bson_leaf.specs.declared.write_error.WriteError.TheVariants.{FiniteDouble, OutOfMemory}
-use Rattle.bson_model.proofs.PutMembers.{put_members_swap}
+use Rattle.bson_model.proofs.Offered.{put_members_swap}
 use Rattle.bson.specs.View.{bson_view, pairs_view}
 use Rattle.bson.proofs.Onto.{Entry}
 

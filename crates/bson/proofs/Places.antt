@@ -3,11 +3,11 @@ use Rattle.std.proofs.Common.{◌≡◌, ℕ, zero, suc, ◌<◌, Bool, true, fa
 use Rattle.std.specs.Str.{bytes_eq}
 use Rattle.bson_store.specs.Pairs as store
 use Rattle.bson_store.specs.Pairs.{HasDistinctKeys, place_of}
-use Rattle.bson_store.proofs.Distinct.{get-at, at-get, no_other, length-same_keys}
+use Rattle.bson_store.proofs.Offered.{get-at, at-get, no_other, length-same_keys}
 use Rattle.bson_model.specs.Value.{Value, document, get}
 use Rattle.bson.specs.View.{bson_view, pairs_view, values_view}
 use Rattle.bson_model.specs.Same.{same, same_items}
-use Rattle.bson_model.proofs.SameSorted.{option_same, at_each, from_each, same_document}
+use Rattle.bson_model.proofs.Offered.{option_same, at_each, from_each, same_document}
 use Rattle.bson.specs.declared.bson.Bson.{Bson}
 
 abbrev pub Entries : Type 0

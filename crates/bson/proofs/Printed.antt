@@ -9,7 +9,7 @@ use Rattle.json.specs.Token.{Token, end_object, key}
 use Rattle.json.specs.Tree.{items_tokens, members_tokens}
 use Rattle.serde_json.specs.Data.{Data, object, Items, item, Members, member, put}
 use Rattle.serde_json.specs.Written.{items_outline, members_outline}
-use Rattle.bson_leaf.proofs.InTurn.{in_turn}
+use Rattle.bson_leaf.proofs.Offered.{in_turn}
 use Rattle.bson_leaf.specs.Written.{Refusal, finite, ◌>>=◌, Stops}
 use Rattle.bson_leaf.specs.declared.form.Form.{Form}
 use Rattle.bson_leaf.specs.declared.write_error.WriteError.{WriteError}
@@ -17,9 +17,9 @@ use Rattle.bson_leaf.specs.declared.write_error.WriteError.TheVariants.{FiniteDo
 use Rattle.bson_store.specs.Order.{key_cmp, in_order}
 use Rattle.bson_store.specs.Pairs.{keys, HasDistinctKeys}
 use Rattle.bson_model.specs.Value.{Value, code_scope, Values, value, Pairs, pair}
-use Rattle.bson_model.specs.Writing.{writes, writes_items, writes_pairs, with_scope, InRange, PairsInRange}
-use Rattle.bson_store.proofs.Least.{find-in_order}
-use Rattle.bson_store.proofs.Turns.{lacks}
+use Rattle.bson_model.specs.Normal.{InRange, PairsInRange}
+use Rattle.bson_model.specs.Writing.{writes, writes_items, writes_pairs, with_scope}
+use Rattle.bson_store.proofs.Offered.{find-in_order, lacks}
 use Rattle.bson.specs.Texts.{tokens_of, code_tokens, writes_in_order, KeysAscend}
 use Rattle.bson.specs.View.{bson_view, pairs_view}
 use Rattle.bson.specs.declared.bson.Bson.{Bson}

@@ -1,6 +1,6 @@
 -- Values in range, one more put last.
 use Rattle.std.proofs.Common.{ℕ, List, [], ◌∷◌, ◌++◌}
-use Rattle.bson_model.specs.Writing.{InRange, ItemsInRange, PairsInRange}
+use Rattle.bson_model.specs.Normal.{InRange, ItemsInRange, PairsInRange}
 use Rattle.bson.specs.View.{bson_view, values_view, pairs_view}
 use Rattle.bson.specs.declared.bson.Bson.{Bson}
 

@@ -5,10 +5,9 @@ use Rattle.bson_leaf.specs.declared.form.Form.{Form}
 use Rattle.bson_leaf.specs.declared.write_error.WriteError.{WriteError}
 use Rattle.bson_leaf.specs.declared.write_error.WriteError.TheVariants.{FiniteDouble, OutOfMemory}
 use Rattle.bson_model.specs.Value.{Value}
-use Rattle.bson_model.specs.Writing.{writes, writable, InRange}
-use Rattle.bson_model.proofs.ComesBack.{has_text}
-use Rattle.bson_model.proofs.ReadBack.{tree_is, writable_from}
-use Rattle.bson_model.proofs.WriteLaws.{writable_is}
+use Rattle.bson_model.specs.Normal.{writable, InRange}
+use Rattle.bson_model.specs.Writing.{writes}
+use Rattle.bson_model.proofs.Offered.{has_text, tree_is, writable_from, writable_is}
 use Rattle.bson.specs.Texts.{GivesText, IsTextIn}
 
 pub text_is : (f : Form) (v : Value) (r : Result (String Global) WriteError) → GivesText r (writes f v) → OnOk r (InRange v) → IfOk r (λ s. IsTextIn f v (string_bytes s))

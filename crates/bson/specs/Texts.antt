@@ -12,7 +12,8 @@ use Rattle.bson_leaf.specs.declared.write_error.WriteError.{WriteError}
 use Rattle.bson_store.specs.Order.{key_cmp}
 use Rattle.bson_model.specs.Texts.{ReadsAgain}
 use Rattle.bson_model.specs.Value.{Value, Pairs, no_pairs, pair}
-use Rattle.bson_model.specs.Writing.{IsTreeOf, writes}
+use Rattle.bson_model.specs.Writing.{writes}
+use Rattle.bson_model.specs.Laws.{IsTreeOf}
 
 -- the compact text of the value's tree in the form
 pub record IsTextIn (f : Form) (v : Value) (text : List ℕ) : Type 0 where

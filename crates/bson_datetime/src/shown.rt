@@ -1,7 +1,7 @@
 //! Writes the parts of a date and time, and the two together as `Display` has them.
 ghost use Rattle.std.specs.Prelude.{◌≡◌, ◌<◌, Some, ℤ};
 ghost use Rattle.bson_datetime.specs.JiffSteps.{fields_of};
-ghost use Rattle.bson_datetime.specs.Shown.{two, year_shown, hour_shown, fraction_shown, civil_text};
+ghost use Rattle.bson_datetime.specs.Shown.{two_shown, year_shown, hour_shown, fraction_shown, civil_text};
 ghost use Rattle.jiff.specs.Words.{IsWithin};
 
 use jiff::civil::DateTime;
@@ -15,7 +15,7 @@ pub(crate) struct Two {
 }
 
 impl fmt::Display for Two {
-    ghost output = { λ x. Some (two x.n) };
+    ghost output = { λ x. Some (two_shown x.n) };
 
     fn fmt<W: fmt::Write>(&self, f: &mut fmt::Formatter<W>) -> fmt::Result {
         let high = (b'0' + self.n / 10) as char;

@@ -19,7 +19,7 @@ use Rattle.std.specs.List.{prefix_len}
 use Rattle.std.specs.Str.Parse.{AllDigits, digits_value}
 use Rattle.bson_decimal.specs.declared.bits.Decoded.{Decoded}
 use Rattle.bson_decimal.specs.declared.bits.Decoded.TheVariants.{Nan, Infinity, Finite}
-use Rattle.bson_decimal.specs.Pattern.{decoded, dec, first_form, sign_weight, canon, canon_number, field, is_set, counted}
+use Rattle.bson_decimal.specs.Pattern.{decoded, dec, first_form, sign_weight, normal_decimal, normal_number, field, is_set, counted}
 use Rattle.bson_decimal.specs.Printed.{shown, printed, finite_text, plain_text, scientific_text, power_text}
 use Rattle.bson_decimal.proofs.Shifted.{IsNearestShifted}
 use Rattle.bson_decimal.specs.Numeral.{Sign, none, plus, minus, sign_bytes, is_minus, Exponent, unwritten, written, exponent_bytes, fraction_bytes, fraction_digits, IsExponent, Numeral, is_zero, without_leading_zeros}
@@ -259,7 +259,7 @@ finite-prints c e small within =
       | inr a ↦ rw a (scientific-prints c e small within)
     ]
 
-shown-parses : (d : Decoded) → IsDecoded d → Parses (shown d) (to_le_bytes w128 (canon_number d))
+shown-parses : (d : Decoded) → IsDecoded d → Parses (shown d) (to_le_bytes w128 (normal_number d))
 shown-parses (Nan s q) h = special none (codes "NaN") (124 * 2 ^ 120) refl (nan refl) refl
 shown-parses (Infinity s) h =
     special (sign_of s) (codes "Infinity") (120 * 2 ^ 120) (ap (λ t. t ++ codes "Infinity") (sign_bytes-is s)) (infinity refl)
@@ -267,8 +267,8 @@ shown-parses (Infinity s) h =
 shown-parses (Finite s c e) h = from-prints s c e (finite_text (decimal c) e) h.0 h.1 (finite-prints c e h.0 h.1)
 
 -- a printed text parses to the canonical pattern
-pub printed-parses : (b : List ℕ) → Parses (printed b) (canon b)
-unfolding printed canon
+pub printed-parses : (b : List ℕ) → Parses (printed b) (normal_decimal b)
+unfolding printed normal_decimal
 printed-parses b = shown-parses (dec b) (decoded-within (from_le_bytes w128 b))
 
 -- a text parses to one pattern
@@ -286,30 +286,30 @@ parses-one text a b (finite n c e t l near a-is) other = by-steps (Steps.finite 
         one a (finite n c e t l near a-is) ∙ sym (one b other)
     by-steps (Err k) is = absurd (refused-parses text k (λ m. no-word text n m t) is a (finite n c e t l near a-is))
 
-canon-lt : (d : Decoded) → IsDecoded d → canon_number d < 2 ^ 128
+canon-lt : (d : Decoded) → IsDecoded d → normal_number d < 2 ^ 128
 canon-lt (Nan s q) h = omega arith
 canon-lt (Infinity true) h = omega arith
 canon-lt (Infinity false) h = omega arith
 canon-lt (Finite s c e) h = first_form-lt s c e h.0 h.1
 
-shown-canon : (d : Decoded) → IsDecoded d → shown (decoded (canon_number d)) ≡ shown d
+shown-canon : (d : Decoded) → IsDecoded d → shown (decoded (normal_number d)) ≡ shown d
 shown-canon (Nan s q) h = refl
 shown-canon (Infinity true) h = refl
 shown-canon (Infinity false) h = refl
 shown-canon (Finite s c e) h = ap shown (decoded-first_form s c e h.0 h.1)
 
-pub printed-canon : (b : List ℕ) → printed (canon b) ≡ printed b
-unfolding printed canon
+pub printed-canon : (b : List ℕ) → printed (normal_decimal b) ≡ printed b
+unfolding printed normal_decimal
 printed-canon b =
     let h = decoded-within (from_le_bytes w128 b) in
-    ap (λ n. shown (decoded n)) (from_le_bytes-to_le_bytes_16 (canon_number (dec b)) (canon-lt (dec b) h)) ∙ shown-canon (dec b) h
+    ap (λ n. shown (decoded n)) (from_le_bytes-to_le_bytes_16 (normal_number (dec b)) (canon-lt (dec b) h)) ∙ shown-canon (dec b) h
 
 -- two patterns print alike exactly if their canonical patterns are one
-pub printed-same : (a b : List ℕ) → (printed a ≡ printed b) ↔ (canon a ≡ canon b)
+pub printed-same : (a b : List ℕ) → (printed a ≡ printed b) ↔ (normal_decimal a ≡ normal_decimal b)
 printed-same a b =
-    (λ e. parses-one (printed b) (canon a) (canon b) (rw e at (printed-parses a)) (printed-parses b), λ e. sym (printed-canon a) ∙ ap printed e ∙ printed-canon b)
+    (λ e. parses-one (printed b) (normal_decimal a) (normal_decimal b) (rw e at (printed-parses a)) (printed-parses b), λ e. sym (printed-canon a) ∙ ap printed e ∙ printed-canon b)
 
 -- so a printed text is answered by its canonical pattern
-pub reads-printed : (text : List ℕ) (r : Result (List ℕ) ParseError) → ParsesTo text r → (b : List ℕ) → text ≡ printed b → IsOkAnd r (λ d. d ≡ canon b)
-reads-printed text (Ok d) h b e = sym (h.1 (canon b) (rw e (printed-parses b)))
-reads-printed text (Err k) h b e = absurd (h.0 (canon b) (rw e (printed-parses b)))
+pub reads-printed : (text : List ℕ) (r : Result (List ℕ) ParseError) → ParsesTo text r → (b : List ℕ) → text ≡ printed b → IsOkAnd r (λ d. d ≡ normal_decimal b)
+reads-printed text (Ok d) h b e = sym (h.1 (normal_decimal b) (rw e (printed-parses b)))
+reads-printed text (Err k) h b e = absurd (h.0 (normal_decimal b) (rw e (printed-parses b)))

@@ -44,11 +44,11 @@ abbrev pub first_form : Bool → ℕ → ℕ → ℕ
 first_form negative c stored = sign_weight negative + stored * 2 ^ 113 + c
 
 -- Of the patterns with one meaning this is the one that is written: of a NaN the positive quiet one with no payload, of an infinity the one of its sign with no other bit set, of a finite number its first form.
-abbrev pub canon_number : Decoded → ℕ
-canon_number (Nan negative signalling) = 124 * 2 ^ 120
-canon_number (Infinity negative) = sign_weight negative + 120 * 2 ^ 120
-canon_number (Finite negative c stored) = first_form negative c stored
+abbrev pub normal_number : Decoded → ℕ
+normal_number (Nan negative signalling) = 124 * 2 ^ 120
+normal_number (Infinity negative) = sign_weight negative + 120 * 2 ^ 120
+normal_number (Finite negative c stored) = first_form negative c stored
 
 -- the canonical pattern in the place of b
-unfoldable pub canon : List ℕ → List ℕ
-canon b = to_le_bytes w128 (canon_number (dec b))
+unfoldable pub normal_decimal : List ℕ → List ℕ
+normal_decimal b = to_le_bytes w128 (normal_number (dec b))

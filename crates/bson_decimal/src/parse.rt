@@ -3,7 +3,7 @@
 ghost use Rattle.std.specs.Prelude.{◌≡◌, ◌↔◌, ◌+◌, ◌*◌, ◌^◌, ◌<◌, ◌≤◌, List, ℕ, length, position, slice_index, IfOk, IfSome, IsOkAnd, MatchOption};
 ghost use Rattle.std.specs.List.{position_or_len};
 ghost use Rattle.std.specs.Str.Parse.{starts_with_minus};
-ghost use Rattle.bson_decimal.specs.Pattern.{canon};
+ghost use Rattle.bson_decimal.specs.Pattern.{normal_decimal};
 ghost use Rattle.bson_decimal.specs.Printed.{printed};
 ghost use Rattle.bson_decimal.specs.Text.{SpecialWord};
 ghost use Rattle.bson_decimal.specs.Steps.{is_mark, is_point, is_inside, cut_at_34, raise_to_least, zeros_to_add, settled, coefficient, written_exponent, scaled_exponent, exponent_value, finite, unsigned};
@@ -48,8 +48,8 @@ impl FromStr for Decimal128 {
         // Two laws: a printed text parses to the canonical pattern, and two patterns print alike
         // exactly if their canonical patterns are one.
         ensures reads_printed { (b : List ℕ) → text.now ≡ printed b
-            → IsOkAnd result (λ d. d ≡ canon b) }
-        ensures prints_apart { (a b : List ℕ) → (printed a ≡ printed b) ↔ (canon a ≡ canon b) }
+            → IsOkAnd result (λ d. d ≡ normal_decimal b) }
+        ensures prints_apart { (a b : List ℕ) → (printed a ≡ printed b) ↔ (normal_decimal a ≡ normal_decimal b) }
     {
         let negative = is_negative(text);
         let rest = without_sign(text);

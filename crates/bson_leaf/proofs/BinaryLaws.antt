@@ -11,12 +11,12 @@ use Rattle.base64.proofs.EngineFacts.{decode_of-encode_of}
 use Rattle.bson_scalar.specs.Base64.{base64_text}
 use Rattle.bson_scalar.specs.Orders.{parsed_hyphenated}
 use Rattle.bson_scalar.specs.Subtype.{subtype_byte, subtype_of}
-use Rattle.bson_scalar.proofs.HexLaws.{sized_from}
+use Rattle.bson_scalar.proofs.Offered.{sized_from}
 use Rattle.serde_json.specs.Data.{Data}
 use Rattle.bson_leaf.specs.Means.{MeansScalar, binary, uuid}
 use Rattle.bson_leaf.specs.Reading.{binary_read, uuid_read, byte_of, bytes_of, only_byte}
 use Rattle.bson_leaf.specs.Scalar.{Scalar}
-use Rattle.bson_leaf.specs.Shapes.{one}
+use Rattle.bson_leaf.specs.Shapes.{object_of_one}
 use Rattle.bson_leaf.proofs.InverseLemmas.{means_by, un_ok, un_some, some_then, text_then, two_then, two_same}
 
 byte_is : (r : Result (List ℕ) FromHexError) (n : ℕ) → only_byte r ≡ Some n → r ≡ Ok (n ∷ [])
@@ -48,7 +48,7 @@ subtype_at false false false false false false false false false false false n p
 pub subtype_byte-of : (n : ℕ) → subtype_byte (subtype_of n) ≡ n
 subtype_byte-of n = subtype_at _ _ _ _ _ _ _ _ _ _ _ n refl refl refl refl refl refl refl refl refl refl refl
 
-pub binary_from : (d : Data) (x : Scalar) → binary_read d ≡ Ok x → MeansScalar (one (codes "$binary") d) x
+pub binary_from : (d : Data) (x : Scalar) → binary_read d ≡ Ok x → MeansScalar (object_of_one (codes "$binary") d) x
 binary_from d x h =
     let a = two_then (codes "base64") (codes "subType") d _ x h in
     let b = text_then a.0 _ x a.3 in
@@ -58,7 +58,7 @@ binary_from d x h =
     means_by (codes "$binary") d _ x _ (a.2 ∙ two_same (codes "base64") (codes "subType") b.1 k.1) (un_ok _ _ n.2)
     (binary b.0 k.0 bs.0 n.0 (bytes_are _ bs.0 bs.1) (sized_from 1 k.0 (n.0 ∷ []) (byte_is _ n.0 n.1)).0)
 
-pub uuid_from : (d : Data) (x : Scalar) → uuid_read d ≡ Ok x → MeansScalar (one (codes "$uuid") d) x
+pub uuid_from : (d : Data) (x : Scalar) → uuid_read d ≡ Ok x → MeansScalar (object_of_one (codes "$uuid") d) x
 uuid_from d x h =
     let t = text_then d _ x h in
     let i = some_then (parsed_hyphenated t.0) _ x t.2 in

@@ -8,17 +8,16 @@ use Rattle.std.specs.Str.Parse.{without_leading_sign, starts_with_minus}
 use Rattle.std.proofs.lemmas.Slice.Eq.{bytes_eq-Decides}
 use Rattle.bson_decimal.specs.declared.ParseError.{ParseError}
 use Rattle.bson_decimal.specs.FromStr.{ParsesTo}
-use Rattle.bson_decimal.specs.Pattern.{first_form, canon}
+use Rattle.bson_decimal.specs.Pattern.{first_form, normal_decimal}
 use Rattle.bson_decimal.specs.Printed.{printed}
 use Rattle.bson_decimal.specs.Steps.{finite}
 use Rattle.bson_decimal.specs.Text.{Parses, SpecialWord, nan, snan, infinity, inf, lowercase}
-use Rattle.bson_decimal.proofs.Parsing.{special-parses, finite-parses, refused-parses}
-use Rattle.bson_decimal.proofs.PrintedLaws.{printed-parses, printed-same, printed-canon}
+use Rattle.bson_decimal.proofs.Offered.{special-parses, finite-parses, refused-parses, printed-parses, printed-same, printed-canon}
 use Rattle.serde_json.specs.Data.{Data}
 use Rattle.bson_leaf.specs.Means.{MeansScalar, number_decimal}
 use Rattle.bson_leaf.specs.Reading.{word_of, decimal_at, decimal_of, decimal_read}
 use Rattle.bson_leaf.specs.Scalar.{Scalar}
-use Rattle.bson_leaf.specs.Shapes.{one}
+use Rattle.bson_leaf.specs.Shapes.{object_of_one}
 use Rattle.bson_leaf.proofs.InverseLemmas.{means_by, un_ok, text_then, some_then}
 
 same : (xs ys : List ℕ) → bytes_eq xs ys ≡ true → xs ≡ ys
@@ -91,13 +90,13 @@ pub parsed_decimal : (s : List ℕ) (r : Result (List ℕ) ParseError) → Parse
 parsed_decimal s (Ok d) h = sym (decimal_of-some s d h.0)
 parsed_decimal s (Err k) h = sym (none_from s _ (answers s) h.0)
 
-pub decimal_of-printed : (b : List ℕ) → decimal_of (printed b) ≡ Some (canon b)
-decimal_of-printed b = decimal_of-some (printed b) (canon b) (printed-parses b)
+pub decimal_of-printed : (b : List ℕ) → decimal_of (printed b) ≡ Some (normal_decimal b)
+decimal_of-printed b = decimal_of-some (printed b) (normal_decimal b) (printed-parses b)
 
-pub canon-again : (b : List ℕ) → canon (canon b) ≡ canon b
-canon-again b = (printed-same (canon b) b).0 (printed-canon b)
+pub canon-again : (b : List ℕ) → normal_decimal (normal_decimal b) ≡ normal_decimal b
+canon-again b = (printed-same (normal_decimal b) b).0 (printed-canon b)
 
-pub decimal_from : (d : Data) (x : Scalar) → decimal_read d ≡ Ok x → MeansScalar (one (codes "$numberDecimal") d) x
+pub decimal_from : (d : Data) (x : Scalar) → decimal_read d ≡ Ok x → MeansScalar (object_of_one (codes "$numberDecimal") d) x
 decimal_from d x h =
     let t = text_then d _ x h in
     let b = some_then (decimal_of t.0) _ x t.2 in

@@ -8,24 +8,24 @@ use lib.Signed.{mag}
 use mir.Syntax.{Width}
 use mir.Val.{hbits}
 use Rattle.serde_json.specs.Find.{as_i64, of_integer}
-use Rattle.bson_leaf.specs.Faults.{◌>>=◌, or_bad}
+use Rattle.bson_leaf.specs.Faults.{◌>>=◌, or_wrong_shape}
 use Rattle.serde_json.specs.Data.{Data, Num}
 use Rattle.serde_json.specs.Data as tree
 use Rattle.bson_leaf.specs.Ints.{fits_bits, narrowest}
 use Rattle.bson_leaf.specs.Means.{MeansScalar, narrow_number, wide_number, number_int, number_long}
 use Rattle.bson_leaf.specs.Reading.{number_read, int32_read, int64_read, int_of}
 use Rattle.bson_leaf.specs.Scalar.{Scalar, int32, int64}
-use Rattle.bson_leaf.specs.Shapes.{one}
+use Rattle.bson_leaf.specs.Shapes.{object_of_one}
 use Rattle.bson_leaf.proofs.InverseLemmas.{means_by, un_ok, text_then, some_then}
 use Rattle.bson_leaf.proofs.IntText.{fits_true, fits_from, int_of_from, int_of_parsed}
 
-pub int32_from : (d : Data) (x : Scalar) → int32_read d ≡ Ok x → MeansScalar (one (codes "$numberInt") d) x
+pub int32_from : (d : Data) (x : Scalar) → int32_read d ≡ Ok x → MeansScalar (object_of_one (codes "$numberInt") d) x
 int32_from d x h =
     let t = text_then d _ x h in
     let n = some_then (int_of 31 t.0) _ x t.2 in
     means_by (codes "$numberInt") d _ x _ t.1 (un_ok _ _ n.2) (number_int t.0 n.0 (int_of_from w32 t.0 n.0 n.1))
 
-pub int64_from : (d : Data) (x : Scalar) → int64_read d ≡ Ok x → MeansScalar (one (codes "$numberLong") d) x
+pub int64_from : (d : Data) (x : Scalar) → int64_read d ≡ Ok x → MeansScalar (object_of_one (codes "$numberLong") d) x
 int64_from d x h =
     let t = text_then d _ x h in
     let n = some_then (int_of 63 t.0) _ x t.2 in
@@ -63,4 +63,4 @@ integer_again (pos n) fits = let small : n < 2 ^ 63 = fits.sfits in rw (lt-ltb n
 integer_again (negsuc n) fits = refl
 
 pub number_again : (z : ℤ) → FitsSigned w64 z → number_read (of_integer z) ≡ Ok (narrowest z)
-number_again z fits = ap (λ o. or_bad o >>= λ y. Ok (narrowest y)) (integer_again z fits)
+number_again z fits = ap (λ o. or_wrong_shape o >>= λ y. Ok (narrowest y)) (integer_again z fits)

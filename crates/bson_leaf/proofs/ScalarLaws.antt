@@ -9,19 +9,19 @@ use Rattle.serde_json.specs.Data as tree
 use Rattle.serde_json.specs.Find.{of_integer}
 use Rattle.serde_json.specs.Written.{has_float}
 use Rattle.bson_scalar.specs.Base64.{base64_text}
-use Rattle.bson_leaf.specs.Shapes.{one, two}
+use Rattle.bson_leaf.specs.Shapes.{object_of_one, object_of_two}
 use Rattle.bson_scalar.specs.Subtype.{subtype_byte, subtype_of}
-use Rattle.bson_decimal.specs.Pattern.{canon}
-use Rattle.bson_decimal.proofs.PrintedLaws.{printed-canon}
+use Rattle.bson_decimal.specs.Pattern.{normal_decimal}
+use Rattle.bson_decimal.proofs.Offered.{printed-canon}
 use Rattle.bson_leaf.specs.Dates.{is_recent, relaxed_date_tree}
 use lib.Signed.{mag}
 use Rattle.bson_leaf.specs.Decimals.{decimal_tree}
-use Rattle.bson_leaf.specs.Doubles.{double_text, double_tree, nan_form}
-use Rattle.bson_leaf.specs.Faults.{Fault, bad}
+use Rattle.bson_leaf.specs.Doubles.{double_text, double_tree, normal_double}
+use Rattle.bson_leaf.specs.Faults.{Fault, wrong_shape}
 use Rattle.bson_leaf.specs.Ints.{fits_bits}
 use Rattle.bson_leaf.specs.Means.{MeansScalar}
 use Rattle.bson_leaf.specs.Means as means
-use Rattle.bson_leaf.specs.Normal.{nf_scalar, settle, int64_settled, writable_scalar, ScalarInRange, IsReadForm}
+use Rattle.bson_leaf.specs.Normal.{normal_scalar, scalar_as_read, int64_as_read, writable_scalar, ScalarInRange, IsReadScalar}
 use Rattle.bson_leaf.specs.Reading.{code_beside, single, single_at, scalar_read}
 use Rattle.bson_leaf.specs.Regexes.{regex_tree}
 use Rattle.bson_leaf.specs.Scalar.{Scalar, null, undefined, min_key, max_key, boolean, double, int32, int64, text, symbol, code, regex, timestamp, binary, object_id, date, decimal, db_pointer}
@@ -34,8 +34,8 @@ use Rattle.bson_leaf.specs.declared.wrapper.Wrapper.TheVariants.{Oid, Symbol, Re
 use Rattle.bson_leaf.proofs.InverseLemmas as inverse
 use Rattle.bson_leaf.proofs.IntText.{fits_true, int_of_some}
 use Rattle.bson_leaf.proofs.BinaryLaws.{binary_from, uuid_from, bytes_again, byte_again, subtype_byte-of}
-use Rattle.bson_datetime.proofs.NamesLaws.{denotes-names}
-use Rattle.bson_scalar.proofs.HexLaws.{sized_to}
+use Rattle.bson_datetime.proofs.Offered.{denotes-names}
+use Rattle.bson_scalar.proofs.Offered.{sized_to, sorted_text-again}
 use Rattle.bson_leaf.proofs.DateLaws.{date_from, recent_denoted}
 use Rattle.bson_leaf.proofs.DecimalLaws.{decimal_from, decimal_of-some, decimal_of-printed, canon-again}
 use Rattle.bson_leaf.proofs.DoubleLaws.{double_from, double_form, double_text-form, double_again, nan_form-again, special_is}
@@ -43,13 +43,12 @@ use Rattle.bson_leaf.proofs.IdLaws.{oid_from, pointer_from, id_again}
 use Rattle.bson_leaf.proofs.IntLaws.{int32_from, int64_from, number_from, narrow_read, wide_read, int32_again, int64_again, number_again}
 use Rattle.bson_leaf.proofs.LoneLaws.{min_key_from, max_key_from, undefined_from}
 use Rattle.bson_leaf.proofs.RegexLaws.{regex_from}
-use Rattle.bson_scalar.proofs.SortedText.{sorted_text-again}
 use Rattle.bson_leaf.proofs.TextLaws.{symbol_from, code_from}
 use Rattle.bson_leaf.proofs.TimestampLaws.{timestamp_from, natural_again}
 
 -- ---- what is read is the meaning
 
-under : (w : Wrapper) (d : Data) (x : Scalar) → single w d ≡ Ok x → MeansScalar (one (key_of w) d) x
+under : (w : Wrapper) (d : Data) (x : Scalar) → single w d ≡ Ok x → MeansScalar (object_of_one (key_of w) d) x
 under Oid = oid_from
 under Symbol = symbol_from
 under RegularExpression = regex_from
@@ -83,31 +82,31 @@ key_from k w =
     (key_at k Timestamp _ _ w (is Timestamp) (key_at k Date _ _ w (is Date) (key_at k MinKey _ _ w (is MinKey)
     (key_at k MaxKey _ _ w (is MaxKey) (key_at k Undefined _ _ w (is Undefined) (λ h. cc))))))))))))))))
 
-single_from : (k : List ℕ) (d : Data) (o : Option Wrapper) (x : Scalar) → o ≡ wrapper_of k → single_at o d ≡ Ok x → MeansScalar (one k d) x
+single_from : (k : List ℕ) (d : Data) (o : Option Wrapper) (x : Scalar) → o ≡ wrapper_of k → single_at o d ≡ Ok x → MeansScalar (object_of_one k d) x
 single_from k d (Some w) x is h = rw (key_from k w (sym is)) (under w d x h)
 single_from k d None x is h = cc
 
-guarded : (b : Bool) (r : Result Scalar Fault) (x : Scalar) → cond b r (Err bad) ≡ Ok x → (b ≡ true) × (r ≡ Ok x)
+guarded : (b : Bool) (r : Result Scalar Fault) (x : Scalar) → cond b r (Err wrong_shape) ≡ Ok x → (b ≡ true) × (r ≡ Ok x)
 guarded true r x h = (refl, h)
 guarded false r x h = cc
 
-code_text : (e d : Data) (x : Scalar) → code_beside e d ≡ Ok x → MeansScalar (two (codes "$code") d (codes "$scope") e) x
+code_text : (e d : Data) (x : Scalar) → code_beside e d ≡ Ok x → MeansScalar (object_of_two (codes "$code") d (codes "$scope") e) x
 code_text tree.null d x h =
     let t = inverse.text_then d _ x h in
-    subst (λ e. MeansScalar (two (codes "$code") e (codes "$scope") tree.null) x) (sym t.1)
-    (subst (λ y. MeansScalar (two (codes "$code") (tree.string t.0) (codes "$scope") tree.null) y) (sym (inverse.un_ok _ _ t.2)) (means.code_without_scope t.0))
+    subst (λ e. MeansScalar (object_of_two (codes "$code") e (codes "$scope") tree.null) x) (sym t.1)
+    (subst (λ y. MeansScalar (object_of_two (codes "$code") (tree.string t.0) (codes "$scope") tree.null) y) (sym (inverse.un_ok _ _ t.2)) (means.code_without_scope t.0))
 code_text (tree.boolean b) d x h = cc
 code_text (tree.number n) d x h = cc
 code_text (tree.string s) d x h = cc
 code_text (tree.array ds) d x h = cc
 code_text (tree.object ms) d x h = cc
 
-scope_from : (k l : List ℕ) (d e : Data) (x : Scalar) → cond (bytes_eq k (codes "$code") && bytes_eq l (codes "$scope")) (code_beside e d) (Err bad) ≡ Ok x → MeansScalar (two k d l e) x
+scope_from : (k l : List ℕ) (d e : Data) (x : Scalar) → cond (bytes_eq k (codes "$code") && bytes_eq l (codes "$scope")) (code_beside e d) (Err wrong_shape) ≡ Ok x → MeansScalar (object_of_two k d l e) x
 scope_from k l d e x h =
     let g = guarded _ _ x h in
     let keys = and_parts _ _ g.0 in
-    subst (λ a. MeansScalar (two a d l e) x) (sym (inverse.key_is k _ keys.0))
-    (subst (λ a. MeansScalar (two (codes "$code") d a e) x) (sym (inverse.key_is l _ keys.1)) (code_text e d x g.1))
+    subst (λ a. MeansScalar (object_of_two a d l e) x) (sym (inverse.key_is k _ keys.0))
+    (subst (λ a. MeansScalar (object_of_two (codes "$code") d a e) x) (sym (inverse.key_is l _ keys.1)) (code_text e d x g.1))
 
 pub scalar_from : (t : Data) (x : Scalar) → scalar_read t ≡ Ok x → MeansScalar t x
 scalar_from tree.null x h = rw (inverse.un_ok _ _ h) means.null
@@ -150,7 +149,7 @@ pub scalar_one : (t : Data) (x y : Scalar) → MeansScalar t x → MeansScalar t
 scalar_one t x y h g = inverse.un_ok _ _ (sym (scalar_to g) ∙ scalar_to h)
 
 -- a scalar that is read is writable, and in normal form but for decimals
-pub scalar_form : {t : Data} {x : Scalar} → MeansScalar t x → IsReadForm x
+pub scalar_form : {t : Data} {x : Scalar} → MeansScalar t x → IsReadScalar x
 scalar_form (means.number_double s p is) = double_form s p is
 scalar_form (means.regular_expression p o) = (refl, ap (regex p) (sorted_text-again o))
 scalar_form (means.binary s k bytes n is at) = (refl, ap (λ m. binary (subtype_of m) bytes) (subtype_byte-of n))
@@ -189,18 +188,18 @@ some_from : {A : Type 0} (o : Option A) (s : A) → or_finite o ≡ Ok s → o �
 some_from (Some s) t h = ap Some (sym (un_ok _ _ h))
 some_from None t h = cc
 
-decimal_same : (b : List ℕ) → decimal_tree (canon b) ≡ decimal_tree b
-decimal_same b = ap (λ s. one (codes "$numberDecimal") (tree.string s)) (printed-canon b)
+decimal_same : (b : List ℕ) → decimal_tree (normal_decimal b) ≡ decimal_tree b
+decimal_same b = ap (λ s. object_of_one (codes "$numberDecimal") (tree.string s)) (printed-canon b)
 
 -- a scalar's tree is that of its normal form
-pub nf_written : (f : Form) (x : Scalar) → writes_scalar f (nf_scalar x) ≡ writes_scalar f x
+pub nf_written : (f : Form) (x : Scalar) → writes_scalar f (normal_scalar x) ≡ writes_scalar f x
 nf_written f (double p) = ap (λ o. or_finite o >>= λ s. Ok (double_tree s)) (double_text-form p)
 nf_written f (regex p o) = ap (λ s. Ok (regex_tree p s)) (sorted_text-again o)
-nf_written f (binary k bytes) = ap (λ n. Ok (one (codes "$binary") (two (codes "base64") (tree.string (base64_text bytes)) (codes "subType") (tree.string (encode_lower (n ∷ [])))))) (subtype_byte-of (subtype_byte k))
+nf_written f (binary k bytes) = ap (λ n. Ok (object_of_one (codes "$binary") (object_of_two (codes "base64") (tree.string (base64_text bytes)) (codes "subType") (tree.string (encode_lower (n ∷ [])))))) (subtype_byte-of (subtype_byte k))
 nf_written f (decimal b) = ap Ok (decimal_same b)
 nf_written f x = refl
 
-pub nf_again : (x : Scalar) → nf_scalar (nf_scalar x) ≡ nf_scalar x
+pub nf_again : (x : Scalar) → normal_scalar (normal_scalar x) ≡ normal_scalar x
 nf_again (double p) = ap double (nan_form-again p)
 nf_again (regex p o) = ap (regex p) (sorted_text-again o)
 nf_again (binary k bytes) = ap (λ n. binary (subtype_of n) bytes) (subtype_byte-of (subtype_byte k))
@@ -208,20 +207,20 @@ nf_again (decimal b) = ap decimal (canon-again b)
 nf_again x = refl
 
 -- of a scalar in normal form: the function and the relation
-written_at : (f : Form) (x : Scalar) (t : Data) → writes_scalar f (nf_scalar x) ≡ Ok t → WrittenScalar f (nf_scalar x) t
-written_at f (double p) t h = let b = bind_ok (or_finite (double_text (nan_form p))) _ t h in (b.0, some_from _ _ b.1, un_ok _ _ b.2)
+written_at : (f : Form) (x : Scalar) (t : Data) → writes_scalar f (normal_scalar x) ≡ Ok t → WrittenScalar f (normal_scalar x) t
+written_at f (double p) t h = let b = bind_ok (or_finite (double_text (normal_double p))) _ t h in (b.0, some_from _ _ b.1, un_ok _ _ b.2)
 written_at f (regex p o) t h = un_ok _ _ h ∙ ap (regex_tree p) (sorted_text-again o)
 written_at f x t h = un_ok _ _ h
 
-writes_at : (f : Form) (x : Scalar) (t : Data) → WrittenScalar f (nf_scalar x) t → writes_scalar f (nf_scalar x) ≡ Ok t
+writes_at : (f : Form) (x : Scalar) (t : Data) → WrittenScalar f (normal_scalar x) t → writes_scalar f (normal_scalar x) ≡ Ok t
 writes_at f (double p) t h = rw h.1 (ap Ok (sym h.2))
 writes_at f (regex p o) t h = ap Ok (ap (regex_tree p) (sorted_text-again o) ∙ sym h)
 writes_at f x t h = ap Ok (sym h)
 
-pub written_from : (f : Form) (x : Scalar) (t : Data) → writes_scalar f x ≡ Ok t → WrittenScalar f (nf_scalar x) t
+pub written_from : (f : Form) (x : Scalar) (t : Data) → writes_scalar f x ≡ Ok t → WrittenScalar f (normal_scalar x) t
 written_from f x t h = written_at f x t (nf_written f x ∙ h)
 
-pub written_to : (f : Form) (x : Scalar) (t : Data) → WrittenScalar f (nf_scalar x) t → writes_scalar f x ≡ Ok t
+pub written_to : (f : Form) (x : Scalar) (t : Data) → WrittenScalar f (normal_scalar x) t → writes_scalar f x ≡ Ok t
 written_to f x t h = sym (nf_written f x) ∙ writes_at f x t h
 
 double_ok : (o : Option (List ℕ)) → is_ok (or_finite o >>= λ s. Ok (double_tree s)) ≡ is_some o
@@ -241,7 +240,7 @@ int32_back : (f : Form) (z : ℤ) → FitsSigned w32 z → scalar_read (int32_fo
 int32_back Canonical z r = rw (int32_again z r) refl
 int32_back Relaxed z r = number_again z (wider z r) ∙ ap (λ b. Ok (cond b (int32 z) (int64 z))) (fits_true 31 z r.sfits)
 
-int64_back : (f : Form) (z : ℤ) → FitsSigned w64 z → scalar_read (int64_form f z) ≡ Ok (int64_settled f z)
+int64_back : (f : Form) (z : ℤ) → FitsSigned w64 z → scalar_read (int64_form f z) ≡ Ok (int64_as_read f z)
 int64_back Canonical z r = rw (int64_again z r) refl
 int64_back Relaxed z r = number_again z r
 
@@ -253,7 +252,7 @@ date_back : (f : Form) (z : ℤ) → FitsSigned w64 z → scalar_read (date_form
 date_back Canonical z r = rw (int64_again z r) refl
 date_back Relaxed z r = recent_back _ z refl r
 
-pub back : (f : Form) (x : Scalar) (t : Data) → writes_scalar f x ≡ Ok t → ScalarInRange x → scalar_read t ≡ Ok (settle f (nf_scalar x))
+pub back : (f : Form) (x : Scalar) (t : Data) → writes_scalar f x ≡ Ok t → ScalarInRange x → scalar_read t ≡ Ok (scalar_as_read f (normal_scalar x))
 back f null t h r = rw (un_ok _ _ h) refl
 back f undefined t h r = rw (un_ok _ _ h) refl
 back f min_key t h r = rw (un_ok _ _ h) refl
@@ -273,25 +272,25 @@ back f (date z) t h r = rw (un_ok _ _ h) (date_back f z r)
 back f (decimal b) t h r = rw (un_ok _ _ h) (rw (decimal_of-printed b) refl)
 back f (db_pointer s id) t h r = rw (un_ok _ _ h) (rw (id_again id r.0 r.1) refl)
 
-pub reads_back : (f : Form) (x : Scalar) (t : Data) → writes_scalar f x ≡ Ok t → ScalarInRange x → MeansScalar t (settle f (nf_scalar x))
+pub reads_back : (f : Form) (x : Scalar) (t : Data) → writes_scalar f x ≡ Ok t → ScalarInRange x → MeansScalar t (scalar_as_read f (normal_scalar x))
 reads_back f x t h r = scalar_from t _ (back f x t h r)
 
 -- ---- what reads back settles
 
-narrow_at : (b : Bool) (z : ℤ) → fits_bits 31 z ≡ b → settle Relaxed (cond b (int32 z) (int64 z)) ≡ cond b (int32 z) (int64 z)
+narrow_at : (b : Bool) (z : ℤ) → fits_bits 31 z ≡ b → scalar_as_read Relaxed (cond b (int32 z) (int64 z)) ≡ cond b (int32 z) (int64 z)
 narrow_at true z e = refl
 narrow_at false z e = rw e refl
 
-int64_settle : (f : Form) (z : ℤ) → settle f (int64_settled f z) ≡ int64_settled f z
+int64_settle : (f : Form) (z : ℤ) → scalar_as_read f (int64_as_read f z) ≡ int64_as_read f z
 int64_settle Canonical z = refl
 int64_settle Relaxed z = narrow_at _ z refl
 
-pub settle_again : (f : Form) (x : Scalar) → settle f (settle f x) ≡ settle f x
+pub settle_again : (f : Form) (x : Scalar) → scalar_as_read f (scalar_as_read f x) ≡ scalar_as_read f x
 settle_again f (int64 z) = int64_settle f z
 settle_again f x = refl
 
 -- in the canonical form nothing is narrowed
-pub settle_none : (x : Scalar) → settle Canonical x ≡ x
+pub settle_none : (x : Scalar) → scalar_as_read Canonical x ≡ x
 settle_none (int64 z) = refl
 settle_none x = refl
 
@@ -299,12 +298,12 @@ narrow_number : (b : Bool) (z : ℤ) → writes_scalar Relaxed (cond b (int32 z)
 narrow_number true z = refl
 narrow_number false z = refl
 
-int64_written : (f : Form) (z : ℤ) → writes_scalar f (int64_settled f z) ≡ Ok (int64_form f z)
+int64_written : (f : Form) (z : ℤ) → writes_scalar f (int64_as_read f z) ≡ Ok (int64_form f z)
 int64_written Canonical z = refl
 int64_written Relaxed z = narrow_number _ z
 
 -- what reads back has the same tree
-pub settle_written : (f : Form) (x : Scalar) → writes_scalar f (settle f x) ≡ writes_scalar f x
+pub settle_written : (f : Form) (x : Scalar) → writes_scalar f (scalar_as_read f x) ≡ writes_scalar f x
 settle_written f (int64 z) = int64_written f z
 settle_written f x = refl
 

@@ -11,7 +11,7 @@ use Rattle.bson_scalar.specs.Subtype.{subtype_byte}
 use Rattle.bson_scalar.specs.declared.spec.BinarySubtype.{BinarySubtype}
 use Rattle.serde_json.specs.Data.{Data}
 use Rattle.serde_json.specs.Data as tree
-use Rattle.bson_leaf.specs.Shapes.{one, two}
+use Rattle.bson_leaf.specs.Shapes.{object_of_one, object_of_two}
 use Rattle.bson_leaf.specs.Table.{key_of}
 use Rattle.bson_leaf.specs.declared.wrapper.Wrapper.TheVariants.{Binary}
 
@@ -21,7 +21,7 @@ IsByteText s n = IsHexText s (n ∷ [])
 
 -- the digits are written in lower case
 abbrev pub binary_tree : BinarySubtype → List ℕ → Data
-binary_tree k bytes = one (key_of Binary) (two (codes "base64") (tree.string (base64_text bytes)) (codes "subType") (tree.string (encode_lower (subtype_byte k ∷ []))))
+binary_tree k bytes = object_of_one (key_of Binary) (object_of_two (codes "base64") (tree.string (base64_text bytes)) (codes "subType") (tree.string (encode_lower (subtype_byte k ∷ []))))
 
 -- a text of 36 bytes, with `-` at places 8, 13, 18 and 23, counted from 0, and hexadecimal digits of either case
 -- elsewhere, and the bytes of its digits

@@ -6,16 +6,16 @@ use Rattle.bson_datetime.specs.Shown.{rfc}
 use Rattle.serde_json.specs.Data.{Data}
 use Rattle.serde_json.specs.Data as tree
 use Rattle.bson_leaf.specs.Ints.{int64_tree}
-use Rattle.bson_leaf.specs.Shapes.{one}
+use Rattle.bson_leaf.specs.Shapes.{object_of_one}
 use Rattle.bson_leaf.specs.Table.{key_of}
 use Rattle.bson_leaf.specs.declared.wrapper.Wrapper.TheVariants.{Date}
 
 abbrev pub date_tree : ℤ → Data
-date_tree z = one (key_of Date) (int64_tree z)
+date_tree z = object_of_one (key_of Date) (int64_tree z)
 
 -- from the epoch to the end of the year 9999
 abbrev pub is_recent : ℤ → Bool
 is_recent z = int_le (pos 0) z && int_le z (pos 253_402_300_799_999)
 
 abbrev pub relaxed_date_tree : ℤ → Data
-relaxed_date_tree z = if is_recent z then one (key_of Date) (tree.string (rfc z)) else date_tree z
+relaxed_date_tree z = if is_recent z then object_of_one (key_of Date) (tree.string (rfc z)) else date_tree z

@@ -4,9 +4,9 @@ use Rattle.std.specs.Prelude.{ℕ, List}
 use Rattle.bson_decimal.specs.Printed.{printed}
 use Rattle.serde_json.specs.Data.{Data}
 use Rattle.serde_json.specs.Data as tree
-use Rattle.bson_leaf.specs.Shapes.{one}
+use Rattle.bson_leaf.specs.Shapes.{object_of_one}
 use Rattle.bson_leaf.specs.Table.{key_of}
 use Rattle.bson_leaf.specs.declared.wrapper.Wrapper.TheVariants.{NumberDecimal}
 
 abbrev pub decimal_tree : List ℕ → Data
-decimal_tree b = one (key_of NumberDecimal) (tree.string (printed b))
+decimal_tree b = object_of_one (key_of NumberDecimal) (tree.string (printed b))

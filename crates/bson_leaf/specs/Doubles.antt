@@ -4,7 +4,7 @@ use Rattle.std.specs.Prelude.{◌&&◌, ◌||◌, ◌==◌, ◌/◌, ◌^◌, na
 use Rattle.std.specs.Str.{bytes_eq}
 use Rattle.serde_json.specs.Data.{Data}
 use Rattle.serde_json.specs.Data as tree
-use Rattle.bson_leaf.specs.Shapes.{one}
+use Rattle.bson_leaf.specs.Shapes.{object_of_one}
 use Rattle.bson_leaf.specs.Table.{key_of}
 use Rattle.bson_leaf.specs.declared.wrapper.Wrapper.TheVariants.{NumberDouble}
 
@@ -32,8 +32,8 @@ abbrev pub is_minus_nan : ℕ → Bool
 is_minus_nan p = nat_lt 0xFFF0000000000000 p && nat_lt p 0x10000000000000000
 
 -- a NaN as the pattern that its text means
-abbrev pub nan_form : ℕ → ℕ
-nan_form p = if is_nan p then 0x7FF8000000000000 else if is_minus_nan p then 0xFFF8000000000000 else p
+abbrev pub normal_double : ℕ → ℕ
+normal_double p = if is_nan p then 0x7FF8000000000000 else if is_minus_nan p then 0xFFF8000000000000 else p
 
 -- the text of a pattern, if it has one
 abbrev pub double_text : ℕ → Option (List ℕ)
@@ -47,4 +47,4 @@ double_text p =
     else None
 
 abbrev pub double_tree : List ℕ → Data
-double_tree s = one (key_of NumberDouble) (tree.string s)
+double_tree s = object_of_one (key_of NumberDouble) (tree.string s)

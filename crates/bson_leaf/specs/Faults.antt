@@ -9,17 +9,17 @@ use Rattle.bson_leaf.specs.declared.error.Error.TheVariants.{InvalidObjectId, De
 
 -- the shape is wrong; or the shape is right, and this text is no object id
 pub data Fault : Type 0 where
-  bad : Fault
-  bad_id : List ℕ → Fault
+  wrong_shape : Fault
+  wrong_id : List ℕ → Fault
 
 infixl 10 ◌>>=◌
 abbrev pub ◌>>=◌ : {A B : Type 0} → Result A Fault → (A → Result B Fault) → Result B Fault
 (Ok x) >>= f = f x
 (Err e) >>= f = Err e
 
-abbrev pub or_bad : {A : Type 0} → Option A → Result A Fault
-or_bad (Some x) = Ok x
-or_bad None = Err bad
+abbrev pub or_wrong_shape : {A : Type 0} → Option A → Result A Fault
+or_wrong_shape (Some x) = Ok x
+or_wrong_shape None = Err wrong_shape
 
 -- the fault that the text has, which is never want of memory
 abbrev pub IsIdFault : List ℕ → oid.Error → Type 0
@@ -29,8 +29,8 @@ IsIdFault s e = IsOidError s e
 -- What a function returned, seen by view, is what reading gives, unless memory ran out.
 abbrev pub Fails : {Y : Type 0} → Error → Result Y Fault → Type 0
 Fails OutOfMemory read = Unit {0}
-Fails (DeserializationError message) read = read ≡ Err bad
-Fails (InvalidObjectId e) read = (s : List ℕ) × (read ≡ Err (bad_id s)) × IsIdFault s e
+Fails (DeserializationError message) read = read ≡ Err wrong_shape
+Fails (InvalidObjectId e) read = (s : List ℕ) × (read ≡ Err (wrong_id s)) × IsIdFault s e
 
 abbrev pub Gives : {X Y : Type 0} → (X → Y) → Result X Error → Result Y Fault → Type 0
 Gives view (Ok x) read = read ≡ Ok (view x)

@@ -5,12 +5,12 @@ use Rattle.std.specs.Prelude.{ℕ, List, codes}
 use Rattle.bson_scalar.specs.Oid.{encode_lower}
 use Rattle.serde_json.specs.Data.{Data}
 use Rattle.serde_json.specs.Data as tree
-use Rattle.bson_leaf.specs.Shapes.{one, two}
+use Rattle.bson_leaf.specs.Shapes.{object_of_one, object_of_two}
 use Rattle.bson_leaf.specs.Table.{key_of}
 use Rattle.bson_leaf.specs.declared.wrapper.Wrapper.TheVariants.{Oid, DbPointer}
 
 abbrev pub oid_tree : List ℕ → Data
-oid_tree id = one (key_of Oid) (tree.string (encode_lower id))
+oid_tree id = object_of_one (key_of Oid) (tree.string (encode_lower id))
 
 abbrev pub pointer_tree : List ℕ → List ℕ → Data
-pointer_tree name id = one (key_of DbPointer) (two (codes "$id") (oid_tree id) (codes "$ref") (tree.string name))
+pointer_tree name id = object_of_one (key_of DbPointer) (object_of_two (codes "$id") (oid_tree id) (codes "$ref") (tree.string name))

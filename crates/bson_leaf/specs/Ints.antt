@@ -7,7 +7,7 @@ use mir.Syntax.{Width}
 use Rattle.serde_json.specs.Data.{Data}
 use Rattle.serde_json.specs.Data as tree
 use Rattle.bson_leaf.specs.Scalar.{Scalar, int32, int64}
-use Rattle.bson_leaf.specs.Shapes.{one}
+use Rattle.bson_leaf.specs.Shapes.{object_of_one}
 use Rattle.bson_leaf.specs.Table.{key_of}
 use Rattle.bson_leaf.specs.declared.wrapper.Wrapper.TheVariants.{NumberInt, NumberLong}
 
@@ -17,10 +17,10 @@ IsIntText w s z = IsNumeral 10 (without_leading_sign s) × (z ≡ signed_digits_
 
 -- the written text is the plain decimal number
 abbrev pub int32_tree : ℤ → Data
-int32_tree z = one (key_of NumberInt) (tree.string (signed_decimal z))
+int32_tree z = object_of_one (key_of NumberInt) (tree.string (signed_decimal z))
 
 abbrev pub int64_tree : ℤ → Data
-int64_tree z = one (key_of NumberLong) (tree.string (signed_decimal z))
+int64_tree z = object_of_one (key_of NumberLong) (tree.string (signed_decimal z))
 
 -- whether the number fits a signed type, h bits of which are not the sign
 abbrev pub fits_bits : ℕ → ℤ → Bool

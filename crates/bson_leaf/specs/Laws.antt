@@ -3,7 +3,7 @@ use Rattle.std.specs.Prelude.{◌≡◌, ◌↔◌, ℕ, Ok, is_ok, is_some}
 use Rattle.serde_json.specs.Data.{Data}
 use Rattle.bson_leaf.specs.Doubles.{double_text, is_special}
 use Rattle.bson_leaf.specs.Means.{MeansScalar}
-use Rattle.bson_leaf.specs.Normal.{nf_scalar, settle, writable_scalar, ScalarInRange, IsReadForm}
+use Rattle.bson_leaf.specs.Normal.{normal_scalar, scalar_as_read, writable_scalar, ScalarInRange, IsReadScalar}
 use Rattle.bson_leaf.specs.Reading.{scalar_read}
 use Rattle.bson_leaf.specs.Scalar.{Scalar}
 use Rattle.bson_leaf.specs.Written.{WrittenScalar, writes_scalar}
@@ -19,11 +19,11 @@ OneMeaning = (t : Data) (x y : Scalar) → MeansScalar t x → MeansScalar t y �
 
 -- what is read is writable, and in normal form but for decimals
 abbrev pub ReadForm : Type 0
-ReadForm = (t : Data) (x : Scalar) → MeansScalar t x → IsReadForm x
+ReadForm = (t : Data) (x : Scalar) → MeansScalar t x → IsReadScalar x
 
 -- what is written is the grammar's tree of the normal form
 abbrev pub Tree : Type 0
-Tree = (f : Form) (x : Scalar) (t : Data) → (writes_scalar f x ≡ Ok t) ↔ WrittenScalar f (nf_scalar x) t
+Tree = (f : Form) (x : Scalar) (t : Data) → (writes_scalar f x ≡ Ok t) ↔ WrittenScalar f (normal_scalar x) t
 
 -- a scalar has a tree exactly if it is writable
 abbrev pub Writable : Type 0
@@ -35,11 +35,11 @@ HasText = (p : ℕ) → is_some (double_text p) ≡ is_special p
 
 -- what is written means the normal form, narrowed in the relaxed form
 abbrev pub ReadsBack : Type 0
-ReadsBack = (f : Form) (x : Scalar) (t : Data) → writes_scalar f x ≡ Ok t → ScalarInRange x → MeansScalar t (settle f (nf_scalar x))
+ReadsBack = (f : Form) (x : Scalar) (t : Data) → writes_scalar f x ≡ Ok t → ScalarInRange x → MeansScalar t (scalar_as_read f (normal_scalar x))
 
 -- normal form and narrowing, done again, change nothing
 abbrev pub NormalAgain : Type 0
-NormalAgain = (x : Scalar) → nf_scalar (nf_scalar x) ≡ nf_scalar x
+NormalAgain = (x : Scalar) → normal_scalar (normal_scalar x) ≡ normal_scalar x
 
 abbrev pub SettledAgain : Type 0
-SettledAgain = (f : Form) (x : Scalar) → settle f (settle f x) ≡ settle f x
+SettledAgain = (f : Form) (x : Scalar) → scalar_as_read f (scalar_as_read f x) ≡ scalar_as_read f x

@@ -2,9 +2,9 @@
 use Rattle.std.specs.Prelude.{◌≡◌, ◌<◌, ◌^◌, ℤ, length, Bool, true, FitsSigned}
 use Rattle.std.specs.Int.{w32, w64}
 use Rattle.bson_scalar.specs.Subtype.{subtype_byte, subtype_of}
-use Rattle.bson_decimal.specs.Pattern.{canon}
+use Rattle.bson_decimal.specs.Pattern.{normal_decimal}
 use Rattle.hex.specs.Hex.{IsBytes}
-use Rattle.bson_leaf.specs.Doubles.{nan_form, is_special}
+use Rattle.bson_leaf.specs.Doubles.{normal_double, is_special}
 use Rattle.bson_leaf.specs.Ints.{narrowest}
 use Rattle.bson_scalar.specs.Regex.{sorted_text}
 use Rattle.bson_leaf.specs.declared.form.Form.{Form}
@@ -13,22 +13,22 @@ use Rattle.bson_leaf.specs.Scalar.{Scalar, double, int32, int64, regex, timestam
 
 -- the normal form: options sorted, the subtype that its byte reads as, a NaN as its text means it, a decimal as its
 -- canonical pattern; all else kept
-abbrev pub nf_scalar : Scalar → Scalar
-nf_scalar (double p) = double (nan_form p)
-nf_scalar (regex p o) = regex p (sorted_text o)
-nf_scalar (binary k bytes) = binary (subtype_of (subtype_byte k)) bytes
-nf_scalar (decimal b) = decimal (canon b)
-nf_scalar x = x
+abbrev pub normal_scalar : Scalar → Scalar
+normal_scalar (double p) = double (normal_double p)
+normal_scalar (regex p o) = regex p (sorted_text o)
+normal_scalar (binary k bytes) = binary (subtype_of (subtype_byte k)) bytes
+normal_scalar (decimal b) = decimal (normal_decimal b)
+normal_scalar x = x
 
 -- an Int64 as its tree in the form f reads back
-abbrev pub int64_settled : Form → ℤ → Scalar
-int64_settled Canonical z = int64 z
-int64_settled Relaxed z = narrowest z
+abbrev pub int64_as_read : Form → ℤ → Scalar
+int64_as_read Canonical z = int64 z
+int64_as_read Relaxed z = narrowest z
 
 -- a scalar as its tree in the form f reads back: narrowed where the form is the relaxed one
-abbrev pub settle : Form → Scalar → Scalar
-settle f (int64 z) = int64_settled f z
-settle f x = x
+abbrev pub scalar_as_read : Form → Scalar → Scalar
+scalar_as_read f (int64 z) = int64_as_read f z
+scalar_as_read f x = x
 
 -- whether it has a tree: a double is a zero, an infinity or a NaN
 abbrev pub writable_scalar : Scalar → Bool
@@ -48,10 +48,10 @@ ScalarInRange (db_pointer s id) = (length id ≡ 12) × IsBytes id
 ScalarInRange x = Unit {0}
 
 -- in normal form, or a decimal: a NaN's text can mean a pattern that is not canonical
-abbrev pub IsSettled : Scalar → Type 0
-IsSettled (decimal b) = Unit {0}
-IsSettled x = nf_scalar x ≡ x
+abbrev pub IsNormalOrDecimal : Scalar → Type 0
+IsNormalOrDecimal (decimal b) = Unit {0}
+IsNormalOrDecimal x = normal_scalar x ≡ x
 
 -- what is known of every scalar that is read
-abbrev pub IsReadForm : Scalar → Type 0
-IsReadForm x = (writable_scalar x ≡ true) × IsSettled x
+abbrev pub IsReadScalar : Scalar → Type 0
+IsReadScalar x = (writable_scalar x ≡ true) × IsNormalOrDecimal x

@@ -20,7 +20,7 @@ use Rattle.serde_json.specs.Data.{Data, Num, Members, no_members, member}
 use Rattle.serde_json.specs.Data as tree
 use Rattle.serde_json.specs.Find.{as_i64, as_str}
 use Rattle.bson_leaf.specs.Doubles.{double_of}
-use Rattle.bson_leaf.specs.Faults.{Fault, bad, bad_id, ◌>>=◌, or_bad}
+use Rattle.bson_leaf.specs.Faults.{Fault, wrong_shape, wrong_id, ◌>>=◌, or_wrong_shape}
 use Rattle.bson_leaf.specs.Ints.{fits_bits, narrowest}
 use Rattle.bson_leaf.specs.Scalar.{Scalar, null, undefined, min_key, max_key, boolean, double, int32, int64, text, symbol, code, regex, timestamp, binary, object_id, date, decimal, db_pointer}
 use Rattle.bson_leaf.specs.Shapes.{whole, u32_at}
@@ -42,13 +42,13 @@ two_members a b _ = None
 
 -- what a text, the value of a lone key and those of two keys are read as; anything else is wrong
 abbrev pub on_text : {X : Type 0} → Data → (List ℕ → Result X Fault) → Result X Fault
-on_text d f = or_bad (as_str d) >>= f
+on_text d f = or_wrong_shape (as_str d) >>= f
 
 abbrev pub on_lone : {X : Type 0} → List ℕ → Data → (Data → Result X Fault) → Result X Fault
-on_lone a d f = or_bad (lone_member a d) >>= f
+on_lone a d f = or_wrong_shape (lone_member a d) >>= f
 
 abbrev pub on_two : {X : Type 0} → List ℕ → List ℕ → Data → (Data → Data → Result X Fault) → Result X Fault
-on_two a b d f = or_bad (two_members a b d) >>= λ p. f p.0 p.1
+on_two a b d f = or_wrong_shape (two_members a b d) >>= λ p. f p.0 p.1
 
 -- ---- numbers
 
@@ -60,16 +60,16 @@ unfoldable pub int_of : ℕ → List ℕ → Option ℤ
 int_of h bs = if is_numeral (without_leading_sign bs) && fits_bits h (signed_digits_value 10 bs) then Some (signed_digits_value 10 bs) else None
 
 abbrev pub number_read : Num → Result Scalar Fault
-number_read n = or_bad (as_i64 n) >>= λ z. Ok (narrowest z)
+number_read n = or_wrong_shape (as_i64 n) >>= λ z. Ok (narrowest z)
 
 abbrev pub int32_read : Data → Result Scalar Fault
-int32_read d = on_text d (λ s. or_bad (int_of 31 s) >>= λ z. Ok (int32 z))
+int32_read d = on_text d (λ s. or_wrong_shape (int_of 31 s) >>= λ z. Ok (int32 z))
 
 abbrev pub int64_read : Data → Result Scalar Fault
-int64_read d = on_text d (λ s. or_bad (int_of 63 s) >>= λ z. Ok (int64 z))
+int64_read d = on_text d (λ s. or_wrong_shape (int_of 63 s) >>= λ z. Ok (int64 z))
 
 abbrev pub double_read : Data → Result Scalar Fault
-double_read d = on_text d (λ s. or_bad (double_of s) >>= λ p. Ok (double p))
+double_read d = on_text d (λ s. or_wrong_shape (double_of s) >>= λ p. Ok (double p))
 
 -- the number of the pattern of a NaN or an infinity
 abbrev pub word_of : List ℕ → Option ℕ
@@ -92,7 +92,7 @@ unfoldable pub decimal_of : List ℕ → Option (List ℕ)
 decimal_of s = decimal_at s (word_of (without_leading_sign s))
 
 abbrev pub decimal_read : Data → Result Scalar Fault
-decimal_read d = on_text d (λ s. or_bad (decimal_of s) >>= λ b. Ok (decimal b))
+decimal_read d = on_text d (λ s. or_wrong_shape (decimal_of s) >>= λ b. Ok (decimal b))
 
 -- ---- texts
 
@@ -109,7 +109,7 @@ regex_read d = on_two (codes "options") (codes "pattern") d (λ o p. on_text o (
 
 abbrev pub id_or : List ℕ → Result (List ℕ) FromHexError → Result (List ℕ) Fault
 id_or s (Ok id) = Ok id
-id_or s (Err e) = Err (bad_id s)
+id_or s (Err e) = Err (wrong_id s)
 
 -- the object id of a text, or that it is none
 abbrev pub id_of : List ℕ → Result (List ℕ) Fault
@@ -125,12 +125,12 @@ pointer_read d = on_two (codes "$id") (codes "$ref") d (λ i r. on_text r (λ na
 -- ---- moments
 
 abbrev pub timestamp_read : Data → Result Scalar Fault
-timestamp_read d = on_two (codes "i") (codes "t") d (λ i t. or_bad (u32_at i) >>= λ m. or_bad (u32_at t) >>= λ n. Ok (timestamp n m))
+timestamp_read d = on_two (codes "i") (codes "t") d (λ i t. or_wrong_shape (u32_at i) >>= λ m. or_wrong_shape (u32_at t) >>= λ n. Ok (timestamp n m))
 
 abbrev pub millis_of : Data → Result ℤ Fault
-millis_of (tree.string s) = or_bad (denoted s)
-millis_of (tree.number n) = or_bad (as_i64 n)
-millis_of d = on_lone (codes "$numberLong") d (λ t. on_text t (λ s. or_bad (int_of 63 s)))
+millis_of (tree.string s) = or_wrong_shape (denoted s)
+millis_of (tree.number n) = or_wrong_shape (as_i64 n)
+millis_of d = on_lone (codes "$numberLong") d (λ t. on_text t (λ s. or_wrong_shape (int_of 63 s)))
 
 abbrev pub date_read : Data → Result Scalar Fault
 date_read d = millis_of d >>= λ z. Ok (date z)
@@ -148,10 +148,10 @@ abbrev pub bytes_of : List ℕ → Option (List ℕ)
 bytes_of s = result_ok (decode_of standard s)
 
 abbrev pub binary_read : Data → Result Scalar Fault
-binary_read d = on_two (codes "base64") (codes "subType") d (λ b k. on_text b (λ s. on_text k (λ t. or_bad (bytes_of s) >>= λ bytes. or_bad (byte_of t) >>= λ n. Ok (binary (subtype_of n) bytes))))
+binary_read d = on_two (codes "base64") (codes "subType") d (λ b k. on_text b (λ s. on_text k (λ t. or_wrong_shape (bytes_of s) >>= λ bytes. or_wrong_shape (byte_of t) >>= λ n. Ok (binary (subtype_of n) bytes))))
 
 abbrev pub uuid_read : Data → Result Scalar Fault
-uuid_read d = on_text d (λ s. or_bad (parsed_hyphenated s) >>= λ id. Ok (binary subtype.Uuid id))
+uuid_read d = on_text d (λ s. or_wrong_shape (parsed_hyphenated s) >>= λ id. Ok (binary subtype.Uuid id))
 
 -- ---- the kinds of one tree
 
@@ -160,11 +160,11 @@ is_one (Some (pos n)) = n == 1
 is_one _ = false
 
 abbrev pub one_read : Scalar → Data → Result Scalar Fault
-one_read y d = if is_one (whole d) then Ok y else Err bad
+one_read y d = if is_one (whole d) then Ok y else Err wrong_shape
 
 abbrev pub undefined_read : Data → Result Scalar Fault
-undefined_read (tree.boolean b) = if b then Ok undefined else Err bad
-undefined_read _ = Err bad
+undefined_read (tree.boolean b) = if b then Ok undefined else Err wrong_shape
+undefined_read _ = Err wrong_shape
 
 -- ---- all wrappers of one key
 
@@ -188,12 +188,12 @@ single Undefined = undefined_read
 
 abbrev pub single_at : Option Wrapper → Data → Result Scalar Fault
 single_at (Some w) d = single w d
-single_at None d = Err bad
+single_at None d = Err wrong_shape
 
 -- code with the scope null
 abbrev pub code_beside : Data → Data → Result Scalar Fault
 code_beside tree.null d = code_read d
-code_beside _ d = Err bad
+code_beside _ d = Err wrong_shape
 
 abbrev pub scalar_read : Data → Result Scalar Fault
 scalar_read tree.null = Ok null
@@ -201,5 +201,5 @@ scalar_read (tree.boolean b) = Ok (boolean b)
 scalar_read (tree.number n) = number_read n
 scalar_read (tree.string s) = Ok (text s)
 scalar_read (tree.object (member k d no_members)) = single_at (wrapper_of k) d
-scalar_read (tree.object (member k d (member l e no_members))) = if bytes_eq k (codes "$code") && bytes_eq l (codes "$scope") then code_beside e d else Err bad
-scalar_read _ = Err bad
+scalar_read (tree.object (member k d (member l e no_members))) = if bytes_eq k (codes "$code") && bytes_eq l (codes "$scope") then code_beside e d else Err wrong_shape
+scalar_read _ = Err wrong_shape

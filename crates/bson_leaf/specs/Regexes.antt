@@ -3,9 +3,9 @@
 use Rattle.std.specs.Prelude.{ℕ, List, codes}
 use Rattle.serde_json.specs.Data.{Data}
 use Rattle.serde_json.specs.Data as tree
-use Rattle.bson_leaf.specs.Shapes.{one, two}
+use Rattle.bson_leaf.specs.Shapes.{object_of_one, object_of_two}
 use Rattle.bson_leaf.specs.Table.{key_of}
 use Rattle.bson_leaf.specs.declared.wrapper.Wrapper.TheVariants.{RegularExpression}
 
 abbrev pub regex_tree : List ℕ → List ℕ → Data
-regex_tree p o = one (key_of RegularExpression) (two (codes "options") (tree.string o) (codes "pattern") (tree.string p))
+regex_tree p o = object_of_one (key_of RegularExpression) (object_of_two (codes "options") (tree.string o) (codes "pattern") (tree.string p))

@@ -4,12 +4,12 @@ use Rattle.serde_json.specs.Data.{Data, unsigned, no_members, member}
 use Rattle.serde_json.specs.Data as tree
 use Rattle.serde_json.specs.Find.{as_i64, as_number}
 
-abbrev pub one : List ℕ → Data → Data
-one key d = tree.object (member key d no_members)
+abbrev pub object_of_one : List ℕ → Data → Data
+object_of_one key d = tree.object (member key d no_members)
 
 -- the lesser key first
-abbrev pub two : List ℕ → Data → List ℕ → Data → Data
-two k d l e = tree.object (member k d (member l e no_members))
+abbrev pub object_of_two : List ℕ → Data → List ℕ → Data → Data
+object_of_two k d l e = tree.object (member k d (member l e no_members))
 
 abbrev pub natural : ℕ → Data
 natural n = tree.number (unsigned n)

@@ -8,7 +8,7 @@ ghost use Rattle.hex.specs.Hex.{encode_lower, IsBytes};
 ghost use Rattle.bson_scalar.specs.Orders.{parsed_hyphenated};
 ghost use Rattle.bson_scalar.specs.Subtype.{subtype_byte};
 ghost use Rattle.bson_leaf.specs.Binaries.{binary_tree};
-ghost use Rattle.bson_leaf.specs.Faults.{Gives, or_bad};
+ghost use Rattle.bson_leaf.specs.Faults.{Gives, or_wrong_shape};
 ghost use Rattle.bson_leaf.specs.Reading.{binary_read, uuid_read, byte_of as byte_at, bytes_of as bytes_at};
 ghost use Rattle.bson_leaf.specs.View.{leaf_view};
 
@@ -38,7 +38,7 @@ pub fn byte_of(text: &str) -> Option<u8>
 }
 
 fn bytes_of(alloc: Global, text: &str) -> Result<Vec<u8>, Error>
-    ensures { Gives (λ v. v.items) result (or_bad (bytes_at text.now)) }
+    ensures { Gives (λ v. v.items) result (or_wrong_shape (bytes_at text.now)) }
 {
     match Binary::from_base64(alloc, text, None) {
         Ok(Binary { subtype: _, bytes }) => Ok(bytes),

@@ -6,7 +6,7 @@ ghost use Rattle.serde_json.specs.View.{view};
 ghost use Rattle.bson_datetime.specs.Rfc3339.{denoted};
 ghost use Rattle.bson_datetime.specs.Shown.{rfc};
 ghost use Rattle.bson_leaf.specs.Dates.{date_tree, relaxed_date_tree};
-ghost use Rattle.bson_leaf.specs.Faults.{Gives, or_bad};
+ghost use Rattle.bson_leaf.specs.Faults.{Gives, or_wrong_shape};
 ghost use Rattle.bson_leaf.specs.Reading.{millis_of, date_read};
 ghost use Rattle.bson_leaf.specs.Written.{date_form};
 ghost use Rattle.bson_leaf.specs.View.{leaf_view};

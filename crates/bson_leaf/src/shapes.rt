@@ -5,9 +5,9 @@ ghost use Rattle.serde_json.specs.Find.{as_str};
 ghost use Rattle.serde_json.specs.Data.{object};
 ghost use Rattle.serde_json.specs.View.{view, members_view};
 ghost use Rattle.hex.specs.Hex.{IsBytes};
-ghost use Rattle.bson_leaf.specs.Faults.{Gives, or_bad};
+ghost use Rattle.bson_leaf.specs.Faults.{Gives, or_wrong_shape};
 ghost use Rattle.bson_leaf.specs.Reading.{lone_member, two_members};
-ghost use Rattle.bson_leaf.specs.Shapes.{u32_at, whole, one, two};
+ghost use Rattle.bson_leaf.specs.Shapes.{u32_at, whole, object_of_one, object_of_two};
 
 use crate::error::Error;
 use serde_json::{Map, Value};
@@ -15,7 +15,7 @@ use std::alloc::{AllocError, Global};
 
 /// The value, or `DeserializationError` with the message where there is none.
 pub fn expected<T: Drop>(value: Option<T>, message: &'static str) -> Result<T, Error>
-    ensures { Gives (λ x. x) result (or_bad value) }
+    ensures { Gives (λ x. x) result (or_wrong_shape value) }
 {
     match value {
         Some(value) => Ok(value),
@@ -25,7 +25,7 @@ pub fn expected<T: Drop>(value: Option<T>, message: &'static str) -> Result<T, E
 
 /// The text that a tree is, moved out of it.
 pub fn text_in(value: Value, message: &'static str) -> Result<String, Error>
-    ensures { Gives string_bytes result (or_bad (as_str (view value))) }
+    ensures { Gives string_bytes result (or_wrong_shape (as_str (view value))) }
 {
     match value {
         Value::String(text) => Ok(text),
@@ -35,7 +35,7 @@ pub fn text_in(value: Value, message: &'static str) -> Result<String, Error>
 
 /// What an object of this key alone holds.
 pub fn lone_in(value: Value, key: &str, message: &'static str) -> Result<Value, Error>
-    ensures { Gives view result (or_bad (lone_member key.now (view value))) }
+    ensures { Gives view result (or_wrong_shape (lone_member key.now (view value))) }
 {
     match lone_of(value, key) {
         Some(held) => Ok(held),
@@ -50,7 +50,7 @@ pub fn two_in(
     second: &str,
     message: &'static str,
 ) -> Result<(Value, Value), Error>
-    ensures { Gives (λ p. (view p.0, view p.1)) result (or_bad (two_members first.now second.now (view value))) }
+    ensures { Gives (λ p. (view p.0, view p.1)) result (or_wrong_shape (two_members first.now second.now (view value))) }
 {
     match two_of(value, first, second) {
         Some(held) => Ok(held),
@@ -134,7 +134,7 @@ pub fn u32_of(value: &Value) -> Option<u32>
 
 /// An object of one key.
 pub fn wrapped(alloc: Global, key: &str, value: Value) -> Result<Value, AllocError>
-    ensures { IfOk result (λ t. view t ≡ one key.now (view value)) }
+    ensures { IfOk result (λ t. view t ≡ object_of_one key.now (view value)) }
 {
     let mut members = Map::new(alloc);
     serde_json::put(&mut members, alloc, key, value)?;

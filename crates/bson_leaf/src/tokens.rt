@@ -17,7 +17,7 @@ ghost use Rattle.bson_leaf.specs.Ids.{oid_tree, pointer_tree};
 ghost use Rattle.bson_leaf.specs.Lone.{undefined_tree};
 ghost use Rattle.bson_leaf.specs.Normal.{ScalarInRange};
 ghost use Rattle.bson_leaf.specs.Regexes.{regex_tree};
-ghost use Rattle.bson_leaf.specs.Shapes.{two, natural};
+ghost use Rattle.bson_leaf.specs.Shapes.{object_of_two, natural};
 ghost use Rattle.bson_leaf.specs.Timestamps.{timestamp_tree};
 ghost use Rattle.bson_leaf.specs.Written.{writes_scalar, double_writes, int32_form, int64_form, date_form};
 ghost use Rattle.bson_leaf.specs.Tokens.{tokens_of, Puts};
@@ -213,7 +213,7 @@ fn put_timestamp(stamp: Timestamp, out: &mut Writer) -> Result<(), AllocError>
 
 fn put_times(stamp: Timestamp, out: &mut Writer) -> Result<(), AllocError>
     ensures put { OnOk result (out.new.tokens ≡ out.old.tokens
-        ++ tokens_of (two (codes "i") (natural stamp.increment) (codes "t") (natural stamp.time))) }
+        ++ tokens_of (object_of_two (codes "i") (natural stamp.increment) (codes "t") (natural stamp.time))) }
     ensures before { out.new.before ≡ out.old.before }
 {
     begin("i", out)?;
@@ -333,7 +333,7 @@ fn put_pointer(alloc: Global, pointer: &DbPointer, out: &mut Writer) -> Result<(
 
 fn put_reference(alloc: Global, pointer: &DbPointer, out: &mut Writer) -> Result<(), AllocError>
     ensures put { OnOk result (out.new.tokens ≡ out.old.tokens
-        ++ tokens_of (two (codes "$id") (oid_tree (id_of pointer.now)) (codes "$ref") (tree.string (namespace_of pointer.now)))) }
+        ++ tokens_of (object_of_two (codes "$id") (oid_tree (id_of pointer.now)) (codes "$ref") (tree.string (namespace_of pointer.now)))) }
     ensures before { out.new.before ≡ out.old.before }
     ensures ranged { OnOk result (IsObjectId (id_of pointer.now)) }
 {

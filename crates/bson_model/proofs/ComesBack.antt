@@ -12,7 +12,9 @@ use Rattle.bson_model.specs.Reading.{reads}
 use Rattle.bson_model.specs.Texts.{IsTree, HasEqualTexts, HasText, ComesBack}
 use Rattle.bson_model.specs.Same.{same}
 use Rattle.bson_model.specs.Value.{Value}
-use Rattle.bson_model.specs.Writing.{normal_form, settled, plain, writable, InRange, Written, writes}
+use Rattle.bson_model.specs.Normal.{normal_form, as_read, plain, writable, InRange}
+use Rattle.bson_model.specs.Written.{Written}
+use Rattle.bson_model.specs.Writing.{writes}
 use Rattle.bson_model.proofs.MeansLaws.{means_from}
 use Rattle.bson_model.proofs.NoFloats.{no_float}
 use Rattle.bson_model.proofs.RangeLaws.{in_range}
@@ -35,10 +37,10 @@ pub has_tree : (f : Form) (v : Value) → writable v ≡ true → (t : Data) × 
 has_tree f v h = let t = tree_of f v h in (t.0, canon_from f v t.0 t.1)
 
 -- the value that a tree of v means has that tree
-same_tree : (f : Form) (v : Value) (u : Data) (w : Value) → writes f v ≡ Ok u → Means u w → same w (settled f (normal_form v)) ≡ true → Written f (normal_form w) u
+same_tree : (f : Form) (v : Value) (u : Data) (w : Value) → writes f v ≡ Ok u → Means u w → same w (as_read f (normal_form v)) ≡ true → Written f (normal_form w) u
 same_tree f v u w h m is =
     let own = tree_of f w (form m).1 in
-    let one : own.0 ≡ u = same_trees f w (settled f (normal_form v)) own.0 u own.1 (settled_form f v u h) (same_to w (settled f (normal_form v)) is) in
+    let one : own.0 ≡ u = same_trees f w (as_read f (normal_form v)) own.0 u own.1 (settled_form f v u h) (same_to w (as_read f (normal_form v)) is) in
     canon_from f w u (own.1 ∙ ap Ok one)
 
 equal_texts : (f : Form) (v : Value) (u : Data) (w : Value) (x : Data) → writes f v ≡ Ok u → plain v ≡ true → InRange v → HasEqualTexts f v u w x

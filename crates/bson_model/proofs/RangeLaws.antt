@@ -8,14 +8,13 @@ use Rattle.bson_leaf.specs.Means.{MeansScalar, narrow_number, wide_number, oid, 
 use Rattle.bson_leaf.specs.Normal.{ScalarInRange}
 use Rattle.bson_leaf.specs.Scalar.{Scalar}
 use Rattle.bson_leaf.specs.Shapes.{small_number, whole}
-use Rattle.bson_leaf.proofs.BinaryLaws.{subtype_byte-of}
+use Rattle.bson_leaf.proofs.Offered.{subtype_byte-of}
 use Rattle.bson_model.specs.Value.{Value, Values, Pairs}
 use Rattle.bson_model.specs.Means.{Means, scalar, code_with_scope, array, document, MeansItems, nothing, then, MeansDocument, empty, entry}
 use Rattle.bson_model.specs.Texts.{NumberFits, IsTree, ItemsAreTrees, MembersAreTrees}
-use Rattle.bson_model.specs.Writing.{InRange, ItemsInRange, PairsInRange}
-use Rattle.bson_model.proofs.ByteRanges.{hex_bytes, base64_bytes, hyphenated_bytes}
-use Rattle.bson_scalar.proofs.HexLaws.{sized_to}
-use Rattle.bson_model.proofs.DateRange.{named_fits}
+use Rattle.bson_model.specs.Normal.{InRange, ItemsInRange, PairsInRange}
+use Rattle.bson_scalar.proofs.Offered.{hex_bytes, base64_bytes, hyphenated_bytes, sized_to}
+use Rattle.bson_datetime.proofs.Offered.{named_fits}
 
 un_some : {A : Type 0} (x y : A) → Some x ≡ Some y → x ≡ y
 un_some x y h = cc

@@ -11,13 +11,14 @@ use Rattle.bson_leaf.specs.Dates.{is_recent, relaxed_date_tree}
 use Rattle.bson_leaf.specs.Doubles.{double_text}
 use Rattle.bson_leaf.specs.Normal.{ScalarInRange}
 use Rattle.bson_leaf.specs.Scalar.{Scalar, null, undefined, min_key, max_key, boolean, double, int32, int64, text, symbol, code, regex, timestamp, binary, object_id, date, decimal, db_pointer}
-use Rattle.bson_leaf.specs.Shapes.{two}
+use Rattle.bson_leaf.specs.Shapes.{object_of_two}
 use Rattle.bson_leaf.specs.Written.{Refusal, ◌>>=◌, or_finite, writes_scalar, int32_form, int64_form, date_form}
 use Rattle.bson_leaf.specs.declared.form.Form.{Form}
 use Rattle.bson_leaf.specs.declared.form.Form.TheVariants.{Canonical, Relaxed}
 use Rattle.bson_model.specs.Texts.{IsBelow, Ascends, IsTree, ItemsAreTrees, MembersAreTrees}
 use Rattle.bson_model.specs.Value.{Value, scalar, code_scope, array, document, Values, no_values, value, Pairs, no_pairs, pair}
-use Rattle.bson_model.specs.Writing.{InRange, ItemsInRange, PairsInRange, writes, writes_items, writes_pairs}
+use Rattle.bson_model.specs.Normal.{InRange, ItemsInRange, PairsInRange}
+use Rattle.bson_model.specs.Writing.{writes, writes_items, writes_pairs}
 use Rattle.bson_model.proofs.PutSwap.{cmp, flipped}
 
 bind_ok : {A B : Type 0} (r : Result A Refusal) (f : A → Result B Refusal) (y : B) → (r >>= f) ≡ Ok y → (x : A) × (r ≡ Ok x) × (f x ≡ Ok y)
@@ -65,7 +66,7 @@ trees_put k d (member l e ms) a h = trees_put_at (cmp k l) k l d e ms a h.0 h.1 
 
 -- ---- scalars
 
-two_is : (k l : List ℕ) (d e : Data) → cmp k l ≡ Less → IsTree d → IsTree e → IsTree (two k d l e)
+two_is : (k l : List ℕ) (d e : Data) → cmp k l ≡ Less → IsTree d → IsTree e → IsTree (object_of_two k d l e)
 two_is k l d e c h g = (((c, tt), (tt, tt)), (h, (g, tt)))
 
 whole_is : (z : ℤ) → mag z < 2 ^ 63 → IsTree (tree.number (of_integer z))

@@ -2,7 +2,7 @@
 -- values by ascending key, and of a wrapper as a whole. It is an object id's text where that alone is wrong.
 use Rattle.std.specs.Prelude.{◌≡◌, ℕ, List, Result, Ok, Err}
 use Rattle.serde_json.specs.Data.{Data, Members}
-use Rattle.bson_leaf.specs.Faults.{Fault, bad, bad_id, IsIdFault}
+use Rattle.bson_leaf.specs.Faults.{Fault, wrong_shape, wrong_id, IsIdFault}
 use Rattle.bson_leaf.specs.declared.error.Error.{Error}
 use Rattle.bson_leaf.specs.declared.error.Error.TheVariants.{InvalidObjectId, DeserializationError, OutOfMemory}
 use Rattle.bson_model.specs.Value.{Value, Pairs}
@@ -11,7 +11,7 @@ use Rattle.bson_model.specs.Reading.{reads, reads_members}
 
 abbrev pub fault_in : {A : Type 0} → Result A Fault → Fault
 fault_in (Err e) = e
-fault_in (Ok x) = bad
+fault_in (Ok x) = wrong_shape
 
 abbrev pub fault_of : Data → Fault
 fault_of t = fault_in (reads t)
@@ -27,8 +27,8 @@ MeansNothing t = (v : Value) → Means t v → ⊥
 -- the error is that of the tree, which means nothing, or memory ran out
 abbrev pub IsFaultOf : Data → Error → Type 0
 IsFaultOf t OutOfMemory = Unit {0}
-IsFaultOf t (DeserializationError message) = MeansNothing t × (fault_of t ≡ bad)
-IsFaultOf t (InvalidObjectId e) = MeansNothing t × (s : List ℕ) × (fault_of t ≡ bad_id s) × IsIdFault s e
+IsFaultOf t (DeserializationError message) = MeansNothing t × (fault_of t ≡ wrong_shape)
+IsFaultOf t (InvalidObjectId e) = MeansNothing t × (s : List ℕ) × (fault_of t ≡ wrong_id s) × IsIdFault s e
 
 -- the map is that of no document
 abbrev pub MeansNoDocument : Members → Type 0
@@ -36,5 +36,5 @@ MeansNoDocument ms = (ps : Pairs) → MeansDocument ms ps → ⊥
 
 abbrev pub IsDocumentFault : Members → Error → Type 0
 IsDocumentFault ms OutOfMemory = Unit {0}
-IsDocumentFault ms (DeserializationError message) = MeansNoDocument ms × (document_fault ms ≡ bad)
-IsDocumentFault ms (InvalidObjectId e) = MeansNoDocument ms × (s : List ℕ) × (document_fault ms ≡ bad_id s) × IsIdFault s e
+IsDocumentFault ms (DeserializationError message) = MeansNoDocument ms × (document_fault ms ≡ wrong_shape)
+IsDocumentFault ms (InvalidObjectId e) = MeansNoDocument ms × (s : List ℕ) × (document_fault ms ≡ wrong_id s) × IsIdFault s e

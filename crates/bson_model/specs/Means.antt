@@ -5,7 +5,7 @@ use Rattle.serde_json.specs.Data.{Data, Items, no_items, item, Members, no_membe
 use Rattle.serde_json.specs.Data as tree
 use Rattle.bson_leaf.specs.Means.{MeansScalar}
 use Rattle.bson_leaf.specs.Scalar.{Scalar}
-use Rattle.bson_leaf.specs.Shapes.{two}
+use Rattle.bson_leaf.specs.Shapes.{object_of_two}
 use Rattle.bson_leaf.specs.Table.{has_wrapper}
 use Rattle.bson_model.specs.Value.{Value, code_scope, Values, no_values, value, Pairs, no_pairs, pair}
 use Rattle.bson_model.specs.Value as model
@@ -15,7 +15,7 @@ mutual
   pub data Means : Data → Value → Type 0 where
     scalar : (d : Data) (x : Scalar) → MeansScalar d x → Means d (model.scalar x)
     code_with_scope : (s : List ℕ) (ms : Members) (ps : Pairs) → MeansDocument ms ps
-        → Means (two (codes "$code") (tree.string s) (codes "$scope") (tree.object ms)) (code_scope s ps)
+        → Means (object_of_two (codes "$code") (tree.string s) (codes "$scope") (tree.object ms)) (code_scope s ps)
     array : (ds : Items) (vs : Values) → MeansItems ds vs → Means (tree.array ds) (model.array vs)
     document : (ms : Members) (ps : Pairs) → has_wrapper ms ≡ false → MeansDocument ms ps
         → Means (tree.object ms) (model.document ps)

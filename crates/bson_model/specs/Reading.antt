@@ -4,7 +4,7 @@ use Rattle.std.specs.Prelude.{ℕ, List, codes, ◌&&◌, if◌then◌else◌, O
 use Rattle.std.specs.Str.{bytes_eq}
 use Rattle.serde_json.specs.Data.{Data, Items, no_items, item, Members, no_members, member}
 use Rattle.serde_json.specs.Data as tree
-use Rattle.bson_leaf.specs.Faults.{Fault, bad, ◌>>=◌}
+use Rattle.bson_leaf.specs.Faults.{Fault, wrong_shape, ◌>>=◌}
 use Rattle.bson_leaf.specs.Reading.{number_read, single_at, on_text}
 use Rattle.bson_leaf.specs.Scalar.{Scalar, null, boolean, text, code}
 use Rattle.bson_leaf.specs.Table.{wrapper_of, has_wrapper}
@@ -23,7 +23,7 @@ scoped s scope = scope >>= λ ps. Ok (coded s ps)
 
 -- the only wrapper of two keys
 abbrev pub code_at : List ℕ → Data → List ℕ → Result (Option Pairs) Fault → Result Value Fault
-code_at k d l scope = if bytes_eq k (codes "$code") && bytes_eq l (codes "$scope") then on_text d (λ s. scoped s scope) else Err bad
+code_at k d l scope = if bytes_eq k (codes "$code") && bytes_eq l (codes "$scope") then on_text d (λ s. scoped s scope) else Err wrong_shape
 
 abbrev mutual
   pub reads : Data → Result Value Fault
@@ -45,15 +45,15 @@ abbrev mutual
 
   -- a map with a wrapper key
   pub reads_wrapper : Members → Result Value Fault
-  reads_wrapper no_members = Err bad
+  reads_wrapper no_members = Err wrong_shape
   reads_wrapper (member k d no_members) = valued (single_at (wrapper_of k) d)
   reads_wrapper (member k d (member l e no_members)) = code_at k d l (reads_scope e)
-  reads_wrapper (member k d (member l e (member m f ms))) = Err bad
+  reads_wrapper (member k d (member l e (member m f ms))) = Err wrong_shape
 
   pub reads_scope : Data → Result (Option Pairs) Fault
   reads_scope tree.null = Ok None
-  reads_scope (tree.boolean b) = Err bad
-  reads_scope (tree.number n) = Err bad
-  reads_scope (tree.string s) = Err bad
-  reads_scope (tree.array ds) = Err bad
+  reads_scope (tree.boolean b) = Err wrong_shape
+  reads_scope (tree.number n) = Err wrong_shape
+  reads_scope (tree.string s) = Err wrong_shape
+  reads_scope (tree.array ds) = Err wrong_shape
   reads_scope (tree.object ms) = reads_members ms >>= λ ps. Ok (Some ps)

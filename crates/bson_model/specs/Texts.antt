@@ -11,7 +11,8 @@ use Rattle.bson_leaf.specs.declared.form.Form.{Form}
 use Rattle.bson_model.specs.Value.{Value}
 use Rattle.bson_model.specs.Means.{Means}
 use Rattle.bson_model.specs.Same.{same}
-use Rattle.bson_model.specs.Writing.{Written, normal_form, settled, plain, InRange}
+use Rattle.bson_model.specs.Normal.{normal_form, as_read, plain, InRange}
+use Rattle.bson_model.specs.Written.{Written}
 
 -- ---- the trees that `serde_json` has
 
@@ -56,7 +57,7 @@ HasOwnText t = (depth t ≤ max_depth → read (compact_text t) ≡ Some t) × (
 
 -- the tree u of v, and the tree x of w
 abbrev pub HasEqualTexts : Form → Value → Data → Value → Data → Type 0
-HasEqualTexts f v u w x = plain w ≡ true → InRange w → Written f (normal_form w) x → ((compact_text u ≡ compact_text x) ↔ (same (settled f (normal_form v)) (settled f (normal_form w)) ≡ true))
+HasEqualTexts f v u w x = plain w ≡ true → InRange w → Written f (normal_form w) x → ((compact_text u ≡ compact_text x) ↔ (same (as_read f (normal_form v)) (as_read f (normal_form w)) ≡ true))
 
 -- what the tree u of the value v in the form f, and its compact text, are
 pub record HasText (f : Form) (v : Value) (u : Data) : Type 0 where
@@ -65,7 +66,7 @@ pub record HasText (f : Form) (v : Value) (u : Data) : Type 0 where
   -- the text is read as the tree again, unless it nests deeper than texts may
   pub read_again : depth u ≤ max_depth → read (compact_text u) ≡ Some u
   -- the tree means one value, the same as the normal form, and is the tree of that value too
-  pub means : (w : Value) × Means u w × (same w (settled f (normal_form v)) ≡ true) × Written f (normal_form w) u
+  pub means : (w : Value) × Means u w × (same w (as_read f (normal_form v)) ≡ true) × Written f (normal_form w) u
   -- no other value has the text
   pub equal : (w : Value) (x : Data) → HasEqualTexts f v u w x
 

@@ -5,7 +5,7 @@
 ghost use Rattle.std.specs.Prelude.{◌≡◌, ◌↔◌, IfOk, true};
 ghost use Rattle.bson.specs.View.{bson_view};
 ghost use Rattle.bson.specs.Same.{same};
-ghost use Rattle.bson.specs.Writing.{normal_form, plain};
+ghost use Rattle.bson.specs.Normal.{normal_form, plain};
 
 use bson::Bson;
 use bson::extjson::WriteError;

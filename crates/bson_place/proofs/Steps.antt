@@ -7,7 +7,7 @@ use Rattle.std.proofs.lemmas.Slice.Eq.{bytes_eq-Decides}
 use Rattle.std.specs.declared.alloc.AllocError.{AllocError}
 use Rattle.serde_json.specs.Data.{Data, Num, Items, item, Members, no_members, member}
 use Rattle.serde_json.specs.Data as tree
-use Rattle.bson_leaf.specs.Faults.{Fault, bad, ◌>>=◌, or_bad}
+use Rattle.bson_leaf.specs.Faults.{Fault, wrong_shape, ◌>>=◌, or_wrong_shape}
 use Rattle.serde_json.specs.View.{view, number_view, members_view}
 use Rattle.serde_json.specs.declared.number.Number.{Number}
 use Rattle.serde_json.specs.declared.value.Value.{the_lemmas}
@@ -22,7 +22,7 @@ use Rattle.bson_leaf.specs.declared.error.Error.{Error}
 use Rattle.bson_model.specs.Reading.{reads, reads_items, reads_members, reads_wrapper, reads_scope, valued, code_at, coded, scoped}
 use Rattle.bson_model.specs.Value.{Value, Values, value, Pairs, pair}
 use Rattle.bson_model.specs.Value as model
-use Rattle.bson_model.proofs.Members.{Member}
+use Rattle.bson_model.proofs.Offered.{Member}
 use Rattle.bson_place.specs.declared.place.Place.{Place}
 use Rattle.bson_place.specs.Place.{dotted, word_of, Turn, key, way_of, FaultAt, FaultAmong, FaultIn, number, array, document, wrapper, scope, shape, later, behind, HasValue, IsErrorOf, IsPlace, HasScope, IsScopeFault, in_scope, no_scope, IsOpen, code_with_scope}
 
@@ -51,7 +51,7 @@ boolean_value b = (model.scalar (kind.boolean b), refl)
 pub text_value : (s : List ℕ) → HasValue (tree.string s)
 text_value s = (model.scalar (kind.text s), refl)
 
-whole_value : (o : Option ℤ) → IsSome o → (v : Value) × (valued (or_bad o >>= λ z. Ok (narrowest z)) ≡ Ok v)
+whole_value : (o : Option ℤ) → IsSome o → (v : Value) × (valued (or_wrong_shape o >>= λ z. Ok (narrowest z)) ≡ Ok v)
 whole_value (Some z) h = (model.scalar (narrowest z), refl)
 whole_value None h = cc
 
@@ -140,18 +140,18 @@ pub lone_value : (k : List ℕ) (d : Data) (x : Scalar) → has_wrapper (member 
 lone_value k d x h e = (model.scalar x, wrapped (member k d no_members) h ∙ ap valued e)
 
 -- a place at a tree itself
-pub at_once : {A : Fault → List Turn → Type 0} (p : Place) → IsErrorOf bad p.error → way_of p ≡ [] → A bad [] → IsPlace A p
-at_once {A} p error way a = record { fault = bad; way = subst (A bad) (sym way) a; error = error }
+pub at_once : {A : Fault → List Turn → Type 0} (p : Place) → IsErrorOf wrong_shape p.error → way_of p ≡ [] → A wrong_shape [] → IsPlace A p
+at_once {A} p error way a = record { fault = wrong_shape; way = subst (A wrong_shape) (sym way) a; error = error }
 
 -- two keys that are not those of code and its scope
 not_open_by_keys : (k : List ℕ) (d : Data) (l : List ℕ) (e : Data) → (bytes_eq k (codes "$code") && bytes_eq l (codes "$scope")) ≡ false → IsOpen (member k d (member l e no_members)) → ⊥
 not_open_by_keys k d l e h (code_with_scope s ms) = cc
 
-other_keys : (k : List ℕ) (d : Data) (l : List ℕ) (r : Result (Option Pairs) Fault) → (bytes_eq k (codes "$code") && bytes_eq l (codes "$scope")) ≡ false → code_at k d l r ≡ Err bad
-other_keys k d l r h = ap (λ b. cond b (on_text d (λ s. scoped s r)) (Err bad)) h
+other_keys : (k : List ℕ) (d : Data) (l : List ℕ) (r : Result (Option Pairs) Fault) → (bytes_eq k (codes "$code") && bytes_eq l (codes "$scope")) ≡ false → code_at k d l r ≡ Err wrong_shape
+other_keys k d l r h = ap (λ b. cond b (on_text d (λ s. scoped s r)) (Err wrong_shape)) h
 
 pub not_code : (k : List ℕ) (d : Data) (l : List ℕ) (e : Data) → has_wrapper (member k d (member l e no_members)) ≡ true → (bytes_eq k (codes "$code") && bytes_eq l (codes "$scope")) ≡ false
-    → FaultAt bad (tree.object (member k d (member l e no_members))) []
+    → FaultAt wrong_shape (tree.object (member k d (member l e no_members))) []
 not_code k d l e w h =
     let ms = member k d (member l e no_members) in
     shape ms w (not_open_by_keys k d l e h) (wrapped ms w ∙ other_keys k d l (reads_scope e) h)
@@ -160,7 +160,7 @@ same_branches : (b : Bool) (x y : Result Value Fault) → x ≡ y → cond b x y
 same_branches true x y h = h
 same_branches false x y h = refl
 
-no_code_text : (k : List ℕ) (d : Data) (l : List ℕ) (e : Data) → ((s : List ℕ) → d ≡ tree.string s → ⊥) → code_at k d l (reads_scope e) ≡ Err bad
+no_code_text : (k : List ℕ) (d : Data) (l : List ℕ) (e : Data) → ((s : List ℕ) → d ≡ tree.string s → ⊥) → code_at k d l (reads_scope e) ≡ Err wrong_shape
 no_code_text k tree.null l e h = same_branches _ _ _ refl
 no_code_text k (tree.boolean b) l e h = same_branches _ _ _ refl
 no_code_text k (tree.number n) l e h = same_branches _ _ _ refl
@@ -172,7 +172,7 @@ not_open_by_code : (k : List ℕ) (d : Data) (l : List ℕ) (e : Data) → ((s :
 not_open_by_code k d l e h (code_with_scope s ms) = h s refl
 
 pub not_text : (k : List ℕ) (d : Data) (l : List ℕ) (e : Data) → has_wrapper (member k d (member l e no_members)) ≡ true → ((s : List ℕ) → d ≡ tree.string s → ⊥)
-    → FaultAt bad (tree.object (member k d (member l e no_members))) []
+    → FaultAt wrong_shape (tree.object (member k d (member l e no_members))) []
 not_text k d l e w h =
     let ms = member k d (member l e no_members) in
     shape ms w (not_open_by_code k d l e h) (wrapped ms w ∙ no_code_text k d l e h)
@@ -181,7 +181,7 @@ not_open_by_scope : (k : List ℕ) (d : Data) (l : List ℕ) (e : Data) → ((ms
 not_open_by_scope k d l e h (code_with_scope s ms) = h ms refl
 
 code_read : (k : List ℕ) (d : Data) (l : List ℕ) (s : List ℕ) (r : Result (Option Pairs) Fault) → (bytes_eq k (codes "$code") && bytes_eq l (codes "$scope")) ≡ true → d ≡ tree.string s → code_at k d l r ≡ scoped s r
-code_read k d l s r h e = rw e (ap (λ b. cond b (scoped s r) (Err bad)) h)
+code_read k d l s r h e = rw e (ap (λ b. cond b (scoped s r) (Err wrong_shape)) h)
 
 code_value : (k : List ℕ) (d : Data) (l : List ℕ) (e : Data) (s : List ℕ) → has_wrapper (member k d (member l e no_members)) ≡ true → (bytes_eq k (codes "$code") && bytes_eq l (codes "$scope")) ≡ true
     → d ≡ tree.string s → HasScope e → HasValue (tree.object (member k d (member l e no_members)))
@@ -202,10 +202,10 @@ of_code k d l e r w h text g =
     let keys = and_parts _ _ h in
     found_from r (code_value k d l e text.0 w h text.1) (scope_way k d l e text.0 w ((bytes_eq-Decides _ _).0 keys.0) ((bytes_eq-Decides _ _).0 keys.1) text.1) g
 
-pub no_number : (n : Num) → as_i64 n ≡ None → FaultAt bad (tree.number n) []
-no_number n h = number n (ap (λ o. or_bad o >>= λ z. Ok (narrowest z)) h)
+pub no_number : (n : Num) → as_i64 n ≡ None → FaultAt wrong_shape (tree.number n) []
+no_number n h = number n (ap (λ o. or_wrong_shape o >>= λ z. Ok (narrowest z)) h)
 
-pub no_scope_found : (k : List ℕ) (d e : Data) (p : Place) → d ≡ e → ((ms : Members) → e ≡ tree.object ms → ⊥) → reads_scope e ≡ Err bad → IsErrorOf bad p.error → way_of p ≡ [] → IsPlace (IsScopeFault k d) p
+pub no_scope_found : (k : List ℕ) (d e : Data) (p : Place) → d ≡ e → ((ms : Members) → e ≡ tree.object ms → ⊥) → reads_scope e ≡ Err wrong_shape → IsErrorOf wrong_shape p.error → way_of p ≡ [] → IsPlace (IsScopeFault k d) p
 no_scope_found k d e p is none h error way = rw is (at_once p error way (no_scope e none h))
 
 pub scope_found : (k : List ℕ) (ms : Members) (f : Fault) (way : List Turn) → FaultIn f ms way → IsScopeFault k (tree.object ms) f (way ++ key k ∷ [])
@@ -250,8 +250,8 @@ not_open_by_more : (x y : Member) (rest : List Member) → (length rest ≡ 0 �
 not_open_by_more x y [] h is = h refl
 not_open_by_more x y (z ∷ rest) h is = never is
 
-pub more_found : (es : List Member) (x y : Member) (mid rest : List Member) → es ≡ x ∷ mid → mid ≡ y ∷ rest → (length rest ≡ 0 → ⊥) → has_wrapper (members_view es) ≡ true → reads_wrapper (members_view es) ≡ Err bad
-    → FaultAt bad (tree.object (members_view es)) []
+pub more_found : (es : List Member) (x y : Member) (mid rest : List Member) → es ≡ x ∷ mid → mid ≡ y ∷ rest → (length rest ≡ 0 → ⊥) → has_wrapper (members_view es) ≡ true → reads_wrapper (members_view es) ≡ Err wrong_shape
+    → FaultAt wrong_shape (tree.object (members_view es)) []
 more_found es x y mid rest a b h w e = shape (members_view es) w (subst (λ l. IsOpen (members_view l) → ⊥) (sym (a ∙ ap (λ l. x ∷ l) b)) (not_open_by_more x y rest h)) (wrapped (members_view es) w ∙ e)
 
 two_left : (x y : Member) (rest : List Member) → length rest ≡ 0 → members_view (x ∷ y ∷ rest) ≡ member (string_bytes x.0) (view x.1) (member (string_bytes y.0) (view y.1) no_members)

@@ -3,9 +3,9 @@ use Rattle.std.specs.Prelude.{◌≡◌, ℕ, ◌+◌, List, [], ◌∷◌, ◌+
 use Rattle.std.specs.Fmt.{decimal}
 use Rattle.serde_json.specs.Data.{Data, Num, Items, item, Members, no_members, member}
 use Rattle.serde_json.specs.Data as tree
-use Rattle.bson_leaf.specs.Faults.{Fault, bad, bad_id, IsIdFault}
+use Rattle.bson_leaf.specs.Faults.{Fault, wrong_shape, wrong_id, IsIdFault}
 use Rattle.bson_leaf.specs.Reading.{number_read, single_at}
-use Rattle.bson_leaf.specs.Shapes.{two}
+use Rattle.bson_leaf.specs.Shapes.{object_of_two}
 use Rattle.bson_leaf.specs.Table.{wrapper_of, has_wrapper}
 use Rattle.bson_leaf.specs.declared.error.Error.{Error}
 use Rattle.bson_leaf.specs.declared.error.Error.TheVariants.{InvalidObjectId, DeserializationError, OutOfMemory}
@@ -54,16 +54,16 @@ mutual
   -- the first fault of the tree, and the way from it outward
   pub data FaultAt : Fault → Data → List Turn → Type 0 where
     -- a number that is no i64
-    number : (n : Num) → number_read n ≡ Err bad → FaultAt bad (tree.number n) []
+    number : (n : Num) → number_read n ≡ Err wrong_shape → FaultAt wrong_shape (tree.number n) []
     array : {f : Fault} {way : List Turn} (ds : Items) → FaultAmong f 0 ds way → FaultAt f (tree.array ds) way
     document : {f : Fault} {way : List Turn} (ms : Members) → has_wrapper ms ≡ false → FaultIn f ms way → FaultAt f (tree.object ms) way
     -- what stands at the key of a wrapper
     wrapper : {f : Fault} (k : List ℕ) (d : Data) → has_wrapper (member k d no_members) ≡ true → single_at (wrapper_of k) d ≡ Err f
         → FaultAt f (tree.object (member k d no_members)) (key k ∷ [])
     scope : {f : Fault} {way : List Turn} (s : List ℕ) (ms : Members) → FaultIn f ms way
-        → FaultAt f (two (codes "$code") (tree.string s) (codes "$scope") (tree.object ms)) (way ++ key (codes "$scope") ∷ [])
+        → FaultAt f (object_of_two (codes "$code") (tree.string s) (codes "$scope") (tree.object ms)) (way ++ key (codes "$scope") ∷ [])
     -- an object with a wrapper key that has the shape of no wrapper
-    shape : (ms : Members) → has_wrapper ms ≡ true → (IsOpen ms → ⊥) → reads (tree.object ms) ≡ Err bad → FaultAt bad (tree.object ms) []
+    shape : (ms : Members) → has_wrapper ms ≡ true → (IsOpen ms → ⊥) → reads (tree.object ms) ≡ Err wrong_shape → FaultAt wrong_shape (tree.object ms) []
 
   -- of elements, the first of which has this place in its list
   pub data FaultAmong : Fault → ℕ → Items → List Turn → Type 0 where
@@ -80,8 +80,8 @@ mutual
 -- the error is that of the fault
 abbrev pub IsErrorOf : Fault → Error → Type 0
 IsErrorOf f OutOfMemory = ⊥
-IsErrorOf f (DeserializationError message) = f ≡ bad
-IsErrorOf f (InvalidObjectId e) = (s : List ℕ) × (f ≡ bad_id s) × IsIdFault s e
+IsErrorOf f (DeserializationError message) = f ≡ wrong_shape
+IsErrorOf f (InvalidObjectId e) = (s : List ℕ) × (f ≡ wrong_id s) × IsIdFault s e
 
 -- a fault lies at the place, and the place has its error
 pub record IsPlace (lies : Fault → List Turn → Type 0) (place : Place) : Type 0 where
@@ -102,4 +102,4 @@ HasScope d = (ps : Option Pairs) × (reads_scope d ≡ Ok ps)
 -- why a tree that stands at this key is no scope, and the way from the fault to the object that it stands in
 pub data IsScopeFault (k : List ℕ) : Data → Fault → List Turn → Type 0 where
   in_scope : {f : Fault} {way : List Turn} (ms : Members) → FaultIn f ms way → IsScopeFault k (tree.object ms) f (way ++ key k ∷ [])
-  no_scope : (d : Data) → ((ms : Members) → d ≡ tree.object ms → ⊥) → reads_scope d ≡ Err bad → IsScopeFault k d bad []
+  no_scope : (d : Data) → ((ms : Members) → d ≡ tree.object ms → ⊥) → reads_scope d ≡ Err wrong_shape → IsScopeFault k d wrong_shape []

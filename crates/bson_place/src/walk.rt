@@ -4,8 +4,8 @@ ghost use Rattle.std.specs.Str.{bytes_eq};
 ghost use Rattle.serde_json.specs.View.{view, number_view, items_view, members_view};
 ghost use Rattle.serde_json.specs.Data.{number, string, object, member, no_members};
 ghost use Rattle.bson_leaf.specs.Table.{has_wrapper};
-ghost use Rattle.bson_leaf.specs.Shapes.{two};
-ghost use Rattle.bson_leaf.specs.Faults.{bad};
+ghost use Rattle.bson_leaf.specs.Shapes.{object_of_two};
+ghost use Rattle.bson_leaf.specs.Faults.{wrong_shape};
 ghost use Rattle.bson_model.specs.Reading.{reads_items, reads_members};
 ghost use Rattle.bson_model.specs.Value.{Values, Pairs};
 ghost use Rattle.bson_place.specs.Place.{FaultAt, FaultAmong, FaultIn, HasScope, HasValue, IsErrorOf, IsPlace, IsScopeFault, key as at, way_of, turn_of};
@@ -48,7 +48,7 @@ fn walk(alloc: Global, tree: Value) -> Result<Option<Place>, AllocError>
 
 /// The place at the tree itself.
 fn here(alloc: Global, message: &'static str) -> Place
-    ensures error { IsErrorOf bad result.error }
+    ensures error { IsErrorOf wrong_shape result.error }
     ensures way { way_of result ≡ [] }
 {
     Place {
@@ -167,7 +167,7 @@ fn of_two(
     other: String,
 ) -> Result<Option<Place>, AllocError>
     requires { has_wrapper (member (string_bytes key) (view value) (member (string_bytes other) (view scope) no_members)) ≡ true }
-    ensures { IfOk result (λ found. MatchOption found (HasValue (two (string_bytes key) (view value) (string_bytes other) (view scope))) (IsPlace (λ f. FaultAt f (two (string_bytes key) (view value) (string_bytes other) (view scope))))) }
+    ensures { IfOk result (λ found. MatchOption found (HasValue (object_of_two (string_bytes key) (view value) (string_bytes other) (view scope))) (IsPlace (λ f. FaultAt f (object_of_two (string_bytes key) (view value) (string_bytes other) (view scope))))) }
 {
     if !is_code_with_scope(key.as_str(), other.as_str()) {
         return Ok(Some(here(alloc, SHAPE)));

@@ -2,8 +2,10 @@
 use Rattle.std.proofs.Common.{◌≡◌, ℕ, List, ◌++◌, ap, ◌∙◌, subst}
 use Rattle.bson_leaf.specs.declared.form.Form.{Form}
 use Rattle.bson_model.specs.Value.{Value}
-use Rattle.bson_model.specs.Writing.{Written, normal_form, IsReadForm}
-use Rattle.bson_model.proofs.MeansLaws.{means_one}
+use Rattle.bson_model.specs.Normal.{normal_form}
+use Rattle.bson_model.specs.Written.{Written}
+use Rattle.bson_model.specs.Laws.{IsReadForm}
+use Rattle.bson_model.proofs.Offered.{means_one}
 use Rattle.bson.specs.Texts.{IsTextIn}
 use Rattle.bson_run.specs.Convert.{IsWritten, newline}
 

@@ -4,7 +4,7 @@ use Rattle.std.proofs.lemmas.Option.{same_Some}
 use Rattle.serde_json.specs.Data.{Data}
 use Rattle.bson_model.specs.Fault.{MeansNothing}
 use Rattle.bson_model.specs.Means.{Means}
-use Rattle.bson_model.proofs.MeansLaws.{means_from}
+use Rattle.bson_model.proofs.Offered.{means_from}
 use Rattle.bson_place.specs.Place.{Turn, HasValue, dotted}
 use Rattle.bson_text.specs.Text.{IsTextOf}
 use Rattle.bson_run.specs.Place.{IsShown, at_path}

@@ -3,14 +3,16 @@ use Rattle.std.specs.Prelude.{◌≡◌, ◌≤◌, ℕ, List, [], ◌∷◌, �
 use Rattle.serde_json.specs.Data.{Data, depth}
 use Rattle.serde_json.specs.Read.{read, max_depth}
 use Rattle.serde_json.specs.Written.{compact_text}
-use Rattle.bson_leaf.specs.Faults.{Fault as TreeFault, bad, bad_id}
+use Rattle.bson_leaf.specs.Faults.{Fault as TreeFault, wrong_shape, wrong_id}
 use Rattle.bson_leaf.specs.declared.form.Form.{Form}
 use Rattle.bson_leaf.specs.declared.form.Form.TheVariants as form
 use Rattle.bson_model.specs.Fault.{MeansNothing, fault_of}
 use Rattle.bson_model.specs.Means.{Means}
 use Rattle.bson_model.specs.Shown.{shown}
 use Rattle.bson_model.specs.Value.{Value}
-use Rattle.bson_model.specs.Writing.{HasMeaning, IsTreeOf, Written, normal_form}
+use Rattle.bson_model.specs.Normal.{normal_form}
+use Rattle.bson_model.specs.Written.{Written}
+use Rattle.bson_model.specs.Laws.{HasMeaning, IsTreeOf}
 use Rattle.bson_text.specs.Text.{IsTextOf, IsNoText}
 use Rattle.bson_run.specs.declared.mode.Mode.{Mode}
 use Rattle.bson_run.specs.declared.mode.Mode.TheVariants.{Canonical, Relaxed, Show}
@@ -52,11 +54,11 @@ pub record Converts (mode : Mode) (bytes output : List ℕ) : Type 0 where
 
 -- the text of an object id alone is wrong
 abbrev pub IsBadId : TreeFault → Type 0
-IsBadId it = (id : List ℕ) × (it ≡ bad_id id)
+IsBadId it = (id : List ℕ) × (it ≡ wrong_id id)
 
 -- anything else is
 abbrev pub IsBad : TreeFault → Type 0
-IsBad it = it ≡ bad
+IsBad it = it ≡ wrong_shape
 
 -- the bytes are the text of a tree that means nothing, for a reason
 pub record HasNoMeaning (why : TreeFault → Type 0) (bytes : List ℕ) : Type 0 where

@@ -4,7 +4,7 @@ ghost use Rattle.serde_json.specs.Data.{Data};
 ghost use Rattle.bson_model.specs.Means.{Means};
 ghost use Rattle.bson_model.specs.Shown.{shown};
 ghost use Rattle.bson_model.specs.Value as model;
-ghost use Rattle.bson_model.specs.Writing.{IsReadForm};
+ghost use Rattle.bson_model.specs.Laws.{IsReadForm};
 ghost use Rattle.bson.specs.View.{bson_view};
 ghost use Rattle.bson_run.specs.Convert.{Converts, IsOutput, IsRefused, newline};
 ghost use Rattle.bson_text.specs.Text.{IsTextOf, HasTextMeaning};

@@ -7,3 +7,5 @@ pub mod SortedText
 pub mod IdOrderParts
 pub mod HexLaws
 pub mod Base64Laws
+pub mod ByteRanges
+pub mod Offered

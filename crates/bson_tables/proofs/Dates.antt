@@ -5,28 +5,29 @@ use Rattle.jiff_core.specs.Calendar.{days_of_years, days_of_months, day_count, d
 use Rattle.bson_datetime.specs.Rfc3339.{denoted, date_part, time_part, fraction_part, offset_part, hours_minutes, digits_below, after, after_letter, day_number, two_digits, four_digits}
 use Rattle.jiff_fmt.specs.Reader.{fraction_value}
 use Rattle.bson_datetime.specs.Moment.{Civil, IsCivil, IsMoment}
-use Rattle.bson_datetime.proofs.ShownLemmas.{rfc-fields}
+use Rattle.bson_datetime.proofs.Offered.{rfc-fields}
 use Rattle.bson_leaf.specs.Scalar as kind
-use Rattle.bson_leaf.specs.Shapes.{one}
+use Rattle.bson_leaf.specs.Shapes.{object_of_one}
 use Rattle.bson_leaf.specs.declared.form.Form.TheVariants.{Relaxed}
 use Rattle.bson_model.specs.Means.{Means}
 use Rattle.bson_model.specs.Value as model
-use Rattle.bson_model.specs.Writing.{Written, normal_form}
-use Rattle.bson_model.proofs.WriteLaws.{canon_from}
+use Rattle.bson_model.specs.Normal.{normal_form}
+use Rattle.bson_model.specs.Written.{Written}
+use Rattle.bson_model.proofs.Offered.{canon_from}
 use Rattle.serde_json.specs.Data as tree
 use Rattle.bson_tables.proofs.Shapes.{row}
 
-millis_read : Means (one (codes "$date") (tree.string (codes "1970-01-01T00:00:00.005Z"))) (model.scalar (kind.date (pos 5)))
+millis_read : Means (object_of_one (codes "$date") (tree.string (codes "1970-01-01T00:00:00.005Z"))) (model.scalar (kind.date (pos 5)))
 unfolding denoted date_part time_part fraction_part offset_part hours_minutes digits_below after after_letter day_number two_digits four_digits fraction_value days_of_years days_of_months day_count days_from_civil
 millis_read = row _ _ refl
 
-offset_read : Means (one (codes "$date") (tree.string (codes "1970-01-01T01:00:00+01:00"))) (model.scalar (kind.date (pos 0)))
+offset_read : Means (object_of_one (codes "$date") (tree.string (codes "1970-01-01T01:00:00+01:00"))) (model.scalar (kind.date (pos 0)))
 unfolding denoted date_part time_part fraction_part offset_part hours_minutes digits_below after after_letter day_number two_digits four_digits fraction_value days_of_years days_of_months day_count days_from_civil
 offset_read = row _ _ refl
 
 -- the relaxed form has this text
 abbrev HasText : ℤ → List ℕ → Type 0
-HasText ms s = Written Relaxed (normal_form (model.scalar (kind.date ms))) (one (codes "$date") (tree.string s))
+HasText ms s = Written Relaxed (normal_form (model.scalar (kind.date ms))) (object_of_one (codes "$date") (tree.string s))
 
 first : Civil
 first = record { year = pos 1970; month = 1; day = 1; hour = 0; minute = 0; second = 0; millisecond = 0 }

@@ -4,7 +4,7 @@ use Rattle.std.specs.Prelude.{codes}
 use Rattle.serde_json.specs.Data.{Data, negative}
 use Rattle.serde_json.specs.Data as tree
 use Rattle.bson_leaf.specs.Scalar as kind
-use Rattle.bson_leaf.specs.Shapes.{one, two}
+use Rattle.bson_leaf.specs.Shapes.{object_of_one, object_of_two}
 use Rattle.bson_scalar.specs.Base64.{IsBase64}
 use Rattle.bson_scalar.specs.Oid.{IsOidText}
 use Rattle.bson_leaf.specs.Binaries.{IsHyphenatedText}
@@ -40,95 +40,95 @@ least_int32_row = row _ _ refl
 below_int32_row : Means (tree.number (negative (negsuc 2147483648))) (model.scalar (kind.int64 (negsuc 2147483648)))
 below_int32_row = row _ _ refl
 
-number_int_row : Means (one (codes "$numberInt") (tree.string (codes "+007"))) (model.scalar (kind.int32 (pos 7)))
+number_int_row : Means (object_of_one (codes "$numberInt") (tree.string (codes "+007"))) (model.scalar (kind.int32 (pos 7)))
 unfolding Rattle.bson_leaf.specs.Reading.int_of
 number_int_row = row _ _ refl
 
-number_int_minus_row : Means (one (codes "$numberInt") (tree.string (codes "-1"))) (model.scalar (kind.int32 (negsuc 0)))
+number_int_minus_row : Means (object_of_one (codes "$numberInt") (tree.string (codes "-1"))) (model.scalar (kind.int32 (negsuc 0)))
 unfolding Rattle.bson_leaf.specs.Reading.int_of
 number_int_minus_row = row _ _ refl
 
-number_long_row : Means (one (codes "$numberLong") (tree.string (codes "7"))) (model.scalar (kind.int64 (pos 7)))
+number_long_row : Means (object_of_one (codes "$numberLong") (tree.string (codes "7"))) (model.scalar (kind.int64 (pos 7)))
 unfolding Rattle.bson_leaf.specs.Reading.int_of
 number_long_row = row _ _ refl
 
-double_zero_row : Means (one (codes "$numberDouble") (tree.string (codes "0.0"))) (model.scalar (kind.double 0))
+double_zero_row : Means (object_of_one (codes "$numberDouble") (tree.string (codes "0.0"))) (model.scalar (kind.double 0))
 double_zero_row = row _ _ refl
 
-double_minus_zero_row : Means (one (codes "$numberDouble") (tree.string (codes "-0.0"))) (model.scalar (kind.double 0x8000000000000000))
+double_minus_zero_row : Means (object_of_one (codes "$numberDouble") (tree.string (codes "-0.0"))) (model.scalar (kind.double 0x8000000000000000))
 double_minus_zero_row = row _ _ refl
 
-double_infinity_row : Means (one (codes "$numberDouble") (tree.string (codes "Infinity"))) (model.scalar (kind.double 0x7FF0000000000000))
+double_infinity_row : Means (object_of_one (codes "$numberDouble") (tree.string (codes "Infinity"))) (model.scalar (kind.double 0x7FF0000000000000))
 double_infinity_row = row _ _ refl
 
-double_minus_infinity_row : Means (one (codes "$numberDouble") (tree.string (codes "-Infinity"))) (model.scalar (kind.double 0xFFF0000000000000))
+double_minus_infinity_row : Means (object_of_one (codes "$numberDouble") (tree.string (codes "-Infinity"))) (model.scalar (kind.double 0xFFF0000000000000))
 double_minus_infinity_row = row _ _ refl
 
-double_nan_row : Means (one (codes "$numberDouble") (tree.string (codes "NaN"))) (model.scalar (kind.double 0x7FF8000000000000))
+double_nan_row : Means (object_of_one (codes "$numberDouble") (tree.string (codes "NaN"))) (model.scalar (kind.double 0x7FF8000000000000))
 double_nan_row = row _ _ refl
 
-double_minus_nan_row : Means (one (codes "$numberDouble") (tree.string (codes "-NaN"))) (model.scalar (kind.double 0xFFF8000000000000))
+double_minus_nan_row : Means (object_of_one (codes "$numberDouble") (tree.string (codes "-NaN"))) (model.scalar (kind.double 0xFFF8000000000000))
 double_minus_nan_row = row _ _ refl
 
-symbol_row : Means (one (codes "$symbol") (tree.string (codes "s"))) (model.scalar (kind.symbol (codes "s")))
+symbol_row : Means (object_of_one (codes "$symbol") (tree.string (codes "s"))) (model.scalar (kind.symbol (codes "s")))
 symbol_row = row _ _ refl
 
-code_row : Means (one (codes "$code") (tree.string (codes "s"))) (model.scalar (kind.code (codes "s")))
+code_row : Means (object_of_one (codes "$code") (tree.string (codes "s"))) (model.scalar (kind.code (codes "s")))
 code_row = row _ _ refl
 
-code_null_scope_row : Means (two (codes "$code") (tree.string (codes "s")) (codes "$scope") tree.null) (model.scalar (kind.code (codes "s")))
+code_null_scope_row : Means (object_of_two (codes "$code") (tree.string (codes "s")) (codes "$scope") tree.null) (model.scalar (kind.code (codes "s")))
 code_null_scope_row = row _ _ refl
 
-code_scope_row : Means (two (codes "$code") (tree.string (codes "s")) (codes "$scope") (one (codes "$oid") (whole 1))) (model.code_scope (codes "s") (model.pair (codes "$oid") (model.scalar (kind.int32 (pos 1))) model.no_pairs))
+code_scope_row : Means (object_of_two (codes "$code") (tree.string (codes "s")) (codes "$scope") (object_of_one (codes "$oid") (whole 1))) (model.code_scope (codes "s") (model.pair (codes "$oid") (model.scalar (kind.int32 (pos 1))) model.no_pairs))
 code_scope_row = row _ _ refl
 
-timestamp_row : Means (one (codes "$timestamp") (two (codes "i") (whole 2) (codes "t") (whole 1))) (model.scalar (kind.timestamp 1 2))
+timestamp_row : Means (object_of_one (codes "$timestamp") (object_of_two (codes "i") (whole 2) (codes "t") (whole 1))) (model.scalar (kind.timestamp 1 2))
 timestamp_row = row _ _ refl
 
-date_millis_row : Means (one (codes "$date") (one (codes "$numberLong") (tree.string (codes "5")))) (model.scalar (kind.date (pos 5)))
+date_millis_row : Means (object_of_one (codes "$date") (object_of_one (codes "$numberLong") (tree.string (codes "5")))) (model.scalar (kind.date (pos 5)))
 unfolding Rattle.bson_leaf.specs.Reading.int_of
 date_millis_row = row _ _ refl
 
-date_number_row : Means (one (codes "$date") (whole 5)) (model.scalar (kind.date (pos 5)))
+date_number_row : Means (object_of_one (codes "$date") (whole 5)) (model.scalar (kind.date (pos 5)))
 date_number_row = row _ _ refl
 
-min_key_row : Means (one (codes "$minKey") (whole 1)) (model.scalar kind.min_key)
+min_key_row : Means (object_of_one (codes "$minKey") (whole 1)) (model.scalar kind.min_key)
 min_key_row = row _ _ refl
 
-max_key_row : Means (one (codes "$maxKey") (whole 1)) (model.scalar kind.max_key)
+max_key_row : Means (object_of_one (codes "$maxKey") (whole 1)) (model.scalar kind.max_key)
 max_key_row = row _ _ refl
 
-undefined_row : Means (one (codes "$undefined") (tree.boolean true)) (model.scalar kind.undefined)
+undefined_row : Means (object_of_one (codes "$undefined") (tree.boolean true)) (model.scalar kind.undefined)
 undefined_row = row _ _ refl
 
 array_row : Means (list_of_two (whole 1) tree.null) (model.array (model.value (model.scalar (kind.int32 (pos 1))) (model.value (model.scalar kind.null) model.no_values)))
 array_row = row _ _ refl
 
-document_row : Means (two (codes "a") (whole 1) (codes "b") tree.null) (model.document (model.pair (codes "a") (model.scalar (kind.int32 (pos 1))) (model.pair (codes "b") (model.scalar kind.null) model.no_pairs)))
+document_row : Means (object_of_two (codes "a") (whole 1) (codes "b") tree.null) (model.document (model.pair (codes "a") (model.scalar (kind.int32 (pos 1))) (model.pair (codes "b") (model.scalar kind.null) model.no_pairs)))
 document_row = row _ _ refl
 
-ordinary_key_row : Means (one (codes "$scope") (whole 1)) (model.document (model.pair (codes "$scope") (model.scalar (kind.int32 (pos 1))) model.no_pairs))
+ordinary_key_row : Means (object_of_one (codes "$scope") (whole 1)) (model.document (model.pair (codes "$scope") (model.scalar (kind.int32 (pos 1))) model.no_pairs))
 ordinary_key_row = row _ _ refl
 
 -- the rows of texts whose meaning other standards say
 
-regex_row : (p o : List ℕ) → Means (one (codes "$regularExpression") (two (codes "options") (tree.string o) (codes "pattern") (tree.string p))) (model.scalar (kind.regex p (sorted_text o)))
+regex_row : (p o : List ℕ) → Means (object_of_one (codes "$regularExpression") (object_of_two (codes "options") (tree.string o) (codes "pattern") (tree.string p))) (model.scalar (kind.regex p (sorted_text o)))
 regex_row p o = scalar _ _ (means.regular_expression p o)
 
-oid_row : (s id : List ℕ) → IsOidText s id → Means (one (codes "$oid") (tree.string s)) (model.scalar (kind.object_id id))
+oid_row : (s id : List ℕ) → IsOidText s id → Means (object_of_one (codes "$oid") (tree.string s)) (model.scalar (kind.object_id id))
 oid_row s id is = scalar _ _ (means.oid s id is)
 
-db_pointer_row : (n s id : List ℕ) → IsOidText s id → Means (one (codes "$dbPointer") (two (codes "$id") (one (codes "$oid") (tree.string s)) (codes "$ref") (tree.string n))) (model.scalar (kind.db_pointer n id))
+db_pointer_row : (n s id : List ℕ) → IsOidText s id → Means (object_of_one (codes "$dbPointer") (object_of_two (codes "$id") (object_of_one (codes "$oid") (tree.string s)) (codes "$ref") (tree.string n))) (model.scalar (kind.db_pointer n id))
 db_pointer_row n s id is = scalar _ _ (means.db_pointer n s id is)
 
-binary_row : (s k bytes : List ℕ) (n : ℕ) → IsBase64 s bytes → IsByteText k n → Means (one (codes "$binary") (two (codes "base64") (tree.string s) (codes "subType") (tree.string k))) (model.scalar (kind.binary (subtype_of n) bytes))
+binary_row : (s k bytes : List ℕ) (n : ℕ) → IsBase64 s bytes → IsByteText k n → Means (object_of_one (codes "$binary") (object_of_two (codes "base64") (tree.string s) (codes "subType") (tree.string k))) (model.scalar (kind.binary (subtype_of n) bytes))
 binary_row s k bytes n is byte = scalar _ _ (means.binary s k bytes n is byte)
 
-uuid_row : (s id : List ℕ) → IsHyphenatedText s id → Means (one (codes "$uuid") (tree.string s)) (model.scalar (kind.binary Uuid id))
+uuid_row : (s id : List ℕ) → IsHyphenatedText s id → Means (object_of_one (codes "$uuid") (tree.string s)) (model.scalar (kind.binary Uuid id))
 uuid_row s id is = scalar _ _ (means.uuid s id is)
 
-date_text_row : (s : List ℕ) (z : ℤ) → Names s z → Means (one (codes "$date") (tree.string s)) (model.scalar (kind.date z))
+date_text_row : (s : List ℕ) (z : ℤ) → Names s z → Means (object_of_one (codes "$date") (tree.string s)) (model.scalar (kind.date z))
 date_text_row s z is = scalar _ _ (means.date_of_text s z is)
 
-decimal_row : (s b : List ℕ) → Parses s b → Means (one (codes "$numberDecimal") (tree.string s)) (model.scalar (kind.decimal b))
+decimal_row : (s b : List ℕ) → Parses s b → Means (object_of_one (codes "$numberDecimal") (tree.string s)) (model.scalar (kind.decimal b))
 decimal_row s b is = scalar _ _ (means.number_decimal s b is)

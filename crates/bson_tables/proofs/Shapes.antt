@@ -7,7 +7,7 @@ use Rattle.bson_model.specs.Fault.{MeansNothing}
 use Rattle.bson_model.specs.Means.{Means}
 use Rattle.bson_model.specs.Reading.{reads}
 use Rattle.bson_model.specs.Value.{Value}
-use Rattle.bson_model.proofs.MeansLaws.{means_from, means_to}
+use Rattle.bson_model.proofs.Offered.{means_from, means_to}
 
 abbrev pub whole : ℕ → Data
 whole n = tree.number (unsigned n)

@@ -8,16 +8,17 @@ use Rattle.base64.specs.Rfc4648.{encode_symbols}
 use Rattle.hex.specs.Hex.{encode_with, decode_pairs}
 use Rattle.uuid.specs.Text.{by_index}
 use Rattle.bson_decimal.specs.Steps.{cut_at_34, raise_to_least, zeros_to_add, exponent_value, written_exponent, scaled_exponent, coefficient, settled, finite}
-use Rattle.bson_decimal.specs.Pattern.{canon}
+use Rattle.bson_decimal.specs.Pattern.{normal_decimal}
 use Rattle.bson_decimal.specs.Printed.{printed}
 use Rattle.bson_leaf.specs.Reading.{decimal_of}
 use Rattle.bson_leaf.specs.Scalar as kind
-use Rattle.bson_leaf.specs.Shapes.{one, two}
+use Rattle.bson_leaf.specs.Shapes.{object_of_one, object_of_two}
 use Rattle.bson_leaf.specs.declared.form.Form.{Form}
 use Rattle.bson_model.specs.Means.{Means}
 use Rattle.bson_model.specs.Value as model
-use Rattle.bson_model.specs.Writing.{Written, normal_form}
-use Rattle.bson_model.proofs.WriteLaws.{canon_from}
+use Rattle.bson_model.specs.Normal.{normal_form}
+use Rattle.bson_model.specs.Written.{Written}
+use Rattle.bson_model.proofs.Offered.{canon_from}
 use Rattle.bson_scalar.specs.declared.spec.BinarySubtype.TheVariants.{Generic, Function, BinaryOld, UuidOld, Uuid, Md5, Encrypted, Column, Sensitive, Vector, Reserved, UserDefined}
 use Rattle.bson_scalar.specs.Subtype.{subtype_byte, subtype_of}
 use Rattle.serde_json.specs.Data as tree
@@ -27,24 +28,24 @@ use Rattle.bson_tables.proofs.Shapes.{row}
 id : List ℕ
 id = 0x53 ∷ 0xe3 ∷ 0x7d ∷ 0x08 ∷ 0x77 ∷ 0x6f ∷ 0x72 ∷ 0x4e ∷ 0x42 ∷ 0 ∷ 0 ∷ 0 ∷ []
 
-oid_read : Means (one (codes "$oid") (tree.string (codes "53e37d08776f724e42000000"))) (model.scalar (kind.object_id id))
+oid_read : Means (object_of_one (codes "$oid") (tree.string (codes "53e37d08776f724e42000000"))) (model.scalar (kind.object_id id))
 unfolding id decode_pairs
 oid_read = row _ _ refl
 
-upper_oid_read : Means (one (codes "$oid") (tree.string (codes "53E37D08776F724E42000000"))) (model.scalar (kind.object_id id))
+upper_oid_read : Means (object_of_one (codes "$oid") (tree.string (codes "53E37D08776F724E42000000"))) (model.scalar (kind.object_id id))
 unfolding id decode_pairs
 upper_oid_read = row _ _ refl
 
-oid_written : (f : Form) → Written f (normal_form (model.scalar (kind.object_id id))) (one (codes "$oid") (tree.string (codes "53e37d08776f724e42000000")))
+oid_written : (f : Form) → Written f (normal_form (model.scalar (kind.object_id id))) (object_of_one (codes "$oid") (tree.string (codes "53e37d08776f724e42000000")))
 unfolding id encode_with
 oid_written f = canon_from f (model.scalar (kind.object_id id)) _ refl
 
 -- the bytes of the word hello, which take one padding symbol
-hello_read : Means (one (codes "$binary") (two (codes "base64") (tree.string (codes "aGVsbG8=")) (codes "subType") (tree.string (codes "00")))) (model.scalar (kind.binary Generic (codes "hello")))
+hello_read : Means (object_of_one (codes "$binary") (object_of_two (codes "base64") (tree.string (codes "aGVsbG8=")) (codes "subType") (tree.string (codes "00")))) (model.scalar (kind.binary Generic (codes "hello")))
 unfolding groups_error groups_bytes scan_steps decode_pairs
 hello_read = row _ _ refl
 
-hello_written : (f : Form) → Written f (normal_form (model.scalar (kind.binary Generic (codes "hello")))) (one (codes "$binary") (two (codes "base64") (tree.string (codes "aGVsbG8=")) (codes "subType") (tree.string (codes "00"))))
+hello_written : (f : Form) → Written f (normal_form (model.scalar (kind.binary Generic (codes "hello")))) (object_of_one (codes "$binary") (object_of_two (codes "base64") (tree.string (codes "aGVsbG8=")) (codes "subType") (tree.string (codes "00"))))
 unfolding encode_symbols encode_with
 hello_written f = canon_from f (model.scalar (kind.binary Generic (codes "hello"))) _ refl
 
@@ -55,32 +56,32 @@ bytes_of_subtypes = (refl, refl, refl, refl, refl, refl, refl, refl, refl, refl)
 subtypes_of_bytes : (subtype_of 0x00 ≡ Generic) × (subtype_of 0x01 ≡ Function) × (subtype_of 0x02 ≡ BinaryOld) × (subtype_of 0x03 ≡ UuidOld) × (subtype_of 0x04 ≡ Uuid) × (subtype_of 0x05 ≡ Md5) × (subtype_of 0x06 ≡ Encrypted) × (subtype_of 0x07 ≡ Column) × (subtype_of 0x08 ≡ Sensitive) × (subtype_of 0x09 ≡ Vector) × (subtype_of 0x0A ≡ Reserved 0x0A) × (subtype_of 0x7F ≡ Reserved 0x7F) × (subtype_of 0x80 ≡ UserDefined 0x80) × (subtype_of 0xFF ≡ UserDefined 0xFF)
 subtypes_of_bytes = (refl, refl, refl, refl, refl, refl, refl, refl, refl, refl, refl, refl, refl, refl)
 
-user_read : Means (one (codes "$binary") (two (codes "base64") (tree.string (codes "")) (codes "subType") (tree.string (codes "80")))) (model.scalar (kind.binary (UserDefined 0x80) []))
+user_read : Means (object_of_one (codes "$binary") (object_of_two (codes "base64") (tree.string (codes "")) (codes "subType") (tree.string (codes "80")))) (model.scalar (kind.binary (UserDefined 0x80) []))
 unfolding groups_error groups_bytes scan_steps decode_pairs
 user_read = row _ _ refl
 
-uuid_read : Means (one (codes "$uuid") (tree.string (codes "00112233-4455-6677-8899-aabbccddeeff"))) (model.scalar (kind.binary Uuid (0x00 ∷ 0x11 ∷ 0x22 ∷ 0x33 ∷ 0x44 ∷ 0x55 ∷ 0x66 ∷ 0x77 ∷ 0x88 ∷ 0x99 ∷ 0xaa ∷ 0xbb ∷ 0xcc ∷ 0xdd ∷ 0xee ∷ 0xff ∷ [])))
+uuid_read : Means (object_of_one (codes "$uuid") (tree.string (codes "00112233-4455-6677-8899-aabbccddeeff"))) (model.scalar (kind.binary Uuid (0x00 ∷ 0x11 ∷ 0x22 ∷ 0x33 ∷ 0x44 ∷ 0x55 ∷ 0x66 ∷ 0x77 ∷ 0x88 ∷ 0x99 ∷ 0xaa ∷ 0xbb ∷ 0xcc ∷ 0xdd ∷ 0xee ∷ 0xff ∷ [])))
 unfolding by_index
 uuid_read = row _ _ refl
 
 -- 15 at the exponent -1, little-endian
-decimal_read : Means (one (codes "$numberDecimal") (tree.string (codes "1.5"))) (model.scalar (kind.decimal (0x0F ∷ 0 ∷ 0 ∷ 0 ∷ 0 ∷ 0 ∷ 0 ∷ 0 ∷ 0 ∷ 0 ∷ 0 ∷ 0 ∷ 0 ∷ 0 ∷ 0x3E ∷ 0x30 ∷ [])))
+decimal_read : Means (object_of_one (codes "$numberDecimal") (tree.string (codes "1.5"))) (model.scalar (kind.decimal (0x0F ∷ 0 ∷ 0 ∷ 0 ∷ 0 ∷ 0 ∷ 0 ∷ 0 ∷ 0 ∷ 0 ∷ 0 ∷ 0 ∷ 0 ∷ 0 ∷ 0x3E ∷ 0x30 ∷ [])))
 unfolding decimal_of cut_at_34 raise_to_least zeros_to_add exponent_value written_exponent scaled_exponent coefficient settled finite
 decimal_read = row _ _ refl
 
-decimal_written : (f : Form) → Written f (normal_form (model.scalar (kind.decimal (0x0F ∷ 0 ∷ 0 ∷ 0 ∷ 0 ∷ 0 ∷ 0 ∷ 0 ∷ 0 ∷ 0 ∷ 0 ∷ 0 ∷ 0 ∷ 0 ∷ 0x3E ∷ 0x30 ∷ [])))) (one (codes "$numberDecimal") (tree.string (codes "1.5")))
-unfolding canon printed digits
+decimal_written : (f : Form) → Written f (normal_form (model.scalar (kind.decimal (0x0F ∷ 0 ∷ 0 ∷ 0 ∷ 0 ∷ 0 ∷ 0 ∷ 0 ∷ 0 ∷ 0 ∷ 0 ∷ 0 ∷ 0 ∷ 0 ∷ 0x3E ∷ 0x30 ∷ [])))) (object_of_one (codes "$numberDecimal") (tree.string (codes "1.5")))
+unfolding normal_decimal printed digits
 decimal_written f = canon_from f (model.scalar (kind.decimal (0x0F ∷ 0 ∷ 0 ∷ 0 ∷ 0 ∷ 0 ∷ 0 ∷ 0 ∷ 0 ∷ 0 ∷ 0 ∷ 0 ∷ 0 ∷ 0 ∷ 0x3E ∷ 0x30 ∷ []))) _ refl
 
 -- the greatest exponent and the least one
-greatest_exponent_read : Means (one (codes "$numberDecimal") (tree.string (codes "1E+6111"))) (model.scalar (kind.decimal (1 ∷ 0 ∷ 0 ∷ 0 ∷ 0 ∷ 0 ∷ 0 ∷ 0 ∷ 0 ∷ 0 ∷ 0 ∷ 0 ∷ 0 ∷ 0 ∷ 0xFE ∷ 0x5F ∷ [])))
+greatest_exponent_read : Means (object_of_one (codes "$numberDecimal") (tree.string (codes "1E+6111"))) (model.scalar (kind.decimal (1 ∷ 0 ∷ 0 ∷ 0 ∷ 0 ∷ 0 ∷ 0 ∷ 0 ∷ 0 ∷ 0 ∷ 0 ∷ 0 ∷ 0 ∷ 0 ∷ 0xFE ∷ 0x5F ∷ [])))
 unfolding decimal_of cut_at_34 raise_to_least zeros_to_add exponent_value written_exponent scaled_exponent coefficient settled finite
 greatest_exponent_read = row _ _ refl
 
-least_exponent_read : Means (one (codes "$numberDecimal") (tree.string (codes "1E-6176"))) (model.scalar (kind.decimal (1 ∷ 0 ∷ 0 ∷ 0 ∷ 0 ∷ 0 ∷ 0 ∷ 0 ∷ 0 ∷ 0 ∷ 0 ∷ 0 ∷ 0 ∷ 0 ∷ 0 ∷ 0 ∷ [])))
+least_exponent_read : Means (object_of_one (codes "$numberDecimal") (tree.string (codes "1E-6176"))) (model.scalar (kind.decimal (1 ∷ 0 ∷ 0 ∷ 0 ∷ 0 ∷ 0 ∷ 0 ∷ 0 ∷ 0 ∷ 0 ∷ 0 ∷ 0 ∷ 0 ∷ 0 ∷ 0 ∷ 0 ∷ [])))
 unfolding decimal_of cut_at_34 raise_to_least zeros_to_add exponent_value written_exponent scaled_exponent coefficient settled finite
 least_exponent_read = row _ _ refl
 
-added_zero_read : Means (one (codes "$numberDecimal") (tree.string (codes "1E+6112"))) (model.scalar (kind.decimal (10 ∷ 0 ∷ 0 ∷ 0 ∷ 0 ∷ 0 ∷ 0 ∷ 0 ∷ 0 ∷ 0 ∷ 0 ∷ 0 ∷ 0 ∷ 0 ∷ 0xFE ∷ 0x5F ∷ [])))
+added_zero_read : Means (object_of_one (codes "$numberDecimal") (tree.string (codes "1E+6112"))) (model.scalar (kind.decimal (10 ∷ 0 ∷ 0 ∷ 0 ∷ 0 ∷ 0 ∷ 0 ∷ 0 ∷ 0 ∷ 0 ∷ 0 ∷ 0 ∷ 0 ∷ 0 ∷ 0xFE ∷ 0x5F ∷ [])))
 unfolding decimal_of cut_at_34 raise_to_least zeros_to_add exponent_value written_exponent scaled_exponent coefficient settled finite
 added_zero_read = row _ _ refl

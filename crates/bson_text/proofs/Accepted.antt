@@ -7,8 +7,7 @@ use Rattle.bson_leaf.specs.declared.error.Error.TheVariants as tree_error
 use Rattle.bson_model.specs.Means.{Means}
 use Rattle.bson_model.specs.Texts.{ComesBack}
 use Rattle.bson_model.specs.Value.{Value}
-use Rattle.bson_model.proofs.ComesBack.{read_comes_back}
-use Rattle.bson_model.proofs.ReadTrees.{read_tree}
+use Rattle.bson_model.proofs.Offered.{read_comes_back, read_tree}
 use Rattle.bson_text.specs.Text.{IsTextOf, HasTextMeaning, IsTextFault}
 use Rattle.bson_text.specs.declared.error.TextError.{TextError}
 use Rattle.bson_text.specs.declared.error.TextError.TheVariants.{NotJson, NotExtendedJson, OutOfMemory}

@@ -3,3 +3,4 @@ mod Places
 mod PutReads
 mod Turns
 mod Wrapped
+pub mod Offered

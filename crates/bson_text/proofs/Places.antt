@@ -7,12 +7,12 @@ use Rattle.std.specs.Ordering.{is_eq, match_ordering}
 use Rattle.std.proofs.lemmas.Cmp.{nat_list_cmp_total}
 use Rattle.std.proofs.lemmas.Map.Text.{is_eq-slice_cmp}
 use Rattle.std.specs.Cmp.Lexicographic.{nat_list_eq_equiv}
-use Rattle.bson.proofs.Fresh.{AllApart, Fresh}
+use Rattle.bson.proofs.Offered.{AllApart, Fresh}
 use Rattle.bson.specs.View.{bson_view, pairs_view}
 use Rattle.bson.specs.declared.bson.Bson.{Bson}
 use Rattle.bson_model.specs.Sorted.{put_pair, IsLeast, KeysAscend}
 use Rattle.bson_model.specs.Value.{pair}
-use Rattle.bson_model.proofs.PutSwap.{flipped, equal_keys}
+use Rattle.bson_model.proofs.Offered.{flipped, equal_keys}
 use Rattle.bson_text.specs.Gathered.{Member, seen, StandsAt, FitsAt}
 
 abbrev pub key_at : List Member → ℕ → Member → List ℕ

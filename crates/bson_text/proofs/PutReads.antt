@@ -11,7 +11,7 @@ use Rattle.bson_leaf.specs.Table.{wrapper_of, has_wrapper}
 use Rattle.bson_model.specs.Reading.{reads, reads_members, valued}
 use Rattle.bson_model.specs.Sorted.{put_pair, IsLeast, KeysAscend}
 use Rattle.bson_model.specs.Value.{Value, Pairs, no_pairs, pair, document}
-use Rattle.bson_model.proofs.PutSwap.{flipped}
+use Rattle.bson_model.proofs.Offered.{flipped}
 
 -- ---- what the map is read as
 

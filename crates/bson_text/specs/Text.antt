@@ -5,7 +5,7 @@ use Rattle.serde_json.specs.Read.{read}
 use Rattle.bson_leaf.specs.declared.error.Error.TheVariants as tree_error
 use Rattle.bson_model.specs.Fault.{IsFaultOf}
 use Rattle.bson_model.specs.Value.{Value}
-use Rattle.bson_model.specs.Writing.{HasMeaning}
+use Rattle.bson_model.specs.Laws.{HasMeaning}
 use Rattle.bson_text.specs.declared.error.TextError.{TextError}
 use Rattle.bson_text.specs.declared.error.TextError.TheVariants.{NotJson, NotExtendedJson, OutOfMemory}
 

@@ -1,8 +1,8 @@
 use Rattle.std.proofs.Common.{◌≡◌, ◌<◌, Some, None, length, string_bytes, sym, ap, ◌∙◌, arith, below_more}
 use Rattle.std.proofs.lemmas.Option.{slice_get-get_or}
 use Rattle.bson_store.specs.Pairs as store
-use Rattle.bson_store.proofs.Found.{place-within, get-place, get-absent}
-use Rattle.bson_model.proofs.SameSorted.{option_same}
+use Rattle.bson_store.proofs.Offered.{place-within, get-place, get-absent}
+use Rattle.bson_model.proofs.Offered.{option_same}
 use Rattle.bson.specs.View.{bson_view}
 use Rattle.bson.proofs.Places.{IsSameAt-from, not_same, lengths_differ, lacking, differing, all_places, pair_from, pair_of_key, get-bson_view, items_differ, items_differ_at, items_all}
 use Rattle.bson.proofs.Sizes.{value_smaller}

@@ -8,7 +8,8 @@ ghost use Rattle.bson_leaf.specs.Faults.{Gives};
 ghost use Rattle.bson_model.specs.Means.{Means, MeansDocument};
 ghost use Rattle.bson_model.specs.Sorted.{KeysAscend};
 ghost use Rattle.bson_model.specs.Texts.{Ascends, ComesBack};
-ghost use Rattle.bson_model.specs.Writing.{HasMeaning, HasDocumentMeaning, InRange, PairsInRange};
+ghost use Rattle.bson_model.specs.Normal.{InRange, PairsInRange};
+ghost use Rattle.bson_model.specs.Laws.{HasMeaning, HasDocumentMeaning};
 ghost use Rattle.bson_model.specs.Fault.{IsFaultOf, IsDocumentFault};
 ghost use Rattle.bson.specs.View.{bson_view, document_view};
 

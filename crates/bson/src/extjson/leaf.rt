@@ -6,7 +6,7 @@ ghost use Rattle.bson_leaf.specs.Reading.{number_read};
 ghost use Rattle.bson_model.specs.Reading.{valued};
 ghost use Rattle.bson_model.specs.Writing.{with_scope};
 ghost use Rattle.bson_leaf.specs.View.{leaf_view};
-ghost use Rattle.bson_model.specs.Writing.{InRange};
+ghost use Rattle.bson_model.specs.Normal.{InRange};
 ghost use Rattle.bson_scalar.specs.DbPointer.{id_of};
 ghost use Rattle.bson_scalar.specs.Oid.{IsBytes, IsObjectId};
 ghost use Rattle.bson_scalar.specs.Subtype.{subtype_byte};

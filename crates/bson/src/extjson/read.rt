@@ -6,7 +6,7 @@ ghost use Rattle.std.specs.Str.{bytes_eq};
 ghost use Rattle.bson_model.specs.Value.{code_scope};
 ghost use Rattle.bson_leaf.specs.Faults.{Gives};
 ghost use Rattle.bson_model.specs.Reading.{valued, reads, reads_items, reads_members, reads_wrapper, reads_scope, scoped, code_at};
-ghost use Rattle.bson_model.specs.Writing.{InRange, ItemsInRange, PairsInRange};
+ghost use Rattle.bson_model.specs.Normal.{InRange, ItemsInRange, PairsInRange};
 ghost use Rattle.bson_leaf.specs.Reading.{single_at};
 ghost use Rattle.bson_leaf.specs.Table.{wrapper_of};
 ghost use Rattle.bson.specs.View.{bson_view, document_view, values_view};

@@ -1,7 +1,8 @@
 //! The text of a value in both forms, written with no tree.
 ghost use Rattle.std.specs.Prelude.{◌≡◌, ◌++◌, OnOk, true};
 ghost use Rattle.serde_json.specs.Data.{array, object};
-ghost use Rattle.bson_model.specs.Writing.{writes, writes_items, writes_pairs, InRange, ItemsInRange, PairsInRange};
+ghost use Rattle.bson_model.specs.Normal.{InRange, ItemsInRange, PairsInRange};
+ghost use Rattle.bson_model.specs.Writing.{writes, writes_items, writes_pairs};
 ghost use Rattle.bson_store.specs.Order.{in_order};
 ghost use Rattle.bson_store.specs.Pairs.{keys, HasDistinctKeys};
 ghost use Rattle.bson.specs.Texts.{Prints, GivesText, code_tokens, writes_in_order, KeysAscend};

@@ -2,7 +2,8 @@
 ghost use Rattle.std.specs.Prelude.{OnOk};
 ghost use Rattle.serde_json.specs.View.{view, items_view, members_view};
 ghost use Rattle.bson_leaf.specs.Written.{Writes};
-ghost use Rattle.bson_model.specs.Writing.{writes, writes_items, writes_pairs, InRange, ItemsInRange, PairsInRange};
+ghost use Rattle.bson_model.specs.Normal.{InRange, ItemsInRange, PairsInRange};
+ghost use Rattle.bson_model.specs.Writing.{writes, writes_items, writes_pairs};
 ghost use Rattle.bson.specs.View.{bson_view, scoped_view, document_view, values_view};
 
 use crate::bson::{Bson, JavaScriptCodeWithScope};

@@ -1,11 +1,11 @@
 use Rattle.std.proofs.Common.{◌≡◌, List, ℕ, Result, Ok, Err, refl, ap, rules}
 use Rattle.hex.specs.declared.error.FromHexError.{FromHexError}
-use Rattle.bson_scalar.proofs.HexLaws.{sized_from, sized_to}
-use Rattle.bson_leaf.specs.Faults.{bad_id}
+use Rattle.bson_scalar.proofs.Offered.{sized_from, sized_to}
+use Rattle.bson_leaf.specs.Faults.{wrong_id}
 use Rattle.bson_leaf.specs.Reading.{id_or}
 use Rattle.bson_leaf.proofs.ids.id_of.Goals as goal
 
-no_id : (s : List ℕ) (r : Result (List ℕ) FromHexError) → ((id : List ℕ) → ¬ (r ≡ Ok id)) → id_or s r ≡ Err (bad_id s)
+no_id : (s : List ℕ) (r : Result (List ℕ) FromHexError) → ((id : List ℕ) → ¬ (r ≡ Ok id)) → id_or s r ≡ Err (wrong_id s)
 no_id s (Ok id) none = absurd (none id refl)
 no_id s (Err e) none = refl
 

@@ -6,7 +6,7 @@ use Rattle.serde_json.specs.declared.value.Value.{Value}
 use Rattle.bson_place.specs.Place.{here as at_element, at_key, element, key}
 use Rattle.serde_json.proofs.Views.{view-Array}
 use Rattle.std.proofs.lemmas.Bool.{false≢true}
-use Rattle.bson_model.proofs.Members.{more_than_two}
+use Rattle.bson_model.proofs.Offered.{more_than_two}
 use Rattle.bson_place.proofs.Steps.{view_null, view_boolean, view_number, view_string, inside_none, inside_some, is_true, is_false, no_scope_found, scope_found, scope_value, more_found, two_members_left, IsRest, IsRestOf, null_value, boolean_value, text_value, carried, one_less, of_array, member_less, of_document, at_once, not_code, not_text, of_code, HasItems, HasPairs}
 use Rattle.bson_place.proofs.walk.+walk.Goals as goal
 

@@ -1,7 +1,7 @@
 use Rattle.std.proofs.Common.{string_bytes, refl, sym, ap, ◌∙◌, subst}
 use Rattle.serde_json.specs.View.{view}
 use Rattle.bson_leaf.specs.View.{leaf_view}
-use Rattle.bson_leaf.specs.Faults.{bad, bad_id, Fails}
+use Rattle.bson_leaf.specs.Faults.{wrong_shape, wrong_id, Fails}
 use Rattle.bson_leaf.specs.Reading.{single_at}
 use Rattle.bson_leaf.specs.Table.{wrapper_of}
 use Rattle.bson_leaf.specs.declared.error.Error.TheVariants.{InvalidObjectId, DeserializationError}
@@ -16,7 +16,7 @@ returns-in-Err-InvalidObjectId c =
     let id = c.in-Err-InvalidObjectId.id in
     let read = single_at (wrapper_of c.as_str.result.now) (view c.args.value) in
     let is = subst (λ e. Fails e read) c.in-Err-InvalidObjectId.field-0-is c.in-Err-InvalidObjectId.ensures in
-    lone_place (string_bytes c.args.key) (view c.args.value) (bad_id is.0) (InvalidObjectId id) c.at_key.result c.requires
+    lone_place (string_bytes c.args.key) (view c.args.value) (wrong_id is.0) (InvalidObjectId id) c.at_key.result c.requires
     (ap (λ k. single_at (wrapper_of k) (view c.args.value)) (sym c.as_str.ensures.value) ∙ is.1) (is.0, refl, is.2) c.at_key.ensures
 
 pub returns-in-Err-DeserializationError : goal.returns-in-Err-DeserializationError
@@ -24,5 +24,5 @@ returns-in-Err-DeserializationError c =
     let message = c.in-Err-DeserializationError.message in
     let read = single_at (wrapper_of c.as_str.result.now) (view c.args.value) in
     let is = subst (λ e. Fails e read) c.in-Err-DeserializationError.field-0-is c.in-Err-DeserializationError.ensures in
-    lone_place (string_bytes c.args.key) (view c.args.value) bad (DeserializationError message) c.at_key-in-Err-DeserializationError.result c.requires
+    lone_place (string_bytes c.args.key) (view c.args.value) wrong_shape (DeserializationError message) c.at_key-in-Err-DeserializationError.result c.requires
     (ap (λ k. single_at (wrapper_of k) (view c.args.value)) (sym c.as_str.ensures.value) ∙ is) refl c.at_key-in-Err-DeserializationError.ensures

@@ -2,7 +2,7 @@ use Rattle.std.proofs.Common.{◌≡◌, ◌++◌, List, ℕ, Result, Ok, Err, V
 use Rattle.bson_leaf.specs.declared.form.Form.{Form}
 use Rattle.bson_leaf.specs.declared.form.Form.TheVariants as form
 use Rattle.bson_model.specs.Value.{Value}
-use Rattle.bson_model.specs.Writing.{IsReadForm}
+use Rattle.bson_model.specs.Laws.{IsReadForm}
 use Rattle.bson.specs.Texts.{IsTextIn}
 use Rattle.bson.specs.View.{bson_view}
 use Rattle.bson_run.specs.Convert.{IsWritten, newline}

@@ -1,6 +1,6 @@
 use Rattle.serde_json.specs.View.{view}
 use Rattle.bson_place.specs.Place.{HasValue}
-use Rattle.bson_place.proofs.Steps.{inside_none}
+use Rattle.bson_place.proofs.Offered.{inside_none}
 use Rattle.bson_run.proofs.Explaining.{has_meaning}
 use Rattle.bson_run.proofs.explain.path.Goals as goal
 

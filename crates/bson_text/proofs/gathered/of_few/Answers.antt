@@ -1,9 +1,8 @@
 use Rattle.std.proofs.Common.{◌≡◌, [], ◌∷◌, ◌++◌, length, string_bytes, refl, sym, ap, ◌∙◌, subst, arith}
 use Rattle.std.specs.Vec.Iter.{into_iter_items}
-use Rattle.bson.proofs.Fresh.{Fresh, fresh_next}
-use Rattle.bson.proofs.Seen.{document_view-pairs}
+use Rattle.bson.proofs.Offered.{Fresh, fresh_next, document_view-pairs}
 use Rattle.bson.specs.View.{pairs_view}
-use Rattle.bson_store.proofs.Found.{put-absent}
+use Rattle.bson_store.proofs.Offered.{put-absent}
 use Rattle.bson_text.specs.Gathered.{by_bytes}
 use Rattle.bson_text.proofs.Places.{fresh, nothing_left, then_last, at_end}
 use Rattle.bson_text.proofs.gathered.of_few.Goals as goal

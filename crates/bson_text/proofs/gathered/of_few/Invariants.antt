@@ -1,6 +1,6 @@
 use Rattle.std.proofs.Common.{◌≡◌, ◌++◌, length}
 use Rattle.std.specs.Vec.Iter.{into_iter_items, into_iter_len}
-use Rattle.bson.proofs.Fresh.{Fresh}
+use Rattle.bson.proofs.Offered.{Fresh}
 use Rattle.bson_text.specs.Gathered.{by_bytes}
 use Rattle.bson_text.proofs.gathered.of_few.Given as goal
 

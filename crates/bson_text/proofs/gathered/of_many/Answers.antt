@@ -1,8 +1,7 @@
 use Rattle.std.proofs.Common.{◌≡◌, [], ◌∷◌, ◌++◌, string_bytes, refl, sym, ap, ◌∙◌, subst}
-use Rattle.bson.proofs.Fresh.{Fresh, fresh_next}
-use Rattle.bson.proofs.Seen.{document_view-pairs}
+use Rattle.bson.proofs.Offered.{Fresh, fresh_next, document_view-pairs}
 use Rattle.bson.specs.View.{pairs_view}
-use Rattle.bson_store.proofs.Found.{put-absent}
+use Rattle.bson_store.proofs.Offered.{put-absent}
 use Rattle.bson_text.specs.Gathered.{by_bytes}
 use Rattle.bson_text.proofs.Places.{fresh, then_last, at_end}
 use Rattle.bson_text.proofs.gathered.of_many.Goals as goal

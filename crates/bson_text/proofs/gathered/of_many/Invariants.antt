@@ -1,5 +1,5 @@
 use Rattle.std.proofs.Common.{◌≡◌, ◌++◌}
-use Rattle.bson.proofs.Fresh.{Fresh}
+use Rattle.bson.proofs.Offered.{Fresh}
 use Rattle.bson_text.specs.Gathered.{by_bytes}
 use Rattle.bson_text.proofs.gathered.of_many.Given as goal
 

@@ -17,7 +17,7 @@ use Rattle.bson.specs.View.{bson_view, document_view, values_view}
 use Rattle.bson.specs.declared.bson.Bson.{Bson, the_lemmas}
 use Rattle.bson.specs.declared.bson.Bson.TheVariants as bson
 use Rattle.bson.specs.declared.document.Document.{Document}
-use Rattle.bson.proofs.Onto.{onto_values, onto_values-ok, values_step}
+use Rattle.bson.proofs.Offered.{onto_values, onto_values-ok, values_step}
 use Rattle.bson_text.specs.Gathered.{gathered}
 use Rattle.bson_text.proofs.PutReads.{put_reads, put_plain, put_ascends, nothing_read, object_read}
 use Rattle.bson_text.proofs.Turns.{array_converted, object_converted, one_item, last_item, one_member, last_member, fused, as_it_is}

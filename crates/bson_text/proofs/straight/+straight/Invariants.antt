@@ -5,7 +5,7 @@ use Rattle.serde_json.specs.Read.{of_items, of_members, converted}
 use Rattle.bson_leaf.specs.Table.{has_wrapper}
 use Rattle.bson_model.specs.Reading.{reads_items, reads_members}
 use Rattle.bson_model.specs.Sorted.{KeysAscend}
-use Rattle.bson.proofs.Onto.{onto_values}
+use Rattle.bson.proofs.Offered.{onto_values}
 use Rattle.bson.specs.View.{bson_view}
 use Rattle.bson_text.specs.Gathered.{gathered}
 use Rattle.bson_text.proofs.straight.+straight.Given as goal

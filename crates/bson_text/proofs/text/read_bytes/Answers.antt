@@ -1,7 +1,7 @@
 use Rattle.std.proofs.Common.{◌≡◌, Some, Ok, subst}
 use Rattle.serde_json.specs.Read.{read}
 use Rattle.bson.specs.View.{bson_view}
-use Rattle.bson_model.proofs.ReadLaws.{read_ok}
+use Rattle.bson_model.proofs.Offered.{read_ok}
 use Rattle.bson_text.proofs.text.read_bytes.Goals as goal
 
 pub returns-in-Ok-read_text-clause-ok : goal.returns-in-Ok-read_text-clause-ok

@@ -1,7 +1,6 @@
 use Rattle.serde_json.specs.View.{view}
 use Rattle.bson.specs.View.{bson_view}
-use Rattle.bson_model.proofs.ReadBack.{write_ok, write_both, write_finite, writable_from, tree_is, settled_forms}
-use Rattle.bson_model.proofs.ComesBack.{has_text}
+use Rattle.bson_model.proofs.Offered.{write_ok, write_both, write_finite, writable_from, tree_is, settled_forms, has_text}
 use Rattle.bson.proofs.bson.Bson.into_extjson.Goals as goal
 
 pub returns-clause-tree : goal.returns-clause-tree

@@ -1,6 +1,6 @@
 use Rattle.serde_json.specs.View.{members_view}
 use Rattle.bson.specs.View.{document_view}
-use Rattle.bson_model.proofs.ReadLaws.{document_read_ok, document_read_fault, document_read_accepts, document_read_ascends}
+use Rattle.bson_model.proofs.Offered.{document_read_ok, document_read_fault, document_read_accepts, document_read_ascends}
 use Rattle.bson.proofs.document.Document.try_from_map.Goals as goal
 
 pub returns-clause-ok : goal.returns-clause-ok

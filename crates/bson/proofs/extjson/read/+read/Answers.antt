@@ -6,10 +6,10 @@ use Rattle.serde_json.specs.View.{view, items_view, members_view}
 use Rattle.serde_json.specs.declared.value.Value.{Value}
 use Rattle.bson.specs.View.{bson_view}
 use Rattle.bson_model.specs.Reading.{reads_items, reads_members}
-use Rattle.bson_model.specs.Writing.{PairsInRange}
+use Rattle.bson_model.specs.Normal.{PairsInRange}
 use Rattle.bson.proofs.Ranged.{items-snoc, pairs-snoc}
 use Rattle.bson.specs.declared.bson.Bson.{Bson}
-use Rattle.bson_model.proofs.Members.{more_than_two, just_two, just_one}
+use Rattle.bson_model.proofs.Offered.{more_than_two, just_two, just_one}
 use Rattle.std.specs.Prelude.{IsSome}
 use Rattle.bson.proofs.Fresh.{Fresh, fresh_start, fresh_next}
 use Rattle.bson.proofs.Seen.{document_view-pairs}

@@ -2,7 +2,7 @@ use Rattle.std.proofs.Common.{◌≡◌, map, length}
 use Rattle.std.specs.Vec.Iter.{into_iter_items, into_iter_len}
 use Rattle.serde_json.specs.View.{items_view, members_view}
 use Rattle.bson_model.specs.Reading.{reads_items, reads_members}
-use Rattle.bson_model.specs.Writing.{ItemsInRange, PairsInRange}
+use Rattle.bson_model.specs.Normal.{ItemsInRange, PairsInRange}
 use Rattle.bson.specs.View.{bson_view, values_view, pairs_view}
 use Rattle.bson.proofs.Fresh.{Fresh}
 use Rattle.bson.proofs.Onto.{onto_values, onto_pairs}

@@ -7,14 +7,13 @@ use Rattle.serde_json.specs.Data.{object, string, no_items, no_members}
 use Rattle.serde_json.specs.Written.{items_outline, members_outline}
 use Rattle.bson_leaf.specs.Written.{Stops}
 use Rattle.bson_store.specs.Order.{in_order, key_cmp, is_above}
-use Rattle.bson_store.proofs.Distinct.{drop-at}
-use Rattle.bson_store.proofs.Least.{least_none}
-use Rattle.bson_store.proofs.Turns.{pair_of, next_pair, where_key-all}
-use Rattle.bson_leaf.proofs.InTurn.{in_turn, on_ok}
+use Rattle.bson_store.proofs.Offered.{drop-at, least_none, pair_of, next_pair, where_key-all}
+use Rattle.bson_leaf.proofs.Offered.{in_turn, on_ok}
 use Rattle.bson_leaf.specs.Binaries.{binary_tree}
 use Rattle.bson_leaf.specs.Scalar.{text, binary}
 use Rattle.bson_model.specs.Value.{scalar, code_scope}
-use Rattle.bson_model.specs.Writing.{writes, writes_items, PairsInRange}
+use Rattle.bson_model.specs.Normal.{PairsInRange}
+use Rattle.bson_model.specs.Writing.{writes, writes_items}
 use Rattle.bson.specs.Texts.{Prints, code_tokens, writes_in_order}
 use Rattle.bson.specs.View.{bson_view, scoped_view, values_view, pairs_view}
 use Rattle.bson.specs.declared.bson.Bson.{Bson}

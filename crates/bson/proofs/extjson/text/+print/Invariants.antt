@@ -4,7 +4,8 @@ use Rattle.json.specs.Token.{Token}
 use Rattle.bson_leaf.specs.Written.{Stops}
 use Rattle.bson_leaf.specs.declared.write_error.WriteError.{WriteError}
 use Rattle.bson_store.specs.Order.{key_cmp, is_above, in_order}
-use Rattle.bson_model.specs.Writing.{writes_items, ItemsInRange, PairsInRange}
+use Rattle.bson_model.specs.Normal.{ItemsInRange, PairsInRange}
+use Rattle.bson_model.specs.Writing.{writes_items}
 use Rattle.bson.specs.Texts.{writes_in_order}
 use Rattle.bson.specs.View.{values_view, pairs_view}
 use Rattle.bson.proofs.Printed.{EndsItems, EndsMembers}

@@ -5,7 +5,8 @@ use Rattle.serde_json.specs.View.{view, members_view}
 use Rattle.serde_json.specs.declared.value.Value.{Value}
 use Rattle.serde_json.proofs.Views.{members_view-insert_entry}
 use Rattle.bson.specs.View.{bson_view, values_view, pairs_view, document_view}
-use Rattle.bson_model.specs.Writing.{writes_items, writes_pairs, ItemsInRange, PairsInRange}
+use Rattle.bson_model.specs.Normal.{ItemsInRange, PairsInRange}
+use Rattle.bson_model.specs.Writing.{writes_items, writes_pairs}
 use Rattle.bson.specs.declared.bson.Bson.{Bson}
 use Rattle.bson.proofs.Onto.{Entry}
 use Rattle.bson.proofs.OntoTree.{onto_items, onto_members, onto_items-ok, items_stop, items_step, onto_members-start, members_step}

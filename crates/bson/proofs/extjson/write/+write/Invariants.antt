@@ -1,7 +1,8 @@
 use Rattle.std.proofs.Common.{◌≡◌, ◌++◌, List, map, length}
 use Rattle.std.specs.Vec.Iter.{into_iter_items, into_iter_len}
 use Rattle.serde_json.specs.View.{view, members_view}
-use Rattle.bson_model.specs.Writing.{writes_items, writes_pairs, ItemsInRange, PairsInRange}
+use Rattle.bson_model.specs.Normal.{ItemsInRange, PairsInRange}
+use Rattle.bson_model.specs.Writing.{writes_items, writes_pairs}
 use Rattle.bson.specs.View.{values_view, document_view, pairs_view}
 use Rattle.bson.proofs.Onto.{Entry}
 use Rattle.bson.proofs.OntoTree.{onto_items, onto_members}

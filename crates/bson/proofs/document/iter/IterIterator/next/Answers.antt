@@ -1,5 +1,5 @@
 use Rattle.std.proofs.Common.{string_bytes}
-use Rattle.bson_store.proofs.Distinct.{drop-at}
+use Rattle.bson_store.proofs.Offered.{drop-at}
 use Rattle.bson.proofs.Places.{pair_from}
 use Rattle.bson.proofs.document.iter.IterIterator.next.Goals as goal
 

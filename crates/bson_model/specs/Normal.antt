@@ -1,0 +1,92 @@
+-- Normal and narrowed forms, and what a value may be.
+use Rattle.std.specs.Prelude.{◌&&◌, Bool, true, is_none}
+use Rattle.bson_leaf.specs.Scalar.{Scalar}
+use Rattle.bson_leaf.specs.Normal.{normal_scalar, scalar_as_read, writable_scalar, ScalarInRange}
+use Rattle.bson_leaf.specs.Table.{wrapper_of}
+use Rattle.bson_leaf.specs.declared.form.Form.{Form}
+use Rattle.bson_leaf.specs.declared.form.Form.TheVariants.{Canonical, Relaxed}
+use Rattle.bson_model.specs.Value.{Value, scalar, code_scope, array, document, Values, no_values, value, Pairs, no_pairs, pair}
+
+-- ---- the normal form
+
+abbrev mutual
+  -- the value with g of each value in it that holds no other
+  pub map_scalars : (Scalar → Scalar) → Value → Value
+  map_scalars g (scalar x) = scalar (g x)
+  map_scalars g (code_scope s ps) = code_scope s (map_scalars_of_pairs g ps)
+  map_scalars g (array vs) = array (map_scalars_of_items g vs)
+  map_scalars g (document ps) = document (map_scalars_of_pairs g ps)
+
+  pub map_scalars_of_items : (Scalar → Scalar) → Values → Values
+  map_scalars_of_items g no_values = no_values
+  map_scalars_of_items g (value v vs) = value (map_scalars g v) (map_scalars_of_items g vs)
+
+  pub map_scalars_of_pairs : (Scalar → Scalar) → Pairs → Pairs
+  map_scalars_of_pairs g no_pairs = no_pairs
+  map_scalars_of_pairs g (pair k v ps) = pair k (map_scalars g v) (map_scalars_of_pairs g ps)
+
+abbrev pub normal_form : Value → Value
+normal_form v = map_scalars normal_scalar v
+
+-- each Int64 that an i32 has is the Int32
+abbrev pub narrowed : Value → Value
+narrowed v = map_scalars (scalar_as_read Relaxed) v
+
+-- the value as it is read back from its tree
+abbrev pub as_read : Form → Value → Value
+as_read Canonical v = v
+as_read Relaxed v = narrowed v
+
+-- ---- what a value may be
+
+abbrev mutual
+  -- no document in it has a wrapper key of its own
+  pub plain : Value → Bool
+  plain (scalar x) = true
+  plain (code_scope s ps) = plain_values ps
+  plain (array vs) = plain_items vs
+  plain (document ps) = plain_keys ps && plain_values ps
+
+  pub plain_items : Values → Bool
+  plain_items no_values = true
+  plain_items (value v vs) = plain v && plain_items vs
+
+  pub plain_keys : Pairs → Bool
+  plain_keys no_pairs = true
+  plain_keys (pair k v ps) = is_none (wrapper_of k) && plain_keys ps
+
+  pub plain_values : Pairs → Bool
+  plain_values no_pairs = true
+  plain_values (pair k v ps) = plain v && plain_values ps
+
+abbrev mutual
+  -- each number in it is in the range of its Rust type
+  pub InRange : Value → Type 0
+  InRange (scalar x) = ScalarInRange x
+  InRange (code_scope s ps) = PairsInRange ps
+  InRange (array vs) = ItemsInRange vs
+  InRange (document ps) = PairsInRange ps
+
+  pub ItemsInRange : Values → Type 0
+  ItemsInRange no_values = Unit {0}
+  ItemsInRange (value v vs) = InRange v × ItemsInRange vs
+
+  pub PairsInRange : Pairs → Type 0
+  PairsInRange no_pairs = Unit {0}
+  PairsInRange (pair k v ps) = InRange v × PairsInRange ps
+
+abbrev mutual
+  -- each double in it is a zero, an infinity or a NaN
+  pub writable : Value → Bool
+  writable (scalar x) = writable_scalar x
+  writable (code_scope s ps) = writable_pairs ps
+  writable (array vs) = writable_items vs
+  writable (document ps) = writable_pairs ps
+
+  pub writable_items : Values → Bool
+  writable_items no_values = true
+  writable_items (value v vs) = writable v && writable_items vs
+
+  pub writable_pairs : Pairs → Bool
+  writable_pairs no_pairs = true
+  writable_pairs (pair k v ps) = writable v && writable_pairs ps
