@@ -4,8 +4,8 @@
     crates/bson_cli/build.py [bson_lines|vbson]   (./bson calls it where the program is missing or older than a source,
                                                    ./vbson for the library for other languages)
 
-The program is bson_cli where none is named. Standard error gets one line that says what happens, and on a terminal a line of progress, which is gone at the end.
-All that `rt` prints goes to out/build.log beside the program. A second run that starts meanwhile waits for the first and
+The program is bson_cli where none is named. Standard error gets one line that says what happens, and on a terminal a
+line of progress, which is gone at the end. All that `rt` prints goes to out/build.log beside the program. A second run that starts meanwhile waits for the first and
 builds nothing. Status 0: built, or waited; 3: it can't be built here.
 """
 import concurrent.futures
@@ -49,6 +49,15 @@ def below(name, uses):
     for it in uses[name]:
         found += [other for other in below(it, uses) if other not in found]
     return [*found, name]
+
+
+def slowness():
+    """How much slower this machine is than one that builds all in ten minutes: by a loop that takes 0.2 s there."""
+    began = time.process_time()
+    total = 0
+    for number in range(2_000_000):
+        total += number * number % 7
+    return (time.process_time() - began) / 0.2
 
 
 def processors():
@@ -165,7 +174,7 @@ def main():
     if not lock:
         return 0
     uses = crates()
-    minutes = round(4 + 17 / processors())
+    minutes = max(1, round((5.5 + 17 / processors()) * slowness()))
     print(f"bson: proving and building {PROGRAM}, from nothing about {minutes} minutes on {processors()} processors;"
           f" the log is {LOG}", file=sys.stderr)
     with open(f"{OUT}/built_from.new", "w"):
