@@ -3,3 +3,4 @@ mod Converting
 mod Explaining
 pub mod LinesLaws
 pub mod LinesRuns
+mod Stopping

@@ -4,7 +4,7 @@ use Rattle.std.proofs.Math.Seq.{drop-cons}
 use Rattle.std.proofs.lemmas.List.{take_rest}
 use Rattle.std.proofs.lemmas.List.Elements.{All-append, All-head, All-tail}
 use Rattle.bson_run.specs.Lines.{lines, onto_first, text_of, Tells, IsBlank, IsBadText, Writes, Outcomes, blank, written, passed_over, IsStopped, IsStoppedAt}
-use Rattle.bson_run.specs.LinesSteps.{IsOpen, IsJudged, IsTold, HaveSameOutcomes, TakesLine, Progress, Takes, Ends, Reached, Stopped, StopsWithin, StopsLast}
+use Rattle.bson_run.specs.LinesSteps.{IsFirst, IsStoppedOver, IsOpen, IsJudged, IsTold, HaveSameOutcomes, TakesLine, Progress, Takes, Ends, Reached, Stopped, StopsWithin, StopsLast}
 use Rattle.bson_run.specs.declared.fault.Fault.{Fault}
 use Rattle.bson_run.specs.declared.fault.Fault.TheVariants.{CannotRead, NotJson, BadObjectId, NotExtendedJson, OutOfMemory, CannotWrite}
 use Rattle.bson_run.specs.declared.gathered.Gathered.{Gathered}
@@ -45,12 +45,25 @@ stopped_at on_refusal NotExtendedJson n line others h = h
 stopped_at on_refusal OutOfMemory n line others h = h
 stopped_at on_refusal CannotWrite n line others h = h
 
+-- the line that is gathered is the first of the others
+first_at : (fault : Fault) (line : List ℕ) (number n : ℕ) (others : List (List ℕ)) → n ≡ number → IsFirst fault line number n (line ∷ others)
+first_at CannotRead line number n others e = tt
+first_at NotJson line number n others e = (others, refl, e)
+first_at BadObjectId line number n others e = (others, refl, e)
+first_at NotExtendedJson line number n others e = (others, refl, e)
+first_at OutOfMemory line number n others e = tt
+first_at CannotWrite line number n others e = tt
+
+stopped_over : (on_refusal : OnRefusal) (fault : Fault) (n : ℕ) (line : List ℕ) (others : List (List ℕ)) (t : Gathered) → t.line.items ≡ line → n ≡ t.lines → IsStopped on_refusal fault (text_of n line) → IsStoppedOver on_refusal t fault n (line ∷ others)
+stopped_over on_refusal fault n line others t e number h =
+    (stopped_at on_refusal fault n line others h, subst (λ l. IsFirst fault l t.lines n (line ∷ others)) (sym e) (first_at fault line t.lines n others number))
+
 lines_none : (line : List ℕ) → length line ≡ 0 → lines line ≡ []
 lines_none [] none = refl
 lines_none (x ∷ xs) none = absurd (omega arith)
 
-by_memory : (on_refusal : OnRefusal) (fault : Fault) (n : ℕ) (others : List (List ℕ)) → fault ≡ OutOfMemory → IsStoppedAt on_refusal fault n others
-by_memory on_refusal fault n others e = subst (λ f. IsStoppedAt on_refusal f n others) (sym e) tt
+by_memory : (on_refusal : OnRefusal) (fault : Fault) (n : ℕ) (others : List (List ℕ)) (t : Gathered) → fault ≡ OutOfMemory → IsStoppedOver on_refusal t fault n others
+by_memory on_refusal fault n others t e = subst (λ f. IsStoppedOver on_refusal t f n others) (sym e) (tt, tt)
 
 -- a newline among bytes
 at_newline : (rest : List ℕ) (n : ℕ) → n < length rest → get_or rest n 0 ≡ 10 → rest ≡ take n rest ++ 10 ∷ drop (n + 1) rest
@@ -172,11 +185,11 @@ module _ {task : Task} {on_refusal : OnRefusal} where
       outcomes = rw (same.output, same.told, same.refused) p.outcomes;
     };
     line = n ∙ ap (λ k. k + 1) (sym same.lines);
-    reason = by_memory on_refusal fault (length p.done) (lines (s.line.items ++ (bytes ++ more))) e;
+    reason = by_memory on_refusal fault (length p.done) (lines (s.line.items ++ (bytes ++ more))) t e;
   }
 
-  pub line_stops : (bytes : List ℕ) (fault : Fault) (number : ℕ) (s t : Gathered) → IsStopped on_refusal fault (text_of s.lines s.line.items) → number ≡ s.lines + 1 → HaveSameOutcomes s t → StopsWithin task on_refusal (10 ∷ bytes) fault number s t
-  line_stops bytes fault number s t h n same before output told more p = record {
+  pub line_stops : (bytes : List ℕ) (fault : Fault) (number : ℕ) (s t : Gathered) → IsStopped on_refusal fault (text_of s.lines s.line.items) → number ≡ s.lines + 1 → HaveSameOutcomes s t → t.line.items ≡ s.line.items → StopsWithin task on_refusal (10 ∷ bytes) fault number s t
+  line_stops bytes fault number s t h n same line before output told more p = record {
     reached = record {
       done = p.done;
       others = s.line.items ∷ lines (bytes ++ more);
@@ -185,7 +198,7 @@ module _ {task : Task} {on_refusal : OnRefusal} where
       outcomes = rw (same.output, same.told, same.refused) p.outcomes;
     };
     line = n ∙ ap (λ k. k + 1) (sym same.lines);
-    reason = stopped_at on_refusal fault (length p.done) s.line.items (lines (bytes ++ more)) (subst (λ k. IsStopped on_refusal fault (text_of k s.line.items)) p.counted h);
+    reason = stopped_over on_refusal fault (length p.done) s.line.items (lines (bytes ++ more)) t line (sym (same.lines ∙ p.counted)) (subst (λ k. IsStopped on_refusal fault (text_of k s.line.items)) p.counted h);
   }
 
   -- ---- the last line
@@ -209,8 +222,8 @@ module _ {task : Task} {on_refusal : OnRefusal} where
         outcomes = subst (λ l. Outcomes task on_refusal l (output ++ t.output.items) (told ++ t.told.items) t.refused) (sym all) (taken.outcomes p.done output told p.counted p.outcomes);
       }
 
-  pub last_stops : (fault : Fault) (number : ℕ) (s t : Gathered) → 0 < length s.line.items → IsStopped on_refusal fault (text_of s.lines s.line.items) → number ≡ s.lines + 1 → HaveSameOutcomes s t → StopsLast task on_refusal fault number s t
-  last_stops fault number s t some h n same before output told p = record {
+  pub last_stops : (fault : Fault) (number : ℕ) (s t : Gathered) → 0 < length s.line.items → IsStopped on_refusal fault (text_of s.lines s.line.items) → number ≡ s.lines + 1 → HaveSameOutcomes s t → t.line.items ≡ s.line.items → StopsLast task on_refusal fault number s t
+  last_stops fault number s t some h n same line before output told p = record {
     reached = record {
       done = p.done;
       others = s.line.items ∷ [];
@@ -219,7 +232,7 @@ module _ {task : Task} {on_refusal : OnRefusal} where
       outcomes = rw (same.output, same.told, same.refused) p.outcomes;
     };
     line = n ∙ ap (λ k. k + 1) (sym same.lines);
-    reason = stopped_at on_refusal fault (length p.done) s.line.items [] (subst (λ k. IsStopped on_refusal fault (text_of k s.line.items)) p.counted h);
+    reason = stopped_over on_refusal fault (length p.done) s.line.items [] t line (sym (same.lines ∙ p.counted)) (subst (λ k. IsStopped on_refusal fault (text_of k s.line.items)) p.counted h);
   }
 
   -- ---- a line that ends among bytes
@@ -228,10 +241,10 @@ module _ {task : Task} {on_refusal : OnRefusal} where
   line_taken front s t u h e same taken = take_more front (10 ∷ []) s t u (piece_taken front s t h e same) (newline_taken t u taken)
 
   pub line_stops_in : (rest : List ℕ) (n : ℕ) (fault : Fault) (number : ℕ) (s t u : Gathered) → n < length rest → IsOpen (take n rest) → get_or rest n 0 ≡ 10
-      → t.line.items ≡ s.line.items ++ take n rest → HaveSameOutcomes s t → IsStopped on_refusal fault (text_of t.lines t.line.items) → number ≡ t.lines + 1 → HaveSameOutcomes t u → StopsWithin task on_refusal rest fault number s u
-  line_stops_in rest n fault number s t u within h is e same stops line kept =
+      → t.line.items ≡ s.line.items ++ take n rest → HaveSameOutcomes s t → IsStopped on_refusal fault (text_of t.lines t.line.items) → number ≡ t.lines + 1 → HaveSameOutcomes t u → u.line.items ≡ t.line.items → StopsWithin task on_refusal rest fault number s u
+  line_stops_in rest n fault number s t u within h is e same stops number_is kept line =
       subst (λ l. StopsWithin task on_refusal l fault number s u) (sym (at_newline rest n within is))
-      (stops_after (take n rest) (10 ∷ drop (n + 1) rest) fault number s t u (piece_taken (take n rest) s t h e same) (line_stops (drop (n + 1) rest) fault number t u stops line kept))
+      (stops_after (take n rest) (10 ∷ drop (n + 1) rest) fault number s t u (piece_taken (take n rest) s t h e same) (line_stops (drop (n + 1) rest) fault number t u stops number_is kept line))
 
   pub whole_stops : (bytes taken rest : List ℕ) (fault : Fault) (number : ℕ) (s t u : Gathered) → bytes ≡ taken ++ rest → Takes task on_refusal taken s t → StopsWithin task on_refusal rest fault number t u → StopsWithin task on_refusal bytes fault number s u
   whole_stops bytes taken rest fault number s t u e f g = subst (λ l. StopsWithin task on_refusal l fault number s u) (sym e) (stops_after taken rest fault number s t u f g)

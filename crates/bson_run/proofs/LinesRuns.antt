@@ -1,10 +1,10 @@
 -- How far a run over lines has come, with a reader and writers.
-use Rattle.std.proofs.Common.{◌≡◌, ◌+◌, ℕ, List, [], ◌∷◌, ◌++◌, Option, None, Some, Result, Ok, Err, IfErr, OnOk, refl, ap, sym, subst, ◌∙◌, append-nil}
+use Rattle.std.proofs.Common.{◌≡◌, ◌+◌, ℕ, List, [], ◌∷◌, ◌++◌, length, Option, None, Some, Result, Ok, Err, IfErr, OnOk, refl, ap, sym, subst, ◌∙◌, append-nil}
 use Rattle.std.specs.Io.{StartsWith}
 use Rattle.std.specs.Io.KnownBytes.{Keeps, Appends, Consumes, IsAtEnd}
 use Rattle.std.proofs.KnownBytes.{Appends-nil, Appends-trans, Consumes-nil, Consumes-trans, Consumes-kept}
-use Rattle.bson_run.specs.Lines.{lines, left_of, none, DoneLines, StopsAt, CutShortAt, IsStoppedAt, FailsAt}
-use Rattle.bson_run.specs.LinesSteps.{IsOpen, IsStart, HasWritten, HaveSameOutcomes, Progress, Takes, Ends, Reached, Stopped, StopsWithin, StopsLast, Running}
+use Rattle.bson_run.specs.Lines.{lines, left_of, none, DoneLines, StopsAt, CutShortAt}
+use Rattle.bson_run.specs.LinesSteps.{FailsOver, IsFirst, IsStoppedOver, IsOpen, IsStart, HasWritten, HaveSameOutcomes, Progress, Takes, Ends, Reached, Stopped, StopsWithin, StopsLast, Running}
 use Rattle.bson_run.specs.Run.{WritesBeginning}
 use Rattle.bson_run.specs.declared.fault.Fault.{Fault}
 use Rattle.bson_run.specs.declared.fault.Fault.TheVariants.{CannotRead, NotJson, BadObjectId, NotExtendedJson, OutOfMemory, CannotWrite}
@@ -37,39 +37,44 @@ begun had mid holds output more a w = record {
 kept : (s : Gathered) → HaveSameOutcomes s s
 kept s = record { output = refl; told = refl; lines = refl; refused = refl }
 
+-- the line that was gathered is as it was
+still : (on_refusal : OnRefusal) (fault : Fault) (n : ℕ) (others : List (List ℕ)) (s u : Gathered) → u.line.items ≡ s.line.items → u.lines ≡ s.lines → IsStoppedOver on_refusal s fault n others → IsStoppedOver on_refusal u fault n others
+still on_refusal fault n others s u line number p =
+    (p.0, subst (λ l. IsFirst fault l u.lines n others) (sym line) (subst (λ k. IsFirst fault s.line.items k n others) (sym number) p.1))
+
 module _ {task : Task} {on_refusal : OnRefusal} where
   -- ---- ends
 
-  stops : (fault : Fault) (number : ℕ) (before after had holds told tells : Option (List ℕ)) (bytes output verdicts : List ℕ) (s : Gathered) → Consumes before after bytes
+  stops : (fault : Fault) (number : ℕ) (before after had holds told tells : Option (List ℕ)) (bytes output verdicts : List ℕ) (s u : Gathered) → u.line.items ≡ s.line.items → u.lines ≡ s.lines → Consumes before after bytes
       → Stopped task on_refusal (bytes ++ left_of after) output verdicts fault number s → Appends had holds (output ++ s.output.items) → Appends told tells (verdicts ++ s.told.items)
-      → StopsAt (IsStoppedAt on_refusal fault) task on_refusal before after had holds told tells number
-  stops fault number before after had holds told tells bytes output verdicts s given stopped written reported = record {
+      → StopsAt (IsStoppedOver on_refusal u fault) task on_refusal before after had holds told tells number
+  stops fault number before after had holds told tells bytes output verdicts s u line count given stopped written reported = record {
     done = stopped.reached.done;
     others = stopped.reached.others;
     output = output ++ s.output.items;
     verdicts = verdicts ++ s.told.items;
     reaches = record { bytes = bytes; refused = s.refused; given = given; whole = stopped.reached.whole; outcomes = stopped.reached.outcomes };
     counted = stopped.line ∙ ap (λ n. n + 1) stopped.reached.counted;
-    reason = stopped.reason;
+    reason = still on_refusal fault (length stopped.reached.done) stopped.reached.others s u line count stopped.reason;
     written = written;
     reported = reported;
   }
 
-  fails : (fault : Fault) (number : ℕ) (before after had holds told tells : Option (List ℕ)) (bytes output verdicts : List ℕ) (s : Gathered) → Consumes before after bytes
+  fails : (fault : Fault) (number : ℕ) (before after had holds told tells : Option (List ℕ)) (bytes output verdicts : List ℕ) (s u : Gathered) → u.line.items ≡ s.line.items → u.lines ≡ s.lines → Consumes before after bytes
       → Stopped task on_refusal (bytes ++ left_of after) output verdicts fault number s → Appends had holds (output ++ s.output.items) → Appends told tells (verdicts ++ s.told.items)
-      → FailsAt fault task on_refusal before after had holds told tells number
+      → FailsOver u fault task on_refusal before after had holds told tells number
   fails CannotRead = stops CannotRead
   fails NotJson = stops NotJson
   fails BadObjectId = stops BadObjectId
   fails NotExtendedJson = stops NotExtendedJson
   fails OutOfMemory = stops OutOfMemory
-  fails CannotWrite = λ number before after had holds told tells bytes output verdicts s given stopped written reported. absurd stopped.reason
+  fails CannotWrite = λ number before after had holds told tells bytes output verdicts s u line count given stopped written reported. absurd stopped.reason.0
 
-  cuts : (fault : Fault) (number : ℕ) (before after had mid holds told said tells : Option (List ℕ)) (bytes output verdicts : List ℕ) (s : Gathered) → fault ≡ CannotWrite → number ≡ s.lines + 1
+  cuts : (fault : Fault) (number : ℕ) (before after had mid holds told said tells : Option (List ℕ)) (bytes output verdicts : List ℕ) (s u : Gathered) → fault ≡ CannotWrite → number ≡ s.lines + 1
       → Consumes before after bytes → Reached task on_refusal (bytes ++ left_of after) output verdicts s
       → Appends had mid output → WritesBeginning mid holds s.output.items → Appends told said verdicts → WritesBeginning said tells s.told.items
-      → FailsAt fault task on_refusal before after had holds told tells number
-  cuts fault number before after had mid holds told said tells bytes output verdicts s e n given r written begins reported says =
+      → FailsOver u fault task on_refusal before after had holds told tells number
+  cuts fault number before after had mid holds told said tells bytes output verdicts s u e n given r written begins reported says =
       let short : CutShortAt task on_refusal before after had holds told tells number = record {
         done = r.done;
         others = r.others;
@@ -80,7 +85,7 @@ module _ {task : Task} {on_refusal : OnRefusal} where
         written = begun had mid holds output s.output.items written begins;
         reported = begun told said tells verdicts s.told.items reported says;
       } in
-      subst (λ f. FailsAt f task on_refusal before after had holds told tells number) (sym e) short
+      subst (λ f. FailsOver u f task on_refusal before after had holds told tells number) (sym e) short
 
   -- ---- a run
 
@@ -119,10 +124,10 @@ module _ {task : Task} {on_refusal : OnRefusal} where
 
   -- a reader that failed
   pub unread : (number : ℕ) (before given after had holds told tells : Option (List ℕ)) (s : Gathered) → number ≡ s.lines + 1 → Keeps given after → Running task on_refusal before given had holds told tells s
-      → FailsAt CannotRead task on_refusal before after had holds told tells number
+      → FailsOver s CannotRead task on_refusal before after had holds told tells number
   unread number before given after had holds told tells s n same p =
-      stops CannotRead number before after had holds told tells p.bytes p.output p.verdicts s (Consumes-kept before given after p.bytes p.given same)
-      (record { reached = reached s (left_of after) (kept s) p.progress; line = n; reason = tt })
+      stops CannotRead number before after had holds told tells p.bytes p.output p.verdicts s s refl refl (Consumes-kept before given after p.bytes p.given same)
+      (record { reached = reached s (left_of after) (kept s) p.progress; line = n; reason = (tt, tt) })
       (subst (Appends had holds) (sym (append-nil p.output) ∙ ap (λ l. p.output ++ l) (sym p.nothing_held)) p.written)
       (subst (Appends told tells) (sym (append-nil p.verdicts) ∙ ap (λ l. p.verdicts ++ l) (sym p.nothing_untold)) p.reported)
 
@@ -151,17 +156,17 @@ module _ {task : Task} {on_refusal : OnRefusal} where
     progress = flushed (p.bytes ++ block) p.output p.verdicts t u w (takes p.bytes p.output p.verdicts p.progress);
   }
 
-  pub block_fails : (fault : Fault) (number : ℕ) (block : List ℕ) (s t : Gathered) (before given after had mid holds told said tells : Option (List ℕ)) → StopsWithin task on_refusal block fault number s t
-      → Appends mid holds t.output.items → Appends said tells t.told.items → Running task on_refusal before given had mid told said s → Consumes given after block → FailsAt fault task on_refusal before after had holds told tells number
-  block_fails fault number block s t before given after had mid holds told said tells stop written reported p c =
-      fails fault number before after had holds told tells (p.bytes ++ block) p.output p.verdicts t (Consumes-trans before given after p.bytes block p.given c) (stop p.bytes p.output p.verdicts (left_of after) p.progress)
+  pub block_fails : (fault : Fault) (number : ℕ) (block : List ℕ) (s t u : Gathered) (before given after had mid holds told said tells : Option (List ℕ)) → StopsWithin task on_refusal block fault number s t
+      → HasWritten t u → Appends mid holds t.output.items → Appends said tells t.told.items → Running task on_refusal before given had mid told said s → Consumes given after block → FailsOver u fault task on_refusal before after had holds told tells number
+  block_fails fault number block s t u before given after had mid holds told said tells stop w written reported p c =
+      fails fault number before after had holds told tells (p.bytes ++ block) p.output p.verdicts t u w.line w.lines (Consumes-trans before given after p.bytes block p.given c) (stop p.bytes p.output p.verdicts (left_of after) p.progress)
       (Appends-trans had mid holds p.output t.output.items p.written written) (Appends-trans told said tells p.verdicts t.told.items p.reported reported)
 
-  pub block_cut : {X : Type 0} (r : Result X LineFault) (fault : Fault) (number : ℕ) (block : List ℕ) (s t : Gathered) → OnOk r (Takes task on_refusal block s t) → IfErr r (λ e. StopsWithin task on_refusal block e.fault e.line s t)
+  pub block_cut : {X : Type 0} (r : Result X LineFault) (fault : Fault) (number : ℕ) (block : List ℕ) (s t u : Gathered) → OnOk r (Takes task on_refusal block s t) → IfErr r (λ e. StopsWithin task on_refusal block e.fault e.line s t)
       → fault ≡ CannotWrite → number ≡ t.lines + 1 → (before given after had mid holds told said tells : Option (List ℕ)) → WritesBeginning mid holds t.output.items → WritesBeginning said tells t.told.items
-      → Running task on_refusal before given had mid told said s → Consumes given after block → FailsAt fault task on_refusal before after had holds told tells number
-  block_cut r fault number block s t ok err e n before given after had mid holds told said tells written reported p c =
-      cuts fault number before after had mid holds told said tells (p.bytes ++ block) p.output p.verdicts t e n (Consumes-trans before given after p.bytes block p.given c) (either r ok err) p.written written p.reported reported
+      → Running task on_refusal before given had mid told said s → Consumes given after block → FailsOver u fault task on_refusal before after had holds told tells number
+  block_cut r fault number block s t u ok err e n before given after had mid holds told said tells written reported p c =
+      cuts fault number before after had mid holds told said tells (p.bytes ++ block) p.output p.verdicts t u e n (Consumes-trans before given after p.bytes block p.given c) (either r ok err) p.written written p.reported reported
     where
       either : {X : Type 0} (r : Result X LineFault) → OnOk r (Takes task on_refusal block s t) → IfErr r (λ e. StopsWithin task on_refusal block e.fault e.line s t) → Reached task on_refusal ((p.bytes ++ block) ++ left_of after) p.output p.verdicts t
       either (Ok x) ok err = reached t (left_of after) (kept t) (ok p.bytes p.output p.verdicts p.progress)
@@ -184,18 +189,18 @@ module _ {task : Task} {on_refusal : OnRefusal} where
         reported = Appends-trans told said tells p.verdicts t.told.items p.reported reported;
       }
 
-  pub end_fails : (fault : Fault) (number : ℕ) (s t : Gathered) (before after had mid holds told said tells : Option (List ℕ)) → StopsLast task on_refusal fault number s t → Appends mid holds t.output.items → Appends said tells t.told.items
-      → Running task on_refusal before after had mid told said s → IsAtEnd after → FailsAt fault task on_refusal before after had holds told tells number
-  end_fails fault number s t before after had mid holds told said tells stop written reported p at_end =
-      fails fault number before after had holds told tells p.bytes p.output p.verdicts t p.given
+  pub end_fails : (fault : Fault) (number : ℕ) (s t u : Gathered) (before after had mid holds told said tells : Option (List ℕ)) → StopsLast task on_refusal fault number s t → HasWritten t u → Appends mid holds t.output.items → Appends said tells t.told.items
+      → Running task on_refusal before after had mid told said s → IsAtEnd after → FailsOver u fault task on_refusal before after had holds told tells number
+  end_fails fault number s t u before after had mid holds told said tells stop w written reported p at_end =
+      fails fault number before after had holds told tells p.bytes p.output p.verdicts t u w.line w.lines p.given
       (subst (λ l. Stopped task on_refusal l p.output p.verdicts fault number t) (whole after p.bytes at_end) (stop p.bytes p.output p.verdicts p.progress))
       (Appends-trans had mid holds p.output t.output.items p.written written) (Appends-trans told said tells p.verdicts t.told.items p.reported reported)
 
-  pub end_cut : {X : Type 0} (r : Result X LineFault) (fault : Fault) (number : ℕ) (s t : Gathered) → OnOk r (Ends task on_refusal s t) → IfErr r (λ e. StopsLast task on_refusal e.fault e.line s t)
+  pub end_cut : {X : Type 0} (r : Result X LineFault) (fault : Fault) (number : ℕ) (s t u : Gathered) → OnOk r (Ends task on_refusal s t) → IfErr r (λ e. StopsLast task on_refusal e.fault e.line s t)
       → fault ≡ CannotWrite → number ≡ t.lines + 1 → (before after had mid holds told said tells : Option (List ℕ)) → WritesBeginning mid holds t.output.items → WritesBeginning said tells t.told.items
-      → Running task on_refusal before after had mid told said s → IsAtEnd after → FailsAt fault task on_refusal before after had holds told tells number
-  end_cut r fault number s t ok err e n before after had mid holds told said tells written reported p at_end =
-      cuts fault number before after had mid holds told said tells p.bytes p.output p.verdicts t e n p.given
+      → Running task on_refusal before after had mid told said s → IsAtEnd after → FailsOver u fault task on_refusal before after had holds told tells number
+  end_cut r fault number s t u ok err e n before after had mid holds told said tells written reported p at_end =
+      cuts fault number before after had mid holds told said tells p.bytes p.output p.verdicts t u e n p.given
       (subst (λ l. Reached task on_refusal l p.output p.verdicts t) (whole after p.bytes at_end) (either r ok err)) p.written written p.reported reported
     where
       either : {X : Type 0} (r : Result X LineFault) → OnOk r (Ends task on_refusal s t) → IfErr r (λ e. StopsLast task on_refusal e.fault e.line s t) → Reached task on_refusal p.bytes p.output p.verdicts t

@@ -156,11 +156,26 @@ IsStoppedAt on_refusal NotExtendedJson before (line ∷ others) = IsStopped on_r
 IsStoppedAt on_refusal OutOfMemory before others = Unit {0}
 IsStoppedAt on_refusal CannotWrite before others = ⊥
 
--- what each fault says of the bytes, and of the line whose number stands beside it
+-- what each fault says of the bytes, and of the line whose number stands beside it: that it came for this reason, but for
+-- a fault of a writer
+abbrev pub FailsFor : (Fault → ℕ → List (List ℕ) → Type 0) → Fault → Task → OnRefusal → (before after had holds told tells : Option (List ℕ)) → ℕ → Type 0
+FailsFor why CannotWrite task on_refusal before after had holds told tells number = CutShortAt task on_refusal before after had holds told tells number
+FailsFor why CannotRead task on_refusal before after had holds told tells number = StopsAt (why CannotRead) task on_refusal before after had holds told tells number
+FailsFor why NotJson task on_refusal before after had holds told tells number = StopsAt (why NotJson) task on_refusal before after had holds told tells number
+FailsFor why BadObjectId task on_refusal before after had holds told tells number = StopsAt (why BadObjectId) task on_refusal before after had holds told tells number
+FailsFor why NotExtendedJson task on_refusal before after had holds told tells number = StopsAt (why NotExtendedJson) task on_refusal before after had holds told tells number
+FailsFor why OutOfMemory task on_refusal before after had holds told tells number = StopsAt (why OutOfMemory) task on_refusal before after had holds told tells number
+
 abbrev pub FailsAt : Fault → Task → OnRefusal → (before after had holds told tells : Option (List ℕ)) → ℕ → Type 0
-FailsAt CannotWrite task on_refusal before after had holds told tells number = CutShortAt task on_refusal before after had holds told tells number
-FailsAt CannotRead task on_refusal before after had holds told tells number = StopsAt (IsStoppedAt on_refusal CannotRead) task on_refusal before after had holds told tells number
-FailsAt NotJson task on_refusal before after had holds told tells number = StopsAt (IsStoppedAt on_refusal NotJson) task on_refusal before after had holds told tells number
-FailsAt BadObjectId task on_refusal before after had holds told tells number = StopsAt (IsStoppedAt on_refusal BadObjectId) task on_refusal before after had holds told tells number
-FailsAt NotExtendedJson task on_refusal before after had holds told tells number = StopsAt (IsStoppedAt on_refusal NotExtendedJson) task on_refusal before after had holds told tells number
-FailsAt OutOfMemory task on_refusal before after had holds told tells number = StopsAt (IsStoppedAt on_refusal OutOfMemory) task on_refusal before after had holds told tells number
+FailsAt fault task on_refusal before after had holds told tells number = FailsFor (IsStoppedAt on_refusal) fault task on_refusal before after had holds told tells number
+
+-- the words tell where the fault of the first of the lines that stand after so many others lies; or there are none, where
+-- memory was wanting for them
+abbrev pub IsPlaceAt : List ℕ → Fault → ℕ → List (List ℕ) → Type 0
+IsPlaceAt place fault before [] = place ≡ []
+IsPlaceAt place fault before (line ∷ others) = IsWhere fault (text_of before line) place ⊎ (place ≡ [])
+
+-- the same as FailsAt, and the words tell the place
+abbrev pub FailsWith : List ℕ → Fault → Task → OnRefusal → (before after had holds told tells : Option (List ℕ)) → ℕ → Type 0
+FailsWith place fault task on_refusal before after had holds told tells number =
+    FailsFor (λ f n others. IsStoppedAt on_refusal f n others × IsPlaceAt place f n others) fault task on_refusal before after had holds told tells number

@@ -1,9 +1,9 @@
 -- For private clauses: how far a run over lines has come.
 use Rattle.std.specs.Prelude.{◌≡◌, ◌≢◌, ◌<◌, ◌≤◌, ◌+◌, ◌-◌, ◌^◌, ℕ, List, [], ◌∷◌, ◌++◌, Option, length, All}
 use Rattle.std.specs.Io.KnownBytes.{Appends, Consumes}
-use Rattle.bson_run.specs.Lines.{lines, Outcomes, IsBadText, IsStoppedAt, Tells}
+use Rattle.bson_run.specs.Lines.{lines, Outcomes, FailsFor, IsBadText, IsStoppedAt, Tells}
 use Rattle.bson_run.specs.declared.fault.Fault.{Fault}
-use Rattle.bson_run.specs.declared.fault.Fault.TheVariants.{OutOfMemory}
+use Rattle.bson_run.specs.declared.fault.Fault.TheVariants.{CannotRead, NotJson, BadObjectId, NotExtendedJson, OutOfMemory, CannotWrite}
 use Rattle.bson_run.specs.declared.gathered.Gathered.{Gathered}
 use Rattle.bson_run.specs.declared.order.OnRefusal.{OnRefusal}
 use Rattle.bson_run.specs.declared.order.Task.{Task}
@@ -76,11 +76,24 @@ pub record Reached (task : Task) (on_refusal : OnRefusal) (input output told : L
   pub counted : s.lines ≡ length done
   pub outcomes : Outcomes task on_refusal done (output ++ s.output.items) (told ++ s.told.items) s.refused
 
+-- a fault of a text is that of the line, which is the first of those that stand after so many others
+abbrev pub IsFirst : Fault → List ℕ → ℕ → ℕ → List (List ℕ) → Type 0
+IsFirst CannotRead line number before others = Unit {0}
+IsFirst NotJson line number before others = (more : List (List ℕ)) × (others ≡ line ∷ more) × (before ≡ number)
+IsFirst BadObjectId line number before others = (more : List (List ℕ)) × (others ≡ line ∷ more) × (before ≡ number)
+IsFirst NotExtendedJson line number before others = (more : List (List ℕ)) × (others ≡ line ∷ more) × (before ≡ number)
+IsFirst OutOfMemory line number before others = Unit {0}
+IsFirst CannotWrite line number before others = Unit {0}
+
+-- why a run stops at the line that was gathered
+abbrev pub IsStoppedOver : OnRefusal → Gathered → Fault → ℕ → List (List ℕ) → Type 0
+IsStoppedOver on_refusal s fault before others = IsStoppedAt on_refusal fault before others × IsFirst fault s.line.items s.lines before others
+
 -- the next line stops the run
 pub record Stopped (task : Task) (on_refusal : OnRefusal) (input output told : List ℕ) (fault : Fault) (number : ℕ) (s : Gathered) : Type 0 where
   pub reached : Reached task on_refusal input output told s
   pub line : number ≡ s.lines + 1
-  pub reason : IsStoppedAt on_refusal fault (length reached.done) reached.others
+  pub reason : IsStoppedOver on_refusal s fault (length reached.done) reached.others
 
 -- a line that ends among the bytes stops the run, whatever follows them
 abbrev pub StopsWithin : Task → OnRefusal → List ℕ → Fault → ℕ → Gathered → Gathered → Type 0
@@ -111,3 +124,7 @@ pub record HasWritten (s t : Gathered) : Type 0 where
   pub told : t.told.items ≡ []
   pub lines : t.lines ≡ s.lines
   pub refused : t.refused ≡ s.refused
+
+-- a run stopped, where this was gathered
+abbrev pub FailsOver : Gathered → Fault → Task → OnRefusal → (before after had holds told tells : Option (List ℕ)) → ℕ → Type 0
+FailsOver s fault task on_refusal before after had holds told tells number = FailsFor (IsStoppedOver on_refusal s) fault task on_refusal before after had holds told tells number

@@ -49,3 +49,12 @@ IsWhere BadObjectId text words = IsPlaced text words
 IsWhere NotExtendedJson text words = IsPlaced text words
 IsWhere OutOfMemory text words = words ≡ []
 IsWhere CannotWrite text words = words ≡ []
+
+-- no text has the fault
+abbrev pub IsOfNoText : Fault → Type 0
+IsOfNoText CannotRead = Unit {0}
+IsOfNoText NotJson = ⊥
+IsOfNoText BadObjectId = ⊥
+IsOfNoText NotExtendedJson = ⊥
+IsOfNoText OutOfMemory = Unit {0}
+IsOfNoText CannotWrite = Unit {0}

@@ -1,12 +1,12 @@
 //! Where the fault of a refused text lies, in words.
-ghost use Rattle.std.specs.Prelude.{◌≡◌, ◌⊎◌, ◌↔◌, Err, IfOk, IfErr, IsTrue, string_bytes};
+ghost use Rattle.std.specs.Prelude.{◌≡◌, ◌⊎◌, ◌↔◌, [], Err, IfOk, IfErr, IsTrue, string_bytes};
 ghost use Rattle.std.specs.List.{All};
 ghost use Rattle.serde_json.specs.Data.{Data};
 ghost use Rattle.serde_json.specs.View.{view};
 ghost use Rattle.bson_model.specs.Fault.{MeansNothing};
 ghost use Rattle.bson_place.specs.Place.{way_of};
 ghost use Rattle.bson_run.specs.Lines.{IsBadText};
-ghost use Rattle.bson_run.specs.Place.{IsColumn, IsPlaced, IsShown, IsTold, IsVisible, IsWhere};
+ghost use Rattle.bson_run.specs.Place.{IsColumn, IsOfNoText, IsPlaced, IsShown, IsTold, IsVisible, IsWhere};
 ghost use Rattle.bson_text.specs.Text.{IsTextOf, IsNoText};
 
 use crate::fault::Fault;
@@ -22,7 +22,8 @@ use std::alloc::{AllocError, Global};
 /// counted from 0, and what is wrong there; with the message alone where the fault is that of the whole text. Where a
 /// control character of ASCII stands in it, which could break a line or steer a terminal, only that is told.
 pub fn explain(alloc: Global, fault: Fault, text: &[u8]) -> Result<String, AllocError>
-    ensures { IfOk result (λ place. IsBadText fault text.now → IsWhere fault text.now (string_bytes place)) }
+    ensures place { IfOk result (λ place. IsBadText fault text.now → IsWhere fault text.now (string_bytes place)) }
+    ensures bare { IfOk result (λ place. IsOfNoText fault → string_bytes place ≡ []) }
 {
     match fault {
         Fault::NotJson => column(alloc, text),

@@ -1,8 +1,9 @@
 //! The line that is being gathered, and what the lines before it gave.
-ghost use Rattle.std.specs.Prelude.{◌≡◌, ◌⊎◌, ◌++◌, ◌+◌, [], ◌∷◌, ℕ, List, length, IfOk, IfErr, OnOk, OnErr, None, Ok, IsTrue, ◌↔◌, codes, string_bytes, MatchOption, MatchResult, IfSome, All, ◌≢◌, ◌<◌, take, slice_index};
+ghost use Rattle.std.specs.Prelude.{◌≡◌, ◌⊎◌, ◌++◌, ◌+◌, [], ◌∷◌, ℕ, List, length, IfOk, IfErr, OnOk, OnErr, None, Ok, IsTrue, ◌↔◌, codes, string_bytes, MatchOption, MatchResult, IfSome, All, ◌≢◌, ◌<◌, take, slice_index, ◌-◌, ◌^◌};
 ghost use Rattle.bson_run.specs.Lines.{IsBlank, IsBadText, IsStopped, Outcomes, Tells, Writes, told_at, told_of, words_of, text_of};
 ghost use Rattle.bson_run.specs.LinesSteps.{Ends, HasRoom, HaveSameOutcomes, IsJudged, IsOpen, IsStart, IsTold, StopsLast, StopsWithin, Takes, TakesLine};
 ghost use Rattle.bson_run.specs.declared.order.OnRefusal.TheVariants.{Stop, Explain};
+ghost use Rattle.bson_run.specs.Place.{IsOfNoText, IsWhere};
 ghost use Rattle.bson_run.specs.Words.{line_of};
 
 use crate::convert::convert;
@@ -25,8 +26,6 @@ pub struct Gathered {
     pub told: Vec<u8>,
     pub lines: u64,
     pub refused: u64,
-    /// Where the fault of the line lies that stopped the run.
-    pub place: String,
 }
 
 /// Where the first newline stands.
@@ -135,6 +134,22 @@ fn at_place(alloc: Global, number: u64, fault: Fault, place: &str) -> Result<Str
     format!(in alloc; "bson_lines: line {number}: {words}{place}\n")
 }
 
+/// Adds more bytes, for the line that stands after so many others.
+fn append(bytes: &mut Vec<u8>, more: &[u8], before: u64) -> Result<(), LineFault>
+    requires room { before < 2 ^ 64 - 1 }
+    ensures ok { OnOk result (bytes.new.items ≡ bytes.old.items ++ more.now) }
+    ensures err { OnErr result (bytes.new.items ≡ bytes.old.items) }
+    ensures fault { IfErr result (λ e. (e.fault ≡ Fault.OutOfMemory) × (e.line ≡ before + 1)) }
+{
+    match bytes.extend_from_slice(more) {
+        Ok(()) => Ok(()),
+        Err(_) => Err(LineFault {
+            line: before + 1,
+            fault: Fault::OutOfMemory,
+        }),
+    }
+}
+
 impl Gathered {
     /// No line yet.
     pub fn new(alloc: Global) -> Gathered
@@ -147,7 +162,6 @@ impl Gathered {
             told: Vec::new(alloc),
             lines: 0,
             refused: 0,
-            place: String::new(alloc),
         }
     }
 
@@ -163,6 +177,17 @@ impl Gathered {
         }
     }
 
+    /// The place of the fault in the line that is being gathered, unless memory is wanting for it.
+    pub fn place_of(&self, alloc: Global, fault: Fault) -> String
+        ensures place { IsBadText fault (text_of self.now.lines self.now.line.items) → IsWhere fault (text_of self.now.lines self.now.line.items) (string_bytes result) ⊎ (string_bytes result ≡ []) }
+        ensures bare { IsOfNoText fault → string_bytes result ≡ [] }
+    {
+        match explain(alloc, fault, text(self.lines, &self.line)) {
+            Ok(place) => place,
+            Err(_) => String::new(alloc),
+        }
+    }
+
     /// Adds a piece of the line.
     fn extend_line(&mut self, piece: &[u8]) -> Result<(), LineFault>
         requires room { HasRoom self.old }
@@ -170,10 +195,7 @@ impl Gathered {
         ensures same { HaveSameOutcomes self.old self.new }
         ensures fault { IfErr result (λ e. (e.fault ≡ Fault.OutOfMemory) × (e.line ≡ self.old.lines + 1)) }
     {
-        match self.line.extend_from_slice(piece) {
-            Ok(()) => Ok(()),
-            Err(_) => Err(self.stopped(Fault::OutOfMemory)),
-        }
+        append(&mut self.line, piece, self.lines)
     }
 
     /// Takes the line that was gathered: what it gives is added, and the next line is empty.
@@ -186,7 +208,7 @@ impl Gathered {
         requires room { HasRoom self.old }
         ensures room { HasRoom self.new }
         ensures ok { OnOk result (TakesLine task on_refusal self.old self.new) }
-        ensures same { OnErr result (HaveSameOutcomes self.old self.new) }
+        ensures same { OnErr result (HaveSameOutcomes self.old self.new × (self.new.line ≡ self.old.line)) }
         ensures fault { IfErr result (λ e. IsStopped on_refusal e.fault (text_of self.old.lines self.old.line.items) × (e.line ≡ self.old.lines + 1)) }
     {
         if self.lines + 1 == u64::MAX {
@@ -211,10 +233,7 @@ impl Gathered {
         ensures same { (self.new.line ≡ self.old.line) × (self.new.told ≡ self.old.told) × (self.new.lines ≡ self.old.lines) × (self.new.refused ≡ self.old.refused) }
         ensures fault { IfErr result (λ e. (e.fault ≡ Fault.OutOfMemory) × (e.line ≡ self.old.lines + 1)) }
     {
-        match self.output.extend_from_slice(output) {
-            Ok(()) => Ok(()),
-            Err(_) => Err(self.stopped(Fault::OutOfMemory)),
-        }
+        append(&mut self.output, output, self.lines)
     }
 
     /// Tells of the line, where refused lines don't stop the run.
@@ -234,7 +253,6 @@ impl Gathered {
             return Err(self.stopped(fault));
         }
         if on_refusal == OnRefusal::Stop {
-            self.keep_place(alloc, fault);
             return Err(self.stopped(fault));
         }
         match self.tell(alloc, on_refusal, fault) {
@@ -243,15 +261,6 @@ impl Gathered {
         }
         self.refused += 1;
         Ok(())
-    }
-
-    /// Keeps the place of the line's fault, unless memory is wanting.
-    fn keep_place(&mut self, alloc: Global, fault: Fault)
-        ensures same { (self.new.line ≡ self.old.line) × (self.new.output ≡ self.old.output) × (self.new.told ≡ self.old.told) × (self.new.lines ≡ self.old.lines) × (self.new.refused ≡ self.old.refused) }
-    {
-        if let Ok(place) = explain(alloc, fault, text(self.lines, &self.line)) {
-            self.place = place;
-        }
     }
 
     /// Adds the verdict on the line.

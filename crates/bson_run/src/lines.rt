@@ -1,8 +1,9 @@
 //! One run over lines: each line of a reader is a text of its own.
-ghost use Rattle.std.specs.Prelude.{◌≡◌, ◌+◌, [], ℕ, List, Option, IfOk, IfErr, OnOk, OnErr};
+ghost use Rattle.std.specs.Prelude.{◌≡◌, ◌+◌, [], ℕ, List, Option, IfOk, IfErr, OnOk, OnErr, string_bytes};
 ghost use Rattle.std.specs.Io.KnownBytes.{Appends, Consumes, IsAtEnd};
-ghost use Rattle.bson_run.specs.Lines.{DoneLines, FailsAt};
-ghost use Rattle.bson_run.specs.LinesSteps.{HasRoom, HasWritten, IsStart, Running};
+ghost use Rattle.bson_run.specs.Lines.{DoneLines, FailsAt, FailsWith};
+ghost use Rattle.bson_run.specs.LinesSteps.{FailsOver, HasRoom, HasWritten, IsStart, Running};
+ghost use Rattle.bson_run.specs.Place.{IsOfNoText};
 ghost use Rattle.bson_run.specs.Run.{WritesBeginning};
 
 use crate::fault::Fault;
@@ -47,16 +48,10 @@ pub fn run_lines<R: Read, W: Write, T: Write>(
     ensures done { IfOk result (λ counts. DoneLines task on_refusal (R.remaining reader.old) (R.remaining reader.new) (W.contents writer.old) (W.contents writer.new) (T.contents report.old) (T.contents report.new) counts.lines counts.refused) }
     ensures fails { IfErr result (λ e. FailsAt e.fault task on_refusal (R.remaining reader.old) (R.remaining reader.new) (W.contents writer.old) (W.contents writer.new) (T.contents report.old) (T.contents report.new) e.line) }
 {
-    let mut gathered = Gathered::new(alloc);
-    run_on(
-        alloc,
-        task,
-        on_refusal,
-        &mut gathered,
-        reader,
-        writer,
-        report,
-    )
+    match run_lines_explained(alloc, task, on_refusal, reader, writer, report) {
+        Ok(counts) => Ok(counts),
+        Err(refusal) => Err(refusal.at),
+    }
 }
 
 /// The same, and where the run stops at a refused line, the place of its fault too, in the words of `explain`; which are
@@ -71,6 +66,8 @@ pub fn run_lines_explained<R: Read, W: Write, T: Write>(
 ) -> Result<Counts, Refusal>
     ensures done { IfOk result (λ counts. DoneLines task on_refusal (R.remaining reader.old) (R.remaining reader.new) (W.contents writer.old) (W.contents writer.new) (T.contents report.old) (T.contents report.new) counts.lines counts.refused) }
     ensures fails { IfErr result (λ e. FailsAt e.at.fault task on_refusal (R.remaining reader.old) (R.remaining reader.new) (W.contents writer.old) (W.contents writer.new) (T.contents report.old) (T.contents report.new) e.at.line) }
+    ensures place { IfErr result (λ e. FailsWith (string_bytes e.place) e.at.fault task on_refusal (R.remaining reader.old) (R.remaining reader.new) (W.contents writer.old) (W.contents writer.new) (T.contents report.old) (T.contents report.new) e.at.line) }
+    ensures bare { IfErr result (λ e. IsOfNoText e.at.fault → string_bytes e.place ≡ []) }
 {
     let mut gathered = Gathered::new(alloc);
     match run_on(
@@ -85,7 +82,7 @@ pub fn run_lines_explained<R: Read, W: Write, T: Write>(
         Ok(counts) => Ok(counts),
         Err(at) => Err(Refusal {
             at,
-            place: gathered.place,
+            place: gathered.place_of(alloc, at.fault),
         }),
     }
 }
@@ -103,7 +100,7 @@ fn run_on<R: Read, W: Write, T: Write>(
     requires start { IsStart gathered.old }
     requires room { HasRoom gathered.old }
     ensures done { IfOk result (λ counts. DoneLines task on_refusal (R.remaining reader.old) (R.remaining reader.new) (W.contents writer.old) (W.contents writer.new) (T.contents report.old) (T.contents report.new) counts.lines counts.refused) }
-    ensures fails { IfErr result (λ e. FailsAt e.fault task on_refusal (R.remaining reader.old) (R.remaining reader.new) (W.contents writer.old) (W.contents writer.new) (T.contents report.old) (T.contents report.new) e.line) }
+    ensures fails { IfErr result (λ e. FailsOver gathered.new e.fault task on_refusal (R.remaining reader.old) (R.remaining reader.new) (W.contents writer.old) (W.contents writer.new) (T.contents report.old) (T.contents report.new) e.line) }
 {
     let mut block = [0u8; BLOCK];
     for _ in 0..u64::MAX {
@@ -142,7 +139,7 @@ fn pass_on<W: Write, T: Write>(
     ensures ok { OnOk result ((before given after had told : Option (List ℕ)) → Running task on_refusal before given had (W.contents writer.old) told (T.contents report.old) gathered.old → Consumes given after block.now
         → Running task on_refusal before after had (W.contents writer.new) told (T.contents report.new) gathered.new) }
     ensures fails { IfErr result (λ e. (before given after had told : Option (List ℕ)) → Running task on_refusal before given had (W.contents writer.old) told (T.contents report.old) gathered.old → Consumes given after block.now
-        → FailsAt e.fault task on_refusal before after had (W.contents writer.new) told (T.contents report.new) e.line) }
+        → FailsOver gathered.new e.fault task on_refusal before after had (W.contents writer.new) told (T.contents report.new) e.line) }
 {
     let step = gathered.take(alloc, task, on_refusal, block);
     write_out(gathered, writer, report)?;
@@ -162,7 +159,7 @@ fn end<W: Write, T: Write>(
     ensures done { IfOk result (λ counts. (before after had told : Option (List ℕ)) → Running task on_refusal before after had (W.contents writer.old) told (T.contents report.old) gathered.old → IsAtEnd after
         → DoneLines task on_refusal before after had (W.contents writer.new) told (T.contents report.new) counts.lines counts.refused) }
     ensures fails { IfErr result (λ e. (before after had told : Option (List ℕ)) → Running task on_refusal before after had (W.contents writer.old) told (T.contents report.old) gathered.old → IsAtEnd after
-        → FailsAt e.fault task on_refusal before after had (W.contents writer.new) told (T.contents report.new) e.line) }
+        → FailsOver gathered.new e.fault task on_refusal before after had (W.contents writer.new) told (T.contents report.new) e.line) }
 {
     let step = gathered.take_last(alloc, task, on_refusal);
     write_out(gathered, writer, report)?;

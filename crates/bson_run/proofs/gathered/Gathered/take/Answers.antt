@@ -1,4 +1,4 @@
-use Rattle.std.proofs.Common.{◌++◌, ◌∷◌, [], take, ◌∙◌}
+use Rattle.std.proofs.Common.{ap, ◌++◌, ◌∷◌, [], take, ◌∙◌}
 use Rattle.std.proofs.lemmas.Result.{err_from_is_err_and}
 use Rattle.bson_run.proofs.LinesLaws.{errs_alone, line_taken, line_stops_in, memory_stops, regrouped, take_more, whole_stops}
 use Rattle.bson_run.proofs.gathered.Gathered.take.Goals as goal
@@ -19,7 +19,7 @@ returns-in_err-end_line-clause-fault c =
     let found = c.in-Some.ensures in
     rw (p.1, p.2) (whole_stops c.args.bytes.now inv.0 c.loop-at.rest.now e.fault e.line c.args.self.now c.loop-at.self c.end_line.new.self inv.1 inv.2
     (line_stops_in c.loop-at.rest.now c.in-Some.at e.fault e.line c.loop-at.self c.extend_line.new.self c.end_line.new.self found.0 found.1 found.2
-    c.in_ok-extend_line.ensures.ok c.extend_line.ensures.same c.in_err-end_line.ensures.fault.0 c.in_err-end_line.ensures.fault.1 c.in_err-end_line.ensures.same))
+    c.in_ok-extend_line.ensures.ok c.extend_line.ensures.same c.in_err-end_line.ensures.fault.0 c.in_err-end_line.ensures.fault.1 c.in_err-end_line.ensures.same.0 (ap (λ v. v.items) c.in_err-end_line.ensures.same.1)))
 
 pub returns-clause-fault : goal.returns-clause-fault
 returns-clause-fault c =
