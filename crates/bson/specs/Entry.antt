@@ -1,6 +1,6 @@
 -- What the contracts of an entry cite. The words serve its halves too, as `entry_value (Occupied o)`.
 pub use Rattle.bson.specs.declared.document.entry.Entry.TheVariants.{Occupied, Vacant}
-use Rattle.std.specs.Prelude.{ℕ, List, Option, Result, string_bytes}
+use Rattle.std.specs.Prelude.{◌≡◌, ℕ, List, Option, None, is_some, IsTrue, Result, string_bytes}
 use Rattle.std.specs.Borrow.{Fml, MutBor, follows, follows_if, name_if_ok}
 use Rattle.bson_store.specs.Pairs.{get, put}
 use Rattle.bson.specs.declared.bson.Bson.{Bson}
@@ -8,6 +8,7 @@ use Rattle.bson.specs.declared.document.Document.{Document}
 use Rattle.bson.specs.declared.document.entry.Entry.{Entry}
 use Rattle.bson.specs.declared.document.entry.OccupiedEntry.{OccupiedEntry}
 use Rattle.bson.specs.Rows.{bson_row, document_row}
+use Rattle.bson.specs.View.{contents, holding}
 
 -- the reference to the document
 abbrev pub entry_document : Entry → MutBor Document
@@ -21,20 +22,21 @@ entry_key (Vacant e) = string_bytes e.key
 
 -- the value that the key has
 abbrev pub entry_value : Entry → Option Bson
-entry_value e = get (entry_key e) (entry_document e).now.pairs
+entry_value e = get (entry_key e) (contents (entry_document e).now)
 
 -- the document with w at the entry's key
 abbrev pub document_with : Entry → Bson → Document
-document_with e w = record { pairs = put (entry_key e) w (entry_document e).now.pairs }
+document_with e w = holding (put (entry_key e) w (contents (entry_document e).now))
 
--- P if the entry is occupied, and Q if it is vacant
-abbrev pub MatchEntry : Entry → Type 0 → Type 0 → Type 0
-MatchEntry (Occupied o) P Q = P
-MatchEntry (Vacant e) P Q = Q
+-- the entry is occupied exactly if there is a value
+abbrev pub FitsValue : Entry → Option Bson → Type 0
+FitsValue (Occupied o) v = IsTrue (is_some v)
+FitsValue (Vacant e) v = v ≡ None
 
 -- once the loan r ends, the document has the last value written through r at e's key; without r it stays
 abbrev pub entry_lends : {E : Type 0} → Entry → Result (MutBor Bson) E → Fml
-entry_lends e r = follows_if document_row bson_row (entry_document e).ghost_name (name_if_ok (λ x. x.ghost_name) r) (document_with e) (entry_document e).now
+entry_lends e r = follows_if document_row bson_row (entry_document e).ghost_name
+    (name_if_ok (λ x. x.ghost_name) r) (document_with e) (entry_document e).now
 
 abbrev pub occupied_lends : OccupiedEntry → MutBor Bson → Fml
 occupied_lends o r = follows document_row bson_row o.document.ghost_name r.ghost_name (document_with (Occupied o))

@@ -2,6 +2,7 @@
 use Rattle.std.specs.Prelude.{ℕ, List, drop}
 use Rattle.bson_store.specs.Pairs.{keys, values}
 use Rattle.bson.specs.declared.bson.Bson.{Bson}
+use Rattle.bson.specs.declared.document.iter.IntoIter.{IntoIter}
 use Rattle.bson.specs.declared.document.iter.Iter.{Iter}
 use Rattle.bson.specs.declared.document.iter.Keys.{Keys}
 use Rattle.bson.specs.declared.document.iter.Values.{Values}
@@ -14,3 +15,7 @@ keys_left it = keys (pairs_left it.pairs)
 
 abbrev pub values_left : Values → List Bson
 values_left it = values (pairs_left it.pairs)
+
+-- the same of a walk by value
+abbrev pub pairs_to_come : IntoIter → List (List ℕ × Bson)
+pairs_to_come it = it.pairs

@@ -1,9 +1,11 @@
 -- What a value of one kind holds, and what a typed getter answers.
-use Rattle.std.specs.Prelude.{ℕ, ℤ, Bool, List, string_bytes, option_map, Option, None, Some, Result, Ok, Err, if◌then◌else◌, nat_lt, pos, ◌^◌}
+use Rattle.std.specs.Prelude.{ℕ, ℤ, Bool, List, string_bytes, option_map, Option, None, Some, Result, Ok, Err}
+use Rattle.std.specs.Prelude.{if◌then◌else◌, nat_lt, pos, ◌^◌}
 use Rattle.std.specs.Prelude.{String as Text, Vec}
 use Rattle.std.specs.Borrow.{Bor, MutBor}
 use Rattle.std.specs.Result.{result_map_both}
 use Rattle.std.specs.declared.alloc.Global.{Global}
+use Rattle.bson_scalar.specs.declared.binary.Binary.{Binary}
 use Rattle.bson_scalar.specs.declared.db_pointer.DbPointer.{DbPointer as Pointer}
 use Rattle.bson_scalar.specs.declared.spec.BinarySubtype.{BinarySubtype}
 use Rattle.bson_scalar.specs.declared.spec.BinarySubtype.TheVariants.{Generic}
@@ -69,8 +71,12 @@ generic_of (bson.Binary b) = generic_bytes b.subtype b.bytes
 generic_of _ = None
 
 -- the binary of the subtype Generic with these bytes
+abbrev pub generic_binary : Vec ℕ Global → Binary
+generic_binary bytes = record { subtype = Generic; bytes = bytes }
+
+-- the same as a value
 abbrev pub generic : Vec ℕ Global → Bson
-generic bytes = bson.Binary (record { subtype = Generic; bytes = bytes })
+generic bytes = bson.Binary (generic_binary bytes)
 
 -- the twelve bytes of an object id
 abbrev pub object_id_of : Bson → Option (List ℕ)

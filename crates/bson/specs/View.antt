@@ -7,6 +7,14 @@ use Rattle.bson.specs.declared.bson.Bson.{Bson, fold-Bson, Bson-F}
 use Rattle.bson.specs.declared.bson.JavaScriptCodeWithScope.{JavaScriptCodeWithScope, fold-JavaScriptCodeWithScope, JavaScriptCodeWithScope-F}
 use Rattle.bson.specs.declared.document.Document.{Document, fold-Document, Document-F}
 
+-- the pairs that a document holds, in their order
+abbrev pub contents : Document → List (List ℕ × Bson)
+contents d = d.pairs
+
+-- the document that holds them
+abbrev pub holding : List (List ℕ × Bson) → Document
+holding ps = record { pairs = ps }
+
 abbrev pub values_of : List Value → Values
 values_of [] = no_values
 values_of (v ∷ vs) = value v (values_of vs)

@@ -2,7 +2,9 @@
 ghost use Rattle.std.specs.Prelude.{◌≡◌, ◌↔◌, IsSome, option_copied, option_map};
 ghost use Rattle.std.specs.Borrow.{LendsIf, sem};
 ghost use Rattle.bson.specs.declared.bson.Bson.TheVariants as value;
-ghost use Rattle.bson.specs.Kinds.{array_of, boolean_of, date_of, db_pointer_of, document_of, double_of, int32_of, int64_of, object_id_of, string_of, symbol_of, symbol_text_of, text_of, timestamp_of};
+ghost use Rattle.bson.specs.Kinds.{array_of, boolean_of, date_of, db_pointer_of, document_of, double_of};
+ghost use Rattle.bson.specs.Kinds.{int32_of, int64_of, object_id_of, string_of, symbol_of};
+ghost use Rattle.bson.specs.Kinds.{symbol_text_of, text_of, timestamp_of};
 ghost use Rattle.bson.specs.KindRows.{array_row, date_row, object_id_row, string_row};
 ghost use Rattle.bson.specs.Rows.{bson_row, document_row};
 

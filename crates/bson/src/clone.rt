@@ -1,6 +1,6 @@
 //! Copies of values, in memory of their own.
 ghost use Rattle.std.specs.Prelude.{◌≡◌, IfOk};
-ghost use Rattle.bson.specs.View.{bson_view, scoped_view, values_view, pairs_view};
+ghost use Rattle.bson.specs.View.{bson_view, document_view, scoped_view, values_view, pairs_view};
 
 use crate::bson::{Bson, JavaScriptCodeWithScope};
 use crate::document::Document;
@@ -30,7 +30,7 @@ impl JavaScriptCodeWithScope {
 impl Document {
     /// The same pairs in the same order, in memory of their own, from the document's allocator.
     pub fn clone(&self) -> Result<Document, AllocError>
-        ensures { IfOk result (λ d. pairs_view d.pairs ≡ pairs_view self.now.pairs) }
+        ensures { IfOk result (λ d. document_view d ≡ document_view self.now) }
     {
         copy_pairs(self.pairs.allocator(), self)
     }

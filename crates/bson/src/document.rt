@@ -1,6 +1,7 @@
 //! Documents.
 //!
-//! `get` looks up by key, `insert` puts and takes, `entry` is the place of one key, `place` is the pair at one place, and `iter` walks the pairs. The typed look-ups stand in `getters`.
+//! `get` looks up by key, `insert` puts and takes, `entry` is the place of one key, `place` is the pair at one place,
+//! and `iter` walks the pairs. The typed look-ups stand in `getters`.
 mod entry;
 mod get;
 mod getters;
@@ -36,11 +37,11 @@ impl Document {
     ghost use Rattle.std.specs.Prelude.{◌≡◌, []};
     ghost use Rattle.bson_model.specs.Value.{document};
     ghost use Rattle.bson_model.specs.Same.{same};
-    ghost use Rattle.bson.specs.View.{pairs_view};
+    ghost use Rattle.bson.specs.View.{contents, pairs_view};
 
     /// A document of no pairs, which takes its memory from `alloc` and has taken none yet.
     pub fn new(alloc: Global) -> Document
-        ensures { result.pairs ≡ [] }
+        ensures { contents result ≡ [] }
     {
         Document {
             pairs: SmallPairs::new(alloc),
@@ -49,7 +50,8 @@ impl Document {
 
     #[cycle(same)]
     pub(crate) fn is_same(&self, other: &Document) -> bool
-        ensures { result ≡ same (document (pairs_view self.now.pairs)) (document (pairs_view other.now.pairs)) }
+        ensures { result
+            ≡ same (document (pairs_view (contents self.now))) (document (pairs_view (contents other.now))) }
     {
         if self.pairs.len() != other.pairs.len() {
             return false;

@@ -3,7 +3,7 @@ ghost use Rattle.std.specs.Prelude.{◌≡◌, Option, option_copied, option_map
 ghost use Rattle.std.specs.Borrow.{LendsIf, sem};
 ghost use Rattle.bson.specs.declared.bson.Bson.{Bson};
 ghost use Rattle.bson.specs.declared.bson.Bson.TheVariants as value;
-ghost use Rattle.bson.specs.Kinds.{generic_bytes};
+ghost use Rattle.bson.specs.Kinds.{generic_binary, generic_bytes};
 ghost use Rattle.bson.specs.KindRows.{binary_row, bytes_row};
 ghost use Rattle.bson.specs.Rows.{bson_row};
 
@@ -240,7 +240,7 @@ impl Kind for Vec<u8> {
 
 // The bytes of a binary of the subtype Generic, to write.
 fn generic_mut(binary: &mut Binary) -> Option<&mut Vec<u8>>
-    ensures* writes_back { sem 𝓛 (LendsIf binary_row bytes_row binary.entry result (λ bytes. record { subtype = BinarySubtype.Generic; bytes = bytes }) binary.old) }
+    ensures* writes_back { sem 𝓛 (LendsIf binary_row bytes_row binary.entry result generic_binary binary.old) }
     ensures value { option_map (λ x. x.now) result ≡ generic_bytes binary.old.subtype binary.old.bytes }
 {
     match binary.subtype {

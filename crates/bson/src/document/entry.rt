@@ -36,14 +36,15 @@ pub struct VacantEntry<'a> {
 }
 
 impl Document {
-    ghost use Rattle.std.specs.Prelude.{◌≡◌, ◌++◌, ◌∷◌, [], None, is_some, IsTrue, string_bytes, OnOk, OnErr};
+    ghost use Rattle.std.specs.Prelude.{◌≡◌, ◌++◌, ◌∷◌, [], string_bytes, None, OnOk, OnErr};
     ghost use Rattle.bson_store.specs.Pairs.{get, place_of};
-    ghost use Rattle.bson.specs.Entry.{entry_document, entry_key, MatchEntry};
+    ghost use Rattle.bson.specs.Entry.{entry_document, entry_key, FitsValue};
+    ghost use Rattle.bson.specs.View.{contents};
 
     // Puts a pair last, whose key is absent.
     fn add(&mut self, key: String, value: Bson) -> Result<(), AllocError>
-        requires { place_of (string_bytes key) self.old.pairs ≡ None }
-        ensures ok { OnOk result (self.new.pairs ≡ self.old.pairs ++ (string_bytes key, value) ∷ []) }
+        requires { place_of (string_bytes key) (contents self.old) ≡ None }
+        ensures ok { OnOk result (contents self.new ≡ contents self.old ++ (string_bytes key, value) ∷ []) }
         ensures err { OnErr result (self.new ≡ self.old) }
     {
         match self.pairs.push(key, value) {
@@ -57,7 +58,7 @@ impl Document {
         ensures key { entry_key result ≡ string_bytes key }
         ensures same_document { (entry_document result).ghost_name ≡ self.entry.ghost_name }
         ensures unchanged { (entry_document result).now ≡ self.old }
-        ensures found { MatchEntry result (IsTrue (is_some (get (string_bytes key) self.old.pairs))) (get (string_bytes key) self.old.pairs ≡ None) }
+        ensures found { FitsValue result (get (string_bytes key) (contents self.old)) }
     {
         match self.pairs.find(key.as_str()) {
             Some(at) => Entry::Occupied(OccupiedEntry {
@@ -90,9 +91,11 @@ impl<'a> Entry<'a> {
         }
     }
 
-    /// The value at the key, to be written; where the document lacked the key, the pair of the key and `default` is put last.
+    /// The value at the key, to be written; where the document lacked the key, the pair of the key and `default` is put
+    /// last.
     ///
-    /// An occupied entry takes no memory and answers the value that is there. Where memory is refused the document is as it was.
+    /// An occupied entry takes no memory and answers the value that is there. Where memory is refused the document is as
+    /// it was.
     pub fn or_insert(self, default: Bson) -> Result<&'a mut Bson, AllocError>
         ensures* writes_back { sem 𝓛 (entry_lends self.entry result) }
         ensures value { IfOk result (λ x. x.now ≡ unwrap_or (entry_value self.entry) default) }
@@ -107,9 +110,11 @@ impl<'a> Entry<'a> {
         }
     }
 
-    /// The value at the key, to be written; where the document lacked the key, the pair of the key and what `default` returns is put last.
+    /// The value at the key, to be written; where the document lacked the key, the pair of the key and what `default`
+    /// returns is put last.
     ///
-    /// An occupied entry takes no memory, doesn't call `default` and answers the value that is there. A vacant one calls it once, before the document grows; where memory is refused the document is as it was.
+    /// An occupied entry takes no memory, doesn't call `default` and answers the value that is there. A vacant one calls
+    /// it once, before the document grows; where memory is refused the document is as it was.
     pub fn or_insert_with<F: FnOnce() -> Bson>(self, default: F) -> Result<&'a mut Bson, AllocError>
         requires { entry_value self ≡ None → F.pre default }
         ensures* writes_back { sem 𝓛 (entry_lends self.entry result) }

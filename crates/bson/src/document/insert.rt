@@ -1,9 +1,11 @@
 //! Putting pairs, and taking them out.
-ghost use Rattle.std.specs.Prelude.{◌≡◌, [], Some, None, List, String, string_bytes, IfOk, OnOk, IfErr, OnErr};
+ghost use Rattle.std.specs.Prelude.{◌≡◌, [], Some, None, List, String, string_bytes};
+ghost use Rattle.std.specs.Prelude.{IfOk, OnOk, IfErr, OnErr};
 ghost use Rattle.std.specs.declared.alloc.Global.{Global};
 ghost use Rattle.std.specs.Iterator.{IsFinite, Drains, YieldsThen};
 ghost use Rattle.bson_store.specs.Pairs.{get, put, take_out};
 ghost use Rattle.bson.specs.Put.{put_all};
+ghost use Rattle.bson.specs.View.{contents};
 ghost use Rattle.bson.specs.declared.bson.Bson as value;
 
 use super::Document;
@@ -23,16 +25,17 @@ pub struct Refused {
 }
 
 impl Document {
-    /// Puts the value at the key, and returns the one that was there. A key that is there keeps its place, takes no memory and succeeds; a new one goes last.
+    /// Puts the value at the key, and returns the one that was there. A key that is there keeps its place, takes no
+    /// memory and succeeds; a new one goes last.
     ///
     /// Where memory is refused it hands the pair back, and the document is as it was.
     pub fn insert(&mut self, key: String, value: Bson) -> Result<Option<Bson>, Refused>
-        ensures old { IfOk result (λ old. old ≡ get (string_bytes key) self.old.pairs) }
-        ensures put { OnOk result (self.new.pairs ≡ put (string_bytes key) value self.old.pairs) }
+        ensures old { IfOk result (λ old. old ≡ get (string_bytes key) (contents self.old)) }
+        ensures put { OnOk result (contents self.new ≡ put (string_bytes key) value (contents self.old)) }
 
         // Out of memory, which comes at a new key alone.
-        ensures absent { OnErr result (get (string_bytes key) self.old.pairs ≡ None) }
-        ensures err { OnErr result (self.new.pairs ≡ self.old.pairs) }
+        ensures absent { OnErr result (get (string_bytes key) (contents self.old) ≡ None) }
+        ensures err { OnErr result (contents self.new ≡ contents self.old) }
         ensures refused { IfErr result (λ r. (r.key ≡ key) × (r.value ≡ value)) }
     {
         match calls::put(&mut self.pairs, key, value) {
@@ -43,23 +46,23 @@ impl Document {
 
     /// Takes the value at the key, and its pair out of the document. The other pairs keep their order.
     pub fn remove(&mut self, key: &str) -> Option<Bson>
-        ensures old { result ≡ get key.now self.old.pairs }
-        ensures rest { self.new.pairs ≡ take_out key.now self.old.pairs }
+        ensures old { result ≡ get key.now (contents self.old) }
+        ensures rest { contents self.new ≡ take_out key.now (contents self.old) }
     {
         calls::take(&mut self.pairs, key)
     }
 
     /// Takes every pair out.
     pub fn clear(&mut self)
-        ensures { self.new.pairs ≡ [] }
+        ensures { contents self.new ≡ [] }
     {
         self.pairs.clear();
     }
 
     // `insert`, without the old value. A drop of a value inside a loop gives the loop a goal for each kind.
     fn set(&mut self, key: String, value: Bson) -> Result<(), Refused>
-        ensures put { OnOk result (self.new.pairs ≡ put (string_bytes key) value self.old.pairs) }
-        ensures err { OnErr result (self.new.pairs ≡ self.old.pairs) }
+        ensures put { OnOk result (contents self.new ≡ put (string_bytes key) value (contents self.old)) }
+        ensures err { OnErr result (contents self.new ≡ contents self.old) }
         ensures refused { IfErr result (λ r. (r.key ≡ key) × (r.value ≡ value)) }
     {
         drop(self.insert(key, value)?);
@@ -68,17 +71,21 @@ impl Document {
 
     /// Puts each pair in turn, as `insert` does.
     ///
-    /// Where memory is refused it stops and hands the refused pair back: the document then has exactly the pairs before it put in.
+    /// Where memory is refused it stops and hands the refused pair back: the document then has exactly the pairs before
+    /// it put in.
     pub fn extend<I: Iterator<Item = (String, Bson)> + Drop>(
         &mut self,
         items: I,
     ) -> Result<(), Refused>
         requires can { I.can_next items }
         requires ends { IsFinite (I.remaining items) }
-        ensures ok { OnOk result ((xs : List (String Global × value.Bson)) × Drains I.next_gives items xs × (self.new.pairs ≡ put_all xs self.old.pairs)) }
+        ensures ok { OnOk result ((xs : List (String Global × value.Bson)) × Drains I.next_gives items xs
+            × (contents self.new ≡ put_all xs (contents self.old))) }
 
         // Out of memory.
-        ensures err { IfErr result (λ r. (xs : List (String Global × value.Bson)) × (u : _) × YieldsThen I.next_gives items xs (Some (r.key, r.value)) u × (self.new.pairs ≡ put_all xs self.old.pairs)) }
+        ensures err { IfErr result (λ r. (xs : List (String Global × value.Bson)) × (u : _)
+            × YieldsThen I.next_gives items xs (Some (r.key, r.value)) u
+            × (contents self.new ≡ put_all xs (contents self.old))) }
     {
         for (key, value) in items {
             self.set(key, value)?;
@@ -86,7 +93,8 @@ impl Document {
         Ok(())
     }
 
-    /// The document of the pairs, put in turn: of a key that comes twice the last value stays, in the place of the first.
+    /// The document of the pairs, put in turn: of a key that comes twice the last value stays, in the place of the
+    /// first.
     ///
     /// Where memory is refused it hands the refused pair back.
     pub fn from_pairs<I: Iterator<Item = (String, Bson)> + Drop>(
@@ -95,10 +103,12 @@ impl Document {
     ) -> Result<Document, Refused>
         requires can { I.can_next items }
         requires ends { IsFinite (I.remaining items) }
-        ensures ok { IfOk result (λ d. (xs : List (String Global × value.Bson)) × Drains I.next_gives items xs × (d.pairs ≡ put_all xs [])) }
+        ensures ok { IfOk result (λ d. (xs : List (String Global × value.Bson)) × Drains I.next_gives items xs
+            × (contents d ≡ put_all xs [])) }
 
         // Out of memory.
-        ensures err { IfErr result (λ r. (xs : List (String Global × value.Bson)) × (u : _) × YieldsThen I.next_gives items xs (Some (r.key, r.value)) u) }
+        ensures err { IfErr result (λ r. (xs : List (String Global × value.Bson)) × (u : _)
+            × YieldsThen I.next_gives items xs (Some (r.key, r.value)) u) }
     {
         let mut document = Document::new(alloc);
         document.extend(items)?;

@@ -93,10 +93,11 @@ impl Iterator for IntoIter {
 
     ghost use Rattle.std.specs.Prelude.{string_bytes};
     ghost use Rattle.std.specs.Iterator.{YieldsFirstBy, item_count};
+    ghost use Rattle.bson.specs.Iter.{pairs_to_come};
 
-    ghost next_gives = { YieldsFirstBy (λ p. (string_bytes p.0, p.1)) (λ s. s.pairs) };
+    ghost next_gives = { YieldsFirstBy (λ p. (string_bytes p.0, p.1)) pairs_to_come };
 
-    ghost remaining = { item_count (λ s. s.pairs) };
+    ghost remaining = { item_count pairs_to_come };
 
     fn next(&mut self) -> Option<(String, Bson)> {
         self.pairs.next()
@@ -107,10 +108,11 @@ impl Document {
     ghost use Rattle.std.specs.Prelude.{◌≡◌};
     ghost use Rattle.bson_store.specs.Pairs.{keys, values};
     ghost use Rattle.bson.specs.Iter.{pairs_left, keys_left, values_left};
+    ghost use Rattle.bson.specs.View.{contents};
 
     /// The pairs in their order, each as a key and a value.
     pub fn iter(&self) -> Iter<'_>
-        ensures { pairs_left result ≡ self.now.pairs }
+        ensures { pairs_left result ≡ contents self.now }
     {
         Iter {
             pairs: &self.pairs,
@@ -120,14 +122,14 @@ impl Document {
 
     /// The keys in their order.
     pub fn keys(&self) -> Keys<'_>
-        ensures { keys_left result ≡ keys self.now.pairs }
+        ensures { keys_left result ≡ keys (contents self.now) }
     {
         Keys { pairs: self.iter() }
     }
 
     /// The values in the order of their keys.
     pub fn values(&self) -> Values<'_>
-        ensures { values_left result ≡ values self.now.pairs }
+        ensures { values_left result ≡ values (contents self.now) }
     {
         Values { pairs: self.iter() }
     }
@@ -140,8 +142,10 @@ impl IntoIterator for Document {
 
     ghost use Rattle.std.specs.Prelude.{◌≡◌};
     ghost use Rattle.bson_store.specs.Pairs.{HasDistinctKeys};
+    ghost use Rattle.bson.specs.Iter.{pairs_to_come};
+    ghost use Rattle.bson.specs.View.{contents};
 
-    ghost into_iter_gives = { λ d r. (r.pairs ≡ d.pairs) × HasDistinctKeys d.pairs };
+    ghost into_iter_gives = { λ d r. (pairs_to_come r ≡ contents d) × HasDistinctKeys (contents d) };
 
     fn into_iter(self) -> IntoIter {
         IntoIter {
@@ -157,8 +161,9 @@ impl<'a> IntoIterator for &'a Document {
 
     ghost use Rattle.std.specs.Prelude.{◌≡◌};
     ghost use Rattle.bson.specs.Iter.{pairs_left};
+    ghost use Rattle.bson.specs.View.{contents};
 
-    ghost into_iter_gives = { λ d r. pairs_left r ≡ d.now.pairs };
+    ghost into_iter_gives = { λ d r. pairs_left r ≡ contents d.now };
 
     fn into_iter(self) -> Iter<'a> {
         self.iter()

@@ -1,12 +1,13 @@
 //! The pair at one place of a document, to be looked at or written.
 //!
 //! A clause `writes_back` says what the document holds once the reference that the call returns has ended.
-ghost use Rattle.std.specs.Prelude.{◌≡◌, ◌<◌, ◌≤◌, Some, length, slice_get, IfSome, IfNone, String, string_bytes};
-ghost use Rattle.std.specs.Borrow.{Bor, MutBor, RestsIfNone, follows, sem};
+ghost use Rattle.std.specs.Prelude.{◌≡◌, ◌<◌, ◌≤◌, Some, length, slice_get, IfSome, IfNone};
+ghost use Rattle.std.specs.Prelude.{String, string_bytes};
+ghost use Rattle.std.specs.Borrow.{Bor, MutBor, sem};
 ghost use Rattle.std.specs.declared.alloc.Global.{Global};
 ghost use Rattle.bson_store.specs.Pairs.{keys, values, with_value};
+ghost use Rattle.bson.specs.View.{contents};
 ghost use Rattle.bson.specs.declared.bson.Bson as value;
-ghost use Rattle.bson.specs.Rows.{bson_row, document_row};
 
 use super::Document;
 use crate::bson::Bson;
@@ -22,14 +23,15 @@ pub struct PlaceMut<'a> {
 
 impl Document {
     ghost use Rattle.bson.specs.Changes.{ChangesEach};
+    ghost use Rattle.bson.specs.Place.{place_document, place_index, RestsWithoutPlace};
 
     /// The pair at a place, from 0, its value to be written. None past the last pair.
     ///
     /// Nothing is promised of the document after this call, also where it answers None: its contract can't say so in
     /// this form. [`Document::change_index`] and [`Document::place_mut`] promise it whole.
     pub fn get_index_mut(&mut self, at: usize) -> Option<(&String, &mut Bson)>
-        ensures pair { IfSome result (λ p. Some (string_bytes p.0.now, p.1.now) ≡ slice_get self.old.pairs at) }
-        ensures none { IfNone result (length self.old.pairs ≤ at) }
+        ensures pair { IfSome result (λ p. Some (string_bytes p.0.now, p.1.now) ≡ slice_get (contents self.old) at) }
+        ensures none { IfNone result (length (contents self.old) ≤ at) }
     {
         if at < self.pairs.len() {
             Some(self.pairs.pair_at_mut(at))
@@ -40,16 +42,20 @@ impl Document {
 
     /// Calls `change` on the pair at a place, from 0, and answers what that returned. None past the last pair.
     ///
-    /// The value that `change` leaves becomes the value of the pair; its key and the other pairs stay. Where the answer is
-    /// None, `change` was not called and the document is as it was.
+    /// The value that `change` leaves becomes the value of the pair; its key and the other pairs stay. Where the answer
+    /// is None, `change` was not called and the document is as it was.
     pub fn change_index<U, F: FnOnce(&String, &mut Bson) -> U>(
         &mut self,
         at: usize,
         change: F,
     ) -> Option<U>
-        requires { (k : Bor (String Global)) (v : MutBor value.Bson) → slice_get self.old.pairs at ≡ Some (string_bytes k.now, v.now) → F.pre change k v }
-        ensures changed { IfSome result (λ u. (k : Bor (String Global)) × (v w : MutBor value.Bson) × (slice_get self.old.pairs at ≡ Some (string_bytes k.now, v.now)) × F.post change k v u w × (self.new.pairs ≡ with_value self.old.pairs at w.now)) }
-        ensures none { IfNone result ((length self.old.pairs ≤ at) × (self.new.pairs ≡ self.old.pairs)) }
+        requires { (k : Bor (String Global)) (v : MutBor value.Bson)
+            → slice_get (contents self.old) at ≡ Some (string_bytes k.now, v.now) → F.pre change k v }
+        ensures changed { IfSome result (λ u. (k : Bor (String Global)) × (v w : MutBor value.Bson)
+            × (slice_get (contents self.old) at ≡ Some (string_bytes k.now, v.now))
+            × F.post change k v u w
+            × (contents self.new ≡ with_value (contents self.old) at w.now)) }
+        ensures none { IfNone result ((length (contents self.old) ≤ at) × (contents self.new ≡ contents self.old)) }
     {
         if at < self.pairs.len() {
             let (key, value) = self.pairs.pair_at_mut(at);
@@ -64,7 +70,7 @@ impl Document {
     /// What a call leaves becomes the value of its pair; the keys and their order stay.
     pub fn change_values<F: FnMut(&String, &mut Bson)>(&mut self, mut change: F)
         requires { F.IsAlwaysCallable change }
-        ensures { (last : F) × ChangesEach F.FnMut change self.old.pairs last self.new.pairs }
+        ensures { (last : F) × ChangesEach F.FnMut change (contents self.old) last (contents self.new) }
     {
         for at in 0..self.pairs.len() {
             let (key, value) = self.pairs.pair_at_mut(at);
@@ -74,11 +80,11 @@ impl Document {
 
     /// The place of a pair, from 0. None past the last pair.
     pub fn place_mut(&mut self, at: usize) -> Option<PlaceMut<'_>>
-        ensures* unchanged_at_none { sem 𝓛 (RestsIfNone document_row self.entry (λ p. p.document.ghost_name) result (λ n. n ≡ self.old)) }
-        ensures same_document { IfSome result (λ p. p.document.ghost_name ≡ self.entry.ghost_name) }
-        ensures unchanged { IfSome result (λ p. p.document.now ≡ self.old) }
-        ensures place { IfSome result (λ p. p.at ≡ at) }
-        ensures none { IfNone result (length self.old.pairs ≤ at) }
+        ensures* unchanged_at_none { sem 𝓛 (RestsWithoutPlace self.entry self.old result) }
+        ensures same_document { IfSome result (λ p. (place_document p).ghost_name ≡ self.entry.ghost_name) }
+        ensures unchanged { IfSome result (λ p. (place_document p).now ≡ self.old) }
+        ensures place { IfSome result (λ p. place_index p ≡ at) }
+        ensures none { IfNone result (length (contents self.old) ≤ at) }
     {
         if at < self.pairs.len() {
             Some(PlaceMut { document: self, at })
@@ -89,17 +95,21 @@ impl Document {
 }
 
 impl<'a> PlaceMut<'a> {
+    ghost use Rattle.bson.specs.Place.{place_document, place_index, place_lends};
+
     /// The key of the pair.
     pub fn key(&self) -> &String
-        ensures { Some (string_bytes result.now) ≡ slice_get (keys self.now.document.now.pairs) self.now.at }
+        ensures { Some (string_bytes result.now)
+            ≡ slice_get (keys (contents (place_document self.now).now)) (place_index self.now) }
     {
         self.document.pairs.key_at(self.at)
     }
 
     /// The value of the pair, to be written. A write changes that value, and nothing else of the document.
     pub fn into_value(self) -> &'a mut Bson
-        ensures* writes_back { sem 𝓛 (follows document_row bson_row self.entry.document.ghost_name result.ghost_name (λ w. record { pairs = with_value self.entry.document.now.pairs self.entry.at w })) }
-        ensures value { Some result.now ≡ slice_get (values self.entry.document.now.pairs) self.entry.at }
+        ensures* writes_back { sem 𝓛 (place_lends self.entry result) }
+        ensures value { Some result.now
+            ≡ slice_get (values (contents (place_document self.entry).now)) (place_index self.entry) }
     {
         let PlaceMut { document, at } = self;
         document.pairs.value_at_mut(at)
