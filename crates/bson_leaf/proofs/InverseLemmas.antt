@@ -30,7 +30,7 @@ pub some_then : {A B : Type 0} (o : Option A) (f : A → Result B Fault) (y : B)
 some_then (Some x) f y h = (x, refl, h)
 some_then None f y h = cc
 
-if_some : {A : Type 0} (b : Bool) (x y : A) → cond b (Some x) None ≡ Some y → (b ≡ true) × (x ≡ y)
+pub if_some : {A : Type 0} (b : Bool) (x y : A) → cond b (Some x) None ≡ Some y → (b ≡ true) × (x ≡ y)
 if_some true x y h = (refl, un_some x y h)
 if_some false x y h = cc
 

@@ -33,9 +33,9 @@ use Rattle.bson_leaf.specs.declared.wrapper.Wrapper.{Wrapper}
 use Rattle.bson_leaf.specs.declared.wrapper.Wrapper.TheVariants.{Oid, Symbol, RegularExpression, NumberInt, NumberLong, NumberDouble, NumberDecimal, Binary, Uuid, Code, Timestamp, Date, MinKey, MaxKey, DbPointer, Undefined}
 use Rattle.bson_leaf.proofs.InverseLemmas as inverse
 use Rattle.bson_leaf.proofs.IntText.{fits_true, int_of_some}
-use Rattle.bson_leaf.proofs.BinaryLaws.{binary_from, uuid_from, bytes_again, byte_again, subtype_byte-of}
+use Rattle.bson_leaf.proofs.BinaryLaws.{binary_from, uuid_from, bytes_to, bytes_again, byte_again, subtype_byte-of}
 use Rattle.bson_datetime.proofs.Offered.{denotes-names}
-use Rattle.bson_scalar.proofs.Offered.{sized_to, sorted_text-again}
+use Rattle.bson_scalar.proofs.Offered.{hyphenated_to, sized_to, sorted_text-again}
 use Rattle.bson_leaf.proofs.DateLaws.{date_from, recent_denoted}
 use Rattle.bson_leaf.proofs.DecimalLaws.{decimal_from, decimal_of-some, decimal_of-printed, canon-again}
 use Rattle.bson_leaf.proofs.DoubleLaws.{double_from, double_form, double_text-form, double_again, nan_form-again, special_is}
@@ -139,8 +139,8 @@ scalar_to (means.timestamp i t m n i_is t_is) = rw (i_is, t_is) refl
 scalar_to (means.date_of_millis s z is) = rw (int_of_some w64 s z is) refl
 scalar_to (means.date_of_text s z is) = rw ((denotes-names s z).1 is) refl
 scalar_to (means.date_of_number n z is) = rw is refl
-scalar_to (means.binary s k bytes n is at) = rw (is, sized_to 1 k (n ∷ []) at refl) refl
-scalar_to (means.uuid s id is) = rw is refl
+scalar_to (means.binary s k bytes n is at) = rw (bytes_to s bytes is, sized_to 1 k (n ∷ []) at refl) refl
+scalar_to (means.uuid s id is) = rw (hyphenated_to s id is) refl
 scalar_to (means.min_key d is) = rw is refl
 scalar_to (means.max_key d is) = rw is refl
 scalar_to means.undefined = refl

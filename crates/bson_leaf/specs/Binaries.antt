@@ -2,11 +2,10 @@
 -- Read and written: {"$binary": {"base64": "aGVsbG8=", "subType": "00"}}.
 -- `$uuid`: the hyphenated text of a UUID (RFC 9562 section 4), read alone:
 -- {"$uuid": "00112233-4455-6677-8899-aabbccddeeff"}.
-use Rattle.std.specs.Prelude.{◌≡◌, ℕ, List, [], ◌∷◌, codes, Some}
+use Rattle.std.specs.Prelude.{ℕ, List, [], ◌∷◌, codes}
 use Rattle.hex.specs.Hex.{encode_lower}
 use Rattle.bson_scalar.specs.HexText.{IsHexText}
 use Rattle.bson_scalar.specs.Base64.{base64_text}
-use Rattle.bson_scalar.specs.Orders.{parsed_hyphenated}
 use Rattle.bson_scalar.specs.Subtype.{subtype_byte}
 use Rattle.bson_scalar.specs.declared.spec.BinarySubtype.{BinarySubtype}
 use Rattle.serde_json.specs.Data.{Data}
@@ -22,8 +21,3 @@ IsByteText s n = IsHexText s (n ∷ [])
 -- the digits are written in lower case
 abbrev pub binary_tree : BinarySubtype → List ℕ → Data
 binary_tree k bytes = object_of_one (key_of Binary) (object_of_two (codes "base64") (tree.string (base64_text bytes)) (codes "subType") (tree.string (encode_lower (subtype_byte k ∷ []))))
-
--- a text of 36 bytes, with `-` at places 8, 13, 18 and 23, counted from 0, and hexadecimal digits of either case
--- elsewhere, and the bytes of its digits
-abbrev pub IsHyphenatedText : List ℕ → List ℕ → Type 0
-IsHyphenatedText text id = parsed_hyphenated text ≡ Some id

@@ -9,10 +9,11 @@ use Rattle.bson_scalar.specs.Base64.{IsBase64}
 use Rattle.bson_scalar.specs.Oid.{IsOidText}
 use Rattle.bson_scalar.specs.Regex.{sorted_text}
 use Rattle.bson_scalar.specs.Subtype.{subtype_of}
+use Rattle.bson_scalar.specs.Uuid.{IsHyphenatedText}
 use Rattle.bson_scalar.specs.declared.spec.BinarySubtype.TheVariants.{Uuid}
 use Rattle.bson_datetime.specs.Grammar.{Names}
 use Rattle.bson_decimal.specs.Text.{Parses}
-use Rattle.bson_leaf.specs.Binaries.{IsByteText, IsHyphenatedText}
+use Rattle.bson_leaf.specs.Binaries.{IsByteText}
 use Rattle.bson_leaf.specs.Doubles.{double_of}
 use Rattle.bson_leaf.specs.Ints.{IsIntText}
 use Rattle.bson_leaf.specs.Scalar.{Scalar}

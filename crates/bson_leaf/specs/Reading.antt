@@ -12,6 +12,7 @@ use Rattle.bson_datetime.specs.Rfc3339.{denoted}
 use Rattle.bson_decimal.specs.Pattern.{first_form, sign_weight}
 use Rattle.bson_decimal.specs.Steps.{finite}
 use Rattle.bson_decimal.specs.Text.{lowercase}
+use Rattle.bson_scalar.specs.Base64.{padded_text}
 use Rattle.bson_scalar.specs.Orders.{parsed_hyphenated}
 use Rattle.bson_scalar.specs.Regex.{sorted_text}
 use Rattle.bson_scalar.specs.Subtype.{subtype_of}
@@ -144,8 +145,14 @@ only_byte _ = None
 abbrev pub byte_of : List ℕ → Option ℕ
 byte_of s = only_byte (decode_sized s 1)
 
+-- the bytes, where the text is theirs
+abbrev pub bytes_with : List ℕ → Option (List ℕ) → Option (List ℕ)
+bytes_with s (Some bytes) = if bytes_eq s (padded_text bytes) then Some bytes else None
+bytes_with s None = None
+
+-- the decoder takes a number above 255 for the digit of 0, so what it gives is compared with the text
 abbrev pub bytes_of : List ℕ → Option (List ℕ)
-bytes_of s = result_ok (decode_of standard s)
+bytes_of s = bytes_with s (result_ok (decode_of standard s))
 
 abbrev pub binary_read : Data → Result Scalar Fault
 binary_read d = on_two (codes "base64") (codes "subType") d (λ b k. on_text b (λ s. on_text k (λ t. or_wrong_shape (bytes_of s) >>= λ bytes. or_wrong_shape (byte_of t) >>= λ n. Ok (binary (subtype_of n) bytes))))

@@ -13,7 +13,7 @@ use Rattle.bson_model.specs.Value.{Value, Values, Pairs}
 use Rattle.bson_model.specs.Means.{Means, scalar, code_with_scope, array, document, MeansItems, nothing, then, MeansDocument, empty, entry}
 use Rattle.bson_model.specs.Texts.{NumberFits, IsTree, ItemsAreTrees, MembersAreTrees}
 use Rattle.bson_model.specs.Normal.{InRange, ItemsInRange, PairsInRange}
-use Rattle.bson_scalar.proofs.Offered.{hex_bytes, base64_bytes, hyphenated_bytes, sized_to}
+use Rattle.bson_scalar.proofs.Offered.{hex_bytes, sized_to}
 use Rattle.bson_datetime.proofs.Offered.{named_fits}
 
 un_some : {A : Type 0} (x y : A) → Some x ≡ Some y → x ≡ y
@@ -60,8 +60,8 @@ scalar_range (number_long s z is) t = is.2
 scalar_range (number_double s p is) t = double_at _ _ _ _ _ _ p is
 scalar_range (binary s k bytes n is byte) t =
     let fits : n < 256 = (hex_bytes k 1 (n ∷ []) (sized_to 1 k (n ∷ []) byte refl)).1 0 in
-    (subst (λ m. m < 256) (sym (subtype_byte-of n)) fits, base64_bytes s bytes is)
-scalar_range (uuid s id is) t = let byte : 4 < 256 = omega arith in (byte, hyphenated_bytes s id is)
+    (subst (λ m. m < 256) (sym (subtype_byte-of n)) fits, is.0)
+scalar_range (uuid s id is) t = let byte : 4 < 256 = omega arith in (byte, (hex_bytes is.0 16 id (sized_to 16 is.0 id is.1.0 is.1.1)).1)
 scalar_range (timestamp i e m n i_is e_is) t = (small_range (whole e) n e_is, small_range (whole i) m i_is)
 scalar_range (date_of_millis s z is) t = is.2
 scalar_range (date_of_text s z is) t = named_fits s z is

@@ -1,9 +1,7 @@
--- What the decoders of base64, hexadecimal digits and UUIDs give is bytes.
+-- What the decoders of base64 and hexadecimal digits give is bytes.
 use Rattle.std.proofs.Common.{◌≡◌, ◌<◌, ◌+◌, ◌*◌, ◌/◌, ◌%◌, ◌==◌, inl, inr, ℕ, zero, suc, nat_lt, List, [], ◌∷◌, ◌++◌, length, take, slice_index, slice_set, Bool, true, false, cond, Option, Some, None, Result, Ok, Err, refl, sym, ◌∙◌, subst, arith}
-use Rattle.std.proofs.lemmas.Bool.{cases_lt, cases_eq, and_parts, eqb-true}
-use Rattle.std.proofs.lemmas.Bool.Decides.{nat_tests}
+use Rattle.std.proofs.lemmas.Bool.{cases_lt, cases_eq}
 use Rattle.std.proofs.lemmas.List.{get_or-set_same, get_or-set_other, set_past, get_or_past}
-use Rattle.std.specs.List.{list_all}
 use Rattle.hex.specs.Hex.{IsBytes, decode_sized}
 use Rattle.hex.proofs.HexLemmas.{decode_of-ok, decode_sized-ok, decode_sized-twice}
 use Rattle.base64.specs.declared.decode.DecodeError.{DecodeError}
@@ -11,8 +9,6 @@ use Rattle.base64.specs.Decode.{IsDecodeTable, decode_group, decode_outcome, gro
 use Rattle.base64.specs.GeneralPurpose.{decode_of}
 use Rattle.base64.specs.Engines.{standard}
 use Rattle.base64.proofs.Tables.{are_tables_inverse, IsDecodeTable_from}
-use Rattle.uuid.specs.Text.{by_index, byte_of_digits, is_hex_digit, value_of, digits_of, parsed_simple, parsed_hyphenated}
-use Rattle.uuid.proofs.TextLemmas.{by_index_at, by_index_length}
 
 -- ---- lists of bytes
 
@@ -157,36 +153,3 @@ base64_bytes s bytes h =
     let g = or_else_none (groups_error dec s (groups_before_last (length s))) _ parts.1 in
     let q = groups_before_last (length s) in
     subst IsBytes p.1 (joined_bytes (groups_bytes dec s q) (suffix_bytes dec pad (4 * q) s) (groups_are dec table refl s q g.0) (suffix_is dec table refl pad (4 * q) s))
-
--- ---- UUIDs
-
-each_digit : (s : List ℕ) (k : ℕ) → list_all is_hex_digit s ≡ true → k < length s → is_hex_digit (slice_index s k) ≡ true
-each_digit [] k h lt = absurd (omega arith)
-each_digit (c ∷ s) zero h lt = (and_parts _ _ h).0
-each_digit (c ∷ s) (suc k) h lt = each_digit s k (and_parts _ _ h).1 (omega arith)
-
-digit_small : (c : ℕ) → is_hex_digit c ≡ true → value_of c < 16
-digit_small c h = grind (arith, nat_tests)
-
-guarded : (b : Bool) (o : Option (List ℕ)) (id : List ℕ) → cond b o None ≡ Some id → (b ≡ true) × (o ≡ Some id)
-guarded true o id h = (refl, h)
-guarded false o id h = absurd cc
-
-un_some : (x y : List ℕ) → Some x ≡ Some y → x ≡ y
-un_some x y h = cc
-
-simple_bytes : (s id : List ℕ) → parsed_simple s ≡ Some id → IsBytes id
-simple_bytes s id h =
-    let g = guarded _ _ id h in
-    let p = and_parts _ _ g.0 in
-    let size = eqb-true (length s) 32 p.0 in
-    subst IsBytes (un_some _ id g.1) (λ i. elim (cases_lt i 16) [
-      | inl lt ↦
-          let high = digit_small (slice_index s (2 * i)) (each_digit s (2 * i) p.1 (omega (arith, size))) in
-          let low = digit_small (slice_index s (2 * i + 1)) (each_digit s (2 * i + 1) p.1 (omega (arith, size))) in
-          rw (by_index_at 16 (byte_of_digits s) i 0 lt) (omega (arith, high, low))
-      | inr past ↦ rw (get_or_past (by_index 16 (byte_of_digits s)) i 0 (omega (arith, by_index_length 16 (byte_of_digits s)))) (omega arith)
-    ])
-
-pub hyphenated_bytes : (s id : List ℕ) → parsed_hyphenated s ≡ Some id → IsBytes id
-hyphenated_bytes s id h = simple_bytes (digits_of s) id (guarded _ (parsed_simple (digits_of s)) id h).1

@@ -6,6 +6,7 @@ pub mod Sorting
 pub mod SortedText
 pub mod IdOrderParts
 pub mod HexLaws
+pub mod UuidLaws
 pub mod Base64Laws
 pub mod ByteRanges
 pub mod Offered

@@ -1,4 +1,6 @@
 -- The laws that the crates above use. No other file of these proofs is cited from outside.
-pub use Rattle.bson_scalar.proofs.ByteRanges.{base64_bytes, hex_bytes, hyphenated_bytes}
+pub use Rattle.bson_scalar.proofs.Base64Laws.{base64_to, padded}
+pub use Rattle.bson_scalar.proofs.ByteRanges.{base64_bytes, hex_bytes}
 pub use Rattle.bson_scalar.proofs.HexLaws.{sized_from, sized_to}
 pub use Rattle.bson_scalar.proofs.SortedText.{sorted_text-again}
+pub use Rattle.bson_scalar.proofs.UuidLaws.{hyphenated_from, hyphenated_to, long_is_hyphenated, parsed_from, parsed_to}

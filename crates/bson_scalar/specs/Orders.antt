@@ -1,12 +1,12 @@
 -- The four byte orders of a UUID.
-use Rattle.std.specs.Prelude.{◌≡◌, ℕ, List, [], ◌∷◌, Some, map, slice_index}
+use Rattle.std.specs.Prelude.{◌≡◌, ℕ, List, [], ◌∷◌, map, slice_index}
 use Rattle.bson_scalar.specs.declared.uuid_value.UuidRepresentation.{UuidRepresentation}
 use Rattle.bson_scalar.specs.declared.uuid_value.UuidRepresentation.TheVariants.{Standard, CSharpLegacy, JavaLegacy}
 use Rattle.bson_scalar.specs.declared.spec.BinarySubtype.{BinarySubtype}
 use Rattle.bson_scalar.specs.declared.spec.BinarySubtype.TheVariants.{UuidOld, Uuid}
 use Rattle.bson_scalar.specs.declared.uuid_value.Error.{Error}
 use Rattle.bson_scalar.specs.declared.uuid_value.Error.TheVariants.{InvalidUuidString, RepresentationMismatch, InvalidLength}
-pub use Rattle.uuid.specs.Text.{parsed, parsed_hyphenated, hyphenated_text, lower}
+pub use Rattle.uuid.specs.Text.{parsed_hyphenated, hyphenated_text, lower}
 
 -- the place that each byte comes from: 0-3, 4-5 and 6-7 each reversed, or 0-7 and 8-15
 abbrev pub places_of : UuidRepresentation → List ℕ
@@ -22,10 +22,6 @@ ordered r xs = map (slice_index xs) (places_of r)
 abbrev pub subtype_for : UuidRepresentation → BinarySubtype
 subtype_for Standard = Uuid
 subtype_for _ = UuidOld
-
--- what the `uuid` crate reads in a text
-abbrev pub IsUuidText : List ℕ → List ℕ → Type 0
-IsUuidText text id = parsed text ≡ Some id
 
 -- which error it is, and what it tells
 abbrev pub IsInvalidUuidString : Error → Type 0

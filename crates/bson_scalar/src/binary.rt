@@ -1,8 +1,7 @@
 //! Binaries: bytes with a subtype (BSON 1.1, type 0x05), their base64 texts (RFC 4648 section 4), and
 //! the UUIDs and vectors that they hold.
 ghost use Rattle.std.specs.Prelude.{◌≡◌, ◌≢◌, ◌⊎◌, ◌↔◌, ◌≤◌, ℕ, List, Some, IfErr, IfOk, IsOk, OnOk, length, true, unwrap_or, vec_len};
-ghost use Rattle.bson_scalar.specs.Base64.{IsBase64, base64_text, padded_text};
-ghost use Rattle.bson_scalar.specs.Oid.{IsBytes};
+ghost use Rattle.bson_scalar.specs.Base64.{IsBase64, base64_text};
 ghost use Rattle.bson_scalar.specs.Fault.{IsDecodingError, IsOutOfMemory};
 ghost use Rattle.bson_scalar.specs.Orders.{ordered, subtype_for};
 ghost use Rattle.bson_scalar.specs.VectorData.{IsInRange, IsOnlyOne, vector_held, vector_view};
@@ -67,9 +66,6 @@ impl Binary {
     pub fn from_base64(alloc: Global, text: &str, subtype: Option<BinarySubtype>) -> Result<Binary>
         ensures subtype { IfOk result (λ b. b.subtype ≡ unwrap_or subtype BinarySubtype.Generic) }
         ensures ok { IfOk result (λ b. IsBase64 text.now b.bytes.items) }
-
-        // Bytes have one text, the padded one of RFC 4648 section 4.
-        ensures standard { (bytes : List ℕ) → IsBytes bytes → IsBase64 text.now bytes ↔ (text.now ≡ padded_text bytes) }
 
         // No text that is base64 is refused.
         ensures err { IfErr result (λ e. IsOutOfMemory e ⊎ (IsDecodingError e × ((bytes : List ℕ) → ¬ (IsBase64 text.now bytes)))) }

@@ -1,7 +1,7 @@
 //! UUIDs and their texts (RFC 9562), which the library names `uuid`.
-ghost use Rattle.std.specs.Prelude.{◌≡◌, ℕ, List, Some, IfOk, IfErr};
-ghost use Rattle.bson_scalar.specs.Uuid.{IsUuid};
-ghost use Rattle.bson_scalar.specs.Orders.{IsUuidText, hyphenated_text, lower};
+ghost use Rattle.std.specs.Prelude.{◌≡◌, ℕ, List, Ok, Some, IfOk, IfErr};
+ghost use Rattle.bson_scalar.specs.Uuid.{IsUuid, IsUuidText};
+ghost use Rattle.bson_scalar.specs.Orders.{hyphenated_text, lower};
 
 use crate::spec::BinarySubtype;
 use std::fmt;
@@ -81,12 +81,13 @@ impl Uuid {
         Uuid { bytes }
     }
 
-    /// Reads 32 hexadecimal digits of either case: alone, hyphenated as 8-4-4-4-12, and hyphenated in
-    /// braces or after `urn:uuid:`, whose letters may be of either case too. Any other text is
-    /// `InvalidUuidString`.
+    /// Reads 32 hexadecimal digits of either case (RFC 9562 section 4): alone, hyphenated as
+    /// 8-4-4-4-12, and hyphenated in braces or after `urn:uuid:`, whose letters may be of either case
+    /// too (RFC 8141 section 3.1). Any other text is `InvalidUuidString`.
     pub fn parse_str(text: &str) -> Result<Uuid>
         ensures ok { IfOk result (λ id. IsUuidText text.now id) }
-        ensures err { IfErr result (λ e. IsInvalidUuidString e × ((id : List ℕ) → ¬ (IsUuidText text.now id))) }
+        ensures valid { (id : List ℕ) → IsUuidText text.now id → result ≡ Ok id }
+        ensures err { IfErr result IsInvalidUuidString }
     {
         match uuid::Uuid::parse_str(text) {
             Ok(id) => Ok(Uuid {

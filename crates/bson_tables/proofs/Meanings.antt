@@ -7,9 +7,9 @@ use Rattle.bson_leaf.specs.Scalar as kind
 use Rattle.bson_leaf.specs.Shapes.{object_of_one, object_of_two}
 use Rattle.bson_scalar.specs.Base64.{IsBase64}
 use Rattle.bson_scalar.specs.Oid.{IsOidText}
-use Rattle.bson_leaf.specs.Binaries.{IsHyphenatedText}
 use Rattle.bson_scalar.specs.Regex.{sorted_text}
 use Rattle.bson_scalar.specs.Subtype.{subtype_of}
+use Rattle.bson_scalar.specs.Uuid.{IsHyphenatedText}
 use Rattle.bson_scalar.specs.declared.spec.BinarySubtype.TheVariants.{Uuid}
 use Rattle.bson_datetime.specs.Grammar.{Names}
 use Rattle.bson_decimal.specs.Text.{Parses}

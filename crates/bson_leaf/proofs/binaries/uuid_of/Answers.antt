@@ -1,14 +1,19 @@
-use Rattle.std.proofs.Common.{◌≡◌, List, ℕ, length, Option, Some, None, refl, ◌∙◌, arith}
-use Rattle.bson_scalar.specs.Orders.{parsed, parsed_hyphenated}
+use Rattle.std.proofs.Common.{◌≡◌, List, ℕ, Option, Some, None, refl, sym, arith}
+use Rattle.bson_scalar.specs.Orders.{parsed_hyphenated}
+use Rattle.bson_scalar.specs.Uuid.{hyphenated}
+use Rattle.bson_scalar.proofs.Offered.{hyphenated_from, hyphenated_to, long_is_hyphenated}
 use Rattle.bson_leaf.proofs.binaries.uuid_of.Goals as goal
 
 none : (o : Option (List ℕ)) → ((id : List ℕ) → ¬ (o ≡ Some id)) → None ≡ o
 none None h = refl
 none (Some id) h = absurd (h id refl)
 
--- a text of 36 bytes is read in the hyphenated form alone
-at_36 : (s : List ℕ) → length s ≡ 36 → parsed s ≡ parsed_hyphenated s
-at_36 s long = rw long refl
+pub returns-in-Ok : goal.returns-in-Ok
+returns-in-Ok c =
+    let text = c.args.text.now in
+    sym (hyphenated_to text c.in-Ok.id (long_is_hyphenated text c.in-Ok.id (omega arith) c.in-Ok.ensures.ok))
 
 pub returns-in-Err : goal.returns-in-Err
-returns-in-Err c = none (parsed c.args.text.now) c.in-Err.ensures.err.1 ∙ at_36 c.args.text.now (omega arith)
+returns-in-Err c =
+    let text = c.args.text.now in
+    none (parsed_hyphenated text) (λ id read. cc (c.in-Err.ensures.valid id (hyphenated text id (hyphenated_from text id read))))
