@@ -6,3 +6,4 @@ pub mod Standards
 pub mod Dates
 pub mod Words
 pub mod Displays
+pub mod Spellings

@@ -1,0 +1,139 @@
+-- Rows of the texts of UUIDs (the example of RFC 9562 section 4) and of base64 (the vectors of RFC 4648 section 10).
+use Rattle.std.proofs.Common.{◌≡◌, ℕ, List, [], ◌∷◌, Some, None, refl, sym, ◌∙◌}
+use Rattle.std.specs.Prelude.{codes}
+use Rattle.base64.specs.Decode.{groups_error, groups_bytes, scan_steps}
+use Rattle.hex.specs.Hex.{decode_pairs}
+use Rattle.uuid.specs.Text.{by_index, parsed}
+use Rattle.bson_scalar.specs.Base64.{padded_text}
+use Rattle.bson_scalar.specs.Uuid.{IsUuidText}
+use Rattle.bson_scalar.specs.declared.spec.BinarySubtype.TheVariants.{Generic, Uuid}
+use Rattle.bson_scalar.proofs.Offered.{parsed_from, parsed_to}
+use Rattle.serde_json.specs.Data.{Data}
+use Rattle.serde_json.specs.Data as tree
+use Rattle.bson_leaf.specs.Faults.{wrong_shape}
+use Rattle.bson_leaf.specs.Scalar as kind
+use Rattle.bson_leaf.specs.Shapes.{object_of_one, object_of_two}
+use Rattle.bson_model.specs.Fault.{fault_of, MeansNothing}
+use Rattle.bson_model.specs.Means.{Means}
+use Rattle.bson_model.specs.Value as model
+use Rattle.bson_tables.proofs.Shapes.{row, none}
+
+-- ---- UUIDs
+
+example : List ℕ
+example = 0xf8 ∷ 0x1d ∷ 0x4f ∷ 0xae ∷ 0x7d ∷ 0xec ∷ 0x11 ∷ 0xd0 ∷ 0xa7 ∷ 0x65 ∷ 0x00 ∷ 0xa0 ∷ 0xc9 ∷ 0x1e ∷ 0x6b ∷ 0xf6 ∷ []
+
+digits_alone : IsUuidText (codes "f81d4fae7dec11d0a76500a0c91e6bf6") example
+unfolding example by_index
+digits_alone = parsed_from _ _ refl
+
+hyphenated : IsUuidText (codes "f81d4fae-7dec-11d0-a765-00a0c91e6bf6") example
+unfolding example by_index
+hyphenated = parsed_from _ _ refl
+
+upper_case : IsUuidText (codes "F81D4FAE-7DEC-11D0-A765-00A0C91E6BF6") example
+unfolding example by_index
+upper_case = parsed_from _ _ refl
+
+braced : IsUuidText (codes "{f81d4fae-7dec-11d0-a765-00a0c91e6bf6}") example
+unfolding example by_index
+braced = parsed_from _ _ refl
+
+urn : IsUuidText (codes "urn:uuid:f81d4fae-7dec-11d0-a765-00a0c91e6bf6") example
+unfolding example by_index
+urn = parsed_from _ _ refl
+
+upper_urn : IsUuidText (codes "URN:UUID:f81d4fae-7dec-11d0-a765-00a0c91e6bf6") example
+unfolding example by_index
+upper_urn = parsed_from _ _ refl
+
+IsNoUuid : List ℕ → Type 0
+IsNoUuid text = (id : List ℕ) → ¬ (IsUuidText text id)
+
+no_uuid : (text : List ℕ) → parsed text ≡ None → IsNoUuid text
+unfolding IsNoUuid
+no_uuid text e id is = let both : None ≡ Some id = sym e ∙ parsed_to is in cc
+
+hyphen_at_7 : IsNoUuid (codes "f81d4fa-e7dec-11d0-a765-00a0c91e6bf6")
+hyphen_at_7 = no_uuid _ refl
+
+no_digit : IsNoUuid (codes "g81d4fae7dec11d0a76500a0c91e6bf6")
+no_digit = no_uuid _ refl
+
+braced_digits : IsNoUuid (codes "{f81d4fae7dec11d0a76500a0c91e6bf6}")
+braced_digits = no_uuid _ refl
+
+other_prefix : IsNoUuid (codes "urn:guid:f81d4fae-7dec-11d0-a765-00a0c91e6bf6")
+other_prefix = no_uuid _ refl
+
+-- ---- `$uuid` takes the hyphenated spelling alone
+
+abbrev uuid_tree : List ℕ → Data
+uuid_tree text = object_of_one (codes "$uuid") (tree.string text)
+
+abbrev IsRefused : Data → Type 0
+IsRefused t = MeansNothing t × (fault_of t ≡ wrong_shape)
+
+wrapped_upper_case : Means (uuid_tree (codes "F81D4FAE-7DEC-11D0-A765-00A0C91E6BF6")) (model.scalar (kind.binary Uuid example))
+unfolding example by_index
+wrapped_upper_case = row _ _ refl
+
+wrapped_digits : IsRefused (uuid_tree (codes "f81d4fae7dec11d0a76500a0c91e6bf6"))
+wrapped_digits = (none _ wrong_shape refl, refl)
+
+wrapped_braces : IsRefused (uuid_tree (codes "{f81d4fae-7dec-11d0-a765-00a0c91e6bf6}"))
+wrapped_braces = (none _ wrong_shape refl, refl)
+
+wrapped_urn : IsRefused (uuid_tree (codes "urn:uuid:f81d4fae-7dec-11d0-a765-00a0c91e6bf6"))
+wrapped_urn = (none _ wrong_shape refl, refl)
+
+wrapped_hyphen_at_7 : IsRefused (uuid_tree (codes "f81d4fa-e7dec-11d0-a765-00a0c91e6bf6"))
+wrapped_hyphen_at_7 = (none _ wrong_shape refl, refl)
+
+-- ---- base64
+
+vectors : (padded_text [] ≡ []) × (padded_text (codes "f") ≡ codes "Zg==") × (padded_text (codes "fo") ≡ codes "Zm8=")
+    × (padded_text (codes "foo") ≡ codes "Zm9v") × (padded_text (codes "foob") ≡ codes "Zm9vYg==")
+    × (padded_text (codes "fooba") ≡ codes "Zm9vYmE=") × (padded_text (codes "foobar") ≡ codes "Zm9vYmFy")
+vectors = (refl, refl, refl, refl, refl, refl, refl)
+
+-- the digits of 62 and 63
+last_digits : padded_text (0xfb ∷ 0xff ∷ []) ≡ codes "+/8="
+last_digits = refl
+
+abbrev binary_tree : List ℕ → Data
+binary_tree text = object_of_one (codes "$binary") (object_of_two (codes "base64") (tree.string text) (codes "subType") (tree.string (codes "00")))
+
+padding_of_two : Means (binary_tree (codes "Zm9vYg==")) (model.scalar (kind.binary Generic (codes "foob")))
+unfolding groups_error groups_bytes scan_steps decode_pairs
+padding_of_two = row _ _ refl
+
+no_padding_due : Means (binary_tree (codes "Zm9vYmFy")) (model.scalar (kind.binary Generic (codes "foobar")))
+unfolding groups_error groups_bytes scan_steps decode_pairs
+no_padding_due = row _ _ refl
+
+without_padding : IsRefused (binary_tree (codes "Zm9vYg"))
+unfolding groups_error groups_bytes scan_steps decode_pairs
+without_padding = (none _ wrong_shape refl, refl)
+
+half_padding : IsRefused (binary_tree (codes "Zm9vYg="))
+unfolding groups_error groups_bytes scan_steps decode_pairs
+half_padding = (none _ wrong_shape refl, refl)
+
+-- the digit before the padding has bits left over, which must be zero
+bits_left_over : IsRefused (binary_tree (codes "Zh=="))
+unfolding groups_error groups_bytes scan_steps decode_pairs
+bits_left_over = (none _ wrong_shape refl, refl)
+
+other_alphabet : IsRefused (binary_tree (codes "-_8="))
+unfolding groups_error groups_bytes scan_steps decode_pairs
+other_alphabet = (none _ wrong_shape refl, refl)
+
+blank : IsRefused (binary_tree (codes "Zm9v "))
+unfolding groups_error groups_bytes scan_steps decode_pairs
+blank = (none _ wrong_shape refl, refl)
+
+-- numbers that are no bytes
+no_characters : IsRefused (binary_tree (256 ∷ 256 ∷ 256 ∷ 256 ∷ []))
+unfolding groups_error groups_bytes scan_steps decode_pairs
+no_characters = (none _ wrong_shape refl, refl)
