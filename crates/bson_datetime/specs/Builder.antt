@@ -1,5 +1,5 @@
 -- What a builder holds.
-use Rattle.std.specs.Prelude.{None, unwrap_or}
+use Rattle.std.specs.Prelude.{ℕ, ℤ, None, Some, unwrap_or}
 use Rattle.bson_datetime.specs.Moment.{Civil}
 use Rattle.bson_datetime.specs.declared.builder.DateTimeBuilder.{DateTimeBuilder}
 use Rattle.bson_datetime.specs.declared.builder.NoYear.{NoYear}
@@ -20,6 +20,54 @@ unset = record {
   second = None;
   millisecond = None;
 }
+
+-- a builder that is told one thing more; what else it was told stays
+abbrev pub with_year : {M D : Type 0} → ℤ → DateTimeBuilder NoYear M D → DateTimeBuilder Year M D
+with_year n b = record {
+  year = record { value = n };
+  month = b.month;
+  day = b.day;
+  hour = b.hour;
+  minute = b.minute;
+  second = b.second;
+  millisecond = b.millisecond;
+}
+
+abbrev pub with_month : {Y D : Type 0} → ℕ → DateTimeBuilder Y NoMonth D → DateTimeBuilder Y Month D
+with_month n b = record {
+  year = b.year;
+  month = record { value = n };
+  day = b.day;
+  hour = b.hour;
+  minute = b.minute;
+  second = b.second;
+  millisecond = b.millisecond;
+}
+
+abbrev pub with_day : {Y M : Type 0} → ℕ → DateTimeBuilder Y M NoDay → DateTimeBuilder Y M Day
+with_day n b = record {
+  year = b.year;
+  month = b.month;
+  day = record { value = n };
+  hour = b.hour;
+  minute = b.minute;
+  second = b.second;
+  millisecond = b.millisecond;
+}
+
+-- the time of day: the last that it is told counts
+module _ {Y M D : Type 0} where
+  abbrev pub with_hour : ℕ → DateTimeBuilder Y M D → DateTimeBuilder Y M D
+  with_hour n b = record b { hour = Some n }
+
+  abbrev pub with_minute : ℕ → DateTimeBuilder Y M D → DateTimeBuilder Y M D
+  with_minute n b = record b { minute = Some n }
+
+  abbrev pub with_second : ℕ → DateTimeBuilder Y M D → DateTimeBuilder Y M D
+  with_second n b = record b { second = Some n }
+
+  abbrev pub with_millisecond : ℕ → DateTimeBuilder Y M D → DateTimeBuilder Y M D
+  with_millisecond n b = record b { millisecond = Some n }
 
 -- the date and time that a full builder was told; what was not set of the time is 0
 abbrev pub told : DateTimeBuilder Year Month Day → Civil

@@ -1,5 +1,5 @@
 //! A builder of moments whose states are types: `build` can be called once year, month and day are set.
-ghost use Rattle.std.specs.Prelude.{◌≡◌, ◌↔◌, None, Some, IsOk, IfOk, IfErr};
+ghost use Rattle.std.specs.Prelude.{◌≡◌, ◌↔◌, IsOk, IfOk, IfErr};
 ghost use Rattle.jiff.specs.Words.{IsEpochDay};
 ghost use Rattle.jiff_core.specs.Calendar.{IsCivilDate, days_from_civil};
 ghost use Rattle.bson_datetime.specs.Errors.{IsInvalidFor, IsInvalidTimestamp};
@@ -72,10 +72,11 @@ impl Default for DateTimeBuilder<NoYear, NoMonth, NoDay> {
 }
 
 impl<M, D> DateTimeBuilder<NoYear, M, D> {
+    ghost use Rattle.bson_datetime.specs.Builder.{with_year};
+
     /// Sets the year, from -9999 to 9999.
     pub fn year(self, year: i32) -> DateTimeBuilder<Year, M, D>
-        ensures { result
-            ≡ record { year = record { value = year }; month = self.month; day = self.day; hour = self.hour; minute = self.minute; second = self.second; millisecond = self.millisecond } }
+        ensures { result ≡ with_year year self }
     {
         let DateTimeBuilder {
             year: _,
@@ -99,10 +100,11 @@ impl<M, D> DateTimeBuilder<NoYear, M, D> {
 }
 
 impl<Y, D> DateTimeBuilder<Y, NoMonth, D> {
+    ghost use Rattle.bson_datetime.specs.Builder.{with_month};
+
     /// Sets the month, from 1 for January to 12 for December.
     pub fn month(self, month: u8) -> DateTimeBuilder<Y, Month, D>
-        ensures { result
-            ≡ record { year = self.year; month = record { value = month }; day = self.day; hour = self.hour; minute = self.minute; second = self.second; millisecond = self.millisecond } }
+        ensures { result ≡ with_month month self }
     {
         let DateTimeBuilder {
             year,
@@ -126,10 +128,11 @@ impl<Y, D> DateTimeBuilder<Y, NoMonth, D> {
 }
 
 impl<Y, M> DateTimeBuilder<Y, M, NoDay> {
+    ghost use Rattle.bson_datetime.specs.Builder.{with_day};
+
     /// Sets the day of the month, from 1 to the last that the month has.
     pub fn day(self, day: u8) -> DateTimeBuilder<Y, M, Day>
-        ensures { result
-            ≡ record { year = self.year; month = self.month; day = record { value = day }; hour = self.hour; minute = self.minute; second = self.second; millisecond = self.millisecond } }
+        ensures { result ≡ with_day day self }
     {
         let DateTimeBuilder {
             year,
@@ -153,9 +156,12 @@ impl<Y, M> DateTimeBuilder<Y, M, NoDay> {
 }
 
 impl<Y, M, D> DateTimeBuilder<Y, M, D> {
+    ghost use Rattle.bson_datetime.specs.Builder.{with_hour, with_minute, with_second};
+    ghost use Rattle.bson_datetime.specs.Builder.{with_millisecond};
+
     /// Sets the hour, from 0 to 23. The last call counts.
     pub fn hour(mut self, hour: u8) -> DateTimeBuilder<Y, M, D>
-        ensures { result ≡ record self { hour = Some hour } }
+        ensures { result ≡ with_hour hour self }
     {
         self.hour = Some(hour);
         self
@@ -163,7 +169,7 @@ impl<Y, M, D> DateTimeBuilder<Y, M, D> {
 
     /// Sets the minute, from 0 to 59. The last call counts.
     pub fn minute(mut self, minute: u8) -> DateTimeBuilder<Y, M, D>
-        ensures { result ≡ record self { minute = Some minute } }
+        ensures { result ≡ with_minute minute self }
     {
         self.minute = Some(minute);
         self
@@ -171,7 +177,7 @@ impl<Y, M, D> DateTimeBuilder<Y, M, D> {
 
     /// Sets the second, from 0 to 59. The last call counts.
     pub fn second(mut self, second: u8) -> DateTimeBuilder<Y, M, D>
-        ensures { result ≡ record self { second = Some second } }
+        ensures { result ≡ with_second second self }
     {
         self.second = Some(second);
         self
@@ -179,7 +185,7 @@ impl<Y, M, D> DateTimeBuilder<Y, M, D> {
 
     /// Sets the millisecond, from 0 to 999. The last call counts.
     pub fn millisecond(mut self, millisecond: u16) -> DateTimeBuilder<Y, M, D>
-        ensures { result ≡ record self { millisecond = Some millisecond } }
+        ensures { result ≡ with_millisecond millisecond self }
     {
         self.millisecond = Some(millisecond);
         self

@@ -1,5 +1,6 @@
 //! The pairs of a small store, by value.
 ghost use Rattle.std.specs.Prelude.{◌≡◌};
+ghost use Rattle.std.specs.Vec.Iter.{into_iter_items};
 ghost use Rattle.bson_store.specs.Small.{seen};
 
 use crate::small::Pair;
@@ -15,6 +16,7 @@ pub struct IntoIter<V> {
 // The pairs that are still to come.
 impl<V> Model for IntoIter<V> {
     ghost use Rattle.std.specs.Prelude.{ℕ, List};
+    ghost use Rattle.std.specs.Vec.Iter.{into_iter_items};
     ghost use Rattle.bson_store.specs.Pairs.{pairs_code};
     ghost use Rattle.bson_store.specs.Small.{seen};
 
@@ -22,12 +24,12 @@ impl<V> Model for IntoIter<V> {
 
     ghost coded = { pairs_code V.code };
 
-    ghost view = { λ a. seen a.pairs.rest.items };
+    ghost view = { λ a. seen (into_iter_items a.pairs) };
 }
 
 impl<V> IntoIter<V> {
     pub(crate) fn new(pairs: vec::IntoIter<Pair<V>>) -> IntoIter<V>
-        ensures { result ≡ seen pairs.rest.items }
+        ensures { result ≡ seen (into_iter_items pairs) }
     {
         IntoIter { pairs }
     }
