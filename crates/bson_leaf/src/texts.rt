@@ -1,5 +1,5 @@
 //! `$symbol`, and `$code` alone: a text. Read and written as `{"$symbol": "s"}`, `{"$code": "s"}`.
-ghost use Rattle.std.specs.Prelude.{◌≡◌, IfOk, string_bytes};
+ghost use Rattle.std.specs.Prelude.{◌≡◌, IfOk};
 ghost use Rattle.serde_json.specs.View.{view};
 ghost use Rattle.bson_leaf.specs.Faults.{Gives};
 ghost use Rattle.bson_leaf.specs.Reading.{symbol_read, code_read};
@@ -8,9 +8,11 @@ ghost use Rattle.bson_leaf.specs.View.{leaf_view};
 
 use crate::error::Error;
 use crate::leaf::Leaf;
-use crate::shapes::{text_in, wrapped};
+use crate::shapes::text_in;
+use crate::sink::Sink;
+use crate::wrapped::wrapped_text;
 use serde_json::Value;
-use std::alloc::{AllocError, Global};
+use std::alloc::AllocError;
 
 /// What `$symbol` holds, as a symbol.
 pub fn read_symbol(value: Value) -> Result<Leaf, Error>
@@ -26,16 +28,16 @@ pub fn read_code(value: Value) -> Result<Leaf, Error>
     Ok(Leaf::JavaScriptCode(text_in(value, "`$code` holds a text")?))
 }
 
-/// The tree of a symbol, in both forms.
-pub fn write_symbol(alloc: Global, text: String) -> Result<Value, AllocError>
-    ensures { IfOk result (λ t. view t ≡ symbol_tree (string_bytes text)) }
+/// Writes the tree of a symbol, in both forms.
+pub fn write_symbol<S: Sink>(text: &str, out: &mut S) -> Result<S::Tree, AllocError>
+    ensures { IfOk result (λ t. S.wrote out.old (symbol_tree text.now) t out.new) }
 {
-    wrapped(alloc, "$symbol", Value::String(text))
+    wrapped_text("$symbol", text, out)
 }
 
-/// The tree of code without a scope, in both forms.
-pub fn write_code(alloc: Global, text: String) -> Result<Value, AllocError>
-    ensures { IfOk result (λ t. view t ≡ code_tree (string_bytes text)) }
+/// Writes the tree of code without a scope, in both forms.
+pub fn write_code<S: Sink>(text: &str, out: &mut S) -> Result<S::Tree, AllocError>
+    ensures { IfOk result (λ t. S.wrote out.old (code_tree text.now) t out.new) }
 {
-    wrapped(alloc, "$code", Value::String(text))
+    wrapped_text("$code", text, out)
 }
