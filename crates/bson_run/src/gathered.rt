@@ -179,7 +179,8 @@ impl Gathered {
 
     /// The place of the fault in the line that is being gathered, unless memory is wanting for it.
     pub fn place_of(&self, alloc: Global, fault: Fault) -> String
-        ensures place { IsBadText fault (text_of self.now.lines self.now.line.items) → IsWhere fault (text_of self.now.lines self.now.line.items) (string_bytes result) ⊎ (string_bytes result ≡ []) }
+        ensures place { IsBadText fault (text_of self.now.lines self.now.line.items)
+            → IsWhere fault (text_of self.now.lines self.now.line.items) (string_bytes result) ⊎ (string_bytes result ≡ []) }
         ensures bare { IsOfNoText fault → string_bytes result ≡ [] }
     {
         match explain(alloc, fault, text(self.lines, &self.line)) {

@@ -66,7 +66,9 @@ pub fn run_lines_explained<R: Read, W: Write, T: Write>(
 ) -> Result<Counts, Refusal>
     ensures done { IfOk result (λ counts. DoneLines task on_refusal (R.remaining reader.old) (R.remaining reader.new) (W.contents writer.old) (W.contents writer.new) (T.contents report.old) (T.contents report.new) counts.lines counts.refused) }
     ensures fails { IfErr result (λ e. FailsAt e.at.fault task on_refusal (R.remaining reader.old) (R.remaining reader.new) (W.contents writer.old) (W.contents writer.new) (T.contents report.old) (T.contents report.new) e.at.line) }
-    ensures place { IfErr result (λ e. FailsWith (string_bytes e.place) e.at.fault task on_refusal (R.remaining reader.old) (R.remaining reader.new) (W.contents writer.old) (W.contents writer.new) (T.contents report.old) (T.contents report.new) e.at.line) }
+    ensures place { IfErr result (λ e. FailsWith (string_bytes e.place) e.at.fault task on_refusal
+        (R.remaining reader.old) (R.remaining reader.new) (W.contents writer.old) (W.contents writer.new)
+        (T.contents report.old) (T.contents report.new) e.at.line) }
     ensures bare { IfErr result (λ e. IsOfNoText e.at.fault → string_bytes e.place ≡ []) }
 {
     let mut gathered = Gathered::new(alloc);
