@@ -28,7 +28,8 @@ pub(crate) fn find_in<V>(pairs: &Vec<Pair<V>>, key: &str) -> Option<usize>
 
 // Puts a copy of the key in the map, at the place.
 fn add(places: &mut BTreeMap<String, usize>, key: &String, at: usize) -> Result<(), AllocError>
-    ensures ok { OnOk result ((k : List ℕ) → get_by_text places.new k ≡ update bytes_eq (get_by_text places.old) (string_bytes key.now) (Some at) k) }
+    ensures ok { OnOk result ((k : List ℕ) → get_by_text places.new k
+        ≡ update bytes_eq (get_by_text places.old) (string_bytes key.now) (Some at) k) }
     ensures err { OnErr result ((k : List ℕ) → get_by_text places.new k ≡ get_by_text places.old k) }
 {
     match places.insert(key.clone()?, at) {
@@ -80,7 +81,8 @@ pub(crate) fn place_next<V>(
 // Lowers by one each place behind the one that was left.
 fn lower<V>(places: &mut BTreeMap<String, usize>, pairs: &Vec<Pair<V>>, at: usize)
     requires distinct { HasDistinctKeys (seen pairs.now.items) }
-    requires raised { (k : List ℕ) → get_by_text places.old k ≡ option_map (raise at) (place_of k (seen pairs.now.items)) }
+    requires raised { (k : List ℕ) → get_by_text places.old k
+        ≡ option_map (raise at) (place_of k (seen pairs.now.items)) }
     ensures { HasPlaces places.new (seen pairs.now.items) }
 {
     for i in at..pairs.len() {
@@ -98,7 +100,8 @@ pub(crate) fn take_place<V>(
     key: &str,
     at: usize,
 )
-    requires { (ps : List (List ℕ × V)) × (v : V) × (slice_get ps at ≡ Some (key.now, v)) × (seen pairs.now.items ≡ remove ps at) × IsIndexed ps places.old }
+    requires { (ps : List (List ℕ × V)) × (v : V) × (slice_get ps at ≡ Some (key.now, v))
+        × (seen pairs.now.items ≡ remove ps at) × IsIndexed ps places.old }
     ensures { IsIndexed (seen pairs.now.items) places.new }
 {
     if pairs.len() <= FEW {

@@ -29,7 +29,8 @@ fn run_one<V: Drop, S: PairStore<V>>(
     store: &mut S,
     command: Command<V>,
 ) -> Result<Option<V>, (String, V)>
-    ensures ok { IfOk result (λ r. (r ≡ reply command (S.pairs store.old)) × (S.pairs store.new ≡ step command (S.pairs store.old))) }
+    ensures ok { IfOk result (λ r. (r ≡ reply command (S.pairs store.old))
+        × (S.pairs store.new ≡ step command (S.pairs store.old))) }
     ensures err { OnErr result (S.pairs store.new ≡ S.pairs store.old) }
 {
     match command {
@@ -50,7 +51,8 @@ pub fn replay<V: Drop, S: PairStore<V>>(
     store: &mut S,
     commands: Vec<Command<V>>,
 ) -> Result<Vec<Option<V>>, Stopped>
-    ensures ok { IfOk result (λ rs. (rs.items ≡ replies commands.items (S.pairs store.old)) × (S.pairs store.new ≡ after commands.items (S.pairs store.old))) }
+    ensures ok { IfOk result (λ rs. (rs.items ≡ replies commands.items (S.pairs store.old))
+        × (S.pairs store.new ≡ after commands.items (S.pairs store.old))) }
 
     // Out of memory.
     ensures err { IfErr result (λ s. S.pairs store.new ≡ after (take s.done commands.items) (S.pairs store.old)) }

@@ -97,7 +97,8 @@ impl<V> SmallPairs<V> {
     where
         V: Drop,
         ensures in_bounds { IfSome result (λ i. i < length self.now) }
-        ensures least { IsLeast (option_map (λ s. string_bytes s.now) last.entry) self.now (option_and_then (slice_get self.now) result) }
+        ensures least { IsLeast (option_map (λ s. string_bytes s.now) last.entry) self.now
+            (option_and_then (slice_get self.now) result) }
     {
         match &self.places {
             Some(places) => next_place(places, last),
@@ -114,7 +115,8 @@ impl<V> SmallPairs<V> {
 // The same by a look at each pair.
 fn next_by_walk<V: Drop>(store: &SmallPairs<V>, last: Option<&String>) -> Option<usize>
     ensures in_bounds { IfSome result (λ i. i < length store.now) }
-    ensures least { IsLeast (option_map (λ s. string_bytes s.now) last.entry) store.now (option_and_then (slice_get store.now) result) }
+    ensures least { IsLeast (option_map (λ s. string_bytes s.now) last.entry) store.now
+        (option_and_then (slice_get store.now) result) }
 {
     match last {
         Some(key) => next_above(store, Some(key.as_str())),
