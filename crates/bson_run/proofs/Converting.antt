@@ -11,8 +11,8 @@ use Rattle.bson_run.specs.Convert.{Converts, IsWritten, IsOutput, newline}
 use Rattle.bson_run.specs.declared.mode.Mode.{Mode}
 use Rattle.bson_run.specs.declared.mode.Mode.TheVariants.{Canonical, Relaxed, Show}
 use Rattle.bson_run.specs.declared.fault.Fault.{Fault}
-use Rattle.bson_text.specs.Text.{IsTextOf}
-use Rattle.bson_text.proofs.Offered.{tree_one}
+use Rattle.bson.specs.TextMeaning.{IsTextOf}
+use Rattle.bson.proofs.Offered.{tree_one}
 
 written_one : (f : Form) (v : Value) (a b : List ℕ) → IsWritten f v a → IsWritten f v b → b ≡ a
 written_one f v a b x y = y.line.text ∙ ap (λ t. compact_text t ++ newline) (x.is_tree.one y.tree y.is_tree.written) ∙ sym x.line.text

@@ -6,7 +6,7 @@ use Rattle.bson_model.specs.Fault.{MeansNothing}
 use Rattle.bson_model.specs.Means.{Means}
 use Rattle.bson_model.proofs.Offered.{means_from}
 use Rattle.bson_place.specs.Place.{Turn, HasValue, dotted}
-use Rattle.bson_text.specs.Text.{IsTextOf}
+use Rattle.bson.specs.TextMeaning.{IsTextOf}
 use Rattle.bson_run.specs.Place.{IsShown, at_path}
 
 -- a text with a tree that has a value is not refused

@@ -13,7 +13,7 @@ use Rattle.bson_model.specs.Value.{Value}
 use Rattle.bson_model.specs.Normal.{normal_form}
 use Rattle.bson_model.specs.Written.{Written}
 use Rattle.bson_model.specs.Laws.{HasMeaning, IsTreeOf}
-use Rattle.bson_text.specs.Text.{IsTextOf, IsNoText}
+use Rattle.bson.specs.TextMeaning.{IsTextOf, IsNoText}
 use Rattle.bson_run.specs.declared.mode.Mode.{Mode}
 use Rattle.bson_run.specs.declared.mode.Mode.TheVariants.{Canonical, Relaxed, Show}
 use Rattle.bson_run.specs.declared.fault.Fault.{Fault}

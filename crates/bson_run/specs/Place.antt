@@ -5,7 +5,7 @@ use Rattle.std.specs.Fmt.{decimal}
 use Rattle.serde_json.specs.Data.{Data}
 use Rattle.bson_leaf.specs.Faults.{Fault as TreeFault}
 use Rattle.bson_place.specs.Place.{Turn, FaultAt, dotted}
-use Rattle.bson_text.specs.Text.{IsTextOf}
+use Rattle.bson.specs.TextMeaning.{IsTextOf}
 use Rattle.bson_run.specs.declared.fault.Fault.{Fault}
 use Rattle.bson_run.specs.declared.fault.Fault.TheVariants.{CannotRead, NotJson, BadObjectId, NotExtendedJson, OutOfMemory, CannotWrite}
 

@@ -7,14 +7,13 @@ ghost use Rattle.bson_model.specs.Value as model;
 ghost use Rattle.bson_model.specs.Laws.{IsReadForm};
 ghost use Rattle.bson.specs.View.{bson_view};
 ghost use Rattle.bson_run.specs.Convert.{Converts, IsOutput, IsRefused, newline};
-ghost use Rattle.bson_text.specs.Text.{IsTextOf, HasTextMeaning};
+ghost use Rattle.bson.specs.TextMeaning.{IsTextOf, HasTextMeaning};
 
 use crate::fault::Fault;
 use crate::mode::Mode;
 use bson::Bson;
 use bson::extjson::WriteError;
-use bson::extjson::de::Error;
-use bson_text::{TextError, try_from_text};
+use bson::extjson::de::{Error, TextError};
 use std::alloc::Global;
 
 /// The text that the mode asks for of the one value that the bytes mean, and a newline.
@@ -50,7 +49,7 @@ pub(crate) fn meaning(alloc: Global, bytes: &[u8]) -> Result<Bson, Fault>
     ensures read_form { IfOk result (λ value. IsReadForm (bson_view value)) }
     ensures fault { IfErr result (λ fault. IsRefused fault bytes.now) }
 {
-    match try_from_text(alloc, bytes) {
+    match Bson::try_from_text(alloc, bytes) {
         Ok(value) => Ok(value),
         Err(TextError::NotJson) => Err(Fault::NotJson),
         Err(TextError::NotExtendedJson(Error::InvalidObjectId(_))) => Err(Fault::BadObjectId),

@@ -7,7 +7,7 @@ ghost use Rattle.bson_model.specs.Fault.{MeansNothing};
 ghost use Rattle.bson_place.specs.Place.{way_of};
 ghost use Rattle.bson_run.specs.Lines.{IsBadText};
 ghost use Rattle.bson_run.specs.Place.{IsColumn, IsOfNoText, IsPlaced, IsShown, IsTold, IsVisible, IsWhere};
-ghost use Rattle.bson_text.specs.Text.{IsTextOf, IsNoText};
+ghost use Rattle.bson.specs.TextMeaning.{IsTextOf, IsNoText};
 
 use crate::fault::Fault;
 use bson_place::place::Place;

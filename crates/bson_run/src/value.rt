@@ -5,7 +5,7 @@ ghost use Rattle.bson_model.specs.Value as model;
 ghost use Rattle.bson.specs.View.{bson_view};
 ghost use Rattle.serde_json.specs.Data.{Data};
 ghost use Rattle.bson_run.specs.Convert.{IsRefused};
-ghost use Rattle.bson_text.specs.Text.{HasTextMeaning, IsTextOf};
+ghost use Rattle.bson.specs.TextMeaning.{HasTextMeaning, IsTextOf};
 
 use crate::convert::meaning;
 use crate::fault::Fault;

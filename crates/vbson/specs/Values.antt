@@ -4,7 +4,7 @@ use Rattle.std.specs.Hash.DefaultHasher as sip
 use Rattle.bson_model.specs.Feed.{feed}
 use Rattle.bson_model.specs.Same.{same}
 use Rattle.bson_model.specs.Value.{Value}
-use Rattle.bson_text.specs.Text.{HasTextMeaning}
+use Rattle.bson.specs.TextMeaning.{HasTextMeaning}
 
 -- each text means a value, and these two are the same, or not
 pub record Compare (a b : List ℕ) (are_same : Bool) : Type 0 where

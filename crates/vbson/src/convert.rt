@@ -4,7 +4,7 @@ ghost use Rattle.serde_json.specs.Data.{Data};
 ghost use Rattle.bson_model.specs.Means.{Means};
 ghost use Rattle.bson_model.specs.Value as model;
 ghost use Rattle.bson_run.specs.Convert.{Converts, HasNoMeaning, IsBad, IsBadId, newline};
-ghost use Rattle.bson_text.specs.Text.{IsNoText, IsTextOf};
+ghost use Rattle.bson.specs.TextMeaning.{IsNoText, IsTextOf};
 ghost use Rattle.bson_run.specs.declared.mode.Mode.{Mode};
 ghost use Rattle.vbson.specs.Convert.{IsConverted, IsOfText, mode_at, status_of};
 ghost use Rattle.vbson.specs.Text.{nul};

@@ -1,7 +1,7 @@
 //! Two texts by what they mean.
 ghost use Rattle.std.specs.Prelude.{◌≡◌, ◌⊎◌, ◌<◌, ◌≤◌, true, false};
 ghost use Rattle.bson_run.specs.Convert.{HasNoMeaning, IsBad, IsBadId};
-ghost use Rattle.bson_text.specs.Text.{IsNoText};
+ghost use Rattle.bson.specs.TextMeaning.{IsNoText};
 ghost use Rattle.bson.specs.View.{bson_view};
 ghost use Rattle.bson_model.specs.Same.{same};
 ghost use Rattle.bson_model.specs.Value.{Value};

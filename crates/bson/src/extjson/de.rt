@@ -16,6 +16,7 @@ ghost use Rattle.bson.specs.View.{bson_view, document_view};
 use crate::bson::Bson;
 use crate::document::Document;
 use crate::extjson::read::{read, read_members};
+pub use crate::extjson::text_error::TextError;
 pub use bson_leaf::error::{Error, Result};
 use serde_json::{Map, Value};
 use std::alloc::Global;

@@ -21,7 +21,7 @@ use bson_store::{PairStore, SmallPairs};
 use serde_json::{Map, Value};
 use std::alloc::Global;
 
-fn read_single(alloc: Global, key: &str, value: Value) -> Result<Bson, Error>
+pub(crate) fn read_single(alloc: Global, key: &str, value: Value) -> Result<Bson, Error>
     ensures given { Gives bson_view result (valued (single_at (wrapper_of key.now) (view value))) }
     ensures ranged { IfOk result (λ v. InRange (bson_view v)) }
 {
@@ -125,13 +125,13 @@ fn read_code(
     }
 }
 
-fn is_code_with_scope(key: &str, other: &str) -> bool
+pub(crate) fn is_code_with_scope(key: &str, other: &str) -> bool
     ensures { result ≡ (bytes_eq key.now (codes "$code") && bytes_eq other.now (codes "$scope")) }
 {
     key == "$code" && other == "$scope"
 }
 
-fn with_scope(code: String, scope: Document) -> Bson
+pub(crate) fn with_scope(code: String, scope: Document) -> Bson
     ensures { bson_view result ≡ code_scope (string_bytes code) (document_view scope) }
 {
     Bson::JavaScriptCodeWithScope(JavaScriptCodeWithScope { code, scope })

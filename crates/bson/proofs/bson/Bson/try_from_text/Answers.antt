@@ -1,0 +1,9 @@
+use Rattle.bson.specs.View.{bson_view}
+use Rattle.bson.proofs.Accepted.{accepted, came_back}
+use Rattle.bson.proofs.bson.Bson.try_from_text.Goals as goal
+
+pub returns-clause-accepts : goal.returns-clause-accepts
+returns-clause-accepts c = accepted c.args.bytes.now c.read_bytes.result c.read_bytes.ensures.fault
+
+pub returns-clause-comes_back : goal.returns-clause-comes_back
+returns-clause-comes_back c = came_back bson_view c.args.bytes.now c.read_bytes.result c.read_bytes.ensures.ok

@@ -1,0 +1,21 @@
+use Rattle.std.proofs.Common.{◌≡◌, ℕ, ◌+◌, ◌*◌, ◌≤◌, length}
+use Rattle.json.specs.Json.{members, value}
+use Rattle.serde_json.specs.Data.{no_members}
+use Rattle.serde_json.specs.Read.{of_members, converted}
+use Rattle.serde_json.specs.View.{members_view}
+use Rattle.bson.proofs.extjson.text_reader.held.+tree.Given as goal
+
+abbrev pub decreases-read_tree : goal.decreases-read_tree
+decreases-read_tree l = 2 * l.depth
+
+abbrev pub decreases-read_members : goal.decreases-read_members
+decreases-read_members l = 2 * l.depth + 1
+
+abbrev pub invariant-read_members-members : goal.invariant-read_members-members
+invariant-read_members-members l =
+    (n : ℕ) × (length l.reader ≤ n)
+    × (converted (λ ms. of_members ms no_members) (members (value l.depth) (length l.initial.reader) l.initial.reader) ≡ converted (λ ms. of_members ms (members_view l.found.entries)) (members (value l.depth) n l.reader))
+    × (length l.reader ≤ length l.initial.reader)
+
+abbrev pub decreases-read_members-members : goal.decreases-read_members-members
+decreases-read_members-members l = length l.reader

@@ -1,0 +1,289 @@
+use Rattle.std.proofs.Common.{Vec, Global, Result, Err, IfOk, false, ◌≡◌, ◌-◌, ◌<◌, List, [], ◌∷◌, ◌++◌, length, map, Ok, Some, None, string_bytes, refl, sym, ap, ◌∙◌, subst, arith, rules}
+use Rattle.std.specs.Prelude.{is_some}
+use Rattle.json.specs.Token.{Token}
+use Rattle.json.specs.Json.{parse_map, after_end_array, read_key, items, members, value}
+use Rattle.json.specs.Reads.{token_of}
+use Rattle.json.proofs.Grammar.{value_is, value-begin_array, value-begin_object, read_key-shorter}
+use Rattle.serde_json.specs.Data.{null, boolean, number, string, array, object, item, no_items, no_members, put}
+use Rattle.serde_json.specs.Read.{of_json, of_items, of_members, converted}
+use Rattle.serde_json.specs.View.{view, number_view}
+use Rattle.bson_leaf.specs.Faults.{◌>>=◌}
+use Rattle.bson_leaf.specs.Scalar as leaf
+use Rattle.bson_leaf.specs.Table.{wrapper_of}
+use Rattle.bson_model.specs.Reading.{reads_items, valued}
+use Rattle.bson_model.specs.Sorted.{KeysAscend, put_pair}
+use Rattle.bson_model.specs.Value as model
+use Rattle.bson.specs.View.{bson_view, document_view, values_view}
+use Rattle.bson.specs.declared.bson.Bson.{Bson, the_lemmas}
+use Rattle.bson.specs.declared.bson.Bson.TheVariants as bson
+use Rattle.bson.specs.declared.document.Document.{Document}
+use Rattle.bson.proofs.Onto.{onto_values, onto_values-ok, values_step}
+use Rattle.bson.specs.Gathered.{gathered}
+use Rattle.bson.proofs.PutReads.{put_reads, put_plain, put_ascends, nothing_read, object_read}
+use Rattle.bson.proofs.Turns.{array_converted, object_converted, one_item, last_item, one_member, last_member, fused, as_it_is}
+use Rattle.bson.proofs.Wrapped.{alone, with_scope}
+use Rattle.bson.proofs.extjson.text_reader.straight.+straight.Goals as goal
+
+map-snoc : (xs : List Bson) (x : Bson) → map bson_view (xs ++ x ∷ []) ≡ map bson_view xs ++ bson_view x ∷ []
+map-snoc [] x = refl
+map-snoc (y ∷ xs) x = ap (λ l. bson_view y ∷ l) (map-snoc xs x)
+
+if_ok : {X E : Type 0} {P Q : X → Type 0} (r : Result X E) → IfOk r P → ((x : X) → P x → Q x) → IfOk r Q
+if_ok (Ok x) h f = f x h
+if_ok (Err e) h f = tt
+
+bson_view-Document : (d : Document) → bson_view (bson.Document d) ≡ model.document (document_view d)
+bson_view-Document d = search (rules, the_lemmas)
+
+bson_view-Array : (v : Vec Bson Global) → bson_view (bson.Array v) ≡ model.array (values_view v.items)
+bson_view-Array v = search (rules, the_lemmas)
+
+pub read_member-returns-clause-ok : goal.read_member-returns-clause-ok
+read_member-returns-clause-ok t c =
+    let copied : string_bytes c.in_ok-key.key ≡ c.args.name.now = search rules in
+    let read = c.in_ok-member.ensures.ok in
+    (read.0, bson_view c.in_ok-member.member, read.1, read.2, c.in_ok-now.ensures ∙ ap (λ q. put_pair q (bson_view c.in_ok-member.member) (gathered c.args.found)) copied)
+
+pub read_value-returns-in_ok-from_str-in-String-clause-ok : goal.read_value-returns-in_ok-from_str-in-String-clause-ok
+read_value-returns-in_ok-from_str-in-String-clause-ok t c =
+    let first : c.args.reader.now ≡ token_of c.in_ok-token.token ∷ c.next.new.self = grind arith in
+    let is : c.args.reader.now ≡ Token.string c.in-String.text.now ∷ c.next.new.self = grind (arith, first) in
+    let seen : bson_view (bson.String c.in_ok-from_str-in-String.field-0) ≡ model.scalar (leaf.text c.in-String.text.now) = search (rules, the_lemmas) in
+    (string c.in-String.text.now, ap (converted of_json) (ap (value c.args.depth) is ∙ value_is c.args.depth _), ap Ok (sym seen))
+
+pub read_value-returns-in-Bool-clause-ok : goal.read_value-returns-in-Bool-clause-ok
+read_value-returns-in-Bool-clause-ok t c =
+    let first : c.args.reader.now ≡ token_of c.in_ok-token.token ∷ c.next.new.self = grind arith in
+    let is : c.args.reader.now ≡ Token.boolean c.in-Bool.b ∷ c.next.new.self = grind (arith, first) in
+    let seen : bson_view (bson.Boolean c.in-Bool.b) ≡ model.scalar (leaf.boolean c.in-Bool.b) = search (rules, the_lemmas) in
+    (boolean c.in-Bool.b, ap (converted of_json) (ap (value c.args.depth) is ∙ value_is c.args.depth _), ap Ok (sym seen))
+
+pub read_value-returns-in-Null-clause-ok : goal.read_value-returns-in-Null-clause-ok
+read_value-returns-in-Null-clause-ok t c =
+    let first : c.args.reader.now ≡ token_of c.in_ok-token.token ∷ c.next.new.self = grind arith in
+    let is : c.args.reader.now ≡ Token.null ∷ c.next.new.self = grind (arith, first) in
+    let seen : bson_view bson.Null ≡ model.scalar leaf.null = search (rules, the_lemmas) in
+    (null, ap (converted of_json) (ap (value c.args.depth) is ∙ value_is c.args.depth _), ap Ok (sym seen))
+
+pub read_value-returns-in_ok-read_number-in-Some-clause-ok : goal.read_value-returns-in_ok-read_number-in-Some-clause-ok
+read_value-returns-in_ok-read_number-in-Some-clause-ok t c =
+    let first : c.args.reader.now ≡ token_of c.in_ok-token.token ∷ c.next.new.self = grind arith in
+    let is : c.args.reader.now ≡ Token.number c.in-Number.text.now ∷ c.next.new.self = grind (arith, first) in
+    let read : converted of_json (value c.args.depth c.args.reader.now) ≡ Some (number (number_view c.in-Some.n), c.next.new.self) = ap (converted of_json) (ap (value c.args.depth) is ∙ value_is c.args.depth _) ∙ rw c.in-Some.ensures refl in
+    (number (number_view c.in-Some.n), read, c.in_ok-read_number-in-Some.ensures.given)
+
+pub read_value-returns-else-depth-eq0-2-clause-ok : goal.read_value-returns-else-depth-eq0-2-clause-ok
+read_value-returns-else-depth-eq0-2-clause-ok t c =
+    let first : c.args.reader.now ≡ token_of c.in_ok-token.token ∷ c.next.new.self = grind arith in
+    let opened = ap (converted of_json) (ap (value c.args.depth) (first ∙ ap (λ k. token_of k ∷ c.next.new.self) c.in-BeginObject.is) ∙ value-begin_object c.args.depth c.next.new.self (omega arith)) ∙ object_converted (members (value (c.args.depth - 1)) (length c.next.new.self) c.next.new.self) in
+    if_ok c.read_object.result c.read_object.ensures.ok (λ v read. (object read.0, opened ∙ ap (parse_map object) read.1, read.2))
+
+pub read_object-members-init : goal.read_object-members-init
+read_object-members-init t c =
+    let none : gathered c.none-found.result ≡ model.no_pairs = c.none-found.ensures in
+    record {
+      n = length c.args.reader.now;
+      enough = omega arith;
+      so_far = no_members;
+      all = refl;
+      plain = refl;
+      read = ap Ok (sym none);
+      ascends = subst KeysAscend (sym none) tt;
+      shorter = omega arith;
+    }
+
+pub read_object-members-preserved : goal.read_object-members-preserved
+read_object-members-preserved t c =
+    let p = value c.args.depth in
+    let l = c.members in
+    let n = l.invariant.n in
+    let so_far = l.invariant.so_far in
+    let k = c.in-Some.name.now in
+    let s = c.next_key.new.self in
+    let named : read_key l.reader ≡ Some (Some k, s) = grind arith in
+    let done = c.in_ok-found.ensures in
+    let r = c.read_member.new.reader in
+    let d = done.ok.0 in
+    let v = done.ok.1 in
+    let less = read_key-shorter l.reader (Some k) s named in
+    let lesser = done.shorter in
+    let plain : is_some (wrapper_of k) ≡ false = ap is_some (sym c.named.ensures) ∙ sym c.is_some.ensures ∙ c.if-is_some.false in
+    let turn = one_member p n so_far k l.reader s r d (omega (arith, l.invariant.enough, less)) named done.ok.2 in
+    record {
+      n = n - 1;
+      enough = omega (arith, l.invariant.enough, less, lesser);
+      so_far = put k d so_far;
+      all = l.invariant.all ∙ turn;
+      plain = put_plain k d plain so_far ∙ l.invariant.plain;
+      read = put_reads k d v done.ok.3 so_far (gathered l.found) l.invariant.read ∙ ap Ok (sym done.ok.4);
+      ascends = subst KeysAscend (sym done.ok.4) (put_ascends k v (gathered l.found) l.invariant.ascends);
+      shorter = omega (arith, l.invariant.shorter, less, lesser);
+    }
+
+pub read_object-returns-then-is_none-clause-ok : goal.read_object-returns-then-is_none-clause-ok
+read_object-returns-then-is_none-clause-ok t c =
+    let l = c.members in
+    let k = c.in-Some.name.now in
+    let s = c.next_key.new.self in
+    let named : read_key l.reader ≡ Some (Some k, s) = grind arith in
+    let none : gathered l.found ≡ model.no_pairs = c.is_none.ensures c.if-is_none.true in
+    let start : l.invariant.so_far ≡ no_members = nothing_read l.invariant.so_far (l.invariant.read ∙ ap Ok none) in
+    if_ok c.read_wrapper.result c.read_wrapper.ensures.ok (λ v h. (
+      h.0,
+      l.invariant.all
+          ∙ ap (λ ms. converted (λ js. of_members js ms) (members (value c.args.depth) l.invariant.n l.reader)) start
+          ∙ h.1 l.invariant.n l.reader l.invariant.enough named,
+      h.2,
+    ))
+
+pub read_object-returns-clause-ok : goal.read_object-returns-clause-ok
+read_object-returns-clause-ok t c =
+    let p = value c.args.depth in
+    let l = c.members in
+    let n = l.invariant.n in
+    let so_far = l.invariant.so_far in
+    let r = c.next_key.new.self in
+    let ended : read_key l.reader ≡ Some (None, r) = grind arith in (
+      so_far,
+      l.invariant.all ∙ last_member p n so_far l.reader r l.invariant.enough ended,
+      object_read so_far (gathered l.found) l.invariant.plain l.invariant.read
+          ∙ ap Ok (sym (bson_view-Document c.in_ok-document.document ∙ ap model.document c.in_ok-document.ensures)),
+    )
+
+pub read_value-returns-in_ok-read_items-in-BeginArray-clause-ok : goal.read_value-returns-in_ok-read_items-in-BeginArray-clause-ok
+read_value-returns-in_ok-read_items-in-BeginArray-clause-ok t c =
+    let first : c.args.reader.now ≡ token_of c.in_ok-token.token ∷ c.next.new.self = grind arith in
+    let opened = ap (converted of_json) (ap (value c.args.depth) (first ∙ ap (λ k. token_of k ∷ c.next.new.self) c.in-BeginArray.is) ∙ value-begin_array c.args.depth c.next.new.self (omega arith)) ∙ array_converted (items (value (c.args.depth - 1)) (length c.next.new.self) c.next.new.self) in
+    let found = c.in_ok-read_items-in-BeginArray in
+    let read = found.ensures.ok in
+    (array read.0, opened ∙ ap (parse_map array) read.1, ap (λ r. r >>= λ vs. Ok (model.array vs)) read.2 ∙ ap Ok (sym (bson_view-Array found.field-0)))
+
+pub read_items-items-init : goal.read_items-items-init
+read_items-items-init t c =
+    let all = converted of_items (items (value c.args.depth) (length c.args.reader.now) c.args.reader.now) in
+    record {
+      n = length c.args.reader.now;
+      enough = omega arith;
+      front = λ r. r;
+      all = as_it_is all;
+      read = λ r. ap (λ vs. onto_values (map bson_view vs) (reads_items r)) (sym c.new-found.ensures.items);
+      shorter = omega arith;
+    }
+
+pub read_items-items-preserved : goal.read_items-items-preserved
+read_items-items-preserved t c =
+    let p = value c.args.depth in
+    let l = c.items in
+    let n = l.invariant.n in
+    let going : (after_end_array l.reader ≡ None) × (c.take_end_array.new.self ≡ l.reader) = grind arith in
+    let done = c.in_ok-item.ensures in
+    let v = c.in_ok-item.item in
+    let r = c.read_value.new.reader in
+    let d = done.ok.0 in
+    let less : length r < length l.reader = rw (← going.1) done.shorter in
+    let turn = one_item p n l.reader r d (omega (arith, l.invariant.enough, less)) going.0 (rw (← going.1) done.ok.1) in
+    record {
+      n = n - 1;
+      enough = omega (arith, l.invariant.enough, less);
+      front = λ ds. l.invariant.front (item d ds);
+      all = l.invariant.all ∙ ap (parse_map l.invariant.front) turn ∙ fused l.invariant.front (item d) _;
+      read = λ ds.
+          sym (values_step (map bson_view l.found.items) d (bson_view v) ds (reads_items (l.invariant.front (item d ds))) done.ok.2 (sym (l.invariant.read (item d ds))))
+          ∙ ap (λ vs. onto_values vs (reads_items ds)) (sym (map-snoc l.found.items v) ∙ ap (map bson_view) (sym c.in_ok-push.ensures.items));
+      shorter = omega (arith, l.invariant.shorter, less);
+    }
+
+pub read_items-returns-clause-ok : goal.read_items-returns-clause-ok
+read_items-returns-clause-ok t c =
+    let p = value c.args.depth in
+    let l = c.items in
+    let n = l.invariant.n in
+    let r = c.take_end_array.new.self in (
+      l.invariant.front no_items,
+      l.invariant.all ∙ ap (parse_map l.invariant.front) (last_item p n l.reader r l.invariant.enough (grind arith)),
+      l.invariant.read no_items ∙ onto_values-ok (map bson_view l.found.items) ∙ ap (λ vs. Ok (values_view vs)) (sym c.shrink_to_fit.ensures.items),
+    )
+
+pub read_pairs-members-init : goal.read_pairs-members-init
+read_pairs-members-init t c =
+    let none : gathered c.none-found.result ≡ model.no_pairs = c.none-found.ensures in
+    record {
+      n = length c.args.reader.now;
+      enough = omega arith;
+      so_far = no_members;
+      all = refl;
+      read = ap Ok (sym none);
+      ascends = subst KeysAscend (sym none) tt;
+      shorter = omega arith;
+    }
+
+pub read_pairs-members-preserved : goal.read_pairs-members-preserved
+read_pairs-members-preserved t c =
+    let p = value c.args.depth in
+    let l = c.members in
+    let n = l.invariant.n in
+    let so_far = l.invariant.so_far in
+    let k = c.in-Some.name.now in
+    let s = c.next_key.new.self in
+    let named : read_key l.reader ≡ Some (Some k, s) = grind arith in
+    let done = c.in_ok-found.ensures in
+    let r = c.read_member.new.reader in
+    let d = done.ok.0 in
+    let v = done.ok.1 in
+    let less = read_key-shorter l.reader (Some k) s named in
+    let lesser = done.shorter in
+    let turn = one_member p n so_far k l.reader s r d (omega (arith, l.invariant.enough, less)) named done.ok.2 in
+    record {
+      n = n - 1;
+      enough = omega (arith, l.invariant.enough, less, lesser);
+      so_far = put k d so_far;
+      all = l.invariant.all ∙ turn;
+      read = put_reads k d v done.ok.3 so_far (gathered l.found) l.invariant.read ∙ ap Ok (sym done.ok.4);
+      ascends = subst KeysAscend (sym done.ok.4) (put_ascends k v (gathered l.found) l.invariant.ascends);
+      shorter = omega (arith, l.invariant.shorter, less, lesser);
+    }
+
+pub read_pairs-returns-clause-ok : goal.read_pairs-returns-clause-ok
+read_pairs-returns-clause-ok t c =
+    let l = c.members in
+    let so_far = l.invariant.so_far in
+    let r = c.next_key.new.self in
+    let ended : read_key l.reader ≡ Some (None, r) = grind arith in
+    if_ok c.document_of.result c.document_of.ensures (λ v e. (
+      so_far,
+      l.invariant.all ∙ last_member (value c.args.depth) l.invariant.n so_far l.reader r l.invariant.enough ended,
+      l.invariant.read ∙ ap Ok (sym e),
+    ))
+
+pub read_scope-returns-in-Null-clause-ok : goal.read_scope-returns-in-Null-clause-ok
+read_scope-returns-in-Null-clause-ok t c =
+    let first : c.args.reader.now ≡ token_of c.in_ok-token.token ∷ c.next.new.self = grind arith in
+    let is : c.args.reader.now ≡ Token.null ∷ c.next.new.self = grind (arith, first) in
+    (null, ap (converted of_json) (ap (value c.args.depth) is ∙ value_is c.args.depth _), refl)
+
+pub read_scope-returns-in_ok-read_pairs-in-BeginObject-clause-ok : goal.read_scope-returns-in_ok-read_pairs-in-BeginObject-clause-ok
+read_scope-returns-in_ok-read_pairs-in-BeginObject-clause-ok t c =
+    let first : c.args.reader.now ≡ token_of c.in_ok-token.token ∷ c.next.new.self = grind arith in
+    let opened = ap (converted of_json) (ap (value c.args.depth) (first ∙ ap (λ k. token_of k ∷ c.next.new.self) c.in-BeginObject.is) ∙ value-begin_object c.args.depth c.next.new.self (omega arith)) ∙ object_converted (members (value (c.args.depth - 1)) (length c.next.new.self) c.next.new.self) in
+    let read = c.in_ok-read_pairs-in-BeginObject.ensures.ok in
+    (object read.0, opened ∙ ap (parse_map object) read.1, ap (λ r. r >>= λ ps. Ok (Some ps)) read.2)
+
+pub read_wrapper-returns-in-Some-clause-ok : goal.read_wrapper-returns-in-Some-clause-ok
+read_wrapper-returns-in-Some-clause-ok t c =
+    let k = c.args.key.now in
+    let l = c.in-Some.other.now in
+    let s = c.read_tree.new.reader in
+    let us = c.next_key.new.self in
+    let held = c.in_ok-held.ensures in
+    let named : read_key s ≡ Some (Some l, us) = grind arith in
+    if_ok c.read_code.result c.read_code.ensures.ok (λ v code.
+    with_scope c.args.depth k l c.args.reader.now s us c.read_code.new.reader (view c.in_ok-held.held) (bson_view v) held.ok held.shorter named code)
+
+pub read_wrapper-returns-in_ok-read-in-None-clause-ok : goal.read_wrapper-returns-in_ok-read-in-None-clause-ok
+read_wrapper-returns-in_ok-read-in-None-clause-ok t c =
+    let k = c.args.key.now in
+    let s = c.read_tree.new.reader in
+    let rest = c.next_key.new.self in
+    let held = c.in_ok-held.ensures in
+    let ended : read_key s ≡ Some (None, rest) = grind arith in
+    alone c.args.depth k c.args.reader.now s rest (view c.in_ok-held.held) (bson_view c.in_ok-read-in-None.read) held.ok held.shorter ended c.in_ok-read-in-None.ensures.given

@@ -1,0 +1,79 @@
+use Rattle.std.proofs.Common.{◌≡◌, ℕ, ◌+◌, ◌*◌, ◌≤◌, length, map, false, Ok}
+use Rattle.json.specs.Json.{items, members, value, parse_map}
+use Rattle.serde_json.specs.Data.{Items, Members, no_members}
+use Rattle.serde_json.specs.Read.{of_items, of_members, converted}
+use Rattle.bson_leaf.specs.Table.{has_wrapper}
+use Rattle.bson_model.specs.Reading.{reads_items, reads_members}
+use Rattle.bson_model.specs.Sorted.{KeysAscend}
+use Rattle.bson.proofs.Onto.{onto_values}
+use Rattle.bson.specs.View.{bson_view}
+use Rattle.bson.specs.Gathered.{gathered}
+use Rattle.bson.proofs.extjson.text_reader.straight.+straight.Given as goal
+
+abbrev pub decreases-read_value : goal.decreases-read_value
+decreases-read_value l = 8 * l.depth
+
+abbrev pub decreases-read_items : goal.decreases-read_items
+decreases-read_items l = 8 * l.depth + 1
+
+abbrev pub decreases-read_member : goal.decreases-read_member
+decreases-read_member l = 8 * l.depth + 1
+
+abbrev pub decreases-read_pairs : goal.decreases-read_pairs
+decreases-read_pairs l = 8 * l.depth + 2
+
+abbrev pub decreases-read_scope : goal.decreases-read_scope
+decreases-read_scope l = 8 * l.depth + 1
+
+abbrev pub decreases-read_code : goal.decreases-read_code
+decreases-read_code l = 8 * l.depth + 2
+
+abbrev pub decreases-read_wrapper : goal.decreases-read_wrapper
+decreases-read_wrapper l = 8 * l.depth + 3
+
+abbrev pub decreases-read_object : goal.decreases-read_object
+decreases-read_object l = 8 * l.depth + 4
+
+-- what was read stands before what is left
+abbrev pub invariant-read_items-items : goal.invariant-read_items-items
+invariant-read_items-items l = record {
+  n : ℕ;
+  enough : length l.reader ≤ n;
+  front : Items → Items;
+  all : converted of_items (items (value l.depth) (length l.initial.reader) l.initial.reader) ≡ parse_map front (converted of_items (items (value l.depth) n l.reader));
+  read : (r : Items) → reads_items (front r) ≡ onto_values (map bson_view l.found.items) (reads_items r);
+  shorter : length l.reader ≤ length l.initial.reader;
+}
+
+abbrev pub decreases-read_items-items : goal.decreases-read_items-items
+decreases-read_items-items l = length l.reader
+
+-- the map of the members so far has no wrapper's key, and is read as what was gathered
+abbrev pub invariant-read_object-members : goal.invariant-read_object-members
+invariant-read_object-members l = record {
+  n : ℕ;
+  enough : length l.reader ≤ n;
+  so_far : Members;
+  all : converted (λ ms. of_members ms no_members) (members (value l.depth) (length l.initial.reader) l.initial.reader) ≡ converted (λ ms. of_members ms so_far) (members (value l.depth) n l.reader);
+  plain : has_wrapper so_far ≡ false;
+  read : reads_members so_far ≡ Ok (gathered l.found);
+  ascends : KeysAscend (gathered l.found);
+  shorter : length l.reader ≤ length l.initial.reader;
+}
+
+abbrev pub decreases-read_object-members : goal.decreases-read_object-members
+decreases-read_object-members l = length l.reader
+
+abbrev pub invariant-read_pairs-members : goal.invariant-read_pairs-members
+invariant-read_pairs-members l = record {
+  n : ℕ;
+  enough : length l.reader ≤ n;
+  so_far : Members;
+  all : converted (λ ms. of_members ms no_members) (members (value l.depth) (length l.initial.reader) l.initial.reader) ≡ converted (λ ms. of_members ms so_far) (members (value l.depth) n l.reader);
+  read : reads_members so_far ≡ Ok (gathered l.found);
+  ascends : KeysAscend (gathered l.found);
+  shorter : length l.reader ≤ length l.initial.reader;
+}
+
+abbrev pub decreases-read_pairs-members : goal.decreases-read_pairs-members
+decreases-read_pairs-members l = length l.reader

@@ -1,9 +1,0 @@
-use Rattle.bson.specs.View.{bson_view}
-use Rattle.bson_text.proofs.Accepted.{accepted, came_back}
-use Rattle.bson_text.proofs.text.try_from_text.Goals as goal
-
-pub returns-clause-accepts : goal.returns-clause-accepts
-returns-clause-accepts c = accepted c.args.bytes.now c.read_bytes.result c.read_bytes.ensures.fault
-
-pub returns-clause-comes_back : goal.returns-clause-comes_back
-returns-clause-comes_back c = came_back bson_view c.args.bytes.now c.read_bytes.result c.read_bytes.ensures.ok

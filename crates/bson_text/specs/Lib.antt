@@ -1,3 +1,0 @@
-pub mod Text
-pub mod Straight
-pub mod Gathered
