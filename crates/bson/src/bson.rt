@@ -9,9 +9,22 @@ use bson_scalar::regex::Regex;
 use bson_scalar::timestamp::Timestamp;
 
 /// A list of values.
+///
+/// ```
+/// let mut numbers: Array = Vec::new(alloc);
+/// numbers.push(Bson::Int32(1))?;
+/// numbers.push(Bson::Null)?;
+/// println!(rt; "{}", Bson::Array(numbers))?; // [1, null]
+/// ```
 pub type Array = Vec<Bson>;
 
 /// A value of BSON 1.1, of one of its 21 kinds.
+///
+/// ```
+/// let name = Bson::string(alloc, "Ada")?;
+/// println!(rt; "{:?} {:?}", name.as_str(), name.as_i32())?; // Some("Ada") None
+/// println!(rt; "{}", Bson::Int64(5).into_canonical_text(alloc)?)?; // {"$numberLong":"5"}
+/// ```
 #[derive(Drop)]
 #[cycle(bson)]
 pub enum Bson {
@@ -60,6 +73,15 @@ pub enum Bson {
 }
 
 /// JavaScript code and a document of the names that it uses.
+///
+/// ```
+/// let mut scope = Document::new(alloc);
+/// drop(scope.insert(String::from_str(alloc, "n")?, Bson::Boolean(true))?);
+/// let code = String::from_str(alloc, "return n")?;
+/// let value = Bson::JavaScriptCodeWithScope(JavaScriptCodeWithScope { code, scope });
+/// println!(rt; "{}", value.into_canonical_text(alloc)?)?;
+/// // {"$code":"return n","$scope":{"n":true}}
+/// ```
 #[derive(Drop)]
 #[cycle(bson)]
 pub struct JavaScriptCodeWithScope {

@@ -27,6 +27,14 @@ use std::alloc::Global;
 /// log n comparisons of keys; where there are no more than eight pairs, in n. `remove` takes in the order of log n for
 /// each pair behind the one that it takes out. `==`, `Hash`, and writing the text of a document whose keys don't ascend
 /// take in the order of n log n. `remove`, `==` and `Hash` take no memory.
+///
+/// ```
+/// let mut document = Document::new(alloc);
+/// drop(document.insert(String::from_str(alloc, "b")?, Bson::Int32(1))?);
+/// drop(document.insert(String::from_str(alloc, "a")?, Bson::Null)?);
+/// println!(rt; "{document}")?; // { "b": 1, "a": null }
+/// println!(rt; "{:?}", document.get_i32("b"))?; // Ok(1)
+/// ```
 #[derive(Drop)]
 #[cycle(bson)]
 pub struct Document {

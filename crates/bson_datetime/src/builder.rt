@@ -42,6 +42,13 @@ pub struct NoDay {}
 /// Builds a `DateTime` from a date and a time in UTC.
 ///
 /// Year, month and day are set once each; what isn't set of the time is 0.
+///
+/// ```
+/// let empty: DateTimeBuilder<NoYear, NoMonth, NoDay> = DateTime::builder();
+/// let day: DateTimeBuilder<Year, Month, Day> = empty.year(2020).month(6).day(1);
+/// let noon = day.hour(12).build()?;
+/// println!(rt; "{noon}")?; // 2020-06-01 12:00:00.0 +00:00:00
+/// ```
 #[derive(Drop)]
 pub struct DateTimeBuilder<Y = NoYear, M = NoMonth, D = NoDay> {
     year: Y,

@@ -19,6 +19,12 @@ use std::time::Duration;
 /// A moment, to the millisecond: BSON's UTC datetime, a signed number of 64 bits (BSON 1.1).
 ///
 /// The years -9999 to 9999 have a date, on the proleptic Gregorian calendar.
+///
+/// ```
+/// let moment = DateTime::parse_rfc3339_str("2020-06-01T00:42:40Z")?;
+/// println!(rt; "{}", moment.timestamp_millis())?; // 1590972160000
+/// println!(rt; "{moment}")?; // 2020-06-01 0:42:40.0 +00:00:00
+/// ```
 #[derive(Clone, Copy, PartialEq, Eq, PartialOrd, Ord, Hash)]
 pub struct DateTime {
     millis: i64,

@@ -26,7 +26,7 @@ mod parse;
 ///
 /// ```
 /// let price: Decimal128 = "19.90".parse()?;
-/// assert_eq!(format!("{price}"), "19.90");
+/// println!(rt; "{price}")?; // 19.90
 /// ```
 #[derive(Clone, Copy, Debug, PartialEq, Eq, Hash)]
 pub struct Decimal128 {
@@ -69,6 +69,11 @@ fn as_pattern(bytes: [u8; 16]) -> [u8; 16]
 /// Why a text denotes no decimal. Where several faults are in one text, the first in the order of
 /// reading is told: the exponent, the digits after the point, those past the 34th, the range, and
 /// last the coefficient's own characters.
+///
+/// ```
+/// let read: Result<Decimal128, ParseError> = "1e7000".parse();
+/// println!(rt; "{read:?}")?; // Err(Overflow)
+/// ```
 #[derive(Clone, Copy, PartialEq, Eq, Debug, Error)]
 pub enum ParseError {
     /// Nothing stands after the `e` or `E`.

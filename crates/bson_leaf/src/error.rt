@@ -3,6 +3,13 @@ use bson_scalar::oid;
 use std::alloc::{AllocError, AllocFailed};
 
 /// Why a tree of Extended JSON was not read.
+///
+/// ```
+/// let tree = Value::from_slice(alloc, br#"{"$oid": "53e3"}"#)?;
+/// if let Err(error) = Bson::try_from_value(alloc, tree) {
+///     println!(rt; "{error}")?; // an object id has 24 digits, but "53e3" has 4
+/// }
+/// ```
 #[derive(Debug, Drop, thiserror::Error)]
 pub enum Error {
     /// The text of an object id is wrong, under `$oid` or inside a `$dbPointer` that is right in all

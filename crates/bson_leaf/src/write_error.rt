@@ -2,6 +2,13 @@
 use std::alloc::{AllocError, AllocFailed};
 
 /// Why a value was not written as Extended JSON.
+///
+/// ```
+/// let half = Bson::Double(0x3fe0_0000_0000_0000);
+/// if let Err(error) = half.to_canonical_text(alloc) {
+///     println!(rt; "{error}")?; // a finite double has no text
+/// }
+/// ```
 #[derive(Clone, Copy, Debug, Drop, PartialEq, Eq, thiserror::Error)]
 pub enum WriteError {
     /// A double in the value is finite and no zero, and so has no text here.

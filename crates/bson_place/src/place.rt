@@ -6,6 +6,13 @@ use bson_leaf::error::Error;
 use std::alloc::{AllocError, Global};
 
 /// A step of the way to a fault.
+///
+/// ```
+/// let tree = Value::from_slice(alloc, br#"{"orders": [1.5]}"#)?;
+/// if let Some(place) = place_of_fault(alloc, tree)? {
+///     println!(rt; "{:?}", place.steps)?; // [Element(0), Key("orders")]
+/// }
+/// ```
 #[derive(Debug, Drop)]
 pub enum Step {
     /// Into the value at a key.
@@ -15,6 +22,13 @@ pub enum Step {
 }
 
 /// The first fault of a tree, and the way to it.
+///
+/// ```
+/// let tree = Value::from_slice(alloc, br#"{"orders": [{"price": 1.5}]}"#)?;
+/// if let Some(place) = place_of_fault(alloc, tree)? {
+///     println!(rt; "{}", place.path(alloc)?)?; // orders.0.price
+/// }
+/// ```
 #[derive(Drop)]
 pub struct Place {
     /// What is wrong there; never want of memory.

@@ -22,6 +22,12 @@ use std::alloc::Global;
 /// meaning in MongoDB Extended JSON v2; only want of memory may come in its place. `NotJson` is answered where there is
 /// no such text, `BadObjectId` where the first fault of its tree is the text of an object id, and `NotExtendedJson` where
 /// it is any other. `CannotRead` and `CannotWrite` are never answered.
+///
+/// ```
+/// if let Ok(line) = convert(alloc, Mode::Relaxed, br#"{"$numberLong": "5"}"#) {
+///     rt.print(str::from_utf8(&line)?)?; // 5
+/// }
+/// ```
 pub fn convert(alloc: Global, mode: Mode, bytes: &[u8]) -> Result<Vec<u8>, Fault>
     ensures ok { IfOk result (λ output. Converts mode bytes.now output.items) }
     ensures one { IfOk result (λ output. (other : List ℕ) → Converts mode bytes.now other → other ≡ output.items) }

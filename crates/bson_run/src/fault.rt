@@ -3,6 +3,12 @@ ghost use Rattle.std.specs.Prelude.{◌≡◌};
 ghost use Rattle.bson_run.specs.Words.{line_of};
 
 /// Why a run was refused.
+///
+/// ```
+/// if let Err(fault) = value_of(alloc, b"[1, 2") {
+///     println!(rt; "{}", fault.line())?; // bson_cli: not JSON
+/// }
+/// ```
 #[derive(Clone, Copy, PartialEq, Eq, Debug)]
 pub enum Fault {
     /// The reader answered an error, whichever it was.

@@ -6,6 +6,15 @@ use crate::fault::Fault;
 use crate::gathered::words;
 
 /// Where a run over lines stopped, and why.
+///
+/// ```
+/// let mut lines: &[u8] = b"1\n[\n";
+/// let (mut output, mut told) = (Vec::new(alloc), Vec::new(alloc));
+/// let (task, stop) = (Task::Check, OnRefusal::Stop);
+/// if let Err(at) = run_lines(alloc, task, stop, &mut lines, &mut output, &mut told) {
+///     println!(rt; "line {}: {}", at.line, at.words())?; // line 2: not JSON
+/// }
+/// ```
 #[derive(Clone, Copy, PartialEq, Eq, Debug)]
 pub struct LineFault {
     /// The number of the first line that was not done. Lines are counted from 1, and blank ones count.
@@ -15,6 +24,17 @@ pub struct LineFault {
 }
 
 /// The same, and where the fault lies in the line.
+///
+/// ```
+/// let mut lines: &[u8] = br#"{"n": 1.5}"#;
+/// let (mut output, mut told) = (Vec::new(alloc), Vec::new(alloc));
+/// let (task, stop) = (Task::Check, OnRefusal::Stop);
+/// let run = run_lines_explained(alloc, task, stop, &mut lines, &mut output, &mut told);
+/// if let Err(refusal) = run {
+///     println!(rt; "line {}{}", refusal.at.line, refusal.place)?;
+/// }
+/// // line 1 at n (a number that is no whole one of 64 bits)
+/// ```
 #[derive(Drop)]
 pub struct Refusal {
     /// Where the run stopped, and why.

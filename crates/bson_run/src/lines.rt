@@ -18,6 +18,14 @@ use std::io::{Read, Write};
 const BLOCK: usize = 65536;
 
 /// How many lines there were.
+///
+/// ```
+/// let mut lines: &[u8] = b"1\n[\n";
+/// let (mut output, mut told) = (Vec::new(alloc), Vec::new(alloc));
+/// let (task, go_on) = (Task::Check, OnRefusal::KeepGoing);
+/// let counts = run_lines(alloc, task, go_on, &mut lines, &mut output, &mut told);
+/// println!(rt; "{counts:?}")?; // Ok(Counts { lines: 2, refused: 1 })
+/// ```
 #[derive(Clone, Copy, PartialEq, Eq, Debug)]
 pub struct Counts {
     /// All lines, blank ones and refused ones too.

@@ -4,6 +4,12 @@ ghost use Rattle.bson_run.specs.Words.{name_of};
 ghost use Rattle.bson_run.specs.declared.mode.Mode.{Mode};
 
 /// What is written of the value that was read.
+///
+/// ```
+/// let mut words = Vec::new(alloc);
+/// words.push(String::from_str(alloc, "relaxed")?)?;
+/// println!(rt; "{:?}", mode_of(&words))?; // Some(Relaxed)
+/// ```
 #[derive(Clone, Copy, PartialEq, Eq, Debug)]
 pub enum Mode {
     /// The canonical form of MongoDB Extended JSON v2, which keeps every kind.

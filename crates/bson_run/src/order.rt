@@ -2,6 +2,16 @@
 use crate::mode::Mode;
 
 /// What is done with each line.
+///
+/// ```
+/// let mut lines: &[u8] = b"1\n2";
+/// let (mut output, mut told) = (Vec::new(alloc), Vec::new(alloc));
+/// let (task, stop) = (Task::Write(Mode::Canonical), OnRefusal::Stop);
+/// drop(run_lines(alloc, task, stop, &mut lines, &mut output, &mut told));
+/// rt.print(str::from_utf8(&output)?)?;
+/// // {"$numberInt":"1"}
+/// // {"$numberInt":"2"}
+/// ```
 #[derive(Clone, Copy, PartialEq, Eq, Debug)]
 pub enum Task {
     /// Its output in the mode is written.
@@ -11,6 +21,15 @@ pub enum Task {
 }
 
 /// What becomes of a run at a line that is refused.
+///
+/// ```
+/// let mut lines: &[u8] = b"[\n2";
+/// let (mut output, mut told) = (Vec::new(alloc), Vec::new(alloc));
+/// let (task, explain) = (Task::Write(Mode::Relaxed), OnRefusal::Explain);
+/// drop(run_lines(alloc, task, explain, &mut lines, &mut output, &mut told));
+/// rt.print(str::from_utf8(&told)?)?; // bson_lines: line 1: not JSON at column 1
+/// rt.print(str::from_utf8(&output)?)?; // 2
+/// ```
 #[derive(Clone, Copy, PartialEq, Eq, Debug)]
 pub enum OnRefusal {
     /// It stops.

@@ -17,6 +17,12 @@ use std::alloc::{AllocError, Global};
 use std::fmt;
 
 /// Why a text or bytes give no binary or vector.
+///
+/// ```
+/// if let Err(error) = Binary::from_base64(alloc, "AQI", None) {
+///     println!(rt; "{error}")?; // not base64
+/// }
+/// ```
 #[derive(Debug, Drop, thiserror::Error)]
 pub enum Error {
     /// The text is no padded base64.
@@ -51,6 +57,11 @@ impl From<AllocError> for Error {
 pub type Result<T, E = Error> = std::result::Result<T, E>;
 
 /// Bytes, and what they are.
+///
+/// ```
+/// let binary = Binary::from_base64(alloc, "AQI=", None)?;
+/// println!(rt; "{:?} {:?}", binary.subtype, binary.bytes)?; // Generic [1, 2]
+/// ```
 #[derive(Debug, Drop, PartialEq, Eq, Hash)]
 pub struct Binary {
     /// What the bytes are.

@@ -5,6 +5,12 @@ use crate::oid::ObjectId;
 use std::alloc::{AllocError, Global};
 
 /// The name of a collection, and the id of a document in it.
+///
+/// ```
+/// let id = ObjectId::parse_str(alloc, "53e37d08776f724e42000000")?;
+/// let pointer = DbPointer::new(String::from_str(alloc, "orders")?, id);
+/// println!(rt; "{} {}", pointer.namespace(), pointer.id())?; // orders 53e37d08776f724e42000000
+/// ```
 #[derive(Debug, Drop, PartialEq, Eq, Hash)]
 pub struct DbPointer {
     namespace: String,

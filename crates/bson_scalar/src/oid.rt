@@ -15,6 +15,12 @@ use std::fmt;
 use std::marker::Model;
 
 /// Why a text is no object id. `hex` is a copy of the text.
+///
+/// ```
+/// if let Err(error) = ObjectId::parse_str(alloc, "53e3") {
+///     println!(rt; "{error}")?; // an object id has 24 digits, but "53e3" has 4
+/// }
+/// ```
 #[derive(Debug, Drop, thiserror::Error)]
 pub enum Error {
     /// The first byte that is no hexadecimal digit: the character whose number is that byte, and its
@@ -62,7 +68,7 @@ pub type Result<T, E = Error> = std::result::Result<T, E>;
 ///
 /// ```
 /// let id = ObjectId::parse_str(alloc, "53e37d08776f724e42000000")?;
-/// assert_eq!(format!("{id}"), "53e37d08776f724e42000000");
+/// println!(rt; "{id}")?; // 53e37d08776f724e42000000
 /// ```
 #[derive(Clone, Copy, Debug, PartialEq, Eq, Hash)]
 pub struct ObjectId {

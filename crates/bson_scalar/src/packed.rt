@@ -12,6 +12,14 @@ const WIDE: &str = "the padding of packed bits is above 7";
 /// byte are ignored: 8 times the number of bytes, less the padding, bits.
 ///
 /// The padding is below 8, and 0 where there are no bytes. The ignored bits are zero.
+///
+/// Twelve bits:
+///
+/// ```
+/// let bytes = Vec::from_slice(alloc, &[0b1010_1010, 0b1111_0000])?;
+/// let bits = PackedBitVector::new(bytes, Some(4))?;
+/// println!(rt; "{:?} {}", bits.as_bytes(), bits.padding())?; // [170, 240] 4
+/// ```
 #[derive(Debug, Drop, PartialEq, Eq)]
 pub struct PackedBitVector {
     bytes: Vec<u8>,

@@ -8,6 +8,11 @@ use std::fmt;
 
 /// A pattern and its options, of which neither is tested. Extended JSON is written with the
 /// options sorted, whatever their order here.
+///
+/// ```
+/// let regex = Regex::new(alloc, "^a", "xi")?;
+/// println!(rt; "{regex}")?; // /^a/ix
+/// ```
 #[derive(Debug, Drop, PartialEq, Eq, Hash)]
 pub struct Regex {
     /// The pattern.

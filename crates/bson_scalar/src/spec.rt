@@ -8,6 +8,11 @@ use std::fmt;
 use std::hash::{Hash, Hasher};
 
 /// The type of an element, which its tag names.
+///
+/// ```
+/// println!(rt; "{:?}", ElementType::from(0x10))?; // Some(Int32)
+/// println!(rt; "{}", ElementType::MinKey.tag())?; // 255
+/// ```
 #[derive(Clone, Copy, Debug, PartialEq, Eq)]
 pub enum ElementType {
     /// Tag 0x01: 64 bits of a binary floating point number.
@@ -122,6 +127,11 @@ impl ElementType {
 /// Each byte names one subtype, and comes back from it. `Reserved` and `UserDefined` can be built
 /// with any byte, which they are then written as, while the byte reads as the subtype that it names:
 /// `UserDefined(0)` is written as 0x00, which reads as `Generic`. Hashing goes by the byte.
+///
+/// ```
+/// let subtype = BinarySubtype::from(0x80);
+/// println!(rt; "{subtype:?} {subtype:x}")?; // UserDefined(128) 80
+/// ```
 #[derive(Clone, Copy, Debug, PartialEq, Eq)]
 pub enum BinarySubtype {
     /// 0x00: any bytes.

@@ -5,6 +5,12 @@ use std::fmt;
 
 /// Seconds since 1970-01-01T00:00:00Z, and a counter within that second. Ordered by time, then by
 /// increment. `DateTime` is the type for a date of one's own.
+///
+/// ```
+/// let time = 1_590_972_160;
+/// let increment = 1;
+/// println!(rt; "{}", Timestamp { time, increment })?; // Timestamp(1590972160, 1)
+/// ```
 #[derive(Clone, Copy, Debug, PartialEq, Eq, PartialOrd, Ord, Hash)]
 pub struct Timestamp {
     /// Whole seconds since 1970-01-01T00:00:00Z.

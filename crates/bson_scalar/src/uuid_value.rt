@@ -8,6 +8,12 @@ use std::fmt;
 use std::marker::Model;
 
 /// Why a text or a binary gives no UUID.
+///
+/// ```
+/// if let Err(error) = Uuid::parse_str("0011") {
+///     println!(rt; "{error}")?; // not the text of a UUID
+/// }
+/// ```
 #[derive(Debug, Drop, thiserror::Error)]
 pub enum Error {
     /// The text is no UUID.
@@ -40,6 +46,14 @@ pub type Result<T> = std::result::Result<T, Error>;
 
 /// The byte order of a UUID in a binary. Drivers wrote subtype 0x03 in orders of their own before
 /// subtype 0x04 settled on the order of the text.
+///
+/// ```
+/// if let Ok(id) = Uuid::parse_str("00112233-4455-6677-8899-aabbccddeeff") {
+///     let order = UuidRepresentation::CSharpLegacy;
+///     let binary = Binary::from_uuid_with_representation(alloc, id, order)?;
+///     println!(rt; "{binary}")?; // Binary(0x3, MyIRAFVEd2aImaq7zN3u/w==)
+/// }
+/// ```
 #[derive(Clone, Copy, Debug, PartialEq, Eq)]
 pub enum UuidRepresentation {
     /// Subtype 0x04, the bytes as they are.
@@ -55,8 +69,9 @@ pub enum UuidRepresentation {
 /// A UUID of 16 bytes, in the order of its text.
 ///
 /// ```
-/// let id = Uuid::parse_str("00112233-4455-6677-8899-aabbccddeeff")?;
-/// assert_eq!(format!("{id}"), "00112233-4455-6677-8899-aabbccddeeff");
+/// if let Ok(id) = Uuid::parse_str("00112233-4455-6677-8899-aabbccddeeff") {
+///     println!(rt; "{id}")?; // 00112233-4455-6677-8899-aabbccddeeff
+/// }
 /// ```
 #[derive(Clone, Copy, Debug, PartialEq, Eq, PartialOrd, Ord, Hash)]
 pub struct Uuid {

@@ -23,6 +23,13 @@ const FLOAT32: u8 = 0x27;
 const HEAD: &str = "a vector has a type and a padding";
 
 /// A vector as a binary of subtype Vector holds it.
+///
+/// ```
+/// let vector = Vector::Int8(Vec::from_slice(alloc, &[-1, 2])?);
+/// let binary = Binary::from_vector(alloc, &vector)?;
+/// println!(rt; "{:?}", binary.bytes)?; // [3, 0, 255, 2]
+/// println!(rt; "{:?}", Vector::from_binary(alloc, &binary)?)?; // Int8([-1, 2])
+/// ```
 #[derive(Debug, Drop, PartialEq, Eq)]
 pub enum Vector {
     /// Signed whole numbers of 8 bits.

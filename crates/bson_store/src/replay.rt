@@ -8,6 +8,14 @@ use std::alloc::Global;
 use thiserror::Error;
 
 /// A call to a store.
+///
+/// ```
+/// let mut commands = Vec::new(alloc);
+/// commands.push(Command::Put(String::from_str(alloc, "a")?, 1))?;
+/// commands.push(Command::Take(String::from_str(alloc, "a")?))?;
+/// let mut pairs: SmallPairs<u32> = SmallPairs::new(alloc);
+/// println!(rt; "{:?}", replay(alloc, &mut pairs, commands)?)?; // [None, Some(1)]
+/// ```
 #[derive(Drop)]
 pub enum Command<V> {
     /// Puts the value at the key; the reply is the one that was there.
@@ -19,6 +27,10 @@ pub enum Command<V> {
 }
 
 /// Want of memory in `replay`: the first `done` commands were run, and no other.
+///
+/// ```
+/// println!(rt; "{}", Stopped { done: 3 })?; // out of memory after 3 commands
+/// ```
 #[derive(Debug, Drop, PartialEq, Eq, Error)]
 #[error("out of memory after {done} commands")]
 pub struct Stopped {

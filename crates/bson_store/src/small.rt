@@ -26,6 +26,12 @@ pub(crate) struct Pair<V> {
 /// Up to eight pairs take one block of memory, and a key is found by a walk. Above that the map holds a copy of each
 /// key in ascending order, so that among n pairs a key is found in the order of log n comparisons, whatever the keys
 /// are. `push` takes as many; `remove_at` takes as many for each pair behind the one it takes out, and no memory.
+///
+/// ```
+/// let mut pairs: SmallPairs<u32> = SmallPairs::new(alloc);
+/// println!(rt; "{:?}", put(&mut pairs, String::from_str(alloc, "a")?, 1))?; // Ok(None)
+/// println!(rt; "{:?}", pairs.find("a"))?; // Some(0)
+/// ```
 pub struct SmallPairs<V> {
     pairs: Vec<Pair<V>>,
     places: Option<Box<BTreeMap<String, usize>>>,

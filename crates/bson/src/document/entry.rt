@@ -10,6 +10,14 @@ use bson_store::PairStore;
 use std::alloc::AllocError;
 
 /// The entry of a key, which the document has or lacks; `Document::entry` makes it.
+///
+/// Where `document` is `{ "a": 1, "b": 2 }`:
+///
+/// ```
+/// let key = String::from_str(alloc, "c")?;
+/// *document.entry(key).or_insert(Bson::Null)? = Bson::Int32(3);
+/// println!(rt; "{document}")?; // { "a": 1, "b": 2, "c": 3 }
+/// ```
 #[derive(Drop)]
 pub enum Entry<'a> {
     /// The document has the key.
@@ -19,6 +27,14 @@ pub enum Entry<'a> {
 }
 
 /// A key that the document has.
+///
+/// Where `document` is `{ "a": 1, "b": 2 }`:
+///
+/// ```
+/// if let Entry::Occupied(_) = document.entry(String::from_str(alloc, "a")?) {
+///     println!(rt; "a is there")?; // a is there
+/// }
+/// ```
 #[derive(Drop)]
 pub struct OccupiedEntry<'a> {
     document: &'a mut Document,
@@ -28,6 +44,14 @@ pub struct OccupiedEntry<'a> {
 }
 
 /// A key that the document lacks.
+///
+/// Where `document` is `{ "a": 1, "b": 2 }`:
+///
+/// ```
+/// if let Entry::Vacant(_) = document.entry(String::from_str(alloc, "c")?) {
+///     println!(rt; "c is not there")?; // c is not there
+/// }
+/// ```
 #[derive(Drop)]
 pub struct VacantEntry<'a> {
     document: &'a mut Document,

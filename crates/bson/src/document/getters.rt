@@ -11,6 +11,15 @@ use bson_scalar::oid::ObjectId;
 use bson_scalar::timestamp::Timestamp;
 
 /// Why a typed getter has no value to give.
+///
+/// Where `document` is `{ "a": 1, "b": 2 }`:
+///
+/// ```
+/// println!(rt; "{:?}", document.get_i32("c"))?; // Err(NotPresent)
+/// if document.get_str("a") == Err(ValueAccessError::UnexpectedType) {
+///     println!(rt; "a is no text")?; // a is no text
+/// }
+/// ```
 #[derive(Clone, Copy, PartialEq, Eq, Debug, thiserror::Error)]
 pub enum ValueAccessError {
     /// The key is absent.

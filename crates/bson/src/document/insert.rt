@@ -15,6 +15,15 @@ use std::alloc::Global;
 use thiserror::Error;
 
 /// Want of memory at a new key, with the pair that was not put. It is an error with a text, so `?` carries it.
+///
+/// Where `document` is `{ "a": 1, "b": 2 }`:
+///
+/// ```
+/// match document.insert(String::from_str(alloc, "c")?, Bson::Null) {
+///     Ok(_) => println!(rt; "{document}")?, // { "a": 1, "b": 2, "c": null }
+///     Err(refused) => println!(rt; "no memory for {}", refused.key)?,
+/// }
+/// ```
 #[derive(Drop, Error)]
 #[error("out of memory: the pair was not put")]
 pub struct Refused {

@@ -5,6 +5,16 @@ use bson_store::small::IntoIter as PairsIntoIter;
 use bson_store::{PairStore, SmallPairs};
 
 /// The pairs that are left, each as a key and a value; `Document::iter` makes it.
+///
+/// Where `document` is `{ "a": 1, "b": 2 }`:
+///
+/// ```
+/// for (key, value) in document.iter() {
+///     println!(rt; "{key} is {value}")?;
+/// }
+/// // a is 1
+/// // b is 2
+/// ```
 #[derive(Drop)]
 pub struct Iter<'a> {
     pairs: &'a SmallPairs<Bson>,
@@ -12,18 +22,39 @@ pub struct Iter<'a> {
 }
 
 /// The keys of the pairs that are left; `Document::keys` makes it.
+///
+/// Where `document` is `{ "a": 1, "b": 2 }`:
+///
+/// ```
+/// let mut keys = document.keys();
+/// println!(rt; "{:?} {:?}", keys.next(), keys.next())?; // Some("a") Some("b")
+/// ```
 #[derive(Drop)]
 pub struct Keys<'a> {
     pairs: Iter<'a>,
 }
 
 /// The values of the pairs that are left; `Document::values` makes it.
+///
+/// Where `document` is `{ "a": 1, "b": 2 }`:
+///
+/// ```
+/// let mut values = document.values();
+/// println!(rt; "{:?} {:?}", values.next(), values.next())?; // Some(Int32(1)) Some(Int32(2))
+/// ```
 #[derive(Drop)]
 pub struct Values<'a> {
     pairs: Iter<'a>,
 }
 
 /// The pairs that are left, by value; `Document::into_iter` makes it.
+///
+/// Where `document` is `{ "a": 1, "b": 2 }`:
+///
+/// ```
+/// let mut pairs = document.into_iter();
+/// println!(rt; "{:?}", pairs.next())?; // Some(("a", Int32(1)))
+/// ```
 #[derive(Drop)]
 pub struct IntoIter {
     pairs: PairsIntoIter<Bson>,

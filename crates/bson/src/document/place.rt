@@ -14,6 +14,15 @@ use crate::bson::Bson;
 use bson_store::PairStore;
 
 /// A place that the document has; `Document::place_mut` makes it.
+///
+/// Where `document` is `{ "a": 1, "b": 2 }`:
+///
+/// ```
+/// if let Some(place) = document.place_mut(1) {
+///     *place.into_value() = Bson::Int32(5);
+/// }
+/// println!(rt; "{document}")?; // { "a": 1, "b": 5 }
+/// ```
 #[derive(Drop)]
 pub struct PlaceMut<'a> {
     document: &'a mut Document,

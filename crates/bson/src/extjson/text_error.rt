@@ -2,6 +2,12 @@
 use bson_leaf::error::Error;
 
 /// Why bytes give no value.
+///
+/// ```
+/// if let Err(error) = Bson::try_from_text(alloc, b"[1, 2") {
+///     println!(rt; "{error}")?; // not JSON
+/// }
+/// ```
 #[derive(Debug, Drop, thiserror::Error)]
 pub enum TextError {
     /// The bytes are not one JSON text: they are no UTF-8, nest deeper than 127, or break the grammar.

@@ -49,6 +49,11 @@ impl Bson {
     /// read again by its tree, which finds the fault. So is, and is then accepted, a text that has an
     /// object in which a wrapper's key stands twice, or behind another key (`$scope` before `$code`),
     /// or in which a value of no meaning gives way to a later one of its key.
+    ///
+    /// ```
+    /// let value = Bson::try_from_text(alloc, br#"{"n": {"$numberLong": "5"}}"#)?;
+    /// println!(rt; "{value:?}")?; // Document({"n": Int64(5)})
+    /// ```
     pub fn try_from_text(alloc: Global, bytes: &[u8]) -> Result<Bson, TextError>
         ensures ok { IfOk result (λ v. HasTextMeaning bytes.now (bson_view v)) }
         ensures accepts { (t : Data) (v : model.Value) → IsTextOf bytes.now t → Means t v

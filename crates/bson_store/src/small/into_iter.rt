@@ -8,6 +8,13 @@ use std::marker::Model;
 use std::vec;
 
 /// An iterator over the pairs of a store, by value and in their order; `SmallPairs::into_pairs` makes it.
+///
+/// Where `pairs` holds a 1 and b 2:
+///
+/// ```
+/// let mut left = pairs.into_pairs();
+/// println!(rt; "{:?} {:?}", left.next(), left.next())?; // Some(("a", 1)) Some(("b", 2))
+/// ```
 #[derive(Drop)]
 pub struct IntoIter<V> {
     pairs: vec::IntoIter<Pair<V>>,
