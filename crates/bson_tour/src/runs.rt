@@ -1,0 +1,91 @@
+//! From texts to texts, whole and by lines.
+use bson_run::convert::convert;
+use bson_run::lines::{run_lines, run_lines_explained};
+use bson_run::mode::{Mode, mode_of};
+use bson_run::order::{OnRefusal, Task};
+use bson_run::value::value_of;
+use std::alloc::Global;
+
+pub(crate) fn print(rt: &impl Print, alloc: Global) -> anyhow::Result<()> {
+    convert_call(rt, alloc)?;
+    mode(rt, alloc)?;
+    fault(rt, alloc)?;
+    counts(rt, alloc)?;
+    line_fault(rt, alloc)?;
+    refusal(rt, alloc)?;
+    task(rt, alloc)?;
+    on_refusal(rt, alloc)
+}
+
+fn convert_call(rt: &impl Print, alloc: Global) -> anyhow::Result<()> {
+    if let Ok(line) = convert(alloc, Mode::Relaxed, br#"{"$numberLong": "5"}"#) {
+        rt.print(str::from_utf8(&line)?)?; // 5
+    }
+    Ok(())
+}
+
+fn mode(rt: &impl Print, alloc: Global) -> anyhow::Result<()> {
+    let mut words = Vec::new(alloc);
+    words.push(String::from_str(alloc, "relaxed")?)?;
+    println!(rt; "{:?}", mode_of(&words))?; // Some(Relaxed)
+    Ok(())
+}
+
+fn fault(rt: &impl Print, alloc: Global) -> anyhow::Result<()> {
+    if let Err(fault) = value_of(alloc, b"[1, 2") {
+        println!(rt; "{}", fault.line())?; // bson_cli: not JSON
+    }
+    Ok(())
+}
+
+fn counts(rt: &impl Print, alloc: Global) -> anyhow::Result<()> {
+    let mut lines: &[u8] = b"1\n[\n";
+    let (mut output, mut told) = (Vec::new(alloc), Vec::new(alloc));
+    let (task, go_on) = (Task::Check, OnRefusal::KeepGoing);
+    let counts = run_lines(alloc, task, go_on, &mut lines, &mut output, &mut told);
+    println!(rt; "{counts:?}")?; // Ok(Counts { lines: 2, refused: 1 })
+    Ok(())
+}
+
+fn line_fault(rt: &impl Print, alloc: Global) -> anyhow::Result<()> {
+    let mut lines: &[u8] = b"1\n[\n";
+    let (mut output, mut told) = (Vec::new(alloc), Vec::new(alloc));
+    let (task, stop) = (Task::Check, OnRefusal::Stop);
+    if let Err(at) = run_lines(alloc, task, stop, &mut lines, &mut output, &mut told) {
+        println!(rt; "line {}: {}", at.line, at.words())?; // line 2: not JSON
+    }
+    Ok(())
+}
+
+fn refusal(rt: &impl Print, alloc: Global) -> anyhow::Result<()> {
+    let mut lines: &[u8] = br#"{"n": 1.5}"#;
+    let (mut output, mut told) = (Vec::new(alloc), Vec::new(alloc));
+    let (task, stop) = (Task::Check, OnRefusal::Stop);
+    let run = run_lines_explained(alloc, task, stop, &mut lines, &mut output, &mut told);
+    if let Err(refusal) = run {
+        println!(rt; "line {}{}", refusal.at.line, refusal.place)?;
+    }
+    // line 1 at n (a number that is no whole one of 64 bits)
+    Ok(())
+}
+
+fn task(rt: &impl Print, alloc: Global) -> anyhow::Result<()> {
+    let mut lines: &[u8] = b"1\n2";
+    let (mut output, mut told) = (Vec::new(alloc), Vec::new(alloc));
+    let (task, stop) = (Task::Write(Mode::Canonical), OnRefusal::Stop);
+    drop(run_lines(alloc, task, stop, &mut lines, &mut output, &mut told));
+    rt.print(str::from_utf8(&output)?)?;
+    // {"$numberInt":"1"}
+    // {"$numberInt":"2"}
+    Ok(())
+}
+
+fn on_refusal(rt: &impl Print, alloc: Global) -> anyhow::Result<()> {
+    let mut lines: &[u8] = b"[\n2";
+    let (mut output, mut told) = (Vec::new(alloc), Vec::new(alloc));
+    let (task, explain) = (Task::Write(Mode::Relaxed), OnRefusal::Explain);
+    drop(run_lines(alloc, task, explain, &mut lines, &mut output, &mut told));
+    rt.print(str::from_utf8(&told)?)?; // bson_lines: line 1: not JSON at column 1
+    rt.print(str::from_utf8(&output)?)?; // 2
+    Ok(())
+}

@@ -1,0 +1,60 @@
+//! Extended JSON, from trees and texts, and why they mean nothing.
+use bson::Bson;
+use bson_place::walk::place_of_fault;
+use bson_text::try_from_text;
+use serde_json::Value;
+use std::alloc::Global;
+
+pub(crate) fn print(rt: &impl Print, alloc: Global) -> anyhow::Result<()> {
+    extjson_de_error(rt, alloc)?;
+    write_error(rt, alloc)?;
+    try_from_text_call(rt, alloc)?;
+    text_error(rt, alloc)?;
+    place(rt, alloc)?;
+    step(rt, alloc)
+}
+
+fn extjson_de_error(rt: &impl Print, alloc: Global) -> anyhow::Result<()> {
+    let tree = Value::from_slice(alloc, br#"{"$oid": "53e3"}"#)?;
+    if let Err(error) = Bson::try_from_value(alloc, tree) {
+        println!(rt; "{error}")?; // an object id has 24 digits, but "53e3" has 4
+    }
+    Ok(())
+}
+
+fn write_error(rt: &impl Print, alloc: Global) -> anyhow::Result<()> {
+    let half = Bson::Double(0x3fe0_0000_0000_0000);
+    if let Err(error) = half.to_canonical_text(alloc) {
+        println!(rt; "{error}")?; // a finite double has no text
+    }
+    Ok(())
+}
+
+fn try_from_text_call(rt: &impl Print, alloc: Global) -> anyhow::Result<()> {
+    let value = try_from_text(alloc, br#"{"n": {"$numberLong": "5"}}"#)?;
+    println!(rt; "{value:?}")?; // Document({"n": Int64(5)})
+    Ok(())
+}
+
+fn text_error(rt: &impl Print, alloc: Global) -> anyhow::Result<()> {
+    if let Err(error) = try_from_text(alloc, b"[1, 2") {
+        println!(rt; "{error}")?; // not JSON
+    }
+    Ok(())
+}
+
+fn place(rt: &impl Print, alloc: Global) -> anyhow::Result<()> {
+    let tree = Value::from_slice(alloc, br#"{"orders": [{"price": 1.5}]}"#)?;
+    if let Some(place) = place_of_fault(alloc, tree)? {
+        println!(rt; "{}", place.path(alloc)?)?; // orders.0.price
+    }
+    Ok(())
+}
+
+fn step(rt: &impl Print, alloc: Global) -> anyhow::Result<()> {
+    let tree = Value::from_slice(alloc, br#"{"orders": [1.5]}"#)?;
+    if let Some(place) = place_of_fault(alloc, tree)? {
+        println!(rt; "{:?}", place.steps)?; // [Element(0), Key("orders")]
+    }
+    Ok(())
+}
