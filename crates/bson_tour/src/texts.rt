@@ -1,7 +1,6 @@
 //! Extended JSON, from trees and texts, and why they mean nothing.
 use bson::Bson;
 use bson_place::walk::place_of_fault;
-use bson_text::try_from_text;
 use serde_json::Value;
 use std::alloc::Global;
 
@@ -31,13 +30,13 @@ fn write_error(rt: &impl Print, alloc: Global) -> anyhow::Result<()> {
 }
 
 fn try_from_text_call(rt: &impl Print, alloc: Global) -> anyhow::Result<()> {
-    let value = try_from_text(alloc, br#"{"n": {"$numberLong": "5"}}"#)?;
+    let value = Bson::try_from_text(alloc, br#"{"n": {"$numberLong": "5"}}"#)?;
     println!(rt; "{value:?}")?; // Document({"n": Int64(5)})
     Ok(())
 }
 
 fn text_error(rt: &impl Print, alloc: Global) -> anyhow::Result<()> {
-    if let Err(error) = try_from_text(alloc, b"[1, 2") {
+    if let Err(error) = Bson::try_from_text(alloc, b"[1, 2") {
         println!(rt; "{error}")?; // not JSON
     }
     Ok(())
