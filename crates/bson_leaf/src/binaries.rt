@@ -2,8 +2,7 @@
 //! `{"base64": "aGVsbG8=", "subType": "00"}` under `$binary` (RFC 4648 section 4, with padding; two
 //! hexadecimal digits, of which lower-case ones are written). `$uuid` is read alone, as
 //! `{"$uuid": "00112233-4455-6677-8899-aabbccddeeff"}`, and means a binary of subtype 04.
-ghost use Rattle.std.specs.Prelude.{◌≡◌, ◌<◌, IfOk, OnOk, codes, ◌∷◌, [], string_bytes};
-ghost use Rattle.serde_json.specs.Data.{string};
+ghost use Rattle.std.specs.Prelude.{◌≡◌, ◌<◌, IfOk, OnOk, ◌∷◌, [], string_bytes};
 ghost use Rattle.serde_json.specs.View.{view};
 ghost use Rattle.hex.specs.Hex.{encode_lower, IsBytes};
 ghost use Rattle.bson_scalar.specs.Orders.{parsed_hyphenated};
@@ -11,19 +10,16 @@ ghost use Rattle.bson_scalar.specs.Subtype.{subtype_byte};
 ghost use Rattle.bson_leaf.specs.Binaries.{binary_tree};
 ghost use Rattle.bson_leaf.specs.Faults.{Gives, or_wrong_shape};
 ghost use Rattle.bson_leaf.specs.Reading.{binary_read, uuid_read, byte_of as byte_at, bytes_of as bytes_at};
-ghost use Rattle.bson_leaf.specs.Shapes.{object_of_two};
 ghost use Rattle.bson_leaf.specs.View.{leaf_view};
 
 use crate::error::Error;
 use crate::leaf::Leaf;
-use crate::shapes::{are_bytes, expected, text_in, two_in};
-use crate::sink::Sink;
-use crate::wrapped::{begin, end_one, end_two, second};
+use crate::shapes::{are_bytes, expected, text_in, two_in, wrapped};
 use base64::engine::general_purpose::STANDARD;
 use bson_scalar::binary::{self, Binary};
 use bson_scalar::spec::BinarySubtype;
 use bson_scalar::uuid_value::Uuid;
-use serde_json::Value;
+use serde_json::{Map, Value};
 use std::alloc::{AllocError, Global};
 
 const BINARY_SHAPE: &str = "`$binary` holds the texts `base64` and `subType`";
@@ -95,7 +91,7 @@ pub fn read_uuid(alloc: Global, value: Value) -> Result<Leaf, Error>
     Ok(Leaf::Binary(Binary::from_uuid(alloc, id)?))
 }
 
-fn byte_text(alloc: Global, subtype: BinarySubtype) -> Result<String, AllocError>
+pub(crate) fn byte_text(alloc: Global, subtype: BinarySubtype) -> Result<String, AllocError>
     ensures text { IfOk result (λ s. string_bytes s ≡ encode_lower (subtype_byte subtype ∷ [])) }
     ensures ranged { OnOk result (subtype_byte subtype < 256) }
 {
@@ -103,32 +99,17 @@ fn byte_text(alloc: Global, subtype: BinarySubtype) -> Result<String, AllocError
     hex::encode(alloc, [byte])
 }
 
-// What `$binary` holds.
-fn write_texts<S: Sink>(base64: String, subtype: String, out: &mut S) -> Result<S::Tree, AllocError>
-    ensures { IfOk result (λ t. S.wrote out.old
-        (object_of_two (codes "base64") (string (string_bytes base64)) (codes "subType") (string (string_bytes subtype)))
-        t out.new) }
+/// The tree of a binary, in both forms.
+pub fn write_binary(alloc: Global, binary: Binary) -> Result<Value, AllocError>
+    ensures tree { IfOk result (λ t. view t ≡ binary_tree binary.subtype binary.bytes.items) }
+    ensures ranged { OnOk result ((subtype_byte binary.subtype < 256) × IsBytes binary.bytes.items) }
 {
-    let key = begin("base64", out)?;
-    let bytes = out.owned_text(base64)?;
-    let next = second(key, bytes, "subType", out)?;
-    let digits = out.owned_text(subtype)?;
-    end_two(next, digits, out)
-}
-
-/// Writes the tree of a binary, in both forms.
-pub fn write_binary<S: Sink>(
-    alloc: Global,
-    binary: &Binary,
-    out: &mut S,
-) -> Result<S::Tree, AllocError>
-    ensures tree { IfOk result (λ t. S.wrote out.old (binary_tree binary.now.subtype binary.now.bytes.items) t out.new) }
-    ensures ranged { OnOk result ((subtype_byte binary.now.subtype < 256) × IsBytes binary.now.bytes.items) }
-{
-    are_bytes(binary.bytes.as_slice());
-    let base64 = STANDARD.encode(alloc, binary.bytes.as_slice())?;
-    let subtype = byte_text(alloc, binary.subtype)?;
-    let key = begin("$binary", out)?;
-    let texts = write_texts(base64, subtype, out)?;
-    end_one(key, texts, out)
+    let Binary { subtype, bytes } = binary;
+    are_bytes(bytes.as_slice());
+    let base64 = STANDARD.encode(alloc, bytes.as_slice())?;
+    let subtype = byte_text(alloc, subtype)?;
+    let mut members = Map::new(alloc);
+    serde_json::put(&mut members, alloc, "base64", Value::String(base64))?;
+    serde_json::put(&mut members, alloc, "subType", Value::String(subtype))?;
+    wrapped(alloc, "$binary", Value::Object(members))
 }

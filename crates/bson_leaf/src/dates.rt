@@ -1,8 +1,7 @@
 //! `$date`: a moment. Read as `{"$numberLong": "5"}`, as an RFC 3339 text or as a whole number of
 //! milliseconds since 1970-01-01T00:00:00Z under that key, and written as `$numberLong`, or in the
 //! relaxed form as an RFC 3339 text from 1970 to the end of the year 9999.
-ghost use Rattle.std.specs.Prelude.{◌≡◌, IfOk, OnOk, FitsSigned, codes, pos, ◌≤ℤ◌, string_bytes};
-ghost use Rattle.std.specs.Int.{w64};
+ghost use Rattle.std.specs.Prelude.{◌≡◌, IfOk, codes, pos, ◌≤ℤ◌, string_bytes};
 ghost use Rattle.serde_json.specs.View.{view};
 ghost use Rattle.bson_datetime.specs.Rfc3339.{denoted};
 ghost use Rattle.bson_datetime.specs.Shown.{rfc};
@@ -14,11 +13,9 @@ ghost use Rattle.bson_leaf.specs.View.{leaf_view};
 
 use crate::error::Error;
 use crate::form::Form;
-use crate::ints::int64_of;
+use crate::ints::{int64_of, wrapped_int64};
 use crate::leaf::Leaf;
-use crate::shapes::{expected, lone_in, text_in};
-use crate::sink::Sink;
-use crate::wrapped::{begin, end_one, wrapped_numeral, wrapped_owned};
+use crate::shapes::{expected, lone_in, text_in, wrapped};
 use bson_datetime::DateTime;
 use serde_json::Value;
 use std::alloc::{AllocError, Global};
@@ -26,7 +23,7 @@ use std::alloc::{AllocError, Global};
 const SHAPE: &str = "`$date` holds `$numberLong`, an RFC 3339 text or a whole number";
 
 // The last millisecond of the year 9999.
-const LAST_RELAXED: i64 = 253_402_300_799_999;
+pub(crate) const LAST_RELAXED: i64 = 253_402_300_799_999;
 
 fn denoted_by(text: &str) -> Option<DateTime>
     ensures { result ≡ denoted text.now }
@@ -60,7 +57,14 @@ pub fn read_date(value: Value) -> Result<Leaf, Error>
     Ok(Leaf::DateTime(DateTime::from_millis(millis)))
 }
 
-fn text(alloc: Global, date: DateTime) -> Result<String, AllocError>
+fn wrapped_date(alloc: Global, date: DateTime) -> Result<Value, AllocError>
+    ensures { IfOk result (λ t. view t ≡ date_tree date) }
+{
+    let millis = wrapped_int64(alloc, date.timestamp_millis())?;
+    wrapped(alloc, "$date", millis)
+}
+
+pub(crate) fn text(alloc: Global, date: DateTime) -> Result<String, AllocError>
     requires from { pos 0 ≤ℤ date }
     requires to { date ≤ℤ pos 253_402_300_799_999 }
     ensures { IfOk result (λ s. string_bytes s ≡ rfc date) }
@@ -72,39 +76,23 @@ fn text(alloc: Global, date: DateTime) -> Result<String, AllocError>
     }
 }
 
-// The milliseconds, as canonical.
-fn write_millis<S: Sink>(date: DateTime, out: &mut S) -> Result<S::Tree, AllocError>
-    ensures { IfOk result (λ t. S.wrote out.old (date_tree date) t out.new) }
-{
-    let key = begin("$date", out)?;
-    let millis = wrapped_numeral("$numberLong", date.timestamp_millis(), out)?;
-    end_one(key, millis, out)
-}
-
-fn write_relaxed<S: Sink>(alloc: Global, date: DateTime, out: &mut S) -> Result<S::Tree, AllocError>
-    ensures { IfOk result (λ t. S.wrote out.old (relaxed_date_tree date) t out.new) }
+fn relaxed_date(alloc: Global, date: DateTime) -> Result<Value, AllocError>
+    ensures { IfOk result (λ t. view t ≡ relaxed_date_tree date) }
 {
     let millis = date.timestamp_millis();
     if 0 <= millis && millis <= LAST_RELAXED {
-        let readable = text(alloc, date)?;
-        wrapped_owned("$date", readable, out)
+        wrapped(alloc, "$date", Value::String(text(alloc, date)?))
     } else {
-        write_millis(date, out)
+        wrapped_date(alloc, date)
     }
 }
 
-/// Writes the tree of a moment in a form.
-pub fn write_date<S: Sink>(
-    alloc: Global,
-    form: Form,
-    date: DateTime,
-    out: &mut S,
-) -> Result<S::Tree, AllocError>
-    ensures tree { IfOk result (λ t. S.wrote out.old (date_form form date) t out.new) }
-    ensures ranged { OnOk result (FitsSigned w64 date) }
+/// The tree of a moment in a form.
+pub fn write_date(alloc: Global, form: Form, date: DateTime) -> Result<Value, AllocError>
+    ensures { IfOk result (λ t. view t ≡ date_form form date) }
 {
     match form {
-        Form::Canonical => write_millis(date, out),
-        Form::Relaxed => write_relaxed(alloc, date, out),
+        Form::Canonical => wrapped_date(alloc, date),
+        Form::Relaxed => relaxed_date(alloc, date),
     }
 }

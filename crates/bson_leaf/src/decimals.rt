@@ -9,9 +9,7 @@ ghost use Rattle.bson_leaf.specs.View.{leaf_view};
 
 use crate::error::Error;
 use crate::leaf::Leaf;
-use crate::shapes::{expected, text_in};
-use crate::sink::Sink;
-use crate::wrapped::wrapped_owned;
+use crate::shapes::{expected, text_in, wrapped};
 use bson_decimal::Decimal128;
 use serde_json::Value;
 use std::alloc::{AllocError, Global};
@@ -34,14 +32,10 @@ pub fn read_decimal(value: Value) -> Result<Leaf, Error>
     Ok(Leaf::Decimal128(decimal))
 }
 
-/// Writes the tree of a decimal, in both forms.
-pub fn write_decimal<S: Sink>(
-    alloc: Global,
-    decimal: Decimal128,
-    out: &mut S,
-) -> Result<S::Tree, AllocError>
-    ensures { IfOk result (λ t. S.wrote out.old (decimal_tree decimal) t out.new) }
+/// The tree of a decimal, in both forms.
+pub fn write_decimal(alloc: Global, decimal: Decimal128) -> Result<Value, AllocError>
+    ensures { IfOk result (λ t. view t ≡ decimal_tree decimal) }
 {
     let text = format!(in alloc; "{decimal}")?;
-    wrapped_owned("$numberDecimal", text, out)
+    wrapped(alloc, "$numberDecimal", Value::String(text))
 }

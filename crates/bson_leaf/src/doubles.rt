@@ -5,17 +5,15 @@ ghost use Rattle.serde_json.specs.View.{view};
 ghost use Rattle.bson_leaf.specs.Doubles as spec;
 ghost use Rattle.bson_leaf.specs.Faults.{Gives};
 ghost use Rattle.bson_leaf.specs.Reading.{double_read};
-ghost use Rattle.bson_leaf.specs.Tokens.{Sends};
 ghost use Rattle.bson_leaf.specs.View.{leaf_view};
-ghost use Rattle.bson_leaf.specs.Written.{double_writes};
+ghost use Rattle.bson_leaf.specs.Written.{Writes, double_writes};
 
 use crate::error::Error;
 use crate::leaf::Leaf;
-use crate::shapes::{expected, text_in};
-use crate::sink::Sink;
-use crate::wrapped::wrapped_text;
+use crate::shapes::{expected, text_in, wrapped};
 use crate::write_error::WriteError;
 use serde_json::Value;
+use std::alloc::Global;
 
 const SHAPE: &str = "`$numberDouble` holds `0.0`, `-0.0`, `Infinity`, `-Infinity`, `NaN` or `-NaN`";
 
@@ -49,7 +47,7 @@ pub fn read_double(value: Value) -> Result<Leaf, Error>
     Ok(Leaf::Double(pattern))
 }
 
-fn double_text(pattern: u64) -> Option<&'static str>
+pub(crate) fn double_text(pattern: u64) -> Option<&'static str>
     ensures { option_map (λ s. s.now) result ≡ spec.double_text pattern }
 {
     if pattern == 0 {
@@ -69,13 +67,16 @@ fn double_text(pattern: u64) -> Option<&'static str>
     }
 }
 
-/// Writes the tree of a double, in both forms: a NaN as `NaN` or `-NaN` by its sign. A double that
-/// is finite and no zero has none, and is refused as `FiniteDouble`.
-pub fn write_double<S: Sink>(pattern: u64, out: &mut S) -> Result<S::Tree, WriteError>
-    ensures { Sends (λ d t. S.wrote out.old d t out.new) result (double_writes pattern) }
+/// The tree of a double, in both forms: a NaN as `NaN` or `-NaN` by its sign. A double that is
+/// finite and no zero has none, and is refused as `FiniteDouble`.
+pub fn write_double(alloc: Global, pattern: u64) -> Result<Value, WriteError>
+    ensures { Writes view result (double_writes pattern) }
 {
     match double_text(pattern) {
-        Some(text) => Ok(wrapped_text("$numberDouble", text, out)?),
+        Some(text) => {
+            let value = Value::try_from_str(alloc, text)?;
+            Ok(wrapped(alloc, "$numberDouble", value)?)
+        }
         None => Err(WriteError::FiniteDouble),
     }
 }

@@ -3,6 +3,7 @@
 ghost use Rattle.std.specs.Prelude.{◌≡◌, IfOk};
 ghost use Rattle.serde_json.specs.View.{view};
 ghost use Rattle.bson_leaf.specs.Faults.{Gives};
+ghost use Rattle.bson_leaf.specs.Ints.{int32_tree, int64_tree};
 ghost use Rattle.bson_leaf.specs.Reading.{int_of, int32_read, int64_read};
 ghost use Rattle.bson_leaf.specs.Written.{int32_form, int64_form};
 ghost use Rattle.bson_leaf.specs.View.{leaf_view};
@@ -10,11 +11,9 @@ ghost use Rattle.bson_leaf.specs.View.{leaf_view};
 use crate::error::Error;
 use crate::form::Form;
 use crate::leaf::Leaf;
-use crate::shapes::{expected, text_in};
-use crate::sink::Sink;
-use crate::wrapped::wrapped_numeral;
+use crate::shapes::{expected, text_in, wrapped};
 use serde_json::Value;
-use std::alloc::AllocError;
+use std::alloc::{AllocError, Global};
 
 const INT32_SHAPE: &str = "`$numberInt` holds the text of an i32";
 
@@ -52,22 +51,37 @@ pub fn read_int64(value: Value) -> Result<Leaf, Error>
     Ok(Leaf::Int64(number))
 }
 
-/// Writes the tree of an Int32: its text under `$numberInt`, or in the relaxed form the number.
-pub fn write_int32<S: Sink>(form: Form, number: i32, out: &mut S) -> Result<S::Tree, AllocError>
-    ensures { IfOk result (λ t. S.wrote out.old (int32_form form number) t out.new) }
+fn wrapped_int32(alloc: Global, number: i32) -> Result<Value, AllocError>
+    ensures { IfOk result (λ t. view t ≡ int32_tree number) }
+{
+    let text = format!(in alloc; "{number}")?;
+    wrapped(alloc, "$numberInt", Value::String(text))
+}
+
+// The object that `$date` holds too.
+pub(crate) fn wrapped_int64(alloc: Global, number: i64) -> Result<Value, AllocError>
+    ensures { IfOk result (λ t. view t ≡ int64_tree number) }
+{
+    let text = format!(in alloc; "{number}")?;
+    wrapped(alloc, "$numberLong", Value::String(text))
+}
+
+/// The tree of an Int32: its text under `$numberInt`, or in the relaxed form the number.
+pub fn write_int32(alloc: Global, form: Form, number: i32) -> Result<Value, AllocError>
+    ensures { IfOk result (λ t. view t ≡ int32_form form number) }
 {
     match form {
-        Form::Canonical => wrapped_numeral("$numberInt", number as i64, out),
-        Form::Relaxed => out.integer(number as i64),
+        Form::Canonical => wrapped_int32(alloc, number),
+        Form::Relaxed => Ok(Value::from(number)),
     }
 }
 
-/// Writes the tree of an Int64: its text under `$numberLong`, or in the relaxed form the number.
-pub fn write_int64<S: Sink>(form: Form, number: i64, out: &mut S) -> Result<S::Tree, AllocError>
-    ensures { IfOk result (λ t. S.wrote out.old (int64_form form number) t out.new) }
+/// The tree of an Int64: its text under `$numberLong`, or in the relaxed form the number.
+pub fn write_int64(alloc: Global, form: Form, number: i64) -> Result<Value, AllocError>
+    ensures { IfOk result (λ t. view t ≡ int64_form form number) }
 {
     match form {
-        Form::Canonical => wrapped_numeral("$numberLong", number, out),
-        Form::Relaxed => out.integer(number),
+        Form::Canonical => wrapped_int64(alloc, number),
+        Form::Relaxed => Ok(Value::from(number)),
     }
 }

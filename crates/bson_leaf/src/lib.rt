@@ -3,10 +3,10 @@
 //! documents and code with a scope, which hold values, are the layer above.
 //!
 //! In reading order: `leaf` (a scalar value), `form` (the two forms), `wrapper` (the table of
-//! wrapper keys), `error` and `write_error`; `shapes` (a text, an object of one key or two), `sink`
-//! (where a tree is written to: into memory, or onto a text) and `wrapped` (the shapes, written); a
+//! wrapper keys), `error` and `write_error`; `shapes` (a text, an object of one key or two); a
 //! module for the wrappers of each subject, `ints`, `doubles`, `decimals`, `texts`, `regexes`,
-//! `ids`, `timestamps`, `dates`, `binaries`, `lone`; `read` and `write` over all of them; `laws`.
+//! `ids`, `timestamps`, `dates`, `binaries`, `lone`; `read` and `write` over all of them; `tokens`, which
+//! writes the same trees as text; `laws`.
 #![tactic(auto)]
 
 pub mod binaries;
@@ -23,10 +23,9 @@ pub mod lone;
 pub mod read;
 pub mod regexes;
 pub mod shapes;
-pub mod sink;
 pub mod texts;
 pub mod timestamps;
-mod wrapped;
+pub mod tokens;
 pub mod wrapper;
 pub mod write;
 pub mod write_error;

@@ -1,22 +1,18 @@
 //! `$regularExpression`: two texts. Read as `{"pattern": "a", "options": "xi"}` under that key,
 //! and written with the options sorted by character.
-ghost use Rattle.std.specs.Prelude.{◌≡◌, IfOk, codes, string_bytes};
-ghost use Rattle.serde_json.specs.Data.{string};
+ghost use Rattle.std.specs.Prelude.{◌≡◌, IfOk, string_bytes};
 ghost use Rattle.serde_json.specs.View.{view};
 ghost use Rattle.bson_scalar.specs.Regex.{sorted_text};
 ghost use Rattle.bson_leaf.specs.Faults.{Gives};
 ghost use Rattle.bson_leaf.specs.Reading.{regex_read};
 ghost use Rattle.bson_leaf.specs.Regexes.{regex_tree};
-ghost use Rattle.bson_leaf.specs.Shapes.{object_of_two};
 ghost use Rattle.bson_leaf.specs.View.{leaf_view};
 
 use crate::error::Error;
 use crate::leaf::Leaf;
-use crate::shapes::{text_in, two_in};
-use crate::sink::Sink;
-use crate::wrapped::{begin, end_one, end_two, second};
+use crate::shapes::{text_in, two_in, wrapped};
 use bson_scalar::regex::{Regex, sorted};
-use serde_json::Value;
+use serde_json::{Map, Value};
 use std::alloc::{AllocError, Global};
 
 const SHAPE: &str = "`$regularExpression` holds the texts `pattern` and `options`";
@@ -32,30 +28,14 @@ pub fn read_regex(alloc: Global, value: Value) -> Result<Leaf, Error>
     Ok(Leaf::RegularExpression(Regex { pattern, options }))
 }
 
-// What `$regularExpression` holds.
-fn write_texts<S: Sink>(options: String, pattern: &str, out: &mut S) -> Result<S::Tree, AllocError>
-    ensures { IfOk result (λ t. S.wrote out.old
-        (object_of_two (codes "options") (string (string_bytes options)) (codes "pattern") (string pattern.now))
-        t out.new) }
+/// The tree of a regular expression, in both forms, its options sorted.
+pub fn write_regex(alloc: Global, regex: Regex) -> Result<Value, AllocError>
+    ensures { IfOk result (λ t. view t ≡ regex_tree (string_bytes regex.pattern) (sorted_text (string_bytes regex.options))) }
 {
-    let key = begin("options", out)?;
-    let options = out.owned_text(options)?;
-    let next = second(key, options, "pattern", out)?;
-    let pattern = out.text(pattern)?;
-    end_two(next, pattern, out)
-}
-
-/// Writes the tree of a regular expression, in both forms, its options sorted.
-pub fn write_regex<S: Sink>(
-    alloc: Global,
-    regex: &Regex,
-    out: &mut S,
-) -> Result<S::Tree, AllocError>
-    ensures { IfOk result (λ t. S.wrote out.old
-        (regex_tree (string_bytes regex.now.pattern) (sorted_text (string_bytes regex.now.options))) t out.new) }
-{
-    let options = sorted(alloc, regex.options.as_str())?;
-    let key = begin("$regularExpression", out)?;
-    let texts = write_texts(options, regex.pattern.as_str(), out)?;
-    end_one(key, texts, out)
+    let Regex { pattern, options } = regex;
+    let ordered = sorted(alloc, options.as_str())?;
+    let mut members = Map::new(alloc);
+    serde_json::put(&mut members, alloc, "pattern", Value::String(pattern))?;
+    serde_json::put(&mut members, alloc, "options", Value::String(ordered))?;
+    wrapped(alloc, "$regularExpression", Value::Object(members))
 }

@@ -1,5 +1,5 @@
 //! `$symbol`, and `$code` alone: a text. Read and written as `{"$symbol": "s"}`, `{"$code": "s"}`.
-ghost use Rattle.std.specs.Prelude.{◌≡◌, IfOk};
+ghost use Rattle.std.specs.Prelude.{◌≡◌, IfOk, string_bytes};
 ghost use Rattle.serde_json.specs.View.{view};
 ghost use Rattle.bson_leaf.specs.Faults.{Gives};
 ghost use Rattle.bson_leaf.specs.Reading.{symbol_read, code_read};
@@ -8,11 +8,9 @@ ghost use Rattle.bson_leaf.specs.View.{leaf_view};
 
 use crate::error::Error;
 use crate::leaf::Leaf;
-use crate::shapes::text_in;
-use crate::sink::Sink;
-use crate::wrapped::wrapped_text;
+use crate::shapes::{text_in, wrapped};
 use serde_json::Value;
-use std::alloc::AllocError;
+use std::alloc::{AllocError, Global};
 
 /// What `$symbol` holds, as a symbol.
 pub fn read_symbol(value: Value) -> Result<Leaf, Error>
@@ -28,16 +26,16 @@ pub fn read_code(value: Value) -> Result<Leaf, Error>
     Ok(Leaf::JavaScriptCode(text_in(value, "`$code` holds a text")?))
 }
 
-/// Writes the tree of a symbol, in both forms.
-pub fn write_symbol<S: Sink>(text: &str, out: &mut S) -> Result<S::Tree, AllocError>
-    ensures { IfOk result (λ t. S.wrote out.old (symbol_tree text.now) t out.new) }
+/// The tree of a symbol, in both forms.
+pub fn write_symbol(alloc: Global, text: String) -> Result<Value, AllocError>
+    ensures { IfOk result (λ t. view t ≡ symbol_tree (string_bytes text)) }
 {
-    wrapped_text("$symbol", text, out)
+    wrapped(alloc, "$symbol", Value::String(text))
 }
 
-/// Writes the tree of code without a scope, in both forms.
-pub fn write_code<S: Sink>(text: &str, out: &mut S) -> Result<S::Tree, AllocError>
-    ensures { IfOk result (λ t. S.wrote out.old (code_tree text.now) t out.new) }
+/// The tree of code without a scope, in both forms.
+pub fn write_code(alloc: Global, text: String) -> Result<Value, AllocError>
+    ensures { IfOk result (λ t. view t ≡ code_tree (string_bytes text)) }
 {
-    wrapped_text("$code", text, out)
+    wrapped(alloc, "$code", Value::String(text))
 }

@@ -12,7 +12,7 @@ use crate::bson::{Bson, JavaScriptCodeWithScope};
 use crate::document::Document;
 use crate::scalar::scalar_ref;
 use bson_leaf::form::Form;
-use bson_leaf::write::{put_binary, put_leaf};
+use bson_leaf::tokens::{put_binary, put_leaf};
 use bson_leaf::write_error::WriteError;
 use bson_store::{PairStore, SmallPairs};
 use json::Writer;
@@ -33,7 +33,7 @@ pub(crate) fn text_of(alloc: Global, form: Form, value: &Bson) -> Result<String,
 #[cycle(print)]
 fn print(alloc: Global, form: Form, value: &Bson, out: &mut Writer) -> Result<(), WriteError>
     ensures printed { Prints (λ t. t) result (writes form (bson_view value.now)) out.old.tokens out.new.tokens }
-    ensures before { OnOk result (out.new.before ≡ out.old.before) }
+    ensures before { out.new.before ≡ out.old.before }
     ensures ranged { OnOk result (InRange (bson_view value.now)) }
 {
     match value {
@@ -54,7 +54,7 @@ fn print_items(
     out: &mut Writer,
 ) -> Result<(), WriteError>
     ensures printed { Prints array result (writes_items form (values_view values.now.items)) out.old.tokens out.new.tokens }
-    ensures before { OnOk result (out.new.before ≡ out.old.before) }
+    ensures before { out.new.before ≡ out.old.before }
     ensures ranged { OnOk result (ItemsInRange (values_view values.now.items)) }
 {
     out.begin_array()?;
@@ -72,7 +72,7 @@ fn print_scoped(
     out: &mut Writer,
 ) -> Result<(), WriteError>
     ensures printed { Prints (λ t. t) result (writes form (scoped_view scoped.now)) out.old.tokens out.new.tokens }
-    ensures before { OnOk result (out.new.before ≡ out.old.before) }
+    ensures before { out.new.before ≡ out.old.before }
     ensures ranged { OnOk result (InRange (scoped_view scoped.now)) }
 {
     put_code(scoped.code.as_str(), out)?;
@@ -89,7 +89,7 @@ fn print_document(
     out: &mut Writer,
 ) -> Result<(), WriteError>
     ensures printed { Prints object result (writes_pairs form (pairs_view document.now.pairs)) out.old.tokens out.new.tokens }
-    ensures before { OnOk result (out.new.before ≡ out.old.before) }
+    ensures before { out.new.before ≡ out.old.before }
     ensures ranged { OnOk result (PairsInRange (pairs_view document.now.pairs)) }
 {
     if ascends(&document.pairs) {
@@ -107,7 +107,7 @@ fn print_in_turn(
     out: &mut Writer,
 ) -> Result<(), WriteError>
     ensures printed { Prints object result (writes_in_order form (pairs_view document.now.pairs)) out.old.tokens out.new.tokens }
-    ensures before { OnOk result (out.new.before ≡ out.old.before) }
+    ensures before { out.new.before ≡ out.old.before }
     ensures ranged { OnOk result (PairsInRange (pairs_view document.now.pairs)) }
 {
     out.begin_object()?;
@@ -126,7 +126,7 @@ fn print_by_key(
     out: &mut Writer,
 ) -> Result<(), WriteError>
     ensures printed { Prints object result (writes_in_order form (pairs_view (in_order document.now.pairs))) out.old.tokens out.new.tokens }
-    ensures before { OnOk result (out.new.before ≡ out.old.before) }
+    ensures before { out.new.before ≡ out.old.before }
     ensures ranged { OnOk result (PairsInRange (pairs_view (in_order document.now.pairs))) }
 {
     out.begin_object()?;
@@ -143,7 +143,7 @@ fn print_by_key(
 // What stands before the scope.
 fn put_code(code: &str, out: &mut Writer) -> Result<(), AllocError>
     ensures put { OnOk result (out.new.tokens ≡ out.old.tokens ++ code_tokens code.now) }
-    ensures before { OnOk result (out.new.before ≡ out.old.before) }
+    ensures before { out.new.before ≡ out.old.before }
 {
     out.begin_object()?;
     out.key("$code")?;

@@ -1,5 +1,0 @@
-use Rattle.bson_leaf.proofs.Appending.{if_ok}
-use Rattle.bson_leaf.proofs.ids.write_pointer.Goals as goal
-
-pub returns-clause-tree : goal.returns-clause-tree
-returns-clause-tree g c = if_ok c.end_one.result c.end_one.ensures (λ t ends. ends c.args.out.now c.begin.new.out _ _ c.in_ok-key.ensures c.in_ok-reference.ensures.tree)

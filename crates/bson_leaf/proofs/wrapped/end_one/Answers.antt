@@ -1,7 +1,0 @@
-use Rattle.std.proofs.Common.{refl}
-use Rattle.serde_json.specs.Data.{no_members}
-use Rattle.bson_leaf.proofs.Appending.{if_ok}
-use Rattle.bson_leaf.proofs.wrapped.end_one.Goals as goal
-
-pub returns : goal.returns
-returns g c = if_ok c.end_map.result c.end_map.ensures (λ t ends start mid k d begun held. ends start _ (c.in_ok-map.ensures start mid no_members k d begun held refl))
