@@ -3,7 +3,7 @@ use Rattle.std.proofs.Common.{◌≡◌, ℕ, List, Result, Ok, Err, Some, None,
 use Rattle.std.proofs.lemmas.Option.{same_Some}
 use Rattle.serde_json.specs.Data.{Data}
 use Rattle.serde_json.specs.Read.{read}
-use Rattle.bson_leaf.specs.declared.error.Error.TheVariants as tree_error
+use Rattle.bson_wrapper.specs.declared.error.Error.TheVariants as tree_error
 use Rattle.bson_model.specs.Means.{Means}
 use Rattle.bson_model.specs.Texts.{ComesBack}
 use Rattle.bson_model.specs.Value.{Value}

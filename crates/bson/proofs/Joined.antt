@@ -4,7 +4,7 @@ use Rattle.std.proofs.lemmas.Bool.{ne_eqb}
 use Rattle.std.proofs.lemmas.Grind.{flat_map-append}
 use Rattle.std.proofs.lemmas.List.{take_more}
 use Rattle.std.specs.List.{flat_map, join_by}
-use Rattle.bson_model.specs.Shown.{enclosed}
+use Rattle.bson_model.specs.Displayed.{enclosed}
 
 module _ {X : Type 0} where
   flat_map-map : (sep : List ℕ) (f : X → List ℕ) (xs : List X) → flat_map (λ t. sep ++ t) (map f xs) ≡ flat_map (λ x. sep ++ f x) xs

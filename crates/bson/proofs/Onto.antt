@@ -2,10 +2,10 @@
 use Rattle.std.proofs.Common.{◌≡◌, ℕ, List, [], ◌∷◌, ◌++◌, Result, Ok, Err, refl, sym, ap, ◌∙◌}
 use Rattle.bson_model.specs.Value.{Value, Values, no_values, value, Pairs, no_pairs, pair}
 use Rattle.serde_json.specs.Data.{Data, Items, item, Members, member}
-use Rattle.bson_leaf.specs.Faults.{Fault, ◌>>=◌, Fails}
+use Rattle.bson_wrapper.specs.Faults.{Fault, ◌>>=◌, Fails}
 use Rattle.bson_model.specs.Reading.{reads, reads_items, reads_members}
-use Rattle.bson_leaf.specs.declared.error.Error.{Error}
-use Rattle.bson_leaf.specs.declared.error.Error.TheVariants.{InvalidObjectId, DeserializationError, OutOfMemory}
+use Rattle.bson_wrapper.specs.declared.error.Error.{Error}
+use Rattle.bson_wrapper.specs.declared.error.Error.TheVariants.{InvalidObjectId, DeserializationError, OutOfMemory}
 use Rattle.bson.specs.View.{bson_view, values_of, pairs_view}
 use Rattle.bson.specs.declared.bson.Bson.{Bson}
 

@@ -7,11 +7,11 @@ use Rattle.serde_json.specs.Data.{Data, Items, no_items, item, Members, no_membe
 use Rattle.serde_json.specs.View.{items_of}
 use Rattle.bson_store.specs.Pairs.{keys, HasDistinctKeys}
 use Rattle.bson_model.specs.Value.{Value, Values, value}
-use Rattle.bson_leaf.specs.declared.form.Form.{Form}
-use Rattle.bson_leaf.specs.Written.{Refusal, finite, ◌>>=◌, Stops}
+use Rattle.bson_wrapper.specs.declared.form.Form.{Form}
+use Rattle.bson_wrapper.specs.Written.{Refusal, finite, ◌>>=◌, Stops}
 use Rattle.bson_model.specs.Writing.{writes, writes_items, writes_pairs}
-use Rattle.bson_leaf.specs.declared.write_error.WriteError.{WriteError}
-use Rattle.bson_leaf.specs.declared.write_error.WriteError.TheVariants.{FiniteDouble, OutOfMemory}
+use Rattle.bson_wrapper.specs.declared.write_error.WriteError.{WriteError}
+use Rattle.bson_wrapper.specs.declared.write_error.WriteError.TheVariants.{FiniteDouble, OutOfMemory}
 use Rattle.bson_model.proofs.Offered.{put_members_swap}
 use Rattle.bson.specs.View.{bson_view, pairs_view}
 use Rattle.bson.proofs.Onto.{Entry}

@@ -2,7 +2,7 @@
 use Rattle.std.proofs.Common.{◌≡◌, ℕ, zero, suc, ◌<◌, Bool, true, false, cond, List, [], ◌∷◌, length, get_or, Option, None, Some, is_some, option_map, slice_get, refl, sym, ap, ◌∙◌, arith, true≢false, ◌&&◌, subst}
 use Rattle.std.specs.Str.{bytes_eq}
 use Rattle.bson_store.specs.Pairs as store
-use Rattle.bson_store.specs.Pairs.{HasDistinctKeys, place_of}
+use Rattle.bson_store.specs.Pairs.{HasDistinctKeys, position_of}
 use Rattle.bson_store.proofs.Offered.{get-at, at-get, no_other, length-same_keys}
 use Rattle.bson_model.specs.Value.{Value, document, get}
 use Rattle.bson.specs.View.{bson_view, pairs_view, values_view}

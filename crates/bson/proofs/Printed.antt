@@ -9,11 +9,11 @@ use Rattle.json.specs.Token.{Token, end_object, key}
 use Rattle.json.specs.Tree.{items_tokens, members_tokens}
 use Rattle.serde_json.specs.Data.{Data, object, Items, item, Members, member, put}
 use Rattle.serde_json.specs.Written.{items_outline, members_outline}
-use Rattle.bson_leaf.proofs.Offered.{in_turn}
-use Rattle.bson_leaf.specs.Written.{Refusal, finite, ◌>>=◌, Stops}
-use Rattle.bson_leaf.specs.declared.form.Form.{Form}
-use Rattle.bson_leaf.specs.declared.write_error.WriteError.{WriteError}
-use Rattle.bson_leaf.specs.declared.write_error.WriteError.TheVariants.{FiniteDouble, OutOfMemory}
+use Rattle.bson_wrapper.proofs.Offered.{in_turn}
+use Rattle.bson_wrapper.specs.Written.{Refusal, finite, ◌>>=◌, Stops}
+use Rattle.bson_wrapper.specs.declared.form.Form.{Form}
+use Rattle.bson_wrapper.specs.declared.write_error.WriteError.{WriteError}
+use Rattle.bson_wrapper.specs.declared.write_error.WriteError.TheVariants.{FiniteDouble, OutOfMemory}
 use Rattle.bson_store.specs.Order.{key_cmp, in_order}
 use Rattle.bson_store.specs.Pairs.{keys, HasDistinctKeys}
 use Rattle.bson_model.specs.Value.{Value, code_scope, Values, value, Pairs, pair}

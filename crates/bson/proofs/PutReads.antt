@@ -5,10 +5,10 @@ use Rattle.std.specs.Cmp.Lexicographic.{slice_cmp}
 use Rattle.std.specs.Ordering.{match_ordering}
 use Rattle.std.proofs.lemmas.Cmp.{nat_list_cmp_total}
 use Rattle.serde_json.specs.Data.{Data, Members, no_members, member, object, put}
-use Rattle.bson_leaf.specs.Faults.{Fault, ◌>>=◌}
-use Rattle.bson_leaf.specs.Reading.{single_at}
-use Rattle.bson_leaf.specs.Table.{wrapper_of, has_wrapper}
-use Rattle.bson_model.specs.Reading.{reads, reads_members, valued}
+use Rattle.bson_wrapper.specs.Faults.{Fault, ◌>>=◌}
+use Rattle.bson_wrapper.specs.Reading.{single_at}
+use Rattle.bson_wrapper.specs.Table.{wrapper_of, has_wrapper}
+use Rattle.bson_model.specs.Reading.{reads, reads_members, scalar_value}
 use Rattle.bson_model.specs.Sorted.{put_pair, IsLeast, KeysAscend}
 use Rattle.bson_model.specs.Value.{Value, Pairs, no_pairs, pair, document}
 use Rattle.bson_model.proofs.Offered.{flipped}
@@ -83,5 +83,5 @@ put_ascends k v (pair l w ps) up = ascend_at (slice_cmp nat_cmp k l) k l v w ps 
 pub object_read : (ms : Members) (ps : Pairs) → has_wrapper ms ≡ false → reads_members ms ≡ Ok ps → reads (object ms) ≡ Ok (document ps)
 object_read ms ps plain h = rw (plain, h) refl
 
-pub lone_read : (k : List ℕ) (d : Data) (v : Value) → is_some (wrapper_of k) ≡ true → valued (single_at (wrapper_of k) d) ≡ Ok v → reads (object (member k d no_members)) ≡ Ok v
+pub lone_read : (k : List ℕ) (d : Data) (v : Value) → is_some (wrapper_of k) ≡ true → scalar_value (single_at (wrapper_of k) d) ≡ Ok v → reads (object (member k d no_members)) ≡ Ok v
 lone_read k d v some h = rw some h

@@ -2,18 +2,18 @@
 use Rattle.std.proofs.Common.{◌≡◌, ℕ, ◌<◌, ◌-◌, ◌^◌, false, append-nil, arith, List, [], ◌∷◌, ◌++◌, length, map, codes, refl, sym, ap, ◌∙◌}
 use Rattle.std.specs.List.{join_by}
 use Rattle.bson_model.specs.Value.{array, document}
-use Rattle.bson_model.specs.Shown.{shown, items_shown, entries_shown, enclosed, entry}
+use Rattle.bson_model.specs.Displayed.{displayed, items_displayed, entries_displayed, enclosed, entry}
 use Rattle.bson_model.specs.Pretty.{pretty, item_lines, entry_lines, blanks, inner, closing}
 use Rattle.bson.specs.View.{bson_view, values_view, pairs_view}
 use Rattle.bson.specs.declared.bson.Bson.{Bson}
 use Rattle.bson.proofs.Joined.{enclosed_all}
 use Rattle.bson.proofs.Onto.{Entry}
 
-abbrev pub item_shown : Bson → List ℕ
-item_shown v = shown (bson_view v)
+abbrev pub item_displayed : Bson → List ℕ
+item_displayed v = displayed (bson_view v)
 
-abbrev pub entry_shown : Entry → List ℕ
-entry_shown p = entry p.0 (shown (bson_view p.1))
+abbrev pub entry_displayed : Entry → List ℕ
+entry_displayed p = entry p.0 (displayed (bson_view p.1))
 
 abbrev pub item_line : ℕ → Bson → List ℕ
 item_line i v = codes "\n" ++ (blanks i ++ pretty (inner i) (bson_view v))
@@ -21,13 +21,13 @@ item_line i v = codes "\n" ++ (blanks i ++ pretty (inner i) (bson_view v))
 abbrev pub entry_line : ℕ → Entry → List ℕ
 entry_line i p = blanks i ++ entry p.0 (pretty (inner i) (bson_view p.1))
 
-items : (vs : List Bson) → items_shown (values_view vs) ≡ map item_shown vs
+items : (vs : List Bson) → items_displayed (values_view vs) ≡ map item_displayed vs
 items [] = refl
-items (v ∷ vs) = ap (λ l. item_shown v ∷ l) (items vs)
+items (v ∷ vs) = ap (λ l. item_displayed v ∷ l) (items vs)
 
-entries : (ps : List Entry) → entries_shown (pairs_view ps) ≡ map entry_shown ps
+entries : (ps : List Entry) → entries_displayed (pairs_view ps) ≡ map entry_displayed ps
 entries [] = refl
-entries (p ∷ ps) = ap (λ l. entry_shown p ∷ l) (entries ps)
+entries (p ∷ ps) = ap (λ l. entry_displayed p ∷ l) (entries ps)
 
 lines : (i : ℕ) (vs : List Bson) → item_lines i (values_view vs) ≡ map (item_line i) vs
 lines i [] = refl
@@ -37,11 +37,11 @@ pair_lines : (i : ℕ) (ps : List Entry) → entry_lines i (pairs_view ps) ≡ m
 pair_lines i [] = refl
 pair_lines i (p ∷ ps) = ap (λ l. entry_line i p ∷ l) (pair_lines i ps)
 
-pub array_shown : (vs : List Bson) → 0 < length vs → codes "[" ++ (join_by item_shown (codes ", ") vs ++ codes "]") ≡ shown (array (values_view vs))
-array_shown vs h = enclosed_all item_shown (codes "[]") (codes "[") (codes ", ") (codes "]") vs h ∙ ap (enclosed (codes "[]") (codes "[") (codes ", ") (codes "]")) (sym (items vs))
+pub array_displayed : (vs : List Bson) → 0 < length vs → codes "[" ++ (join_by item_displayed (codes ", ") vs ++ codes "]") ≡ displayed (array (values_view vs))
+array_displayed vs h = enclosed_all item_displayed (codes "[]") (codes "[") (codes ", ") (codes "]") vs h ∙ ap (enclosed (codes "[]") (codes "[") (codes ", ") (codes "]")) (sym (items vs))
 
-pub document_shown : (ps : List Entry) → 0 < length ps → codes "{ " ++ (join_by entry_shown (codes ", ") ps ++ codes " }") ≡ shown (document (pairs_view ps))
-document_shown ps h = enclosed_all entry_shown (codes "{}") (codes "{ ") (codes ", ") (codes " }") ps h ∙ ap (enclosed (codes "{}") (codes "{ ") (codes ", ") (codes " }")) (sym (entries ps))
+pub document_displayed : (ps : List Entry) → 0 < length ps → codes "{ " ++ (join_by entry_displayed (codes ", ") ps ++ codes " }") ≡ displayed (document (pairs_view ps))
+document_displayed ps h = enclosed_all entry_displayed (codes "{}") (codes "{ ") (codes ", ") (codes " }") ps h ∙ ap (enclosed (codes "{}") (codes "{ ") (codes ", ") (codes " }")) (sym (entries ps))
 
 pub array_pretty : (i : ℕ) (vs : List Bson) → 0 < length vs → codes "[" ++ (join_by (item_line i) (codes ", ") vs ++ closing i (codes "]")) ≡ pretty i (array (values_view vs))
 array_pretty i vs h = enclosed_all (item_line i) (codes "[]") (codes "[") (codes ", ") (closing i (codes "]")) vs h ∙ ap (enclosed (codes "[]") (codes "[") (codes ", ") (closing i (codes "]"))) (sym (lines i vs))

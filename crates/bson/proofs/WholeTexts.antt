@@ -1,9 +1,9 @@
 -- What the text of a value's tree is.
 use Rattle.std.proofs.Common.{◌≡◌, true, false, Result, Ok, Err, String, Global, string_bytes, sym, ap, ◌∙◌}
 use Rattle.std.specs.Prelude.{is_ok, IfOk, OnOk}
-use Rattle.bson_leaf.specs.declared.form.Form.{Form}
-use Rattle.bson_leaf.specs.declared.write_error.WriteError.{WriteError}
-use Rattle.bson_leaf.specs.declared.write_error.WriteError.TheVariants.{FiniteDouble, OutOfMemory}
+use Rattle.bson_wrapper.specs.declared.form.Form.{Form}
+use Rattle.bson_wrapper.specs.declared.write_error.WriteError.{WriteError}
+use Rattle.bson_wrapper.specs.declared.write_error.WriteError.TheVariants.{FiniteDouble, OutOfMemory}
 use Rattle.bson_model.specs.Value.{Value}
 use Rattle.bson_model.specs.Normal.{writable, InRange}
 use Rattle.bson_model.specs.Writing.{writes}

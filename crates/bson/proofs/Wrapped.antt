@@ -6,21 +6,21 @@ use Rattle.json.specs.Json.{read_key, value}
 use Rattle.json.proofs.Grammar.{read_key-shorter}
 use Rattle.serde_json.specs.Data.{Data, no_members, member, object, put}
 use Rattle.serde_json.specs.Read.{of_json, converted}
-use Rattle.bson_leaf.specs.Reading.{single_at}
-use Rattle.bson_leaf.specs.Table.{wrapper_of}
-use Rattle.bson_leaf.specs.declared.wrapper.Wrapper.{Wrapper}
-use Rattle.bson_model.specs.Reading.{reads, reads_scope, valued, code_at}
+use Rattle.bson_wrapper.specs.Reading.{single_at}
+use Rattle.bson_wrapper.specs.Table.{wrapper_of}
+use Rattle.bson_wrapper.specs.declared.wrapper.Wrapper.{Wrapper}
+use Rattle.bson_model.specs.Reading.{reads, reads_scope, scalar_value, code_at}
 use Rattle.bson_model.specs.Value.{Value}
 use Rattle.bson.specs.Straight.{WrapperMeans, CodeMeans}
 use Rattle.bson.proofs.PutReads.{lone_read}
 use Rattle.bson.proofs.Turns.{one_member, last_member}
 
-wrapper_there : (o : Option Wrapper) (d : Data) (v : Value) → valued (single_at o d) ≡ Ok v → is_some o ≡ true
+wrapper_there : (o : Option Wrapper) (d : Data) (v : Value) → scalar_value (single_at o d) ≡ Ok v → is_some o ≡ true
 wrapper_there None d v h = cc
 wrapper_there (Some w) d v h = refl
 
 pub alone : (depth : ℕ) (k : List ℕ) (ts s rest : List Token) (d : Data) (v : Value) → converted of_json (value depth ts) ≡ Some (d, s) → length s < length ts → read_key s ≡ Some (None, rest)
-    → valued (single_at (wrapper_of k) d) ≡ Ok v → WrapperMeans depth k ts v rest
+    → scalar_value (single_at (wrapper_of k) d) ≡ Ok v → WrapperMeans depth k ts v rest
 alone depth k ts s rest d v held less ended h = (
   member k d no_members,
   λ n before enough named.

@@ -2,7 +2,7 @@
 pub use Rattle.bson.specs.declared.document.entry.Entry.TheVariants.{Occupied, Vacant}
 use Rattle.std.specs.Prelude.{◌≡◌, ℕ, List, Option, None, is_some, IsTrue, Result, string_bytes}
 use Rattle.std.specs.Borrow.{Fml, MutBor, follows, follows_if, name_if_ok}
-use Rattle.bson_store.specs.Pairs.{get, put}
+use Rattle.bson_store.specs.Pairs.{get, insert_pair}
 use Rattle.bson.specs.declared.bson.Bson.{Bson}
 use Rattle.bson.specs.declared.document.Document.{Document}
 use Rattle.bson.specs.declared.document.entry.Entry.{Entry}
@@ -26,7 +26,7 @@ entry_value e = get (entry_key e) (contents (entry_document e).now)
 
 -- the document with w at the entry's key
 abbrev pub document_with : Entry → Bson → Document
-document_with e w = holding (put (entry_key e) w (contents (entry_document e).now))
+document_with e w = holding (insert_pair (entry_key e) w (contents (entry_document e).now))
 
 -- the entry is occupied exactly if there is a value
 abbrev pub FitsValue : Entry → Option Bson → Type 0

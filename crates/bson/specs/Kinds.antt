@@ -106,14 +106,14 @@ db_pointer_of (bson.DbPointer p) = Some p
 db_pointer_of _ = None
 
 -- what a getter answers of the value that is there
-abbrev pub typed : {T : Type 0} → Option T → Result T ValueAccessError
-typed None = Err UnexpectedType
-typed (Some x) = Ok x
+abbrev pub type_result : {T : Type 0} → Option T → Result T ValueAccessError
+type_result None = Err UnexpectedType
+type_result (Some x) = Ok x
 
 -- what a getter answers of the value that the key has, if any
-abbrev pub accessed : {T : Type 0} → (Bson → Option T) → Option Bson → Result T ValueAccessError
-accessed f None = Err NotPresent
-accessed f (Some v) = typed (f v)
+abbrev pub access_result : {T : Type 0} → (Bson → Option T) → Option Bson → Result T ValueAccessError
+access_result f None = Err NotPresent
+access_result f (Some v) = type_result (f v)
 
 -- an answer with the value behind its reference
 abbrev pub ok_copied : {T E : Type 0} → Result (Bor T) E → Result T E

@@ -2,7 +2,7 @@
 use Rattle.std.specs.Prelude.{ℕ, List, Option, Result}
 use Rattle.std.specs.Borrow.{Fml, LendsIf, LendsIfOk, MutBor}
 use denote.RattleType.{RattleType}
-use Rattle.bson_store.specs.Pairs.{put}
+use Rattle.bson_store.specs.Pairs.{insert_pair}
 use Rattle.bson.specs.Rows.{bson_row, document_row}
 use Rattle.bson.specs.View.{contents, holding}
 use Rattle.bson.specs.declared.bson.Bson.{Bson}
@@ -11,10 +11,10 @@ use Rattle.bson.specs.declared.document.Document.{Document}
 -- once the loan r ends, the document has at the key the last value written through r; without r it stays
 abbrev pub LendsValue : MutBor Document → Document → List ℕ → Option (MutBor Bson) → Fml
 LendsValue document old key r =
-    LendsIf document_row bson_row document r (λ w. holding (put key w (contents old))) old
+    LendsIf document_row bson_row document r (λ w. holding (insert_pair key w (contents old))) old
 
 -- the same of what a value of one kind holds: `made` is the value of what was last written
 abbrev pub LendsAtKey : {E : Type 0} (held : RattleType) → (held.Denot → Bson) → MutBor Document → Document
     → List ℕ → Result (MutBor held.Denot) E → Fml
 LendsAtKey held made document old key r =
-    LendsIfOk document_row held document r (λ w. holding (put key (made w) (contents old))) old
+    LendsIfOk document_row held document r (λ w. holding (insert_pair key (made w) (contents old))) old

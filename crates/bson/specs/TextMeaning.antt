@@ -2,7 +2,7 @@
 use Rattle.std.specs.Prelude.{◌≡◌, ℕ, List, Some, None, IsUtf8}
 use Rattle.serde_json.specs.Data.{Data}
 use Rattle.serde_json.specs.Read.{read}
-use Rattle.bson_leaf.specs.declared.error.Error.TheVariants as tree_error
+use Rattle.bson_wrapper.specs.declared.error.Error.TheVariants as tree_error
 use Rattle.bson_model.specs.Fault.{IsFaultOf}
 use Rattle.bson_model.specs.Value.{Value}
 use Rattle.bson_model.specs.Laws.{HasMeaning}

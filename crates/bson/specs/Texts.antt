@@ -5,10 +5,10 @@ use Rattle.std.specs.declared.cmp.Ordering.TheVariants.{Less}
 use Rattle.json.specs.Token.{Token, begin_object, key, string}
 use Rattle.serde_json.specs.Data.{Data, Members, no_members, member}
 use Rattle.serde_json.specs.Written.{compact_text}
-pub use Rattle.bson_leaf.specs.Tokens.{tokens_of}
-use Rattle.bson_leaf.specs.Written.{Refusal, Stops, ◌>>=◌}
-use Rattle.bson_leaf.specs.declared.form.Form.{Form}
-use Rattle.bson_leaf.specs.declared.write_error.WriteError.{WriteError}
+pub use Rattle.bson_wrapper.specs.Tokens.{tokens_of}
+use Rattle.bson_wrapper.specs.Written.{Refusal, Stops, ◌>>=◌}
+use Rattle.bson_wrapper.specs.declared.form.Form.{Form}
+use Rattle.bson_wrapper.specs.declared.write_error.WriteError.{WriteError}
 use Rattle.bson_store.specs.Order.{key_cmp}
 use Rattle.bson_model.specs.Texts.{ReadsAgain}
 use Rattle.bson_model.specs.Value.{Value, Pairs, no_pairs, pair}

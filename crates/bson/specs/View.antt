@@ -1,7 +1,7 @@
 -- The value that a `Bson` stands for.
 use Rattle.std.specs.Prelude.{ℕ, List, [], ◌∷◌, map, string_bytes}
 use Rattle.bson_scalar.specs.DbPointer.{namespace_of, id_of}
-use Rattle.bson_leaf.specs.Scalar.{null, undefined, min_key, max_key, boolean, double, int32, int64, text, symbol, code, regex, timestamp, binary, object_id, date, decimal, db_pointer}
+use Rattle.bson_wrapper.specs.Scalar.{null, undefined, min_key, max_key, boolean, double, int32, int64, text, symbol, code, regex, timestamp, binary, object_id, date, decimal, db_pointer}
 use Rattle.bson_model.specs.Value.{Value, scalar, code_scope, array, document, Values, no_values, value, Pairs, no_pairs, pair}
 use Rattle.bson.specs.declared.bson.Bson.{Bson, fold-Bson, Bson-F}
 use Rattle.bson.specs.declared.bson.JavaScriptCodeWithScope.{JavaScriptCodeWithScope, fold-JavaScriptCodeWithScope, JavaScriptCodeWithScope-F}

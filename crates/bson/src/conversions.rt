@@ -162,14 +162,14 @@ impl From<Decimal128> for Bson {
 impl Bson {
     ghost use Rattle.std.specs.Prelude.{List, IfOk};
     ghost use Rattle.std.specs.Iterator.{Drains, IsFinite};
-    ghost use Rattle.bson_leaf.specs.Scalar as leaf;
+    ghost use Rattle.bson_wrapper.specs.Scalar as kind;
     ghost use Rattle.bson_model.specs.Value.{array, scalar};
     ghost use Rattle.bson_scalar.specs.Vectors.{vector_bytes};
     ghost use Rattle.bson.specs.View.{bson_view, values_view};
 
     /// A `String` of this text, in memory of its own.
     pub fn string(alloc: Global, text: &str) -> Result<Bson, AllocError>
-        ensures { IfOk result (λ v. bson_view v ≡ scalar (leaf.text text.now)) }
+        ensures { IfOk result (λ v. bson_view v ≡ scalar (kind.text text.now)) }
     {
         Ok(Bson::String(String::from_str(alloc, text)?))
     }
@@ -206,14 +206,14 @@ impl Bson {
 
     /// A `Binary` of the subtype `Uuid`, of the UUID's 16 bytes.
     pub fn from_uuid(alloc: Global, id: Uuid) -> Result<Bson, AllocError>
-        ensures { IfOk result (λ v. bson_view v ≡ scalar (leaf.binary BinarySubtype.Uuid id)) }
+        ensures { IfOk result (λ v. bson_view v ≡ scalar (kind.binary BinarySubtype.Uuid id)) }
     {
         Ok(Bson::Binary(Binary::from_uuid(alloc, id)?))
     }
 
     /// A `Binary` of the subtype `Vector`, of the vector's bytes.
     pub fn from_vector(alloc: Global, vector: &Vector) -> Result<Bson, AllocError>
-        ensures { IfOk result (λ v. bson_view v ≡ scalar (leaf.binary BinarySubtype.Vector (vector_bytes vector.now))) }
+        ensures { IfOk result (λ v. bson_view v ≡ scalar (kind.binary BinarySubtype.Vector (vector_bytes vector.now))) }
     {
         Ok(Bson::Binary(Binary::from_vector(alloc, vector)?))
     }

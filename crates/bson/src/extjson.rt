@@ -1,6 +1,6 @@
 //! MongoDB Extended JSON v2.
 pub mod de;
-pub(crate) mod leaf;
+pub(crate) mod scalars;
 mod read;
 mod ser;
 mod text;
@@ -8,4 +8,4 @@ mod text_error;
 mod text_reader;
 mod write;
 
-pub use bson_leaf::write_error::WriteError;
+pub use bson_wrapper::write_error::WriteError;

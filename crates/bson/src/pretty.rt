@@ -1,7 +1,7 @@
 //! The texts of values on several lines.
 ghost use Rattle.std.specs.Prelude.{◌≡◌, ◌==◌, ◌++◌, cond, [], codes, IfOk, OnOk, string_bytes};
 ghost use Rattle.bson_model.specs.Value.{array, document as document_of};
-ghost use Rattle.bson_model.specs.Shown.{entry};
+ghost use Rattle.bson_model.specs.Displayed.{entry};
 ghost use Rattle.bson_model.specs.Pretty.{pretty, blanks, inner, closing};
 ghost use Rattle.bson.specs.View.{bson_view, values_view, pairs_view, document_view};
 

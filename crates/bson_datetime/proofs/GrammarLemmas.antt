@@ -13,7 +13,7 @@ use Rattle.jiff.proofs.SpanFacts.{signed_arith}
 use Rattle.jiff_core.specs.Calendar.{IsCivilDate, days_from_civil}
 use Rattle.bson_datetime.specs.Grammar.{Offset, zulu, ahead, behind, offset_text, fraction_text, IsLetter, IsOffset, offset_seconds, Names}
 use Rattle.bson_datetime.specs.Rfc3339.{Read, ◌>>=◌, two_digits, four_digits, digits_below, after, after_letter, day_number, date_part, time_part, fraction_part, fraction_value, hours_minutes, offset_part, denoted}
-use Rattle.bson_datetime.specs.Shown.{two_shown}
+use Rattle.bson_datetime.specs.Displayed.{two_digit_text}
 use Rattle.bson_datetime.proofs.ReaderLemmas.{fraction_value-nil}
 
 -- a value read from the front of a text, and the text after it
@@ -42,7 +42,7 @@ digit_test c is = grind (arith, nat_tests, is.0, is.1)
 -- ---- from what was read to the text
 
 two_digits-test : (a b : ℕ) (s : List ℕ) (n : ℕ) (rest : List ℕ) (t : Bool) → (is_ascii_digit a && is_ascii_digit b) ≡ t
-    → (if t then found ((a - 48) * 10 + (b - 48)) s else None) ≡ Some (n, rest) → (n < 100) × (a ∷ b ∷ s ≡ two_shown n ++ rest)
+    → (if t then found ((a - 48) * 10 + (b - 48)) s else None) ≡ Some (n, rest) → (n < 100) × (a ∷ b ∷ s ≡ two_digit_text n ++ rest)
 two_digits-test a b s n rest true e h =
     let p = and_parts (is_ascii_digit a) (is_ascii_digit b) e in
     let high = digit_of a p.0 in
@@ -54,21 +54,21 @@ two_digits-test a b s n rest true e h =
     (omega (arith, value, high.0, high.1, low.0, low.1), rw (first, second) (ap (λ r. a ∷ b ∷ r.1) same))
 two_digits-test a b s n rest false e h = cc
 
-two_digits-read : (s : List ℕ) (r : ℕ × List ℕ) → two_digits s ≡ Some r → (r.0 < 100) × (s ≡ two_shown r.0 ++ r.1)
+two_digits-read : (s : List ℕ) (r : ℕ × List ℕ) → two_digits s ≡ Some r → (r.0 < 100) × (s ≡ two_digit_text r.0 ++ r.1)
 unfolding two_digits
 two_digits-read [] r h = cc
 two_digits-read (a ∷ []) r h = cc
 two_digits-read (a ∷ b ∷ s) r h = two_digits-test a b s r.0 r.1 (is_ascii_digit a && is_ascii_digit b) refl h
 
 -- two digits and then two more are four
-four_digits-text : (a b n : ℕ) (s t u rest : List ℕ) → a < 100 → b < 100 → s ≡ two_shown a ++ t → t ≡ two_shown b ++ u → a * 100 + b ≡ n → u ≡ rest
-    → (n < 10_000) × (s ≡ two_shown (n / 100) ++ two_shown (n % 100) ++ rest)
+four_digits-text : (a b n : ℕ) (s t u rest : List ℕ) → a < 100 → b < 100 → s ≡ two_digit_text a ++ t → t ≡ two_digit_text b ++ u → a * 100 + b ≡ n → u ≡ rest
+    → (n < 10_000) × (s ≡ two_digit_text (n / 100) ++ two_digit_text (n % 100) ++ rest)
 four_digits-text a b n s t u rest ha hb first second value same =
     let high : n / 100 ≡ a = omega arith in
     let low : n % 100 ≡ b = omega arith in
-    (omega arith, rw (high, low) (first ∙ ap (λ q. two_shown a ++ q) (second ∙ ap (λ q. two_shown b ++ q) same)))
+    (omega arith, rw (high, low) (first ∙ ap (λ q. two_digit_text a ++ q) (second ∙ ap (λ q. two_digit_text b ++ q) same)))
 
-four_digits-read : (s : List ℕ) (r : ℕ × List ℕ) → four_digits s ≡ Some r → (r.0 < 10_000) × (s ≡ two_shown (r.0 / 100) ++ two_shown (r.0 % 100) ++ r.1)
+four_digits-read : (s : List ℕ) (r : ℕ × List ℕ) → four_digits s ≡ Some r → (r.0 < 10_000) × (s ≡ two_digit_text (r.0 / 100) ++ two_digit_text (r.0 % 100) ++ r.1)
 unfolding four_digits
 four_digits-read s r h =
     let century = un_then (two_digits s) _ r h in
@@ -85,7 +85,7 @@ digits_below-test bound x r false e h =
     let below : x.0 < bound = grind (arith, nat_tests, e) in
     (rw (← same) below, same)
 
-digits_below-read : (bound : ℕ) (s : List ℕ) (r : ℕ × List ℕ) → digits_below bound s ≡ Some r → (r.0 < bound) × (s ≡ two_shown r.0 ++ r.1)
+digits_below-read : (bound : ℕ) (s : List ℕ) (r : ℕ × List ℕ) → digits_below bound s ≡ Some r → (r.0 < bound) × (s ≡ two_digit_text r.0 ++ r.1)
 unfolding digits_below
 digits_below-read bound s r h =
     let n = un_then (two_digits s) _ r h in
@@ -147,7 +147,7 @@ record DateRead (s : List ℕ) (z : ℤ) (rest : List ℕ) : Type 0 where
   small : year < 10_000
   exists : IsCivilDate (pos year) month day
   value : days_from_civil (pos year) month day ≡ z
-  text : s ≡ two_shown (year / 100) ++ two_shown (year % 100) ++ 45 ∷ two_shown month ++ 45 ∷ two_shown day ++ rest
+  text : s ≡ two_digit_text (year / 100) ++ two_digit_text (year % 100) ++ 45 ∷ two_digit_text month ++ 45 ∷ two_digit_text day ++ rest
 
 date_part-read : (s : List ℕ) (r : ℤ × List ℕ) → date_part s ≡ Some r → DateRead s r.0 r.1
 unfolding date_part
@@ -170,9 +170,9 @@ date_part-read s r h =
       small = year.0;
       exists = number.0;
       value = number.1 ∙ ap (λ q. q.0) same;
-      text = year.1 ∙ ap (λ t. two_shown (y.0.0 / 100) ++ two_shown (y.0.0 % 100) ++ t) (after-read 45 y.0.1 a.0 a.1
-          ∙ ap (λ t. 45 ∷ t) (month.1 ∙ ap (λ t. two_shown m.0.0 ++ t) (after-read 45 m.0.1 b.0 b.1
-          ∙ ap (λ t. 45 ∷ t) (day.1 ∙ ap (λ t. two_shown d.0.0 ++ t) (ap (λ q. q.1) same)))));
+      text = year.1 ∙ ap (λ t. two_digit_text (y.0.0 / 100) ++ two_digit_text (y.0.0 % 100) ++ t) (after-read 45 y.0.1 a.0 a.1
+          ∙ ap (λ t. 45 ∷ t) (month.1 ∙ ap (λ t. two_digit_text m.0.0 ++ t) (after-read 45 m.0.1 b.0 b.1
+          ∙ ap (λ t. 45 ∷ t) (day.1 ∙ ap (λ t. two_digit_text d.0.0 ++ t) (ap (λ q. q.1) same)))));
     }
 
 record TimeRead (s : List ℕ) (n : ℕ) (rest : List ℕ) : Type 0 where
@@ -183,7 +183,7 @@ record TimeRead (s : List ℕ) (n : ℕ) (rest : List ℕ) : Type 0 where
   minute_in : minute < 60
   second_in : second < 60
   value : hour * 3600 + minute * 60 + second ≡ n
-  text : s ≡ two_shown hour ++ 58 ∷ two_shown minute ++ 58 ∷ two_shown second ++ rest
+  text : s ≡ two_digit_text hour ++ 58 ∷ two_digit_text minute ++ 58 ∷ two_digit_text second ++ rest
 
 time_part-read : (s : List ℕ) (r : ℕ × List ℕ) → time_part s ≡ Some r → TimeRead s r.0 r.1
 unfolding time_part
@@ -205,9 +205,9 @@ time_part-read s r h =
       minute_in = minute.0;
       second_in = second.0;
       value = ap (λ q. q.0) same;
-      text = hour.1 ∙ ap (λ t. two_shown x.0.0 ++ t) (after-read 58 x.0.1 a.0 a.1
-          ∙ ap (λ t. 58 ∷ t) (minute.1 ∙ ap (λ t. two_shown y.0.0 ++ t) (after-read 58 y.0.1 b.0 b.1
-          ∙ ap (λ t. 58 ∷ t) (second.1 ∙ ap (λ t. two_shown z.0.0 ++ t) (ap (λ q. q.1) same)))));
+      text = hour.1 ∙ ap (λ t. two_digit_text x.0.0 ++ t) (after-read 58 x.0.1 a.0 a.1
+          ∙ ap (λ t. 58 ∷ t) (minute.1 ∙ ap (λ t. two_digit_text y.0.0 ++ t) (after-read 58 y.0.1 b.0 b.1
+          ∙ ap (λ t. 58 ∷ t) (second.1 ∙ ap (λ t. two_digit_text z.0.0 ++ t) (ap (λ q. q.1) same)))));
     }
 
 -- the digits that a text begins with
@@ -265,7 +265,7 @@ fraction_part-read [] r h = fraction-none [] r h
 fraction_part-read (c ∷ s) r h = fraction-test c s r (c == 46) refl h
 
 hours_minutes-read : (s : List ℕ) (r : ℕ × List ℕ) → hours_minutes s ≡ Some r
-    → (h : ℕ) × (m : ℕ) × (h < 24) × (m < 60) × (h * 3600 + m * 60 ≡ r.0) × (s ≡ two_shown h ++ 58 ∷ two_shown m ++ r.1)
+    → (h : ℕ) × (m : ℕ) × (h < 24) × (m < 60) × (h * 3600 + m * 60 ≡ r.0) × (s ≡ two_digit_text h ++ 58 ∷ two_digit_text m ++ r.1)
 unfolding hours_minutes
 hours_minutes-read s r h =
     let x = un_then (digits_below 24 s) _ r h in
@@ -279,7 +279,7 @@ hours_minutes-read s r h =
       hour.0,
       minute.0,
       ap (λ q. q.0) same,
-      hour.1 ∙ ap (λ t. two_shown x.0.0 ++ t) (after-read 58 x.0.1 a.0 a.1 ∙ ap (λ t. 58 ∷ t) (minute.1 ∙ ap (λ t. two_shown y.0.0 ++ t) (ap (λ q. q.1) same))),
+      hour.1 ∙ ap (λ t. two_digit_text x.0.0 ++ t) (after-read 58 x.0.1 a.0 a.1 ∙ ap (λ t. 58 ∷ t) (minute.1 ∙ ap (λ t. two_digit_text y.0.0 ++ t) (ap (λ q. q.1) same))),
     )
 
 un_map : {A B : Type 0} (f : A → B) (o : Option A) (y : B) → option_map f o ≡ Some y → (x : A) × (o ≡ Some x) × (f x ≡ y)
@@ -308,7 +308,7 @@ offset-behind c s r true e h =
       offset = behind p.0 p.1;
       is = (p.2, p.3);
       value = ap (λ k. neg_ℤ (pos k)) p.4 ∙ ap (λ q. q.0) n.2;
-      text = rw sign (ap (λ t. 45 ∷ t) (p.5 ∙ ap (λ t. two_shown p.0 ++ 58 ∷ two_shown p.1 ++ t) (ap (λ q. q.1) n.2)));
+      text = rw sign (ap (λ t. 45 ∷ t) (p.5 ∙ ap (λ t. two_digit_text p.0 ++ 58 ∷ two_digit_text p.1 ++ t) (ap (λ q. q.1) n.2)));
     }
 offset-behind c s r false e h = cc
 
@@ -323,7 +323,7 @@ offset-ahead c s r true e h =
       offset = ahead p.0 p.1;
       is = (p.2, p.3);
       value = ap (λ k. pos k) p.4 ∙ ap (λ q. q.0) n.2;
-      text = rw sign (ap (λ t. 43 ∷ t) (p.5 ∙ ap (λ t. two_shown p.0 ++ 58 ∷ two_shown p.1 ++ t) (ap (λ q. q.1) n.2)));
+      text = rw sign (ap (λ t. 43 ∷ t) (p.5 ∙ ap (λ t. two_digit_text p.0 ++ 58 ∷ two_digit_text p.1 ++ t) (ap (λ q. q.1) n.2)));
     }
 offset-ahead c s r false e h = offset-behind c s r (c == 45) refl h
 
@@ -384,8 +384,8 @@ denoted-names text ms h =
         fraction = fraction.are;
         offset = offset.is;
       };
-      written = date.text ∙ ap (λ t. two_shown (date.year / 100) ++ two_shown (date.year % 100) ++ 45 ∷ two_shown date.month ++ 45 ∷ two_shown date.day ++ t) (letter.2
-          ∙ ap (λ t. letter.0 ∷ t) (time.text ∙ ap (λ t. two_shown time.hour ++ 58 ∷ two_shown time.minute ++ 58 ∷ two_shown time.second ++ t) (fraction.text
+      written = date.text ∙ ap (λ t. two_digit_text (date.year / 100) ++ two_digit_text (date.year % 100) ++ 45 ∷ two_digit_text date.month ++ 45 ∷ two_digit_text date.day ++ t) (letter.2
+          ∙ ap (λ t. letter.0 ∷ t) (time.text ∙ ap (λ t. two_digit_text time.hour ++ 58 ∷ two_digit_text time.minute ++ 58 ∷ two_digit_text time.second ++ t) (fraction.text
           ∙ ap (λ t. fraction_text fraction.digits ++ t) (offset.text ∙ ap (λ t. offset_text offset.offset ++ t) end.0 ∙ append-nil _))));
       moment = rw (date.value, time.value, fraction.value, offset.value) (sym end.1);
     }

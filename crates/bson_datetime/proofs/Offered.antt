@@ -2,4 +2,4 @@
 pub use Rattle.bson_datetime.proofs.DateRange.{named_fits}
 pub use Rattle.bson_datetime.proofs.NamesLaws.{denotes-names}
 pub use Rattle.bson_datetime.proofs.RoundTrip.{denoted-rfc}
-pub use Rattle.bson_datetime.proofs.ShownLemmas.{rfc-fields}
+pub use Rattle.bson_datetime.proofs.DisplayedLemmas.{rfc-fields}

@@ -17,7 +17,7 @@ use Rattle.jiff_core.proofs.CalendarLemmas.{days_in_month_bounds}
 use Rattle.bson_datetime.specs.JiffSteps.{IsJiffMoment}
 use Rattle.bson_datetime.specs.Rfc3339.{two_digits, four_digits, digits_below, after, after_letter, day_number, date_part, time_part, fraction_part, offset_part, denoted, nanos_of}
 use Rattle.bson_datetime.specs.Moment.{IsRfcMillis}
-use Rattle.bson_datetime.specs.Shown.{rfc}
+use Rattle.bson_datetime.specs.Displayed.{rfc}
 use Rattle.bson_datetime.proofs.MomentExists.{moment_at}
 use Rattle.bson_datetime.proofs.RfcLemmas.{rfc-jiff}
 use Rattle.bson_datetime.proofs.MomentLemmas.{moment-not_negative}

@@ -70,8 +70,8 @@ module _ {Y M D : Type 0} where
   with_millisecond n b = record b { millisecond = Some n }
 
 -- the date and time that a full builder was told; what was not set of the time is 0
-abbrev pub told : DateTimeBuilder Year Month Day → Civil
-told b = record {
+abbrev pub civil_fields : DateTimeBuilder Year Month Day → Civil
+civil_fields b = record {
   year = b.year.value;
   month = b.month.value;
   day = b.day.value;

@@ -5,7 +5,7 @@ use Rattle.std.specs.Char.{IsAsciiDigit}
 use Rattle.std.specs.List.{All}
 use Rattle.jiff_core.specs.Calendar.{IsCivilDate, days_from_civil}
 use Rattle.bson_datetime.specs.Rfc3339.{fraction_value, nanos_of}
-use Rattle.bson_datetime.specs.Shown.{two_shown}
+use Rattle.bson_datetime.specs.Displayed.{two_digit_text}
 
 -- how a text ends: with a `Z` of either case, or with how far its clock is ahead of or behind UTC, in hours and minutes
 pub data Offset : Type 0 where
@@ -28,8 +28,8 @@ pub record Parts : Type 0 where
 -- `Z`, or a sign, hours and minutes
 abbrev pub offset_text : Offset → List ℕ
 offset_text (zulu c) = c ∷ []
-offset_text (ahead h m) = codes "+" ++ two_shown h ++ codes ":" ++ two_shown m
-offset_text (behind h m) = codes "-" ++ two_shown h ++ codes ":" ++ two_shown m
+offset_text (ahead h m) = codes "+" ++ two_digit_text h ++ codes ":" ++ two_digit_text m
+offset_text (behind h m) = codes "-" ++ two_digit_text h ++ codes ":" ++ two_digit_text m
 
 -- a point and the fraction, where there is one
 abbrev pub fraction_text : List ℕ → List ℕ
@@ -39,8 +39,8 @@ fraction_text (d ∷ ds) = codes "." ++ d ∷ ds
 -- `YYYY-MM-DDThh:mm:ss`, the fraction and the offset
 abbrev pub text_of : Parts → List ℕ
 text_of p =
-    two_shown (p.year / 100) ++ two_shown (p.year % 100) ++ codes "-" ++ two_shown p.month ++ codes "-" ++ two_shown p.day ++ p.separator ∷ two_shown p.hour
-    ++ codes ":" ++ two_shown p.minute ++ codes ":" ++ two_shown p.second ++ fraction_text p.fraction ++ offset_text p.offset
+    two_digit_text (p.year / 100) ++ two_digit_text (p.year % 100) ++ codes "-" ++ two_digit_text p.month ++ codes "-" ++ two_digit_text p.day ++ p.separator ∷ two_digit_text p.hour
+    ++ codes ":" ++ two_digit_text p.minute ++ codes ":" ++ two_digit_text p.second ++ fraction_text p.fraction ++ offset_text p.offset
 
 -- a letter of either case: a small letter lies 32 above its capital
 abbrev pub IsLetter : ℕ → ℕ → Type 0

@@ -200,18 +200,18 @@ impl<Y, M, D> DateTimeBuilder<Y, M, D> {
 }
 
 impl DateTimeBuilder<Year, Month, Day> {
-    ghost use Rattle.bson_datetime.specs.Builder.{told};
+    ghost use Rattle.bson_datetime.specs.Builder.{civil_fields};
 
     /// The moment with the date and time that were set, on the proleptic Gregorian calendar. `InvalidTimestamp` exactly
     /// where one of them is out of its range, or the month hasn't that day: with the message `NoSuchTime` where the
     /// time of day is out of range, else with `NoSuchDay`.
     pub fn build(self) -> Result<DateTime>
-        ensures exists { IsOk result ↔ IsCivil (told self) }
-        ensures value { IfOk result (λ ms. IsMoment ms (told self)) }
-        ensures fields { IfOk result (λ ms. civil_of ms ≡ told self) }
+        ensures exists { IsOk result ↔ IsCivil (civil_fields self) }
+        ensures value { IfOk result (λ ms. IsMoment ms (civil_fields self)) }
+        ensures fields { IfOk result (λ ms. civil_of ms ≡ civil_fields self) }
         ensures err { IfErr result IsInvalidTimestamp }
-        ensures time { ¬ (IsTimeOfDay (told self)) → IfErr result (IsInvalidFor Message.NoSuchTime) }
-        ensures day { IsTimeOfDay (told self) → IfErr result (IsInvalidFor Message.NoSuchDay) }
+        ensures time { ¬ (IsTimeOfDay (civil_fields self)) → IfErr result (IsInvalidFor Message.NoSuchTime) }
+        ensures day { IsTimeOfDay (civil_fields self) → IfErr result (IsInvalidFor Message.NoSuchDay) }
     {
         let hour = self.hour.unwrap_or(0);
         let minute = self.minute.unwrap_or(0);

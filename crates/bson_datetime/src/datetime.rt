@@ -8,7 +8,7 @@ ghost use Rattle.bson_datetime.specs.JiffSteps.{IsJiffMoment};
 
 use crate::builder::{DateTimeBuilder, NoDay, NoMonth, NoYear};
 use crate::error::Message;
-use crate::shown::CivilText;
+use crate::display::CivilText;
 use crate::{Error, Result, rfc3339};
 use jiff::civil;
 use std::alloc::Global;
@@ -133,7 +133,7 @@ impl DateTime {
     ghost use Rattle.bson_datetime.specs.Moment.{IsRfcMillis};
     ghost use Rattle.bson_datetime.specs.Rfc3339.{denoted};
     ghost use Rattle.bson_datetime.specs.Grammar.{Names};
-    ghost use Rattle.bson_datetime.specs.Shown.{rfc, rfc_text};
+    ghost use Rattle.bson_datetime.specs.Displayed.{rfc, rfc_text};
     ghost use Rattle.bson_datetime.specs.Errors.{IsCannotFormat, IsInvalidFor, IsInvalidTimestamp, IsOutOfMemory};
 
     /// The RFC 3339 text (section 5.6) in UTC, as `1998-02-12T00:01:00.023Z`: the fraction without zeros at its end, and
@@ -194,9 +194,9 @@ const NOT_RFC3339: Error = Error::InvalidTimestamp {
 /// As `2023-01-23 20:11:47.316 +00:00:00`; outside the years -9999 to 9999 the milliseconds as a decimal number.
 impl fmt::Display for DateTime {
     ghost use Rattle.std.specs.Prelude.{Some};
-    ghost use Rattle.bson_datetime.specs.Shown.{shown};
+    ghost use Rattle.bson_datetime.specs.Displayed.{displayed};
 
-    ghost output = { λ ms. Some (shown ms) };
+    ghost output = { λ ms. Some (displayed ms) };
 
     fn fmt<W: fmt::Write>(&self, f: &mut fmt::Formatter<W>) -> fmt::Result {
         let Some(at) = self.civil() else {

@@ -15,7 +15,7 @@ use Rattle.std.specs.Option.{ok_or}
 use Rattle.bson_decimal.specs.declared.ParseError.TheVariants.{EmptyExponent, InvalidExponent}
 use Rattle.bson_decimal.specs.Numeral.{Sign, none, plus, minus, sign_bytes, is_minus, Exponent, unwritten, written, exponent_bytes, fraction_bytes, fraction_digits, IsExponent}
 use Rattle.bson_decimal.proofs.Shifted.{raised, lowered}
-use Rattle.bson_decimal.specs.Steps.{is_mark, is_point, has, is_exponent, biased_exponent, exponent_value, written_exponent, scaled_exponent, settled, finite, bind}
+use Rattle.bson_decimal.specs.Steps.{is_mark, is_point, has, is_exponent, biased_exponent, exponent_value, written_exponent, scaled_exponent, fitted, finite, bind}
 use Rattle.bson_decimal.proofs.StepLaws.{if-cases, not-true, not-false}
 use Rattle.bson_decimal.proofs.Zeros.{AllDigits-parts}
 use Rattle.bson_decimal.proofs.DigitTests.{AllDigits-from_test, test-from_AllDigits}
@@ -212,7 +212,7 @@ written-is cs (written m s ds) w h ok high low at =
 
 -- the steps, from the parts of a text
 finite_from : Result ℕ ParseError → List ℕ → List ℕ → Result (ℕ × ℕ) ParseError
-finite_from w fraction whole = bind w (λ v. bind (scaled_exponent v fraction) (λ x. settled (whole ++ fraction) x))
+finite_from w fraction whole = bind w (λ v. bind (scaled_exponent v fraction) (λ x. fitted (whole ++ fraction) x))
 
 -- the steps on a text that is put together of its parts
 module _ (whole : List ℕ) (f : Option (List ℕ)) (ex : Exponent) (digits : AllDigits 10 (whole ++ fraction_digits f)) (ok : IsExponent ex) (high : raised ex ≤ 32767) (low : lowered ex ≤ 32768) where
@@ -227,7 +227,7 @@ module _ (whole : List ℕ) (f : Option (List ℕ)) (ex : Exponent) (digits : Al
   before-is : before_first is_mark ((whole ++ fraction_bytes f) ++ exponent_bytes ex) ≡ whole ++ fraction_bytes f
   before-is = before-mark (whole ++ fraction_bytes f) ex no-mark ok
 
-  pub finite-is : (w x : ℕ) → w + lowered ex ≡ 32768 + raised ex → length (fraction_digits f) ≤ 32767 → w ≡ x + length (fraction_digits f) → finite ((whole ++ fraction_bytes f) ++ exponent_bytes ex) ≡ settled (whole ++ fraction_digits f) x
+  pub finite-is : (w x : ℕ) → w + lowered ex ≡ 32768 + raised ex → length (fraction_digits f) ≤ 32767 → w ≡ x + length (fraction_digits f) → finite ((whole ++ fraction_bytes f) ++ exponent_bytes ex) ≡ fitted (whole ++ fraction_digits f) x
   unfolding finite scaled_exponent finite_from
   finite-is w x at short sum =
       let rest = (whole ++ fraction_bytes f) ++ exponent_bytes ex in

@@ -15,9 +15,9 @@ use Rattle.bson_decimal.proofs.Shifted.{FitsShifted, IsNearestShifted}
 use Rattle.bson_decimal.specs.Numeral.{Sign, sign_bytes, is_minus, Exponent, exponent_bytes, fraction_bytes, fraction_digits, IsExponent, Numeral, digits_of, IsFiniteText, number}
 use Rattle.bson_decimal.specs.Text.{SpecialWord, nan, snan, infinity, inf, Parses, special, finite as finite_text, lowercase}
 use Rattle.bson_decimal.proofs.Shifted.{raised, lowered, up, down, IsWithin16Shifted, within16, within16-shifted, nearest, nearest-shifted}
-use Rattle.bson_decimal.specs.Steps.{is_mark, is_point, scaled_exponent, settled, finite}
+use Rattle.bson_decimal.specs.Steps.{is_mark, is_point, scaled_exponent, fitted, finite}
 use Rattle.bson_decimal.proofs.StepLaws.{if-cases}
-use Rattle.bson_decimal.proofs.Settled.{bind-by, IsSettled, SettledRefuses, settled-cases}
+use Rattle.bson_decimal.proofs.Fitted.{bind-by, IsFitted, FittedRefuses, fitted-cases}
 use Rattle.bson_decimal.proofs.NearestLaws.{nearest-one}
 use Rattle.bson_decimal.proofs.Grammar.{ReadsExponent, reads-exponent, reads-point, finite-is, sign-of, sign-off}
 
@@ -33,7 +33,7 @@ pub record ReadsFinite (rest : List ℕ) (r : ℕ × ℕ) : Type 0 where
   pub short : length (fraction_digits fraction) ≤ 32767
   pub scaled : ℕ
   pub scaled_is : scaled + length (fraction_digits fraction) + lowered exponent ≡ 32768 + raised exponent
-  pub settled_is : IsSettled (whole ++ fraction_digits fraction) scaled r
+  pub fitted_is : IsFitted (whole ++ fraction_digits fraction) scaled r
 
 scaled-cases : (w : ℕ) (f : List ℕ) → MatchResult (scaled_exponent w f) (λ x. (x + length f ≡ w) × (length f ≤ 32767)) (λ _. ⊤)
 unfolding scaled_exponent
@@ -43,10 +43,10 @@ scaled-cases w f =
     (λ e. if-cases (λ x. (x + length f ≡ w) × (length f ≤ 32767)) (λ _. ⊤) (ltb w (length f)) _ _ (λ _. tt)
     (λ g. let a = ltb-false 32767 (length f) e in let b = ltb-false w (length f) g in (omega arith, a)))
 
-settled-ok : (bs : List ℕ) (x : ℕ) → x ≤ 65535 → MatchResult (settled bs x) (IsSettled bs x) (λ _. ⊤)
-settled-ok bs x low = weaker (settled bs x) (settled-cases bs x low)
+fitted-ok : (bs : List ℕ) (x : ℕ) → x ≤ 65535 → MatchResult (fitted bs x) (IsFitted bs x) (λ _. ⊤)
+fitted-ok bs x low = weaker (fitted bs x) (fitted-cases bs x low)
   where
-    weaker : (r : Result (ℕ × ℕ) ParseError) → MatchResult r (IsSettled bs x) (SettledRefuses bs x) → MatchResult r (IsSettled bs x) (λ _. ⊤)
+    weaker : (r : Result (ℕ × ℕ) ParseError) → MatchResult r (IsFitted bs x) (FittedRefuses bs x) → MatchResult r (IsFitted bs x) (λ _. ⊤)
     weaker (Ok a) h = h
     weaker (Err e) h = tt
 
@@ -61,14 +61,14 @@ reads-finite rest =
     (λ w ex.
     bind-by (ReadsFinite rest) (λ _. ⊤) (λ x. (x + length fraction ≡ w) × (length fraction ≤ 32767)) (λ _. ⊤) (scaled_exponent w fraction) _ (scaled-cases w fraction)
     (λ x sum. ok-finite rest whole p.part ex.part fraction w x p.digits (ex.is ∙ ap (λ t. t ++ exponent_bytes ex.part) p.is) ex.ok ex.high ex.low ex.value sum.0 sum.1
-    (settled (whole ++ fraction) x) (settled-ok (whole ++ fraction) x (let v = ex.value in let h = ex.high in let s = sum.0 in omega arith)))
+    (fitted (whole ++ fraction) x) (fitted-ok (whole ++ fraction) x (let v = ex.value in let h = ex.high in let s = sum.0 in omega arith)))
     (λ e h. tt))
     (λ e h. tt)
   where
     ok-finite : (rest whole : List ℕ) (f : Option (List ℕ)) (ex : Exponent) (fraction : List ℕ) (w x : ℕ) → fraction_digits f ≡ fraction → rest ≡ (whole ++ fraction_bytes f) ++ exponent_bytes ex → IsExponent ex → raised ex ≤ 32767 → lowered ex ≤ 32768
-        → w + lowered ex ≡ 32768 + raised ex → x + length fraction ≡ w → length fraction ≤ 32767 → (r : Result (ℕ × ℕ) ParseError) → MatchResult r (IsSettled (whole ++ fraction) x) (λ _. ⊤) → MatchResult r (ReadsFinite rest) (λ _. ⊤)
+        → w + lowered ex ≡ 32768 + raised ex → x + length fraction ≡ w → length fraction ≤ 32767 → (r : Result (ℕ × ℕ) ParseError) → MatchResult r (IsFitted (whole ++ fraction) x) (λ _. ⊤) → MatchResult r (ReadsFinite rest) (λ _. ⊤)
     ok-finite rest whole f ex fraction w x same is ok high low value sum short (Ok r) h =
-        record { whole = whole; fraction = f; exponent = ex; is = is; ok = ok; high = high; low = low; short = rw same short; scaled = x; scaled_is = rw same (omega arith); settled_is = rw same h }
+        record { whole = whole; fraction = f; exponent = ex; is = is; ok = ok; high = high; low = low; short = rw same short; scaled = x; scaled_is = rw same (omega arith); fitted_is = rw same h }
     ok-finite rest whole f ex fraction w x same is ok high low value sum short (Err e) h = tt
 
 -- the first byte of a finite text without its sign
@@ -89,7 +89,7 @@ pub record StepsOn (text : List ℕ) (n : Numeral) : Type 0 where
   pub x : ℕ
   pub at : x + down n ≡ up n + 32768
   pub within : x ≤ 65535
-  pub steps : finite (without_leading_sign text) ≡ settled (digits_of n) x
+  pub steps : finite (without_leading_sign text) ≡ fitted (digits_of n) x
   pub sign : starts_with_minus text ≡ is_minus n.sign
 
 pub steps-on : (text : List ℕ) (n : Numeral) → IsFiniteText text n → IsWithin16Shifted n → StepsOn text n
@@ -117,14 +117,14 @@ refused text k is n c e t l fits =
     let s = steps-on text n t l in
     let at = s.at in
     let great = l.greatest in
-    rw (sym s.steps ∙ is) at (settled-cases (digits_of n) s.x s.within) t.digits t.some l.cut (omega arith) (up n) (down n) s.at c e fits
+    rw (sym s.steps ∙ is) at (fitted-cases (digits_of n) s.x s.within) t.digits t.some l.cut (omega arith) (up n) (down n) s.at c e fits
 
 -- and what they give is the one pair
 pub only : (text : List ℕ) (r : ℕ × ℕ) → finite (without_leading_sign text) ≡ Ok r → (n : Numeral) (c e : ℕ) → IsFiniteText text n → IsWithin16Shifted n → IsNearestShifted (number n) (up n) (down n) c e
     → (c ≡ r.0) × (e ≡ r.1)
 only text r is n c e t l near =
     let s = steps-on text n t l in
-    let given = (rw (sym s.steps ∙ is) at (settled-cases (digits_of n) s.x s.within)).nearest (up n) (down n) s.at in
+    let given = (rw (sym s.steps ∙ is) at (fitted-cases (digits_of n) s.x s.within)).nearest (up n) (down n) s.at in
     nearest-one (number n) (up n) (down n) c r.0 e r.1 near given
 
 -- a text that the steps read
@@ -133,18 +133,18 @@ read text r h =
     let s = sign-of text in
     let n : Numeral = record { sign = s.0; whole = h.whole; fraction = h.fraction; exponent = h.exponent } in
     let sum = h.scaled_is in
-    let settled = h.settled_is in
-    let few = settled.few in
-    let most = settled.high in
+    let fitted = h.fitted_is in
+    let few = fitted.few in
+    let most = fitted.high in
     finite_text n r.0 r.1
     (record {
       is = s.1 ∙ ap (λ t. sign_bytes s.0 ++ t) (h.is ∙ append_assoc h.whole (fraction_bytes h.fraction) (exponent_bytes h.exponent));
-      digits = settled.digits;
-      some = settled.some;
+      digits = fitted.digits;
+      some = fitted.some;
       exponent = h.ok;
     })
     (within16 n (record { high = h.high; low = h.low; fraction = h.short; least = omega arith; cut = few; greatest = omega arith }))
-    (nearest n r.0 r.1 (settled.nearest (up n) (down n) (omega arith)))
+    (nearest n r.0 r.1 (fitted.nearest (up n) (down n) (omega arith)))
     (ap (λ b. to_le_bytes w128 (first_form b r.0 r.1)) s.2)
 
 -- words
@@ -233,5 +233,5 @@ refused-parses text k plain is b (finite_text n c e t l near b-is) = refused tex
 pub finite-within : (text : List ℕ) (r : ℕ × ℕ) → finite text ≡ Ok r → (r.0 < 10 ^ 34) × (r.1 < 12288)
 finite-within text r is =
     let h = rw is at (reads-finite text) in
-    let fits = (h.settled_is.nearest h.scaled 32768 refl).fits in
+    let fits = (h.fitted_is.nearest h.scaled 32768 refl).fits in
     (fits.coefficient, fits.exponent)

@@ -100,8 +100,8 @@ coefficient ds z has_digit =
     else Ok (digits_value 10 ds * 10 ^ z))
 
 -- a coefficient and a stored exponent
-unfoldable pub settled : List ℕ → ℕ → Result (ℕ × ℕ) ParseError
-settled bs x = do
+unfoldable pub fitted : List ℕ → ℕ → Result (ℕ × ℕ) ParseError
+fitted bs x = do
   a ← cut_at_34 (without_leading_zeros bs) x
   b ← raise_to_least a.0 a.1
   z ← zeros_to_add b.0 b.1
@@ -113,7 +113,7 @@ unfoldable pub finite : List ℕ → Result (ℕ × ℕ) ParseError
 finite rest = do
   w ← written_exponent rest
   x ← scaled_exponent w (after_first is_point (before_first is_mark rest))
-  settled (before_first is_point (before_first is_mark rest) ++ after_first is_point (before_first is_mark rest)) x
+  fitted (before_first is_point (before_first is_mark rest) ++ after_first is_point (before_first is_mark rest)) x
 
 -- the kind of fault of a text that denotes nothing
 abbrev pub fault_of : Result (ℕ × ℕ) ParseError → ParseError

@@ -2,7 +2,7 @@
 #![tactic(auto)]
 
 ghost use Rattle.std.specs.Prelude.{◌≡◌, [], IfOk, string_bytes};
-ghost use Rattle.bson_store.specs.Pairs.{put};
+ghost use Rattle.bson_store.specs.Pairs.{insert_pair};
 ghost use Rattle.bson.specs.View.{contents};
 ghost use Rattle.bson.specs.declared.bson.Bson.TheVariants as value;
 
@@ -12,7 +12,7 @@ use std::alloc::Global;
 
 /// The document of one pair.
 fn counted(alloc: Global, key: String, count: i32) -> Result<Document, Refused>
-    ensures pair { IfOk result (λ document. contents document ≡ put (string_bytes key) (value.Int32 count) []) }
+    ensures pair { IfOk result (λ document. contents document ≡ insert_pair (string_bytes key) (value.Int32 count) []) }
 {
     let mut document = Document::new(alloc);
     // A refused insertion hands the pair back and leaves the document as it was.

@@ -1,7 +1,7 @@
 -- The text of a double.
 use Rattle.std.proofs.Common.{◌≡◌, ℕ, ◌-◌, ◌^◌, false, append-nil, arith, [], length, refl}
 use Rattle.std.specs.Fmt.{padded_integral, format_spec, digits, char_count}
-use Rattle.bson_leaf.specs.Shown.{sixteen_digits}
+use Rattle.bson_wrapper.specs.Displayed.{sixteen_digits}
 
 -- `{p:016x}` writes sixteen digits
 pub sixteen : (p : ℕ) → padded_integral (format_spec 32 0 4 16 (2 ^ 64 - 1)) false [] (digits 16 false p) ≡ sixteen_digits p

@@ -1,13 +1,13 @@
 //! A scalar by reference.
 ghost use Rattle.std.specs.Prelude.{◌≡◌, ◌++◌, IfOk, codes};
 ghost use Rattle.std.specs.Fmt.{WritesOnOk};
-ghost use Rattle.bson_leaf.specs.Shown.{sixteen_digits};
-ghost use Rattle.bson_leaf.specs.View.{leaf_view};
+ghost use Rattle.bson_wrapper.specs.Displayed.{sixteen_digits};
+ghost use Rattle.bson_wrapper.specs.View.{scalar_view};
 ghost use Rattle.bson_kind.specs.View.{scalar_of};
 
 use bson_datetime::DateTime;
 use bson_decimal::Decimal128;
-use bson_leaf::leaf::Leaf;
+use bson_wrapper::scalar::Scalar;
 use bson_scalar::binary::Binary;
 use bson_scalar::db_pointer::DbPointer;
 use bson_scalar::oid::ObjectId;
@@ -152,9 +152,9 @@ impl<'a> Hash for ScalarRef<'a> {
 
 impl<'a> fmt::Display for ScalarRef<'a> {
     ghost use Rattle.std.specs.Prelude.{Some};
-    ghost use Rattle.bson_leaf.specs.Shown.{scalar_shown};
+    ghost use Rattle.bson_wrapper.specs.Displayed.{scalar_displayed};
 
-    ghost output = { λ x. Some (scalar_shown (scalar_of x)) };
+    ghost output = { λ x. Some (scalar_displayed (scalar_of x)) };
 
     fn fmt<W: fmt::Write>(&self, f: &mut fmt::Formatter<W>) -> fmt::Result {
         match *self {
@@ -217,28 +217,28 @@ fn show_double<W: fmt::Write>(pattern: u64, f: &mut fmt::Formatter<W>) -> fmt::R
 
 impl<'a> ScalarRef<'a> {
     /// The same scalar, in memory of its own.
-    pub fn to_owned(&self, alloc: Global) -> Result<Leaf, AllocError>
-        ensures { IfOk result (λ x. leaf_view x ≡ scalar_of self.now) }
+    pub fn to_owned(&self, alloc: Global) -> Result<Scalar, AllocError>
+        ensures { IfOk result (λ x. scalar_view x ≡ scalar_of self.now) }
     {
         Ok(match *self {
-            ScalarRef::Null => Leaf::Null,
-            ScalarRef::Undefined => Leaf::Undefined,
-            ScalarRef::MinKey => Leaf::MinKey,
-            ScalarRef::MaxKey => Leaf::MaxKey,
-            ScalarRef::Boolean(b) => Leaf::Boolean(b),
-            ScalarRef::Double(pattern) => Leaf::Double(pattern),
-            ScalarRef::Int32(z) => Leaf::Int32(z),
-            ScalarRef::Int64(z) => Leaf::Int64(z),
-            ScalarRef::String(text) => Leaf::String(String::from_str(alloc, text)?),
-            ScalarRef::Symbol(text) => Leaf::Symbol(String::from_str(alloc, text)?),
-            ScalarRef::JavaScriptCode(code) => Leaf::JavaScriptCode(String::from_str(alloc, code)?),
-            ScalarRef::RegularExpression(regex) => Leaf::RegularExpression(regex.clone(alloc)?),
-            ScalarRef::Timestamp(stamp) => Leaf::Timestamp(stamp),
-            ScalarRef::Binary(binary) => Leaf::Binary(binary.clone(alloc)?),
-            ScalarRef::ObjectId(id) => Leaf::ObjectId(id),
-            ScalarRef::DateTime(date) => Leaf::DateTime(date),
-            ScalarRef::Decimal128(decimal) => Leaf::Decimal128(decimal),
-            ScalarRef::DbPointer(pointer) => Leaf::DbPointer(pointer.clone(alloc)?),
+            ScalarRef::Null => Scalar::Null,
+            ScalarRef::Undefined => Scalar::Undefined,
+            ScalarRef::MinKey => Scalar::MinKey,
+            ScalarRef::MaxKey => Scalar::MaxKey,
+            ScalarRef::Boolean(b) => Scalar::Boolean(b),
+            ScalarRef::Double(pattern) => Scalar::Double(pattern),
+            ScalarRef::Int32(z) => Scalar::Int32(z),
+            ScalarRef::Int64(z) => Scalar::Int64(z),
+            ScalarRef::String(text) => Scalar::String(String::from_str(alloc, text)?),
+            ScalarRef::Symbol(text) => Scalar::Symbol(String::from_str(alloc, text)?),
+            ScalarRef::JavaScriptCode(code) => Scalar::JavaScriptCode(String::from_str(alloc, code)?),
+            ScalarRef::RegularExpression(regex) => Scalar::RegularExpression(regex.clone(alloc)?),
+            ScalarRef::Timestamp(stamp) => Scalar::Timestamp(stamp),
+            ScalarRef::Binary(binary) => Scalar::Binary(binary.clone(alloc)?),
+            ScalarRef::ObjectId(id) => Scalar::ObjectId(id),
+            ScalarRef::DateTime(date) => Scalar::DateTime(date),
+            ScalarRef::Decimal128(decimal) => Scalar::Decimal128(decimal),
+            ScalarRef::DbPointer(pointer) => Scalar::DbPointer(pointer.clone(alloc)?),
         })
     }
 }

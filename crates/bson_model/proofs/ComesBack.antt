@@ -3,10 +3,10 @@ use Rattle.std.proofs.Common.{◌≡◌, true, Result, Ok, Err, refl, ap, ◌∙
 use Rattle.std.specs.Prelude.{IfOk, is_ok}
 use Rattle.serde_json.specs.Data.{Data}
 use Rattle.serde_json.specs.Written.{compact_text}
-use Rattle.bson_leaf.specs.Faults.{Gives}
-use Rattle.bson_leaf.specs.Written.{Refusal}
-use Rattle.bson_leaf.specs.declared.error.Error.{Error}
-use Rattle.bson_leaf.specs.declared.form.Form.{Form}
+use Rattle.bson_wrapper.specs.Faults.{Gives}
+use Rattle.bson_wrapper.specs.Written.{Refusal}
+use Rattle.bson_wrapper.specs.declared.error.Error.{Error}
+use Rattle.bson_wrapper.specs.declared.form.Form.{Form}
 use Rattle.bson_model.specs.Means.{Means}
 use Rattle.bson_model.specs.Reading.{reads}
 use Rattle.bson_model.specs.Texts.{IsTree, HasEqualTexts, HasText, ComesBack}
@@ -18,7 +18,7 @@ use Rattle.bson_model.specs.Writing.{writes}
 use Rattle.bson_model.proofs.MeansLaws.{means_from}
 use Rattle.bson_model.proofs.NoFloats.{no_float}
 use Rattle.bson_model.proofs.RangeLaws.{in_range}
-use Rattle.bson_model.proofs.ReadBack.{reads_back_is, equal_is, same_trees, settled_form}
+use Rattle.bson_model.proofs.ReadBack.{reads_back_is, equal_is, same_trees, as_read_form}
 use Rattle.bson_model.proofs.ReadForm.{form}
 use Rattle.bson_model.proofs.SameSorted.{same_to}
 use Rattle.bson_model.proofs.TextLaws.{text_back, one_tree}
@@ -40,7 +40,7 @@ has_tree f v h = let t = tree_of f v h in (t.0, canon_from f v t.0 t.1)
 same_tree : (f : Form) (v : Value) (u : Data) (w : Value) → writes f v ≡ Ok u → Means u w → same w (as_read f (normal_form v)) ≡ true → Written f (normal_form w) u
 same_tree f v u w h m is =
     let own = tree_of f w (form m).1 in
-    let one : own.0 ≡ u = same_trees f w (as_read f (normal_form v)) own.0 u own.1 (settled_form f v u h) (same_to w (as_read f (normal_form v)) is) in
+    let one : own.0 ≡ u = same_trees f w (as_read f (normal_form v)) own.0 u own.1 (as_read_form f v u h) (same_to w (as_read f (normal_form v)) is) in
     canon_from f w u (own.1 ∙ ap Ok one)
 
 equal_texts : (f : Form) (v : Value) (u : Data) (w : Value) (x : Data) → writes f v ≡ Ok u → plain v ≡ true → InRange v → HasEqualTexts f v u w x

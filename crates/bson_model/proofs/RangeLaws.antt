@@ -4,11 +4,11 @@ use Rattle.std.specs.Prelude.{FitsSigned}
 use Rattle.std.proofs.lemmas.Bool.{ltb-true}
 use Rattle.serde_json.specs.Data.{Data, Num, unsigned, negative, float, Items, Members}
 use Rattle.serde_json.specs.Find.{as_i64}
-use Rattle.bson_leaf.specs.Means.{MeansScalar, narrow_number, wide_number, oid, number_int, number_long, number_double, binary, uuid, timestamp, date_of_millis, date_of_text, date_of_number, db_pointer}
-use Rattle.bson_leaf.specs.Normal.{ScalarInRange}
-use Rattle.bson_leaf.specs.Scalar.{Scalar}
-use Rattle.bson_leaf.specs.Shapes.{small_number, whole}
-use Rattle.bson_leaf.proofs.Offered.{subtype_byte-of}
+use Rattle.bson_wrapper.specs.Means.{MeansScalar, narrow_number, wide_number, oid, number_int, number_long, number_double, binary, uuid, timestamp, date_of_millis, date_of_text, date_of_number, db_pointer}
+use Rattle.bson_wrapper.specs.Normal.{ScalarInRange}
+use Rattle.bson_wrapper.specs.Scalar.{Scalar}
+use Rattle.bson_wrapper.specs.Shapes.{small_number, whole}
+use Rattle.bson_wrapper.proofs.Offered.{subtype_byte-of}
 use Rattle.bson_model.specs.Value.{Value, Values, Pairs}
 use Rattle.bson_model.specs.Means.{Means, scalar, code_with_scope, array, document, MeansItems, nothing, then, MeansDocument, empty, entry}
 use Rattle.bson_model.specs.Texts.{NumberFits, IsTree, ItemsAreTrees, MembersAreTrees}

@@ -7,14 +7,14 @@ use lib.Signed.{mag}
 use Rattle.serde_json.specs.Data.{Data, Items, no_items, item, Members, no_members, member, put}
 use Rattle.serde_json.specs.Data as tree
 use Rattle.serde_json.specs.Find.{of_integer}
-use Rattle.bson_leaf.specs.Dates.{is_recent, relaxed_date_tree}
-use Rattle.bson_leaf.specs.Doubles.{double_text}
-use Rattle.bson_leaf.specs.Normal.{ScalarInRange}
-use Rattle.bson_leaf.specs.Scalar.{Scalar, null, undefined, min_key, max_key, boolean, double, int32, int64, text, symbol, code, regex, timestamp, binary, object_id, date, decimal, db_pointer}
-use Rattle.bson_leaf.specs.Shapes.{object_of_two}
-use Rattle.bson_leaf.specs.Written.{Refusal, ◌>>=◌, or_finite, writes_scalar, int32_form, int64_form, date_form}
-use Rattle.bson_leaf.specs.declared.form.Form.{Form}
-use Rattle.bson_leaf.specs.declared.form.Form.TheVariants.{Canonical, Relaxed}
+use Rattle.bson_wrapper.specs.Dates.{is_recent, relaxed_date_tree}
+use Rattle.bson_wrapper.specs.Doubles.{double_text}
+use Rattle.bson_wrapper.specs.Normal.{ScalarInRange}
+use Rattle.bson_wrapper.specs.Scalar.{Scalar, null, undefined, min_key, max_key, boolean, double, int32, int64, text, symbol, code, regex, timestamp, binary, object_id, date, decimal, db_pointer}
+use Rattle.bson_wrapper.specs.Shapes.{object_of_two}
+use Rattle.bson_wrapper.specs.Written.{Refusal, ◌>>=◌, or_finite, writes_scalar, int32_form, int64_form, date_form}
+use Rattle.bson_wrapper.specs.declared.form.Form.{Form}
+use Rattle.bson_wrapper.specs.declared.form.Form.TheVariants.{Canonical, Relaxed}
 use Rattle.bson_model.specs.Texts.{IsBelow, Ascends, IsTree, ItemsAreTrees, MembersAreTrees}
 use Rattle.bson_model.specs.Value.{Value, scalar, code_scope, array, document, Values, no_values, value, Pairs, no_pairs, pair}
 use Rattle.bson_model.specs.Normal.{InRange, ItemsInRange, PairsInRange}

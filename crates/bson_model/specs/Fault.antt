@@ -2,9 +2,9 @@
 -- values by ascending key, and of a wrapper as a whole. It is an object id's text where that alone is wrong.
 use Rattle.std.specs.Prelude.{◌≡◌, ℕ, List, Result, Ok, Err}
 use Rattle.serde_json.specs.Data.{Data, Members}
-use Rattle.bson_leaf.specs.Faults.{Fault, wrong_shape, wrong_id, IsIdFault}
-use Rattle.bson_leaf.specs.declared.error.Error.{Error}
-use Rattle.bson_leaf.specs.declared.error.Error.TheVariants.{InvalidObjectId, DeserializationError, OutOfMemory}
+use Rattle.bson_wrapper.specs.Faults.{Fault, wrong_shape, wrong_id, IsIdFault}
+use Rattle.bson_wrapper.specs.declared.error.Error.{Error}
+use Rattle.bson_wrapper.specs.declared.error.Error.TheVariants.{InvalidObjectId, DeserializationError, OutOfMemory}
 use Rattle.bson_model.specs.Value.{Value, Pairs}
 use Rattle.bson_model.specs.Means.{Means, MeansDocument}
 use Rattle.bson_model.specs.Reading.{reads, reads_members}

@@ -3,10 +3,10 @@
 use Rattle.std.specs.Prelude.{◌≡◌, ℕ, List, codes, false}
 use Rattle.serde_json.specs.Data.{Data, Items, no_items, item, Members, no_members, member}
 use Rattle.serde_json.specs.Data as tree
-use Rattle.bson_leaf.specs.Means.{MeansScalar}
-use Rattle.bson_leaf.specs.Scalar.{Scalar}
-use Rattle.bson_leaf.specs.Shapes.{object_of_two}
-use Rattle.bson_leaf.specs.Table.{has_wrapper}
+use Rattle.bson_wrapper.specs.Means.{MeansScalar}
+use Rattle.bson_wrapper.specs.Scalar.{Scalar}
+use Rattle.bson_wrapper.specs.Shapes.{object_of_two}
+use Rattle.bson_wrapper.specs.Table.{has_wrapper}
 use Rattle.bson_model.specs.Value.{Value, code_scope, Values, no_values, value, Pairs, no_pairs, pair}
 use Rattle.bson_model.specs.Value as model
 

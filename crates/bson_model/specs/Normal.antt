@@ -1,10 +1,10 @@
 -- Normal and narrowed forms, and what a value may be.
 use Rattle.std.specs.Prelude.{◌&&◌, Bool, true, is_none}
-use Rattle.bson_leaf.specs.Scalar.{Scalar}
-use Rattle.bson_leaf.specs.Normal.{normal_scalar, scalar_as_read, writable_scalar, ScalarInRange}
-use Rattle.bson_leaf.specs.Table.{wrapper_of}
-use Rattle.bson_leaf.specs.declared.form.Form.{Form}
-use Rattle.bson_leaf.specs.declared.form.Form.TheVariants.{Canonical, Relaxed}
+use Rattle.bson_wrapper.specs.Scalar.{Scalar}
+use Rattle.bson_wrapper.specs.Normal.{normal_scalar, scalar_as_read, writable_scalar, ScalarInRange}
+use Rattle.bson_wrapper.specs.Table.{wrapper_of}
+use Rattle.bson_wrapper.specs.declared.form.Form.{Form}
+use Rattle.bson_wrapper.specs.declared.form.Form.TheVariants.{Canonical, Relaxed}
 use Rattle.bson_model.specs.Value.{Value, scalar, code_scope, array, document, Values, no_values, value, Pairs, no_pairs, pair}
 
 -- ---- the normal form

@@ -4,32 +4,32 @@ use Rattle.std.specs.Prelude.{ℕ, List, codes, ◌&&◌, if◌then◌else◌, O
 use Rattle.std.specs.Str.{bytes_eq}
 use Rattle.serde_json.specs.Data.{Data, Items, no_items, item, Members, no_members, member}
 use Rattle.serde_json.specs.Data as tree
-use Rattle.bson_leaf.specs.Faults.{Fault, wrong_shape, ◌>>=◌}
-use Rattle.bson_leaf.specs.Reading.{number_read, single_at, on_text}
-use Rattle.bson_leaf.specs.Scalar.{Scalar, null, boolean, text, code}
-use Rattle.bson_leaf.specs.Table.{wrapper_of, has_wrapper}
+use Rattle.bson_wrapper.specs.Faults.{Fault, wrong_shape, ◌>>=◌}
+use Rattle.bson_wrapper.specs.Reading.{number_read, single_at, on_text}
+use Rattle.bson_wrapper.specs.Scalar.{Scalar, null, boolean, text, code}
+use Rattle.bson_wrapper.specs.Table.{wrapper_of, has_wrapper}
 use Rattle.bson_model.specs.Value.{Value, scalar, code_scope, array, document, Values, no_values, value, Pairs, no_pairs, pair}
 
-abbrev pub valued : Result Scalar Fault → Result Value Fault
-valued r = r >>= λ s. Ok (scalar s)
+abbrev pub scalar_value : Result Scalar Fault → Result Value Fault
+scalar_value r = r >>= λ s. Ok (scalar s)
 
-abbrev pub coded : List ℕ → Option Pairs → Value
-coded s None = scalar (code s)
-coded s (Some ps) = code_scope s ps
+abbrev pub code_value : List ℕ → Option Pairs → Value
+code_value s None = scalar (code s)
+code_value s (Some ps) = code_scope s ps
 
 -- code, with the scope that was read
-abbrev pub scoped : List ℕ → Result (Option Pairs) Fault → Result Value Fault
-scoped s scope = scope >>= λ ps. Ok (coded s ps)
+abbrev pub scope_value : List ℕ → Result (Option Pairs) Fault → Result Value Fault
+scope_value s scope = scope >>= λ ps. Ok (code_value s ps)
 
 -- the only wrapper of two keys
 abbrev pub code_at : List ℕ → Data → List ℕ → Result (Option Pairs) Fault → Result Value Fault
-code_at k d l scope = if bytes_eq k (codes "$code") && bytes_eq l (codes "$scope") then on_text d (λ s. scoped s scope) else Err wrong_shape
+code_at k d l scope = if bytes_eq k (codes "$code") && bytes_eq l (codes "$scope") then on_text d (λ s. scope_value s scope) else Err wrong_shape
 
 abbrev mutual
   pub reads : Data → Result Value Fault
   reads tree.null = Ok (scalar null)
   reads (tree.boolean b) = Ok (scalar (boolean b))
-  reads (tree.number n) = valued (number_read n)
+  reads (tree.number n) = scalar_value (number_read n)
   reads (tree.string s) = Ok (scalar (text s))
   reads (tree.array ds) = reads_items ds >>= λ vs. Ok (array vs)
   reads (tree.object ms) = if has_wrapper ms then reads_wrapper ms else (reads_members ms >>= λ ps. Ok (document ps))
@@ -46,7 +46,7 @@ abbrev mutual
   -- a map with a wrapper key
   pub reads_wrapper : Members → Result Value Fault
   reads_wrapper no_members = Err wrong_shape
-  reads_wrapper (member k d no_members) = valued (single_at (wrapper_of k) d)
+  reads_wrapper (member k d no_members) = scalar_value (single_at (wrapper_of k) d)
   reads_wrapper (member k d (member l e no_members)) = code_at k d l (reads_scope e)
   reads_wrapper (member k d (member l e (member m f ms))) = Err wrong_shape
 

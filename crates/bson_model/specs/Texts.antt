@@ -7,7 +7,7 @@ use Rattle.serde_json.specs.Data.{Num, unsigned, negative, float, Data, Items, n
 use Rattle.serde_json.specs.Data as tree
 use Rattle.serde_json.specs.Read.{read, max_depth}
 use Rattle.serde_json.specs.Written.{has_float, compact_text}
-use Rattle.bson_leaf.specs.declared.form.Form.{Form}
+use Rattle.bson_wrapper.specs.declared.form.Form.{Form}
 use Rattle.bson_model.specs.Value.{Value}
 use Rattle.bson_model.specs.Means.{Means}
 use Rattle.bson_model.specs.Same.{same}

@@ -2,8 +2,8 @@
 use Rattle.std.specs.Prelude.{◌≡◌, codes}
 use Rattle.serde_json.specs.Data.{Data, Items, no_items, item, Members, no_members, member, put}
 use Rattle.serde_json.specs.Data as tree
-use Rattle.bson_leaf.specs.Written.{WrittenScalar}
-use Rattle.bson_leaf.specs.declared.form.Form.{Form}
+use Rattle.bson_wrapper.specs.Written.{WrittenScalar}
+use Rattle.bson_wrapper.specs.declared.form.Form.{Form}
 use Rattle.bson_model.specs.Value.{Value, scalar, code_scope, array, document, Values, no_values, value, Pairs, no_pairs, pair}
 
 abbrev mutual

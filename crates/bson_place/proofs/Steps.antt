@@ -7,19 +7,19 @@ use Rattle.std.proofs.lemmas.Slice.Eq.{bytes_eq-Decides}
 use Rattle.std.specs.declared.alloc.AllocError.{AllocError}
 use Rattle.serde_json.specs.Data.{Data, Num, Items, item, Members, no_members, member}
 use Rattle.serde_json.specs.Data as tree
-use Rattle.bson_leaf.specs.Faults.{Fault, wrong_shape, ◌>>=◌, or_wrong_shape}
+use Rattle.bson_wrapper.specs.Faults.{Fault, wrong_shape, ◌>>=◌, or_wrong_shape}
 use Rattle.serde_json.specs.View.{view, number_view, members_view}
 use Rattle.serde_json.specs.declared.number.Number.{Number}
 use Rattle.serde_json.specs.declared.value.Value.{the_lemmas}
 use Rattle.serde_json.specs.declared.value.Value.TheVariants as declared
 use Rattle.serde_json.specs.Find.{as_i64}
-use Rattle.bson_leaf.specs.Ints.{narrowest}
-use Rattle.bson_leaf.specs.Reading.{single_at, on_text}
-use Rattle.bson_leaf.specs.Scalar.{Scalar}
-use Rattle.bson_leaf.specs.Scalar as kind
-use Rattle.bson_leaf.specs.Table.{wrapper_of, has_wrapper}
-use Rattle.bson_leaf.specs.declared.error.Error.{Error}
-use Rattle.bson_model.specs.Reading.{reads, reads_items, reads_members, reads_wrapper, reads_scope, valued, code_at, coded, scoped}
+use Rattle.bson_wrapper.specs.Ints.{narrowest}
+use Rattle.bson_wrapper.specs.Reading.{single_at, on_text}
+use Rattle.bson_wrapper.specs.Scalar.{Scalar}
+use Rattle.bson_wrapper.specs.Scalar as kind
+use Rattle.bson_wrapper.specs.Table.{wrapper_of, has_wrapper}
+use Rattle.bson_wrapper.specs.declared.error.Error.{Error}
+use Rattle.bson_model.specs.Reading.{reads, reads_items, reads_members, reads_wrapper, reads_scope, scalar_value, code_at, code_value, scope_value}
 use Rattle.bson_model.specs.Value.{Value, Values, value, Pairs, pair}
 use Rattle.bson_model.specs.Value as model
 use Rattle.bson_model.proofs.Offered.{Member}
@@ -51,7 +51,7 @@ boolean_value b = (model.scalar (kind.boolean b), refl)
 pub text_value : (s : List ℕ) → HasValue (tree.string s)
 text_value s = (model.scalar (kind.text s), refl)
 
-whole_value : (o : Option ℤ) → IsSome o → (v : Value) × (valued (or_wrong_shape o >>= λ z. Ok (narrowest z)) ≡ Ok v)
+whole_value : (o : Option ℤ) → IsSome o → (v : Value) × (scalar_value (or_wrong_shape o >>= λ z. Ok (narrowest z)) ≡ Ok v)
 whole_value (Some z) h = (model.scalar (narrowest z), refl)
 whole_value None h = cc
 
@@ -137,7 +137,7 @@ pub wrapped : (ms : Members) → has_wrapper ms ≡ true → reads (tree.object 
 wrapped ms h = ap (λ b. cond b (reads_wrapper ms) (reads_members ms >>= λ qs. Ok (model.document qs))) h
 
 pub lone_value : (k : List ℕ) (d : Data) (x : Scalar) → has_wrapper (member k d no_members) ≡ true → single_at (wrapper_of k) d ≡ Ok x → HasValue (tree.object (member k d no_members))
-lone_value k d x h e = (model.scalar x, wrapped (member k d no_members) h ∙ ap valued e)
+lone_value k d x h e = (model.scalar x, wrapped (member k d no_members) h ∙ ap scalar_value e)
 
 -- a place at a tree itself
 pub at_once : {A : Fault → List Turn → Type 0} (p : Place) → IsErrorOf wrong_shape p.error → way_of p ≡ [] → A wrong_shape [] → IsPlace A p
@@ -148,7 +148,7 @@ not_open_by_keys : (k : List ℕ) (d : Data) (l : List ℕ) (e : Data) → (byte
 not_open_by_keys k d l e h (code_with_scope s ms) = cc
 
 other_keys : (k : List ℕ) (d : Data) (l : List ℕ) (r : Result (Option Pairs) Fault) → (bytes_eq k (codes "$code") && bytes_eq l (codes "$scope")) ≡ false → code_at k d l r ≡ Err wrong_shape
-other_keys k d l r h = ap (λ b. cond b (on_text d (λ s. scoped s r)) (Err wrong_shape)) h
+other_keys k d l r h = ap (λ b. cond b (on_text d (λ s. scope_value s r)) (Err wrong_shape)) h
 
 pub not_code : (k : List ℕ) (d : Data) (l : List ℕ) (e : Data) → has_wrapper (member k d (member l e no_members)) ≡ true → (bytes_eq k (codes "$code") && bytes_eq l (codes "$scope")) ≡ false
     → FaultAt wrong_shape (tree.object (member k d (member l e no_members))) []
@@ -180,19 +180,19 @@ not_text k d l e w h =
 not_open_by_scope : (k : List ℕ) (d : Data) (l : List ℕ) (e : Data) → ((ms : Members) → e ≡ tree.object ms → ⊥) → IsOpen (member k d (member l e no_members)) → ⊥
 not_open_by_scope k d l e h (code_with_scope s ms) = h ms refl
 
-code_read : (k : List ℕ) (d : Data) (l : List ℕ) (s : List ℕ) (r : Result (Option Pairs) Fault) → (bytes_eq k (codes "$code") && bytes_eq l (codes "$scope")) ≡ true → d ≡ tree.string s → code_at k d l r ≡ scoped s r
-code_read k d l s r h e = rw e (ap (λ b. cond b (scoped s r) (Err wrong_shape)) h)
+code_read : (k : List ℕ) (d : Data) (l : List ℕ) (s : List ℕ) (r : Result (Option Pairs) Fault) → (bytes_eq k (codes "$code") && bytes_eq l (codes "$scope")) ≡ true → d ≡ tree.string s → code_at k d l r ≡ scope_value s r
+code_read k d l s r h e = rw e (ap (λ b. cond b (scope_value s r) (Err wrong_shape)) h)
 
 code_value : (k : List ℕ) (d : Data) (l : List ℕ) (e : Data) (s : List ℕ) → has_wrapper (member k d (member l e no_members)) ≡ true → (bytes_eq k (codes "$code") && bytes_eq l (codes "$scope")) ≡ true
     → d ≡ tree.string s → HasScope e → HasValue (tree.object (member k d (member l e no_members)))
-code_value k d l e s w h is ps = (coded s ps.0, wrapped (member k d (member l e no_members)) w ∙ code_read k d l s (reads_scope e) h is ∙ ap (scoped s) ps.1)
+code_value k d l e s w h is ps = (code_value s ps.0, wrapped (member k d (member l e no_members)) w ∙ code_read k d l s (reads_scope e) h is ∙ ap (scope_value s) ps.1)
 
 scope_way : (k : List ℕ) (d : Data) (l : List ℕ) (e : Data) (s : List ℕ) → has_wrapper (member k d (member l e no_members)) ≡ true → k ≡ codes "$code" → l ≡ codes "$scope"
     → d ≡ tree.string s → (f : Fault) (way : List Turn) → IsScopeFault l e f way → FaultAt f (tree.object (member k d (member l e no_members))) way
 scope_way k d l e s w a b is f way (in_scope ms h) = rw (a, b, is) (scope s ms h)
 scope_way k d l e s w a b is f way (no_scope x none bad_scope) =
     let ms = member k d (member l e no_members) in
-    shape ms w (not_open_by_scope k d l e none) (wrapped ms w ∙ code_read k d l s (reads_scope e) (rw (a, b) refl) is ∙ ap (scoped s) bad_scope)
+    shape ms w (not_open_by_scope k d l e none) (wrapped ms w ∙ code_read k d l s (reads_scope e) (rw (a, b) refl) is ∙ ap (scope_value s) bad_scope)
 
 pub of_code : (k : List ℕ) (d : Data) (l : List ℕ) (e : Data) (r : Result (Option Place) AllocError) → has_wrapper (member k d (member l e no_members)) ≡ true
     → (bytes_eq k (codes "$code") && bytes_eq l (codes "$scope")) ≡ true → (s : List ℕ) × (d ≡ tree.string s)

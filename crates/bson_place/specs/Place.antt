@@ -3,12 +3,12 @@ use Rattle.std.specs.Prelude.{◌≡◌, ℕ, ◌+◌, List, [], ◌∷◌, ◌+
 use Rattle.std.specs.Fmt.{decimal}
 use Rattle.serde_json.specs.Data.{Data, Num, Items, item, Members, no_members, member}
 use Rattle.serde_json.specs.Data as tree
-use Rattle.bson_leaf.specs.Faults.{Fault, wrong_shape, wrong_id, IsIdFault}
-use Rattle.bson_leaf.specs.Reading.{number_read, single_at}
-use Rattle.bson_leaf.specs.Shapes.{object_of_two}
-use Rattle.bson_leaf.specs.Table.{wrapper_of, has_wrapper}
-use Rattle.bson_leaf.specs.declared.error.Error.{Error}
-use Rattle.bson_leaf.specs.declared.error.Error.TheVariants.{InvalidObjectId, DeserializationError, OutOfMemory}
+use Rattle.bson_wrapper.specs.Faults.{Fault, wrong_shape, wrong_id, IsIdFault}
+use Rattle.bson_wrapper.specs.Reading.{number_read, single_at}
+use Rattle.bson_wrapper.specs.Shapes.{object_of_two}
+use Rattle.bson_wrapper.specs.Table.{wrapper_of, has_wrapper}
+use Rattle.bson_wrapper.specs.declared.error.Error.{Error}
+use Rattle.bson_wrapper.specs.declared.error.Error.TheVariants.{InvalidObjectId, DeserializationError, OutOfMemory}
 use Rattle.bson_model.specs.Reading.{reads, reads_scope}
 use Rattle.bson_model.specs.Value.{Value, Pairs}
 use Rattle.bson_place.specs.declared.place.Step.{Step}

@@ -3,17 +3,17 @@ ghost use Rattle.std.specs.Prelude.{◌≡◌, ◌∷◌, [], ◌++◌, ◌&&◌
 ghost use Rattle.std.specs.Str.{bytes_eq};
 ghost use Rattle.serde_json.specs.View.{view, number_view, items_view, members_view};
 ghost use Rattle.serde_json.specs.Data.{number, string, object, member, no_members};
-ghost use Rattle.bson_leaf.specs.Table.{has_wrapper};
-ghost use Rattle.bson_leaf.specs.Shapes.{object_of_two};
-ghost use Rattle.bson_leaf.specs.Faults.{wrong_shape};
+ghost use Rattle.bson_wrapper.specs.Table.{has_wrapper};
+ghost use Rattle.bson_wrapper.specs.Shapes.{object_of_two};
+ghost use Rattle.bson_wrapper.specs.Faults.{wrong_shape};
 ghost use Rattle.bson_model.specs.Reading.{reads_items, reads_members};
 ghost use Rattle.bson_model.specs.Value.{Values, Pairs};
 ghost use Rattle.bson_place.specs.Place.{FaultAt, FaultAmong, FaultIn, HasScope, HasValue, IsErrorOf, IsPlace, IsScopeFault, key as at, way_of, turn_of};
 
 use crate::place::{Place, Step};
-use bson_leaf::error::Error;
-use bson_leaf::read::read_single;
-use bson_leaf::wrapper::any_wrapper;
+use bson_wrapper::error::Error;
+use bson_wrapper::read::read_single;
+use bson_wrapper::wrapper::any_wrapper;
 use serde_json::{Map, Number, Value};
 use std::alloc::{AllocError, Global};
 

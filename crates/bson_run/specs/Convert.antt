@@ -3,12 +3,12 @@ use Rattle.std.specs.Prelude.{◌≡◌, ◌≤◌, ℕ, List, [], ◌∷◌, �
 use Rattle.serde_json.specs.Data.{Data, depth}
 use Rattle.serde_json.specs.Read.{read, max_depth}
 use Rattle.serde_json.specs.Written.{compact_text}
-use Rattle.bson_leaf.specs.Faults.{Fault as TreeFault, wrong_shape, wrong_id}
-use Rattle.bson_leaf.specs.declared.form.Form.{Form}
-use Rattle.bson_leaf.specs.declared.form.Form.TheVariants as form
+use Rattle.bson_wrapper.specs.Faults.{Fault as TreeFault, wrong_shape, wrong_id}
+use Rattle.bson_wrapper.specs.declared.form.Form.{Form}
+use Rattle.bson_wrapper.specs.declared.form.Form.TheVariants as form
 use Rattle.bson_model.specs.Fault.{MeansNothing, fault_of}
 use Rattle.bson_model.specs.Means.{Means}
-use Rattle.bson_model.specs.Shown.{shown}
+use Rattle.bson_model.specs.Displayed.{displayed}
 use Rattle.bson_model.specs.Value.{Value}
 use Rattle.bson_model.specs.Normal.{normal_form}
 use Rattle.bson_model.specs.Written.{Written}
@@ -40,7 +40,7 @@ pub record IsWritten (f : Form) (value : Value) (output : List ℕ) : Type 0 whe
 abbrev pub IsOutput : Mode → Value → List ℕ → Type 0
 IsOutput Canonical value output = IsWritten form.Canonical value output
 IsOutput Relaxed value output = IsWritten form.Relaxed value output
-IsOutput Show value output = output ≡ shown value ++ newline
+IsOutput Show value output = output ≡ displayed value ++ newline
 
 -- ---- converting
 

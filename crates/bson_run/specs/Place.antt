@@ -3,7 +3,7 @@ use Rattle.std.specs.Prelude.{◌≡◌, ◌≢◌, ◌⊎◌, ◌≤◌, ℕ, L
 use Rattle.std.specs.List.{All}
 use Rattle.std.specs.Fmt.{decimal}
 use Rattle.serde_json.specs.Data.{Data}
-use Rattle.bson_leaf.specs.Faults.{Fault as TreeFault}
+use Rattle.bson_wrapper.specs.Faults.{Fault as TreeFault}
 use Rattle.bson_place.specs.Place.{Turn, FaultAt, dotted}
 use Rattle.bson.specs.TextMeaning.{IsTextOf}
 use Rattle.bson_run.specs.declared.fault.Fault.{Fault}
@@ -15,8 +15,8 @@ at_path [] = []
 at_path (x ∷ xs) = codes " at " ++ x ∷ xs
 
 -- the way, and a message
-abbrev pub IsShown : List Turn → List ℕ → Type 0
-IsShown way words = (message : List ℕ) × (words ≡ at_path (dotted way) ++ codes " (" ++ message ++ codes ")")
+abbrev pub IsDisplayed : List Turn → List ℕ → Type 0
+IsDisplayed way words = (message : List ℕ) × (words ≡ at_path (dotted way) ++ codes " (" ++ message ++ codes ")")
 
 -- no control character of ASCII, which could break a line or steer a terminal
 abbrev pub IsVisible : ℕ → Type 0
@@ -34,9 +34,9 @@ pub record IsPlaced (text words : List ℕ) : Type 0 where
   pub way : List Turn
   pub is_text : IsTextOf text tree
   pub lies : FaultAt fault tree way
-  pub shown : List ℕ
-  pub is_shown : IsShown way shown
-  pub told : IsTold shown words
+  pub displayed : List ℕ
+  pub is_displayed : IsDisplayed way displayed
+  pub told : IsTold displayed words
 
 -- a column; which one no contract says
 abbrev pub IsColumn : List ℕ → Type 0

@@ -6,7 +6,7 @@ ghost use Rattle.serde_json.specs.View.{view};
 ghost use Rattle.bson_model.specs.Fault.{MeansNothing};
 ghost use Rattle.bson_place.specs.Place.{way_of};
 ghost use Rattle.bson_run.specs.Lines.{IsBadText};
-ghost use Rattle.bson_run.specs.Place.{IsColumn, IsOfNoText, IsPlaced, IsShown, IsTold, IsVisible, IsWhere};
+ghost use Rattle.bson_run.specs.Place.{IsColumn, IsOfNoText, IsPlaced, IsDisplayed, IsTold, IsVisible, IsWhere};
 ghost use Rattle.bson.specs.TextMeaning.{IsTextOf, IsNoText};
 
 use crate::fault::Fault;
@@ -70,13 +70,13 @@ fn path(alloc: Global, text: &[u8]) -> Result<String, AllocError>
     };
     match place_of_fault(alloc, tree)? {
         None => Ok(String::new(alloc)),
-        Some(place) => told(alloc, shown(alloc, &place)?),
+        Some(place) => told(alloc, displayed(alloc, &place)?),
     }
 }
 
 /// The words for a place.
-fn shown(alloc: Global, place: &Place) -> Result<String, AllocError>
-    ensures { IfOk result (λ words. IsShown (way_of place.now) (string_bytes words)) }
+fn displayed(alloc: Global, place: &Place) -> Result<String, AllocError>
+    ensures { IfOk result (λ words. IsDisplayed (way_of place.now) (string_bytes words)) }
 {
     let path = place.path(alloc)?;
     let message = format!(in alloc; "{}", place.error)?;

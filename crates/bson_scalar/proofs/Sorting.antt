@@ -6,7 +6,7 @@ use Rattle.std.proofs.lemmas.List.Sorted.{sum_by-IsPermutation, IsNonDecreasingB
 use Rattle.std.proofs.lemmas.List.Sums.{sum_by-cons}
 use Rattle.std.specs.List.{sum_by, AllByRecursion}
 use Rattle.std.specs.List.Sorted.{IsNonDecreasing}
-use Rattle.bson_scalar.specs.Regex.{put_up, ascending}
+use Rattle.bson_scalar.specs.Regex.{insert_sorted, ascending}
 
 abbrev Rises : List ℕ → Type 0
 Rises [] = Unit {0}
@@ -29,41 +29,41 @@ tally-same c = grind (arith, nat_tests)
 tally-apart : (c y : ℕ) → (y ≡ c → ⊥) → tally c y ≡ 0
 tally-apart c y h = grind (arith, nat_tests)
 
--- ---- what put_up keeps
+-- ---- what insert_sorted keeps
 
-count-put_up : (c n : ℕ) (xs : List ℕ) → count c (put_up n xs) ≡ tally c n + count c xs
-count-put_up c n [] = refl
-count-put_up c n (x ∷ xs) = elim (cases_Bool (nat_le n x)) [
+count-insert_sorted : (c n : ℕ) (xs : List ℕ) → count c (insert_sorted n xs) ≡ tally c n + count c xs
+count-insert_sorted c n [] = refl
+count-insert_sorted c n (x ∷ xs) = elim (cases_Bool (nat_le n x)) [
   | inl e ↦ rw e refl
-  | inr e ↦ let more = count-put_up c n xs in rw e (omega (arith, more))
+  | inr e ↦ let more = count-insert_sorted c n xs in rw e (omega (arith, more))
 ]
 
 pub count-ascending : (c : ℕ) (xs : List ℕ) → count c (ascending xs) ≡ count c xs
 count-ascending c [] = refl
-count-ascending c (x ∷ xs) = count-put_up c x (ascending xs) ∙ ap (λ n. tally c x + n) (count-ascending c xs)
+count-ascending c (x ∷ xs) = count-insert_sorted c x (ascending xs) ∙ ap (λ n. tally c x + n) (count-ascending c xs)
 
-all-put_up : (P : ℕ → Type 0) (n : ℕ) (xs : List ℕ) → P n → AllByRecursion P xs → AllByRecursion P (put_up n xs)
-all-put_up P n [] h all = (h, tt)
-all-put_up P n (x ∷ xs) h all = elim (nat_le n x) as (λ b. AllByRecursion P (cond b (n ∷ x ∷ xs) (x ∷ put_up n xs))) [ true ↦ (h, all) | false ↦ (all.0, all-put_up P n xs h all.1) ]
+all-insert_sorted : (P : ℕ → Type 0) (n : ℕ) (xs : List ℕ) → P n → AllByRecursion P xs → AllByRecursion P (insert_sorted n xs)
+all-insert_sorted P n [] h all = (h, tt)
+all-insert_sorted P n (x ∷ xs) h all = elim (nat_le n x) as (λ b. AllByRecursion P (cond b (n ∷ x ∷ xs) (x ∷ insert_sorted n xs))) [ true ↦ (h, all) | false ↦ (all.0, all-insert_sorted P n xs h all.1) ]
 
 all-weaker : (P Q : ℕ → Type 0) → ((y : ℕ) → P y → Q y) → (xs : List ℕ) → AllByRecursion P xs → AllByRecursion Q xs
 all-weaker P Q f [] all = tt
 all-weaker P Q f (x ∷ xs) all = (f x all.0, all-weaker P Q f xs all.1)
 
-rises-put_up : (n : ℕ) (xs : List ℕ) → Rises xs → Rises (put_up n xs)
-rises-put_up n [] up = (tt, tt)
-rises-put_up n (x ∷ xs) up = elim (cases_Bool (nat_le n x)) [
+rises-insert_sorted : (n : ℕ) (xs : List ℕ) → Rises xs → Rises (insert_sorted n xs)
+rises-insert_sorted n [] up = (tt, tt)
+rises-insert_sorted n (x ∷ xs) up = elim (cases_Bool (nat_le n x)) [
   | inl e ↦ let le = leb-true n x e in rw e ((le, all-weaker (λ y. x ≤ y) (λ y. n ≤ y) (λ y h. omega arith) xs up.0), up)
-  | inr e ↦ let gt = leb-false n x e in rw e (all-put_up (λ y. x ≤ y) n xs (omega arith) up.0, rises-put_up n xs up.1)
+  | inr e ↦ let gt = leb-false n x e in rw e (all-insert_sorted (λ y. x ≤ y) n xs (omega arith) up.0, rises-insert_sorted n xs up.1)
 ]
 
 pub rises-ascending : (xs : List ℕ) → Rises (ascending xs)
 rises-ascending [] = tt
-rises-ascending (x ∷ xs) = rises-put_up x (ascending xs) (rises-ascending xs)
+rises-ascending (x ∷ xs) = rises-insert_sorted x (ascending xs) (rises-ascending xs)
 
 pub all-ascending : (P : ℕ → Type 0) (xs : List ℕ) → AllByRecursion P xs → AllByRecursion P (ascending xs)
 all-ascending P [] all = tt
-all-ascending P (x ∷ xs) all = all-put_up P x _ all.0 (all-ascending P xs all.1)
+all-ascending P (x ∷ xs) all = all-insert_sorted P x _ all.0 (all-ascending P xs all.1)
 
 -- ---- one ascending list
 

@@ -5,7 +5,7 @@ pub mod Fault
 pub mod IgnoredBits
 pub mod Packed
 pub mod Vectors
-pub mod Shown
+pub mod Displayed
 pub mod VectorData
 pub mod HexText
 pub mod Oid

@@ -238,9 +238,9 @@ fn reordered(b: &[u8; 16], representation: UuidRepresentation) -> [u8; 16]
 }
 
 impl fmt::Display for Binary {
-    ghost use Rattle.bson_scalar.specs.Shown.{binary_shown};
+    ghost use Rattle.bson_scalar.specs.Displayed.{binary_displayed};
 
-    ghost output = { λ b. Some (binary_shown b) };
+    ghost output = { λ b. Some (binary_displayed b) };
 
     fn fmt<W: fmt::Write>(&self, f: &mut fmt::Formatter<W>) -> fmt::Result {
         let byte = u8::from(self.subtype);

@@ -46,9 +46,9 @@ impl Regex {
 }
 
 impl fmt::Display for Regex {
-    ghost use Rattle.bson_scalar.specs.Regex.{regex_shown};
+    ghost use Rattle.bson_scalar.specs.Regex.{regex_displayed};
 
-    ghost output = { λ r. Some (regex_shown r) };
+    ghost output = { λ r. Some (regex_displayed r) };
 
     fn fmt<W: fmt::Write>(&self, f: &mut fmt::Formatter<W>) -> fmt::Result {
         write!(f, "/{}/{}", self.pattern, self.options)

@@ -20,9 +20,9 @@ pub struct Timestamp {
 }
 
 impl fmt::Display for Timestamp {
-    ghost use Rattle.bson_scalar.specs.Timestamp.{timestamp_shown};
+    ghost use Rattle.bson_scalar.specs.Timestamp.{timestamp_displayed};
 
-    ghost output = { λ t. Some (timestamp_shown t) };
+    ghost output = { λ t. Some (timestamp_displayed t) };
 
     fn fmt<W: fmt::Write>(&self, f: &mut fmt::Formatter<W>) -> fmt::Result {
         write!(f, "Timestamp({}, {})", self.time, self.increment)

@@ -15,7 +15,7 @@ use Rattle.std.specs.String.{string_cmp}
 use Rattle.std.specs.BTreeMap.{get_by_text}
 use Rattle.std.specs.BTreeMap.Range.{IsFromStart, IsRangeOf}
 use Rattle.bson_store.specs.Order.{key_cmp, is_above, IsLeast}
-use Rattle.bson_store.specs.Pairs.{place_of}
+use Rattle.bson_store.specs.Pairs.{position_of}
 use Rattle.bson_store.specs.Small.{Places, HasPlaces}
 use Rattle.bson_store.proofs.Found.{none_at, place-within}
 use Rattle.bson_store.specs.Next.{IsNext}
@@ -95,12 +95,12 @@ same_test : (q k : List ℕ) → eq_by_cmp key_cmp q k ≡ bytes_eq q k
 same_test q k = is_eq-slice_cmp q k
 
 module _ {V : Type 0} where
-  lacks : (q : List ℕ) (ps : List (List ℕ × V)) → place_of q ps ≡ None → find key_cmp q ps ≡ None
+  lacks : (q : List ℕ) (ps : List (List ℕ × V)) → position_of q ps ≡ None → find key_cmp q ps ≡ None
   lacks q [] e = refl
   lacks q (p ∷ ps) e = let h = none_at _ _ e in ap (λ b. cond b (Some p.1) (find key_cmp q ps)) (same_test q p.0 ∙ h.0) ∙ lacks q ps h.1
 
-  found_or : (k : List ℕ) (p : List ℕ × V) (ps : List (List ℕ × V)) (i : ℕ) (b : Bool) (r : Option ℕ) → bytes_eq k p.0 ≡ b → place_of k ps ≡ r → cond b (Some 0) (option_map suc r) ≡ Some i
-      → ((j : ℕ) → place_of k ps ≡ Some j → (v : V) × (slice_get ps j ≡ Some (k, v)) × (find key_cmp k ps ≡ Some v)) → (v : V) × (slice_get (p ∷ ps) i ≡ Some (k, v)) × (find key_cmp k (p ∷ ps) ≡ Some v)
+  found_or : (k : List ℕ) (p : List ℕ × V) (ps : List (List ℕ × V)) (i : ℕ) (b : Bool) (r : Option ℕ) → bytes_eq k p.0 ≡ b → position_of k ps ≡ r → cond b (Some 0) (option_map suc r) ≡ Some i
+      → ((j : ℕ) → position_of k ps ≡ Some j → (v : V) × (slice_get ps j ≡ Some (k, v)) × (find key_cmp k ps ≡ Some v)) → (v : V) × (slice_get (p ∷ ps) i ≡ Some (k, v)) × (find key_cmp k (p ∷ ps) ≡ Some v)
   found_or k p ps i true r t s e rest =
       let zero_is : i ≡ 0 = cc in
       let key : p.0 ≡ k = sym ((bytes_eq-Decides k p.0).0 t) in
@@ -111,9 +111,9 @@ module _ {V : Type 0} where
       let next : i ≡ suc j = cc in
       (f.0, rw next f.1, ap (λ b. cond b (Some p.1) (find key_cmp k ps)) (same_test k p.0 ∙ t) ∙ f.2)
 
-  found : (k : List ℕ) (ps : List (List ℕ × V)) (i : ℕ) → place_of k ps ≡ Some i → (v : V) × (slice_get ps i ≡ Some (k, v)) × (find key_cmp k ps ≡ Some v)
+  found : (k : List ℕ) (ps : List (List ℕ × V)) (i : ℕ) → position_of k ps ≡ Some i → (v : V) × (slice_get ps i ≡ Some (k, v)) × (find key_cmp k ps ≡ Some v)
   found k [] i e = cc
-  found k (p ∷ ps) i e = found_or k p ps i (bytes_eq k p.0) (place_of k ps) refl refl e (λ j h. found k ps j h)
+  found k (p ∷ ps) i e = found_or k p ps i (bytes_eq k p.0) (position_of k ps) refl refl e (λ j h. found k ps j h)
 
   -- the next place in the map is that of the least pair
   pub least_from : (m : Places) (ps : List (List ℕ × V)) (last : Option (List ℕ)) (r : Option ℕ) → HasPlaces m ps → IsNext m last r → IsLeast last ps (option_and_then (slice_get ps) r)

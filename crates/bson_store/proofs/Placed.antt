@@ -7,10 +7,10 @@ use Rattle.std.specs.Map.{update}
 use Rattle.std.specs.Str.{bytes_eq}
 use Rattle.std.proofs.lemmas.Slice.Eq.{bytes_eq-Decides}
 use Rattle.bson_store.specs.declared.small.Pair.{Pair}
-use Rattle.bson_store.specs.Pairs.{keys, values, place_of, with_value, HasDistinctKeys}
+use Rattle.bson_store.specs.Pairs.{keys, values, position_of, with_value, HasDistinctKeys}
 use Rattle.bson_store.specs.Small.{Index, seen, IsPlaced, IsIndexed}
 use Rattle.std.proofs.lemmas.Option.{slice_get-map, slice_get-get_or}
-use Rattle.bson_store.specs.Raise.{raise}
+use Rattle.bson_store.specs.Removal.{index_before_removal}
 use Rattle.bson_store.proofs.Distinct.{apart, absent-before, take-next}
 use Rattle.bson_store.proofs.Found.{none_at, key-place, place-within}
 
@@ -34,7 +34,7 @@ first_out : (c b : Bool) (r : Option ℕ) → b ≡ c → (c ≡ true → r ≡ 
 first_out true b r e h = ap (λ x. cond x None (Some 0)) e ∙ ap (option_map suc) (sym (h refl))
 first_out false b r e h = ap (λ x. cond x None (option_map suc r)) e
 
-later_out : (c b : Bool) (i : ℕ) (r s : Option ℕ) → (c ≡ true → b ≡ false) → cond b None r ≡ option_map (raise i) s → cond b None (cond c (Some 0) (option_map suc r)) ≡ option_map (raise (suc i)) (cond c (Some 0) (option_map suc s))
+later_out : (c b : Bool) (i : ℕ) (r s : Option ℕ) → (c ≡ true → b ≡ false) → cond b None r ≡ option_map (index_before_removal i) s → cond b None (cond c (Some 0) (option_map suc r)) ≡ option_map (index_before_removal (suc i)) (cond c (Some 0) (option_map suc s))
 later_out true b i r s h e = ap (λ x. cond x None (Some 0)) (h refl)
 later_out false true i r None h e = refl
 later_out false true i r (Some j) h e = cc
@@ -42,17 +42,17 @@ later_out false false i r None h e = ap (option_map suc) e
 later_out false false i r (Some j) h e = ap (option_map suc) e
 
 module _ {V : Type 0} where
-  place-push : (ps : List (List ℕ × V)) (l : List ℕ) (v : V) → place_of l ps ≡ None → (k : List ℕ) → place_of k (ps ++ (l, v) ∷ []) ≡ update bytes_eq (λ q. place_of q ps) l (Some (length ps)) k
+  place-push : (ps : List (List ℕ × V)) (l : List ℕ) (v : V) → position_of l ps ≡ None → (k : List ℕ) → position_of k (ps ++ (l, v) ∷ []) ≡ update bytes_eq (λ q. position_of q ps) l (Some (length ps)) k
   place-push [] l v none k = ap (λ b. cond b (Some 0) None) (swapped k l)
   place-push (p ∷ ps) l v none k =
       let h = none_at _ _ none in
-      push_step (bytes_eq l k) (bytes_eq k p.0) (length ps) (place_of k ps) (place_of k (ps ++ (l, v) ∷ [])) (λ m. ap (λ x. bytes_eq x p.0) (sym (same_bytes l k m)) ∙ h.0) (place-push ps l v h.1 k)
+      push_step (bytes_eq l k) (bytes_eq k p.0) (length ps) (position_of k ps) (position_of k (ps ++ (l, v) ∷ [])) (λ m. ap (λ x. bytes_eq x p.0) (sym (same_bytes l k m)) ∙ h.0) (place-push ps l v h.1 k)
 
   all-push : (P : List ℕ → Type 0) (ps : List (List ℕ × V)) (l : List ℕ) (v : V) → AllByRecursion P (keys ps) → P l → AllByRecursion P (keys (ps ++ (l, v) ∷ []))
   all-push P [] l v h p = (p, tt)
   all-push P (q ∷ ps) l v h p = (h.0, all-push P ps l v h.1 p)
 
-  pub distinct-push : (ps : List (List ℕ × V)) (l : List ℕ) (v : V) → HasDistinctKeys ps → place_of l ps ≡ None → HasDistinctKeys (ps ++ (l, v) ∷ [])
+  pub distinct-push : (ps : List (List ℕ × V)) (l : List ℕ) (v : V) → HasDistinctKeys ps → position_of l ps ≡ None → HasDistinctKeys (ps ++ (l, v) ∷ [])
   unfolding IsDistinct
   distinct-push [] l v d none = (tt, tt)
   distinct-push (p ∷ ps) l v d none = let h = none_at _ _ none in (all-push (λ y. bytes_eq p.0 y ≡ false) ps l v d.0 (swapped p.0 l ∙ h.0), distinct-push ps l v d.1 h.1)
@@ -71,61 +71,61 @@ module _ {V : Type 0} where
   distinct-remove (q ∷ ps) zero d = d.1
   distinct-remove (q ∷ ps) (suc i) d = (all-remove (λ y. bytes_eq q.0 y ≡ false) ps i d.0, distinct-remove ps i d.1)
 
-  missed : (k : List ℕ) (ps : List (List ℕ × V)) → AllByRecursion (λ y. bytes_eq k y ≡ false) (keys ps) → place_of k ps ≡ None
+  missed : (k : List ℕ) (ps : List (List ℕ × V)) → AllByRecursion (λ y. bytes_eq k y ≡ false) (keys ps) → position_of k ps ≡ None
   missed k [] h = refl
   missed k (p ∷ ps) h = (λ j. cond (h.0 j) (Some 0) (option_map suc (missed k ps h.1 j)))
 
   pub place-removed : (ps : List (List ℕ × V)) (i : ℕ) (p : List ℕ × V) → HasDistinctKeys ps → slice_get ps i ≡ Some p → (k : List ℕ)
-      → cond (bytes_eq p.0 k) None (place_of k ps) ≡ option_map (raise i) (place_of k (remove ps i))
+      → cond (bytes_eq p.0 k) None (position_of k ps) ≡ option_map (index_before_removal i) (position_of k (remove ps i))
   unfolding IsDistinct
   place-removed [] i p d e k = cc
   place-removed (q ∷ ps) zero p d e k =
       let same : q ≡ p = cc in
-      first_out (bytes_eq k q.0) (bytes_eq p.0 k) (place_of k ps) (ap (λ x. bytes_eq x.0 k) (sym same) ∙ swapped q.0 k)
-      (λ m. ap (λ x. place_of x ps) (same_bytes k q.0 m) ∙ missed q.0 ps d.0)
+      first_out (bytes_eq k q.0) (bytes_eq p.0 k) (position_of k ps) (ap (λ x. bytes_eq x.0 k) (sym same) ∙ swapped q.0 k)
+      (λ m. ap (λ x. position_of x ps) (same_bytes k q.0 m) ∙ missed q.0 ps d.0)
   place-removed (q ∷ ps) (suc i) p d e k =
-      later_out (bytes_eq k q.0) (bytes_eq p.0 k) i (place_of k ps) (place_of k (remove ps i))
+      later_out (bytes_eq k q.0) (bytes_eq p.0 k) i (position_of k ps) (position_of k (remove ps i))
       (λ m. ap (bytes_eq p.0) (same_bytes k q.0 m) ∙ apart q.0 ps i p d.0 e) (place-removed ps i p d.1 e k)
 
   -- one place lowered
-  pub place-at : (ps : List (List ℕ × V)) (i : ℕ) (p : List ℕ × V) → HasDistinctKeys ps → slice_get ps i ≡ Some p → place_of p.0 ps ≡ Some i
+  pub place-at : (ps : List (List ℕ × V)) (i : ℕ) (p : List ℕ × V) → HasDistinctKeys ps → slice_get ps i ≡ Some p → position_of p.0 ps ≡ Some i
   unfolding IsDistinct
   place-at [] i p d e = cc
-  place-at (q ∷ ps) zero p d e = let same : q ≡ p = cc in ap (λ b. cond b (Some 0) (option_map suc (place_of p.0 ps))) (ap (λ x. bytes_eq p.0 x.0) same ∙ own p.0)
-  place-at (q ∷ ps) (suc i) p d e = ap (λ b. cond b (Some 0) (option_map suc (place_of p.0 ps))) (apart q.0 ps i p d.0 e) ∙ ap (option_map suc) (place-at ps i p d.1 e)
+  place-at (q ∷ ps) zero p d e = let same : q ≡ p = cc in ap (λ b. cond b (Some 0) (option_map suc (position_of p.0 ps))) (ap (λ x. bytes_eq p.0 x.0) same ∙ own p.0)
+  place-at (q ∷ ps) (suc i) p d e = ap (λ b. cond b (Some 0) (option_map suc (position_of p.0 ps))) (apart q.0 ps i p d.0 e) ∙ ap (option_map suc) (place-at ps i p d.1 e)
 
-raise_own : (i : ℕ) → raise (suc i) i ≡ i
+raise_own : (i : ℕ) → index_before_removal (suc i) i ≡ i
 raise_own zero = refl
 raise_own (suc i) = ap suc (raise_own i)
 
-raise_other : (i j : ℕ) → (j ≡ i → ⊥) → raise i j ≡ raise (suc i) j
+raise_other : (i j : ℕ) → (j ≡ i → ⊥) → index_before_removal i j ≡ index_before_removal (suc i) j
 raise_other zero zero h = absurd (h refl)
 raise_other zero (suc j) h = refl
 raise_other (suc i) zero h = refl
 raise_other (suc i) (suc j) h = ap suc (raise_other i j (λ e. h (ap suc e)))
 
-raise_below : (n j : ℕ) → j < n → raise n j ≡ j
+raise_below : (n j : ℕ) → j < n → index_before_removal n j ≡ j
 raise_below zero j h = absurd (omega (arith, h))
 raise_below (suc n) zero h = refl
 raise_below (suc n) (suc j) h = ap suc (raise_below n j (omega (arith, h)))
 
-others : (i : ℕ) (r : Option ℕ) → (r ≡ Some i → ⊥) → option_map (raise i) r ≡ option_map (raise (suc i)) r
+others : (i : ℕ) (r : Option ℕ) → (r ≡ Some i → ⊥) → option_map (index_before_removal i) r ≡ option_map (index_before_removal (suc i)) r
 others i None h = refl
 others i (Some j) h = ap Some (raise_other i j (λ e. h (ap Some e)))
 
-lower_step : (b : Bool) (i : ℕ) (r : Option ℕ) → (b ≡ true → r ≡ Some i) → (r ≡ Some i → b ≡ true) → cond b (Some i) (option_map (raise i) r) ≡ option_map (raise (suc i)) r
-lower_step true i r h f = ap Some (sym (raise_own i)) ∙ ap (option_map (raise (suc i))) (sym (h refl))
+lower_step : (b : Bool) (i : ℕ) (r : Option ℕ) → (b ≡ true → r ≡ Some i) → (r ≡ Some i → b ≡ true) → cond b (Some i) (option_map (index_before_removal i) r) ≡ option_map (index_before_removal (suc i)) r
+lower_step true i r h f = ap Some (sym (raise_own i)) ∙ ap (option_map (index_before_removal (suc i))) (sym (h refl))
 lower_step false i r h f = others i r (λ e. true≢false (sym (f e)))
 
-within_all : (n : ℕ) (r : Option ℕ) → ((i : ℕ) → r ≡ Some i → i < n) → option_map (raise n) r ≡ r
+within_all : (n : ℕ) (r : Option ℕ) → ((i : ℕ) → r ≡ Some i → i < n) → option_map (index_before_removal n) r ≡ r
 within_all n None h = refl
 within_all n (Some j) h = ap Some (raise_below n j (h j refl))
 
 module _ {V : Type 0} where
   pub lower-one : (ps : List (List ℕ × V)) (i : ℕ) (p : List ℕ × V) → HasDistinctKeys ps → slice_get ps i ≡ Some p → (k : List ℕ)
-      → cond (bytes_eq p.0 k) (Some i) (option_map (raise i) (place_of k ps)) ≡ option_map (raise (suc i)) (place_of k ps)
-  lower-one ps i p d e k = lower_step (bytes_eq p.0 k) i (place_of k ps)
-      (λ m. ap (λ x. place_of x ps) (sym (same_bytes p.0 k m)) ∙ place-at ps i p d e)
+      → cond (bytes_eq p.0 k) (Some i) (option_map (index_before_removal i) (position_of k ps)) ≡ option_map (index_before_removal (suc i)) (position_of k ps)
+  lower-one ps i p d e k = lower_step (bytes_eq p.0 k) i (position_of k ps)
+      (λ m. ap (λ x. position_of x ps) (sym (same_bytes p.0 k m)) ∙ place-at ps i p d e)
       (λ f. let same : k ≡ p.0 = same_key ps i k p (key-place k ps i f) e in ap (bytes_eq p.0) same ∙ own p.0)
     where
       same_key : (qs : List (List ℕ × V)) (j : ℕ) (l : List ℕ) (q : List ℕ × V) → slice_get (keys qs) j ≡ Some l → slice_get qs j ≡ Some q → l ≡ q.0
@@ -133,8 +133,8 @@ module _ {V : Type 0} where
       same_key (r ∷ qs) zero l q f g = let one : r ≡ q = cc in let two : r.0 ≡ l = cc in sym two ∙ ap (λ x. x.0) one
       same_key (r ∷ qs) (suc j) l q f g = same_key qs j l q f g
 
-  pub lowered_all : (ps : List (List ℕ × V)) (n : ℕ) → length ps ≤ n → (k : List ℕ) → option_map (raise n) (place_of k ps) ≡ place_of k ps
-  lowered_all ps n le k = within_all n (place_of k ps) (λ i e. omega (arith, le, place-within k ps i e))
+  pub lowered_all : (ps : List (List ℕ × V)) (n : ℕ) → length ps ≤ n → (k : List ℕ) → option_map (index_before_removal n) (position_of k ps) ≡ position_of k ps
+  lowered_all ps n le k = within_all n (position_of k ps) (λ i e. omega (arith, le, place-within k ps i e))
 
   -- the list seen
   seen-at : (ps : List (Pair V)) (i : ℕ) (p : Pair V) → slice_get ps i ≡ Some p → slice_get (seen ps) i ≡ Some (string_bytes p.key, p.value)
@@ -157,7 +157,7 @@ module _ {V : Type 0} where
   keys-with_value (p ∷ ps) zero w = refl
   keys-with_value (p ∷ ps) (suc i) w = ap (λ l. p.0 ∷ l) (keys-with_value ps i w)
 
-  place-with_value : (ps : List (List ℕ × V)) (i : ℕ) (w : V) (k : List ℕ) → place_of k (with_value ps i w) ≡ place_of k ps
+  place-with_value : (ps : List (List ℕ × V)) (i : ℕ) (w : V) (k : List ℕ) → position_of k (with_value ps i w) ≡ position_of k ps
   place-with_value [] i w k = refl
   place-with_value (p ∷ ps) zero w k = refl
   place-with_value (p ∷ ps) (suc i) w k = ap (λ r. cond (bytes_eq k p.0) (Some 0) (option_map suc r)) (place-with_value ps i w k)
@@ -199,26 +199,26 @@ module _ {V : Type 0} where
   indexed-written ps qs o i p w e l h is = subst (λ r. IsIndexed r o) (sym (written ps qs i p w e l h)) (indexed-with qs o i w (subst (λ r. IsIndexed r o) e is))
 
   -- a walk
-  pub absent-next : (k : List ℕ) (ps : List (List ℕ × V)) (p : List ℕ × V) → place_of k ps ≡ None → bytes_eq k p.0 ≡ false → place_of k (ps ++ p ∷ []) ≡ None
+  pub absent-next : (k : List ℕ) (ps : List (List ℕ × V)) (p : List ℕ × V) → position_of k ps ≡ None → bytes_eq k p.0 ≡ false → position_of k (ps ++ p ∷ []) ≡ None
   absent-next k [] p none h = ap (λ b. cond b (Some 0) None) h
   absent-next k (q ∷ ps) p none h = let both = none_at _ _ none in (λ j. cond (both.0 j) (Some 0) (option_map suc (absent-next k ps p both.1 h j)))
 
-  pub found-first : (k : List ℕ) (ps : List (List ℕ × V)) (i : ℕ) (p : List ℕ × V) → place_of k (take i ps) ≡ None → slice_get ps i ≡ Some p → bytes_eq k p.0 ≡ true → place_of k ps ≡ Some i
+  pub found-first : (k : List ℕ) (ps : List (List ℕ × V)) (i : ℕ) (p : List ℕ × V) → position_of k (take i ps) ≡ None → slice_get ps i ≡ Some p → bytes_eq k p.0 ≡ true → position_of k ps ≡ Some i
   found-first k [] i p none e h = cc
-  found-first k (q ∷ ps) zero p none e h = let same : q ≡ p = cc in ap (λ b. cond b (Some 0) (option_map suc (place_of k ps))) (ap (λ x. bytes_eq k x.0) same ∙ h)
+  found-first k (q ∷ ps) zero p none e h = let same : q ≡ p = cc in ap (λ b. cond b (Some 0) (option_map suc (position_of k ps))) (ap (λ x. bytes_eq k x.0) same ∙ h)
   found-first k (q ∷ ps) (suc i) p none e h =
       let both = none_at _ _ none in
-      ap (λ b. cond b (Some 0) (option_map suc (place_of k ps))) both.0 ∙ ap (option_map suc) (found-first k ps i p both.1 e h)
+      ap (λ b. cond b (Some 0) (option_map suc (position_of k ps))) both.0 ∙ ap (option_map suc) (found-first k ps i p both.1 e h)
 
   -- one more key in the map
-  pub indexed-next : (ps : List (List ℕ × V)) (i : ℕ) (p : List ℕ × V) (f : List ℕ → Option ℕ) → HasDistinctKeys ps → i < length ps → slice_get ps i ≡ Some p → ((k : List ℕ) → f k ≡ place_of k (take i ps))
-      → (k : List ℕ) → update bytes_eq f p.0 (Some i) k ≡ place_of k (take (i + 1) ps)
+  pub indexed-next : (ps : List (List ℕ × V)) (i : ℕ) (p : List ℕ × V) (f : List ℕ → Option ℕ) → HasDistinctKeys ps → i < length ps → slice_get ps i ≡ Some p → ((k : List ℕ) → f k ≡ position_of k (take i ps))
+      → (k : List ℕ) → update bytes_eq f p.0 (Some i) k ≡ position_of k (take (i + 1) ps)
   indexed-next ps i p f d l e h k =
       let n : length (take i ps) ≡ i = length-take-le i ps (omega (arith, l)) in
-      (λ j. cond (bytes_eq p.0 k) (Some (sym n j)) (h k j)) ∙ sym (place-push (take i ps) p.0 p.1 (absent-before ps i p d e) k) ∙ ap (place_of k) (sym (take-next ps i p e))
+      (λ j. cond (bytes_eq p.0 k) (Some (sym n j)) (h k j)) ∙ sym (place-push (take i ps) p.0 p.1 (absent-before ps i p d e) k) ∙ ap (position_of k) (sym (take-next ps i p e))
 
-  pub indexed-last : (ps : List (List ℕ × V)) (l : List ℕ) (v : V) (n : ℕ) (f g : List ℕ → Option ℕ) → place_of l ps ≡ None → n ≡ length ps → ((k : List ℕ) → f k ≡ place_of k ps)
-      → ((k : List ℕ) → g k ≡ update bytes_eq f l (Some n) k) → (k : List ℕ) → g k ≡ place_of k (ps ++ (l, v) ∷ [])
+  pub indexed-last : (ps : List (List ℕ × V)) (l : List ℕ) (v : V) (n : ℕ) (f g : List ℕ → Option ℕ) → position_of l ps ≡ None → n ≡ length ps → ((k : List ℕ) → f k ≡ position_of k ps)
+      → ((k : List ℕ) → g k ≡ update bytes_eq f l (Some n) k) → (k : List ℕ) → g k ≡ position_of k (ps ++ (l, v) ∷ [])
   indexed-last ps l v n f g none e h u k = u k ∙ (λ j. cond (bytes_eq l k) (Some (e j)) (h k j)) ∙ sym (place-push ps l v none k)
 
 pub on_ok : {A E : Type 0} (r : Result A E) {P Q : Type 0} → (P → Q) → OnOk r P → OnOk r Q

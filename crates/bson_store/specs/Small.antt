@@ -3,7 +3,7 @@ use Rattle.std.specs.Prelude.{◌≡◌, ℕ, ◌<◌, ◌≤◌, List, map, len
 use Rattle.std.specs.BTreeMap.{BTreeMap, get_by_text}
 use Rattle.std.specs.declared.alloc.Global.{Global}
 use Rattle.bson_store.specs.declared.small.Pair.{Pair}
-use Rattle.bson_store.specs.Pairs.{place_of, HasDistinctKeys}
+use Rattle.bson_store.specs.Pairs.{position_of, HasDistinctKeys}
 
 -- a place for each of some keys
 abbrev pub Places : Type 0
@@ -20,7 +20,7 @@ module _ {V : Type 0} where
 
   -- the map has each key at its place, and no other
   abbrev pub HasPlaces : Places → List (List ℕ × V) → Type 0
-  HasPlaces m ps = (k : List ℕ) → get_by_text m k ≡ place_of k ps
+  HasPlaces m ps = (k : List ℕ) → get_by_text m k ≡ position_of k ps
 
   -- a map of the places is there exactly where the pairs are more than eight
   abbrev pub IsPlaced : List (List ℕ × V) → Index → Type 0

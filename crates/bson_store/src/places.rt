@@ -3,9 +3,9 @@ ghost use Rattle.std.specs.Prelude.{◌≡◌, ℕ, List, [], ◌∷◌, ◌++�
 ghost use Rattle.std.specs.Str.{bytes_eq};
 ghost use Rattle.std.specs.Map.{update};
 ghost use Rattle.std.specs.BTreeMap.{get_by_text};
-ghost use Rattle.bson_store.specs.Pairs.{place_of, HasDistinctKeys};
+ghost use Rattle.bson_store.specs.Pairs.{position_of, HasDistinctKeys};
 ghost use Rattle.bson_store.specs.Small.{seen, HasPlaces, IsIndexed};
-ghost use Rattle.bson_store.specs.Raise.{raise};
+ghost use Rattle.bson_store.specs.Removal.{index_before_removal};
 
 use crate::small::Pair;
 use std::alloc::{AllocError, Global};
@@ -16,7 +16,7 @@ const FEW: usize = 8;
 
 // The place of the key, by a walk.
 pub(crate) fn find_in<V>(pairs: &Vec<Pair<V>>, key: &str) -> Option<usize>
-    ensures { result ≡ place_of key.now (seen pairs.now.items) }
+    ensures { result ≡ position_of key.now (seen pairs.now.items) }
 {
     for i in 0..pairs.len() {
         if key == pairs[i].key.as_str() {
@@ -45,7 +45,7 @@ fn index_all<V>(
     key: &String,
 ) -> Result<BTreeMap<String, usize>, AllocError>
     requires distinct { HasDistinctKeys (seen pairs.now.items) }
-    requires absent { place_of (string_bytes key.now) (seen pairs.now.items) ≡ None }
+    requires absent { position_of (string_bytes key.now) (seen pairs.now.items) ≡ None }
     ensures { IfOk result (λ m. (v : V) → HasPlaces m (seen pairs.now.items ++ (string_bytes key.now, v) ∷ [])) }
 {
     let mut places = BTreeMap::new(alloc);
@@ -64,7 +64,7 @@ pub(crate) fn place_next<V>(
     key: &String,
 ) -> Result<(), AllocError>
     requires indexed { IsIndexed (seen pairs.now.items) places.old }
-    requires absent { place_of (string_bytes key.now) (seen pairs.now.items) ≡ None }
+    requires absent { position_of (string_bytes key.now) (seen pairs.now.items) ≡ None }
     ensures ok { OnOk result ((v : V) → IsIndexed (seen pairs.now.items ++ (string_bytes key.now, v) ∷ []) places.new) }
     ensures err { OnErr result (IsIndexed (seen pairs.now.items) places.new) }
 {
@@ -82,7 +82,7 @@ pub(crate) fn place_next<V>(
 fn lower<V>(places: &mut BTreeMap<String, usize>, pairs: &Vec<Pair<V>>, at: usize)
     requires distinct { HasDistinctKeys (seen pairs.now.items) }
     requires raised { (k : List ℕ) → get_by_text places.old k
-        ≡ option_map (raise at) (place_of k (seen pairs.now.items)) }
+        ≡ option_map (index_before_removal at) (place_of k (seen pairs.now.items)) }
     ensures { HasPlaces places.new (seen pairs.now.items) }
 {
     for i in at..pairs.len() {

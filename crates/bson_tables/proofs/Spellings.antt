@@ -10,9 +10,9 @@ use Rattle.bson_scalar.specs.declared.spec.BinarySubtype.TheVariants.{Generic, U
 use Rattle.bson_scalar.proofs.Offered.{parsed_from, parsed_to}
 use Rattle.serde_json.specs.Data.{Data}
 use Rattle.serde_json.specs.Data as tree
-use Rattle.bson_leaf.specs.Faults.{wrong_shape}
-use Rattle.bson_leaf.specs.Scalar as kind
-use Rattle.bson_leaf.specs.Shapes.{object_of_one, object_of_two}
+use Rattle.bson_wrapper.specs.Faults.{wrong_shape}
+use Rattle.bson_wrapper.specs.Scalar as kind
+use Rattle.bson_wrapper.specs.Shapes.{object_of_one, object_of_two}
 use Rattle.bson_model.specs.Fault.{fault_of, MeansNothing}
 use Rattle.bson_model.specs.Means.{Means}
 use Rattle.bson_model.specs.Value as model

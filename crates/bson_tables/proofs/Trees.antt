@@ -3,17 +3,17 @@ use Rattle.std.proofs.Common.{ℕ, ℤ, pos, negsuc, List, [], ◌∷◌, true, 
 use Rattle.std.specs.Prelude.{codes}
 use Rattle.serde_json.specs.Data.{Data, negative}
 use Rattle.serde_json.specs.Data as tree
-use Rattle.bson_leaf.specs.Scalar as kind
-use Rattle.bson_leaf.specs.Shapes.{object_of_one, object_of_two}
+use Rattle.bson_wrapper.specs.Scalar as kind
+use Rattle.bson_wrapper.specs.Shapes.{object_of_one, object_of_two}
 use Rattle.std.specs.Fmt.{signed_decimal}
 use Rattle.hex.specs.Hex.{encode_lower}
-use Rattle.bson_datetime.specs.Shown.{rfc}
-use Rattle.bson_decimal.specs.Printed.{printed}
+use Rattle.bson_datetime.specs.Displayed.{rfc}
+use Rattle.bson_decimal.specs.Displayed.{displayed as decimal_displayed}
 use Rattle.bson_scalar.specs.Base64.{base64_text}
 use Rattle.bson_scalar.specs.Regex.{sorted_text}
 use Rattle.bson_scalar.specs.declared.spec.BinarySubtype.TheVariants.{Generic}
-use Rattle.bson_leaf.specs.declared.form.Form.{Form}
-use Rattle.bson_leaf.specs.declared.form.Form.TheVariants.{Canonical, Relaxed}
+use Rattle.bson_wrapper.specs.declared.form.Form.{Form}
+use Rattle.bson_wrapper.specs.declared.form.Form.TheVariants.{Canonical, Relaxed}
 use Rattle.bson_model.specs.Value as model
 use Rattle.bson_model.specs.Normal.{normal_form}
 use Rattle.bson_model.specs.Written.{Written}
@@ -101,7 +101,7 @@ regex_tree f p o = canon_from f (model.scalar (kind.regex p o)) _ refl
 binary_tree : (f : Form) (bytes : List ℕ) → Written f (normal_form (model.scalar (kind.binary Generic bytes))) (object_of_one (codes "$binary") (object_of_two (codes "base64") (tree.string (base64_text bytes)) (codes "subType") (tree.string (encode_lower (0 ∷ [])))))
 binary_tree f bytes = canon_from f (model.scalar (kind.binary Generic bytes)) _ refl
 
-decimal_tree : (f : Form) (b : List ℕ) → Written f (normal_form (model.scalar (kind.decimal b))) (object_of_one (codes "$numberDecimal") (tree.string (printed b)))
+decimal_tree : (f : Form) (b : List ℕ) → Written f (normal_form (model.scalar (kind.decimal b))) (object_of_one (codes "$numberDecimal") (tree.string (decimal_displayed b)))
 decimal_tree f b = canon_from f (model.scalar (kind.decimal b)) _ refl
 
 date_canonical : (z : ℤ) → Written Canonical (normal_form (model.scalar (kind.date z))) (object_of_one (codes "$date") (object_of_one (codes "$numberLong") (tree.string (signed_decimal z))))

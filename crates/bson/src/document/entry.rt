@@ -2,7 +2,7 @@
 //!
 //! A clause `writes_back` says what the document holds once the reference that the call returns has ended.
 ghost use Rattle.std.specs.Prelude.{◌≡◌, Some, None, string_bytes};
-ghost use Rattle.bson_store.specs.Pairs.{place_of};
+ghost use Rattle.bson_store.specs.Pairs.{position_of};
 
 use super::Document;
 use crate::bson::Bson;
@@ -40,7 +40,7 @@ pub struct OccupiedEntry<'a> {
     document: &'a mut Document,
     key: String,
     at: usize,
-    ghost found: { place_of (string_bytes key) document.now.pairs ≡ Some at },
+    ghost found: { position_of (string_bytes key) document.now.pairs ≡ Some at },
 }
 
 /// A key that the document lacks.
@@ -56,18 +56,18 @@ pub struct OccupiedEntry<'a> {
 pub struct VacantEntry<'a> {
     document: &'a mut Document,
     key: String,
-    ghost absent: { place_of (string_bytes key) document.now.pairs ≡ None },
+    ghost absent: { position_of (string_bytes key) document.now.pairs ≡ None },
 }
 
 impl Document {
     ghost use Rattle.std.specs.Prelude.{◌≡◌, ◌++◌, ◌∷◌, [], string_bytes, None, OnOk, OnErr};
-    ghost use Rattle.bson_store.specs.Pairs.{get, place_of};
+    ghost use Rattle.bson_store.specs.Pairs.{get, position_of};
     ghost use Rattle.bson.specs.Entry.{entry_document, entry_key, FitsValue};
     ghost use Rattle.bson.specs.View.{contents};
 
     // Puts a pair last, whose key is absent.
     fn add(&mut self, key: String, value: Bson) -> Result<(), AllocError>
-        requires { place_of (string_bytes key) (contents self.old) ≡ None }
+        requires { position_of (string_bytes key) (contents self.old) ≡ None }
         ensures ok { OnOk result (contents self.new ≡ contents self.old ++ (string_bytes key, value) ∷ []) }
         ensures err { OnErr result (self.new ≡ self.old) }
     {

@@ -3,7 +3,7 @@ ghost use Rattle.std.specs.Prelude.{◌≡◌, [], Some, None, List, String, str
 ghost use Rattle.std.specs.Prelude.{IfOk, OnOk, IfErr, OnErr};
 ghost use Rattle.std.specs.declared.alloc.Global.{Global};
 ghost use Rattle.std.specs.Iterator.{IsFinite, Drains, YieldsThen};
-ghost use Rattle.bson_store.specs.Pairs.{get, put, take_out};
+ghost use Rattle.bson_store.specs.Pairs.{get, insert_pair, remove_pair};
 ghost use Rattle.bson.specs.Put.{put_all};
 ghost use Rattle.bson.specs.View.{contents};
 ghost use Rattle.bson.specs.declared.bson.Bson as value;
@@ -25,7 +25,7 @@ use thiserror::Error;
 /// }
 /// ```
 #[derive(Drop, Error)]
-#[error("out of memory: the pair was not put")]
+#[error("out of memory: the pair was not insert_pair")]
 pub struct Refused {
     /// The key.
     pub key: String,
@@ -40,7 +40,7 @@ impl Document {
     /// Where memory is refused it hands the pair back, and the document is as it was.
     pub fn insert(&mut self, key: String, value: Bson) -> Result<Option<Bson>, Refused>
         ensures old { IfOk result (λ old. old ≡ get (string_bytes key) (contents self.old)) }
-        ensures put { OnOk result (contents self.new ≡ put (string_bytes key) value (contents self.old)) }
+        ensures put { OnOk result (contents self.new ≡ insert_pair (string_bytes key) value (contents self.old)) }
 
         // Out of memory, which comes at a new key alone.
         ensures absent { OnErr result (get (string_bytes key) (contents self.old) ≡ None) }
@@ -56,7 +56,7 @@ impl Document {
     /// Takes the value at the key, and its pair out of the document. The other pairs keep their order.
     pub fn remove(&mut self, key: &str) -> Option<Bson>
         ensures old { result ≡ get key.now (contents self.old) }
-        ensures rest { contents self.new ≡ take_out key.now (contents self.old) }
+        ensures rest { contents self.new ≡ remove_pair key.now (contents self.old) }
     {
         calls::take(&mut self.pairs, key)
     }
@@ -70,7 +70,7 @@ impl Document {
 
     // `insert`, without the old value. A drop of a value inside a loop gives the loop a goal for each kind.
     fn set(&mut self, key: String, value: Bson) -> Result<(), Refused>
-        ensures put { OnOk result (contents self.new ≡ put (string_bytes key) value (contents self.old)) }
+        ensures put { OnOk result (contents self.new ≡ insert_pair (string_bytes key) value (contents self.old)) }
         ensures err { OnErr result (contents self.new ≡ contents self.old) }
         ensures refused { IfErr result (λ r. (r.key ≡ key) × (r.value ≡ value)) }
     {

@@ -4,7 +4,7 @@ ghost use Rattle.serde_json.specs.View.{view, members_view};
 ghost use Rattle.serde_json.specs.Data.{object};
 ghost use Rattle.bson_model.specs.Value as model;
 ghost use Rattle.bson_model.specs.Value.{Pairs};
-ghost use Rattle.bson_leaf.specs.Faults.{Gives};
+ghost use Rattle.bson_wrapper.specs.Faults.{Gives};
 ghost use Rattle.bson_model.specs.Means.{Means, MeansDocument};
 ghost use Rattle.bson_model.specs.Sorted.{KeysAscend};
 ghost use Rattle.bson_model.specs.Texts.{Ascends, ComesBack};
@@ -17,7 +17,7 @@ use crate::bson::Bson;
 use crate::document::Document;
 use crate::extjson::read::{read, read_members};
 pub use crate::extjson::text_error::TextError;
-pub use bson_leaf::error::{Error, Result};
+pub use bson_wrapper::error::{Error, Result};
 use serde_json::{Map, Value};
 use std::alloc::Global;
 

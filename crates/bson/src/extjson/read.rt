@@ -4,28 +4,28 @@ ghost use Rattle.serde_json.specs.Data.{object};
 ghost use Rattle.std.specs.Prelude.{◌≡◌, ◌&&◌, IfOk, codes, string_bytes};
 ghost use Rattle.std.specs.Str.{bytes_eq};
 ghost use Rattle.bson_model.specs.Value.{code_scope};
-ghost use Rattle.bson_leaf.specs.Faults.{Gives};
-ghost use Rattle.bson_model.specs.Reading.{valued, reads, reads_items, reads_members, reads_wrapper, reads_scope, scoped, code_at};
+ghost use Rattle.bson_wrapper.specs.Faults.{Gives};
+ghost use Rattle.bson_model.specs.Reading.{scalar_value, reads, reads_items, reads_members, reads_wrapper, reads_scope, scope_value, code_at};
 ghost use Rattle.bson_model.specs.Normal.{InRange, ItemsInRange, PairsInRange};
-ghost use Rattle.bson_leaf.specs.Reading.{single_at};
-ghost use Rattle.bson_leaf.specs.Table.{wrapper_of};
+ghost use Rattle.bson_wrapper.specs.Reading.{single_at};
+ghost use Rattle.bson_wrapper.specs.Table.{wrapper_of};
 ghost use Rattle.bson.specs.View.{bson_view, document_view, values_view};
 
 use crate::bson::{Bson, JavaScriptCodeWithScope};
 use crate::document::Document;
-use crate::extjson::leaf::{of_leaf, read_number};
-use bson_leaf::error::Error;
-use bson_leaf::read::read_single as read_leaf;
-use bson_leaf::wrapper::any_wrapper;
+use crate::extjson::scalars::{of_scalar, read_number};
+use bson_wrapper::error::Error;
+use bson_wrapper::read::read_single as read_scalar;
+use bson_wrapper::wrapper::any_wrapper;
 use bson_store::{PairStore, SmallPairs};
 use serde_json::{Map, Value};
 use std::alloc::Global;
 
 pub(crate) fn read_single(alloc: Global, key: &str, value: Value) -> Result<Bson, Error>
-    ensures given { Gives bson_view result (valued (single_at (wrapper_of key.now) (view value))) }
+    ensures given { Gives bson_view result (scalar_value (single_at (wrapper_of key.now) (view value))) }
     ensures ranged { IfOk result (λ v. InRange (bson_view v)) }
 {
-    Ok(of_leaf(read_leaf(alloc, key, value)?))
+    Ok(of_scalar(read_scalar(alloc, key, value)?))
 }
 
 const SHAPE: &str = "a wrapper key stands in an object of another shape";

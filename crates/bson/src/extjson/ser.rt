@@ -1,8 +1,8 @@
 //! Trees and texts from values.
 ghost use Rattle.std.specs.Prelude.{◌≡◌, IfOk, OnOk, Err, true, false, string_bytes};
 ghost use Rattle.serde_json.specs.View.{view};
-ghost use Rattle.bson_leaf.specs.declared.form.Form.TheVariants.{Canonical, Relaxed};
-ghost use Rattle.bson_leaf.specs.declared.write_error.WriteError.{WriteError};
+ghost use Rattle.bson_wrapper.specs.declared.form.Form.TheVariants.{Canonical, Relaxed};
+ghost use Rattle.bson_wrapper.specs.declared.write_error.WriteError.{WriteError};
 ghost use Rattle.bson_model.specs.Texts.{ReadsAgain};
 ghost use Rattle.bson_model.specs.Normal.{InRange, writable};
 ghost use Rattle.bson_model.specs.Laws.{IsTreeOf, FormsAreIdempotent};
@@ -12,8 +12,8 @@ ghost use Rattle.bson.specs.View.{bson_view};
 use crate::bson::Bson;
 use crate::extjson::text::text_of;
 use crate::extjson::write::write;
-use bson_leaf::form::Form;
-use bson_leaf::write_error::WriteError;
+use bson_wrapper::form::Form;
+use bson_wrapper::write_error::WriteError;
 use serde_json::Value;
 use std::alloc::Global;
 
@@ -26,7 +26,7 @@ impl Bson {
     pub fn into_canonical_extjson(self, alloc: Global) -> Result<Value, WriteError>
         ensures tree { IfOk result (λ t. IsTreeOf Canonical (bson_view self) (view t)) }
         ensures reads_again { IfOk result (λ t. ReadsAgain Canonical (bson_view self) (view t)) }
-        ensures settles { FormsAreIdempotent (bson_view self) }
+        ensures idempotent { FormsAreIdempotent (bson_view self) }
         ensures ranged { OnOk result (InRange (bson_view self)) }
         ensures writable { OnOk result (writable (bson_view self) ≡ true) }
         ensures finite { result ≡ Err WriteError.FiniteDouble → writable (bson_view self) ≡ false }
@@ -41,7 +41,7 @@ impl Bson {
     pub fn into_relaxed_extjson(self, alloc: Global) -> Result<Value, WriteError>
         ensures tree { IfOk result (λ t. IsTreeOf Relaxed (bson_view self) (view t)) }
         ensures reads_again { IfOk result (λ t. ReadsAgain Relaxed (bson_view self) (view t)) }
-        ensures settles { FormsAreIdempotent (bson_view self) }
+        ensures idempotent { FormsAreIdempotent (bson_view self) }
         ensures ranged { OnOk result (InRange (bson_view self)) }
         ensures writable { OnOk result (writable (bson_view self) ≡ true) }
         ensures finite { result ≡ Err WriteError.FiniteDouble → writable (bson_view self) ≡ false }
@@ -53,7 +53,7 @@ impl Bson {
     fn into_extjson(self, alloc: Global, form: Form) -> Result<Value, WriteError>
         ensures tree { IfOk result (λ t. IsTreeOf form (bson_view self) (view t)) }
         ensures reads_again { IfOk result (λ t. ReadsAgain form (bson_view self) (view t)) }
-        ensures settles { FormsAreIdempotent (bson_view self) }
+        ensures idempotent { FormsAreIdempotent (bson_view self) }
         ensures ranged { OnOk result (InRange (bson_view self)) }
         ensures writable { OnOk result (writable (bson_view self) ≡ true) }
         ensures finite { result ≡ Err WriteError.FiniteDouble → writable (bson_view self) ≡ false }

@@ -11,9 +11,9 @@ ghost use Rattle.bson.specs.View.{bson_view, scoped_view, values_view, pairs_vie
 use crate::bson::{Bson, JavaScriptCodeWithScope};
 use crate::document::Document;
 use crate::scalar::scalar_ref;
-use bson_leaf::form::Form;
-use bson_leaf::tokens::{put_binary, put_leaf};
-use bson_leaf::write_error::WriteError;
+use bson_wrapper::form::Form;
+use bson_wrapper::tokens::{put_binary, print_scalar};
+use bson_wrapper::write_error::WriteError;
 use bson_store::{PairStore, SmallPairs};
 use json::Writer;
 use std::alloc::{AllocError, Global};
@@ -42,7 +42,7 @@ fn print(alloc: Global, form: Form, value: &Bson, out: &mut Writer) -> Result<()
         Bson::JavaScriptCodeWithScope(scoped) => print_scoped(alloc, form, scoped, out),
         Bson::String(text) => Ok(out.string(text.as_str())?),
         Bson::Binary(binary) => Ok(put_binary(alloc, binary, out)?),
-        value => put_leaf(alloc, form, &scalar_ref(value).to_owned(alloc)?, out),
+        value => print_scalar(alloc, form, &scalar_ref(value).to_owned(alloc)?, out),
     }
 }
 

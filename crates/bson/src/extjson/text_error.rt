@@ -1,5 +1,5 @@
 //! Why bytes give no value.
-use bson_leaf::error::Error;
+use bson_wrapper::error::Error;
 
 /// Why bytes give no value.
 ///

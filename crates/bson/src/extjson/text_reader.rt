@@ -24,7 +24,7 @@ use crate::bson::Bson;
 use crate::extjson::text_error::TextError;
 use crate::extjson::text_reader::straight::read_value;
 use crate::extjson::text_reader::unread::Unread;
-use bson_leaf::error::Error;
+use bson_wrapper::error::Error;
 use json::{Reader, Scratch};
 use serde_json::Value;
 use std::alloc::{AllocError, Global};

@@ -1,17 +1,17 @@
 //! The writer of both forms.
 ghost use Rattle.std.specs.Prelude.{OnOk};
 ghost use Rattle.serde_json.specs.View.{view, items_view, members_view};
-ghost use Rattle.bson_leaf.specs.Written.{Writes};
+ghost use Rattle.bson_wrapper.specs.Written.{Writes};
 ghost use Rattle.bson_model.specs.Normal.{InRange, ItemsInRange, PairsInRange};
 ghost use Rattle.bson_model.specs.Writing.{writes, writes_items, writes_pairs};
 ghost use Rattle.bson.specs.View.{bson_view, scoped_view, document_view, values_view};
 
 use crate::bson::{Bson, JavaScriptCodeWithScope};
 use crate::document::Document;
-use crate::extjson::leaf::{leaf_of, wrapped_code};
-use bson_leaf::form::Form;
-use bson_leaf::write::write_leaf;
-use bson_leaf::write_error::WriteError;
+use crate::extjson::scalars::{to_scalar, wrapped_code};
+use bson_wrapper::form::Form;
+use bson_wrapper::write::write_scalar;
+use bson_wrapper::write_error::WriteError;
 use serde_json::{Map, Value};
 use std::alloc::Global;
 
@@ -24,7 +24,7 @@ pub(crate) fn write(alloc: Global, form: Form, value: Bson) -> Result<Value, Wri
         Bson::Array(values) => Ok(Value::Array(write_items(alloc, form, values)?)),
         Bson::Document(document) => Ok(Value::Object(write_pairs(alloc, form, document)?)),
         Bson::JavaScriptCodeWithScope(scoped) => write_scoped(alloc, form, scoped),
-        value => write_leaf(alloc, form, leaf_of(value)),
+        value => write_scalar(alloc, form, to_scalar(value)),
     }
 }
 

@@ -1,5 +1,5 @@
 use Rattle.std.proofs.Common.{◌≡◌, ◌++◌, ◌∷◌, [], string_bytes, ap, ◌∙◌}
-use Rattle.bson_store.specs.Pairs.{place_of}
+use Rattle.bson_store.specs.Pairs.{position_of}
 use Rattle.bson.proofs.Places.{pair_from}
 use Rattle.bson.proofs.Copied.{viewed, copy_lacks, copy_next}
 use Rattle.bson.proofs.clone.+copy.Goals as goal
@@ -12,7 +12,7 @@ copy_pairs-push-requires t c =
     let text = c.as_str.ensures.value in
     let copied = c.in_ok-key.ensures.ok in
     let key : string_bytes c.in_ok-key.key ≡ k = cc in
-    ap (λ k. place_of k c.loop-i.pairs) key ∙ copy_lacks c.loop-i.pairs ps c.loop-i.i (k, c.value_at.result.now) c.loop-i.invariant c.len-i-end.ensures.distinct p
+    ap (λ k. position_of k c.loop-i.pairs) key ∙ copy_lacks c.loop-i.pairs ps c.loop-i.i (k, c.value_at.result.now) c.loop-i.invariant c.len-i-end.ensures.distinct p
 
 pub copy_pairs-loop-i-preserved : goal.copy_pairs-loop-i-preserved
 copy_pairs-loop-i-preserved t c =

@@ -7,7 +7,7 @@ ghost use Rattle.json.specs.Json.{value, items, members};
 ghost use Rattle.serde_json.specs.Data.{no_members};
 ghost use Rattle.serde_json.specs.Read.{of_json, of_items, of_members, converted};
 ghost use Rattle.serde_json.specs.View.{view};
-ghost use Rattle.bson_model.specs.Reading.{coded as coded_value};
+ghost use Rattle.bson_model.specs.Reading.{code_value};
 ghost use Rattle.bson_model.specs.Sorted.{KeysAscend};
 ghost use Rattle.bson.specs.View.{bson_view, document_view, values_view};
 ghost use Rattle.bson.specs.Gathered.{gathered};
@@ -15,13 +15,13 @@ ghost use Rattle.bson.specs.Straight.{TreeMeans, ItemsMean, IsJoined, ObjectMean
 
 use crate::bson::Bson;
 use crate::document::Document;
-use crate::extjson::leaf::read_number;
+use crate::extjson::scalars::read_number;
 use crate::extjson::read::{is_code_with_scope, read_single, with_scope};
 use crate::extjson::text_reader::gathered::{Gathered, document_of, is_none, none, put};
 use crate::extjson::text_reader::held::read_tree;
 use crate::extjson::text_reader::number::number;
 use crate::extjson::text_reader::unread::Unread;
-use bson_leaf::wrapper::named;
+use bson_wrapper::wrapper::named;
 use json::{Reader, Token};
 use serde_json::Value;
 use std::alloc::Global;
@@ -170,7 +170,7 @@ fn read_code(
 }
 
 fn coded(code: String, scope: Option<Document>) -> Bson
-    ensures { bson_view result ≡ coded_value (string_bytes code) (option_map document_view scope) }
+    ensures { bson_view result ≡ code_value (string_bytes code) (option_map document_view scope) }
 {
     match scope {
         None => Bson::JavaScriptCode(code),

@@ -1,5 +1,5 @@
 //! Why no value was read straight from a text.
-use bson_leaf::error::Error;
+use bson_wrapper::error::Error;
 use json::Invalid;
 use std::alloc::{AllocError, AllocFailed};
 

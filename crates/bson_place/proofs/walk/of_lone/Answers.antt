@@ -1,15 +1,15 @@
 use Rattle.std.proofs.Common.{string_bytes, refl, sym, ap, ◌∙◌, subst}
 use Rattle.serde_json.specs.View.{view}
-use Rattle.bson_leaf.specs.View.{leaf_view}
-use Rattle.bson_leaf.specs.Faults.{wrong_shape, wrong_id, Fails}
-use Rattle.bson_leaf.specs.Reading.{single_at}
-use Rattle.bson_leaf.specs.Table.{wrapper_of}
-use Rattle.bson_leaf.specs.declared.error.Error.TheVariants.{InvalidObjectId, DeserializationError}
+use Rattle.bson_wrapper.specs.View.{scalar_view}
+use Rattle.bson_wrapper.specs.Faults.{wrong_shape, wrong_id, Fails}
+use Rattle.bson_wrapper.specs.Reading.{single_at}
+use Rattle.bson_wrapper.specs.Table.{wrapper_of}
+use Rattle.bson_wrapper.specs.declared.error.Error.TheVariants.{InvalidObjectId, DeserializationError}
 use Rattle.bson_place.proofs.Steps.{lone_value, lone_place}
 use Rattle.bson_place.proofs.walk.of_lone.Goals as goal
 
 pub returns-in-Ok : goal.returns-in-Ok
-returns-in-Ok c = lone_value (string_bytes c.args.key) (view c.args.value) (leaf_view c.in-Ok.field-0) c.requires (ap (λ k. single_at (wrapper_of k) (view c.args.value)) (sym c.as_str.ensures.value) ∙ c.in-Ok.ensures)
+returns-in-Ok c = lone_value (string_bytes c.args.key) (view c.args.value) (scalar_view c.in-Ok.field-0) c.requires (ap (λ k. single_at (wrapper_of k) (view c.args.value)) (sym c.as_str.ensures.value) ∙ c.in-Ok.ensures)
 
 pub returns-in-Err-InvalidObjectId : goal.returns-in-Err-InvalidObjectId
 returns-in-Err-InvalidObjectId c =

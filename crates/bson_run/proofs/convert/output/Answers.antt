@@ -1,6 +1,6 @@
 use Rattle.std.proofs.Common.{◌≡◌, ◌++◌, List, ℕ, Result, Ok, Err, Vec, Global, IfOk, string_bytes, sym, ◌∙◌, subst}
-use Rattle.bson_leaf.specs.declared.form.Form.{Form}
-use Rattle.bson_leaf.specs.declared.form.Form.TheVariants as form
+use Rattle.bson_wrapper.specs.declared.form.Form.{Form}
+use Rattle.bson_wrapper.specs.declared.form.Form.TheVariants as form
 use Rattle.bson_model.specs.Value.{Value}
 use Rattle.bson_model.specs.Laws.{IsReadForm}
 use Rattle.bson.specs.Texts.{IsTextIn}

@@ -2,9 +2,9 @@ use Rattle.std.proofs.Common.{None, cond, option_map, subst, sym, ap, ◌∙◌,
 use Rattle.std.specs.BTreeMap.{get_by_text}
 use Rattle.std.specs.Str.{bytes_eq}
 use Rattle.std.proofs.lemmas.Map.Text.{btree_map_updates_text}
-use Rattle.bson_store.specs.Pairs.{place_of, HasDistinctKeys}
+use Rattle.bson_store.specs.Pairs.{position_of, HasDistinctKeys}
 use Rattle.bson_store.specs.Small.{IsPlaced}
-use Rattle.bson_store.specs.Raise.{raise}
+use Rattle.bson_store.specs.Removal.{index_before_removal}
 use Rattle.bson_store.proofs.Placed.{length-seen, distinct-remove, place-removed}
 use Rattle.bson_store.proofs.places.take_place.Goals as goal
 
@@ -19,7 +19,7 @@ lower-requires-clause-raised g c = λ k.
     let was = ap (λ m. get_by_text m k) c.deref_mut.ensures.value ∙ old.1 k in
     ap (λ m. get_by_text m k) c.deref_mut-in-Some.ensures.value
     ∙ btree_map_updates_text key c.deref_mut.result.now c.remove.new.self None c.remove.ensures.updates k ∙ (λ j. cond (bytes_eq key k) None (was j))
-    ∙ place-removed ps c.args.at (key, c.requires.1) c.requires.4.0 c.requires.2 k ∙ ap (λ qs. option_map (raise c.args.at) (place_of k qs)) (sym c.requires.3)
+    ∙ place-removed ps c.args.at (key, c.requires.1) c.requires.4.0 c.requires.2 k ∙ ap (λ qs. option_map (index_before_removal c.args.at) (position_of k qs)) (sym c.requires.3)
 
 pub returns-then-len-le-FEW : goal.returns-then-len-le-FEW
 returns-then-len-le-FEW g c = (

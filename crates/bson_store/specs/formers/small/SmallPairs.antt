@@ -26,7 +26,7 @@ use Rattle.bson_store.specs.declared.small.SmallPairs.TheInside.{Inside}
 use Rattle.bson_store.specs.declared.small.SmallPairs.TheView.{view, invariant}
 use Rattle.bson_store.specs.contracts.small.SmallPairs as C
 use Rattle.bson_store.specs.contracts.small.SmallPairs.TheInside as I
-use Rattle.bson_store.specs.Pairs.{keys, place_of}
+use Rattle.bson_store.specs.Pairs.{keys, position_of}
 use Rattle.bson_store.specs.Small.{Index, seen, IsPlaced, IsIndexed}
 use Rattle.bson_store.specs.formers.indexed.IndexedPairs as indexed
 
@@ -68,7 +68,7 @@ keys-on : {X Y : Type 0} (h : X → Y) (ps : List (List ℕ × X)) → keys (map
 keys-on h [] = refl
 keys-on h (p ∷ ps) = ap (λ l. p.0 ∷ l) (keys-on h ps)
 
-place-on : {X Y : Type 0} (h : X → Y) (k : List ℕ) (ps : List (List ℕ × X)) → place_of k (map (on_value h) ps) ≡ place_of k ps
+place-on : {X Y : Type 0} (h : X → Y) (k : List ℕ) (ps : List (List ℕ × X)) → position_of k (map (on_value h) ps) ≡ position_of k ps
 place-on h k [] = refl
 place-on h k (p ∷ ps) = ap (λ r. cond (bytes_eq k p.0) (Some 0) (option_map suc r)) (place-on h k ps)
 

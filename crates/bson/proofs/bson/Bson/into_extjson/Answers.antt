@@ -1,13 +1,13 @@
 use Rattle.serde_json.specs.View.{view}
 use Rattle.bson.specs.View.{bson_view}
-use Rattle.bson_model.proofs.Offered.{write_ok, write_both, write_finite, writable_from, tree_is, settled_forms, has_text}
+use Rattle.bson_model.proofs.Offered.{write_ok, write_both, write_finite, writable_from, tree_is, forms_idempotent, has_text}
 use Rattle.bson.proofs.bson.Bson.into_extjson.Goals as goal
 
 pub returns-clause-tree : goal.returns-clause-tree
 returns-clause-tree c = let v = bson_view c.args.self in write_both c.args.form view v c.write.result _ c.write.ensures.written c.write.ensures.ranged (λ t h r. tree_is c.args.form v (view t) h r)
 
-pub returns-clause-settles : goal.returns-clause-settles
-returns-clause-settles c = settled_forms (bson_view c.args.self)
+pub returns-clause-idempotent : goal.returns-clause-idempotent
+returns-clause-idempotent c = forms_idempotent (bson_view c.args.self)
 
 pub returns-clause-writable : goal.returns-clause-writable
 returns-clause-writable c = let v = bson_view c.args.self in write_ok c.args.form view v c.write.result _ c.write.ensures.written (λ t h. writable_from c.args.form v (view t) h)

@@ -1,6 +1,6 @@
 use Rattle.std.proofs.Common.{◌≡◌, Some, None, inr, sym, ap, ◌∙◌}
 use Rattle.bson_store.specs.Pairs.{get}
-use Rattle.bson.specs.Kinds.{accessed, typed}
+use Rattle.bson.specs.Kinds.{access_result, type_result}
 use Rattle.bson.proofs.Kinded.{put-same}
 use Rattle.bson.proofs.document.Document.kind_at_mut.Goals as goal
 
@@ -10,5 +10,5 @@ returns-in-None-kind_mut g c =
     let there : get c.args.key.now c.args.self.now.pairs ≡ Some c.in-Some.value.now = sym c.in-Some.ensures.value in
     let other : g.T.Kind.held c.in-Some.value.now ≡ None = sym c.in-None-kind_mut.ensures.value in (
       λ i. inr (record { pairs = put-same c.args.key.now c.args.self.now.pairs c.in-Some.value.now there i }),
-      sym (ap (accessed g.T.Kind.held) there ∙ ap typed other),
+      sym (ap (access_result g.T.Kind.held) there ∙ ap typed other),
     )

@@ -5,12 +5,12 @@ use Rattle.json.specs.Token.{begin_array, begin_object, key}
 use Rattle.json.specs.Tree.{items_tokens, members_tokens}
 use Rattle.serde_json.specs.Data.{object, string, no_items, no_members}
 use Rattle.serde_json.specs.Written.{items_outline, members_outline}
-use Rattle.bson_leaf.specs.Written.{Stops}
+use Rattle.bson_wrapper.specs.Written.{Stops}
 use Rattle.bson_store.specs.Order.{in_order, key_cmp, is_above}
 use Rattle.bson_store.proofs.Offered.{drop-at, least_none, pair_of, next_pair, where_key-all}
-use Rattle.bson_leaf.proofs.Offered.{in_turn, on_ok}
-use Rattle.bson_leaf.specs.Binaries.{binary_tree}
-use Rattle.bson_leaf.specs.Scalar.{text, binary}
+use Rattle.bson_wrapper.proofs.Offered.{in_turn, on_ok}
+use Rattle.bson_wrapper.specs.Binaries.{binary_tree}
+use Rattle.bson_wrapper.specs.Scalar.{text, binary}
 use Rattle.bson_model.specs.Value.{scalar, code_scope}
 use Rattle.bson_model.specs.Normal.{PairsInRange}
 use Rattle.bson_model.specs.Writing.{writes, writes_items}

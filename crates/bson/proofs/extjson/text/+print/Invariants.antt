@@ -1,8 +1,8 @@
 use Rattle.std.proofs.Common.{◌≡◌, List, drop, option_map, length, string_bytes}
 use Rattle.std.specs.FinMap.Entries.{where_key}
 use Rattle.json.specs.Token.{Token}
-use Rattle.bson_leaf.specs.Written.{Stops}
-use Rattle.bson_leaf.specs.declared.write_error.WriteError.{WriteError}
+use Rattle.bson_wrapper.specs.Written.{Stops}
+use Rattle.bson_wrapper.specs.declared.write_error.WriteError.{WriteError}
 use Rattle.bson_store.specs.Order.{key_cmp, is_above, in_order}
 use Rattle.bson_model.specs.Normal.{ItemsInRange, PairsInRange}
 use Rattle.bson_model.specs.Writing.{writes_items}

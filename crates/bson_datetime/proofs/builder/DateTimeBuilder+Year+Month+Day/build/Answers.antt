@@ -2,7 +2,7 @@ use Rattle.std.proofs.Common.{◌≡◌, ℕ, ◌+◌, ◌*◌, ◌<◌, ◌∙�
 use Rattle.std.proofs.lemmas.Int.{to_z_pos}
 use Rattle.jiff.proofs.SpanFacts.{signed_arith}
 use Rattle.jiff.specs.Words.{IsEpochDay}
-use Rattle.bson_datetime.proofs.ShownLemmas.{civil_of-moment}
+use Rattle.bson_datetime.proofs.DisplayedLemmas.{civil_of-moment}
 use Rattle.bson_datetime.proofs.builder.DateTimeBuilder+Year+Month+Day.build.Goals as goal
 
 -- no step of the sum wraps

@@ -1,4 +1,4 @@
-use Rattle.bson_datetime.proofs.ShownLemmas.{moment-civil_of}
+use Rattle.bson_datetime.proofs.DisplayedLemmas.{moment-civil_of}
 use Rattle.bson_datetime.proofs.datetime.DateTime.civil.Goals as goal
 
 pub returns-in-Ok-clause-fields : goal.returns-in-Ok-clause-fields

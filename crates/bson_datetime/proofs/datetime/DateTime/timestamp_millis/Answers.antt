@@ -1,4 +1,4 @@
-use Rattle.bson_datetime.proofs.ShownLemmas.{civil_of-moment, moment-civil_of, moment-within}
+use Rattle.bson_datetime.proofs.DisplayedLemmas.{civil_of-moment, moment-civil_of, moment-within}
 use Rattle.bson_datetime.proofs.datetime.DateTime.timestamp_millis.Goals as goal
 
 pub returns-clause-exists : goal.returns-clause-exists

@@ -2,7 +2,7 @@ use Rattle.std.proofs.Common.{arith, inl, refl, pos, ◌<ℤ◌, ◌≤ℤ◌, s
 use Rattle.jiff.proofs.SpanFacts.{signed_arith}
 use Rattle.jiff.proofs.Family.{civil_nanos_range}
 use Rattle.bson_datetime.proofs.RfcLemmas.{rfc-jiff}
-use Rattle.bson_datetime.proofs.ShownLemmas.{rfc-fields}
+use Rattle.bson_datetime.proofs.DisplayedLemmas.{rfc-fields}
 use Rattle.bson_datetime.proofs.NamesLaws.{denotes-names}
 use Rattle.bson_datetime.proofs.RoundTrip.{denoted-rfc}
 use Rattle.bson_datetime.proofs.MomentLemmas.{moment-negative, moment-natural, natural_year}

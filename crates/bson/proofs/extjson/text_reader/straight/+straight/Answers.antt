@@ -7,10 +7,10 @@ use Rattle.json.proofs.Grammar.{value_is, value-begin_array, value-begin_object,
 use Rattle.serde_json.specs.Data.{null, boolean, number, string, array, object, item, no_items, no_members, put}
 use Rattle.serde_json.specs.Read.{of_json, of_items, of_members, converted}
 use Rattle.serde_json.specs.View.{view, number_view}
-use Rattle.bson_leaf.specs.Faults.{◌>>=◌}
-use Rattle.bson_leaf.specs.Scalar as leaf
-use Rattle.bson_leaf.specs.Table.{wrapper_of}
-use Rattle.bson_model.specs.Reading.{reads_items, valued}
+use Rattle.bson_wrapper.specs.Faults.{◌>>=◌}
+use Rattle.bson_wrapper.specs.Scalar as scalars
+use Rattle.bson_wrapper.specs.Table.{wrapper_of}
+use Rattle.bson_model.specs.Reading.{reads_items, scalar_value}
 use Rattle.bson_model.specs.Sorted.{KeysAscend, put_pair}
 use Rattle.bson_model.specs.Value as model
 use Rattle.bson.specs.View.{bson_view, document_view, values_view}
@@ -48,21 +48,21 @@ pub read_value-returns-in_ok-from_str-in-String-clause-ok : goal.read_value-retu
 read_value-returns-in_ok-from_str-in-String-clause-ok t c =
     let first : c.args.reader.now ≡ token_of c.in_ok-token.token ∷ c.next.new.self = grind arith in
     let is : c.args.reader.now ≡ Token.string c.in-String.text.now ∷ c.next.new.self = grind (arith, first) in
-    let seen : bson_view (bson.String c.in_ok-from_str-in-String.field-0) ≡ model.scalar (leaf.text c.in-String.text.now) = search (rules, the_lemmas) in
+    let seen : bson_view (bson.String c.in_ok-from_str-in-String.field-0) ≡ model.scalar (scalars.text c.in-String.text.now) = search (rules, the_lemmas) in
     (string c.in-String.text.now, ap (converted of_json) (ap (value c.args.depth) is ∙ value_is c.args.depth _), ap Ok (sym seen))
 
 pub read_value-returns-in-Bool-clause-ok : goal.read_value-returns-in-Bool-clause-ok
 read_value-returns-in-Bool-clause-ok t c =
     let first : c.args.reader.now ≡ token_of c.in_ok-token.token ∷ c.next.new.self = grind arith in
     let is : c.args.reader.now ≡ Token.boolean c.in-Bool.b ∷ c.next.new.self = grind (arith, first) in
-    let seen : bson_view (bson.Boolean c.in-Bool.b) ≡ model.scalar (leaf.boolean c.in-Bool.b) = search (rules, the_lemmas) in
+    let seen : bson_view (bson.Boolean c.in-Bool.b) ≡ model.scalar (scalars.boolean c.in-Bool.b) = search (rules, the_lemmas) in
     (boolean c.in-Bool.b, ap (converted of_json) (ap (value c.args.depth) is ∙ value_is c.args.depth _), ap Ok (sym seen))
 
 pub read_value-returns-in-Null-clause-ok : goal.read_value-returns-in-Null-clause-ok
 read_value-returns-in-Null-clause-ok t c =
     let first : c.args.reader.now ≡ token_of c.in_ok-token.token ∷ c.next.new.self = grind arith in
     let is : c.args.reader.now ≡ Token.null ∷ c.next.new.self = grind (arith, first) in
-    let seen : bson_view bson.Null ≡ model.scalar leaf.null = search (rules, the_lemmas) in
+    let seen : bson_view bson.Null ≡ model.scalar scalars.null = search (rules, the_lemmas) in
     (null, ap (converted of_json) (ap (value c.args.depth) is ∙ value_is c.args.depth _), ap Ok (sym seen))
 
 pub read_value-returns-in_ok-read_number-in-Some-clause-ok : goal.read_value-returns-in_ok-read_number-in-Some-clause-ok

@@ -2,7 +2,7 @@ use Rattle.std.proofs.Common.{◌≡◌, ℕ, ◌+◌, ◌*◌, ◌≤◌, lengt
 use Rattle.json.specs.Json.{items, members, value, parse_map}
 use Rattle.serde_json.specs.Data.{Items, Members, no_members}
 use Rattle.serde_json.specs.Read.{of_items, of_members, converted}
-use Rattle.bson_leaf.specs.Table.{has_wrapper}
+use Rattle.bson_wrapper.specs.Table.{has_wrapper}
 use Rattle.bson_model.specs.Reading.{reads_items, reads_members}
 use Rattle.bson_model.specs.Sorted.{KeysAscend}
 use Rattle.bson.proofs.Onto.{onto_values}

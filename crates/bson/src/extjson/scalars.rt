@@ -1,0 +1,148 @@
+//! The kinds that hold no other value.
+ghost use Rattle.std.specs.Prelude.{◌≡◌, ◌<◌, IfOk, string_bytes};
+ghost use Rattle.serde_json.specs.View.{view, number_view, members_view};
+ghost use Rattle.bson_wrapper.specs.Faults.{Gives};
+ghost use Rattle.bson_wrapper.specs.Reading.{number_read};
+ghost use Rattle.bson_model.specs.Reading.{scalar_value};
+ghost use Rattle.bson_model.specs.Writing.{with_scope};
+ghost use Rattle.bson_wrapper.specs.View.{scalar_view};
+ghost use Rattle.bson_model.specs.Normal.{InRange};
+ghost use Rattle.bson_scalar.specs.DbPointer.{id_of};
+ghost use Rattle.bson_scalar.specs.Oid.{IsBytes, IsObjectId};
+ghost use Rattle.bson_scalar.specs.Subtype.{subtype_byte};
+ghost use Rattle.bson_model.specs.Value.{scalar};
+ghost use Rattle.bson.specs.IsScalar.{IsScalar};
+ghost use Rattle.bson.specs.View.{bson_view};
+
+use crate::bson::Bson;
+use bson_wrapper::error::Error;
+use bson_wrapper::scalar::Scalar;
+use bson_scalar::binary::Binary;
+use bson_scalar::db_pointer::DbPointer;
+use bson_scalar::oid::ObjectId;
+use bson_scalar::spec::BinarySubtype;
+use serde_json::{Map, Number, Value};
+use std::alloc::{AllocError, Global};
+
+pub(crate) fn of_scalar(value: Scalar) -> Bson
+    ensures value { bson_view result ≡ scalar (scalar_view value) }
+    ensures ranged { InRange (bson_view result) }
+{
+    match value {
+        Scalar::Null => Bson::Null,
+        Scalar::Undefined => Bson::Undefined,
+        Scalar::MinKey => Bson::MinKey,
+        Scalar::MaxKey => Bson::MaxKey,
+        Scalar::Boolean(b) => Bson::Boolean(b),
+        Scalar::Double(pattern) => Bson::Double(pattern),
+        Scalar::Int32(z) => Bson::Int32(z),
+        Scalar::Int64(z) => Bson::Int64(z),
+        Scalar::String(text) => Bson::String(text),
+        Scalar::Symbol(text) => Bson::Symbol(text),
+        Scalar::JavaScriptCode(code) => Bson::JavaScriptCode(code),
+        Scalar::RegularExpression(regex) => Bson::RegularExpression(regex),
+        Scalar::Timestamp(stamp) => Bson::Timestamp(stamp),
+        Scalar::Binary(binary) => Bson::Binary(of_bytes(binary)),
+        Scalar::ObjectId(id) => Bson::ObjectId(of_twelve(id)),
+        Scalar::DateTime(date) => Bson::DateTime(date),
+        Scalar::Decimal128(decimal) => Bson::Decimal128(decimal),
+        Scalar::DbPointer(pointer) => Bson::DbPointer(to_twelve(pointer)),
+    }
+}
+
+// These tell that numbers of the type u8 are below 256, and that an object id has twelve.
+fn are_bytes(bytes: &[u8])
+    ensures { IsBytes bytes.now }
+{
+    let _len = bytes.len();
+}
+
+fn has_byte(subtype: BinarySubtype)
+    ensures { subtype_byte subtype < 256 }
+{
+    let _byte = u8::from(subtype);
+}
+
+fn of_bytes(binary: Binary) -> Binary
+    ensures same { result ≡ binary }
+    ensures ranged { (subtype_byte binary.subtype < 256) × IsBytes binary.bytes.items }
+{
+    are_bytes(binary.bytes.as_slice());
+    has_byte(binary.subtype);
+    binary
+}
+
+fn of_twelve(id: ObjectId) -> ObjectId
+    ensures same { result ≡ id }
+    ensures ranged { IsObjectId id }
+{
+    let _bytes = id.bytes();
+    id
+}
+
+fn to_twelve(pointer: DbPointer) -> DbPointer
+    ensures same { result ≡ pointer }
+    ensures ranged { IsObjectId (id_of pointer) }
+{
+    let _id = of_twelve(pointer.id());
+    pointer
+}
+
+// The same, the other way: of a value that holds no other.
+pub(crate) fn to_scalar(value: Bson) -> Scalar
+    requires { IsScalar (bson_view value) }
+    ensures { scalar (scalar_view result) ≡ bson_view value }
+{
+    match value {
+        Bson::Null => Scalar::Null,
+        Bson::Undefined => Scalar::Undefined,
+        Bson::MinKey => Scalar::MinKey,
+        Bson::MaxKey => Scalar::MaxKey,
+        Bson::Boolean(b) => Scalar::Boolean(b),
+        Bson::Double(pattern) => Scalar::Double(pattern),
+        Bson::Int32(z) => Scalar::Int32(z),
+        Bson::Int64(z) => Scalar::Int64(z),
+        Bson::String(text) => Scalar::String(text),
+        Bson::Symbol(text) => Scalar::Symbol(text),
+        Bson::JavaScriptCode(code) => Scalar::JavaScriptCode(code),
+        Bson::RegularExpression(regex) => Scalar::RegularExpression(regex),
+        Bson::Timestamp(stamp) => Scalar::Timestamp(stamp),
+        Bson::Binary(binary) => Scalar::Binary(binary),
+        Bson::ObjectId(id) => Scalar::ObjectId(id),
+        Bson::DateTime(date) => Scalar::DateTime(date),
+        Bson::Decimal128(decimal) => Scalar::Decimal128(decimal),
+        Bson::DbPointer(pointer) => Scalar::DbPointer(pointer),
+        _ => unreachable!(),
+    }
+}
+
+// A whole number as an Int32 where it fits, else as an Int64.
+pub(crate) fn read_number(n: Number) -> Result<Bson, Error>
+    ensures given { Gives bson_view result (scalar_value (number_read (number_view n))) }
+    ensures ranged { IfOk result (λ v. InRange (bson_view v)) }
+{
+    match n.as_i64() {
+        Some(z) => if i32::MIN as i64 <= z && z <= i32::MAX as i64 {
+            Ok(Bson::Int32(z as i32))
+        } else {
+            Ok(Bson::Int64(z))
+        },
+        None => Err(Error::DeserializationError {
+            message: "a number is no whole number of 64 bits",
+        }),
+    }
+}
+
+// The tree of code with its scope's map.
+pub(crate) fn wrapped_code(
+    alloc: Global,
+    code: String,
+    scope: Map<String, Value>,
+) -> Result<Value, AllocError>
+    ensures { IfOk result (λ t. view t ≡ with_scope (string_bytes code) (members_view scope.entries)) }
+{
+    let mut members = Map::new(alloc);
+    serde_json::put(&mut members, alloc, "$scope", Value::Object(scope))?;
+    serde_json::put(&mut members, alloc, "$code", Value::String(code))?;
+    Ok(Value::Object(members))
+}

@@ -1,0 +1,121 @@
+//! Writes the parts of a date and time, and the two together as `Display` has them.
+ghost use Rattle.std.specs.Prelude.{◌≡◌, ◌<◌, Some, ℤ};
+ghost use Rattle.bson_datetime.specs.JiffSteps.{fields_of};
+ghost use Rattle.bson_datetime.specs.Displayed.{two_digit_text, year_displayed, hour_displayed, fraction_displayed, civil_text};
+ghost use Rattle.jiff.specs.Words.{IsWithin};
+
+use jiff::civil::DateTime;
+use std::fmt;
+
+// A number below 100, in two digits.
+#[derive(Clone, Copy)]
+pub(crate) struct Two {
+    pub n: u8,
+    pub ghost small: { n < 100 },
+}
+
+impl fmt::Display for Two {
+    ghost output = { λ x. Some (two_digit_text x.n) };
+
+    fn fmt<W: fmt::Write>(&self, f: &mut fmt::Formatter<W>) -> fmt::Result {
+        let high = (b'0' + self.n / 10) as char;
+        let low = (b'0' + self.n % 10) as char;
+        write!(f, "{high}{low}")
+    }
+}
+
+// An hour, with no zero in front.
+#[derive(Clone, Copy)]
+pub(crate) struct Hour {
+    pub n: u8,
+    pub ghost small: { n < 100 },
+}
+
+impl fmt::Display for Hour {
+    ghost output = { λ x. Some (hour_displayed x.n) };
+
+    fn fmt<W: fmt::Write>(&self, f: &mut fmt::Formatter<W>) -> fmt::Result {
+        let high = (b'0' + self.n / 10) as char;
+        let low = (b'0' + self.n % 10) as char;
+        if self.n < 10 {
+            return write!(f, "{low}");
+        }
+        write!(f, "{high}{low}")
+    }
+}
+
+// A fraction in thousandths: at least one digit, and no further zeros at the end.
+#[derive(Clone, Copy)]
+pub(crate) struct Fraction {
+    pub n: u16,
+    pub ghost small: { n < 1000 },
+}
+
+impl fmt::Display for Fraction {
+    ghost output = { λ x. Some (fraction_displayed x.n) };
+
+    fn fmt<W: fmt::Write>(&self, f: &mut fmt::Formatter<W>) -> fmt::Result {
+        let first = (b'0' + (self.n / 100) as u8) as char;
+        let second = (b'0' + (self.n / 10 % 10) as u8) as char;
+        let third = (b'0' + (self.n % 10) as u8) as char;
+        if self.n % 100 == 0 {
+            return write!(f, "{first}");
+        }
+        if self.n % 10 == 0 {
+            return write!(f, "{first}{second}");
+        }
+        write!(f, "{first}{second}{third}")
+    }
+}
+
+// A year, in four digits behind a sign where it is negative.
+#[derive(Clone, Copy)]
+pub(crate) struct Year {
+    pub n: i16,
+    pub ghost small: { IsWithin 9999 n },
+}
+
+impl fmt::Display for Year {
+    ghost output = { λ x. Some (year_displayed x.n) };
+
+    fn fmt<W: fmt::Write>(&self, f: &mut fmt::Formatter<W>) -> fmt::Result {
+        let size = self.n.unsigned_abs();
+        let high = Two {
+            n: (size / 100) as u8,
+        };
+        let low = Two {
+            n: (size % 100) as u8,
+        };
+        if self.n < 0 {
+            return write!(f, "-{high}{low}");
+        }
+        write!(f, "{high}{low}")
+    }
+}
+
+// A date and time, as `2023-01-23 20:11:47.316 +00:00:00`.
+#[derive(Clone, Copy)]
+pub(crate) struct CivilText {
+    pub at: DateTime,
+}
+
+impl fmt::Display for CivilText {
+    ghost output = { λ x. Some (civil_text (fields_of x.at)) };
+
+    fn fmt<W: fmt::Write>(&self, f: &mut fmt::Formatter<W>) -> fmt::Result {
+        let at = self.at.to_plain();
+        let year = Year { n: at.date.year };
+        let month = Two { n: at.date.month };
+        let day = Two { n: at.date.day };
+        let hour = Hour { n: at.time.hour };
+        let minute = Two { n: at.time.minute };
+        let second = Two { n: at.time.second };
+        let fraction = Fraction {
+            n: (at.time.subsec_nanosecond / 1_000_000) as u16,
+        };
+        write!(
+            f,
+            "{year}-{month}-{day} {hour}:{minute}:{second}.{fraction} +00:00:00"
+        )
+    }
+}

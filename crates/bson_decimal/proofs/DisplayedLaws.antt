@@ -1,0 +1,315 @@
+-- A printed text parses to the canonical pattern.
+use Rattle.std.proofs.Common.{◌≡◌, ℕ, zero, suc, ◌+◌, ◌-◌, ◌*◌, ◌^◌, ◌<◌, ◌≤◌, inl, inr, Bool, true, false, cond, ◌&&◌, eqb, ltb, leb, List, [], ◌∷◌, ◌++◌, length, take, drop, replicate, Option, Some, None, refl, sym, ap, subst, ◌∙◌, arith, length-append, length-drop}
+use Rattle.std.specs.Prelude.{⊤, codes, Result, Ok, Err, ◌↔◌, IsOkAnd}
+use Rattle.bson_decimal.specs.FromStr.{ParsesTo}
+use Rattle.std.specs.Str.Parse.{without_leading_sign}
+use Rattle.bson_decimal.specs.declared.ParseError.{ParseError}
+use Rattle.bson_decimal.specs.Steps as Steps
+use Rattle.bson_decimal.proofs.Bytes.{from_le_bytes-to_le_bytes_16}
+use Rattle.bson_decimal.proofs.PatternLaws.{decoded-first_form, first_form-lt}
+use Rattle.bson_decimal.proofs.Parsing.{word-off, no-word, special-parses, finite-parses, refused-parses}
+use Rattle.std.specs.Fmt.{decimal, sign_text}
+use Rattle.std.proofs.lemmas.Bool.{cases_Bool, eqb-true, and_parts, leb-true, ltb-true, ltb-false}
+use Rattle.std.proofs.lemmas.Bool.Decides.{nat_tests}
+use Rattle.std.proofs.lemmas.Fmt.{decimal_is_IsNumeral_wide, length-decimal-le_wide}
+use Rattle.std.proofs.lemmas.List.{take-append-drop, length-replicate, append-nil, take_all}
+use Rattle.std.proofs.Math.Numerals.{one-add}
+use Rattle.std.specs.Int.{w128, to_le_bytes, from_le_bytes}
+use Rattle.std.specs.List.{prefix_len}
+use Rattle.std.specs.Str.Parse.{AllDigits, digits_value}
+use Rattle.bson_decimal.specs.declared.bits.Decoded.{Decoded}
+use Rattle.bson_decimal.specs.declared.bits.Decoded.TheVariants.{Nan, Infinity, Finite}
+use Rattle.bson_decimal.specs.Pattern.{decoded, dec, first_form, sign_weight, normal_decimal, normal_number, field, is_set, counted}
+use Rattle.bson_decimal.specs.Displayed.{decoded_displayed, displayed, finite_text, plain_text, scientific_text, power_text}
+use Rattle.bson_decimal.proofs.Shifted.{IsNearestShifted}
+use Rattle.bson_decimal.specs.Numeral.{Sign, none, plus, minus, sign_bytes, is_minus, Exponent, unwritten, written, exponent_bytes, fraction_bytes, fraction_digits, IsExponent, Numeral, is_zero, without_leading_zeros}
+use Rattle.bson_decimal.specs.Text.{Parses, special, nan, infinity, finite}
+use Rattle.bson_decimal.proofs.Shifted.{raised, lowered, up, down, within16, nearest}
+use Rattle.bson_decimal.proofs.NearestLaws.{nearest-same}
+use Rattle.bson_decimal.proofs.Zeros.{value-before, AllDigits-append, AllDigits-zeros}
+
+abbrev pub IsDecoded : Decoded → Type 0
+IsDecoded (Nan s q) = ⊤
+IsDecoded (Infinity s) = ⊤
+IsDecoded (Finite s c e) = (c < 10 ^ 34) × (e < 12288)
+
+choose : (b : Bool) (x y : Decoded) → (b ≡ true → IsDecoded x) → (b ≡ false → IsDecoded y) → IsDecoded (cond b x y)
+choose true x y f g = f refl
+choose false x y f g = g refl
+
+pub decoded-within : (n : ℕ) → IsDecoded (decoded n)
+decoded-within n =
+    let rest = Finite (is_set n 127) (counted (field n 0 113)) (field n 113 14) in
+    let second = Finite (is_set n 127) 0 (field n 111 14) in
+    let other : Decoded = cond (eqb (field n 125 2) 3) second rest in
+    choose (eqb (field n 122 5) 31) (Nan (is_set n 127) (is_set n 121)) (cond (eqb (field n 122 5) 30) (Infinity (is_set n 127)) other) (λ _. tt)
+    (λ a. choose (eqb (field n 122 5) 30) (Infinity (is_set n 127)) other (λ _. tt)
+    (λ b. choose (eqb (field n 125 2) 3) second rest
+    (λ c. (omega arith, grind (arith, nat_tests)))
+    (λ c. (grind (arith, nat_tests), grind (arith, nat_tests)))))
+
+sign_of : Bool → Sign
+sign_of true = minus
+sign_of false = none
+
+sign_bytes-is : (b : Bool) → sign_text b ≡ sign_bytes (sign_of b)
+unfolding sign_of
+sign_bytes-is true = refl
+sign_bytes-is false = refl
+
+is_minus-is : (b : Bool) → is_minus (sign_of b) ≡ b
+unfolding sign_of
+is_minus-is true = refl
+is_minus-is false = refl
+
+-- the parts of a printed number
+record Prints (c e : ℕ) (body : List ℕ) : Type 0 where
+  whole : List ℕ
+  fraction : Option (List ℕ)
+  exponent : Exponent
+  is : body ≡ whole ++ (fraction_bytes fraction ++ exponent_bytes exponent)
+  digits : AllDigits 10 (whole ++ fraction_digits fraction)
+  some : 0 < length (whole ++ fraction_digits fraction)
+  ok : IsExponent exponent
+  value : digits_value 10 (whole ++ fraction_digits fraction) ≡ c
+  high : raised exponent ≤ 7000
+  low : lowered exponent ≤ 7000
+  short : length (fraction_digits fraction) ≤ 7000
+  few : length (without_leading_zeros (whole ++ fraction_digits fraction)) ≤ 34
+  at : e + (length (fraction_digits fraction) + lowered exponent) ≡ raised exponent + 6176
+
+from-prints : (negative : Bool) (c e : ℕ) (body : List ℕ) → c < 10 ^ 34 → e < 12288 → Prints c e body → Parses (sign_text negative ++ body) (to_le_bytes w128 (first_form negative c e))
+from-prints negative c e body small within p =
+    let n : Numeral = record { sign = sign_of negative; whole = p.whole; fraction = p.fraction; exponent = p.exponent } in
+    let high = p.high in
+    let low = p.low in
+    let short = p.short in
+    let few = p.few in
+    let at = p.at in
+    finite n c e
+    (record { is = ap (λ t. t ++ body) (sign_bytes-is negative) ∙ ap (λ t. sign_bytes (sign_of negative) ++ t) p.is; digits = p.digits; some = p.some; exponent = p.ok })
+    (within16 n (record { high = omega arith; low = omega arith; fraction = omega arith; least = omega arith; cut = omega arith; greatest = omega arith }))
+    (nearest n c e (subst (λ m. IsNearestShifted m (up n) (down n) c e) (sym p.value) (nearest-same c (up n) (down n) e small within p.at)))
+    (ap (λ b. to_le_bytes w128 (first_form b c e)) (sym (is_minus-is negative)))
+
+stripped-le : (ds : List ℕ) → length ds ≤ 34 → length (without_leading_zeros ds) ≤ 34
+stripped-le ds h = omega (arith, length-drop (prefix_len is_zero ds) ds)
+
+stripped-zeros : (k : ℕ) (ds : List ℕ) → without_leading_zeros (replicate k 48 ++ ds) ≡ without_leading_zeros ds
+stripped-zeros zero ds = refl
+stripped-zeros (suc k) ds = rw one-add (stripped-zeros k ds)
+
+-- what `decimal` writes
+record Writes (c : ℕ) : Type 0 where
+  some : 0 < length (decimal c)
+  digits : AllDigits 10 (decimal c)
+  value : digits_value 10 (decimal c) ≡ c
+
+writes : (c : ℕ) → c < 10 ^ 64 → Writes c
+writes c h = let d = decimal_is_IsNumeral_wide c h in record { some = d.0.0; digits = d.0.1; value = d.1 }
+
+-- the exponent that is written behind an `E`
+record PrintsPower (k : ℕ) : Type 0 where
+  exponent : Exponent
+  is : 69 ∷ power_text k ≡ exponent_bytes exponent
+  ok : IsExponent exponent
+  at : raised exponent + 6177 ≡ k + lowered exponent
+  high : raised exponent ≤ 7000
+  low : lowered exponent ≤ 7000
+
+prints-power : (k : ℕ) → k ≤ 12400 → PrintsPower k
+prints-power k most =
+    elim (cases_Bool (ltb 6177 k)) [
+      | inl a ↦
+          let above = ltb-true 6177 k a in
+          let d = writes (k - 6177) (omega arith) in
+          let v = d.value in
+          record { exponent = written 69 plus (decimal (k - 6177)); is = rw a refl; ok = (inr refl, d.some, d.digits); at = omega arith; high = omega arith; low = omega arith }
+      | inr a ↦ let below = ltb-false 6177 k a in elim (cases_Bool (eqb k 6177)) [
+        | inl b ↦ let is = eqb-true k 6177 b in record { exponent = written 69 none (48 ∷ []); is = rw (a, b) refl; ok = (inr refl, omega arith, (omega arith, tt)); at = omega arith; high = omega arith; low = omega arith }
+        | inr b ↦
+            let d = writes (6177 - k) (omega arith) in
+            let v = d.value in
+            record { exponent = written 69 minus (decimal (6177 - k)); is = rw (a, b) refl; ok = (inr refl, d.some, d.digits); at = omega arith; high = omega arith; low = omega arith }
+      ]
+    ]
+
+module _ (c e : ℕ) (small : c < 10 ^ 34) (within : e < 12288) where
+  short : length (decimal c) ≤ 34
+  short = length-decimal-le_wide 34 c (omega arith) small (omega arith)
+
+  plain-prints : e ≤ 6176 → 6171 ≤ e + length (decimal c) → Prints c e (plain_text (decimal c) (6176 - e))
+  plain-prints low near =
+      let d = writes c (omega arith) in
+      let ds = decimal c in
+      let few = short in
+      elim (cases_Bool (eqb (6176 - e) 0)) [
+        | inl a ↦
+            let zero-p = eqb-true (6176 - e) 0 a in
+            rw a (record {
+              whole = ds;
+              fraction = None;
+              exponent = unwritten;
+              is = sym (append-nil ds);
+              digits = rw append-nil d.digits;
+              some = rw append-nil d.some;
+              ok = tt;
+              value = rw append-nil d.value;
+              high = omega arith;
+              low = omega arith;
+              short = omega arith;
+              few = rw append-nil (stripped-le ds short);
+              at = omega arith;
+            })
+        | inr a ↦ elim (cases_Bool (ltb (6176 - e) (length ds))) [
+          | inl b ↦
+              let inside = ltb-true (6176 - e) (length ds) b in
+              let joined = take-append-drop (length ds - (6176 - e)) ds in
+              let size : length (drop (length ds - (6176 - e)) ds) ≡ 6176 - e = omega (arith, length-drop (length ds - (6176 - e)) ds) in
+              rw (a, b) (record {
+                whole = take (length ds - (6176 - e)) ds;
+                fraction = Some (drop (length ds - (6176 - e)) ds);
+                exponent = unwritten;
+                is = ap (λ t. take (length ds - (6176 - e)) ds ++ 46 ∷ t) (sym (append-nil (drop (length ds - (6176 - e)) ds)));
+                digits = rw joined d.digits;
+                some = rw joined d.some;
+                ok = tt;
+                value = rw joined d.value;
+                high = omega arith;
+                low = omega arith;
+                short = omega (arith, size);
+                few = rw joined (stripped-le ds short);
+                at = omega (arith, size);
+              })
+          | inr b ↦
+              let outside = ltb-false (6176 - e) (length ds) b in
+              let k = 6176 - e - length ds in
+              let size : length (replicate k 48 ++ ds) ≡ 6176 - e = omega (arith, length-append (replicate k 48) ds, length-replicate {A = ℕ} k 48) in
+              rw (a, b) (record {
+                whole = 48 ∷ [];
+                fraction = Some (replicate k 48 ++ ds);
+                exponent = unwritten;
+                is = ap (λ t. 48 ∷ 46 ∷ t) (sym (append-nil (replicate k 48 ++ ds)));
+                digits = AllDigits-append (replicate (suc k) 48) ds (AllDigits-zeros (suc k)) d.digits;
+                some = omega arith;
+                ok = tt;
+                value = value-before (suc k) ds ∙ d.value;
+                high = omega arith;
+                low = omega arith;
+                short = omega (arith, size);
+                few = rw (stripped-zeros (suc k) ds) (stripped-le ds short);
+                at = omega (arith, size);
+              })
+        ]
+      ]
+
+  scientific-prints : Prints c e (scientific_text (decimal c) e)
+  scientific-prints =
+      let d = writes c (omega arith) in
+      let ds = decimal c in
+      let few = short in
+      let some = d.some in
+      let p = prints-power (e + length ds) (omega arith) in
+      let at = p.at in
+      let high = p.high in
+      let low = p.low in
+      elim (cases_Bool (eqb (length ds) 1)) [
+        | inl a ↦
+            let one = eqb-true (length ds) 1 a in
+            let all = take_all 1 ds (omega arith) in
+            rw (a, all) (record {
+              whole = ds;
+              fraction = None;
+              exponent = p.exponent;
+              is = ap (λ t. ds ++ t) p.is;
+              digits = rw append-nil d.digits;
+              some = rw append-nil d.some;
+              ok = p.ok;
+              value = rw append-nil d.value;
+              high = high;
+              low = low;
+              short = omega arith;
+              few = rw append-nil (stripped-le ds short);
+              at = omega arith;
+            })
+        | inr a ↦
+            let joined = take-append-drop 1 ds in
+            let size : length (drop 1 ds) ≡ length ds - 1 = length-drop 1 ds in
+            rw a (record {
+              whole = take 1 ds;
+              fraction = Some (drop 1 ds);
+              exponent = p.exponent;
+              is = ap (λ t. take 1 ds ++ (46 ∷ drop 1 ds ++ t)) p.is;
+              digits = rw joined d.digits;
+              some = rw joined d.some;
+              ok = p.ok;
+              value = rw joined d.value;
+              high = high;
+              low = low;
+              short = omega (arith, size);
+              few = rw joined (stripped-le ds short);
+              at = omega (arith, size);
+            })
+      ]
+
+finite-prints : (c e : ℕ) → c < 10 ^ 34 → e < 12288 → Prints c e (finite_text (decimal c) e)
+finite-prints c e small within =
+    elim (cases_Bool (leb e 6176 && leb 6171 (e + length (decimal c)))) [
+      | inl a ↦ let p = and_parts (leb e 6176) _ a in rw a (plain-prints c e small within (leb-true e 6176 p.0) (leb-true 6171 (e + length (decimal c)) p.1))
+      | inr a ↦ rw a (scientific-prints c e small within)
+    ]
+
+decoded_displayed-parses : (d : Decoded) → IsDecoded d → Parses (decoded_displayed d) (to_le_bytes w128 (normal_number d))
+decoded_displayed-parses (Nan s q) h = special none (codes "NaN") (124 * 2 ^ 120) refl (nan refl) refl
+decoded_displayed-parses (Infinity s) h =
+    special (sign_of s) (codes "Infinity") (120 * 2 ^ 120) (ap (λ t. t ++ codes "Infinity") (sign_bytes-is s)) (infinity refl)
+    (ap (λ b. to_le_bytes w128 (sign_weight b + 120 * 2 ^ 120)) (sym (is_minus-is s)))
+decoded_displayed-parses (Finite s c e) h = from-prints s c e (finite_text (decimal c) e) h.0 h.1 (finite-prints c e h.0 h.1)
+
+-- a printed text parses to the canonical pattern
+pub displayed-parses : (b : List ℕ) → Parses (displayed b) (normal_decimal b)
+unfolding displayed normal_decimal
+displayed-parses b = decoded_displayed-parses (dec b) (decoded-within (from_le_bytes w128 b))
+
+-- a text parses to one pattern
+pub parses-one : (text a b : List ℕ) → Parses text a → Parses text b → a ≡ b
+parses-one text a b (special s word n is w a-is) other =
+    let off = word-off s word n w in
+    let rest = ap without_leading_sign is ∙ off.0 in
+    let one = (special-parses text n (rw rest w)).1 in
+    one a (special s word n is w a-is) ∙ sym (one b other)
+parses-one text a b (finite n c e t l near a-is) other = by-steps (Steps.finite (without_leading_sign text)) refl
+  where
+    by-steps : (r : Result (ℕ × ℕ) ParseError) → Steps.finite (without_leading_sign text) ≡ r → a ≡ b
+    by-steps (Ok r) is =
+        let one = (finite-parses text r (λ m. no-word text n m t) is).1 in
+        one a (finite n c e t l near a-is) ∙ sym (one b other)
+    by-steps (Err k) is = absurd (refused-parses text k (λ m. no-word text n m t) is a (finite n c e t l near a-is))
+
+canon-lt : (d : Decoded) → IsDecoded d → normal_number d < 2 ^ 128
+canon-lt (Nan s q) h = omega arith
+canon-lt (Infinity true) h = omega arith
+canon-lt (Infinity false) h = omega arith
+canon-lt (Finite s c e) h = first_form-lt s c e h.0 h.1
+
+decoded_displayed-canon : (d : Decoded) → IsDecoded d → decoded_displayed (decoded (normal_number d)) ≡ decoded_displayed d
+decoded_displayed-canon (Nan s q) h = refl
+decoded_displayed-canon (Infinity true) h = refl
+decoded_displayed-canon (Infinity false) h = refl
+decoded_displayed-canon (Finite s c e) h = ap decoded_displayed (decoded-first_form s c e h.0 h.1)
+
+pub displayed-canon : (b : List ℕ) → displayed (normal_decimal b) ≡ displayed b
+unfolding displayed normal_decimal
+displayed-canon b =
+    let h = decoded-within (from_le_bytes w128 b) in
+    ap (λ n. decoded_displayed (decoded n)) (from_le_bytes-to_le_bytes_16 (normal_number (dec b)) (canon-lt (dec b) h)) ∙ decoded_displayed-canon (dec b) h
+
+-- two patterns print alike exactly if their canonical patterns are one
+pub displayed-same : (a b : List ℕ) → (displayed a ≡ displayed b) ↔ (normal_decimal a ≡ normal_decimal b)
+displayed-same a b =
+    (λ e. parses-one (displayed b) (normal_decimal a) (normal_decimal b) (rw e at (displayed-parses a)) (displayed-parses b), λ e. sym (displayed-canon a) ∙ ap displayed e ∙ displayed-canon b)
+
+-- so a printed text is answered by its canonical pattern
+pub reads-displayed : (text : List ℕ) (r : Result (List ℕ) ParseError) → ParsesTo text r → (b : List ℕ) → text ≡ displayed b → IsOkAnd r (λ d. d ≡ normal_decimal b)
+reads-displayed text (Ok d) h b e = sym (h.1 (normal_decimal b) (rw e (displayed-parses b)))
+reads-displayed text (Err k) h b e = absurd (h.0 (normal_decimal b) (rw e (displayed-parses b)))

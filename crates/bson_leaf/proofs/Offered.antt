@@ -1,5 +1,0 @@
--- The laws that the crates above use. No other file of these proofs is cited from outside.
-pub use Rattle.bson_leaf.proofs.BinaryLaws.{subtype_byte-of}
-pub use Rattle.bson_leaf.proofs.InTurn.{in_turn, on_ok}
-pub use Rattle.bson_leaf.proofs.InverseLemmas.{text_then}
-pub use Rattle.bson_leaf.proofs.ScalarLaws.{back, nf_again, nf_written, scalar_form, scalar_from, scalar_no_float, scalar_to, settle_again, settle_none, settle_written, writable_is, written_from, written_to}

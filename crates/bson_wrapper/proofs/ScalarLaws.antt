@@ -1,0 +1,337 @@
+-- One lemma a law, for all scalars.
+use Rattle.std.proofs.Common.{◌≡◌, ◌<◌, ◌^◌, ℕ, ℤ, pos, negsuc, List, [], ◌∷◌, Bool, true, false, ◌&&◌, cond, Option, Some, None, Result, Ok, Err, refl, sym, ap, ◌∙◌, subst, w32, w64, arith}
+use Rattle.std.specs.Prelude.{FitsSigned, is_ok, is_some, codes}
+use Rattle.std.specs.Str.{bytes_eq}
+use Rattle.std.proofs.lemmas.Bool.{and_parts}
+use Rattle.hex.specs.Hex.{encode_lower}
+use Rattle.serde_json.specs.Data.{Data, no_members, member}
+use Rattle.serde_json.specs.Data as tree
+use Rattle.serde_json.specs.Find.{of_integer}
+use Rattle.serde_json.specs.Written.{has_float}
+use Rattle.bson_scalar.specs.Base64.{base64_text}
+use Rattle.bson_wrapper.specs.Shapes.{object_of_one, object_of_two}
+use Rattle.bson_scalar.specs.Subtype.{subtype_byte, subtype_of}
+use Rattle.bson_decimal.specs.Pattern.{normal_decimal}
+use Rattle.bson_decimal.proofs.Offered.{displayed-canon}
+use Rattle.bson_wrapper.specs.Dates.{is_recent, relaxed_date_tree}
+use lib.Signed.{mag}
+use Rattle.bson_wrapper.specs.Decimals.{decimal_tree}
+use Rattle.bson_wrapper.specs.Doubles.{double_text, double_tree, normal_double}
+use Rattle.bson_wrapper.specs.Faults.{Fault, wrong_shape}
+use Rattle.bson_wrapper.specs.Ints.{fits_bits}
+use Rattle.bson_wrapper.specs.Means.{MeansScalar}
+use Rattle.bson_wrapper.specs.Means as means
+use Rattle.bson_wrapper.specs.Normal.{normal_scalar, scalar_as_read, int64_as_read, writable_scalar, ScalarInRange, IsReadScalar}
+use Rattle.bson_wrapper.specs.Reading.{code_beside, single, single_at, scalar_read}
+use Rattle.bson_wrapper.specs.Regexes.{regex_tree}
+use Rattle.bson_wrapper.specs.Scalar.{Scalar, null, undefined, min_key, max_key, boolean, double, int32, int64, text, symbol, code, regex, timestamp, binary, object_id, date, decimal, db_pointer}
+use Rattle.bson_wrapper.specs.Table.{key_of, wrapper_of}
+use Rattle.bson_wrapper.specs.Written.{WrittenScalar, Refusal, ◌>>=◌, or_finite, writes_scalar, int32_form, int64_form, date_form}
+use Rattle.bson_wrapper.specs.declared.form.Form.{Form}
+use Rattle.bson_wrapper.specs.declared.form.Form.TheVariants.{Canonical, Relaxed}
+use Rattle.bson_wrapper.specs.declared.wrapper.Wrapper.{Wrapper}
+use Rattle.bson_wrapper.specs.declared.wrapper.Wrapper.TheVariants.{Oid, Symbol, RegularExpression, NumberInt, NumberLong, NumberDouble, NumberDecimal, Binary, Uuid, Code, Timestamp, Date, MinKey, MaxKey, DbPointer, Undefined}
+use Rattle.bson_wrapper.proofs.InverseLemmas as inverse
+use Rattle.bson_wrapper.proofs.IntText.{fits_true, int_of_some}
+use Rattle.bson_wrapper.proofs.BinaryLaws.{binary_from, uuid_from, bytes_to, bytes_again, byte_again, subtype_byte-of}
+use Rattle.bson_datetime.proofs.Offered.{denotes-names}
+use Rattle.bson_scalar.proofs.Offered.{hyphenated_to, sized_to, sorted_text-again}
+use Rattle.bson_wrapper.proofs.DateLaws.{date_from, recent_denoted}
+use Rattle.bson_wrapper.proofs.DecimalLaws.{decimal_from, decimal_of-some, decimal_of-displayed, canon-again}
+use Rattle.bson_wrapper.proofs.DoubleLaws.{double_from, double_form, double_text-form, double_again, nan_form-again, special_is}
+use Rattle.bson_wrapper.proofs.IdLaws.{oid_from, pointer_from, id_again}
+use Rattle.bson_wrapper.proofs.IntLaws.{int32_from, int64_from, number_from, narrow_read, wide_read, int32_again, int64_again, number_again}
+use Rattle.bson_wrapper.proofs.LoneLaws.{min_key_from, max_key_from, undefined_from}
+use Rattle.bson_wrapper.proofs.RegexLaws.{regex_from}
+use Rattle.bson_wrapper.proofs.TextLaws.{symbol_from, code_from}
+use Rattle.bson_wrapper.proofs.TimestampLaws.{timestamp_from, natural_again}
+
+-- ---- what is read is the meaning
+
+under : (w : Wrapper) (d : Data) (x : Scalar) → single w d ≡ Ok x → MeansScalar (object_of_one (key_of w) d) x
+under Oid = oid_from
+under Symbol = symbol_from
+under RegularExpression = regex_from
+under NumberInt = int32_from
+under NumberLong = int64_from
+under NumberDouble = double_from
+under NumberDecimal = decimal_from
+under Binary = binary_from
+under Uuid = uuid_from
+under Code = code_from
+under Timestamp = timestamp_from
+under Date = date_from
+under MinKey = min_key_from
+under MaxKey = max_key_from
+under DbPointer = pointer_from
+under Undefined = undefined_from
+
+-- the key of a wrapper that the table finds
+key_at : (k : List ℕ) (a : Wrapper) (b : Bool) (r : Option Wrapper) (w : Wrapper) → (b ≡ true → k ≡ key_of a) → (r ≡ Some w → k ≡ key_of w) → cond b (Some a) r ≡ Some w → k ≡ key_of w
+key_at k a true r w this rest h = let same : a ≡ w = cc in this refl ∙ ap key_of same
+key_at k a false r w this rest h = rest h
+
+pub key_from : (k : List ℕ) (w : Wrapper) → wrapper_of k ≡ Some w → k ≡ key_of w
+key_from k w =
+    let is = λ (a : Wrapper). inverse.key_is k (key_of a) in
+    key_at k Oid _ _ w (is Oid) (key_at k Symbol _ _ w (is Symbol)
+    (key_at k RegularExpression _ _ w (is RegularExpression) (key_at k Binary _ _ w (is Binary)
+    (key_at k Uuid _ _ w (is Uuid) (key_at k Code _ _ w (is Code) (key_at k DbPointer _ _ w (is DbPointer)
+    (key_at k NumberInt _ _ w (is NumberInt) (key_at k NumberLong _ _ w (is NumberLong)
+    (key_at k NumberDouble _ _ w (is NumberDouble) (key_at k NumberDecimal _ _ w (is NumberDecimal)
+    (key_at k Timestamp _ _ w (is Timestamp) (key_at k Date _ _ w (is Date) (key_at k MinKey _ _ w (is MinKey)
+    (key_at k MaxKey _ _ w (is MaxKey) (key_at k Undefined _ _ w (is Undefined) (λ h. cc))))))))))))))))
+
+single_from : (k : List ℕ) (d : Data) (o : Option Wrapper) (x : Scalar) → o ≡ wrapper_of k → single_at o d ≡ Ok x → MeansScalar (object_of_one k d) x
+single_from k d (Some w) x is h = rw (key_from k w (sym is)) (under w d x h)
+single_from k d None x is h = cc
+
+guarded : (b : Bool) (r : Result Scalar Fault) (x : Scalar) → cond b r (Err wrong_shape) ≡ Ok x → (b ≡ true) × (r ≡ Ok x)
+guarded true r x h = (refl, h)
+guarded false r x h = cc
+
+code_text : (e d : Data) (x : Scalar) → code_beside e d ≡ Ok x → MeansScalar (object_of_two (codes "$code") d (codes "$scope") e) x
+code_text tree.null d x h =
+    let t = inverse.text_then d _ x h in
+    subst (λ e. MeansScalar (object_of_two (codes "$code") e (codes "$scope") tree.null) x) (sym t.1)
+    (subst (λ y. MeansScalar (object_of_two (codes "$code") (tree.string t.0) (codes "$scope") tree.null) y) (sym (inverse.un_ok _ _ t.2)) (means.code_without_scope t.0))
+code_text (tree.boolean b) d x h = cc
+code_text (tree.number n) d x h = cc
+code_text (tree.string s) d x h = cc
+code_text (tree.array ds) d x h = cc
+code_text (tree.object ms) d x h = cc
+
+scope_from : (k l : List ℕ) (d e : Data) (x : Scalar) → cond (bytes_eq k (codes "$code") && bytes_eq l (codes "$scope")) (code_beside e d) (Err wrong_shape) ≡ Ok x → MeansScalar (object_of_two k d l e) x
+scope_from k l d e x h =
+    let g = guarded _ _ x h in
+    let keys = and_parts _ _ g.0 in
+    subst (λ a. MeansScalar (object_of_two a d l e) x) (sym (inverse.key_is k _ keys.0))
+    (subst (λ a. MeansScalar (object_of_two (codes "$code") d a e) x) (sym (inverse.key_is l _ keys.1)) (code_text e d x g.1))
+
+pub scalar_from : (t : Data) (x : Scalar) → scalar_read t ≡ Ok x → MeansScalar t x
+scalar_from tree.null x h = rw (inverse.un_ok _ _ h) means.null
+scalar_from (tree.boolean b) x h = rw (inverse.un_ok _ _ h) (means.boolean b)
+scalar_from (tree.number n) x h = number_from n x h
+scalar_from (tree.string s) x h = rw (inverse.un_ok _ _ h) (means.text s)
+scalar_from (tree.array ds) x h = cc
+scalar_from (tree.object no_members) x h = cc
+scalar_from (tree.object (member k d no_members)) x h = single_from k d (wrapper_of k) x refl h
+scalar_from (tree.object (member k d (member l e no_members))) x h = scope_from k l d e x h
+scalar_from (tree.object (member k d (member l e (member m f ms)))) x h = cc
+
+pub scalar_to : {t : Data} {x : Scalar} → MeansScalar t x → scalar_read t ≡ Ok x
+scalar_to means.null = refl
+scalar_to (means.boolean b) = refl
+scalar_to (means.text s) = refl
+scalar_to (means.narrow_number n z is fits) = narrow_read n z is fits
+scalar_to (means.wide_number n z is never) = wide_read n z is never
+scalar_to (means.number_int s z is) = rw (int_of_some w32 s z is) refl
+scalar_to (means.number_long s z is) = rw (int_of_some w64 s z is) refl
+scalar_to (means.number_double s p is) = rw is refl
+scalar_to (means.number_decimal s b is) = rw (decimal_of-some s b is) refl
+scalar_to (means.symbol s) = refl
+scalar_to (means.code s) = refl
+scalar_to (means.code_without_scope s) = refl
+scalar_to (means.regular_expression p o) = refl
+scalar_to (means.oid s id is) = rw (sized_to 12 s id is.0 is.1) refl
+scalar_to (means.db_pointer name s id is) = rw (sized_to 12 s id is.0 is.1) refl
+scalar_to (means.timestamp i t m n i_is t_is) = rw (i_is, t_is) refl
+scalar_to (means.date_of_millis s z is) = rw (int_of_some w64 s z is) refl
+scalar_to (means.date_of_text s z is) = rw ((denotes-names s z).1 is) refl
+scalar_to (means.date_of_number n z is) = rw is refl
+scalar_to (means.binary s k bytes n is at) = rw (bytes_to s bytes is, sized_to 1 k (n ∷ []) at refl) refl
+scalar_to (means.uuid s id is) = rw (hyphenated_to s id is) refl
+scalar_to (means.min_key d is) = rw is refl
+scalar_to (means.max_key d is) = rw is refl
+scalar_to means.undefined = refl
+
+pub scalar_one : (t : Data) (x y : Scalar) → MeansScalar t x → MeansScalar t y → x ≡ y
+scalar_one t x y h g = inverse.un_ok _ _ (sym (scalar_to g) ∙ scalar_to h)
+
+-- a scalar that is read is writable, and in normal form but for decimals
+pub scalar_form : {t : Data} {x : Scalar} → MeansScalar t x → IsReadScalar x
+scalar_form (means.number_double s p is) = double_form s p is
+scalar_form (means.regular_expression p o) = (refl, ap (regex p) (sorted_text-again o))
+scalar_form (means.binary s k bytes n is at) = (refl, ap (λ m. binary (subtype_of m) bytes) (subtype_byte-of n))
+scalar_form (means.number_decimal s b is) = (refl, tt)
+scalar_form means.null = (refl, refl)
+scalar_form (means.boolean b) = (refl, refl)
+scalar_form (means.text s) = (refl, refl)
+scalar_form (means.narrow_number n z is fits) = (refl, refl)
+scalar_form (means.wide_number n z is never) = (refl, refl)
+scalar_form (means.number_int s z is) = (refl, refl)
+scalar_form (means.number_long s z is) = (refl, refl)
+scalar_form (means.symbol s) = (refl, refl)
+scalar_form (means.code s) = (refl, refl)
+scalar_form (means.code_without_scope s) = (refl, refl)
+scalar_form (means.oid s id is) = (refl, refl)
+scalar_form (means.db_pointer name s id is) = (refl, refl)
+scalar_form (means.timestamp i t m n i_is t_is) = (refl, refl)
+scalar_form (means.date_of_millis s z is) = (refl, refl)
+scalar_form (means.date_of_text s z is) = (refl, refl)
+scalar_form (means.date_of_number n z is) = (refl, refl)
+scalar_form (means.uuid s id is) = (refl, refl)
+scalar_form (means.min_key d is) = (refl, refl)
+scalar_form (means.max_key d is) = (refl, refl)
+scalar_form means.undefined = (refl, refl)
+
+-- ---- what is written is the grammar's one tree
+
+bind_ok : {A B : Type 0} (r : Result A Refusal) (f : A → Result B Refusal) (y : B) → (r >>= f) ≡ Ok y → (x : A) × (r ≡ Ok x) × (f x ≡ Ok y)
+bind_ok (Ok x) f y h = (x, refl, h)
+bind_ok (Err e) f y h = cc
+
+un_ok : {A : Type 0} (x y : A) → ◌≡◌ {A = Result A Refusal} (Ok x) (Ok y) → y ≡ x
+un_ok x y h = cc
+
+some_from : {A : Type 0} (o : Option A) (s : A) → or_finite o ≡ Ok s → o ≡ Some s
+some_from (Some s) t h = ap Some (sym (un_ok _ _ h))
+some_from None t h = cc
+
+decimal_same : (b : List ℕ) → decimal_tree (normal_decimal b) ≡ decimal_tree b
+decimal_same b = ap (λ s. object_of_one (codes "$numberDecimal") (tree.string s)) (displayed-canon b)
+
+-- a scalar's tree is that of its normal form
+pub nf_written : (f : Form) (x : Scalar) → writes_scalar f (normal_scalar x) ≡ writes_scalar f x
+nf_written f (double p) = ap (λ o. or_finite o >>= λ s. Ok (double_tree s)) (double_text-form p)
+nf_written f (regex p o) = ap (λ s. Ok (regex_tree p s)) (sorted_text-again o)
+nf_written f (binary k bytes) = ap (λ n. Ok (object_of_one (codes "$binary") (object_of_two (codes "base64") (tree.string (base64_text bytes)) (codes "subType") (tree.string (encode_lower (n ∷ [])))))) (subtype_byte-of (subtype_byte k))
+nf_written f (decimal b) = ap Ok (decimal_same b)
+nf_written f x = refl
+
+pub nf_again : (x : Scalar) → normal_scalar (normal_scalar x) ≡ normal_scalar x
+nf_again (double p) = ap double (nan_form-again p)
+nf_again (regex p o) = ap (regex p) (sorted_text-again o)
+nf_again (binary k bytes) = ap (λ n. binary (subtype_of n) bytes) (subtype_byte-of (subtype_byte k))
+nf_again (decimal b) = ap decimal (canon-again b)
+nf_again x = refl
+
+-- of a scalar in normal form: the function and the relation
+written_at : (f : Form) (x : Scalar) (t : Data) → writes_scalar f (normal_scalar x) ≡ Ok t → WrittenScalar f (normal_scalar x) t
+written_at f (double p) t h = let b = bind_ok (or_finite (double_text (normal_double p))) _ t h in (b.0, some_from _ _ b.1, un_ok _ _ b.2)
+written_at f (regex p o) t h = un_ok _ _ h ∙ ap (regex_tree p) (sorted_text-again o)
+written_at f x t h = un_ok _ _ h
+
+writes_at : (f : Form) (x : Scalar) (t : Data) → WrittenScalar f (normal_scalar x) t → writes_scalar f (normal_scalar x) ≡ Ok t
+writes_at f (double p) t h = rw h.1 (ap Ok (sym h.2))
+writes_at f (regex p o) t h = ap Ok (ap (regex_tree p) (sorted_text-again o) ∙ sym h)
+writes_at f x t h = ap Ok (sym h)
+
+pub written_from : (f : Form) (x : Scalar) (t : Data) → writes_scalar f x ≡ Ok t → WrittenScalar f (normal_scalar x) t
+written_from f x t h = written_at f x t (nf_written f x ∙ h)
+
+pub written_to : (f : Form) (x : Scalar) (t : Data) → WrittenScalar f (normal_scalar x) t → writes_scalar f x ≡ Ok t
+written_to f x t h = sym (nf_written f x) ∙ writes_at f x t h
+
+double_ok : (o : Option (List ℕ)) → is_ok (or_finite o >>= λ s. Ok (double_tree s)) ≡ is_some o
+double_ok (Some s) = refl
+double_ok None = refl
+
+pub writable_is : (f : Form) (x : Scalar) → is_ok (writes_scalar f x) ≡ writable_scalar x
+writable_is f (double p) = double_ok (double_text p) ∙ special_is p
+writable_is f x = refl
+
+-- ---- a tree is read as the normal form, narrowed where it is a relaxed one
+
+wider : (z : ℤ) → FitsSigned w32 z → FitsSigned w64 z
+wider z r = record { sfits = (let small : mag z < 2 ^ 31 = r.sfits in omega arith) }
+
+int32_back : (f : Form) (z : ℤ) → FitsSigned w32 z → scalar_read (int32_form f z) ≡ Ok (int32 z)
+int32_back Canonical z r = rw (int32_again z r) refl
+int32_back Relaxed z r = number_again z (wider z r) ∙ ap (λ b. Ok (cond b (int32 z) (int64 z))) (fits_true 31 z r.sfits)
+
+int64_back : (f : Form) (z : ℤ) → FitsSigned w64 z → scalar_read (int64_form f z) ≡ Ok (int64_as_read f z)
+int64_back Canonical z r = rw (int64_again z r) refl
+int64_back Relaxed z r = number_again z r
+
+recent_back : (b : Bool) (z : ℤ) → is_recent z ≡ b → FitsSigned w64 z → scalar_read (relaxed_date_tree z) ≡ Ok (date z)
+recent_back true z e r = rw e (rw (recent_denoted z e) refl)
+recent_back false z e r = rw e (rw (int64_again z r) refl)
+
+date_back : (f : Form) (z : ℤ) → FitsSigned w64 z → scalar_read (date_form f z) ≡ Ok (date z)
+date_back Canonical z r = rw (int64_again z r) refl
+date_back Relaxed z r = recent_back _ z refl r
+
+pub back : (f : Form) (x : Scalar) (t : Data) → writes_scalar f x ≡ Ok t → ScalarInRange x → scalar_read t ≡ Ok (scalar_as_read f (normal_scalar x))
+back f null t h r = rw (un_ok _ _ h) refl
+back f undefined t h r = rw (un_ok _ _ h) refl
+back f min_key t h r = rw (un_ok _ _ h) refl
+back f max_key t h r = rw (un_ok _ _ h) refl
+back f (boolean b) t h r = rw (un_ok _ _ h) refl
+back f (double p) t h r = let b = bind_ok (or_finite (double_text p)) _ t h in rw (un_ok _ _ b.2) (rw (double_again p b.0 (some_from _ _ b.1)) refl)
+back f (int32 z) t h r = rw (un_ok _ _ h) (int32_back f z r)
+back f (int64 z) t h r = rw (un_ok _ _ h) (int64_back f z r)
+back f (text s) t h r = rw (un_ok _ _ h) refl
+back f (symbol s) t h r = rw (un_ok _ _ h) refl
+back f (code s) t h r = rw (un_ok _ _ h) refl
+back f (regex p o) t h r = rw (un_ok _ _ h) (ap (λ s. Ok (regex p s)) (sorted_text-again o))
+back f (timestamp s i) t h r = rw (un_ok _ _ h) (rw (natural_again s r.0, natural_again i r.1) refl)
+back f (binary k bytes) t h r = rw (un_ok _ _ h) (rw (bytes_again bytes r.1, byte_again (subtype_byte k) r.0) refl)
+back f (object_id id) t h r = rw (un_ok _ _ h) (rw (id_again id r.0 r.1) refl)
+back f (date z) t h r = rw (un_ok _ _ h) (date_back f z r)
+back f (decimal b) t h r = rw (un_ok _ _ h) (rw (decimal_of-displayed b) refl)
+back f (db_pointer s id) t h r = rw (un_ok _ _ h) (rw (id_again id r.0 r.1) refl)
+
+pub reads_back : (f : Form) (x : Scalar) (t : Data) → writes_scalar f x ≡ Ok t → ScalarInRange x → MeansScalar t (scalar_as_read f (normal_scalar x))
+reads_back f x t h r = scalar_from t _ (back f x t h r)
+
+-- ---- what reads back idempotent
+
+narrow_at : (b : Bool) (z : ℤ) → fits_bits 31 z ≡ b → scalar_as_read Relaxed (cond b (int32 z) (int64 z)) ≡ cond b (int32 z) (int64 z)
+narrow_at true z e = refl
+narrow_at false z e = rw e refl
+
+int64_as_read : (f : Form) (z : ℤ) → scalar_as_read f (int64_as_read f z) ≡ int64_as_read f z
+int64_as_read Canonical z = refl
+int64_as_read Relaxed z = narrow_at _ z refl
+
+pub as_read_again : (f : Form) (x : Scalar) → scalar_as_read f (scalar_as_read f x) ≡ scalar_as_read f x
+as_read_again f (int64 z) = int64_as_read f z
+as_read_again f x = refl
+
+-- in the canonical form nothing is narrowed
+pub as_read_canonical : (x : Scalar) → scalar_as_read Canonical x ≡ x
+as_read_canonical (int64 z) = refl
+as_read_canonical x = refl
+
+narrow_number : (b : Bool) (z : ℤ) → writes_scalar Relaxed (cond b (int32 z) (int64 z)) ≡ Ok (tree.number (of_integer z))
+narrow_number true z = refl
+narrow_number false z = refl
+
+int64_written : (f : Form) (z : ℤ) → writes_scalar f (int64_as_read f z) ≡ Ok (int64_form f z)
+int64_written Canonical z = refl
+int64_written Relaxed z = narrow_number _ z
+
+-- what reads back has the same tree
+pub as_read_written : (f : Form) (x : Scalar) → writes_scalar f (scalar_as_read f x) ≡ writes_scalar f x
+as_read_written f (int64 z) = int64_written f z
+as_read_written f x = refl
+
+-- ---- no float is written, so that a tree's compact text is known
+
+whole_none : (z : ℤ) → has_float (tree.number (of_integer z)) ≡ false
+whole_none (pos n) = refl
+whole_none (negsuc n) = refl
+
+int32_none : (f : Form) (z : ℤ) → has_float (int32_form f z) ≡ false
+int32_none Canonical z = refl
+int32_none Relaxed z = whole_none z
+
+int64_none : (f : Form) (z : ℤ) → has_float (int64_form f z) ≡ false
+int64_none Canonical z = refl
+int64_none Relaxed z = whole_none z
+
+recent_none : (b : Bool) (z : ℤ) → is_recent z ≡ b → has_float (relaxed_date_tree z) ≡ false
+recent_none true z e = rw e refl
+recent_none false z e = rw e refl
+
+date_none : (f : Form) (z : ℤ) → has_float (date_form f z) ≡ false
+date_none Canonical z = refl
+date_none Relaxed z = recent_none _ z refl
+
+pub scalar_no_float : (f : Form) (x : Scalar) (t : Data) → writes_scalar f x ≡ Ok t → has_float t ≡ false
+scalar_no_float f (double p) t h = let b = bind_ok (or_finite (double_text p)) _ t h in rw (un_ok _ _ b.2) refl
+scalar_no_float f (int32 z) t h = rw (un_ok _ _ h) (int32_none f z)
+scalar_no_float f (int64 z) t h = rw (un_ok _ _ h) (int64_none f z)
+scalar_no_float f (date z) t h = rw (un_ok _ _ h) (date_none f z)
+scalar_no_float f x t h = rw (un_ok _ _ h) refl

@@ -1,0 +1,31 @@
+pub mod Scalar
+pub mod Faults
+pub mod Table
+pub mod Shapes
+pub mod Ints
+pub mod Doubles
+pub mod Decimals
+pub mod Texts
+pub mod Ids
+pub mod Timestamps
+pub mod Lone
+pub mod Binaries
+pub mod Regexes
+pub mod Dates
+pub mod Means
+pub mod Reading
+pub mod Normal
+pub mod Written
+pub mod Tokens
+pub mod View
+pub mod Displayed
+pub mod Laws
+-- what public clauses cite of the crates below, so that a caller names this crate alone
+pub use Rattle.bson_scalar.specs.DbPointer
+pub use Rattle.bson_scalar.specs.Regex
+pub use Rattle.bson_scalar.specs.Subtype
+pub use Rattle.bson_scalar.specs.declared.spec.BinarySubtype
+pub use Rattle.hex.specs.Hex
+pub use Rattle.serde_json.specs.Data
+pub use Rattle.serde_json.specs.Find
+pub use Rattle.serde_json.specs.View as Trees

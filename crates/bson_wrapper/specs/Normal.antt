@@ -1,0 +1,57 @@
+-- Normal and narrowed forms, and what a scalar may be.
+use Rattle.std.specs.Prelude.{◌≡◌, ◌<◌, ◌^◌, ℤ, length, Bool, true, FitsSigned}
+use Rattle.std.specs.Int.{w32, w64}
+use Rattle.bson_scalar.specs.Subtype.{subtype_byte, subtype_of}
+use Rattle.bson_decimal.specs.Pattern.{normal_decimal}
+use Rattle.hex.specs.Hex.{IsBytes}
+use Rattle.bson_wrapper.specs.Doubles.{normal_double, is_special}
+use Rattle.bson_wrapper.specs.Ints.{narrowest}
+use Rattle.bson_scalar.specs.Regex.{sorted_text}
+use Rattle.bson_wrapper.specs.declared.form.Form.{Form}
+use Rattle.bson_wrapper.specs.declared.form.Form.TheVariants.{Canonical, Relaxed}
+use Rattle.bson_wrapper.specs.Scalar.{Scalar, double, int32, int64, regex, timestamp, binary, object_id, date, decimal, db_pointer}
+
+-- the normal form: options sorted, the subtype that its byte reads as, a NaN as its text means it, a decimal as its
+-- canonical pattern; all else kept
+abbrev pub normal_scalar : Scalar → Scalar
+normal_scalar (double p) = double (normal_double p)
+normal_scalar (regex p o) = regex p (sorted_text o)
+normal_scalar (binary k bytes) = binary (subtype_of (subtype_byte k)) bytes
+normal_scalar (decimal b) = decimal (normal_decimal b)
+normal_scalar x = x
+
+-- an Int64 as its tree in the form f reads back
+abbrev pub int64_as_read : Form → ℤ → Scalar
+int64_as_read Canonical z = int64 z
+int64_as_read Relaxed z = narrowest z
+
+-- a scalar as its tree in the form f reads back: narrowed where the form is the relaxed one
+abbrev pub scalar_as_read : Form → Scalar → Scalar
+scalar_as_read f (int64 z) = int64_as_read f z
+scalar_as_read f x = x
+
+-- whether it has a tree: a double is a zero, an infinity or a NaN
+abbrev pub writable_scalar : Scalar → Bool
+writable_scalar (double p) = is_special p
+writable_scalar x = true
+
+-- each number in it is in the range of its Rust type
+abbrev pub ScalarInRange : Scalar → Type 0
+ScalarInRange (double p) = p < 2 ^ 64
+ScalarInRange (int32 z) = FitsSigned w32 z
+ScalarInRange (int64 z) = FitsSigned w64 z
+ScalarInRange (timestamp t i) = (t < 2 ^ 32) × (i < 2 ^ 32)
+ScalarInRange (binary k bytes) = (subtype_byte k < 256) × IsBytes bytes
+ScalarInRange (object_id id) = (length id ≡ 12) × IsBytes id
+ScalarInRange (date z) = FitsSigned w64 z
+ScalarInRange (db_pointer s id) = (length id ≡ 12) × IsBytes id
+ScalarInRange x = Unit {0}
+
+-- in normal form, or a decimal: a NaN's text can mean a pattern that is not canonical
+abbrev pub IsNormalOrDecimal : Scalar → Type 0
+IsNormalOrDecimal (decimal b) = Unit {0}
+IsNormalOrDecimal x = normal_scalar x ≡ x
+
+-- what is known of every scalar that is read
+abbrev pub IsReadScalar : Scalar → Type 0
+IsReadScalar x = (writable_scalar x ≡ true) × IsNormalOrDecimal x

@@ -1,0 +1,102 @@
+-- The tree of a scalar in each of the two forms (MongoDB Extended JSON v2).
+use Rattle.std.specs.Prelude.{◌≡◌, ℕ, ℤ, List, Option, Some, None, Result, Ok, Err}
+use Rattle.serde_json.specs.Data.{Data}
+use Rattle.serde_json.specs.Data as tree
+use Rattle.serde_json.specs.Find.{of_integer}
+use Rattle.bson_wrapper.specs.Binaries.{binary_tree}
+use Rattle.bson_wrapper.specs.Dates.{date_tree, relaxed_date_tree}
+use Rattle.bson_wrapper.specs.Decimals.{decimal_tree}
+use Rattle.bson_wrapper.specs.Doubles.{double_tree, double_text}
+use Rattle.bson_wrapper.specs.Ids.{oid_tree, pointer_tree}
+use Rattle.bson_wrapper.specs.Ints.{int32_tree, int64_tree}
+use Rattle.bson_wrapper.specs.Lone.{min_key_tree, max_key_tree, undefined_tree}
+use Rattle.bson_scalar.specs.Regex.{sorted_text}
+use Rattle.bson_wrapper.specs.Regexes.{regex_tree}
+use Rattle.bson_wrapper.specs.Texts.{symbol_tree, code_tree}
+use Rattle.bson_wrapper.specs.Timestamps.{timestamp_tree}
+use Rattle.bson_wrapper.specs.Scalar.{Scalar, null, undefined, min_key, max_key, boolean, double, int32, int64, text, symbol, code, regex, timestamp, binary, object_id, date, decimal, db_pointer}
+use Rattle.bson_wrapper.specs.declared.form.Form.{Form}
+use Rattle.bson_wrapper.specs.declared.form.Form.TheVariants.{Canonical, Relaxed}
+use Rattle.bson_wrapper.specs.declared.write_error.WriteError.{WriteError}
+use Rattle.bson_wrapper.specs.declared.write_error.WriteError.TheVariants.{FiniteDouble, OutOfMemory}
+
+-- the trees that differ between the forms
+abbrev pub int32_form : Form → ℤ → Data
+int32_form Canonical z = int32_tree z
+int32_form Relaxed z = tree.number (of_integer z)
+
+abbrev pub int64_form : Form → ℤ → Data
+int64_form Canonical z = int64_tree z
+int64_form Relaxed z = tree.number (of_integer z)
+
+abbrev pub date_form : Form → ℤ → Data
+date_form Canonical z = date_tree z
+date_form Relaxed z = relaxed_date_tree z
+
+-- the scalar, in normal form, has this tree in the form f
+abbrev pub WrittenScalar : Form → Scalar → Data → Type 0
+WrittenScalar f null t = t ≡ tree.null
+WrittenScalar f undefined t = t ≡ undefined_tree
+WrittenScalar f min_key t = t ≡ min_key_tree
+WrittenScalar f max_key t = t ≡ max_key_tree
+WrittenScalar f (boolean b) t = t ≡ tree.boolean b
+WrittenScalar f (double p) t = (s : List ℕ) × (double_text p ≡ Some s) × (t ≡ double_tree s)
+WrittenScalar f (int32 z) t = t ≡ int32_form f z
+WrittenScalar f (int64 z) t = t ≡ int64_form f z
+WrittenScalar f (text s) t = t ≡ tree.string s
+WrittenScalar f (symbol s) t = t ≡ symbol_tree s
+WrittenScalar f (code s) t = t ≡ code_tree s
+WrittenScalar f (regex p o) t = t ≡ regex_tree p o
+WrittenScalar f (timestamp s i) t = t ≡ timestamp_tree s i
+WrittenScalar f (binary k bytes) t = t ≡ binary_tree k bytes
+WrittenScalar f (object_id id) t = t ≡ oid_tree id
+WrittenScalar f (date z) t = t ≡ date_form f z
+WrittenScalar f (decimal b) t = t ≡ decimal_tree b
+WrittenScalar f (db_pointer s id) t = t ≡ pointer_tree s id
+
+-- ---- the same as functions of any scalar, for the proofs
+
+-- a double is finite and not zero
+pub data Refusal : Type 0 where
+  finite : Refusal
+
+infixl 10 ◌>>=◌
+abbrev pub ◌>>=◌ : {A B : Type 0} → Result A Refusal → (A → Result B Refusal) → Result B Refusal
+(Ok x) >>= f = f x
+(Err e) >>= f = Err e
+
+abbrev pub or_finite : {A : Type 0} → Option A → Result A Refusal
+or_finite (Some x) = Ok x
+or_finite None = Err finite
+
+abbrev pub double_writes : ℕ → Result Data Refusal
+double_writes p = or_finite (double_text p) >>= λ s. Ok (double_tree s)
+
+abbrev pub writes_scalar : Form → Scalar → Result Data Refusal
+writes_scalar f null = Ok tree.null
+writes_scalar f undefined = Ok undefined_tree
+writes_scalar f min_key = Ok min_key_tree
+writes_scalar f max_key = Ok max_key_tree
+writes_scalar f (boolean b) = Ok (tree.boolean b)
+writes_scalar f (double p) = double_writes p
+writes_scalar f (int32 z) = Ok (int32_form f z)
+writes_scalar f (int64 z) = Ok (int64_form f z)
+writes_scalar f (text s) = Ok (tree.string s)
+writes_scalar f (symbol s) = Ok (symbol_tree s)
+writes_scalar f (code s) = Ok (code_tree s)
+writes_scalar f (regex p o) = Ok (regex_tree p (sorted_text o))
+writes_scalar f (timestamp s i) = Ok (timestamp_tree s i)
+writes_scalar f (binary k bytes) = Ok (binary_tree k bytes)
+writes_scalar f (object_id id) = Ok (oid_tree id)
+writes_scalar f (date z) = Ok (date_form f z)
+writes_scalar f (decimal b) = Ok (decimal_tree b)
+writes_scalar f (db_pointer s id) = Ok (pointer_tree s id)
+
+-- What a function returned, seen by view, is what writing gives, unless memory ran out.
+abbrev pub Stops : {Y : Type 0} → WriteError → Result Y Refusal → Type 0
+Stops OutOfMemory written = Unit {0}
+Stops FiniteDouble written = written ≡ Err finite
+
+abbrev pub Writes : {X Y : Type 0} → (X → Y) → Result X WriteError → Result Y Refusal → Type 0
+Writes view (Ok x) written = written ≡ Ok (view x)
+Writes view (Err e) written = Stops e written

@@ -1,0 +1,115 @@
+//! `$binary`: bytes and their subtype; and `$uuid`, the hyphenated text of a UUID. Read and written as
+//! `{"base64": "aGVsbG8=", "subType": "00"}` under `$binary` (RFC 4648 section 4, with padding; two
+//! hexadecimal digits, of which lower-case ones are written). `$uuid` is read alone, as
+//! `{"$uuid": "00112233-4455-6677-8899-aabbccddeeff"}`, and means a binary of subtype 04.
+ghost use Rattle.std.specs.Prelude.{◌≡◌, ◌<◌, IfOk, OnOk, ◌∷◌, [], string_bytes};
+ghost use Rattle.serde_json.specs.View.{view};
+ghost use Rattle.hex.specs.Hex.{encode_lower, IsBytes};
+ghost use Rattle.bson_scalar.specs.Orders.{parsed_hyphenated};
+ghost use Rattle.bson_scalar.specs.Subtype.{subtype_byte};
+ghost use Rattle.bson_wrapper.specs.Binaries.{binary_tree};
+ghost use Rattle.bson_wrapper.specs.Faults.{Gives, or_wrong_shape};
+ghost use Rattle.bson_wrapper.specs.Reading.{binary_read, uuid_read, byte_of as byte_at, bytes_of as bytes_at};
+ghost use Rattle.bson_wrapper.specs.View.{scalar_view};
+
+use crate::error::Error;
+use crate::scalar::Scalar;
+use crate::shapes::{are_bytes, expected, text_in, two_in, wrapped};
+use base64::engine::general_purpose::STANDARD;
+use bson_scalar::binary::{self, Binary};
+use bson_scalar::spec::BinarySubtype;
+use bson_scalar::uuid_value::Uuid;
+use serde_json::{Map, Value};
+use std::alloc::{AllocError, Global};
+
+const BINARY_SHAPE: &str = "`$binary` holds the texts `base64` and `subType`";
+
+const UUID_SHAPE: &str = "`$uuid` holds the hyphenated text of a UUID";
+
+/// The byte of a text of two hexadecimal digits.
+pub fn byte_of(text: &str) -> Option<u8>
+    ensures { result ≡ byte_at text.now }
+{
+    let mut bytes = [0u8; 1];
+    match hex::decode_to_slice(text, &mut bytes) {
+        Ok(()) => Some(bytes[0]),
+        Err(_) => None,
+    }
+}
+
+fn bytes_of(alloc: Global, text: &str) -> Result<Vec<u8>, Error>
+    ensures { Gives (λ v. v.items) result (or_wrong_shape (bytes_at text.now)) }
+{
+    match Binary::from_base64(alloc, text, None) {
+        Ok(Binary { subtype: _, bytes }) => Ok(bytes),
+        Err(binary::Error::OutOfMemory) => Err(Error::OutOfMemory),
+        Err(_) => Err(Error::DeserializationError {
+            message: "`base64` holds no base64 text",
+        }),
+    }
+}
+
+/// What `$binary` holds, as a binary.
+pub fn read_binary(alloc: Global, value: Value) -> Result<Scalar, Error>
+    ensures { Gives scalar_view result (binary_read (view value)) }
+{
+    let (base64, subtype) = two_in(value, "base64", "subType", BINARY_SHAPE)?;
+    let base64 = text_in(base64, BINARY_SHAPE)?;
+    let subtype = text_in(subtype, BINARY_SHAPE)?;
+    let bytes = bytes_of(alloc, base64.as_str())?;
+    let byte = expected(
+        byte_of(subtype.as_str()),
+        "`subType` holds two hexadecimal digits",
+    )?;
+    Ok(Scalar::Binary(Binary {
+        subtype: BinarySubtype::from(byte),
+        bytes,
+    }))
+}
+
+// The UUID of a text of the hyphenated form, the only one that has 36 bytes.
+fn uuid_of(text: &str) -> Option<Uuid>
+    ensures { result ≡ parsed_hyphenated text.now }
+{
+    if text.len() != 36 {
+        return None;
+    }
+    match Uuid::parse_str(text) {
+        Ok(id) => Some(id),
+        Err(_) => None,
+    }
+}
+
+/// What `$uuid` holds, as a binary of the subtype of UUIDs: a text of 36 bytes, with `-` at places 8, 13,
+/// 18 and 23, counted from 0, and hexadecimal digits of either case elsewhere. The other spellings
+/// that `Uuid::parse_str` takes are refused.
+pub fn read_uuid(alloc: Global, value: Value) -> Result<Scalar, Error>
+    ensures { Gives scalar_view result (uuid_read (view value)) }
+{
+    let text = text_in(value, UUID_SHAPE)?;
+    let id = expected(uuid_of(text.as_str()), UUID_SHAPE)?;
+    Ok(Scalar::Binary(Binary::from_uuid(alloc, id)?))
+}
+
+pub(crate) fn byte_text(alloc: Global, subtype: BinarySubtype) -> Result<String, AllocError>
+    ensures text { IfOk result (λ s. string_bytes s ≡ encode_lower (subtype_byte subtype ∷ [])) }
+    ensures ranged { OnOk result (subtype_byte subtype < 256) }
+{
+    let byte = u8::from(subtype);
+    hex::encode(alloc, [byte])
+}
+
+/// The tree of a binary, in both forms.
+pub fn write_binary(alloc: Global, binary: Binary) -> Result<Value, AllocError>
+    ensures tree { IfOk result (λ t. view t ≡ binary_tree binary.subtype binary.bytes.items) }
+    ensures ranged { OnOk result ((subtype_byte binary.subtype < 256) × IsBytes binary.bytes.items) }
+{
+    let Binary { subtype, bytes } = binary;
+    are_bytes(bytes.as_slice());
+    let base64 = STANDARD.encode(alloc, bytes.as_slice())?;
+    let subtype = byte_text(alloc, subtype)?;
+    let mut members = Map::new(alloc);
+    serde_json::put(&mut members, alloc, "base64", Value::String(base64))?;
+    serde_json::put(&mut members, alloc, "subType", Value::String(subtype))?;
+    wrapped(alloc, "$binary", Value::Object(members))
+}

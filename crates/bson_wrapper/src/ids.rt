@@ -1,0 +1,74 @@
+//! `$oid`: the text of an object id; and `$dbPointer`, which holds one. Read as
+//! `{"$oid": "53e37d08776f724e42000000"}` and `{"$ref": "a.b", "$id": {"$oid": ".."}}`, digits of
+//! either case, and written with lower-case ones.
+ghost use Rattle.std.specs.Prelude.{◌≡◌, IfOk, OnOk, length};
+ghost use Rattle.serde_json.specs.View.{view};
+ghost use Rattle.hex.specs.Hex.{IsBytes};
+ghost use Rattle.bson_scalar.specs.DbPointer.{namespace_of, id_of as pointer_id};
+ghost use Rattle.bson_wrapper.specs.Faults.{Gives};
+ghost use Rattle.bson_wrapper.specs.Ids.{oid_tree, pointer_tree};
+ghost use Rattle.bson_wrapper.specs.Reading.{id_of, oid_read, pointer_read};
+ghost use Rattle.bson_wrapper.specs.View.{scalar_view};
+
+use crate::error::Error;
+use crate::scalar::Scalar;
+use crate::shapes::{are_bytes, lone_in, text_in, two_in, wrapped};
+use bson_scalar::db_pointer::DbPointer;
+use bson_scalar::oid::{self, ObjectId};
+use serde_json::{Map, Value};
+use std::alloc::{AllocError, Global};
+
+const POINTER_SHAPE: &str = "`$dbPointer` holds `$ref`, a text, and `$id`, an object of `$oid`";
+
+/// The object id of a text, or `InvalidObjectId` with the fault that the text has.
+pub fn id_of(alloc: Global, text: &str) -> Result<ObjectId, Error>
+    ensures { Gives (λ id. id) result (id_of text.now) }
+{
+    match ObjectId::parse_str(alloc, text) {
+        Ok(id) => Ok(id),
+        Err(oid::Error::OutOfMemory) => Err(Error::OutOfMemory),
+        Err(fault) => Err(Error::InvalidObjectId(fault)),
+    }
+}
+
+/// What `$oid` holds, as an object id.
+pub fn read_oid(alloc: Global, value: Value) -> Result<Scalar, Error>
+    ensures { Gives scalar_view result (oid_read (view value)) }
+{
+    let text = text_in(value, "`$oid` holds the text of an object id")?;
+    Ok(Scalar::ObjectId(id_of(alloc, text.as_str())?))
+}
+
+/// What `$dbPointer` holds, as a pointer. The shape is tested first, so that the text of the
+/// object id is told as the fault only where it alone is wrong.
+pub fn read_pointer(alloc: Global, value: Value) -> Result<Scalar, Error>
+    ensures { Gives scalar_view result (pointer_read (view value)) }
+{
+    let (id, name) = two_in(value, "$id", "$ref", POINTER_SHAPE)?;
+    let namespace = text_in(name, POINTER_SHAPE)?;
+    let text = text_in(lone_in(id, "$oid", POINTER_SHAPE)?, POINTER_SHAPE)?;
+    let id = id_of(alloc, text.as_str())?;
+    Ok(Scalar::DbPointer(DbPointer::new(namespace, id)))
+}
+
+/// The tree of an object id, in both forms.
+pub fn write_oid(alloc: Global, id: ObjectId) -> Result<Value, AllocError>
+    ensures tree { IfOk result (λ t. view t ≡ oid_tree id) }
+    ensures ranged { OnOk result ((length id ≡ 12) × IsBytes id) }
+{
+    let bytes = id.bytes();
+    are_bytes(&bytes);
+    wrapped(alloc, "$oid", Value::String(id.to_hex(alloc)?))
+}
+
+/// The tree of a pointer, in both forms.
+pub fn write_pointer(alloc: Global, pointer: DbPointer) -> Result<Value, AllocError>
+    ensures tree { IfOk result (λ t. view t ≡ pointer_tree (namespace_of pointer) (pointer_id pointer)) }
+    ensures ranged { OnOk result ((length (pointer_id pointer) ≡ 12) × IsBytes (pointer_id pointer)) }
+{
+    let (namespace, id) = pointer.into_parts();
+    let mut members = Map::new(alloc);
+    serde_json::put(&mut members, alloc, "$ref", Value::String(namespace))?;
+    serde_json::put(&mut members, alloc, "$id", write_oid(alloc, id)?)?;
+    wrapped(alloc, "$dbPointer", Value::Object(members))
+}

@@ -1,0 +1,87 @@
+//! `$numberInt` and `$numberLong`: the text of a whole number. Read as `{"$numberInt": "+007"}`,
+//! written as `{"$numberInt": "7"}`, and in the relaxed form as the number 7.
+ghost use Rattle.std.specs.Prelude.{◌≡◌, IfOk};
+ghost use Rattle.serde_json.specs.View.{view};
+ghost use Rattle.bson_wrapper.specs.Faults.{Gives};
+ghost use Rattle.bson_wrapper.specs.Ints.{int32_tree, int64_tree};
+ghost use Rattle.bson_wrapper.specs.Reading.{int_of, int32_read, int64_read};
+ghost use Rattle.bson_wrapper.specs.Written.{int32_form, int64_form};
+ghost use Rattle.bson_wrapper.specs.View.{scalar_view};
+
+use crate::error::Error;
+use crate::form::Form;
+use crate::scalar::Scalar;
+use crate::shapes::{expected, text_in, wrapped};
+use serde_json::Value;
+use std::alloc::{AllocError, Global};
+
+const INT32_SHAPE: &str = "`$numberInt` holds the text of an i32";
+
+const INT64_SHAPE: &str = "`$numberLong` holds the text of an i64";
+
+/// The number of a text: a sign or none, and digits, whose number is an i32.
+pub fn int32_of(text: &str) -> Option<i32>
+    ensures { result ≡ int_of 31 text.now }
+{
+    text.parse::<i32>().ok()
+}
+
+/// The number of a text: a sign or none, and digits, whose number is an i64.
+pub fn int64_of(text: &str) -> Option<i64>
+    ensures { result ≡ int_of 63 text.now }
+{
+    text.parse::<i64>().ok()
+}
+
+/// What `$numberInt` holds, as an Int32.
+pub fn read_int32(value: Value) -> Result<Scalar, Error>
+    ensures { Gives scalar_view result (int32_read (view value)) }
+{
+    let text = text_in(value, INT32_SHAPE)?;
+    let number = expected(int32_of(text.as_str()), INT32_SHAPE)?;
+    Ok(Scalar::Int32(number))
+}
+
+/// What `$numberLong` holds, as an Int64.
+pub fn read_int64(value: Value) -> Result<Scalar, Error>
+    ensures { Gives scalar_view result (int64_read (view value)) }
+{
+    let text = text_in(value, INT64_SHAPE)?;
+    let number = expected(int64_of(text.as_str()), INT64_SHAPE)?;
+    Ok(Scalar::Int64(number))
+}
+
+fn wrapped_int32(alloc: Global, number: i32) -> Result<Value, AllocError>
+    ensures { IfOk result (λ t. view t ≡ int32_tree number) }
+{
+    let text = format!(in alloc; "{number}")?;
+    wrapped(alloc, "$numberInt", Value::String(text))
+}
+
+// The object that `$date` holds too.
+pub(crate) fn wrapped_int64(alloc: Global, number: i64) -> Result<Value, AllocError>
+    ensures { IfOk result (λ t. view t ≡ int64_tree number) }
+{
+    let text = format!(in alloc; "{number}")?;
+    wrapped(alloc, "$numberLong", Value::String(text))
+}
+
+/// The tree of an Int32: its text under `$numberInt`, or in the relaxed form the number.
+pub fn write_int32(alloc: Global, form: Form, number: i32) -> Result<Value, AllocError>
+    ensures { IfOk result (λ t. view t ≡ int32_form form number) }
+{
+    match form {
+        Form::Canonical => wrapped_int32(alloc, number),
+        Form::Relaxed => Ok(Value::from(number)),
+    }
+}
+
+/// The tree of an Int64: its text under `$numberLong`, or in the relaxed form the number.
+pub fn write_int64(alloc: Global, form: Form, number: i64) -> Result<Value, AllocError>
+    ensures { IfOk result (λ t. view t ≡ int64_form form number) }
+{
+    match form {
+        Form::Canonical => wrapped_int64(alloc, number),
+        Form::Relaxed => Ok(Value::from(number)),
+    }
+}

@@ -1,0 +1,31 @@
+//! The wrappers of MongoDB Extended JSON v2 that hold one scalar, and the scalars that JSON has a
+//! form for: each kind read from its tree and written in the canonical and the relaxed form. Lists,
+//! documents and code with a scope, which hold values, are the layer above.
+//!
+//! In reading order: `scalar` (a scalar value), `form` (the two forms), `wrapper` (the table of
+//! wrapper keys), `error` and `write_error`; `shapes` (a text, an object of one key or two); a
+//! module for the wrappers of each subject, `ints`, `doubles`, `decimals`, `texts`, `regexes`,
+//! `ids`, `timestamps`, `dates`, `binaries`, `lone`; `read` and `write` over all of them; `tokens`, which
+//! writes the same trees as text; `laws`.
+#![tactic(auto)]
+
+pub mod binaries;
+pub mod dates;
+pub mod decimals;
+pub mod doubles;
+pub mod error;
+pub mod form;
+pub mod ids;
+pub mod ints;
+pub mod laws;
+pub mod scalar;
+pub mod lone;
+pub mod read;
+pub mod regexes;
+pub mod shapes;
+pub mod texts;
+pub mod timestamps;
+pub mod tokens;
+pub mod wrapper;
+pub mod write;
+pub mod write_error;

@@ -1,0 +1,41 @@
+//! `$regularExpression`: two texts. Read as `{"pattern": "a", "options": "xi"}` under that key,
+//! and written with the options sorted by character.
+ghost use Rattle.std.specs.Prelude.{◌≡◌, IfOk, string_bytes};
+ghost use Rattle.serde_json.specs.View.{view};
+ghost use Rattle.bson_scalar.specs.Regex.{sorted_text};
+ghost use Rattle.bson_wrapper.specs.Faults.{Gives};
+ghost use Rattle.bson_wrapper.specs.Reading.{regex_read};
+ghost use Rattle.bson_wrapper.specs.Regexes.{regex_tree};
+ghost use Rattle.bson_wrapper.specs.View.{scalar_view};
+
+use crate::error::Error;
+use crate::scalar::Scalar;
+use crate::shapes::{text_in, two_in, wrapped};
+use bson_scalar::regex::{Regex, sorted};
+use serde_json::{Map, Value};
+use std::alloc::{AllocError, Global};
+
+const SHAPE: &str = "`$regularExpression` holds the texts `pattern` and `options`";
+
+/// What `$regularExpression` holds, as a regular expression with its options sorted.
+pub fn read_regex(alloc: Global, value: Value) -> Result<Scalar, Error>
+    ensures { Gives scalar_view result (regex_read (view value)) }
+{
+    let (options, pattern) = two_in(value, "options", "pattern", SHAPE)?;
+    let options = text_in(options, SHAPE)?;
+    let pattern = text_in(pattern, SHAPE)?;
+    let options = sorted(alloc, options.as_str())?;
+    Ok(Scalar::RegularExpression(Regex { pattern, options }))
+}
+
+/// The tree of a regular expression, in both forms, its options sorted.
+pub fn write_regex(alloc: Global, regex: Regex) -> Result<Value, AllocError>
+    ensures { IfOk result (λ t. view t ≡ regex_tree (string_bytes regex.pattern) (sorted_text (string_bytes regex.options))) }
+{
+    let Regex { pattern, options } = regex;
+    let ordered = sorted(alloc, options.as_str())?;
+    let mut members = Map::new(alloc);
+    serde_json::put(&mut members, alloc, "pattern", Value::String(pattern))?;
+    serde_json::put(&mut members, alloc, "options", Value::String(ordered))?;
+    wrapped(alloc, "$regularExpression", Value::Object(members))
+}

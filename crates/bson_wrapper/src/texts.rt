@@ -1,0 +1,41 @@
+//! `$symbol`, and `$code` alone: a text. Read and written as `{"$symbol": "s"}`, `{"$code": "s"}`.
+ghost use Rattle.std.specs.Prelude.{◌≡◌, IfOk, string_bytes};
+ghost use Rattle.serde_json.specs.View.{view};
+ghost use Rattle.bson_wrapper.specs.Faults.{Gives};
+ghost use Rattle.bson_wrapper.specs.Reading.{symbol_read, code_read};
+ghost use Rattle.bson_wrapper.specs.Texts.{symbol_tree, code_tree};
+ghost use Rattle.bson_wrapper.specs.View.{scalar_view};
+
+use crate::error::Error;
+use crate::scalar::Scalar;
+use crate::shapes::{text_in, wrapped};
+use serde_json::Value;
+use std::alloc::{AllocError, Global};
+
+/// What `$symbol` holds, as a symbol.
+pub fn read_symbol(value: Value) -> Result<Scalar, Error>
+    ensures { Gives scalar_view result (symbol_read (view value)) }
+{
+    Ok(Scalar::Symbol(text_in(value, "`$symbol` holds a text")?))
+}
+
+/// What `$code` holds where it stands alone, as code without a scope.
+pub fn read_code(value: Value) -> Result<Scalar, Error>
+    ensures { Gives scalar_view result (code_read (view value)) }
+{
+    Ok(Scalar::JavaScriptCode(text_in(value, "`$code` holds a text")?))
+}
+
+/// The tree of a symbol, in both forms.
+pub fn write_symbol(alloc: Global, text: String) -> Result<Value, AllocError>
+    ensures { IfOk result (λ t. view t ≡ symbol_tree (string_bytes text)) }
+{
+    wrapped(alloc, "$symbol", Value::String(text))
+}
+
+/// The tree of code without a scope, in both forms.
+pub fn write_code(alloc: Global, text: String) -> Result<Value, AllocError>
+    ensures { IfOk result (λ t. view t ≡ code_tree (string_bytes text)) }
+{
+    wrapped(alloc, "$code", Value::String(text))
+}
