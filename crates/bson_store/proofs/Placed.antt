@@ -94,32 +94,32 @@ module _ {V : Type 0} where
   place-at (q ∷ ps) zero p d e = let same : q ≡ p = cc in ap (λ b. cond b (Some 0) (option_map suc (position_of p.0 ps))) (ap (λ x. bytes_eq p.0 x.0) same ∙ own p.0)
   place-at (q ∷ ps) (suc i) p d e = ap (λ b. cond b (Some 0) (option_map suc (position_of p.0 ps))) (apart q.0 ps i p d.0 e) ∙ ap (option_map suc) (place-at ps i p d.1 e)
 
-raise_own : (i : ℕ) → index_before_removal (suc i) i ≡ i
-raise_own zero = refl
-raise_own (suc i) = ap suc (raise_own i)
+removal_own : (i : ℕ) → index_before_removal (suc i) i ≡ i
+removal_own zero = refl
+removal_own (suc i) = ap suc (removal_own i)
 
-raise_other : (i j : ℕ) → (j ≡ i → ⊥) → index_before_removal i j ≡ index_before_removal (suc i) j
-raise_other zero zero h = absurd (h refl)
-raise_other zero (suc j) h = refl
-raise_other (suc i) zero h = refl
-raise_other (suc i) (suc j) h = ap suc (raise_other i j (λ e. h (ap suc e)))
+removal_other : (i j : ℕ) → (j ≡ i → ⊥) → index_before_removal i j ≡ index_before_removal (suc i) j
+removal_other zero zero h = absurd (h refl)
+removal_other zero (suc j) h = refl
+removal_other (suc i) zero h = refl
+removal_other (suc i) (suc j) h = ap suc (removal_other i j (λ e. h (ap suc e)))
 
-raise_below : (n j : ℕ) → j < n → index_before_removal n j ≡ j
-raise_below zero j h = absurd (omega (arith, h))
-raise_below (suc n) zero h = refl
-raise_below (suc n) (suc j) h = ap suc (raise_below n j (omega (arith, h)))
+removal_below : (n j : ℕ) → j < n → index_before_removal n j ≡ j
+removal_below zero j h = absurd (omega (arith, h))
+removal_below (suc n) zero h = refl
+removal_below (suc n) (suc j) h = ap suc (removal_below n j (omega (arith, h)))
 
 others : (i : ℕ) (r : Option ℕ) → (r ≡ Some i → ⊥) → option_map (index_before_removal i) r ≡ option_map (index_before_removal (suc i)) r
 others i None h = refl
-others i (Some j) h = ap Some (raise_other i j (λ e. h (ap Some e)))
+others i (Some j) h = ap Some (removal_other i j (λ e. h (ap Some e)))
 
 lower_step : (b : Bool) (i : ℕ) (r : Option ℕ) → (b ≡ true → r ≡ Some i) → (r ≡ Some i → b ≡ true) → cond b (Some i) (option_map (index_before_removal i) r) ≡ option_map (index_before_removal (suc i)) r
-lower_step true i r h f = ap Some (sym (raise_own i)) ∙ ap (option_map (index_before_removal (suc i))) (sym (h refl))
+lower_step true i r h f = ap Some (sym (removal_own i)) ∙ ap (option_map (index_before_removal (suc i))) (sym (h refl))
 lower_step false i r h f = others i r (λ e. true≢false (sym (f e)))
 
 within_all : (n : ℕ) (r : Option ℕ) → ((i : ℕ) → r ≡ Some i → i < n) → option_map (index_before_removal n) r ≡ r
 within_all n None h = refl
-within_all n (Some j) h = ap Some (raise_below n j (h j refl))
+within_all n (Some j) h = ap Some (removal_below n j (h j refl))
 
 module _ {V : Type 0} where
   pub lower-one : (ps : List (List ℕ × V)) (i : ℕ) (p : List ℕ × V) → HasDistinctKeys ps → slice_get ps i ≡ Some p → (k : List ℕ)

@@ -82,7 +82,7 @@ pub(crate) fn place_next<V>(
 fn lower<V>(places: &mut BTreeMap<String, usize>, pairs: &Vec<Pair<V>>, at: usize)
     requires distinct { HasDistinctKeys (seen pairs.now.items) }
     requires raised { (k : List ℕ) → get_by_text places.old k
-        ≡ option_map (index_before_removal at) (place_of k (seen pairs.now.items)) }
+        ≡ option_map (index_before_removal at) (position_of k (seen pairs.now.items)) }
     ensures { HasPlaces places.new (seen pairs.now.items) }
 {
     for i in at..pairs.len() {
