@@ -17,12 +17,12 @@ Member = String Global × Bson
 abbrev pub by_bytes : List Member → List (List ℕ × Bson)
 by_bytes ms = map (λ m. (string_bytes m.0, m.1)) ms
 
-abbrev pub seen : List Member → Pairs
-seen ms = pairs_view (by_bytes ms)
+abbrev pub gathered_pairs : List Member → Pairs
+gathered_pairs ms = pairs_view (by_bytes ms)
 
 abbrev pub gathered : Gathered → Pairs
-gathered (Few v) = seen v.items
-gathered (Many m) = seen m.entries
+gathered (Few v) = gathered_pairs v.items
+gathered (Many m) = gathered_pairs m.entries
 
 -- the key stands at the place, and is above all before it
 abbrev pub StandsAt : List ℕ → List Member → ℕ → Type 0

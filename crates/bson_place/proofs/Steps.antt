@@ -70,13 +70,13 @@ carried {A} {B} p q t f way error is = record {
 }
 
 -- the same place, seen from further out
-seen : {A B : Fault → List Turn → Type 0} (p : Place) → ((f : Fault) (way : List Turn) → A f way → B f way) → IsPlace A p → IsPlace B p
-seen p f is = record { fault = is.fault; way = f is.fault (way_of p) is.way; error = is.error }
+with_place : {A B : Fault → List Turn → Type 0} (p : Place) → ((f : Fault) (way : List Turn) → A f way → B f way) → IsPlace A p → IsPlace B p
+with_place p f is = record { fault = is.fault; way = f is.fault (way_of p) is.way; error = is.error }
 
 pub found_from : {V W : Type 0} {A B : Fault → List Turn → Type 0} (r : Result (Option Place) AllocError) → (V → W) → ((f : Fault) (way : List Turn) → A f way → B f way)
     → IfOk r (λ found. MatchOption found V (IsPlace A)) → IfOk r (λ found. MatchOption found W (IsPlace B))
 found_from (Ok None) v f h = v h
-found_from (Ok (Some p)) v f h = seen p f h
+found_from (Ok (Some p)) v f h = with_place p f h
 found_from (Err e) v f h = tt
 
 -- ---- the elements of a list

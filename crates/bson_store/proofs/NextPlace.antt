@@ -32,8 +32,8 @@ start_for (Some a) = Excluded a
 abbrev pub bytes_of : Option (Bor Text) → Option (List ℕ)
 bytes_of last = option_map (λ s. string_bytes s.now) last
 
-abbrev seen : Option (Bor Text) → Bound Text
-seen last = bound_map (λ x. x.now) (start_for last)
+abbrev bound_text : Option (Bor Text) → Bound Text
+bound_text last = bound_map (λ x. x.now) (start_for last)
 
 less_of : (r : Ordering) → is_lt r ≡ true → r ≡ Less
 less_of Less e = refl
@@ -45,11 +45,11 @@ equal_of Less e = cc
 equal_of Equal e = refl
 equal_of Greater e = cc
 
-inside : (last : Option (Bor Text)) (q : Text) → is_above (bytes_of last) (string_bytes q) ≡ true → IsFromStart string_cmp (seen last) q
+inside : (last : Option (Bor Text)) (q : Text) → is_above (bytes_of last) (string_bytes q) ≡ true → IsFromStart string_cmp (bound_text last) q
 inside None q a = tt
 inside (Some x) q a = less_of _ a
 
-above : (last : Option (Bor Text)) (q : Text) → IsFromStart string_cmp (seen last) q → is_above (bytes_of last) (string_bytes q) ≡ true
+above : (last : Option (Bor Text)) (q : Text) → IsFromStart string_cmp (bound_text last) q → is_above (bytes_of last) (string_bytes q) ≡ true
 above None q i = refl
 above (Some x) q i = ap is_lt i
 
@@ -69,14 +69,14 @@ some_there : (o : Option ℕ) (x : ℕ) → o ≡ Some x → IsSome o
 some_there None x e = cc
 some_there (Some y) x e = search rules
 
-pub none_next : (m : Places) (last : Option (Bor Text)) (r : List (Text × ℕ)) → IsRangeOf string_cmp (seen last) Unbounded m r → r ≡ [] → IsNext m (bytes_of last) None
+pub none_next : (m : Places) (last : Option (Bor Text)) (r : List (Text × ℕ)) → IsRangeOf string_cmp (bound_text last) Unbounded m r → r ≡ [] → IsNext m (bytes_of last) None
 none_next m last r is empty q a = go (get_by_text m q) refl
   where
     go : (o : Option ℕ) → get_by_text m q ≡ o → get_by_text m q ≡ None
     go None e = e
     go (Some x) e = let k = text_key m q x e in ap (get_by_text m) k.1 ∙ is.5 empty k.0 (inside last k.0 (subst (λ y. is_above (bytes_of last) y ≡ true) k.1 a), tt)
 
-pub some_next : (m : Places) (last : Option (Bor Text)) (e : Text × ℕ) (t : List (Text × ℕ)) → IsRangeOf string_cmp (seen last) Unbounded m (e ∷ t) → IsNext m (bytes_of last) (Some e.1)
+pub some_next : (m : Places) (last : Option (Bor Text)) (e : Text × ℕ) (t : List (Text × ℕ)) → IsRangeOf string_cmp (bound_text last) Unbounded m (e ∷ t) → IsNext m (bytes_of last) (Some e.1)
 some_next m last e t is = (string_bytes e.0, above last e.0 is.1.0.0, is.1.1, λ q a l. go q a l (get_by_text m q) refl)
   where
     go : (q : List ℕ) → is_above (bytes_of last) q ≡ true → key_cmp q (string_bytes e.0) ≡ Less → (o : Option ℕ) → get_by_text m q ≡ o → get_by_text m q ≡ None

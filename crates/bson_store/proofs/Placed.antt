@@ -8,7 +8,7 @@ use Rattle.std.specs.Str.{bytes_eq}
 use Rattle.std.proofs.lemmas.Slice.Eq.{bytes_eq-Decides}
 use Rattle.bson_store.specs.declared.small.Pair.{Pair}
 use Rattle.bson_store.specs.Pairs.{keys, values, position_of, with_value, HasDistinctKeys}
-use Rattle.bson_store.specs.Small.{Index, seen, IsPlaced, IsIndexed}
+use Rattle.bson_store.specs.Small.{Index, stored_pairs, IsPlaced, IsIndexed}
 use Rattle.std.proofs.lemmas.Option.{slice_get-map, slice_get-get_or}
 use Rattle.bson_store.specs.Removal.{index_before_removal}
 use Rattle.bson_store.proofs.Distinct.{apart, absent-before, take-next}
@@ -136,19 +136,19 @@ module _ {V : Type 0} where
   pub lowered_all : (ps : List (List ℕ × V)) (n : ℕ) → length ps ≤ n → (k : List ℕ) → option_map (index_before_removal n) (position_of k ps) ≡ position_of k ps
   lowered_all ps n le k = within_all n (position_of k ps) (λ i e. omega (arith, le, place-within k ps i e))
 
-  -- the list seen
-  seen-at : (ps : List (Pair V)) (i : ℕ) (p : Pair V) → slice_get ps i ≡ Some p → slice_get (seen ps) i ≡ Some (string_bytes p.key, p.value)
+  -- the list as it is seen
+  seen-at : (ps : List (Pair V)) (i : ℕ) (p : Pair V) → slice_get ps i ≡ Some p → slice_get (stored_pairs ps) i ≡ Some (string_bytes p.key, p.value)
   seen-at [] i p e = cc
   seen-at (q ∷ ps) zero p e = let one : q ≡ p = cc in ap (λ x. Some (string_bytes x.key, x.value)) one
   seen-at (q ∷ ps) (suc i) p e = seen-at ps i p e
 
-  pub seen-remove : (ps : List (Pair V)) (i : ℕ) → seen (remove ps i) ≡ remove (seen ps) i
+  pub seen-remove : (ps : List (Pair V)) (i : ℕ) → stored_pairs (remove ps i) ≡ remove (stored_pairs ps) i
   seen-remove [] zero = refl
   seen-remove [] (suc i) = refl
   seen-remove (q ∷ ps) zero = refl
   seen-remove (q ∷ ps) (suc i) = ap (λ l. (string_bytes q.key, q.value) ∷ l) (seen-remove ps i)
 
-  pub length-seen : (ps : List (Pair V)) → length (seen ps) ≡ length ps
+  pub length-seen : (ps : List (Pair V)) → length (stored_pairs ps) ≡ length ps
   length-seen ps = length-map ps (λ p. (string_bytes p.key, p.value))
 
   -- a value written
@@ -168,7 +168,7 @@ module _ {V : Type 0} where
   length-with_value (p ∷ ps) (suc i) w = ap suc (length-with_value ps i w)
 
   -- the pair at a place of the fields is the value's
-  pub there : (ps : List (Pair V)) (qs : List (List ℕ × V)) (i : ℕ) (p : Pair V) → seen ps ≡ qs → i < length qs → p ≡ get_or ps i p → slice_get qs i ≡ Some (string_bytes p.key, p.value)
+  pub there : (ps : List (Pair V)) (qs : List (List ℕ × V)) (i : ℕ) (p : Pair V) → stored_pairs ps ≡ qs → i < length qs → p ≡ get_or ps i p → slice_get qs i ≡ Some (string_bytes p.key, p.value)
   there ps qs i p e l h =
       let within : i < length ps = omega (arith, l, ap length e, length-seen ps) in
       ap (λ r. slice_get r i) (sym e) ∙ seen-at ps i p (slice_get-get_or ps i p within ∙ ap Some (sym h))
@@ -179,9 +179,9 @@ module _ {V : Type 0} where
   pub value-there : (qs : List (List ℕ × V)) (i : ℕ) (p : List ℕ × V) → slice_get qs i ≡ Some p → Some p.1 ≡ slice_get (values qs) i
   value-there qs i p e = sym (slice_get-map (λ x. x.1) qs i ∙ ap (option_map (λ x. x.1)) e)
 
-  seen-set : (ps : List (Pair V)) (i : ℕ) (p : Pair V) (w : V) → i < length ps → p ≡ get_or ps i p → seen (set ps i (record { key = p.key; value = w })) ≡ with_value (seen ps) i w
+  seen-set : (ps : List (Pair V)) (i : ℕ) (p : Pair V) (w : V) → i < length ps → p ≡ get_or ps i p → stored_pairs (set ps i (record { key = p.key; value = w })) ≡ with_value (stored_pairs ps) i w
   seen-set [] i p w l h = refl
-  seen-set (q ∷ ps) zero p w l h = ap (λ x. (string_bytes x.key, w) ∷ seen ps) h
+  seen-set (q ∷ ps) zero p w l h = ap (λ x. (string_bytes x.key, w) ∷ stored_pairs ps) h
   seen-set (q ∷ ps) (suc i) p w l h = ap (λ r. (string_bytes q.key, q.value) ∷ r) (seen-set ps i p w (omega (arith, l)) h)
 
   placed-with : (ps : List (List ℕ × V)) (o : Index) (i : ℕ) (w : V) → IsPlaced ps o → IsPlaced (with_value ps i w) o
@@ -192,10 +192,10 @@ module _ {V : Type 0} where
   indexed-with ps o i w h = (subst (IsDistinct bytes_eq) (sym (keys-with_value ps i w)) h.0, placed-with ps o i w h.1)
 
   -- a value written at a place of the fields
-  pub written : (ps : List (Pair V)) (qs : List (List ℕ × V)) (i : ℕ) (p : Pair V) (w : V) → seen ps ≡ qs → i < length qs → p ≡ get_or ps i p → seen (set ps i (record { key = p.key; value = w })) ≡ with_value qs i w
+  pub written : (ps : List (Pair V)) (qs : List (List ℕ × V)) (i : ℕ) (p : Pair V) (w : V) → stored_pairs ps ≡ qs → i < length qs → p ≡ get_or ps i p → stored_pairs (set ps i (record { key = p.key; value = w })) ≡ with_value qs i w
   written ps qs i p w e l h = seen-set ps i p w (omega (arith, l, ap length e, length-seen ps)) h ∙ ap (λ r. with_value r i w) e
 
-  pub indexed-written : (ps : List (Pair V)) (qs : List (List ℕ × V)) (o : Index) (i : ℕ) (p : Pair V) (w : V) → seen ps ≡ qs → i < length qs → p ≡ get_or ps i p → IsIndexed (seen ps) o → IsIndexed (seen (set ps i (record { key = p.key; value = w }))) o
+  pub indexed-written : (ps : List (Pair V)) (qs : List (List ℕ × V)) (o : Index) (i : ℕ) (p : Pair V) (w : V) → stored_pairs ps ≡ qs → i < length qs → p ≡ get_or ps i p → IsIndexed (stored_pairs ps) o → IsIndexed (stored_pairs (set ps i (record { key = p.key; value = w }))) o
   indexed-written ps qs o i p w e l h is = subst (λ r. IsIndexed r o) (sym (written ps qs i p w e l h)) (indexed-with qs o i w (subst (λ r. IsIndexed r o) e is))
 
   -- a walk

@@ -15,8 +15,8 @@ Index = Option (Box Places Global)
 
 module _ {V : Type 0} where
   -- the pairs, each by its key's bytes and its value
-  abbrev pub seen : List (Pair V) → List (List ℕ × V)
-  seen ps = map (λ p. (string_bytes p.key, p.value)) ps
+  abbrev pub stored_pairs : List (Pair V) → List (List ℕ × V)
+  stored_pairs ps = map (λ p. (string_bytes p.key, p.value)) ps
 
   -- the map has each key at its place, and no other
   abbrev pub HasPlaces : Places → List (List ℕ × V) → Type 0

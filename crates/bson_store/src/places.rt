@@ -4,7 +4,7 @@ ghost use Rattle.std.specs.Str.{bytes_eq};
 ghost use Rattle.std.specs.Map.{update};
 ghost use Rattle.std.specs.BTreeMap.{get_by_text};
 ghost use Rattle.bson_store.specs.Pairs.{position_of, HasDistinctKeys};
-ghost use Rattle.bson_store.specs.Small.{seen, HasPlaces, IsIndexed};
+ghost use Rattle.bson_store.specs.Small.{stored_pairs, HasPlaces, IsIndexed};
 ghost use Rattle.bson_store.specs.Removal.{index_before_removal};
 
 use crate::small::Pair;
@@ -16,7 +16,7 @@ const FEW: usize = 8;
 
 // The place of the key, by a walk.
 pub(crate) fn find_in<V>(pairs: &Vec<Pair<V>>, key: &str) -> Option<usize>
-    ensures { result ≡ position_of key.now (seen pairs.now.items) }
+    ensures { result ≡ position_of key.now (stored_pairs pairs.now.items) }
 {
     for i in 0..pairs.len() {
         if key == pairs[i].key.as_str() {
@@ -44,9 +44,9 @@ fn index_all<V>(
     pairs: &Vec<Pair<V>>,
     key: &String,
 ) -> Result<BTreeMap<String, usize>, AllocError>
-    requires distinct { HasDistinctKeys (seen pairs.now.items) }
-    requires absent { position_of (string_bytes key.now) (seen pairs.now.items) ≡ None }
-    ensures { IfOk result (λ m. (v : V) → HasPlaces m (seen pairs.now.items ++ (string_bytes key.now, v) ∷ [])) }
+    requires distinct { HasDistinctKeys (stored_pairs pairs.now.items) }
+    requires absent { position_of (string_bytes key.now) (stored_pairs pairs.now.items) ≡ None }
+    ensures { IfOk result (λ m. (v : V) → HasPlaces m (stored_pairs pairs.now.items ++ (string_bytes key.now, v) ∷ [])) }
 {
     let mut places = BTreeMap::new(alloc);
     for i in 0..pairs.len() {
@@ -63,10 +63,10 @@ pub(crate) fn place_next<V>(
     pairs: &Vec<Pair<V>>,
     key: &String,
 ) -> Result<(), AllocError>
-    requires indexed { IsIndexed (seen pairs.now.items) places.old }
-    requires absent { position_of (string_bytes key.now) (seen pairs.now.items) ≡ None }
-    ensures ok { OnOk result ((v : V) → IsIndexed (seen pairs.now.items ++ (string_bytes key.now, v) ∷ []) places.new) }
-    ensures err { OnErr result (IsIndexed (seen pairs.now.items) places.new) }
+    requires indexed { IsIndexed (stored_pairs pairs.now.items) places.old }
+    requires absent { position_of (string_bytes key.now) (stored_pairs pairs.now.items) ≡ None }
+    ensures ok { OnOk result ((v : V) → IsIndexed (stored_pairs pairs.now.items ++ (string_bytes key.now, v) ∷ []) places.new) }
+    ensures err { OnErr result (IsIndexed (stored_pairs pairs.now.items) places.new) }
 {
     if let Some(map) = places {
         return add(map, key, pairs.len());
@@ -80,10 +80,10 @@ pub(crate) fn place_next<V>(
 
 // Lowers by one each place behind the one that was left.
 fn lower<V>(places: &mut BTreeMap<String, usize>, pairs: &Vec<Pair<V>>, at: usize)
-    requires distinct { HasDistinctKeys (seen pairs.now.items) }
+    requires distinct { HasDistinctKeys (stored_pairs pairs.now.items) }
     requires raised { (k : List ℕ) → get_by_text places.old k
-        ≡ option_map (index_before_removal at) (position_of k (seen pairs.now.items)) }
-    ensures { HasPlaces places.new (seen pairs.now.items) }
+        ≡ option_map (index_before_removal at) (position_of k (stored_pairs pairs.now.items)) }
+    ensures { HasPlaces places.new (stored_pairs pairs.now.items) }
 {
     for i in at..pairs.len() {
         match places.get_mut(pairs[i].key.as_str()) {
@@ -101,8 +101,8 @@ pub(crate) fn take_place<V>(
     at: usize,
 )
     requires { (ps : List (List ℕ × V)) × (v : V) × (slice_get ps at ≡ Some (key.now, v))
-        × (seen pairs.now.items ≡ remove ps at) × IsIndexed ps places.old }
-    ensures { IsIndexed (seen pairs.now.items) places.new }
+        × (stored_pairs pairs.now.items ≡ remove ps at) × IsIndexed ps places.old }
+    ensures { IsIndexed (stored_pairs pairs.now.items) places.new }
 {
     if pairs.len() <= FEW {
         *places = None;

@@ -40,15 +40,15 @@ pub struct SmallPairs<V> {
 impl<V> Model for SmallPairs<V> {
     ghost use Rattle.std.specs.Prelude.{ℕ, List};
     ghost use Rattle.bson_store.specs.Pairs.{pairs_code};
-    ghost use Rattle.bson_store.specs.Small.{seen, IsIndexed};
+    ghost use Rattle.bson_store.specs.Small.{stored_pairs, IsIndexed};
 
     ghost Value = { List (List ℕ × V) };
 
     ghost coded = { pairs_code V.code };
 
-    ghost view = { λ a. seen a.pairs.items };
+    ghost view = { λ a. stored_pairs a.pairs.items };
 
-    ghost invariant = { λ a. IsIndexed (seen a.pairs.items) a.places };
+    ghost invariant = { λ a. IsIndexed (stored_pairs a.pairs.items) a.places };
 }
 
 impl<V: Drop> Drop for SmallPairs<V> {

@@ -1,7 +1,7 @@
 //! The pairs of a small store, by value.
 ghost use Rattle.std.specs.Prelude.{◌≡◌};
 ghost use Rattle.std.specs.Vec.Iter.{into_iter_items};
-ghost use Rattle.bson_store.specs.Small.{seen};
+ghost use Rattle.bson_store.specs.Small.{stored_pairs};
 
 use crate::small::Pair;
 use std::marker::Model;
@@ -25,18 +25,18 @@ impl<V> Model for IntoIter<V> {
     ghost use Rattle.std.specs.Prelude.{ℕ, List};
     ghost use Rattle.std.specs.Vec.Iter.{into_iter_items};
     ghost use Rattle.bson_store.specs.Pairs.{pairs_code};
-    ghost use Rattle.bson_store.specs.Small.{seen};
+    ghost use Rattle.bson_store.specs.Small.{stored_pairs};
 
     ghost Value = { List (List ℕ × V) };
 
     ghost coded = { pairs_code V.code };
 
-    ghost view = { λ a. seen (into_iter_items a.pairs) };
+    ghost view = { λ a. stored_pairs (into_iter_items a.pairs) };
 }
 
 impl<V> IntoIter<V> {
     pub(crate) fn new(pairs: vec::IntoIter<Pair<V>>) -> IntoIter<V>
-        ensures { result ≡ seen (into_iter_items pairs) }
+        ensures { result ≡ stored_pairs (into_iter_items pairs) }
     {
         IntoIter { pairs }
     }

@@ -3,7 +3,7 @@ ghost use Rattle.std.specs.Prelude.{◌≡◌, IfOk, OnOk, IsTrue, MatchResult, 
 ghost use Rattle.bson_model.specs.Sorted.{put_pair, KeysAscend};
 ghost use Rattle.bson_model.specs.Value.{no_pairs};
 ghost use Rattle.bson.specs.View.{bson_view, document_view};
-ghost use Rattle.bson.specs.Gathered.{seen, gathered, StandsAt, FitsAt};
+ghost use Rattle.bson.specs.Gathered.{gathered_pairs, gathered, StandsAt, FitsAt};
 
 use crate::bson::Bson;
 use crate::document::Document;
@@ -65,9 +65,9 @@ fn put_few(
     key: String,
     value: Bson,
 ) -> Result<Gathered, Unread>
-    requires { KeysAscend (seen members.items) }
+    requires { KeysAscend (gathered_pairs members.items) }
     ensures { IfOk result
-        (λ now. gathered now ≡ put_pair (string_bytes key) (bson_view value) (seen members.items)) }
+        (λ now. gathered now ≡ put_pair (string_bytes key) (bson_view value) (gathered_pairs members.items)) }
 {
     match place_of(&members, key.as_str()) {
         Ok(at) => {
@@ -90,7 +90,7 @@ fn put_many(
     value: Bson,
 ) -> Result<Gathered, Unread>
     ensures { IfOk result
-        (λ now. gathered now ≡ put_pair (string_bytes key) (bson_view value) (seen members.entries)) }
+        (λ now. gathered now ≡ put_pair (string_bytes key) (bson_view value) (gathered_pairs members.entries)) }
 {
     enter(&mut members, key, value)?;
     Ok(Gathered::Many(members))
@@ -98,7 +98,7 @@ fn put_many(
 
 // The place of the key, or that at which it would stand; by a walk from the end, since most keys ascend.
 fn place_of(found: &Vec<(String, Bson)>, key: &str) -> Result<usize, usize>
-    requires { KeysAscend (seen found.now.items) }
+    requires { KeysAscend (gathered_pairs found.now.items) }
     ensures { MatchResult result (λ at. StandsAt key.now found.now.items at) (λ at. FitsAt key.now found.now.items at) }
 {
     let mut at = found.len();
@@ -114,8 +114,8 @@ fn place_of(found: &Vec<(String, Bson)>, key: &str) -> Result<usize, usize>
 
 // The same members in an ordered map.
 fn map_of(alloc: Global, members: Vec<(String, Bson)>) -> Result<BTreeMap<String, Bson>, Unread>
-    requires { KeysAscend (seen members.items) }
-    ensures { IfOk result (λ map. seen map.entries ≡ seen members.items) }
+    requires { KeysAscend (gathered_pairs members.items) }
+    ensures { IfOk result (λ map. gathered_pairs map.entries ≡ gathered_pairs members.items) }
 {
     let mut map = BTreeMap::new(alloc);
     'members: for (key, value) in members {
@@ -125,7 +125,7 @@ fn map_of(alloc: Global, members: Vec<(String, Bson)>) -> Result<BTreeMap<String
 }
 
 fn enter(map: &mut BTreeMap<String, Bson>, key: String, value: Bson) -> Result<(), Unread>
-    ensures { OnOk result (seen map.new.entries ≡ put_pair (string_bytes key) (bson_view value) (seen map.old.entries)) }
+    ensures { OnOk result (gathered_pairs map.new.entries ≡ put_pair (string_bytes key) (bson_view value) (gathered_pairs map.old.entries)) }
 {
     drop(map.insert(key, value)?);
     Ok(())
@@ -143,8 +143,8 @@ pub(crate) fn document_of(alloc: Global, found: Gathered) -> Result<Document, Un
 }
 
 fn of_few(alloc: Global, found: Vec<(String, Bson)>) -> Result<Document, Unread>
-    requires { KeysAscend (seen found.items) }
-    ensures { IfOk result (λ document. document_view document ≡ seen found.items) }
+    requires { KeysAscend (gathered_pairs found.items) }
+    ensures { IfOk result (λ document. document_view document ≡ gathered_pairs found.items) }
 {
     let mut pairs = SmallPairs::with_capacity(alloc, found.len())?;
     'members: for (key, value) in found {
@@ -157,8 +157,8 @@ fn of_few(alloc: Global, found: Vec<(String, Bson)>) -> Result<Document, Unread>
 }
 
 fn of_many(alloc: Global, found: BTreeMap<String, Bson>) -> Result<Document, Unread>
-    requires { KeysAscend (seen found.entries) }
-    ensures { IfOk result (λ document. document_view document ≡ seen found.entries) }
+    requires { KeysAscend (gathered_pairs found.entries) }
+    ensures { IfOk result (λ document. document_view document ≡ gathered_pairs found.entries) }
 {
     let mut pairs = SmallPairs::with_capacity(alloc, found.len())?;
     'members: for (key, value) in found {

@@ -1,13 +1,13 @@
 use Rattle.std.proofs.Common.{◌≡◌, ◌≤◌, [], ◌∷◌, ◌++◌, length, string_bytes, subst, sym, ap, ◌∙◌, arith}
 use Rattle.std.proofs.lemmas.List.{length-append}
 use Rattle.std.specs.BTreeMap.{get_by_text}
-use Rattle.bson_store.specs.Small.{seen, IsPlaced}
+use Rattle.bson_store.specs.Small.{stored_pairs, IsPlaced}
 use Rattle.bson_store.proofs.Placed.{length-seen, distinct-push, indexed-last, on_ok, none_if}
 use Rattle.bson_store.proofs.places.place_next.Goals as goal
 
 pub returns-in-Some-clause-ok : goal.returns-in-Some-clause-ok
 returns-in-Some-clause-ok g c =
-    let ps = seen c.args.pairs.now.items in
+    let ps = stored_pairs c.args.pairs.now.items in
     let k = string_bytes c.args.key.now in
     let old = subst (IsPlaced ps) c.in-Some.is c.requires.indexed.1 in
     let n : c.len.result ≡ length ps = omega (arith, c.len.ensures, c.args.pairs.now.ok.0, length-seen c.args.pairs.now.items) in
@@ -20,13 +20,13 @@ returns-in-Some-clause-ok g c =
 
 pub returns-in_ok-map-clause-ok : goal.returns-in_ok-map-clause-ok
 returns-in_ok-map-clause-ok g c = λ v.
-    let ps = seen c.args.pairs.now.items in
+    let ps = stored_pairs c.args.pairs.now.items in
     let k = string_bytes c.args.key.now in
     (distinct-push ps k v c.requires.indexed.0 c.requires.absent, (omega (arith, c.if-len-eq-FEW.true, c.len-2.ensures, c.args.pairs.now.ok.0, length-seen c.args.pairs.now.items, length-append ps ((k, v) ∷ [])), λ q. ap (λ m. get_by_text m q) c.in_ok-map.ensures.ok ∙ c.in_ok-index_all.ensures v q))
 
 pub returns-else-len-eq-FEW-clause-ok : goal.returns-else-len-eq-FEW-clause-ok
 returns-else-len-eq-FEW-clause-ok g c = λ v.
-    let ps = seen c.args.pairs.now.items in
+    let ps = stored_pairs c.args.pairs.now.items in
     let k = string_bytes c.args.key.now in
     let none = none_if c.args.places.now c.in_default.not-Some in
     let le : length ps ≤ 8 = subst (IsPlaced ps) none c.requires.indexed.1 in

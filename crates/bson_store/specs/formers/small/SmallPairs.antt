@@ -27,7 +27,7 @@ use Rattle.bson_store.specs.declared.small.SmallPairs.TheView.{view, invariant}
 use Rattle.bson_store.specs.contracts.small.SmallPairs as C
 use Rattle.bson_store.specs.contracts.small.SmallPairs.TheInside as I
 use Rattle.bson_store.specs.Pairs.{keys, position_of}
-use Rattle.bson_store.specs.Small.{Index, seen, IsPlaced, IsIndexed}
+use Rattle.bson_store.specs.Small.{Index, stored_pairs, IsPlaced, IsIndexed}
 use Rattle.bson_store.specs.formers.indexed.IndexedPairs as indexed
 
 abbrev pub on_value : {X Y : Type 0} → (X → Y) → List ℕ × X → List ℕ × Y
@@ -55,11 +55,11 @@ one = via (pair (const (String Global)) this) Pair (λ X p. (p.key, p.value)) (�
 abbrev fields : Former {0}
 fields = via (pair (vec.the_former one Global) (const Index)) Inside (λ X a. (a.pairs, a.places)) (λ X v. record { pairs = v.0; places = v.1 }) (λ X a. refl) (λ X v. refl)
 
-seen-map : {X Y : Type 0} (h : X → Y) (ps : List (Pair X)) → seen (map (one.map X Y h) ps) ≡ map (on_value h) (seen ps)
+seen-map : {X Y : Type 0} (h : X → Y) (ps : List (Pair X)) → stored_pairs (map (one.map X Y h) ps) ≡ map (on_value h) (stored_pairs ps)
 seen-map h [] = refl
 seen-map h (p ∷ ps) = ap (λ l. (string_bytes p.key, h p.value) ∷ l) (seen-map h ps)
 
-seen-held : (X : Type 0) (ps : List (Pair X)) → held (the_former this) X (seen ps) ≡ held (list one) X ps
+seen-held : (X : Type 0) (ps : List (Pair X)) → held (the_former this) X (stored_pairs ps) ≡ held (list one) X ps
 seen-held X [] = refl
 seen-held X (p ∷ ps) = λ i. (one_more (seen-held X ps i).0, (p.value, (seen-held X ps i).1))
 
@@ -88,11 +88,11 @@ module _ {X Y : Type 0} (h : X → Y) where
   placed-back ps None p = subst (λ n. n ≤ 8) (length-map ps (on_value h)) p
   placed-back ps (Some m) p = (subst (λ n. 8 < n) (length-map ps (on_value h)) p.0, λ k. p.1 k ∙ place-on h k ps)
 
-  indexed-on : (ps : List (Pair X)) (o : Index) → IsIndexed (seen ps) o → IsIndexed (seen (map (one.map X Y h) ps)) o
-  indexed-on ps o p = subst (λ qs. IsIndexed qs o) (sym (seen-map h ps)) (subst (λ ks. IsDistinct bytes_eq ks) (sym (keys-on h (seen ps))) p.0, placed-on (seen ps) o p.1)
+  indexed-on : (ps : List (Pair X)) (o : Index) → IsIndexed (stored_pairs ps) o → IsIndexed (stored_pairs (map (one.map X Y h) ps)) o
+  indexed-on ps o p = subst (λ qs. IsIndexed qs o) (sym (seen-map h ps)) (subst (λ ks. IsDistinct bytes_eq ks) (sym (keys-on h (stored_pairs ps))) p.0, placed-on (stored_pairs ps) o p.1)
 
-  indexed-back : (ps : List (Pair X)) (o : Index) → IsIndexed (seen (map (one.map X Y h) ps)) o → IsIndexed (seen ps) o
-  indexed-back ps o p = let q = subst (λ qs. IsIndexed qs o) (seen-map h ps) p in (subst (λ ks. IsDistinct bytes_eq ks) (keys-on h (seen ps)) q.0, placed-back (seen ps) o q.1)
+  indexed-back : (ps : List (Pair X)) (o : Index) → IsIndexed (stored_pairs (map (one.map X Y h) ps)) o → IsIndexed (stored_pairs ps) o
+  indexed-back ps o p = let q = subst (λ qs. IsIndexed qs o) (seen-map h ps) p in (subst (λ ks. IsDistinct bytes_eq ks) (keys-on h (stored_pairs ps)) q.0, placed-back (stored_pairs ps) o q.1)
 
 module _ (R S : RattleType) (h : R.Denot → S.Denot) where
   pair_places : Alike R S h → Alike (P.the_row R) (P.the_row S) (one.map R.Denot S.Denot h)
@@ -102,7 +102,7 @@ module _ (R S : RattleType) (h : R.Denot → S.Denot) where
   pub the_places : Alike R S h → Alike (C.the_row R) (C.the_row S) ((the_former this).map R.Denot S.Denot h)
   the_places a = view_places fields (the_former this) view (λ X Y k u. seen-map k u.pairs.items) (λ X u. seen-held X u.pairs.items)
       R.Denot S.Denot h (C.the_row R).coded (C.the_row S).coded
-      (invariant R.Denot) (invariant S.Denot) (λ u. IsIndexed-prop (seen u.pairs.items) u.places) (λ u. IsIndexed-prop (seen u.pairs.items) u.places)
+      (invariant R.Denot) (invariant S.Denot) (λ u. IsIndexed-prop (stored_pairs u.pairs.items) u.places) (λ u. IsIndexed-prop (stored_pairs u.pairs.items) u.places)
       (λ u. indexed-on h u.pairs.items u.places) (λ u. indexed-back h u.pairs.items u.places)
       (over (I.the_row R)) (over (I.the_row S))
       (struct_places (I.the_type R) (I.the_type S) (vec.mapped (one.map R.Denot S.Denot h), (λ n. n, tt)) _ (λ d. refl) refl

@@ -1,5 +1,5 @@
 use Rattle.std.proofs.Common.{◌∙◌, ap, subst, arith}
-use Rattle.bson.specs.Gathered.{seen, StandsAt, FitsAt}
+use Rattle.bson.specs.Gathered.{gathered_pairs, StandsAt, FitsAt}
 use Rattle.bson.proofs.Members.{stands_within, fits_within, seen_set, seen_insert}
 use Rattle.bson.proofs.extjson.text_reader.gathered.put_few.Goals as goal
 
@@ -17,5 +17,5 @@ returns-in-Ok c =
 pub returns-in_ok-insert-in-Err : goal.returns-in_ok-insert-in-Err
 returns-in_ok-insert-in-Err c =
     let ms = c.args.members.items in
-    ap seen c.in_ok-insert-in-Err.ensures.items
+    ap gathered_pairs c.in_ok-insert-in-Err.ensures.items
     ∙ seen_insert c.args.key c.args.value ms c.in-Err.at (subst (λ k. FitsAt k ms c.in-Err.at) c.as_str.ensures.value c.in-Err.ensures)
