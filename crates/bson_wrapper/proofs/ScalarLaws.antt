@@ -275,7 +275,7 @@ back f (db_pointer s id) t h r = rw (un_ok _ _ h) (rw (id_again id r.0 r.1) refl
 pub reads_back : (f : Form) (x : Scalar) (t : Data) → writes_scalar f x ≡ Ok t → ScalarInRange x → MeansScalar t (scalar_as_read f (normal_scalar x))
 reads_back f x t h r = scalar_from t _ (back f x t h r)
 
--- ---- what reads back idempotent
+-- ---- what reads back is read so again
 
 narrow_at : (b : Bool) (z : ℤ) → fits_bits 31 z ≡ b → scalar_as_read Relaxed (cond b (int32 z) (int64 z)) ≡ cond b (int32 z) (int64 z)
 narrow_at true z e = refl
@@ -298,7 +298,7 @@ narrow_number : (b : Bool) (z : ℤ) → writes_scalar Relaxed (cond b (int32 z)
 narrow_number true z = refl
 narrow_number false z = refl
 
-int64_written : (f : Form) (z : ℤ) → writes_scalar f (int64_again f z) ≡ Ok (int64_form f z)
+int64_written : (f : Form) (z : ℤ) → writes_scalar f (int64_as_read f z) ≡ Ok (int64_form f z)
 int64_written Canonical z = refl
 int64_written Relaxed z = narrow_number _ z
 
