@@ -281,12 +281,12 @@ narrow_at : (b : Bool) (z : ℤ) → fits_bits 31 z ≡ b → scalar_as_read Rel
 narrow_at true z e = refl
 narrow_at false z e = rw e refl
 
-int64_again : (f : Form) (z : ℤ) → scalar_as_read f (int64_as_read f z) ≡ int64_as_read f z
-int64_again Canonical z = refl
-int64_again Relaxed z = narrow_at _ z refl
+int64_twice : (f : Form) (z : ℤ) → scalar_as_read f (int64_as_read f z) ≡ int64_as_read f z
+int64_twice Canonical z = refl
+int64_twice Relaxed z = narrow_at _ z refl
 
 pub as_read_again : (f : Form) (x : Scalar) → scalar_as_read f (scalar_as_read f x) ≡ scalar_as_read f x
-as_read_again f (int64 z) = int64_again f z
+as_read_again f (int64 z) = int64_twice f z
 as_read_again f x = refl
 
 -- in the canonical form nothing is narrowed
