@@ -140,7 +140,7 @@ pub(crate) fn with_scope(code: String, scope: Document) -> Bson
 #[cycle(read)]
 fn read_scope(alloc: Global, scope: Value, code: String) -> Result<Bson, Error>
     ensures given { Gives bson_view result
-        (scoped (string_bytes code) (reads_scope (view scope))) }
+        (scope_value (string_bytes code) (reads_scope (view scope))) }
     ensures ranged { IfOk result (λ v. InRange (bson_view v)) }
 {
     match scope {
