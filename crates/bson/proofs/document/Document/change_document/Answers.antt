@@ -11,7 +11,7 @@ returns-in-Some-as_document_mut-clause-changed g c =
     let is : document_of c.in-Some.value.now ≡ Some inner.now = sym c.in-Some-as_document_mut.ensures.value in (
       inner.now,
       c.change.new.arg2,
-      ap (access_result document_of) there ∙ ap typed is,
+      ap (access_result document_of) there ∙ ap type_result is,
       record { displayed = inner; shows = refl; left = _; met = c.change.ensures; leaves = refl },
       refl,
     )
@@ -21,6 +21,6 @@ pub returns-in-None-as_document_mut-clause-refused : goal.returns-in-None-as_doc
 returns-in-None-as_document_mut-clause-refused g c =
     let there : get c.args.key.now c.args.self.now.pairs ≡ Some c.in-Some.value.now = sym c.in-Some.ensures.value in
     let other : document_of c.in-Some.value.now ≡ None = sym c.in-None-as_document_mut.ensures.value in (
-      ap (access_result document_of) there ∙ ap typed other,
+      ap (access_result document_of) there ∙ ap type_result other,
       put-same c.args.key.now c.args.self.now.pairs c.in-Some.value.now there,
     )

@@ -10,5 +10,5 @@ returns-in-None-kind_mut g c =
     let there : get c.args.key.now c.args.self.now.pairs ≡ Some c.in-Some.value.now = sym c.in-Some.ensures.value in
     let other : g.T.Kind.held c.in-Some.value.now ≡ None = sym c.in-None-kind_mut.ensures.value in (
       λ i. inr (record { pairs = put-same c.args.key.now c.args.self.now.pairs c.in-Some.value.now there i }),
-      sym (ap (access_result g.T.Kind.held) there ∙ ap typed other),
+      sym (ap (access_result g.T.Kind.held) there ∙ ap type_result other),
     )
