@@ -12,7 +12,7 @@ returns-in-Some-as_document_mut-clause-changed g c =
       inner.now,
       c.change.new.arg2,
       ap (access_result document_of) there ∙ ap type_result is,
-      record { displayed = inner; shows = refl; left = _; met = c.change.ensures; leaves = refl },
+      record { shown = inner; shows = refl; left = _; met = c.change.ensures; leaves = refl },
       refl,
     )
 
