@@ -211,8 +211,8 @@ no_scope_found k d e p is none h error way = rw is (at_once p error way (no_scop
 pub scope_found : (k : List ℕ) (ms : Members) (f : Fault) (way : List Turn) → FaultIn f ms way → IsScopeFault k (tree.object ms) f (way ++ key k ∷ [])
 scope_found k ms f way h = in_scope ms h
 
-pub scope_value : (ms : Members) → HasPairs ms → HasScope (tree.object ms)
-scope_value ms ps = (Some ps.0, ap (λ r. r >>= λ qs. Ok (Some qs)) ps.1)
+pub scope_of_map : (ms : Members) → HasPairs ms → HasScope (tree.object ms)
+scope_of_map ms ps = (Some ps.0, ap (λ r. r >>= λ qs. Ok (Some qs)) ps.1)
 
 pub inside_none : {V : Type 0} (P : Place → Type 0) (o : Option Place) → o ≡ None → MatchOption o V P → V
 inside_none P None e h = h
