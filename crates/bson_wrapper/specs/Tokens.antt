@@ -1,8 +1,8 @@
--- The tokens of trees, and what a function that writes them returns.
-use Rattle.std.specs.Prelude.{◌≡◌, List, ◌++◌, Result, Ok, Err}
-use Rattle.json.specs.Token.{Token}
+-- The tokens of trees, and what a function that writes a tree returns.
+use Rattle.std.specs.Prelude.{◌≡◌, ℕ, List, [], ◌∷◌, ◌++◌, Result, Ok, Err}
+use Rattle.json.specs.Token.{Token, key}
 use Rattle.json.specs.Tree.{json_tokens}
-use Rattle.serde_json.specs.Data.{Data}
+use Rattle.serde_json.specs.Data.{Data, Members, no_members, member}
 use Rattle.serde_json.specs.Written.{outline}
 use Rattle.bson_wrapper.specs.Written.{Refusal, Stops}
 use Rattle.bson_wrapper.specs.declared.write_error.WriteError.{WriteError}
@@ -11,8 +11,22 @@ use Rattle.bson_wrapper.specs.declared.write_error.WriteError.{WriteError}
 abbrev pub tokens_of : Data → List Token
 tokens_of t = json_tokens (outline t)
 
+-- the members with one more, last
+abbrev pub added : Members → List ℕ → Data → Members
+added no_members k d = member k d no_members
+added (member l e ms) k d = member l e (added ms k d)
+
+-- the tokens of each key and its tree in turn
+abbrev pub members_in_turn : Members → List Token
+members_in_turn no_members = []
+members_in_turn (member k d ms) = key k ∷ (tokens_of d ++ members_in_turn ms)
+
+-- What a function returned stands for the tree that writing gives, unless memory ran out.
+abbrev pub Sends : {Tree : Type 0} → (Data → Tree → Type 0) → Result Tree WriteError → Result Data Refusal → Type 0
+Sends wrote (Ok t) (Ok d) = wrote d t
+Sends wrote (Ok t) (Err e) = ⊥
+Sends wrote (Err e) written = Stops e written
+
 -- What a function returned is what writing gives, unless memory ran out: the tokens of the tree come after the old ones.
 abbrev pub Puts : Result (Unit {0}) WriteError → Result Data Refusal → List Token → List Token → Type 0
-Puts (Ok done) (Ok t) old new = new ≡ old ++ tokens_of t
-Puts (Ok done) (Err e) old new = ⊥
-Puts (Err e) written old new = Stops e written
+Puts r written old new = Sends (λ t done. new ≡ old ++ tokens_of t) r written

@@ -14,12 +14,14 @@ ghost use Rattle.bson_wrapper.specs.View.{scalar_view};
 
 use crate::error::Error;
 use crate::scalar::Scalar;
-use crate::shapes::{are_bytes, expected, text_in, two_in, wrapped};
+use crate::shapes::{are_bytes, expected, text_in, two_in};
+use crate::sink::Sink;
+use crate::wrapped::{begin, end_one, two_texts};
 use base64::engine::general_purpose::STANDARD;
 use bson_scalar::binary::{self, Binary};
 use bson_scalar::spec::BinarySubtype;
 use bson_scalar::uuid_value::Uuid;
-use serde_json::{Map, Value};
+use serde_json::Value;
 use std::alloc::{AllocError, Global};
 
 const BINARY_SHAPE: &str = "`$binary` holds the texts `base64` and `subType`";
@@ -91,7 +93,7 @@ pub fn read_uuid(alloc: Global, value: Value) -> Result<Scalar, Error>
     Ok(Scalar::Binary(Binary::from_uuid(alloc, id)?))
 }
 
-pub(crate) fn byte_text(alloc: Global, subtype: BinarySubtype) -> Result<String, AllocError>
+fn byte_text(alloc: Global, subtype: BinarySubtype) -> Result<String, AllocError>
     ensures text { IfOk result (λ s. string_bytes s ≡ encode_lower (subtype_byte subtype ∷ [])) }
     ensures ranged { OnOk result (subtype_byte subtype < 256) }
 {
@@ -99,17 +101,21 @@ pub(crate) fn byte_text(alloc: Global, subtype: BinarySubtype) -> Result<String,
     hex::encode(alloc, [byte])
 }
 
-/// The tree of a binary, in both forms.
-pub fn write_binary(alloc: Global, binary: Binary) -> Result<Value, AllocError>
-    ensures tree { IfOk result (λ t. view t ≡ binary_tree binary.subtype binary.bytes.items) }
-    ensures ranged { OnOk result ((subtype_byte binary.subtype < 256) × IsBytes binary.bytes.items) }
+/// Writes the tree of a binary, in both forms.
+pub fn write_binary<S: Sink>(
+    alloc: Global,
+    binary: &Binary,
+    out: &mut S,
+) -> Result<S::Tree, AllocError>
+    ensures written { IfOk result (λ t. S.wrote out.old
+        (binary_tree binary.now.subtype binary.now.bytes.items) t out.new) }
+    ensures before { S.before out.new ≡ S.before out.old }
+    ensures ranged { OnOk result ((subtype_byte binary.now.subtype < 256) × IsBytes binary.now.bytes.items) }
 {
-    let Binary { subtype, bytes } = binary;
-    are_bytes(bytes.as_slice());
-    let base64 = STANDARD.encode(alloc, bytes.as_slice())?;
-    let subtype = byte_text(alloc, subtype)?;
-    let mut members = Map::new(alloc);
-    serde_json::put(&mut members, alloc, "base64", Value::String(base64))?;
-    serde_json::put(&mut members, alloc, "subType", Value::String(subtype))?;
-    wrapped(alloc, "$binary", Value::Object(members))
+    are_bytes(binary.bytes.as_slice());
+    let base64 = STANDARD.encode(alloc, binary.bytes.as_slice())?;
+    let subtype = byte_text(alloc, binary.subtype)?;
+    let key = begin("$binary", out)?;
+    let texts = two_texts("base64", base64, "subType", subtype, out)?;
+    end_one(key, texts, out)
 }

@@ -1,7 +1,8 @@
 //! `$date`: a moment. Read as `{"$numberLong": "5"}`, as an RFC 3339 text or as a whole number of
 //! milliseconds since 1970-01-01T00:00:00Z under that key, and written as `$numberLong`, or in the
 //! relaxed form as an RFC 3339 text from 1970 to the end of the year 9999.
-ghost use Rattle.std.specs.Prelude.{◌≡◌, IfOk, codes, pos, ◌≤ℤ◌, string_bytes};
+ghost use Rattle.std.specs.Prelude.{◌≡◌, IfOk, OnOk, FitsSigned, codes, pos, ◌≤ℤ◌, string_bytes};
+ghost use Rattle.std.specs.Int.{w64};
 ghost use Rattle.serde_json.specs.View.{view};
 ghost use Rattle.bson_datetime.specs.Rfc3339.{denoted};
 ghost use Rattle.bson_datetime.specs.Displayed.{rfc};
@@ -13,9 +14,11 @@ ghost use Rattle.bson_wrapper.specs.View.{scalar_view};
 
 use crate::error::Error;
 use crate::form::Form;
-use crate::ints::{int64_of, wrapped_int64};
+use crate::ints::int64_of;
 use crate::scalar::Scalar;
-use crate::shapes::{expected, lone_in, text_in, wrapped};
+use crate::shapes::{expected, lone_in, text_in};
+use crate::sink::Sink;
+use crate::wrapped::{begin, end_one, wrapped_numeral, wrapped_owned};
 use bson_datetime::DateTime;
 use serde_json::Value;
 use std::alloc::{AllocError, Global};
@@ -23,7 +26,7 @@ use std::alloc::{AllocError, Global};
 const SHAPE: &str = "`$date` holds `$numberLong`, an RFC 3339 text or a whole number";
 
 // The last millisecond of the year 9999.
-pub(crate) const LAST_RELAXED: i64 = 253_402_300_799_999;
+const LAST_RELAXED: i64 = 253_402_300_799_999;
 
 fn denoted_by(text: &str) -> Option<DateTime>
     ensures { result ≡ denoted text.now }
@@ -57,14 +60,7 @@ pub fn read_date(value: Value) -> Result<Scalar, Error>
     Ok(Scalar::DateTime(DateTime::from_millis(millis)))
 }
 
-fn wrapped_date(alloc: Global, date: DateTime) -> Result<Value, AllocError>
-    ensures { IfOk result (λ t. view t ≡ date_tree date) }
-{
-    let millis = wrapped_int64(alloc, date.timestamp_millis())?;
-    wrapped(alloc, "$date", millis)
-}
-
-pub(crate) fn text(alloc: Global, date: DateTime) -> Result<String, AllocError>
+fn text(alloc: Global, date: DateTime) -> Result<String, AllocError>
     requires from { pos 0 ≤ℤ date }
     requires to { date ≤ℤ pos 253_402_300_799_999 }
     ensures { IfOk result (λ s. string_bytes s ≡ rfc date) }
@@ -76,23 +72,42 @@ pub(crate) fn text(alloc: Global, date: DateTime) -> Result<String, AllocError>
     }
 }
 
-fn relaxed_date(alloc: Global, date: DateTime) -> Result<Value, AllocError>
-    ensures { IfOk result (λ t. view t ≡ relaxed_date_tree date) }
+// The milliseconds, as canonical.
+fn write_millis<S: Sink>(date: DateTime, out: &mut S) -> Result<S::Tree, AllocError>
+    ensures written { IfOk result (λ t. S.wrote out.old (date_tree date) t out.new) }
+    ensures before { S.before out.new ≡ S.before out.old }
+{
+    let key = begin("$date", out)?;
+    let millis = wrapped_numeral("$numberLong", date.timestamp_millis(), out)?;
+    end_one(key, millis, out)
+}
+
+fn write_relaxed<S: Sink>(alloc: Global, date: DateTime, out: &mut S) -> Result<S::Tree, AllocError>
+    ensures written { IfOk result (λ t. S.wrote out.old (relaxed_date_tree date) t out.new) }
+    ensures before { S.before out.new ≡ S.before out.old }
 {
     let millis = date.timestamp_millis();
     if 0 <= millis && millis <= LAST_RELAXED {
-        wrapped(alloc, "$date", Value::String(text(alloc, date)?))
+        let readable = text(alloc, date)?;
+        wrapped_owned("$date", readable, out)
     } else {
-        wrapped_date(alloc, date)
+        write_millis(date, out)
     }
 }
 
-/// The tree of a moment in a form.
-pub fn write_date(alloc: Global, form: Form, date: DateTime) -> Result<Value, AllocError>
-    ensures { IfOk result (λ t. view t ≡ date_form form date) }
+/// Writes the tree of a moment in a form.
+pub fn write_date<S: Sink>(
+    alloc: Global,
+    form: Form,
+    date: DateTime,
+    out: &mut S,
+) -> Result<S::Tree, AllocError>
+    ensures written { IfOk result (λ t. S.wrote out.old (date_form form date) t out.new) }
+    ensures before { S.before out.new ≡ S.before out.old }
+    ensures ranged { OnOk result (FitsSigned w64 date) }
 {
     match form {
-        Form::Canonical => wrapped_date(alloc, date),
-        Form::Relaxed => relaxed_date(alloc, date),
+        Form::Canonical => write_millis(date, out),
+        Form::Relaxed => write_relaxed(alloc, date, out),
     }
 }

@@ -9,7 +9,9 @@ ghost use Rattle.bson_wrapper.specs.View.{scalar_view};
 
 use crate::error::Error;
 use crate::scalar::Scalar;
-use crate::shapes::{expected, text_in, wrapped};
+use crate::shapes::{expected, text_in};
+use crate::sink::Sink;
+use crate::wrapped::wrapped_owned;
 use bson_decimal::Decimal128;
 use serde_json::Value;
 use std::alloc::{AllocError, Global};
@@ -32,10 +34,15 @@ pub fn read_decimal(value: Value) -> Result<Scalar, Error>
     Ok(Scalar::Decimal128(decimal))
 }
 
-/// The tree of a decimal, in both forms.
-pub fn write_decimal(alloc: Global, decimal: Decimal128) -> Result<Value, AllocError>
-    ensures { IfOk result (λ t. view t ≡ decimal_tree decimal) }
+/// Writes the tree of a decimal, in both forms.
+pub fn write_decimal<S: Sink>(
+    alloc: Global,
+    decimal: Decimal128,
+    out: &mut S,
+) -> Result<S::Tree, AllocError>
+    ensures written { IfOk result (λ t. S.wrote out.old (decimal_tree decimal) t out.new) }
+    ensures before { S.before out.new ≡ S.before out.old }
 {
     let text = format!(in alloc; "{decimal}")?;
-    wrapped(alloc, "$numberDecimal", Value::String(text))
+    wrapped_owned("$numberDecimal", text, out)
 }

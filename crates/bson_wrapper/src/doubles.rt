@@ -5,15 +5,17 @@ ghost use Rattle.serde_json.specs.View.{view};
 ghost use Rattle.bson_wrapper.specs.Doubles as spec;
 ghost use Rattle.bson_wrapper.specs.Faults.{Gives};
 ghost use Rattle.bson_wrapper.specs.Reading.{double_read};
+ghost use Rattle.bson_wrapper.specs.Tokens.{Sends};
 ghost use Rattle.bson_wrapper.specs.View.{scalar_view};
-ghost use Rattle.bson_wrapper.specs.Written.{Writes, double_writes};
+ghost use Rattle.bson_wrapper.specs.Written.{double_writes};
 
 use crate::error::Error;
 use crate::scalar::Scalar;
-use crate::shapes::{expected, text_in, wrapped};
+use crate::shapes::{expected, text_in};
+use crate::sink::Sink;
+use crate::wrapped::wrapped_text;
 use crate::write_error::WriteError;
 use serde_json::Value;
-use std::alloc::Global;
 
 const SHAPE: &str = "`$numberDouble` holds `0.0`, `-0.0`, `Infinity`, `-Infinity`, `NaN` or `-NaN`";
 
@@ -47,7 +49,7 @@ pub fn read_double(value: Value) -> Result<Scalar, Error>
     Ok(Scalar::Double(pattern))
 }
 
-pub(crate) fn double_text(pattern: u64) -> Option<&'static str>
+fn double_text(pattern: u64) -> Option<&'static str>
     ensures { option_map (λ s. s.now) result ≡ spec.double_text pattern }
 {
     if pattern == 0 {
@@ -67,16 +69,14 @@ pub(crate) fn double_text(pattern: u64) -> Option<&'static str>
     }
 }
 
-/// The tree of a double, in both forms: a NaN as `NaN` or `-NaN` by its sign. A double that is
-/// finite and no zero has none, and is refused as `FiniteDouble`.
-pub fn write_double(alloc: Global, pattern: u64) -> Result<Value, WriteError>
-    ensures { Writes view result (double_writes pattern) }
+/// Writes the tree of a double, in both forms: a NaN as `NaN` or `-NaN` by its sign. A double that
+/// is finite and no zero has none, and is refused as `FiniteDouble`.
+pub fn write_double<S: Sink>(pattern: u64, out: &mut S) -> Result<S::Tree, WriteError>
+    ensures written { Sends (λ d t. S.wrote out.old d t out.new) result (double_writes pattern) }
+    ensures before { S.before out.new ≡ S.before out.old }
 {
     match double_text(pattern) {
-        Some(text) => {
-            let value = Value::try_from_str(alloc, text)?;
-            Ok(wrapped(alloc, "$numberDouble", value)?)
-        }
+        Some(text) => Ok(wrapped_text("$numberDouble", text, out)?),
         None => Err(WriteError::FiniteDouble),
     }
 }

@@ -1,21 +1,25 @@
 //! `$oid`: the text of an object id; and `$dbPointer`, which holds one. Read as
 //! `{"$oid": "53e37d08776f724e42000000"}` and `{"$ref": "a.b", "$id": {"$oid": ".."}}`, digits of
 //! either case, and written with lower-case ones.
-ghost use Rattle.std.specs.Prelude.{◌≡◌, IfOk, OnOk, length};
+ghost use Rattle.std.specs.Prelude.{◌≡◌, IfOk, OnOk, codes, string_bytes};
+ghost use Rattle.serde_json.specs.Data.{string};
 ghost use Rattle.serde_json.specs.View.{view};
-ghost use Rattle.hex.specs.Hex.{IsBytes};
 ghost use Rattle.bson_scalar.specs.DbPointer.{namespace_of, id_of as pointer_id};
+ghost use Rattle.bson_scalar.specs.Oid.{IsObjectId};
 ghost use Rattle.bson_wrapper.specs.Faults.{Gives};
 ghost use Rattle.bson_wrapper.specs.Ids.{oid_tree, pointer_tree};
 ghost use Rattle.bson_wrapper.specs.Reading.{id_of, oid_read, pointer_read};
+ghost use Rattle.bson_wrapper.specs.Shapes.{object_of_two};
 ghost use Rattle.bson_wrapper.specs.View.{scalar_view};
 
 use crate::error::Error;
 use crate::scalar::Scalar;
-use crate::shapes::{are_bytes, lone_in, text_in, two_in, wrapped};
+use crate::shapes::{lone_in, text_in, two_in};
+use crate::sink::Sink;
+use crate::wrapped::{begin, end_one, end_two, second, wrapped_owned};
 use bson_scalar::db_pointer::DbPointer;
 use bson_scalar::oid::{self, ObjectId};
-use serde_json::{Map, Value};
+use serde_json::Value;
 use std::alloc::{AllocError, Global};
 
 const POINTER_SHAPE: &str = "`$dbPointer` holds `$ref`, a text, and `$id`, an object of `$oid`";
@@ -51,24 +55,49 @@ pub fn read_pointer(alloc: Global, value: Value) -> Result<Scalar, Error>
     Ok(Scalar::DbPointer(DbPointer::new(namespace, id)))
 }
 
-/// The tree of an object id, in both forms.
-pub fn write_oid(alloc: Global, id: ObjectId) -> Result<Value, AllocError>
-    ensures tree { IfOk result (λ t. view t ≡ oid_tree id) }
-    ensures ranged { OnOk result ((length id ≡ 12) × IsBytes id) }
+/// Writes the tree of an object id, in both forms.
+pub fn write_oid<S: Sink>(alloc: Global, id: ObjectId, out: &mut S) -> Result<S::Tree, AllocError>
+    ensures written { IfOk result (λ t. S.wrote out.old (oid_tree id) t out.new) }
+    ensures before { S.before out.new ≡ S.before out.old }
+    ensures ranged { OnOk result (IsObjectId id) }
 {
-    let bytes = id.bytes();
-    are_bytes(&bytes);
-    wrapped(alloc, "$oid", Value::String(id.to_hex(alloc)?))
+    // What the type says of the bytes.
+    let _bytes = id.bytes();
+    wrapped_owned("$oid", id.to_hex(alloc)?, out)
 }
 
-/// The tree of a pointer, in both forms.
-pub fn write_pointer(alloc: Global, pointer: DbPointer) -> Result<Value, AllocError>
-    ensures tree { IfOk result (λ t. view t ≡ pointer_tree (namespace_of pointer) (pointer_id pointer)) }
-    ensures ranged { OnOk result ((length (pointer_id pointer) ≡ 12) × IsBytes (pointer_id pointer)) }
+// What `$dbPointer` holds.
+fn write_reference<S: Sink>(
+    alloc: Global,
+    namespace: String,
+    id: ObjectId,
+    out: &mut S,
+) -> Result<S::Tree, AllocError>
+    ensures written { IfOk result (λ t. S.wrote out.old
+        (object_of_two (codes "$id") (oid_tree id) (codes "$ref") (string (string_bytes namespace))) t out.new) }
+    ensures before { S.before out.new ≡ S.before out.old }
+    ensures ranged { OnOk result (IsObjectId id) }
+{
+    let key = begin("$id", out)?;
+    let id = write_oid(alloc, id, out)?;
+    let next = second(key, id, "$ref", out)?;
+    let namespace = out.owned_text(namespace)?;
+    end_two(next, namespace, out)
+}
+
+/// Writes the tree of a pointer, in both forms.
+pub fn write_pointer<S: Sink>(
+    alloc: Global,
+    pointer: DbPointer,
+    out: &mut S,
+) -> Result<S::Tree, AllocError>
+    ensures written { IfOk result (λ t. S.wrote out.old
+        (pointer_tree (namespace_of pointer) (pointer_id pointer)) t out.new) }
+    ensures before { S.before out.new ≡ S.before out.old }
+    ensures ranged { OnOk result (IsObjectId (pointer_id pointer)) }
 {
     let (namespace, id) = pointer.into_parts();
-    let mut members = Map::new(alloc);
-    serde_json::put(&mut members, alloc, "$ref", Value::String(namespace))?;
-    serde_json::put(&mut members, alloc, "$id", write_oid(alloc, id)?)?;
-    wrapped(alloc, "$dbPointer", Value::Object(members))
+    let key = begin("$dbPointer", out)?;
+    let reference = write_reference(alloc, namespace, id, out)?;
+    end_one(key, reference, out)
 }

@@ -3,7 +3,6 @@
 ghost use Rattle.std.specs.Prelude.{◌≡◌, IfOk};
 ghost use Rattle.serde_json.specs.View.{view};
 ghost use Rattle.bson_wrapper.specs.Faults.{Gives};
-ghost use Rattle.bson_wrapper.specs.Ints.{int32_tree, int64_tree};
 ghost use Rattle.bson_wrapper.specs.Reading.{int_of, int32_read, int64_read};
 ghost use Rattle.bson_wrapper.specs.Written.{int32_form, int64_form};
 ghost use Rattle.bson_wrapper.specs.View.{scalar_view};
@@ -11,9 +10,11 @@ ghost use Rattle.bson_wrapper.specs.View.{scalar_view};
 use crate::error::Error;
 use crate::form::Form;
 use crate::scalar::Scalar;
-use crate::shapes::{expected, text_in, wrapped};
+use crate::shapes::{expected, text_in};
+use crate::sink::Sink;
+use crate::wrapped::wrapped_numeral;
 use serde_json::Value;
-use std::alloc::{AllocError, Global};
+use std::alloc::AllocError;
 
 const INT32_SHAPE: &str = "`$numberInt` holds the text of an i32";
 
@@ -51,37 +52,24 @@ pub fn read_int64(value: Value) -> Result<Scalar, Error>
     Ok(Scalar::Int64(number))
 }
 
-fn wrapped_int32(alloc: Global, number: i32) -> Result<Value, AllocError>
-    ensures { IfOk result (λ t. view t ≡ int32_tree number) }
-{
-    let text = format!(in alloc; "{number}")?;
-    wrapped(alloc, "$numberInt", Value::String(text))
-}
-
-// The object that `$date` holds too.
-pub(crate) fn wrapped_int64(alloc: Global, number: i64) -> Result<Value, AllocError>
-    ensures { IfOk result (λ t. view t ≡ int64_tree number) }
-{
-    let text = format!(in alloc; "{number}")?;
-    wrapped(alloc, "$numberLong", Value::String(text))
-}
-
-/// The tree of an Int32: its text under `$numberInt`, or in the relaxed form the number.
-pub fn write_int32(alloc: Global, form: Form, number: i32) -> Result<Value, AllocError>
-    ensures { IfOk result (λ t. view t ≡ int32_form form number) }
+/// Writes the tree of an Int32: its text under `$numberInt`, or in the relaxed form the number.
+pub fn write_int32<S: Sink>(form: Form, number: i32, out: &mut S) -> Result<S::Tree, AllocError>
+    ensures written { IfOk result (λ t. S.wrote out.old (int32_form form number) t out.new) }
+    ensures before { S.before out.new ≡ S.before out.old }
 {
     match form {
-        Form::Canonical => wrapped_int32(alloc, number),
-        Form::Relaxed => Ok(Value::from(number)),
+        Form::Canonical => wrapped_numeral("$numberInt", number as i64, out),
+        Form::Relaxed => out.integer(number as i64),
     }
 }
 
-/// The tree of an Int64: its text under `$numberLong`, or in the relaxed form the number.
-pub fn write_int64(alloc: Global, form: Form, number: i64) -> Result<Value, AllocError>
-    ensures { IfOk result (λ t. view t ≡ int64_form form number) }
+/// Writes the tree of an Int64: its text under `$numberLong`, or in the relaxed form the number.
+pub fn write_int64<S: Sink>(form: Form, number: i64, out: &mut S) -> Result<S::Tree, AllocError>
+    ensures written { IfOk result (λ t. S.wrote out.old (int64_form form number) t out.new) }
+    ensures before { S.before out.new ≡ S.before out.old }
 {
     match form {
-        Form::Canonical => wrapped_int64(alloc, number),
-        Form::Relaxed => Ok(Value::from(number)),
+        Form::Canonical => wrapped_numeral("$numberLong", number, out),
+        Form::Relaxed => out.integer(number),
     }
 }

@@ -3,10 +3,10 @@
 //! documents and code with a scope, which hold values, are the layer above.
 //!
 //! In reading order: `scalar` (a scalar value), `form` (the two forms), `wrapper` (the table of
-//! wrapper keys), `error` and `write_error`; `shapes` (a text, an object of one key or two); a
+//! wrapper keys), `error` and `write_error`; `shapes` (a text, an object of one key or two), `sink`
+//! (where a tree is written to: into memory, or onto a text) and `wrapped` (the shapes, written); a
 //! module for the wrappers of each subject, `ints`, `doubles`, `decimals`, `texts`, `regexes`,
-//! `ids`, `timestamps`, `dates`, `binaries`, `lone`; `read` and `write` over all of them; `tokens`, which
-//! writes the same trees as text; `laws`.
+//! `ids`, `timestamps`, `dates`, `binaries`, `lone`; `read` and `write` over all of them; `laws`.
 #![tactic(auto)]
 
 pub mod binaries;
@@ -18,14 +18,15 @@ pub mod form;
 pub mod ids;
 pub mod ints;
 pub mod laws;
-pub mod scalar;
 pub mod lone;
 pub mod read;
 pub mod regexes;
+pub mod scalar;
 pub mod shapes;
+pub mod sink;
 pub mod texts;
 pub mod timestamps;
-pub mod tokens;
+mod wrapped;
 pub mod wrapper;
 pub mod write;
 pub mod write_error;

@@ -6,14 +6,16 @@ ghost use Rattle.bson_wrapper.specs.Faults.{Gives};
 ghost use Rattle.bson_wrapper.specs.Lone.{min_key_tree, max_key_tree, undefined_tree};
 ghost use Rattle.bson_wrapper.specs.Reading.{is_one as tells_one, one_read, undefined_read};
 ghost use Rattle.bson_wrapper.specs.Scalar.{min_key, max_key};
-ghost use Rattle.bson_wrapper.specs.Shapes.{whole};
+ghost use Rattle.bson_wrapper.specs.Shapes.{whole, natural, object_of_one};
 ghost use Rattle.bson_wrapper.specs.View.{scalar_view};
 
 use crate::error::Error;
 use crate::scalar::Scalar;
-use crate::shapes::{whole_of, wrapped};
+use crate::shapes::whole_of;
+use crate::sink::Sink;
+use crate::wrapped::{begin, end_one};
 use serde_json::Value;
-use std::alloc::{AllocError, Global};
+use std::alloc::AllocError;
 
 fn is_one(value: &Value) -> bool
     ensures { result ≡ tells_one (whole (view value.now)) }
@@ -59,23 +61,38 @@ pub fn read_undefined(value: Value) -> Result<Scalar, Error>
     }
 }
 
-/// The tree of the least key, in both forms.
-pub fn write_min_key(alloc: Global) -> Result<Value, AllocError>
-    ensures { IfOk result (λ t. view t ≡ min_key_tree) }
+// The number 1 under a key.
+fn write_one<S: Sink>(name: &str, out: &mut S) -> Result<S::Tree, AllocError>
+    ensures written { IfOk result (λ t. S.wrote out.old (object_of_one name.now (natural 1)) t out.new) }
+    ensures before { S.before out.new ≡ S.before out.old }
 {
-    wrapped(alloc, "$minKey", Value::from(1u32))
+    let key = begin(name, out)?;
+    let one = out.natural(1)?;
+    end_one(key, one, out)
 }
 
-/// The tree of the greatest key, in both forms.
-pub fn write_max_key(alloc: Global) -> Result<Value, AllocError>
-    ensures { IfOk result (λ t. view t ≡ max_key_tree) }
+/// Writes the tree of the least key, in both forms.
+pub fn write_min_key<S: Sink>(out: &mut S) -> Result<S::Tree, AllocError>
+    ensures written { IfOk result (λ t. S.wrote out.old min_key_tree t out.new) }
+    ensures before { S.before out.new ≡ S.before out.old }
 {
-    wrapped(alloc, "$maxKey", Value::from(1u32))
+    write_one("$minKey", out)
 }
 
-/// The tree of the undefined value, in both forms.
-pub fn write_undefined(alloc: Global) -> Result<Value, AllocError>
-    ensures { IfOk result (λ t. view t ≡ undefined_tree) }
+/// Writes the tree of the greatest key, in both forms.
+pub fn write_max_key<S: Sink>(out: &mut S) -> Result<S::Tree, AllocError>
+    ensures written { IfOk result (λ t. S.wrote out.old max_key_tree t out.new) }
+    ensures before { S.before out.new ≡ S.before out.old }
 {
-    wrapped(alloc, "$undefined", Value::Bool(true))
+    write_one("$maxKey", out)
+}
+
+/// Writes the tree of the undefined value, in both forms.
+pub fn write_undefined<S: Sink>(out: &mut S) -> Result<S::Tree, AllocError>
+    ensures written { IfOk result (λ t. S.wrote out.old undefined_tree t out.new) }
+    ensures before { S.before out.new ≡ S.before out.old }
+{
+    let key = begin("$undefined", out)?;
+    let truth = out.boolean(true)?;
+    end_one(key, truth, out)
 }

@@ -10,9 +10,11 @@ ghost use Rattle.bson_wrapper.specs.View.{scalar_view};
 
 use crate::error::Error;
 use crate::scalar::Scalar;
-use crate::shapes::{text_in, two_in, wrapped};
+use crate::shapes::{text_in, two_in};
+use crate::sink::Sink;
+use crate::wrapped::{begin, end_one, two_texts};
 use bson_scalar::regex::{Regex, sorted};
-use serde_json::{Map, Value};
+use serde_json::Value;
 use std::alloc::{AllocError, Global};
 
 const SHAPE: &str = "`$regularExpression` holds the texts `pattern` and `options`";
@@ -28,14 +30,15 @@ pub fn read_regex(alloc: Global, value: Value) -> Result<Scalar, Error>
     Ok(Scalar::RegularExpression(Regex { pattern, options }))
 }
 
-/// The tree of a regular expression, in both forms, its options sorted.
-pub fn write_regex(alloc: Global, regex: Regex) -> Result<Value, AllocError>
-    ensures { IfOk result (λ t. view t ≡ regex_tree (string_bytes regex.pattern) (sorted_text (string_bytes regex.options))) }
+/// Writes the tree of a regular expression, in both forms, its options sorted.
+pub fn write_regex<S: Sink>(alloc: Global, regex: Regex, out: &mut S) -> Result<S::Tree, AllocError>
+    ensures written { IfOk result (λ t. S.wrote out.old
+        (regex_tree (string_bytes regex.pattern) (sorted_text (string_bytes regex.options))) t out.new) }
+    ensures before { S.before out.new ≡ S.before out.old }
 {
     let Regex { pattern, options } = regex;
     let ordered = sorted(alloc, options.as_str())?;
-    let mut members = Map::new(alloc);
-    serde_json::put(&mut members, alloc, "pattern", Value::String(pattern))?;
-    serde_json::put(&mut members, alloc, "options", Value::String(ordered))?;
-    wrapped(alloc, "$regularExpression", Value::Object(members))
+    let key = begin("$regularExpression", out)?;
+    let texts = two_texts("options", ordered, "pattern", pattern, out)?;
+    end_one(key, texts, out)
 }

@@ -1,5 +1,5 @@
 //! Shapes of trees: a text, a whole number, an object of one key and one of two.
-ghost use Rattle.std.specs.Prelude.{◌≡◌, ◌&&◌, option_map, string_bytes, IfOk};
+ghost use Rattle.std.specs.Prelude.{◌≡◌, ◌&&◌, option_map, string_bytes};
 ghost use Rattle.std.specs.Str.{bytes_eq};
 ghost use Rattle.serde_json.specs.Find.{as_str};
 ghost use Rattle.serde_json.specs.Data.{object};
@@ -7,11 +7,10 @@ ghost use Rattle.serde_json.specs.View.{view, members_view};
 ghost use Rattle.hex.specs.Hex.{IsBytes};
 ghost use Rattle.bson_wrapper.specs.Faults.{Gives, or_wrong_shape};
 ghost use Rattle.bson_wrapper.specs.Reading.{lone_member, two_members};
-ghost use Rattle.bson_wrapper.specs.Shapes.{u32_at, whole, object_of_one, object_of_two};
+ghost use Rattle.bson_wrapper.specs.Shapes.{u32_at, whole};
 
 use crate::error::Error;
 use serde_json::{Map, Value};
-use std::alloc::{AllocError, Global};
 
 /// The value, or `DeserializationError` with the message where there is none.
 pub fn expected<T: Drop>(value: Option<T>, message: &'static str) -> Result<T, Error>
@@ -130,15 +129,6 @@ pub fn u32_of(value: &Value) -> Option<u32>
         },
         None => None,
     }
-}
-
-/// An object of one key.
-pub fn wrapped(alloc: Global, key: &str, value: Value) -> Result<Value, AllocError>
-    ensures { IfOk result (λ t. view t ≡ object_of_one key.now (view value)) }
-{
-    let mut members = Map::new(alloc);
-    serde_json::put(&mut members, alloc, key, value)?;
-    Ok(Value::Object(members))
 }
 
 // Tells that numbers of the type u8 are below 256.

@@ -8,9 +8,11 @@ ghost use Rattle.bson_wrapper.specs.View.{scalar_view};
 
 use crate::error::Error;
 use crate::scalar::Scalar;
-use crate::shapes::{text_in, wrapped};
+use crate::shapes::text_in;
+use crate::sink::Sink;
+use crate::wrapped::wrapped_owned;
 use serde_json::Value;
-use std::alloc::{AllocError, Global};
+use std::alloc::AllocError;
 
 /// What `$symbol` holds, as a symbol.
 pub fn read_symbol(value: Value) -> Result<Scalar, Error>
@@ -26,16 +28,18 @@ pub fn read_code(value: Value) -> Result<Scalar, Error>
     Ok(Scalar::JavaScriptCode(text_in(value, "`$code` holds a text")?))
 }
 
-/// The tree of a symbol, in both forms.
-pub fn write_symbol(alloc: Global, text: String) -> Result<Value, AllocError>
-    ensures { IfOk result (λ t. view t ≡ symbol_tree (string_bytes text)) }
+/// Writes the tree of a symbol, in both forms.
+pub fn write_symbol<S: Sink>(text: String, out: &mut S) -> Result<S::Tree, AllocError>
+    ensures written { IfOk result (λ t. S.wrote out.old (symbol_tree (string_bytes text)) t out.new) }
+    ensures before { S.before out.new ≡ S.before out.old }
 {
-    wrapped(alloc, "$symbol", Value::String(text))
+    wrapped_owned("$symbol", text, out)
 }
 
-/// The tree of code without a scope, in both forms.
-pub fn write_code(alloc: Global, text: String) -> Result<Value, AllocError>
-    ensures { IfOk result (λ t. view t ≡ code_tree (string_bytes text)) }
+/// Writes the tree of code without a scope, in both forms.
+pub fn write_code<S: Sink>(text: String, out: &mut S) -> Result<S::Tree, AllocError>
+    ensures written { IfOk result (λ t. S.wrote out.old (code_tree (string_bytes text)) t out.new) }
+    ensures before { S.before out.new ≡ S.before out.old }
 {
-    wrapped(alloc, "$code", Value::String(text))
+    wrapped_owned("$code", text, out)
 }

@@ -1,18 +1,21 @@
 //! `$timestamp`: two numbers, each from 0 to 4294967295. Read and written as `{"t": 1, "i": 2}`
 //! under that key.
-ghost use Rattle.std.specs.Prelude.{◌≡◌, IfOk};
+ghost use Rattle.std.specs.Prelude.{◌≡◌, ◌<◌, ◌^◌, IfOk, OnOk, codes};
 ghost use Rattle.serde_json.specs.View.{view};
 ghost use Rattle.bson_wrapper.specs.Faults.{Gives};
 ghost use Rattle.bson_wrapper.specs.Reading.{timestamp_read};
+ghost use Rattle.bson_wrapper.specs.Shapes.{object_of_two, natural};
 ghost use Rattle.bson_wrapper.specs.Timestamps.{timestamp_tree};
 ghost use Rattle.bson_wrapper.specs.View.{scalar_view};
 
 use crate::error::Error;
 use crate::scalar::Scalar;
-use crate::shapes::{expected, two_in, u32_of, wrapped};
+use crate::shapes::{expected, two_in, u32_of};
+use crate::sink::Sink;
+use crate::wrapped::{begin, end_one, end_two, second};
 use bson_scalar::timestamp::Timestamp;
-use serde_json::{Map, Value};
-use std::alloc::{AllocError, Global};
+use serde_json::Value;
+use std::alloc::AllocError;
 
 const SHAPE: &str = "`$timestamp` holds `t` and `i`, whole numbers from 0 to 4294967295";
 
@@ -26,12 +29,26 @@ pub fn read_timestamp(value: Value) -> Result<Scalar, Error>
     Ok(Scalar::Timestamp(Timestamp { time, increment }))
 }
 
-/// The tree of a timestamp, in both forms.
-pub fn write_timestamp(alloc: Global, timestamp: Timestamp) -> Result<Value, AllocError>
-    ensures { IfOk result (λ t. view t ≡ timestamp_tree timestamp.time timestamp.increment) }
+// What `$timestamp` holds.
+fn write_times<S: Sink>(timestamp: Timestamp, out: &mut S) -> Result<S::Tree, AllocError>
+    ensures written { IfOk result (λ t. S.wrote out.old
+        (object_of_two (codes "i") (natural timestamp.increment) (codes "t") (natural timestamp.time)) t out.new) }
+    ensures before { S.before out.new ≡ S.before out.old }
 {
-    let mut members = Map::new(alloc);
-    serde_json::put(&mut members, alloc, "t", Value::from(timestamp.time))?;
-    serde_json::put(&mut members, alloc, "i", Value::from(timestamp.increment))?;
-    wrapped(alloc, "$timestamp", Value::Object(members))
+    let key = begin("i", out)?;
+    let increment = out.natural(timestamp.increment)?;
+    let next = second(key, increment, "t", out)?;
+    let time = out.natural(timestamp.time)?;
+    end_two(next, time, out)
+}
+
+/// Writes the tree of a timestamp, in both forms.
+pub fn write_timestamp<S: Sink>(timestamp: Timestamp, out: &mut S) -> Result<S::Tree, AllocError>
+    ensures written { IfOk result (λ t. S.wrote out.old (timestamp_tree timestamp.time timestamp.increment) t out.new) }
+    ensures before { S.before out.new ≡ S.before out.old }
+    ensures ranged { OnOk result ((timestamp.time < 2 ^ 32) × (timestamp.increment < 2 ^ 32)) }
+{
+    let key = begin("$timestamp", out)?;
+    let times = write_times(timestamp, out)?;
+    end_one(key, times, out)
 }

@@ -1,8 +1,12 @@
 //! Writes a scalar in either form.
-ghost use Rattle.std.specs.Prelude.{OnOk};
+ghost use Rattle.std.specs.Prelude.{◌≡◌, ◌<◌, ◌++◌, OnOk};
+ghost use Rattle.hex.specs.Hex.{IsBytes};
 ghost use Rattle.serde_json.specs.View.{view};
-ghost use Rattle.bson_wrapper.specs.View.{scalar_view};
+ghost use Rattle.bson_scalar.specs.Subtype.{subtype_byte};
+ghost use Rattle.bson_wrapper.specs.Binaries.{binary_tree};
 ghost use Rattle.bson_wrapper.specs.Normal.{ScalarInRange};
+ghost use Rattle.bson_wrapper.specs.Tokens.{tokens_of, Sends, Puts};
+ghost use Rattle.bson_wrapper.specs.View.{scalar_view};
 ghost use Rattle.bson_wrapper.specs.Written.{Writes, writes_scalar};
 
 use crate::binaries::write_binary;
@@ -12,14 +16,53 @@ use crate::doubles::write_double;
 use crate::form::Form;
 use crate::ids::{write_oid, write_pointer};
 use crate::ints::{write_int32, write_int64};
-use crate::scalar::Scalar;
 use crate::lone::{write_max_key, write_min_key, write_undefined};
 use crate::regexes::write_regex;
+use crate::scalar::Scalar;
+use crate::sink::{Sink, Trees};
 use crate::texts::{write_code, write_symbol};
 use crate::timestamps::write_timestamp;
 use crate::write_error::WriteError;
+use bson_scalar::binary::Binary;
+use json::Writer;
 use serde_json::Value;
-use std::alloc::Global;
+use std::alloc::{AllocError, Global};
+
+/// Writes the tree of a scalar in a form (MongoDB Extended JSON v2) to a sink. Texts are moved into
+/// a tree in memory.
+///
+/// `FiniteDouble` comes exactly for a double that is finite and no zero.
+pub fn write_to<S: Sink>(
+    alloc: Global,
+    form: Form,
+    value: Scalar,
+    out: &mut S,
+) -> Result<S::Tree, WriteError>
+    ensures written { Sends (λ d t. S.wrote out.old d t out.new) result (writes_scalar form (scalar_view value)) }
+    ensures before { S.before out.new ≡ S.before out.old }
+    ensures ranged { OnOk result (ScalarInRange (scalar_view value)) }
+{
+    match value {
+        Scalar::Null => Ok(out.null()?),
+        Scalar::Undefined => Ok(write_undefined(out)?),
+        Scalar::MinKey => Ok(write_min_key(out)?),
+        Scalar::MaxKey => Ok(write_max_key(out)?),
+        Scalar::Boolean(b) => Ok(out.boolean(b)?),
+        Scalar::Double(pattern) => write_double(pattern, out),
+        Scalar::Int32(z) => Ok(write_int32(form, z, out)?),
+        Scalar::Int64(z) => Ok(write_int64(form, z, out)?),
+        Scalar::String(text) => Ok(out.owned_text(text)?),
+        Scalar::Symbol(text) => Ok(write_symbol(text, out)?),
+        Scalar::JavaScriptCode(code) => Ok(write_code(code, out)?),
+        Scalar::RegularExpression(regex) => Ok(write_regex(alloc, regex, out)?),
+        Scalar::Timestamp(stamp) => Ok(write_timestamp(stamp, out)?),
+        Scalar::Binary(binary) => Ok(write_binary(alloc, &binary, out)?),
+        Scalar::ObjectId(id) => Ok(write_oid(alloc, id, out)?),
+        Scalar::DateTime(date) => Ok(write_date(alloc, form, date, out)?),
+        Scalar::Decimal128(decimal) => Ok(write_decimal(alloc, decimal, out)?),
+        Scalar::DbPointer(pointer) => Ok(write_pointer(alloc, pointer, out)?),
+    }
+}
 
 /// The tree of a scalar in a form (MongoDB Extended JSON v2). Texts are moved into it.
 ///
@@ -28,24 +71,31 @@ pub fn write_scalar(alloc: Global, form: Form, value: Scalar) -> Result<Value, W
     ensures written { Writes view result (writes_scalar form (scalar_view value)) }
     ensures ranged { OnOk result (ScalarInRange (scalar_view value)) }
 {
-    match value {
-        Scalar::Null => Ok(Value::Null),
-        Scalar::Undefined => Ok(write_undefined(alloc)?),
-        Scalar::MinKey => Ok(write_min_key(alloc)?),
-        Scalar::MaxKey => Ok(write_max_key(alloc)?),
-        Scalar::Boolean(b) => Ok(Value::Bool(b)),
-        Scalar::Double(pattern) => write_double(alloc, pattern),
-        Scalar::Int32(z) => Ok(write_int32(alloc, form, z)?),
-        Scalar::Int64(z) => Ok(write_int64(alloc, form, z)?),
-        Scalar::String(text) => Ok(Value::String(text)),
-        Scalar::Symbol(text) => Ok(write_symbol(alloc, text)?),
-        Scalar::JavaScriptCode(text) => Ok(write_code(alloc, text)?),
-        Scalar::RegularExpression(regex) => Ok(write_regex(alloc, regex)?),
-        Scalar::Timestamp(stamp) => Ok(write_timestamp(alloc, stamp)?),
-        Scalar::Binary(binary) => Ok(write_binary(alloc, binary)?),
-        Scalar::ObjectId(id) => Ok(write_oid(alloc, id)?),
-        Scalar::DateTime(date) => Ok(write_date(alloc, form, date)?),
-        Scalar::Decimal128(decimal) => Ok(write_decimal(alloc, decimal)?),
-        Scalar::DbPointer(pointer) => Ok(write_pointer(alloc, pointer)?),
-    }
+    write_to(alloc, form, value, &mut Trees::new(alloc))
+}
+
+/// Writes the tree of a scalar in a form, as `write_scalar` makes it, with no tree.
+///
+/// `FiniteDouble` comes exactly for a double that is finite and no zero.
+pub fn print_scalar(
+    alloc: Global,
+    form: Form,
+    value: Scalar,
+    out: &mut Writer,
+) -> Result<(), WriteError>
+    ensures printed { Puts result (writes_scalar form (scalar_view value)) out.old.tokens out.new.tokens }
+    ensures before { out.new.before ≡ out.old.before }
+    ensures ranged { OnOk result (ScalarInRange (scalar_view value)) }
+{
+    write_to(alloc, form, value, out)
+}
+
+/// Writes the tree of a binary, as `write_scalar` makes it, with no tree.
+pub fn put_binary(alloc: Global, binary: &Binary, out: &mut Writer) -> Result<(), AllocError>
+    ensures put { OnOk result (out.new.tokens ≡ out.old.tokens
+        ++ tokens_of (binary_tree binary.now.subtype binary.now.bytes.items)) }
+    ensures before { out.new.before ≡ out.old.before }
+    ensures ranged { OnOk result ((subtype_byte binary.now.subtype < 256) × IsBytes binary.now.bytes.items) }
+{
+    write_binary(alloc, binary, out)
 }

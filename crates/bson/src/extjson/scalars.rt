@@ -15,6 +15,7 @@ ghost use Rattle.bson.specs.IsScalar.{IsScalar};
 ghost use Rattle.bson.specs.View.{bson_view};
 
 use crate::bson::Bson;
+use crate::scalar::scalar_ref;
 use bson_wrapper::error::Error;
 use bson_wrapper::scalar::Scalar;
 use bson_scalar::binary::Binary;
@@ -88,31 +89,19 @@ fn to_twelve(pointer: DbPointer) -> DbPointer
     pointer
 }
 
-// The same, the other way: of a value that holds no other.
-pub(crate) fn to_scalar(value: Bson) -> Scalar
+// The same, the other way: of a value that holds no other. What it owns is moved.
+pub(crate) fn to_scalar(alloc: Global, value: Bson) -> Result<Scalar, AllocError>
     requires { IsScalar (bson_view value) }
-    ensures { scalar (scalar_view result) ≡ bson_view value }
+    ensures { IfOk result (λ x. scalar (scalar_view x) ≡ bson_view value) }
 {
     match value {
-        Bson::Null => Scalar::Null,
-        Bson::Undefined => Scalar::Undefined,
-        Bson::MinKey => Scalar::MinKey,
-        Bson::MaxKey => Scalar::MaxKey,
-        Bson::Boolean(b) => Scalar::Boolean(b),
-        Bson::Double(pattern) => Scalar::Double(pattern),
-        Bson::Int32(z) => Scalar::Int32(z),
-        Bson::Int64(z) => Scalar::Int64(z),
-        Bson::String(text) => Scalar::String(text),
-        Bson::Symbol(text) => Scalar::Symbol(text),
-        Bson::JavaScriptCode(code) => Scalar::JavaScriptCode(code),
-        Bson::RegularExpression(regex) => Scalar::RegularExpression(regex),
-        Bson::Timestamp(stamp) => Scalar::Timestamp(stamp),
-        Bson::Binary(binary) => Scalar::Binary(binary),
-        Bson::ObjectId(id) => Scalar::ObjectId(id),
-        Bson::DateTime(date) => Scalar::DateTime(date),
-        Bson::Decimal128(decimal) => Scalar::Decimal128(decimal),
-        Bson::DbPointer(pointer) => Scalar::DbPointer(pointer),
-        _ => unreachable!(),
+        Bson::String(text) => Ok(Scalar::String(text)),
+        Bson::Symbol(text) => Ok(Scalar::Symbol(text)),
+        Bson::JavaScriptCode(code) => Ok(Scalar::JavaScriptCode(code)),
+        Bson::RegularExpression(regex) => Ok(Scalar::RegularExpression(regex)),
+        Bson::Binary(binary) => Ok(Scalar::Binary(binary)),
+        Bson::DbPointer(pointer) => Ok(Scalar::DbPointer(pointer)),
+        value => scalar_ref(&value).to_owned(alloc),
     }
 }
 

@@ -12,7 +12,7 @@ use crate::bson::{Bson, JavaScriptCodeWithScope};
 use crate::document::Document;
 use crate::scalar::scalar_ref;
 use bson_wrapper::form::Form;
-use bson_wrapper::tokens::{put_binary, print_scalar};
+use bson_wrapper::write::{print_scalar, put_binary};
 use bson_wrapper::write_error::WriteError;
 use bson_store::{PairStore, SmallPairs};
 use json::Writer;
@@ -42,7 +42,7 @@ fn print(alloc: Global, form: Form, value: &Bson, out: &mut Writer) -> Result<()
         Bson::JavaScriptCodeWithScope(scoped) => print_scoped(alloc, form, scoped, out),
         Bson::String(text) => Ok(out.string(text.as_str())?),
         Bson::Binary(binary) => Ok(put_binary(alloc, binary, out)?),
-        value => print_scalar(alloc, form, &scalar_ref(value).to_owned(alloc)?, out),
+        value => print_scalar(alloc, form, scalar_ref(value).to_owned(alloc)?, out),
     }
 }
 

@@ -24,7 +24,7 @@ pub(crate) fn write(alloc: Global, form: Form, value: Bson) -> Result<Value, Wri
         Bson::Array(values) => Ok(Value::Array(write_items(alloc, form, values)?)),
         Bson::Document(document) => Ok(Value::Object(write_pairs(alloc, form, document)?)),
         Bson::JavaScriptCodeWithScope(scoped) => write_scoped(alloc, form, scoped),
-        value => write_scalar(alloc, form, to_scalar(value)),
+        value => write_scalar(alloc, form, to_scalar(alloc, value)?),
     }
 }
 
