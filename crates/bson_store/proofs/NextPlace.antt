@@ -95,7 +95,7 @@ same_test : (q k : List ℕ) → eq_by_cmp key_cmp q k ≡ bytes_eq q k
 same_test q k = is_eq-slice_cmp q k
 
 module _ {V : Type 0} where
-  lacks : (q : List ℕ) (ps : List (List ℕ × V)) → position_of q ps ≡ None → find key_cmp q ps ≡ None
+  pub lacks : (q : List ℕ) (ps : List (List ℕ × V)) → position_of q ps ≡ None → find key_cmp q ps ≡ None
   lacks q [] e = refl
   lacks q (p ∷ ps) e = let h = none_at _ _ e in ap (λ b. cond b (Some p.1) (find key_cmp q ps)) (same_test q p.0 ∙ h.0) ∙ lacks q ps h.1
 
@@ -111,7 +111,7 @@ module _ {V : Type 0} where
       let next : i ≡ suc j = cc in
       (f.0, rw next f.1, ap (λ b. cond b (Some p.1) (find key_cmp k ps)) (same_test k p.0 ∙ t) ∙ f.2)
 
-  found : (k : List ℕ) (ps : List (List ℕ × V)) (i : ℕ) → position_of k ps ≡ Some i → (v : V) × (slice_get ps i ≡ Some (k, v)) × (find key_cmp k ps ≡ Some v)
+  pub found : (k : List ℕ) (ps : List (List ℕ × V)) (i : ℕ) → position_of k ps ≡ Some i → (v : V) × (slice_get ps i ≡ Some (k, v)) × (find key_cmp k ps ≡ Some v)
   found k [] i e = cc
   found k (p ∷ ps) i e = found_or k p ps i (bytes_eq k p.0) (position_of k ps) refl refl e (λ j h. found k ps j h)
 

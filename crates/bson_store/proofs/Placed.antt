@@ -3,10 +3,12 @@ use Rattle.std.proofs.Common.{◌≡◌, ℕ, zero, suc, ◌+◌, ◌<◌, ◌�
 use Rattle.std.specs.Cmp.Lexicographic.{nat_list_eq_equiv}
 use lib.ListN.{length-map}
 use Rattle.std.specs.List.{IsDistinct, AllByRecursion}
+use Rattle.std.specs.List.Sorted.{IsStrictlySortedBy}
 use Rattle.std.specs.Map.{update}
 use Rattle.std.specs.Str.{bytes_eq}
 use Rattle.std.proofs.lemmas.Slice.Eq.{bytes_eq-Decides}
 use Rattle.bson_store.specs.declared.small.Pair.{Pair}
+use Rattle.bson_store.specs.Order.{key_cmp}
 use Rattle.bson_store.specs.Pairs.{keys, values, position_of, with_value, HasDistinctKeys}
 use Rattle.bson_store.specs.Small.{Index, stored_pairs, IsPlaced, IsIndexed}
 use Rattle.std.proofs.lemmas.Option.{slice_get-map, slice_get-get_or}
@@ -21,10 +23,10 @@ push_step true false n r s h e = ap (option_map suc) e
 push_step false true n r s h e = refl
 push_step false false n r s h e = ap (option_map suc) e
 
-same_bytes : (k l : List ℕ) → bytes_eq k l ≡ true → k ≡ l
+pub same_bytes : (k l : List ℕ) → bytes_eq k l ≡ true → k ≡ l
 same_bytes k l e = (bytes_eq-Decides k l).0 e
 
-own : (k : List ℕ) → bytes_eq k k ≡ true
+pub own : (k : List ℕ) → bytes_eq k k ≡ true
 own k = (bytes_eq-Decides k k).1 refl
 
 swapped : (k l : List ℕ) → bytes_eq k l ≡ bytes_eq l k
@@ -48,7 +50,7 @@ module _ {V : Type 0} where
       let h = none_at _ _ none in
       push_step (bytes_eq l k) (bytes_eq k p.0) (length ps) (position_of k ps) (position_of k (ps ++ (l, v) ∷ [])) (λ m. ap (λ x. bytes_eq x p.0) (sym (same_bytes l k m)) ∙ h.0) (place-push ps l v h.1 k)
 
-  all-push : (P : List ℕ → Type 0) (ps : List (List ℕ × V)) (l : List ℕ) (v : V) → AllByRecursion P (keys ps) → P l → AllByRecursion P (keys (ps ++ (l, v) ∷ []))
+  pub all-push : (P : List ℕ → Type 0) (ps : List (List ℕ × V)) (l : List ℕ) (v : V) → AllByRecursion P (keys ps) → P l → AllByRecursion P (keys (ps ++ (l, v) ∷ []))
   all-push P [] l v h p = (p, tt)
   all-push P (q ∷ ps) l v h p = (h.0, all-push P ps l v h.1 p)
 
@@ -58,7 +60,7 @@ module _ {V : Type 0} where
   distinct-push (p ∷ ps) l v d none = let h = none_at _ _ none in (all-push (λ y. bytes_eq p.0 y ≡ false) ps l v d.0 (swapped p.0 l ∙ h.0), distinct-push ps l v d.1 h.1)
 
   -- a pair taken out
-  all-remove : (P : List ℕ → Type 0) (ps : List (List ℕ × V)) (i : ℕ) → AllByRecursion P (keys ps) → AllByRecursion P (keys (remove ps i))
+  pub all-remove : (P : List ℕ → Type 0) (ps : List (List ℕ × V)) (i : ℕ) → AllByRecursion P (keys ps) → AllByRecursion P (keys (remove ps i))
   all-remove P [] zero h = h
   all-remove P [] (suc i) h = h
   all-remove P (q ∷ ps) zero h = h.1
@@ -185,7 +187,7 @@ module _ {V : Type 0} where
   seen-set (q ∷ ps) (suc i) p w l h = ap (λ r. (string_bytes q.key, q.value) ∷ r) (seen-set ps i p w (omega (arith, l)) h)
 
   placed-with : (ps : List (List ℕ × V)) (o : Index) (i : ℕ) (w : V) → IsPlaced ps o → IsPlaced (with_value ps i w) o
-  placed-with ps None i w h = omega (arith, h, length-with_value ps i w)
+  placed-with ps None i w h = λ more. subst (IsStrictlySortedBy key_cmp) (sym (keys-with_value ps i w)) (h (omega (arith, more, length-with_value ps i w)))
   placed-with ps (Some m) i w h = (omega (arith, h.0, length-with_value ps i w), λ k. h.1 k ∙ sym (place-with_value ps i w k))
 
   indexed-with : (ps : List (List ℕ × V)) (o : Index) (i : ℕ) (w : V) → IsIndexed ps o → IsIndexed (with_value ps i w) o

@@ -1,9 +1,11 @@
--- Pairs with a map of their keys' places, which is there where they are more than eight.
-use Rattle.std.specs.Prelude.{◌≡◌, ℕ, ◌<◌, ◌≤◌, List, map, length, Option, None, Some, String, Box, string_bytes}
+-- Pairs with a map of their keys' places, which is there where they are more than eight and their keys do not ascend.
+use Rattle.std.specs.Prelude.{◌≡◌, ℕ, ◌<◌, List, map, length, Option, None, Some, String, Box, string_bytes}
 use Rattle.std.specs.BTreeMap.{BTreeMap, get_by_text}
+use Rattle.std.specs.List.Sorted.{IsStrictlySortedBy}
 use Rattle.std.specs.declared.alloc.Global.{Global}
 use Rattle.bson_store.specs.declared.small.Pair.{Pair}
-use Rattle.bson_store.specs.Pairs.{position_of, HasDistinctKeys}
+use Rattle.bson_store.specs.Order.{key_cmp}
+use Rattle.bson_store.specs.Pairs.{keys, position_of, HasDistinctKeys}
 
 -- a place for each of some keys
 abbrev pub Places : Type 0
@@ -22,9 +24,13 @@ module _ {V : Type 0} where
   abbrev pub HasPlaces : Places → List (List ℕ × V) → Type 0
   HasPlaces m ps = (k : List ℕ) → get_by_text m k ≡ position_of k ps
 
-  -- a map of the places is there exactly where the pairs are more than eight
+  -- each key is below those behind it
+  abbrev pub KeysAscend : List (List ℕ × V) → Type 0
+  KeysAscend ps = IsStrictlySortedBy key_cmp (keys ps)
+
+  -- with no map, pairs that are more than eight have keys that ascend; with one, they are more than eight
   abbrev pub IsPlaced : List (List ℕ × V) → Index → Type 0
-  IsPlaced ps None = length ps ≤ 8
+  IsPlaced ps None = 8 < length ps → KeysAscend ps
   IsPlaced ps (Some m) = (8 < length ps) × HasPlaces m.value ps
 
   -- what always holds of the pairs and of their map

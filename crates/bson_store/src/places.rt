@@ -1,4 +1,4 @@
-//! The places of the keys of a small store: how they are found, and how its map of them is kept.
+//! The places of the keys of a small store: how they are found, and how its map of them is made and kept.
 ghost use Rattle.std.specs.Prelude.{◌≡◌, ℕ, List, [], ◌∷◌, ◌++◌, Some, None, slice_get, remove, option_map, string_bytes, IfOk, OnOk, OnErr};
 ghost use Rattle.std.specs.Str.{bytes_eq};
 ghost use Rattle.std.specs.Map.{update};
@@ -7,15 +7,27 @@ ghost use Rattle.bson_store.specs.Pairs.{position_of, HasDistinctKeys};
 ghost use Rattle.bson_store.specs.Small.{stored_pairs, HasPlaces, IsIndexed};
 ghost use Rattle.bson_store.specs.Removal.{index_before_removal};
 
+use crate::ascending::{find_ascending, needs_no_map};
 use crate::small::Pair;
 use std::alloc::{AllocError, Global};
 use std::collections::BTreeMap;
 
 // So many pairs have no map.
-const FEW: usize = 8;
+pub(crate) const FEW: usize = 8;
+
+// The place of the key where there is no map.
+pub(crate) fn find_in<V>(pairs: &Vec<Pair<V>>, key: &str) -> Option<usize>
+    requires { IsIndexed (stored_pairs pairs.now.items) None }
+    ensures { result ≡ position_of key.now (stored_pairs pairs.now.items) }
+{
+    if pairs.len() > FEW {
+        return find_ascending(pairs, key);
+    }
+    find_by_walk(pairs, key)
+}
 
 // The place of the key, by a walk.
-pub(crate) fn find_in<V>(pairs: &Vec<Pair<V>>, key: &str) -> Option<usize>
+fn find_by_walk<V>(pairs: &Vec<Pair<V>>, key: &str) -> Option<usize>
     ensures { result ≡ position_of key.now (stored_pairs pairs.now.items) }
 {
     for i in 0..pairs.len() {
@@ -71,10 +83,11 @@ pub(crate) fn place_next<V>(
     if let Some(map) = places {
         return add(map, key, pairs.len());
     }
-    if pairs.len() == FEW {
-        let map = Box::new(alloc, index_all(alloc, pairs, key)?)?;
-        *places = Some(map);
+    if needs_no_map(pairs, key.as_str()) {
+        return Ok(());
     }
+    let map = Box::new(alloc, index_all(alloc, pairs, key)?)?;
+    *places = Some(map);
     Ok(())
 }
 

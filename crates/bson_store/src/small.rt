@@ -1,14 +1,15 @@
-//! The store that indexes its keys only where there are many.
+//! The store that indexes its keys only where there are many and they do not ascend.
 ghost use Rattle.std.specs.Prelude.{◌≡◌, ◌<◌, [], length, slice_get, option_map, option_and_then, string_bytes, IfOk, IfSome};
 ghost use Rattle.bson_store.specs.Order.{IsLeast};
 ghost use Rattle.bson_store.specs.Pairs.{HasDistinctKeys};
 
 mod into_iter;
 
+use crate::ascending::next_ascending;
 use crate::next::next_place;
 use crate::order::next_above;
 use crate::pair_store::PairStore;
-use crate::places::{find_in, place_next, take_place};
+use crate::places::{FEW, find_in, place_next, take_place};
 pub use into_iter::IntoIter;
 use std::alloc::{AllocError, Global};
 use std::collections::BTreeMap;
@@ -21,11 +22,14 @@ pub(crate) struct Pair<V> {
     pub(crate) value: V,
 }
 
-/// A store whose pairs stand in one `Vec`, and above eight of them beside an ordered map from each key to its place.
+/// A store whose pairs stand in one `Vec`, and, where more than eight have keys that don't ascend, beside an ordered map
+/// from each key to its place.
 ///
-/// Up to eight pairs take one block of memory, and a key is found by a walk. Above that the map holds a copy of each
-/// key in ascending order, so that among n pairs a key is found in the order of log n comparisons, whatever the keys
-/// are. `push` takes as many; `remove_at` takes as many for each pair behind the one it takes out, and no memory.
+/// Up to eight pairs, and any number whose keys were pushed in ascending order, take one block of memory. Among eight a
+/// key is found by a walk, and among more that ascend by halves. The first key that doesn't ascend makes the map, which
+/// holds a copy of each key, so that among n pairs a key is found in the order of log n comparisons, whatever the keys
+/// are. `push` takes as many, and n times as many where it makes the map, once until no more than eight pairs are left;
+/// `remove_at` takes as many for each pair behind the one it takes out, and no memory.
 ///
 /// ```
 /// let mut pairs: SmallPairs<u32> = SmallPairs::new(alloc);
@@ -70,7 +74,7 @@ impl<V> SmallPairs<V> {
         }
     }
 
-    /// A store of no pairs, with room for so many. The map of more than eight is made at the ninth.
+    /// A store of no pairs, with room for so many. A map is made by the push that needs it.
     pub fn with_capacity(alloc: Global, pairs: usize) -> Result<SmallPairs<V>, AllocError>
     where
         V: Drop,
@@ -108,6 +112,7 @@ impl<V> SmallPairs<V> {
     {
         match &self.places {
             Some(places) => next_place(places, last),
+            None if self.pairs.len() > FEW => next_ascending(&self.pairs, last),
             None => next_by_walk(self, last),
         }
     }

@@ -1,4 +1,4 @@
-use Rattle.std.proofs.Common.{◌≡◌, ◌≤◌, [], ◌∷◌, ◌++◌, length, string_bytes, subst, sym, ap, ◌∙◌, arith}
+use Rattle.std.proofs.Common.{None, ◌≡◌, [], ◌∷◌, ◌++◌, length, string_bytes, subst, sym, ap, ◌∙◌, arith}
 use Rattle.std.proofs.lemmas.List.{length-append}
 use Rattle.std.specs.BTreeMap.{get_by_text}
 use Rattle.bson_store.specs.Small.{stored_pairs, IsPlaced}
@@ -18,17 +18,20 @@ returns-in-Some-clause-ok g c =
     ))
     c.add.ensures.ok
 
-pub returns-in_ok-map-clause-ok : goal.returns-in_ok-map-clause-ok
-returns-in_ok-map-clause-ok g c = λ v.
+pub returns-clause-ok : goal.returns-clause-ok
+returns-clause-ok g c = λ v.
     let ps = stored_pairs c.args.pairs.now.items in
     let k = string_bytes c.args.key.now in
-    (distinct-push ps k v c.requires.indexed.0 c.requires.absent, (omega (arith, c.if-len-eq-FEW.true, c.len-2.ensures, c.args.pairs.now.ok.0, length-seen c.args.pairs.now.items, length-append ps ((k, v) ∷ [])), λ q. ap (λ m. get_by_text m q) c.in_ok-map.ensures.ok ∙ c.in_ok-index_all.ensures v q))
+    let full = c.needs_no_map.ensures.no c.if-needs_no_map.false in
+    (distinct-push ps k v c.requires.indexed.0 c.requires.absent, (omega (arith, full, length-append ps ((k, v) ∷ [])), λ q. ap (λ m. get_by_text m q) c.in_ok-map.ensures.ok ∙ c.in_ok-index_all.ensures v q))
 
-pub returns-else-len-eq-FEW-clause-ok : goal.returns-else-len-eq-FEW-clause-ok
-returns-else-len-eq-FEW-clause-ok g c = λ v.
+pub returns-then-needs_no_map-clause-ok : goal.returns-then-needs_no_map-clause-ok
+returns-then-needs_no_map-clause-ok g c = λ v.
     let ps = stored_pairs c.args.pairs.now.items in
     let k = string_bytes c.args.key.now in
     let none = none_if c.args.places.now c.in_default.not-Some in
-    let le : length ps ≤ 8 = subst (IsPlaced ps) none c.requires.indexed.1 in
-    let more : length ps ≡ 8 → ⊥ = λ e. c.if-len-eq-FEW.false (omega (arith, e, c.len-2.ensures, c.args.pairs.now.ok.0, length-seen c.args.pairs.now.items)) in
-    (distinct-push ps k v c.requires.indexed.0 c.requires.absent, subst (IsPlaced (ps ++ (k, v) ∷ [])) (sym none) (omega (arith, le, more, length-append ps ((k, v) ∷ []))))
+    (distinct-push ps k v c.requires.indexed.0 c.requires.absent, subst (IsPlaced (ps ++ (k, v) ∷ [])) (sym none) (subst (λ l. IsPlaced (ps ++ (l, v) ∷ []) None) c.as_str.ensures.value (c.needs_no_map.ensures.yes c.if-needs_no_map.true v)))
+
+pub needs_no_map-requires : goal.needs_no_map-requires
+needs_no_map-requires g c =
+    subst (IsPlaced (stored_pairs c.args.pairs.now.items)) (none_if c.args.places.now c.in_default.not-Some) c.requires.indexed.1

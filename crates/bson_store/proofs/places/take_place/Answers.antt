@@ -1,11 +1,14 @@
-use Rattle.std.proofs.Common.{None, cond, option_map, subst, sym, ap, ◌∙◌, arith}
+use Rattle.std.proofs.Common.{◌<◌, None, cond, length, option_map, subst, sym, ap, ◌∙◌, arith}
 use Rattle.std.specs.BTreeMap.{get_by_text}
 use Rattle.std.specs.Str.{bytes_eq}
+use Rattle.std.proofs.lemmas.List.Edits.{length-remove}
+use Rattle.std.proofs.lemmas.Option.{slice_get_within}
 use Rattle.std.proofs.lemmas.Map.Text.{btree_map_updates_text}
 use Rattle.bson_store.specs.Pairs.{position_of, HasDistinctKeys}
-use Rattle.bson_store.specs.Small.{IsPlaced}
+use Rattle.bson_store.specs.Small.{stored_pairs, IsPlaced, KeysAscend}
 use Rattle.bson_store.specs.Removal.{index_before_removal}
 use Rattle.bson_store.proofs.Placed.{length-seen, distinct-remove, place-removed}
+use Rattle.bson_store.proofs.AscendingLaws.{ascend-remove}
 use Rattle.bson_store.proofs.places.take_place.Goals as goal
 
 pub lower-requires-clause-distinct : goal.lower-requires-clause-distinct
@@ -24,7 +27,7 @@ lower-requires-clause-raised g c = λ k.
 pub returns-then-len-le-FEW : goal.returns-then-len-le-FEW
 returns-then-len-le-FEW g c = (
   subst HasDistinctKeys (sym c.requires.3) (distinct-remove c.requires.0 c.args.at c.requires.4.0),
-  omega (arith, c.if-len-le-FEW.true, c.len.ensures, c.args.pairs.now.ok.0, length-seen c.args.pairs.now.items),
+  λ more. absurd (omega (arith, more, c.if-len-le-FEW.true, c.len.ensures, c.args.pairs.now.ok.0, length-seen c.args.pairs.now.items)),
 )
 
 pub returns-in-Some : goal.returns-in-Some
@@ -32,3 +35,12 @@ returns-in-Some g c = (
   subst HasDistinctKeys (sym c.requires.3) (distinct-remove c.requires.0 c.args.at c.requires.4.0),
   (omega (arith, c.if-len-le-FEW.false, c.len.ensures, c.args.pairs.now.ok.0, length-seen c.args.pairs.now.items), c.lower.ensures),
 )
+
+pub returns-in-None : goal.returns-in-None
+returns-in-None g c =
+    let ps = c.requires.0 in
+    let qs = stored_pairs c.args.pairs.now.items in
+    let was : 8 < length ps → KeysAscend ps = subst (IsPlaced ps) c.in-None.is c.requires.4.1 in
+    let shorter = length-remove ps c.args.at (slice_get_within ps c.args.at (c.args.key.now, c.requires.1) c.requires.2) in
+    let still : 8 < length qs → KeysAscend qs = λ more. subst KeysAscend (sym c.requires.3) (ascend-remove ps c.args.at (was (omega (arith, more, shorter, ap length c.requires.3)))) in
+    (subst HasDistinctKeys (sym c.requires.3) (distinct-remove ps c.args.at c.requires.4.0), subst (IsPlaced qs) (sym c.in-None.is) still)

@@ -1,5 +1,5 @@
 -- `SmallPairs` as a type that may hold the type that holds it, by its values.
-use Rattle.std.specs.Prelude.{◌≡◌, ℕ, suc, ◌<◌, ◌≤◌, cond, List, [], ◌∷◌, map, None, Some, option_map, string_bytes, String}
+use Rattle.std.specs.Prelude.{◌≡◌, ℕ, suc, ◌<◌, cond, List, [], ◌∷◌, map, None, Some, option_map, string_bytes, String}
 use mathlib.Core.Path.{refl, sym, ap, ◌∙◌, subst}
 use mathlib.Core.HLevel.{Π_prop, ×_prop}
 use mathlib.Core.Former.{Former, one_more, this, const, pair, list, via, children}
@@ -15,6 +15,7 @@ use denote.Param.Weighed.{Weighed}
 use denote.Model.Placed.{held, view_places}
 use Rattle.std.specs.Coded.{coded_option}
 use Rattle.std.specs.List.{IsDistinct, IsDistinct-prop}
+use Rattle.std.specs.List.Sorted.{IsStrictlySortedBy, IsStrictlySortedBy-prop}
 use Rattle.std.specs.Str.{bytes_eq}
 use Rattle.std.specs.declared.alloc.Global.{Global}
 use Rattle.std.specs.contracts.alloc.Global as heap
@@ -26,6 +27,7 @@ use Rattle.bson_store.specs.declared.small.SmallPairs.TheInside.{Inside}
 use Rattle.bson_store.specs.declared.small.SmallPairs.TheView.{view, invariant}
 use Rattle.bson_store.specs.contracts.small.SmallPairs as C
 use Rattle.bson_store.specs.contracts.small.SmallPairs.TheInside as I
+use Rattle.bson_store.specs.Order.{key_cmp}
 use Rattle.bson_store.specs.Pairs.{keys, position_of}
 use Rattle.bson_store.specs.Small.{Index, stored_pairs, IsPlaced, IsIndexed}
 use Rattle.bson_store.specs.formers.indexed.IndexedPairs as indexed
@@ -73,7 +75,7 @@ place-on h k [] = refl
 place-on h k (p ∷ ps) = ap (λ r. cond (bytes_eq k p.0) (Some 0) (option_map suc r)) (place-on h k ps)
 
 IsPlaced-prop : {X : Type 0} (ps : List (List ℕ × X)) (o : Index) → IsProp (IsPlaced ps o)
-IsPlaced-prop ps None = le_prop
+IsPlaced-prop ps None = Π_prop (λ more. IsStrictlySortedBy-prop key_cmp (keys ps))
 IsPlaced-prop ps (Some m) = ×_prop le_prop (Π_prop (λ k. Coded-set (coded_option coded_ℕ) _ _))
 
 IsIndexed-prop : {X : Type 0} (ps : List (List ℕ × X)) (o : Index) → IsProp (IsIndexed ps o)
@@ -81,11 +83,11 @@ IsIndexed-prop ps o = ×_prop (IsDistinct-prop bytes_eq (keys ps)) (IsPlaced-pro
 
 module _ {X Y : Type 0} (h : X → Y) where
   placed-on : (ps : List (List ℕ × X)) (o : Index) → IsPlaced ps o → IsPlaced (map (on_value h) ps) o
-  placed-on ps None p = subst (λ n. n ≤ 8) (sym (length-map ps (on_value h))) p
+  placed-on ps None p = λ more. subst (IsStrictlySortedBy key_cmp) (sym (keys-on h ps)) (p (subst (λ n. 8 < n) (length-map ps (on_value h)) more))
   placed-on ps (Some m) p = (subst (λ n. 8 < n) (sym (length-map ps (on_value h))) p.0, λ k. p.1 k ∙ sym (place-on h k ps))
 
   placed-back : (ps : List (List ℕ × X)) (o : Index) → IsPlaced (map (on_value h) ps) o → IsPlaced ps o
-  placed-back ps None p = subst (λ n. n ≤ 8) (length-map ps (on_value h)) p
+  placed-back ps None p = λ more. subst (IsStrictlySortedBy key_cmp) (keys-on h ps) (p (subst (λ n. 8 < n) (sym (length-map ps (on_value h))) more))
   placed-back ps (Some m) p = (subst (λ n. 8 < n) (length-map ps (on_value h)) p.0, λ k. p.1 k ∙ place-on h k ps)
 
   indexed-on : (ps : List (Pair X)) (o : Index) → IsIndexed (stored_pairs ps) o → IsIndexed (stored_pairs (map (one.map X Y h) ps)) o

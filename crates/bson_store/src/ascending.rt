@@ -1,0 +1,101 @@
+//! Pairs that have no map since their keys ascend: a key is found by halves.
+ghost use Rattle.std.specs.Prelude.{◌≡◌, ◌<◌, ◌≤◌, [], ◌∷◌, ◌++◌, Some, None, length, take, slice_get, option_map, option_and_then, string_bytes, IfSome, IsTrue, false};
+ghost use Rattle.bson_store.specs.Ascending.{IsFirstAbove};
+ghost use Rattle.bson_store.specs.Order.{IsLeast};
+ghost use Rattle.bson_store.specs.Pairs.{position_of, HasDistinctKeys};
+ghost use Rattle.bson_store.specs.Small.{stored_pairs, KeysAscend, IsPlaced};
+
+use crate::places::FEW;
+use crate::small::Pair;
+
+// The place of the first key above the key, or the number of the pairs.
+fn first_above<V>(pairs: &Vec<Pair<V>>, key: &str) -> usize
+    requires { KeysAscend (stored_pairs pairs.now.items) }
+    ensures { IsFirstAbove (Some key.now) (stored_pairs pairs.now.items) result }
+{
+    let mut low = 0;
+    let mut high = pairs.len();
+    'halves: while low < high {
+        let middle = low + (high - low) / 2;
+        if key.cmp(pairs[middle].key.as_str()).is_lt() {
+            high = middle;
+        } else {
+            low = middle + 1;
+        }
+    }
+    low
+}
+
+// The place of the key.
+pub(crate) fn find_ascending<V>(pairs: &Vec<Pair<V>>, key: &str) -> Option<usize>
+    requires distinct { HasDistinctKeys (stored_pairs pairs.now.items) }
+    requires ascending { KeysAscend (stored_pairs pairs.now.items) }
+    ensures { result ≡ position_of key.now (stored_pairs pairs.now.items) }
+{
+    let above = first_above(pairs, key);
+    if above == 0 {
+        return None;
+    }
+    if key == pairs[above - 1].key.as_str() {
+        return Some(above - 1);
+    }
+    None
+}
+
+// The place of the least key above the last one, or of the least of all.
+pub(crate) fn next_ascending<V>(pairs: &Vec<Pair<V>>, last: Option<&String>) -> Option<usize>
+    requires distinct { HasDistinctKeys (stored_pairs pairs.now.items) }
+    requires ascending { KeysAscend (stored_pairs pairs.now.items) }
+    ensures in_bounds { IfSome result (λ i. i < length (stored_pairs pairs.now.items)) }
+    ensures least { IsLeast (option_map (λ s. string_bytes s.now) last.entry) (stored_pairs pairs.now.items)
+        (option_and_then (slice_get (stored_pairs pairs.now.items)) result) }
+{
+    let at = match last {
+        Some(key) => first_above(pairs, key.as_str()),
+        None => 0,
+    };
+    if at < pairs.len() {
+        return Some(at);
+    }
+    None
+}
+
+// Whether the key is above those of the first pairs, which ascend.
+fn is_above_first<V>(pairs: &Vec<Pair<V>>, count: usize, key: &str) -> bool
+    requires within { count ≤ length (stored_pairs pairs.now.items) }
+    requires ascending { KeysAscend (take count (stored_pairs pairs.now.items)) }
+    ensures { IsTrue result
+        → (v : V) → KeysAscend (take count (stored_pairs pairs.now.items) ++ (key.now, v) ∷ []) }
+{
+    if count == 0 {
+        return true;
+    }
+    pairs[count - 1].key.as_str().cmp(key).is_lt()
+}
+
+// Whether the keys ascend.
+fn ascends<V>(pairs: &Vec<Pair<V>>) -> bool
+    ensures { IsTrue result → KeysAscend (stored_pairs pairs.now.items) }
+{
+    for i in 0..pairs.len() {
+        if !is_above_first(pairs, i, pairs[i].key.as_str()) {
+            return false;
+        }
+    }
+    true
+}
+
+// Whether there need be no map with one more key behind the pairs: they are few, or their keys ascend.
+pub(crate) fn needs_no_map<V>(pairs: &Vec<Pair<V>>, key: &str) -> bool
+    requires { IsPlaced (stored_pairs pairs.now.items) None }
+    ensures yes { IsTrue result → (v : V) → IsPlaced (stored_pairs pairs.now.items ++ (key.now, v) ∷ []) None }
+    ensures no { result ≡ false → 8 ≤ length (stored_pairs pairs.now.items) }
+{
+    if pairs.len() < FEW {
+        return true;
+    }
+    if pairs.len() == FEW && !ascends(pairs) {
+        return false;
+    }
+    is_above_first(pairs, pairs.len(), key)
+}
