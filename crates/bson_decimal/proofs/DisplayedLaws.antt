@@ -1,6 +1,6 @@
 -- A printed text parses to the canonical pattern.
-use Rattle.std.proofs.Common.{◌≡◌, ℕ, zero, suc, ◌+◌, ◌-◌, ◌*◌, ◌^◌, ◌<◌, ◌≤◌, inl, inr, Bool, true, false, cond, ◌&&◌, eqb, ltb, leb, List, [], ◌∷◌, ◌++◌, length, take, drop, replicate, Option, Some, None, refl, sym, ap, subst, ◌∙◌, arith, length-append, length-drop}
-use Rattle.std.specs.Prelude.{⊤, codes, Result, Ok, Err, ◌↔◌, IsOkAnd}
+use Rattle.std.proofs.Common.{◌≡◌, ℕ, zero, suc, ◌+◌, ◌-◌, ◌*◌, ◌^◌, ◌<◌, ◌≤◌, inl, inr, Bool, true, false, cond, ◌&&◌, eqb, ltb, leb, List, [], ◌∷◌, ◌++◌, length, take, drop, replicate, ℤ, pos, neg_ℤ, ◌-ℤ◌, Option, Some, None, refl, sym, ap, subst, ◌∙◌, arith, length-append, length-drop}
+use Rattle.std.specs.Prelude.{⊤, codes, int_le, int_lt, unsigned_abs, Result, Ok, Err, ◌↔◌, IsOkAnd}
 use Rattle.bson_decimal.specs.FromStr.{ParsesTo}
 use Rattle.std.specs.Str.Parse.{without_leading_sign}
 use Rattle.bson_decimal.specs.declared.ParseError.{ParseError}
@@ -8,10 +8,11 @@ use Rattle.bson_decimal.specs.Steps as Steps
 use Rattle.bson_decimal.proofs.Bytes.{from_le_bytes-to_le_bytes_16}
 use Rattle.bson_decimal.proofs.PatternLaws.{decoded-first_form, first_form-lt}
 use Rattle.bson_decimal.proofs.Parsing.{word-off, no-word, special-parses, finite-parses, refused-parses}
-use Rattle.std.specs.Fmt.{decimal, sign_text}
+use Rattle.std.specs.Fmt.{decimal, signed_decimal, sign_text}
 use Rattle.std.proofs.lemmas.Bool.{cases_Bool, eqb-true, and_parts, leb-true, ltb-true, ltb-false}
 use Rattle.std.proofs.lemmas.Bool.Decides.{nat_tests}
-use Rattle.std.proofs.lemmas.Fmt.{decimal_is_IsNumeral_wide, length-decimal-le_wide}
+use Rattle.std.proofs.lemmas.Fmt.{decimal_digit, decimal_is_IsNumeral_wide, length-decimal-le_wide}
+use Rattle.std.proofs.lemmas.Int.{ints, clamps}
 use Rattle.std.proofs.lemmas.List.{take-append-drop, length-replicate, append-nil, take_all}
 use Rattle.std.proofs.Math.Numerals.{one-add}
 use Rattle.std.specs.Int.{w128, to_le_bytes, from_le_bytes}
@@ -19,8 +20,9 @@ use Rattle.std.specs.List.{prefix_len}
 use Rattle.std.specs.Str.Parse.{AllDigits, digits_value}
 use Rattle.bson_decimal.specs.declared.bits.Decoded.{Decoded}
 use Rattle.bson_decimal.specs.declared.bits.Decoded.TheVariants.{Nan, Infinity, Finite}
+use Rattle.bson_decimal.specs.Exponents.{exponent_at}
 use Rattle.bson_decimal.specs.Pattern.{decoded, dec, first_form, sign_weight, normal_decimal, normal_number, field, is_set, counted}
-use Rattle.bson_decimal.specs.Displayed.{decoded_displayed, displayed, finite_text, plain_text, scientific_text, power_text}
+use Rattle.bson_decimal.specs.Displayed.{decoded_displayed, displayed, finite_text, plain_text, scientific_text, scientific_exponent, power_text}
 use Rattle.bson_decimal.proofs.Shifted.{IsNearestShifted}
 use Rattle.bson_decimal.specs.Numeral.{Sign, none, plus, minus, sign_bytes, is_minus, Exponent, unwritten, written, exponent_bytes, fraction_bytes, fraction_digits, IsExponent, Numeral, is_zero, without_leading_zeros}
 use Rattle.bson_decimal.specs.Text.{Parses, special, nan, infinity, finite}
@@ -108,10 +110,18 @@ record Writes (c : ℕ) : Type 0 where
 writes : (c : ℕ) → c < 10 ^ 64 → Writes c
 writes c h = let d = decimal_is_IsNumeral_wide c h in record { some = d.0.0; digits = d.0.1; value = d.1 }
 
--- the exponent that is written behind an `E`
+-- the text of an exponent that is not 0
+power-above : (n : ℕ) → 0 < n → power_text (pos n) ≡ 43 ∷ decimal n
+power-above n some = let above : int_lt (pos 0) (pos n) ≡ true = grind (arith, ints) in rw above refl
+
+power-below : (n : ℕ) → 0 < n → power_text (neg_ℤ (pos n)) ≡ 45 ∷ decimal n
+power-below zero some = absurd (omega arith)
+power-below (suc n) some = refl
+
+-- the exponent k - 6177 that is written behind an `E`
 record PrintsPower (k : ℕ) : Type 0 where
   exponent : Exponent
-  is : 69 ∷ power_text k ≡ exponent_bytes exponent
+  is : 69 ∷ power_text (pos k -ℤ pos 6177) ≡ exponent_bytes exponent
   ok : IsExponent exponent
   at : raised exponent + 6177 ≡ k + lowered exponent
   high : raised exponent ≤ 7000
@@ -124,13 +134,16 @@ prints-power k most =
           let above = ltb-true 6177 k a in
           let d = writes (k - 6177) (omega arith) in
           let v = d.value in
-          record { exponent = written 69 plus (decimal (k - 6177)); is = rw a refl; ok = (inr refl, d.some, d.digits); at = omega arith; high = omega arith; low = omega arith }
+          let x : pos k -ℤ pos 6177 ≡ pos (k - 6177) = omega (arith, ints) in
+          record { exponent = written 69 plus (decimal (k - 6177)); is = rw x (ap (λ t. 69 ∷ t) (power-above (k - 6177) (omega arith))); ok = (inr refl, d.some, d.digits); at = omega arith; high = omega arith; low = omega arith }
       | inr a ↦ let below = ltb-false 6177 k a in elim (cases_Bool (eqb k 6177)) [
-        | inl b ↦ let is = eqb-true k 6177 b in record { exponent = written 69 none (48 ∷ []); is = rw (a, b) refl; ok = (inr refl, omega arith, (omega arith, tt)); at = omega arith; high = omega arith; low = omega arith }
+        | inl b ↦ let is = eqb-true k 6177 b in record { exponent = written 69 none (48 ∷ []); is = rw is (ap (λ t. 69 ∷ t) (decimal_digit 0 (omega arith))); ok = (inr refl, omega arith, (omega arith, tt)); at = omega arith; high = omega arith; low = omega arith }
         | inr b ↦
             let d = writes (6177 - k) (omega arith) in
             let v = d.value in
-            record { exponent = written 69 minus (decimal (6177 - k)); is = rw (a, b) refl; ok = (inr refl, d.some, d.digits); at = omega arith; high = omega arith; low = omega arith }
+            let other : k < 6177 = grind (arith, nat_tests) in
+            let x : pos k -ℤ pos 6177 ≡ neg_ℤ (pos (6177 - k)) = omega (arith, ints) in
+            record { exponent = written 69 minus (decimal (6177 - k)); is = rw x (ap (λ t. 69 ∷ t) (power-below (6177 - k) (omega arith))); ok = (inr refl, d.some, d.digits); at = omega arith; high = omega arith; low = omega arith }
       ]
     ]
 
@@ -203,7 +216,7 @@ module _ (c e : ℕ) (small : c < 10 ^ 34) (within : e < 12288) where
         ]
       ]
 
-  scientific-prints : Prints c e (scientific_text (decimal c) e)
+  scientific-prints : Prints c e (scientific_text (decimal c) (pos (e + length (decimal c)) -ℤ pos 6177))
   scientific-prints =
       let d = writes c (omega arith) in
       let ds = decimal c in
@@ -252,11 +265,29 @@ module _ (c e : ℕ) (small : c < 10 ^ 34) (within : e < 12288) where
             })
       ]
 
-finite-prints : (c e : ℕ) → c < 10 ^ 34 → e < 12288 → Prints c e (finite_text (decimal c) e)
+-- the tests on an exponent, of the stored one
+at-most-zero : (e : ℕ) → int_le (exponent_at e) (pos 0) ≡ true → e ≤ 6176
+at-most-zero e h = grind (arith, ints, h)
+
+at-least-six : (ds : List ℕ) (e : ℕ) → int_le (neg_ℤ (pos 6)) (scientific_exponent ds (exponent_at e)) ≡ true → 6171 ≤ e + length ds
+at-least-six ds e h = grind (arith, ints, h)
+
+places : (e : ℕ) → e ≤ 6176 → unsigned_abs (exponent_at e) ≡ 6176 - e
+places e low = omega (arith, ints, clamps)
+
+first-digit : (ds : List ℕ) (e : ℕ) → scientific_exponent ds (exponent_at e) ≡ pos (e + length ds) -ℤ pos 6177
+first-digit ds e = omega (arith, ints)
+
+finite-prints : (c e : ℕ) → c < 10 ^ 34 → e < 12288 → Prints c e (finite_text (decimal c) (exponent_at e))
 finite-prints c e small within =
-    elim (cases_Bool (leb e 6176 && leb 6171 (e + length (decimal c)))) [
-      | inl a ↦ let p = and_parts (leb e 6176) _ a in rw a (plain-prints c e small within (leb-true e 6176 p.0) (leb-true 6171 (e + length (decimal c)) p.1))
-      | inr a ↦ rw a (scientific-prints c e small within)
+    let ds = decimal c in
+    let x = exponent_at e in
+    elim (cases_Bool (int_le x (pos 0) && int_le (neg_ℤ (pos 6)) (scientific_exponent ds x))) [
+      | inl a ↦
+          let tests = and_parts (int_le x (pos 0)) _ a in
+          let low = at-most-zero e tests.0 in
+          rw (a, places e low) (plain-prints c e small within low (at-least-six ds e tests.1))
+      | inr a ↦ rw (a, first-digit ds e) (scientific-prints c e small within)
     ]
 
 decoded_displayed-parses : (d : Decoded) → IsDecoded d → Parses (decoded_displayed d) (to_le_bytes w128 (normal_number d))
@@ -264,7 +295,7 @@ decoded_displayed-parses (Nan s q) h = special none (codes "NaN") (124 * 2 ^ 120
 decoded_displayed-parses (Infinity s) h =
     special (sign_of s) (codes "Infinity") (120 * 2 ^ 120) (ap (λ t. t ++ codes "Infinity") (sign_bytes-is s)) (infinity refl)
     (ap (λ b. to_le_bytes w128 (sign_weight b + 120 * 2 ^ 120)) (sym (is_minus-is s)))
-decoded_displayed-parses (Finite s c e) h = from-prints s c e (finite_text (decimal c) e) h.0 h.1 (finite-prints c e h.0 h.1)
+decoded_displayed-parses (Finite s c e) h = from-prints s c e (finite_text (decimal c) (exponent_at e)) h.0 h.1 (finite-prints c e h.0 h.1)
 
 -- a printed text parses to the canonical pattern
 pub displayed-parses : (b : List ℕ) → Parses (displayed b) (normal_decimal b)

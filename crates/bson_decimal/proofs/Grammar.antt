@@ -15,7 +15,7 @@ use Rattle.std.specs.Option.{ok_or}
 use Rattle.bson_decimal.specs.declared.ParseError.TheVariants.{EmptyExponent, InvalidExponent}
 use Rattle.bson_decimal.specs.Numeral.{Sign, none, plus, minus, sign_bytes, is_minus, Exponent, unwritten, written, exponent_bytes, fraction_bytes, fraction_digits, IsExponent}
 use Rattle.bson_decimal.proofs.Shifted.{raised, lowered}
-use Rattle.bson_decimal.specs.Steps.{is_mark, is_point, has, is_exponent, biased_exponent, exponent_value, written_exponent, scaled_exponent, fitted, finite, bind}
+use Rattle.bson_decimal.specs.Steps.{is_mark, is_point, has, is_exponent, written_place, exponent_value, written_exponent, scaled_exponent, fitted, finite, bind}
 use Rattle.bson_decimal.proofs.StepLaws.{if-cases, not-true, not-false}
 use Rattle.bson_decimal.proofs.Zeros.{AllDigits-parts}
 use Rattle.bson_decimal.proofs.DigitTests.{AllDigits-from_test, test-from_AllDigits}
@@ -120,7 +120,7 @@ reads-exponent rest =
             part = written (get_or rest place 0) s.0 (without_leading_sign tail);
             is = split_at_first is_mark rest 0 within ∙ ap (λ t. before_first is_mark rest ++ get_or rest place 0 ∷ t) s.1;
             ok = (mark-cases _ (passes_at_first is_mark rest 0 within), ltb-true 0 _ a.0, AllDigits-from_test _ b.0);
-            value = subst (λ (m : Bool). biased_exponent tail + cond m v 0 ≡ 32768 + cond m 0 v) s.2 fits.0;
+            value = subst (λ (m : Bool). written_place tail + cond m v 0 ≡ 32768 + cond m 0 v) s.2 fits.0;
             high = subst (λ (m : Bool). cond m 0 v ≤ 32767) s.2 fits.1;
             low = subst (λ (m : Bool). cond m v 0 ≤ 32768) s.2 fits.2;
           })

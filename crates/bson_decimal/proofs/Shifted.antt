@@ -5,7 +5,7 @@ use lib.IntN.{nat_abs}
 use Rattle.std.proofs.lemmas.Int.{ints, clamps}
 use Rattle.std.proofs.lemmas.Nat.{pow-add}
 use Rattle.std.specs.Str.Parse.{digits_value}
-use Rattle.bson_decimal.specs.Pattern.{exponent_at}
+use Rattle.bson_decimal.specs.Exponents.{exponent_at}
 use Rattle.bson_decimal.specs.Numeral.{is_minus, Exponent, unwritten, written, Numeral, fraction_digits, written_exponent, exponent, number}
 use Rattle.bson_decimal.specs.Nearest.{Fits, IsNearest, distance}
 use Rattle.bson_decimal.specs.Text.{excess, IsWithin16}

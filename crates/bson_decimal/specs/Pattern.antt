@@ -1,5 +1,5 @@
 -- What the 16 bytes of a decimal mean: IEEE 754-2008, section 3.5.2, decimal128 with its coefficient as one binary number. BSON 1.1 stores the 128 bits with their lowest byte first.
-use Rattle.std.specs.Prelude.{◌≡◌, ℕ, ◌+◌, ◌*◌, ◌/◌, ◌%◌, ◌^◌, ◌<◌, ℤ, pos, ◌-ℤ◌, Bool, List, length, slice_index, nat_lt, ◌==◌, if◌then◌else◌}
+use Rattle.std.specs.Prelude.{◌≡◌, ℕ, ◌+◌, ◌*◌, ◌/◌, ◌%◌, ◌^◌, ◌<◌, Bool, List, length, slice_index, nat_lt, ◌==◌, if◌then◌else◌}
 use Rattle.std.specs.Int.{w128, from_le_bytes, to_le_bytes}
 use Rattle.bson_decimal.specs.declared.bits.Decoded.{Decoded}
 use Rattle.bson_decimal.specs.declared.bits.Decoded.TheVariants.{Nan, Infinity, Finite}
@@ -31,10 +31,6 @@ decoded n =
 -- what 16 bytes mean
 abbrev pub dec : List ℕ → Decoded
 dec b = decoded (from_le_bytes w128 b)
-
--- the exponent that a stored one stands for, from -6176 to 6111
-abbrev pub exponent_at : ℕ → ℤ
-exponent_at stored = pos stored -ℤ pos 6176
 
 abbrev pub sign_weight : Bool → ℕ
 sign_weight negative = if negative then 2 ^ 127 else 0

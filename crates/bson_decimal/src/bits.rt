@@ -1,6 +1,7 @@
 //! The bits of a pattern, taken apart and put together (IEEE 754-2008, section 3.5.2).
 
 ghost use Rattle.std.specs.Prelude.{◌≡◌, ◌^◌, ◌<◌, ◌≤◌};
+ghost use Rattle.bson_decimal.specs.Exponents.{exponent_at};
 ghost use Rattle.bson_decimal.specs.Pattern.{sign_weight, first_form};
 
 use crate::Decimal128;
@@ -71,6 +72,13 @@ impl Decimal128 {
             stored_exponent: ((number >> 113) % 16384) as u16,
         }
     }
+}
+
+// The exponent that a stored one stands for.
+pub(crate) fn exponent_at(stored: u16) -> i32
+    ensures { result ≡ exponent_at stored }
+{
+    i32::from(stored) - 6176
 }
 
 // The sign bit, as a number.

@@ -6,7 +6,7 @@ ghost use Rattle.std.specs.Str.Parse.{starts_with_minus};
 ghost use Rattle.bson_decimal.specs.Pattern.{normal_decimal};
 ghost use Rattle.bson_decimal.specs.Displayed.{displayed};
 ghost use Rattle.bson_decimal.specs.Text.{SpecialWord};
-ghost use Rattle.bson_decimal.specs.Steps.{is_mark, is_point, is_inside, cut_at_34, raise_to_least, zeros_to_add, fitted, coefficient, written_exponent, scaled_exponent, exponent_value, finite, unsigned};
+ghost use Rattle.bson_decimal.specs.Steps.{is_mark, is_point, is_inside, cut_at_34, raise_to_least, zeros_to_add, least_place, last_place, fitted, coefficient, written_exponent, scaled_exponent, exponent_value, finite, unsigned};
 ghost use Rattle.bson_decimal.specs.FromStr.{ParsesTo};
 
 use crate::bits::{INFINITY, QUIET_NAN, SIGNALLING_NAN, first_form, sign_weight};
@@ -104,15 +104,15 @@ fn special(rest: &str) -> Option<u128>
     None
 }
 
-// An exponent is kept with 32768 added, so that it is never negative. These are -6176, 6111 and
-// 32767, and 0.
-const LEAST: usize = 26592;
+// An exponent is kept by its place among those of 16 bits, so that it is never negative. These are
+// the places of 0, -6176, 6111 and 32767.
+const ZERO: usize = 1 << 15;
 
-const GREATEST: usize = 38879;
+const LEAST: usize = ZERO - 6176;
 
-const LIMIT: usize = 65535;
+const GREATEST: usize = ZERO + 6111;
 
-const ZERO: usize = 32768;
+const LAST: usize = ZERO + 32767;
 
 // The coefficient and the stored exponent of a finite text without its sign.
 #[tactic(auto, unfolding(crate::specs::Steps::finite))]
@@ -165,7 +165,7 @@ fn point_at(text: &[u8]) -> usize
 #[tactic(auto, unfolding(crate::specs::Steps::written_exponent))]
 fn written_exponent(rest: &str) -> Result<usize, ParseError>
     ensures value { result ≡ written_exponent rest.now }
-    ensures within { IfOk result (λ x. x ≤ 65535) }
+    ensures within { IfOk result (λ x. x ≤ last_place) }
 {
     let at = mark_at(rest.as_bytes());
     if at == rest.len() {
@@ -183,7 +183,7 @@ fn written_exponent(rest: &str) -> Result<usize, ParseError>
 
 fn exponent_value(text: &str) -> Option<usize>
     ensures value { result ≡ exponent_value text.now }
-    ensures within { IfSome result (λ x. x ≤ 65535) }
+    ensures within { IfSome result (λ x. x ≤ last_place) }
 {
     let Ok(exponent) = text.parse::<i16>() else {
         return None;
@@ -207,7 +207,7 @@ fn scaled_exponent(exponent: usize, fraction: &[u8]) -> Result<usize, ParseError
 // The coefficient and the stored exponent, from all digits and their exponent.
 #[tactic(auto, unfolding(crate::specs::Steps::fitted))]
 fn fitted(digits: Digits, exponent: usize) -> Result<(u128, u16), ParseError>
-    requires { exponent ≤ 65535 }
+    requires { exponent ≤ last_place }
     ensures { result ≡ fitted digits.entry exponent }
 {
     let has_digit = digits.len() > 0;
@@ -228,7 +228,7 @@ fn is_inside(byte: u8) -> bool
 // Keeps 34 bytes at most, and drops zeros only.
 #[tactic(auto, unfolding(crate::specs::Steps::cut_at_34))]
 fn cut_at_34(digits: Digits, exponent: usize) -> Result<(Digits, usize), ParseError>
-    requires { exponent ≤ 65535 }
+    requires { exponent ≤ last_place }
     ensures value { result ≡ cut_at_34 digits.entry exponent }
     ensures short { IfOk result (λ r. length r.0 ≤ 34) }
 {
@@ -245,7 +245,7 @@ fn cut_at_34(digits: Digits, exponent: usize) -> Result<(Digits, usize), ParseEr
     if len - 34 > 32767 {
         return Err(ParseError::Overflow);
     }
-    if exponent + (len - 34) > LIMIT {
+    if exponent + (len - 34) > LAST {
         return Err(ParseError::Overflow);
     }
     Ok((digits.first(34), exponent + (len - 34)))
@@ -256,7 +256,7 @@ fn cut_at_34(digits: Digits, exponent: usize) -> Result<(Digits, usize), ParseEr
 fn raise_to_least(digits: Digits, exponent: usize) -> Result<(Digits, usize), ParseError>
     ensures value { result ≡ raise_to_least digits.entry exponent }
     ensures shorter { IfOk result (λ r. length r.0 ≤ length digits.entry) }
-    ensures least { IfOk result (λ r. 26592 ≤ r.1) }
+    ensures least { IfOk result (λ r. least_place ≤ r.1) }
 {
     if exponent >= LEAST {
         return Ok((digits, exponent));
