@@ -6,7 +6,7 @@ use Rattle.bson_scalar.specs.declared.spec.BinarySubtype.{BinarySubtype}
 use Rattle.bson_scalar.specs.declared.spec.BinarySubtype.TheVariants.{UuidOld, Uuid}
 use Rattle.bson_scalar.specs.declared.uuid_value.Error.{Error}
 use Rattle.bson_scalar.specs.declared.uuid_value.Error.TheVariants.{InvalidUuidString, RepresentationMismatch, InvalidLength}
-pub use Rattle.uuid.specs.Text.{parsed_hyphenated, hyphenated_text, lower}
+pub use Rattle.uuid.specs.Text.{parsed_hyphenated}
 
 -- the place that each byte comes from: 0-3, 4-5 and 6-7 each reversed, or 0-7 and 8-15
 abbrev pub places_of : UuidRepresentation → List ℕ

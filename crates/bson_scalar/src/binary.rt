@@ -1,7 +1,9 @@
 //! Binaries: bytes with a subtype (BSON 1.1, type 0x05), their base64 texts (RFC 4648 section 4), and
 //! the UUIDs and vectors that they hold.
 ghost use Rattle.std.specs.Prelude.{◌≡◌, ◌≢◌, ◌⊎◌, ◌↔◌, ◌≤◌, ℕ, List, Some, IfErr, IfOk, IsOk, OnOk, length, true, unwrap_or, vec_len};
-ghost use Rattle.bson_scalar.specs.Base64.{IsBase64, base64_text};
+ghost use Rattle.base64.specs.Engines.{standard};
+ghost use Rattle.base64.specs.GeneralPurpose.{encode_of};
+ghost use Rattle.bson_scalar.specs.Base64.{IsBase64, padded_text};
 ghost use Rattle.bson_scalar.specs.Fault.{IsDecodingError, IsOutOfMemory};
 ghost use Rattle.bson_scalar.specs.Orders.{ordered, subtype_for};
 ghost use Rattle.bson_scalar.specs.VectorData.{IsInRange, IsOnlyOne, vector_held, vector_view};
@@ -258,7 +260,7 @@ struct Base64<'a> {
 }
 
 impl fmt::Display for Base64<'_> {
-    ghost output = { λ b. Some (base64_text b.bytes.now) };
+    ghost output = { λ b. Some (padded_text b.bytes.now) };
 
     fn fmt<W: fmt::Write>(&self, f: &mut fmt::Formatter<W>) -> fmt::Result {
         let mut rest = self.bytes;
@@ -275,7 +277,7 @@ impl fmt::Display for Base64<'_> {
 
 fn group_text<'o>(bytes: &[u8], out: &'o mut [u8; 4]) -> &'o str
     requires { length bytes.now ≤ 3 }
-    ensures { result.now ≡ base64_text bytes.now }
+    ensures { result.now ≡ padded_text bytes.now }
 {
     match str::from_utf8(group_bytes(bytes, out)) {
         Ok(text) => text,
@@ -283,10 +285,10 @@ fn group_text<'o>(bytes: &[u8], out: &'o mut [u8; 4]) -> &'o str
     }
 }
 
-// The text of at most three bytes, on the stack.
+// The text of at most three bytes, on the stack, as the engine writes it.
 fn group_bytes<'o>(bytes: &[u8], out: &'o mut [u8; 4]) -> &'o [u8]
     requires { length bytes.now ≤ 3 }
-    ensures { result.now ≡ base64_text bytes.now }
+    ensures { result.now ≡ encode_of standard bytes.now }
 {
     match STANDARD.encode_slice(bytes, out) {
         Ok(len) => &out[..len],

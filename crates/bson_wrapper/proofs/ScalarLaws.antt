@@ -8,7 +8,7 @@ use Rattle.serde_json.specs.Data.{Data, no_members, member}
 use Rattle.serde_json.specs.Data as tree
 use Rattle.serde_json.specs.Find.{of_integer}
 use Rattle.serde_json.specs.Written.{has_float}
-use Rattle.bson_scalar.specs.Base64.{base64_text}
+use Rattle.bson_scalar.specs.Base64.{padded_text}
 use Rattle.bson_wrapper.specs.Shapes.{object_of_one, object_of_two}
 use Rattle.bson_scalar.specs.Subtype.{subtype_byte, subtype_of}
 use Rattle.bson_decimal.specs.Pattern.{normal_decimal}
@@ -195,7 +195,7 @@ decimal_same b = ap (λ s. object_of_one (codes "$numberDecimal") (tree.string s
 pub nf_written : (f : Form) (x : Scalar) → writes_scalar f (normal_scalar x) ≡ writes_scalar f x
 nf_written f (double p) = ap (λ o. or_finite o >>= λ s. Ok (double_tree s)) (double_text-form p)
 nf_written f (regex p o) = ap (λ s. Ok (regex_tree p s)) (sorted_text-again o)
-nf_written f (binary k bytes) = ap (λ n. Ok (object_of_one (codes "$binary") (object_of_two (codes "base64") (tree.string (base64_text bytes)) (codes "subType") (tree.string (encode_lower (n ∷ [])))))) (subtype_byte-of (subtype_byte k))
+nf_written f (binary k bytes) = ap (λ n. Ok (object_of_one (codes "$binary") (object_of_two (codes "base64") (tree.string (padded_text bytes)) (codes "subType") (tree.string (encode_lower (n ∷ [])))))) (subtype_byte-of (subtype_byte k))
 nf_written f (decimal b) = ap Ok (decimal_same b)
 nf_written f x = refl
 

@@ -4,7 +4,7 @@ use Rattle.std.specs.Fmt.{decimal, signed_decimal, digits}
 use Rattle.hex.specs.Hex.{encode_lower}
 use Rattle.bson_datetime.specs.Displayed.{displayed as date_displayed}
 use Rattle.bson_decimal.specs.Displayed.{displayed as decimal_displayed}
-use Rattle.bson_scalar.specs.Base64.{base64_text}
+use Rattle.bson_scalar.specs.Base64.{padded_text}
 use Rattle.bson_scalar.specs.Subtype.{subtype_byte}
 use Rattle.bson_wrapper.specs.Scalar.{Scalar, null, undefined, min_key, max_key, boolean, double, int32, int64, text, symbol, code, regex, timestamp, binary, object_id, date, decimal as decimal128, db_pointer}
 
@@ -30,7 +30,7 @@ scalar_displayed (symbol s) = codes "Symbol(\"" ++ s ++ codes "\")"
 scalar_displayed (code s) = s
 scalar_displayed (regex p o) = codes "/" ++ p ++ codes "/" ++ o
 scalar_displayed (timestamp t i) = codes "Timestamp(" ++ decimal t ++ codes ", " ++ decimal i ++ codes ")"
-scalar_displayed (binary k bytes) = codes "Binary(0x" ++ digits 16 false (subtype_byte k) ++ codes ", " ++ base64_text bytes ++ codes ")"
+scalar_displayed (binary k bytes) = codes "Binary(0x" ++ digits 16 false (subtype_byte k) ++ codes ", " ++ padded_text bytes ++ codes ")"
 scalar_displayed (object_id id) = codes "ObjectId(\"" ++ encode_lower id ++ codes "\")"
 scalar_displayed (date ms) = codes "DateTime(\"" ++ date_displayed ms ++ codes "\")"
 scalar_displayed (decimal128 b) = decimal_displayed b
