@@ -6,7 +6,7 @@ use Rattle.std.specs.Str.Parse.{without_leading_sign}
 use Rattle.bson_decimal.specs.declared.ParseError.{ParseError}
 use Rattle.bson_decimal.specs.Steps as Steps
 use Rattle.bson_decimal.proofs.Bytes.{from_le_bytes-to_le_bytes_16}
-use Rattle.bson_decimal.proofs.PatternLaws.{decoded-first_form, first_form-lt}
+use Rattle.bson_decimal.proofs.PatternLaws.{number_meaning-first_form, first_form-lt}
 use Rattle.bson_decimal.proofs.Parsing.{word-off, no-word, special-parses, finite-parses, refused-parses}
 use Rattle.std.specs.Fmt.{decimal, signed_decimal, sign_text}
 use Rattle.std.proofs.lemmas.Bool.{cases_Bool, eqb-true, and_parts, leb-true, ltb-true, ltb-false}
@@ -21,12 +21,12 @@ use Rattle.std.specs.Str.Parse.{AllDigits, digits_value}
 use Rattle.bson_decimal.specs.declared.bits.Decoded.{Decoded}
 use Rattle.bson_decimal.specs.declared.bits.Decoded.TheVariants.{Nan, Infinity, Finite}
 use Rattle.bson_decimal.specs.Exponents.{exponent_at}
-use Rattle.bson_decimal.specs.Pattern.{decoded, dec, first_form, sign_weight, normal_decimal, normal_number, field, is_set, counted}
-use Rattle.bson_decimal.specs.Displayed.{decoded_displayed, displayed, finite_text, plain_text, scientific_text, scientific_exponent, power_text}
+use Rattle.bson_decimal.specs.Pattern.{number_meaning, bytes_meaning, first_form, sign_weight, normal_decimal, normal_number, field, is_set, canonical_coefficient}
+use Rattle.bson_decimal.specs.Displayed.{meaning_text, display_text, finite_text, plain_text, scientific_text, scientific_exponent, power_text}
 use Rattle.bson_decimal.proofs.Shifted.{IsNearestShifted}
 use Rattle.bson_decimal.specs.Numeral.{Sign, none, plus, minus, sign_bytes, is_minus, Exponent, unwritten, written, exponent_bytes, fraction_bytes, fraction_digits, IsExponent, Numeral, is_zero, without_leading_zeros}
 use Rattle.bson_decimal.specs.Text.{Parses, special, nan, infinity, finite}
-use Rattle.bson_decimal.proofs.Shifted.{raised, lowered, up, down, within16, nearest}
+use Rattle.bson_decimal.proofs.Shifted.{written_up, written_down, up, down, within16, nearest}
 use Rattle.bson_decimal.proofs.NearestLaws.{nearest-same}
 use Rattle.bson_decimal.proofs.Zeros.{value-before, AllDigits-append, AllDigits-zeros}
 
@@ -39,9 +39,9 @@ choose : (b : Bool) (x y : Decoded) → (b ≡ true → IsDecoded x) → (b ≡ 
 choose true x y f g = f refl
 choose false x y f g = g refl
 
-pub decoded-within : (n : ℕ) → IsDecoded (decoded n)
-decoded-within n =
-    let rest = Finite (is_set n 127) (counted (field n 0 113)) (field n 113 14) in
+pub number_meaning-within : (n : ℕ) → IsDecoded (number_meaning n)
+number_meaning-within n =
+    let rest = Finite (is_set n 127) (canonical_coefficient (field n 0 113)) (field n 113 14) in
     let second = Finite (is_set n 127) 0 (field n 111 14) in
     let other : Decoded = cond (eqb (field n 125 2) 3) second rest in
     choose (eqb (field n 122 5) 31) (Nan (is_set n 127) (is_set n 121)) (cond (eqb (field n 122 5) 30) (Infinity (is_set n 127)) other) (λ _. tt)
@@ -74,11 +74,11 @@ record Prints (c e : ℕ) (body : List ℕ) : Type 0 where
   some : 0 < length (whole ++ fraction_digits fraction)
   ok : IsExponent exponent
   value : digits_value 10 (whole ++ fraction_digits fraction) ≡ c
-  high : raised exponent ≤ 7000
-  low : lowered exponent ≤ 7000
+  high : written_up exponent ≤ 7000
+  low : written_down exponent ≤ 7000
   short : length (fraction_digits fraction) ≤ 7000
   few : length (without_leading_zeros (whole ++ fraction_digits fraction)) ≤ 34
-  at : e + (length (fraction_digits fraction) + lowered exponent) ≡ raised exponent + 6176
+  at : e + (length (fraction_digits fraction) + written_down exponent) ≡ written_up exponent + 6176
 
 from-prints : (negative : Bool) (c e : ℕ) (body : List ℕ) → c < 10 ^ 34 → e < 12288 → Prints c e body → Parses (sign_text negative ++ body) (to_le_bytes w128 (first_form negative c e))
 from-prints negative c e body small within p =
@@ -123,9 +123,9 @@ record PrintsPower (k : ℕ) : Type 0 where
   exponent : Exponent
   is : 69 ∷ power_text (pos k -ℤ pos 6177) ≡ exponent_bytes exponent
   ok : IsExponent exponent
-  at : raised exponent + 6177 ≡ k + lowered exponent
-  high : raised exponent ≤ 7000
-  low : lowered exponent ≤ 7000
+  at : written_up exponent + 6177 ≡ k + written_down exponent
+  high : written_up exponent ≤ 7000
+  low : written_down exponent ≤ 7000
 
 prints-power : (k : ℕ) → k ≤ 12400 → PrintsPower k
 prints-power k most =
@@ -290,17 +290,17 @@ finite-prints c e small within =
       | inr a ↦ rw (a, first-digit ds e) (scientific-prints c e small within)
     ]
 
-decoded_displayed-parses : (d : Decoded) → IsDecoded d → Parses (decoded_displayed d) (to_le_bytes w128 (normal_number d))
-decoded_displayed-parses (Nan s q) h = special none (codes "NaN") (124 * 2 ^ 120) refl (nan refl) refl
-decoded_displayed-parses (Infinity s) h =
+meaning_text-parses : (d : Decoded) → IsDecoded d → Parses (meaning_text d) (to_le_bytes w128 (normal_number d))
+meaning_text-parses (Nan s q) h = special none (codes "NaN") (124 * 2 ^ 120) refl (nan refl) refl
+meaning_text-parses (Infinity s) h =
     special (sign_of s) (codes "Infinity") (120 * 2 ^ 120) (ap (λ t. t ++ codes "Infinity") (sign_bytes-is s)) (infinity refl)
     (ap (λ b. to_le_bytes w128 (sign_weight b + 120 * 2 ^ 120)) (sym (is_minus-is s)))
-decoded_displayed-parses (Finite s c e) h = from-prints s c e (finite_text (decimal c) (exponent_at e)) h.0 h.1 (finite-prints c e h.0 h.1)
+meaning_text-parses (Finite s c e) h = from-prints s c e (finite_text (decimal c) (exponent_at e)) h.0 h.1 (finite-prints c e h.0 h.1)
 
 -- a printed text parses to the canonical pattern
-pub displayed-parses : (b : List ℕ) → Parses (displayed b) (normal_decimal b)
-unfolding displayed normal_decimal
-displayed-parses b = decoded_displayed-parses (dec b) (decoded-within (from_le_bytes w128 b))
+pub display_text-parses : (b : List ℕ) → Parses (display_text b) (normal_decimal b)
+unfolding display_text normal_decimal
+display_text-parses b = meaning_text-parses (bytes_meaning b) (number_meaning-within (from_le_bytes w128 b))
 
 -- a text parses to one pattern
 pub parses-one : (text a b : List ℕ) → Parses text a → Parses text b → a ≡ b
@@ -323,24 +323,24 @@ canon-lt (Infinity true) h = omega arith
 canon-lt (Infinity false) h = omega arith
 canon-lt (Finite s c e) h = first_form-lt s c e h.0 h.1
 
-decoded_displayed-canon : (d : Decoded) → IsDecoded d → decoded_displayed (decoded (normal_number d)) ≡ decoded_displayed d
-decoded_displayed-canon (Nan s q) h = refl
-decoded_displayed-canon (Infinity true) h = refl
-decoded_displayed-canon (Infinity false) h = refl
-decoded_displayed-canon (Finite s c e) h = ap decoded_displayed (decoded-first_form s c e h.0 h.1)
+meaning_text-canon : (d : Decoded) → IsDecoded d → meaning_text (number_meaning (normal_number d)) ≡ meaning_text d
+meaning_text-canon (Nan s q) h = refl
+meaning_text-canon (Infinity true) h = refl
+meaning_text-canon (Infinity false) h = refl
+meaning_text-canon (Finite s c e) h = ap meaning_text (number_meaning-first_form s c e h.0 h.1)
 
-pub displayed-canon : (b : List ℕ) → displayed (normal_decimal b) ≡ displayed b
-unfolding displayed normal_decimal
-displayed-canon b =
-    let h = decoded-within (from_le_bytes w128 b) in
-    ap (λ n. decoded_displayed (decoded n)) (from_le_bytes-to_le_bytes_16 (normal_number (dec b)) (canon-lt (dec b) h)) ∙ decoded_displayed-canon (dec b) h
+pub display_text-canon : (b : List ℕ) → display_text (normal_decimal b) ≡ display_text b
+unfolding display_text normal_decimal
+display_text-canon b =
+    let h = number_meaning-within (from_le_bytes w128 b) in
+    ap (λ n. meaning_text (number_meaning n)) (from_le_bytes-to_le_bytes_16 (normal_number (bytes_meaning b)) (canon-lt (bytes_meaning b) h)) ∙ meaning_text-canon (bytes_meaning b) h
 
 -- two patterns print alike exactly if their canonical patterns are one
-pub displayed-same : (a b : List ℕ) → (displayed a ≡ displayed b) ↔ (normal_decimal a ≡ normal_decimal b)
-displayed-same a b =
-    (λ e. parses-one (displayed b) (normal_decimal a) (normal_decimal b) (rw e at (displayed-parses a)) (displayed-parses b), λ e. sym (displayed-canon a) ∙ ap displayed e ∙ displayed-canon b)
+pub display_text-same : (a b : List ℕ) → (display_text a ≡ display_text b) ↔ (normal_decimal a ≡ normal_decimal b)
+display_text-same a b =
+    (λ e. parses-one (display_text b) (normal_decimal a) (normal_decimal b) (rw e at (display_text-parses a)) (display_text-parses b), λ e. sym (display_text-canon a) ∙ ap display_text e ∙ display_text-canon b)
 
 -- so a printed text is answered by its canonical pattern
-pub reads-displayed : (text : List ℕ) (r : Result (List ℕ) ParseError) → ParsesTo text r → (b : List ℕ) → text ≡ displayed b → IsOkAnd r (λ d. d ≡ normal_decimal b)
-reads-displayed text (Ok d) h b e = sym (h.1 (normal_decimal b) (rw e (displayed-parses b)))
-reads-displayed text (Err k) h b e = absurd (h.0 (normal_decimal b) (rw e (displayed-parses b)))
+pub reads-display_text : (text : List ℕ) (r : Result (List ℕ) ParseError) → ParsesTo text r → (b : List ℕ) → text ≡ display_text b → IsOkAnd r (λ d. d ≡ normal_decimal b)
+reads-display_text text (Ok d) h b e = sym (h.1 (normal_decimal b) (rw e (display_text-parses b)))
+reads-display_text text (Err k) h b e = absurd (h.0 (normal_decimal b) (rw e (display_text-parses b)))

@@ -4,7 +4,7 @@ use Rattle.std.specs.Fmt.{decimal, signed_decimal, sign_text}
 use Rattle.bson_decimal.specs.declared.bits.Decoded.{Decoded}
 use Rattle.bson_decimal.specs.declared.bits.Decoded.TheVariants.{Nan, Infinity, Finite}
 use Rattle.bson_decimal.specs.Exponents.{exponent_at}
-use Rattle.bson_decimal.specs.Pattern.{dec}
+use Rattle.bson_decimal.specs.Pattern.{bytes_meaning}
 
 -- the digits with a point before the last `places` of them, or `0.` and zeros where there are no more
 abbrev pub plain_text : List ℕ → ℕ → List ℕ
@@ -32,11 +32,11 @@ finite_text ds exponent =
     else scientific_text ds (scientific_exponent ds exponent)
 
 -- a NaN has neither a sign nor a mark that it signals
-abbrev pub decoded_displayed : Decoded → List ℕ
-decoded_displayed (Nan negative signalling) = codes "NaN"
-decoded_displayed (Infinity negative) = sign_text negative ++ codes "Infinity"
-decoded_displayed (Finite negative c stored) = sign_text negative ++ finite_text (decimal c) (exponent_at stored)
+abbrev pub meaning_text : Decoded → List ℕ
+meaning_text (Nan negative signalling) = codes "NaN"
+meaning_text (Infinity negative) = sign_text negative ++ codes "Infinity"
+meaning_text (Finite negative c stored) = sign_text negative ++ finite_text (decimal c) (exponent_at stored)
 
 -- the text of 16 bytes
-unfoldable pub displayed : List ℕ → List ℕ
-displayed b = decoded_displayed (dec b)
+unfoldable pub display_text : List ℕ → List ℕ
+display_text b = meaning_text (bytes_meaning b)

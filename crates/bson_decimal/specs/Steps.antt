@@ -69,20 +69,16 @@ zeros_to_add ds x =
     else (if nat_lt 34 (length ds + (x - greatest_place)) then Err Overflow
     else Ok (x - greatest_place)))
 
--- the bytes after a leading sign
-abbrev pub unsigned : List ℕ → List ℕ
-unsigned bs = without_leading_sign bs
-
 abbrev pub has : (ℕ → Bool) → List ℕ → Bool
 has p bs = nat_lt (position_or_len p bs) (length bs)
 
 -- a sign and digits, of a value from -32768 to 32767
 abbrev pub is_exponent : List ℕ → Bool
-is_exponent bs = nat_lt 0 (length (unsigned bs)) && (all_ascii_digits (unsigned bs) && nat_le (digits_value 10 (unsigned bs)) (if starts_with_minus bs then 32768 else 32767))
+is_exponent bs = nat_lt 0 (length (without_leading_sign bs)) && (all_ascii_digits (without_leading_sign bs) && nat_le (digits_value 10 (without_leading_sign bs)) (if starts_with_minus bs then 32768 else 32767))
 
 -- the place of that value
 abbrev pub written_place : List ℕ → ℕ
-written_place bs = if starts_with_minus bs then zero_place - digits_value 10 (unsigned bs) else zero_place + digits_value 10 (unsigned bs)
+written_place bs = if starts_with_minus bs then zero_place - digits_value 10 (without_leading_sign bs) else zero_place + digits_value 10 (without_leading_sign bs)
 
 unfoldable pub exponent_value : List ℕ → Option ℕ
 exponent_value bs = if is_exponent bs then Some (written_place bs) else None
@@ -118,8 +114,8 @@ coefficient ds z has_digit =
     else Ok (digits_value 10 ds * 10 ^ z))
 
 -- a coefficient and a stored exponent
-unfoldable pub fitted : List ℕ → ℕ → Result (ℕ × ℕ) ParseError
-fitted bs x = do
+unfoldable pub stored_pair : List ℕ → ℕ → Result (ℕ × ℕ) ParseError
+stored_pair bs x = do
   a ← cut_at_34 (without_leading_zeros bs) x
   b ← raise_to_least a.0 a.1
   z ← zeros_to_add b.0 b.1
@@ -131,7 +127,7 @@ unfoldable pub finite : List ℕ → Result (ℕ × ℕ) ParseError
 finite rest = do
   w ← written_exponent rest
   x ← scaled_exponent w (after_first is_point (before_first is_mark rest))
-  fitted (before_first is_point (before_first is_mark rest) ++ after_first is_point (before_first is_mark rest)) x
+  stored_pair (before_first is_point (before_first is_mark rest) ++ after_first is_point (before_first is_mark rest)) x
 
 -- the kind of fault of a text that denotes nothing
 abbrev pub fault_of : Result (ℕ × ℕ) ParseError → ParseError
@@ -139,4 +135,4 @@ fault_of (Ok r) = InvalidCoefficient
 fault_of (Err k) = k
 
 unfoldable pub decimal_fault : List ℕ → ParseError
-decimal_fault text = fault_of (finite (unsigned text))
+decimal_fault text = fault_of (finite (without_leading_sign text))

@@ -35,10 +35,10 @@ pub(crate) const SIGNALLING_NAN: u128 = 0x7e << 120;
 pub(crate) const INFINITY: u128 = 0x78 << 120;
 
 impl Decimal128 {
-    ghost use Rattle.bson_decimal.specs.Pattern.{dec};
+    ghost use Rattle.bson_decimal.specs.Pattern.{bytes_meaning};
 
     pub(crate) fn decoded(&self) -> Decoded
-        ensures { result ≡ dec self.now }
+        ensures { result ≡ bytes_meaning self.now }
     {
         let number = u128::from_le_bytes(self.bytes());
         let negative = (number >> 127) % 2 == 1;

@@ -2,11 +2,11 @@
 
 ghost use Rattle.std.specs.Prelude.{◌≡◌, ◌↔◌, ◌+◌, ◌*◌, ◌^◌, ◌<◌, ◌≤◌, List, ℕ, length, position, slice_index, IfOk, IfSome, IsOkAnd, MatchOption};
 ghost use Rattle.std.specs.List.{position_or_len};
-ghost use Rattle.std.specs.Str.Parse.{starts_with_minus};
+ghost use Rattle.std.specs.Str.Parse.{starts_with_minus, without_leading_sign};
 ghost use Rattle.bson_decimal.specs.Pattern.{normal_decimal};
-ghost use Rattle.bson_decimal.specs.Displayed.{displayed};
+ghost use Rattle.bson_decimal.specs.Displayed.{display_text};
 ghost use Rattle.bson_decimal.specs.Text.{SpecialWord};
-ghost use Rattle.bson_decimal.specs.Steps.{is_mark, is_point, is_inside, cut_at_34, raise_to_least, zeros_to_add, least_place, last_place, fitted, coefficient, written_exponent, scaled_exponent, exponent_value, finite, unsigned};
+ghost use Rattle.bson_decimal.specs.Steps.{is_mark, is_point, is_inside, cut_at_34, raise_to_least, zeros_to_add, least_place, last_place, stored_pair, coefficient, written_exponent, scaled_exponent, exponent_value, finite};
 ghost use Rattle.bson_decimal.specs.FromStr.{ParsesTo};
 
 use crate::bits::{INFINITY, QUIET_NAN, SIGNALLING_NAN, first_form, sign_weight};
@@ -47,9 +47,9 @@ impl FromStr for Decimal128 {
 
         // Two laws: a printed text parses to the canonical pattern, and two patterns print alike
         // exactly if their canonical patterns are one.
-        ensures reads_displayed { (b : List ℕ) → text.now ≡ displayed b
+        ensures reads_displayed { (b : List ℕ) → text.now ≡ display_text b
             → IsOkAnd result (λ d. d ≡ normal_decimal b) }
-        ensures prints_apart { (a b : List ℕ) → (displayed a ≡ displayed b) ↔ (normal_decimal a ≡ normal_decimal b) }
+        ensures prints_apart { (a b : List ℕ) → (display_text a ≡ display_text b) ↔ (normal_decimal a ≡ normal_decimal b) }
     {
         let negative = is_negative(text);
         let rest = without_sign(text);
@@ -69,7 +69,7 @@ fn is_negative(text: &str) -> bool
 }
 
 fn without_sign(text: &str) -> &str
-    ensures { result.now ≡ unsigned text.now }
+    ensures { result.now ≡ without_leading_sign text.now }
 {
     let bytes = text.as_bytes();
     if bytes.is_empty() {
@@ -130,7 +130,7 @@ fn finite(rest: &str) -> Result<(u128, u16), ParseError>
         &[]
     };
     let exponent = scaled_exponent(exponent, fraction)?;
-    fitted(Digits::new(whole, fraction), exponent)
+    stored_pair(Digits::new(whole, fraction), exponent)
 }
 
 fn find_mark(text: &[u8]) -> Option<usize>
@@ -205,10 +205,10 @@ fn scaled_exponent(exponent: usize, fraction: &[u8]) -> Result<usize, ParseError
 }
 
 // The coefficient and the stored exponent, from all digits and their exponent.
-#[tactic(auto, unfolding(crate::specs::Steps::fitted))]
-fn fitted(digits: Digits, exponent: usize) -> Result<(u128, u16), ParseError>
+#[tactic(auto, unfolding(crate::specs::Steps::stored_pair))]
+fn stored_pair(digits: Digits, exponent: usize) -> Result<(u128, u16), ParseError>
     requires { exponent ≤ last_place }
-    ensures { result ≡ fitted digits.entry exponent }
+    ensures { result ≡ stored_pair digits.entry exponent }
 {
     let has_digit = digits.len() > 0;
     let (digits, exponent) = cut_at_34(digits.without_leading_zeros(), exponent)?;

@@ -15,8 +15,8 @@ places_of JavaLegacy = 7 ∷ 6 ∷ 5 ∷ 4 ∷ 3 ∷ 2 ∷ 1 ∷ 0 ∷ 15 ∷ 14
 places_of _ = 0 ∷ 1 ∷ 2 ∷ 3 ∷ 4 ∷ 5 ∷ 6 ∷ 7 ∷ 8 ∷ 9 ∷ 10 ∷ 11 ∷ 12 ∷ 13 ∷ 14 ∷ 15 ∷ []
 
 -- the bytes in the order of a representation, which undoes itself
-abbrev pub ordered : UuidRepresentation → List ℕ → List ℕ
-ordered r xs = map (slice_index xs) (places_of r)
+abbrev pub bytes_in_order : UuidRepresentation → List ℕ → List ℕ
+bytes_in_order r xs = map (slice_index xs) (places_of r)
 
 -- the subtype that a representation is stored with
 abbrev pub subtype_for : UuidRepresentation → BinarySubtype

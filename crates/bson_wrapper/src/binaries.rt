@@ -5,6 +5,7 @@
 ghost use Rattle.std.specs.Prelude.{◌≡◌, ◌<◌, IfOk, OnOk, ◌∷◌, [], string_bytes};
 ghost use Rattle.serde_json.specs.View.{view};
 ghost use Rattle.hex.specs.Hex.{encode_lower, IsBytes};
+ghost use Rattle.bson_scalar.specs.Base64.{padded_text};
 ghost use Rattle.bson_scalar.specs.Orders.{parsed_hyphenated};
 ghost use Rattle.bson_scalar.specs.Subtype.{subtype_byte};
 ghost use Rattle.bson_wrapper.specs.Binaries.{binary_tree};
@@ -99,6 +100,12 @@ pub(crate) fn byte_text(alloc: Global, subtype: BinarySubtype) -> Result<String,
     hex::encode(alloc, [byte])
 }
 
+pub(crate) fn base64_text(alloc: Global, bytes: &[u8]) -> Result<String, AllocError>
+    ensures { IfOk result (λ s. string_bytes s ≡ padded_text bytes.now) }
+{
+    STANDARD.encode(alloc, bytes)
+}
+
 /// The tree of a binary, in both forms.
 pub fn write_binary(alloc: Global, binary: Binary) -> Result<Value, AllocError>
     ensures tree { IfOk result (λ t. view t ≡ binary_tree binary.subtype binary.bytes.items) }
@@ -106,7 +113,7 @@ pub fn write_binary(alloc: Global, binary: Binary) -> Result<Value, AllocError>
 {
     let Binary { subtype, bytes } = binary;
     are_bytes(bytes.as_slice());
-    let base64 = STANDARD.encode(alloc, bytes.as_slice())?;
+    let base64 = base64_text(alloc, bytes.as_slice())?;
     let subtype = byte_text(alloc, subtype)?;
     let mut members = Map::new(alloc);
     serde_json::put(&mut members, alloc, "base64", Value::String(base64))?;

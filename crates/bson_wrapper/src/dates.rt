@@ -3,7 +3,7 @@
 //! relaxed form as an RFC 3339 text from 1970 to the end of the year 9999.
 ghost use Rattle.std.specs.Prelude.{◌≡◌, IfOk, codes, pos, ◌≤ℤ◌, string_bytes};
 ghost use Rattle.serde_json.specs.View.{view};
-ghost use Rattle.bson_datetime.specs.Rfc3339.{denoted};
+ghost use Rattle.bson_datetime.specs.Rfc3339.{named_moment};
 ghost use Rattle.bson_datetime.specs.Displayed.{rfc};
 ghost use Rattle.bson_wrapper.specs.Dates.{date_tree, relaxed_date_tree};
 ghost use Rattle.bson_wrapper.specs.Faults.{Gives, or_wrong_shape};
@@ -26,7 +26,7 @@ const SHAPE: &str = "`$date` holds `$numberLong`, an RFC 3339 text or a whole nu
 pub(crate) const LAST_RELAXED: i64 = 253_402_300_799_999;
 
 fn denoted_by(text: &str) -> Option<DateTime>
-    ensures { result ≡ denoted text.now }
+    ensures { result ≡ named_moment text.now }
 {
     match DateTime::parse_rfc3339_str(text) {
         Ok(date) => Some(date),

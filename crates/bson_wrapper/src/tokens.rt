@@ -23,14 +23,13 @@ ghost use Rattle.bson_wrapper.specs.Written.{writes_scalar, double_writes, int32
 ghost use Rattle.bson_wrapper.specs.Tokens.{tokens_of, Puts};
 ghost use Rattle.bson_wrapper.specs.View.{scalar_view};
 
-use crate::binaries::byte_text;
+use crate::binaries::{base64_text, byte_text};
 use crate::dates::{self, LAST_RELAXED};
 use crate::doubles::double_text;
 use crate::form::Form;
 use crate::scalar::Scalar;
 use crate::shapes::are_bytes;
 use crate::write_error::WriteError;
-use base64::engine::general_purpose::STANDARD;
 use bson_datetime::DateTime;
 use bson_decimal::Decimal128;
 use bson_scalar::binary::Binary;
@@ -295,7 +294,7 @@ pub fn put_binary(alloc: Global, binary: &Binary, out: &mut Writer) -> Result<()
     ensures ranged { OnOk result ((subtype_byte binary.now.subtype < 256) × IsBytes binary.now.bytes.items) }
 {
     are_bytes(binary.bytes.as_slice());
-    let base64 = STANDARD.encode(alloc, binary.bytes.as_slice())?;
+    let base64 = base64_text(alloc, binary.bytes.as_slice())?;
     let subtype = byte_text(alloc, binary.subtype)?;
     put_two_texts(
         "$binary",
