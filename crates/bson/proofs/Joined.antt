@@ -4,7 +4,7 @@ use Rattle.std.proofs.lemmas.Bool.{ne_eqb}
 use Rattle.std.proofs.lemmas.Grind.{flat_map-append}
 use Rattle.std.proofs.lemmas.List.{take_more}
 use Rattle.std.specs.List.{flat_map, join_by}
-use Rattle.bson_model.specs.Displayed.{enclosed}
+use Rattle.bson_model.specs.Displayed.{bracketed_text}
 
 module _ {X : Type 0} where
   flat_map-map : (sep : List ℕ) (f : X → List ℕ) (xs : List X) → flat_map (λ t. sep ++ t) (map f xs) ≡ flat_map (λ x. sep ++ f x) xs
@@ -44,7 +44,7 @@ module _ {X : Type 0} where
       ap (λ s. join_by f sep (take i xs) ++ (s ++ f x)) (sym (between-take sep xs i h)) ∙ sym (join_last f sep (take i xs) x)
       ∙ ap (λ y. join_by f sep (take i xs ++ y ∷ [])) is ∙ ap (join_by f sep) (sym (take_more xs i x h))
 
-  pub enclosed_all : (f : X → List ℕ) (empty opening sep closing : List ℕ) (xs : List X) → 0 < length xs → opening ++ (join_by f sep xs ++ closing) ≡ enclosed empty opening sep closing (map f xs)
+  pub enclosed_all : (f : X → List ℕ) (empty opening sep closing : List ℕ) (xs : List X) → 0 < length xs → opening ++ (join_by f sep xs ++ closing) ≡ bracketed_text empty opening sep closing (map f xs)
   enclosed_all f empty opening sep closing [] h = absurd (omega arith)
   enclosed_all f empty opening sep closing (x ∷ xs) h = ap (λ l. opening ++ (l ++ closing)) (sym (join_by-map f sep (x ∷ xs)))
 

@@ -2,7 +2,7 @@
 ghost use Rattle.std.specs.Prelude.{◌≡◌, ◌==◌, ◌++◌, cond, [], codes};
 ghost use Rattle.std.specs.Fmt.{WritesOnOk};
 ghost use Rattle.bson_model.specs.Value.{array, document as document_of};
-ghost use Rattle.bson_model.specs.Displayed.{displayed, entry};
+ghost use Rattle.bson_model.specs.Displayed.{display_text, entry};
 ghost use Rattle.bson.specs.View.{bson_view, values_view, pairs_view};
 
 use crate::bson::{Bson, JavaScriptCodeWithScope};
@@ -17,10 +17,10 @@ use std::fmt;
 /// written as its pattern of bits, `Double(0x3ff8000000000000)`. It takes no memory.
 impl fmt::Display for Bson {
     ghost use Rattle.std.specs.Prelude.{Some};
-    ghost use Rattle.bson_model.specs.Displayed.{displayed};
+    ghost use Rattle.bson_model.specs.Displayed.{display_text};
     ghost use Rattle.bson.specs.View.{bson_view};
 
-    ghost output = { λ v. Some (displayed (bson_view v)) };
+    ghost output = { λ v. Some (display_text (bson_view v)) };
 
     fn fmt<W: fmt::Write>(&self, f: &mut fmt::Formatter<W>) -> fmt::Result {
         show(self, f)
@@ -31,10 +31,10 @@ impl fmt::Display for Bson {
 impl fmt::Display for Document {
     ghost use Rattle.std.specs.Prelude.{Some};
     ghost use Rattle.bson_model.specs.Value.{document};
-    ghost use Rattle.bson_model.specs.Displayed.{displayed};
+    ghost use Rattle.bson_model.specs.Displayed.{display_text};
     ghost use Rattle.bson.specs.View.{document_view};
 
-    ghost output = { λ d. Some (displayed (document (document_view d))) };
+    ghost output = { λ d. Some (display_text (document (document_view d))) };
 
     fn fmt<W: fmt::Write>(&self, f: &mut fmt::Formatter<W>) -> fmt::Result {
         show_pairs(self, f)
@@ -54,7 +54,7 @@ impl fmt::Display for JavaScriptCodeWithScope {
 
 #[cycle(show)]
 fn show<W: fmt::Write>(value: &Bson, f: &mut fmt::Formatter<W>) -> fmt::Result
-    ensures { WritesOnOk W.write_str_gives f.old result (displayed (bson_view value.now)) f.new }
+    ensures { WritesOnOk W.write_str_gives f.old result (display_text (bson_view value.now)) f.new }
 {
     match value {
         Bson::Array(items) => show_items(items, f),
@@ -66,7 +66,7 @@ fn show<W: fmt::Write>(value: &Bson, f: &mut fmt::Formatter<W>) -> fmt::Result
 
 #[cycle(show)]
 fn show_items<W: fmt::Write>(items: &Vec<Bson>, f: &mut fmt::Formatter<W>) -> fmt::Result
-    ensures { WritesOnOk W.write_str_gives f.old result (displayed (array (values_view items.now.items))) f.new }
+    ensures { WritesOnOk W.write_str_gives f.old result (display_text (array (values_view items.now.items))) f.new }
 {
     if items.is_empty() {
         return f.write_str("[]");
@@ -81,7 +81,7 @@ fn show_items<W: fmt::Write>(items: &Vec<Bson>, f: &mut fmt::Formatter<W>) -> fm
 
 #[cycle(show)]
 fn show_pairs<W: fmt::Write>(document: &Document, f: &mut fmt::Formatter<W>) -> fmt::Result
-    ensures { WritesOnOk W.write_str_gives f.old result (displayed (document_of (pairs_view document.now.pairs))) f.new }
+    ensures { WritesOnOk W.write_str_gives f.old result (display_text (document_of (pairs_view document.now.pairs))) f.new }
 {
     let pairs = &document.pairs;
     if pairs.len() == 0 {
@@ -97,7 +97,7 @@ fn show_pairs<W: fmt::Write>(document: &Document, f: &mut fmt::Formatter<W>) -> 
 
 #[cycle(show)]
 fn show_entry<W: fmt::Write>(key: &str, value: &Bson, f: &mut fmt::Formatter<W>) -> fmt::Result
-    ensures { WritesOnOk W.write_str_gives f.old result (entry key.now (displayed (bson_view value.now))) f.new }
+    ensures { WritesOnOk W.write_str_gives f.old result (entry key.now (display_text (bson_view value.now))) f.new }
 {
     write!(f, "\"{key}\": ")?;
     show(value, f)

@@ -9,7 +9,7 @@ use Rattle.jiff.proofs.Family.{civil_nanos-parts, time_nanos_bound, civil_nanos_
 use Rattle.jiff.proofs.SpanFacts.{signed_arith}
 use Rattle.bson_datetime.specs.JiffSteps.{IsJiffMoment, fields_of}
 use Rattle.bson_datetime.specs.Moment.{Civil, IsCivil, IsMoment, IsCivilMillis, civil_of, day_of, time_of}
-use Rattle.bson_datetime.specs.Displayed.{displayed, is_civil_millis, civil_text, rfc, rfc_text}
+use Rattle.bson_datetime.specs.Displayed.{display_text, is_civil_millis, civil_text, rfc, rfc_text}
 use Rattle.bson_datetime.proofs.CivilLemmas.{date_of-date, size_of}
 use Rattle.bson_datetime.proofs.MomentExists.{moment_at}
 
@@ -34,9 +34,9 @@ in_range ms h = grind (arith, ints)
 out_of_range : (ms : ℤ) → ¬ (IsCivilMillis ms) → is_civil_millis ms ≡ false
 out_of_range ms h = grind (arith, ints)
 
-pub displayed-outside : (ms : ℤ) → ¬ (IsCivilMillis ms) → displayed ms ≡ signed_decimal ms
-unfolding displayed
-displayed-outside ms h = rw (out_of_range ms h)
+pub display_text-outside : (ms : ℤ) → ¬ (IsCivilMillis ms) → display_text ms ≡ signed_decimal ms
+unfolding display_text
+display_text-outside ms h = rw (out_of_range ms h)
 
 moment-range : (ms : ℤ) (at : DateTime) → IsJiffMoment ms at → IsCivilMillis ms
 moment-range ms at is = let range = civil_nanos_range at in (omega (arith, signed_arith), omega (arith, signed_arith))
@@ -60,9 +60,9 @@ unfolding civil_of
 civil_of-jiff ms at is =
     rw (day_of-moment ms at is, time_of-moment ms at is, date_of-date at.date, hour_is at.time, minute_is at.time, second_is at.time, milli_is at.time) refl
 
-pub displayed-moment : (ms : ℤ) (at : DateTime) → IsJiffMoment ms at → displayed ms ≡ civil_text (fields_of at)
-unfolding displayed
-displayed-moment ms at is = rw (in_range ms (moment-range ms at is), civil_of-jiff ms at is) refl
+pub display_text-moment : (ms : ℤ) (at : DateTime) → IsJiffMoment ms at → display_text ms ≡ civil_text (fields_of at)
+unfolding display_text
+display_text-moment ms at is = rw (in_range ms (moment-range ms at is), civil_of-jiff ms at is) refl
 
 -- jiff's date and time has the fields of the moment
 moment-fields : (ms : ℤ) (at : DateTime) → IsJiffMoment ms at → IsMoment ms (fields_of at)

@@ -12,7 +12,7 @@ use Rattle.jiff.specs.Words.{days_in_month}
 use Rattle.jiff.proofs.SpanFacts.{signed_arith}
 use Rattle.jiff_core.specs.Calendar.{IsCivilDate, days_from_civil}
 use Rattle.bson_datetime.specs.Grammar.{Offset, zulu, ahead, behind, offset_text, fraction_text, IsLetter, IsOffset, offset_seconds, Names}
-use Rattle.bson_datetime.specs.Rfc3339.{Read, ◌>>=◌, two_digits, four_digits, digits_below, after, after_letter, day_number, date_part, time_part, fraction_part, fraction_value, hours_minutes, offset_part, denoted}
+use Rattle.bson_datetime.specs.Rfc3339.{Read, ◌>>=◌, two_digits, four_digits, digits_below, after, after_letter, day_number, date_part, time_part, fraction_part, fraction_value, hours_minutes, offset_part, named_moment}
 use Rattle.bson_datetime.specs.Displayed.{two_digit_text}
 use Rattle.bson_datetime.proofs.ReaderLemmas.{fraction_value-nil}
 
@@ -348,9 +348,9 @@ end-test (c ∷ s) x z true e h =
 end-test s x z false e h = cc
 
 -- a text that denotes a moment has parts that name it
-pub denoted-names : (text : List ℕ) (ms : ℤ) → denoted text ≡ Some ms → Names text ms
-unfolding denoted
-denoted-names text ms h =
+pub named_moment-names : (text : List ℕ) (ms : ℤ) → named_moment text ≡ Some ms → Names text ms
+unfolding named_moment
+named_moment-names text ms h =
     let x = un_then (date_part text) _ ms h in
     let a = un_then (after_letter 84 x.0.1) _ ms x.2 in
     let y = un_then (time_part a.0) _ ms a.2 in

@@ -6,11 +6,11 @@ use Rattle.std.specs.List.{All, prefix_len}
 use Rattle.jiff.specs.Types.{Date, Time}
 use Rattle.jiff_core.specs.Calendar.{IsCivilDate, days_from_civil}
 use Rattle.bson_datetime.specs.Grammar.{Offset, zulu, ahead, behind, offset_text, fraction_text, IsLetter, IsOffset, offset_seconds, Names}
-use Rattle.bson_datetime.specs.Rfc3339.{after, after_letter, date_part, time_part, fraction_part, fraction_value, hours_minutes, offset_part, denoted}
+use Rattle.bson_datetime.specs.Rfc3339.{after, after_letter, date_part, time_part, fraction_part, fraction_value, hours_minutes, offset_part, named_moment}
 use Rattle.bson_datetime.specs.Displayed.{two_digit_text}
 use Rattle.bson_datetime.proofs.ReaderLemmas.{fraction_value-nil}
 use Rattle.bson_datetime.proofs.RoundTrip.{digits_below-pad2, date_part-text, time_part-text}
-use Rattle.bson_datetime.proofs.GrammarLemmas.{un_some, some_none, digit_test, denoted-names}
+use Rattle.bson_datetime.proofs.GrammarLemmas.{un_some, some_none, digit_test, named_moment-names}
 
 date-parts : (y m d : ℕ) (rest : List ℕ) → y < 10_000 → IsCivilDate (pos y) m d
     → date_part (two_digit_text (y / 100) ++ two_digit_text (y % 100) ++ 45 ∷ two_digit_text m ++ 45 ∷ two_digit_text d ++ rest) ≡ Some (days_from_civil (pos y) m d, rest)
@@ -70,9 +70,9 @@ fraction-offset ds (zulu c) are (inr e) = rw e (fraction-parts ds 122 [] are ref
 fraction-offset ds (ahead h m) are is = fraction-parts ds 43 (two_digit_text h ++ 58 ∷ two_digit_text m) are refl refl
 fraction-offset ds (behind h m) are is = fraction-parts ds 45 (two_digit_text h ++ 58 ∷ two_digit_text m) are refl refl
 
-names-denoted : (text : List ℕ) (ms : ℤ) → Names text ms → denoted text ≡ Some ms
-unfolding denoted
-names-denoted text ms n =
+names-named_moment : (text : List ℕ) (ms : ℤ) → Names text ms → named_moment text ≡ Some ms
+unfolding named_moment
+names-named_moment text ms n =
     let p = n.parts in
     let r = n.in_ranges in
     let after_second = fraction_text p.fraction ++ offset_text p.offset in
@@ -87,13 +87,13 @@ names-denoted text ms n =
     ) (ap (λ z. Some z) (sym n.moment))
 
 -- what is read from the front of a text is the moment that its parts name
-pub denotes-names : (text : List ℕ) (ms : ℤ) → (denoted text ≡ Some ms) ↔ Names text ms
-denotes-names text ms = (denoted-names text ms, names-denoted text ms)
+pub denotes-names : (text : List ℕ) (ms : ℤ) → (named_moment text ≡ Some ms) ↔ Names text ms
+denotes-names text ms = (named_moment-names text ms, names-named_moment text ms)
 
 -- where a text names none, none is read
-pub denotes-none : (text : List ℕ) → denoted text ≡ None → (ms : ℤ) → ¬ (Names text ms)
-denotes-none text none ms n = some_none ms (sym (names-denoted text ms n) ∙ none)
+pub denotes-none : (text : List ℕ) → named_moment text ≡ None → (ms : ℤ) → ¬ (Names text ms)
+denotes-none text none ms n = some_none ms (sym (names-named_moment text ms n) ∙ none)
 
 -- a text names one moment
 pub names-one : (text : List ℕ) (a b : ℤ) → Names text a → Names text b → a ≡ b
-names-one text a b n m = un_some a b (sym (names-denoted text a n) ∙ names-denoted text b m)
+names-one text a b n m = un_some a b (sym (names-named_moment text a n) ∙ names-named_moment text b m)

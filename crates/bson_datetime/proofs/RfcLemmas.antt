@@ -10,7 +10,7 @@ use Rattle.jiff.proofs.SpanFacts.{signed_arith}
 use Rattle.jiff_fmt.specs.Text.{places, fraction, fraction_part, significant, trailing_zeros}
 use Rattle.jiff_fmt.proofs.TextLemmas.{trailing_zeros-step, trailing_zeros-stop, trailing_zeros-end, places-step, places-end, significant-not_zero}
 use Rattle.bson_datetime.specs.JiffSteps.{IsJiffMoment}
-use Rattle.bson_datetime.specs.Displayed.{rfc, fraction_displayed}
+use Rattle.bson_datetime.specs.Displayed.{rfc, thousandths_text}
 use Rattle.bson_datetime.proofs.DisplayedLemmas.{civil_of-jiff}
 
 -- the six zeros of a whole millisecond, in nanoseconds
@@ -63,7 +63,7 @@ places_three k =
     ∙ rw (first, left, places-step 2 1 100_000_000 (k % 100 * 1_000_000) refl, second, last, places-step 1 0 10_000_000 (k % 10 * 1_000_000) refl, third, places-end 0 1_000_000 (k % 10 * 1_000_000 % 1_000_000) refl) refl
 
 -- the digits of a fraction that is not zero
-fraction-displayed : (k : ℕ) → 0 < k → k < 1000 → fraction None (k * 1_000_000) ≡ fraction_displayed k
+fraction-displayed : (k : ℕ) → 0 < k → k < 1000 → fraction None (k * 1_000_000) ≡ thousandths_text k
 fraction-displayed k some small =
     let not_zero : k * 1_000_000 ≡ 0 → ⊥ = λ e. omega arith in
     let zeros : significant (k * 1_000_000) ≡ 9 - (6 + trailing_zeros 2 k) = rw (← six_zeros k) (significant-not_zero _ not_zero) in
@@ -91,7 +91,7 @@ fraction-displayed k some small =
     ]
 
 -- the point and fraction of whole milliseconds
-fraction_part-millis : (k : ℕ) → k < 1000 → fraction_part None (k * 1_000_000) ≡ (if k == 0 then [] else 46 ∷ fraction_displayed k)
+fraction_part-millis : (k : ℕ) → k < 1000 → fraction_part None (k * 1_000_000) ≡ (if k == 0 then [] else 46 ∷ thousandths_text k)
 fraction_part-millis k small =
     elim (eq-zero-or-pos k) [
       | inl none ↦ rw none refl

@@ -15,7 +15,7 @@ use Rattle.jiff_fmt.proofs.TextLemmas.{places-read, trailing_zeros-le, trailing_
 use Rattle.jiff_core.specs.Time.{time_seconds}
 use Rattle.jiff_core.proofs.CalendarLemmas.{days_in_month_bounds}
 use Rattle.bson_datetime.specs.JiffSteps.{IsJiffMoment}
-use Rattle.bson_datetime.specs.Rfc3339.{two_digits, four_digits, digits_below, after, after_letter, day_number, date_part, time_part, fraction_part, offset_part, denoted, nanos_of}
+use Rattle.bson_datetime.specs.Rfc3339.{two_digits, four_digits, digits_below, after, after_letter, day_number, date_part, time_part, fraction_part, offset_part, named_moment, nanos_of}
 use Rattle.bson_datetime.specs.Moment.{IsRfcMillis}
 use Rattle.bson_datetime.specs.Displayed.{rfc}
 use Rattle.bson_datetime.proofs.MomentExists.{moment_at}
@@ -101,10 +101,10 @@ int_div-whole (negsuc n) = omega (arith, signed_arith)
 nanos_of-moment : (at : DateTime) → nanos_of (epoch_day at.date) (time_seconds at.time) at.time.subsec_nanosecond (pos 0) ≡ civil_nanos at
 nanos_of-moment at = omega (arith, signed_arith, civil_nanos-parts at)
 
-denoted-parts : (at : DateTime) (y : ℕ) (ms : ℤ) → at.date.year ≡ pos y → y < 10_000 → IsJiffMoment ms at
-    → denoted (iso_datetime_text at ++ 90 ∷ []) ≡ Some ms
-unfolding denoted after_letter offset_part
-denoted-parts at y ms year small is =
+named_moment-parts : (at : DateTime) (y : ℕ) (ms : ℤ) → at.date.year ≡ pos y → y < 10_000 → IsJiffMoment ms at
+    → named_moment (iso_datetime_text at ++ 90 ∷ []) ≡ Some ms
+unfolding named_moment after_letter offset_part
+named_moment-parts at y ms year small is =
     let d = at.date in
     let t = at.time in
     let after_second = fraction_text None t.subsec_nanosecond ++ 90 ∷ [] in
@@ -114,13 +114,13 @@ denoted-parts at y ms year small is =
     rw (shape, date_part-text d y (84 ∷ after_t) year small, time_part-text t after_second, fraction_part-text t.subsec_nanosecond t.subsec_in, value)
 
 -- the text of a millisecond of the years 0000 to 9999 denotes it, where jiff has its moment
-pub denoted_moment : (ms : ℤ) (at : DateTime) → IsJiffMoment ms at → IsRfcMillis ms → denoted (rfc ms) ≡ Some ms
+pub denoted_moment : (ms : ℤ) (at : DateTime) → IsJiffMoment ms at → IsRfcMillis ms → named_moment (rfc ms) ≡ Some ms
 denoted_moment ms at is h =
     let year = moment-not_negative ms at is h.0 in
-    rw (rfc-jiff ms at year.0 is year.1) (denoted-parts at year.0 ms year.1 (omega (arith, signed_arith, at.date.year_in, year.1)) is)
+    rw (rfc-jiff ms at year.0 is year.1) (named_moment-parts at year.0 ms year.1 (omega (arith, signed_arith, at.date.year_in, year.1)) is)
 
 -- every millisecond of the years 0000 to 9999 comes back from its text
-pub denoted-rfc : (ms : ℤ) → IsRfcMillis ms → denoted (rfc ms) ≡ Some ms
-denoted-rfc ms h =
+pub named_moment-rfc : (ms : ℤ) → IsRfcMillis ms → named_moment (rfc ms) ≡ Some ms
+named_moment-rfc ms h =
     let at = moment_at ms (omega (arith, signed_arith, h.0), h.1) in
     denoted_moment ms at.0 at.1 h

@@ -11,17 +11,17 @@ abbrev pub two_digit_text : ℕ → List ℕ
 two_digit_text n = digit (n / 10) ++ digit (n % 10)
 
 -- a year in four digits, behind a sign where it is negative
-abbrev pub year_displayed : ℤ → List ℕ
-year_displayed (pos n) = two_digit_text (n / 100) ++ two_digit_text (n % 100)
-year_displayed (negsuc n) = codes "-" ++ two_digit_text (suc n / 100) ++ two_digit_text (suc n % 100)
+abbrev pub year_text : ℤ → List ℕ
+year_text (pos n) = two_digit_text (n / 100) ++ two_digit_text (n % 100)
+year_text (negsuc n) = codes "-" ++ two_digit_text (suc n / 100) ++ two_digit_text (suc n % 100)
 
 -- `YYYY-MM-DD`
-abbrev pub date_displayed : Civil → List ℕ
-date_displayed c = year_displayed c.year ++ codes "-" ++ two_digit_text c.month ++ codes "-" ++ two_digit_text c.day
+abbrev pub date_text : Civil → List ℕ
+date_text c = year_text c.year ++ codes "-" ++ two_digit_text c.month ++ codes "-" ++ two_digit_text c.day
 
 -- the digits of a fraction in thousandths: at least one, and no further zeros at the end
-abbrev pub fraction_displayed : ℕ → List ℕ
-fraction_displayed n =
+abbrev pub thousandths_text : ℕ → List ℕ
+thousandths_text n =
     digit (n / 100) ++ (if n % 100 == 0 then [] else digit (n / 10 % 10) ++ (if n % 10 == 0 then [] else digit (n % 10)))
 
 -- ---- RFC 3339
@@ -29,8 +29,8 @@ fraction_displayed n =
 -- `YYYY-MM-DDThh:mm:ssZ`, with a point and a fraction where that is not zero
 abbrev pub rfc_text : Civil → List ℕ
 rfc_text c =
-    date_displayed c ++ codes "T" ++ two_digit_text c.hour ++ codes ":" ++ two_digit_text c.minute ++ codes ":" ++ two_digit_text c.second
-    ++ (if c.millisecond == 0 then [] else codes "." ++ fraction_displayed c.millisecond) ++ codes "Z"
+    date_text c ++ codes "T" ++ two_digit_text c.hour ++ codes ":" ++ two_digit_text c.minute ++ codes ":" ++ two_digit_text c.second
+    ++ (if c.millisecond == 0 then [] else codes "." ++ thousandths_text c.millisecond) ++ codes "Z"
 
 -- the RFC 3339 text of a moment of the years 0000 to 9999
 unfoldable pub rfc : ℤ → List ℕ
@@ -39,18 +39,18 @@ rfc ms = rfc_text (civil_of ms)
 -- ---- `Display`
 
 -- an hour, with no zero in front
-abbrev pub hour_displayed : ℕ → List ℕ
-hour_displayed n = if nat_lt n 10 then digit n else two_digit_text n
+abbrev pub hour_text : ℕ → List ℕ
+hour_text n = if nat_lt n 10 then digit n else two_digit_text n
 
 -- as `2023-01-23 20:11:47.316 +00:00:00`
 abbrev pub civil_text : Civil → List ℕ
 civil_text c =
-    date_displayed c ++ codes " " ++ hour_displayed c.hour ++ codes ":" ++ two_digit_text c.minute ++ codes ":" ++ two_digit_text c.second ++ codes "."
-    ++ fraction_displayed c.millisecond ++ codes " +00:00:00"
+    date_text c ++ codes " " ++ hour_text c.hour ++ codes ":" ++ two_digit_text c.minute ++ codes ":" ++ two_digit_text c.second ++ codes "."
+    ++ thousandths_text c.millisecond ++ codes " +00:00:00"
 
 abbrev pub is_civil_millis : ℤ → Bool
 is_civil_millis ms = int_le (neg_ℤ (pos 377_705_116_800_000)) ms && int_le ms (pos 253_402_300_799_999)
 
 -- the text of the date and time in the years -9999 to 9999, else the milliseconds as a decimal number
-unfoldable pub displayed : ℤ → List ℕ
-displayed ms = if is_civil_millis ms then civil_text (civil_of ms) else signed_decimal ms
+unfoldable pub display_text : ℤ → List ℕ
+display_text ms = if is_civil_millis ms then civil_text (civil_of ms) else signed_decimal ms

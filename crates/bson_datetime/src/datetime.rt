@@ -131,7 +131,7 @@ impl DateTime {
 impl DateTime {
     ghost use Rattle.std.specs.Prelude.{Ok, Some, OnOk, IfOk, IfErr, string_bytes, ◌⊎◌};
     ghost use Rattle.bson_datetime.specs.Moment.{IsRfcMillis};
-    ghost use Rattle.bson_datetime.specs.Rfc3339.{denoted};
+    ghost use Rattle.bson_datetime.specs.Rfc3339.{named_moment};
     ghost use Rattle.bson_datetime.specs.Grammar.{Names};
     ghost use Rattle.bson_datetime.specs.Displayed.{rfc, rfc_text};
     ghost use Rattle.bson_datetime.specs.Errors.{IsCannotFormat, IsInvalidFor, IsInvalidTimestamp, IsOutOfMemory};
@@ -169,9 +169,9 @@ impl DateTime {
         ensures refused { IfErr result (λ e. IsInvalidTimestamp e × ((ms : ℤ) → ¬ (Names text.now ms))) }
         ensures message { IfErr result (IsInvalidFor Message.NotRfc3339) }
 
-        // A text names one moment at most, and `denoted`, which reads it from its front, gives that one.
+        // A text names one moment at most, and `named_moment`, which reads it from its front, gives that one.
         ensures one { (a b : ℤ) → Names text.now a → Names text.now b → a ≡ b }
-        ensures grammar { (ms : ℤ) → (denoted text.now ≡ Some ms) ↔ Names text.now ms }
+        ensures grammar { (ms : ℤ) → (named_moment text.now ≡ Some ms) ↔ Names text.now ms }
 
         // Every moment of the years 0000 to 9999 comes back from its text.
         ensures round_trip { (ms : ℤ) → IsRfcMillis ms → text.now ≡ rfc ms → result ≡ Ok ms }
@@ -194,9 +194,9 @@ const NOT_RFC3339: Error = Error::InvalidTimestamp {
 /// As `2023-01-23 20:11:47.316 +00:00:00`; outside the years -9999 to 9999 the milliseconds as a decimal number.
 impl fmt::Display for DateTime {
     ghost use Rattle.std.specs.Prelude.{Some};
-    ghost use Rattle.bson_datetime.specs.Displayed.{displayed};
+    ghost use Rattle.bson_datetime.specs.Displayed.{display_text};
 
-    ghost output = { λ ms. Some (displayed ms) };
+    ghost output = { λ ms. Some (display_text ms) };
 
     fn fmt<W: fmt::Write>(&self, f: &mut fmt::Formatter<W>) -> fmt::Result {
         let Some(at) = self.civil() else {

@@ -1,7 +1,7 @@
 //! Writes the parts of a date and time, and the two together as `Display` has them.
 ghost use Rattle.std.specs.Prelude.{◌≡◌, ◌<◌, Some, ℤ};
 ghost use Rattle.bson_datetime.specs.JiffSteps.{fields_of};
-ghost use Rattle.bson_datetime.specs.Displayed.{two_digit_text, year_displayed, hour_displayed, fraction_displayed, civil_text};
+ghost use Rattle.bson_datetime.specs.Displayed.{two_digit_text, year_text, hour_text, thousandths_text, civil_text};
 ghost use Rattle.jiff.specs.Words.{IsWithin};
 
 use jiff::civil::DateTime;
@@ -32,7 +32,7 @@ pub(crate) struct Hour {
 }
 
 impl fmt::Display for Hour {
-    ghost output = { λ x. Some (hour_displayed x.n) };
+    ghost output = { λ x. Some (hour_text x.n) };
 
     fn fmt<W: fmt::Write>(&self, f: &mut fmt::Formatter<W>) -> fmt::Result {
         let high = (b'0' + self.n / 10) as char;
@@ -52,7 +52,7 @@ pub(crate) struct Fraction {
 }
 
 impl fmt::Display for Fraction {
-    ghost output = { λ x. Some (fraction_displayed x.n) };
+    ghost output = { λ x. Some (thousandths_text x.n) };
 
     fn fmt<W: fmt::Write>(&self, f: &mut fmt::Formatter<W>) -> fmt::Result {
         let first = (b'0' + (self.n / 100) as u8) as char;
@@ -76,7 +76,7 @@ pub(crate) struct Year {
 }
 
 impl fmt::Display for Year {
-    ghost output = { λ x. Some (year_displayed x.n) };
+    ghost output = { λ x. Some (year_text x.n) };
 
     fn fmt<W: fmt::Write>(&self, f: &mut fmt::Formatter<W>) -> fmt::Result {
         let size = self.n.unsigned_abs();

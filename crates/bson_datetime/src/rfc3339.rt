@@ -194,9 +194,9 @@ fn whole_millis(nanos: i128) -> i64
 }
 
 /// The milliseconds that a text denotes.
-#[tactic(auto, unfolding(crate::specs::Rfc3339::denoted))]
+#[tactic(auto, unfolding(crate::specs::Rfc3339::named_moment))]
 pub(crate) fn parse(text: &[u8]) -> Option<i64>
-    ensures { result ≡ spec.denoted text.now }
+    ensures { result ≡ spec.named_moment text.now }
 {
     let (day, s) = date_part(text)?;
     let s = after_letter(s, b'T')?;

@@ -1,17 +1,18 @@
 -- A printed text parses to the canonical pattern.
-use Rattle.std.proofs.Common.{◌≡◌, ℕ, zero, suc, ◌+◌, ◌-◌, ◌*◌, ◌^◌, ◌<◌, ◌≤◌, inl, inr, Bool, true, false, cond, ◌&&◌, eqb, ltb, leb, List, [], ◌∷◌, ◌++◌, length, take, drop, replicate, Option, Some, None, refl, sym, ap, subst, ◌∙◌, arith, length-append, length-drop}
-use Rattle.std.specs.Prelude.{⊤, codes, Result, Ok, Err, ◌↔◌, IsOkAnd}
+use Rattle.std.proofs.Common.{◌≡◌, ℕ, zero, suc, ◌+◌, ◌-◌, ◌*◌, ◌^◌, ◌<◌, ◌≤◌, inl, inr, Bool, true, false, cond, ◌&&◌, eqb, ltb, leb, List, [], ◌∷◌, ◌++◌, length, take, drop, replicate, ℤ, pos, neg_ℤ, ◌-ℤ◌, Option, Some, None, refl, sym, ap, subst, ◌∙◌, arith, length-append, length-drop}
+use Rattle.std.specs.Prelude.{⊤, codes, int_le, int_lt, unsigned_abs, Result, Ok, Err, ◌↔◌, IsOkAnd}
 use Rattle.bson_decimal.specs.FromStr.{ParsesTo}
 use Rattle.std.specs.Str.Parse.{without_leading_sign}
 use Rattle.bson_decimal.specs.declared.ParseError.{ParseError}
 use Rattle.bson_decimal.specs.Steps as Steps
 use Rattle.bson_decimal.proofs.Bytes.{from_le_bytes-to_le_bytes_16}
-use Rattle.bson_decimal.proofs.PatternLaws.{decoded-first_form, first_form-lt}
+use Rattle.bson_decimal.proofs.PatternLaws.{number_meaning-first_form, first_form-lt}
 use Rattle.bson_decimal.proofs.Parsing.{word-off, no-word, special-parses, finite-parses, refused-parses}
-use Rattle.std.specs.Fmt.{decimal, sign_text}
+use Rattle.std.specs.Fmt.{decimal, signed_decimal, sign_text}
 use Rattle.std.proofs.lemmas.Bool.{cases_Bool, eqb-true, and_parts, leb-true, ltb-true, ltb-false}
 use Rattle.std.proofs.lemmas.Bool.Decides.{nat_tests}
-use Rattle.std.proofs.lemmas.Fmt.{decimal_is_IsNumeral_wide, length-decimal-le_wide}
+use Rattle.std.proofs.lemmas.Fmt.{decimal_digit, decimal_is_IsNumeral_wide, length-decimal-le_wide}
+use Rattle.std.proofs.lemmas.Int.{ints, clamps}
 use Rattle.std.proofs.lemmas.List.{take-append-drop, length-replicate, append-nil, take_all}
 use Rattle.std.proofs.Math.Numerals.{one-add}
 use Rattle.std.specs.Int.{w128, to_le_bytes, from_le_bytes}
@@ -19,12 +20,13 @@ use Rattle.std.specs.List.{prefix_len}
 use Rattle.std.specs.Str.Parse.{AllDigits, digits_value}
 use Rattle.bson_decimal.specs.declared.bits.Decoded.{Decoded}
 use Rattle.bson_decimal.specs.declared.bits.Decoded.TheVariants.{Nan, Infinity, Finite}
-use Rattle.bson_decimal.specs.Pattern.{decoded, dec, first_form, sign_weight, normal_decimal, normal_number, field, is_set, counted}
-use Rattle.bson_decimal.specs.Displayed.{decoded_displayed, displayed, finite_text, plain_text, scientific_text, power_text}
+use Rattle.bson_decimal.specs.Exponents.{exponent_at}
+use Rattle.bson_decimal.specs.Pattern.{number_meaning, bytes_meaning, first_form, sign_weight, normal_decimal, normal_number, field, is_set, canonical_coefficient}
+use Rattle.bson_decimal.specs.Displayed.{meaning_text, display_text, finite_text, plain_text, scientific_text, scientific_exponent, power_text}
 use Rattle.bson_decimal.proofs.Shifted.{IsNearestShifted}
 use Rattle.bson_decimal.specs.Numeral.{Sign, none, plus, minus, sign_bytes, is_minus, Exponent, unwritten, written, exponent_bytes, fraction_bytes, fraction_digits, IsExponent, Numeral, is_zero, without_leading_zeros}
 use Rattle.bson_decimal.specs.Text.{Parses, special, nan, infinity, finite}
-use Rattle.bson_decimal.proofs.Shifted.{raised, lowered, up, down, within16, nearest}
+use Rattle.bson_decimal.proofs.Shifted.{written_up, written_down, up, down, within16, nearest}
 use Rattle.bson_decimal.proofs.NearestLaws.{nearest-same}
 use Rattle.bson_decimal.proofs.Zeros.{value-before, AllDigits-append, AllDigits-zeros}
 
@@ -37,9 +39,9 @@ choose : (b : Bool) (x y : Decoded) → (b ≡ true → IsDecoded x) → (b ≡ 
 choose true x y f g = f refl
 choose false x y f g = g refl
 
-pub decoded-within : (n : ℕ) → IsDecoded (decoded n)
-decoded-within n =
-    let rest = Finite (is_set n 127) (counted (field n 0 113)) (field n 113 14) in
+pub number_meaning-within : (n : ℕ) → IsDecoded (number_meaning n)
+number_meaning-within n =
+    let rest = Finite (is_set n 127) (canonical_coefficient (field n 0 113)) (field n 113 14) in
     let second = Finite (is_set n 127) 0 (field n 111 14) in
     let other : Decoded = cond (eqb (field n 125 2) 3) second rest in
     choose (eqb (field n 122 5) 31) (Nan (is_set n 127) (is_set n 121)) (cond (eqb (field n 122 5) 30) (Infinity (is_set n 127)) other) (λ _. tt)
@@ -72,11 +74,11 @@ record Prints (c e : ℕ) (body : List ℕ) : Type 0 where
   some : 0 < length (whole ++ fraction_digits fraction)
   ok : IsExponent exponent
   value : digits_value 10 (whole ++ fraction_digits fraction) ≡ c
-  high : raised exponent ≤ 7000
-  low : lowered exponent ≤ 7000
+  high : written_up exponent ≤ 7000
+  low : written_down exponent ≤ 7000
   short : length (fraction_digits fraction) ≤ 7000
   few : length (without_leading_zeros (whole ++ fraction_digits fraction)) ≤ 34
-  at : e + (length (fraction_digits fraction) + lowered exponent) ≡ raised exponent + 6176
+  at : e + (length (fraction_digits fraction) + written_down exponent) ≡ written_up exponent + 6176
 
 from-prints : (negative : Bool) (c e : ℕ) (body : List ℕ) → c < 10 ^ 34 → e < 12288 → Prints c e body → Parses (sign_text negative ++ body) (to_le_bytes w128 (first_form negative c e))
 from-prints negative c e body small within p =
@@ -108,14 +110,22 @@ record Writes (c : ℕ) : Type 0 where
 writes : (c : ℕ) → c < 10 ^ 64 → Writes c
 writes c h = let d = decimal_is_IsNumeral_wide c h in record { some = d.0.0; digits = d.0.1; value = d.1 }
 
--- the exponent that is written behind an `E`
+-- the text of an exponent that is not 0
+power-above : (n : ℕ) → 0 < n → power_text (pos n) ≡ 43 ∷ decimal n
+power-above n some = let above : int_lt (pos 0) (pos n) ≡ true = grind (arith, ints) in rw above refl
+
+power-below : (n : ℕ) → 0 < n → power_text (neg_ℤ (pos n)) ≡ 45 ∷ decimal n
+power-below zero some = absurd (omega arith)
+power-below (suc n) some = refl
+
+-- the exponent k - 6177 that is written behind an `E`
 record PrintsPower (k : ℕ) : Type 0 where
   exponent : Exponent
-  is : 69 ∷ power_text k ≡ exponent_bytes exponent
+  is : 69 ∷ power_text (pos k -ℤ pos 6177) ≡ exponent_bytes exponent
   ok : IsExponent exponent
-  at : raised exponent + 6177 ≡ k + lowered exponent
-  high : raised exponent ≤ 7000
-  low : lowered exponent ≤ 7000
+  at : written_up exponent + 6177 ≡ k + written_down exponent
+  high : written_up exponent ≤ 7000
+  low : written_down exponent ≤ 7000
 
 prints-power : (k : ℕ) → k ≤ 12400 → PrintsPower k
 prints-power k most =
@@ -124,13 +134,16 @@ prints-power k most =
           let above = ltb-true 6177 k a in
           let d = writes (k - 6177) (omega arith) in
           let v = d.value in
-          record { exponent = written 69 plus (decimal (k - 6177)); is = rw a refl; ok = (inr refl, d.some, d.digits); at = omega arith; high = omega arith; low = omega arith }
+          let x : pos k -ℤ pos 6177 ≡ pos (k - 6177) = omega (arith, ints) in
+          record { exponent = written 69 plus (decimal (k - 6177)); is = rw x (ap (λ t. 69 ∷ t) (power-above (k - 6177) (omega arith))); ok = (inr refl, d.some, d.digits); at = omega arith; high = omega arith; low = omega arith }
       | inr a ↦ let below = ltb-false 6177 k a in elim (cases_Bool (eqb k 6177)) [
-        | inl b ↦ let is = eqb-true k 6177 b in record { exponent = written 69 none (48 ∷ []); is = rw (a, b) refl; ok = (inr refl, omega arith, (omega arith, tt)); at = omega arith; high = omega arith; low = omega arith }
+        | inl b ↦ let is = eqb-true k 6177 b in record { exponent = written 69 none (48 ∷ []); is = rw is (ap (λ t. 69 ∷ t) (decimal_digit 0 (omega arith))); ok = (inr refl, omega arith, (omega arith, tt)); at = omega arith; high = omega arith; low = omega arith }
         | inr b ↦
             let d = writes (6177 - k) (omega arith) in
             let v = d.value in
-            record { exponent = written 69 minus (decimal (6177 - k)); is = rw (a, b) refl; ok = (inr refl, d.some, d.digits); at = omega arith; high = omega arith; low = omega arith }
+            let other : k < 6177 = grind (arith, nat_tests) in
+            let x : pos k -ℤ pos 6177 ≡ neg_ℤ (pos (6177 - k)) = omega (arith, ints) in
+            record { exponent = written 69 minus (decimal (6177 - k)); is = rw x (ap (λ t. 69 ∷ t) (power-below (6177 - k) (omega arith))); ok = (inr refl, d.some, d.digits); at = omega arith; high = omega arith; low = omega arith }
       ]
     ]
 
@@ -203,7 +216,7 @@ module _ (c e : ℕ) (small : c < 10 ^ 34) (within : e < 12288) where
         ]
       ]
 
-  scientific-prints : Prints c e (scientific_text (decimal c) e)
+  scientific-prints : Prints c e (scientific_text (decimal c) (pos (e + length (decimal c)) -ℤ pos 6177))
   scientific-prints =
       let d = writes c (omega arith) in
       let ds = decimal c in
@@ -252,24 +265,42 @@ module _ (c e : ℕ) (small : c < 10 ^ 34) (within : e < 12288) where
             })
       ]
 
-finite-prints : (c e : ℕ) → c < 10 ^ 34 → e < 12288 → Prints c e (finite_text (decimal c) e)
+-- the tests on an exponent, of the stored one
+at-most-zero : (e : ℕ) → int_le (exponent_at e) (pos 0) ≡ true → e ≤ 6176
+at-most-zero e h = grind (arith, ints, h)
+
+at-least-six : (ds : List ℕ) (e : ℕ) → int_le (neg_ℤ (pos 6)) (scientific_exponent ds (exponent_at e)) ≡ true → 6171 ≤ e + length ds
+at-least-six ds e h = grind (arith, ints, h)
+
+places : (e : ℕ) → e ≤ 6176 → unsigned_abs (exponent_at e) ≡ 6176 - e
+places e low = omega (arith, ints, clamps)
+
+first-digit : (ds : List ℕ) (e : ℕ) → scientific_exponent ds (exponent_at e) ≡ pos (e + length ds) -ℤ pos 6177
+first-digit ds e = omega (arith, ints)
+
+finite-prints : (c e : ℕ) → c < 10 ^ 34 → e < 12288 → Prints c e (finite_text (decimal c) (exponent_at e))
 finite-prints c e small within =
-    elim (cases_Bool (leb e 6176 && leb 6171 (e + length (decimal c)))) [
-      | inl a ↦ let p = and_parts (leb e 6176) _ a in rw a (plain-prints c e small within (leb-true e 6176 p.0) (leb-true 6171 (e + length (decimal c)) p.1))
-      | inr a ↦ rw a (scientific-prints c e small within)
+    let ds = decimal c in
+    let x = exponent_at e in
+    elim (cases_Bool (int_le x (pos 0) && int_le (neg_ℤ (pos 6)) (scientific_exponent ds x))) [
+      | inl a ↦
+          let tests = and_parts (int_le x (pos 0)) _ a in
+          let low = at-most-zero e tests.0 in
+          rw (a, places e low) (plain-prints c e small within low (at-least-six ds e tests.1))
+      | inr a ↦ rw (a, first-digit ds e) (scientific-prints c e small within)
     ]
 
-decoded_displayed-parses : (d : Decoded) → IsDecoded d → Parses (decoded_displayed d) (to_le_bytes w128 (normal_number d))
-decoded_displayed-parses (Nan s q) h = special none (codes "NaN") (124 * 2 ^ 120) refl (nan refl) refl
-decoded_displayed-parses (Infinity s) h =
+meaning_text-parses : (d : Decoded) → IsDecoded d → Parses (meaning_text d) (to_le_bytes w128 (normal_number d))
+meaning_text-parses (Nan s q) h = special none (codes "NaN") (124 * 2 ^ 120) refl (nan refl) refl
+meaning_text-parses (Infinity s) h =
     special (sign_of s) (codes "Infinity") (120 * 2 ^ 120) (ap (λ t. t ++ codes "Infinity") (sign_bytes-is s)) (infinity refl)
     (ap (λ b. to_le_bytes w128 (sign_weight b + 120 * 2 ^ 120)) (sym (is_minus-is s)))
-decoded_displayed-parses (Finite s c e) h = from-prints s c e (finite_text (decimal c) e) h.0 h.1 (finite-prints c e h.0 h.1)
+meaning_text-parses (Finite s c e) h = from-prints s c e (finite_text (decimal c) (exponent_at e)) h.0 h.1 (finite-prints c e h.0 h.1)
 
 -- a printed text parses to the canonical pattern
-pub displayed-parses : (b : List ℕ) → Parses (displayed b) (normal_decimal b)
-unfolding displayed normal_decimal
-displayed-parses b = decoded_displayed-parses (dec b) (decoded-within (from_le_bytes w128 b))
+pub display_text-parses : (b : List ℕ) → Parses (display_text b) (normal_decimal b)
+unfolding display_text normal_decimal
+display_text-parses b = meaning_text-parses (bytes_meaning b) (number_meaning-within (from_le_bytes w128 b))
 
 -- a text parses to one pattern
 pub parses-one : (text a b : List ℕ) → Parses text a → Parses text b → a ≡ b
@@ -292,24 +323,24 @@ canon-lt (Infinity true) h = omega arith
 canon-lt (Infinity false) h = omega arith
 canon-lt (Finite s c e) h = first_form-lt s c e h.0 h.1
 
-decoded_displayed-canon : (d : Decoded) → IsDecoded d → decoded_displayed (decoded (normal_number d)) ≡ decoded_displayed d
-decoded_displayed-canon (Nan s q) h = refl
-decoded_displayed-canon (Infinity true) h = refl
-decoded_displayed-canon (Infinity false) h = refl
-decoded_displayed-canon (Finite s c e) h = ap decoded_displayed (decoded-first_form s c e h.0 h.1)
+meaning_text-canon : (d : Decoded) → IsDecoded d → meaning_text (number_meaning (normal_number d)) ≡ meaning_text d
+meaning_text-canon (Nan s q) h = refl
+meaning_text-canon (Infinity true) h = refl
+meaning_text-canon (Infinity false) h = refl
+meaning_text-canon (Finite s c e) h = ap meaning_text (number_meaning-first_form s c e h.0 h.1)
 
-pub displayed-canon : (b : List ℕ) → displayed (normal_decimal b) ≡ displayed b
-unfolding displayed normal_decimal
-displayed-canon b =
-    let h = decoded-within (from_le_bytes w128 b) in
-    ap (λ n. decoded_displayed (decoded n)) (from_le_bytes-to_le_bytes_16 (normal_number (dec b)) (canon-lt (dec b) h)) ∙ decoded_displayed-canon (dec b) h
+pub display_text-canon : (b : List ℕ) → display_text (normal_decimal b) ≡ display_text b
+unfolding display_text normal_decimal
+display_text-canon b =
+    let h = number_meaning-within (from_le_bytes w128 b) in
+    ap (λ n. meaning_text (number_meaning n)) (from_le_bytes-to_le_bytes_16 (normal_number (bytes_meaning b)) (canon-lt (bytes_meaning b) h)) ∙ meaning_text-canon (bytes_meaning b) h
 
 -- two patterns print alike exactly if their canonical patterns are one
-pub displayed-same : (a b : List ℕ) → (displayed a ≡ displayed b) ↔ (normal_decimal a ≡ normal_decimal b)
-displayed-same a b =
-    (λ e. parses-one (displayed b) (normal_decimal a) (normal_decimal b) (rw e at (displayed-parses a)) (displayed-parses b), λ e. sym (displayed-canon a) ∙ ap displayed e ∙ displayed-canon b)
+pub display_text-same : (a b : List ℕ) → (display_text a ≡ display_text b) ↔ (normal_decimal a ≡ normal_decimal b)
+display_text-same a b =
+    (λ e. parses-one (display_text b) (normal_decimal a) (normal_decimal b) (rw e at (display_text-parses a)) (display_text-parses b), λ e. sym (display_text-canon a) ∙ ap display_text e ∙ display_text-canon b)
 
 -- so a printed text is answered by its canonical pattern
-pub reads-displayed : (text : List ℕ) (r : Result (List ℕ) ParseError) → ParsesTo text r → (b : List ℕ) → text ≡ displayed b → IsOkAnd r (λ d. d ≡ normal_decimal b)
-reads-displayed text (Ok d) h b e = sym (h.1 (normal_decimal b) (rw e (displayed-parses b)))
-reads-displayed text (Err k) h b e = absurd (h.0 (normal_decimal b) (rw e (displayed-parses b)))
+pub reads-display_text : (text : List ℕ) (r : Result (List ℕ) ParseError) → ParsesTo text r → (b : List ℕ) → text ≡ display_text b → IsOkAnd r (λ d. d ≡ normal_decimal b)
+reads-display_text text (Ok d) h b e = sym (h.1 (normal_decimal b) (rw e (display_text-parses b)))
+reads-display_text text (Err k) h b e = absurd (h.0 (normal_decimal b) (rw e (display_text-parses b)))

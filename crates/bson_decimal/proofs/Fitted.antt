@@ -13,7 +13,7 @@ use Rattle.std.specs.Str.Parse.{AllDigits, digits_value}
 use Rattle.bson_decimal.specs.declared.ParseError.{ParseError}
 use Rattle.bson_decimal.proofs.Shifted.{FitsShifted, IsNearestShifted, distance_shifted}
 use Rattle.bson_decimal.specs.Numeral.{is_zero, without_leading_zeros}
-use Rattle.bson_decimal.specs.Steps.{cut_at_34, raise_to_least, zeros_to_add, coefficient, fitted, Scaled, bind}
+use Rattle.bson_decimal.specs.Steps.{cut_at_34, raise_to_least, zeros_to_add, coefficient, stored_pair, Scaled, bind}
 use Rattle.bson_decimal.proofs.Tens.{tens-pos, tens-le, raised}
 use Rattle.bson_decimal.proofs.DigitTests.{AllDigits-from_test, test-from_AllDigits, scaled-lt}
 use Rattle.bson_decimal.proofs.Zeros.{value-behind, value-before, leading-zeros, first-weight, AllDigits-parts, AllDigits-append, AllDigits-zeros}
@@ -151,7 +151,7 @@ raised-digits-back ks y b rai h =
       ]
     ]
 
--- where nothing fits after a raise, nothing fitted before it
+-- where nothing fits after a raise, nothing stored_pair before it
 raised-refuses : (ks : List ℕ) (y : ℕ) (b : Scaled) (e : ParseError) → IsRaised ks y b → Refuses b.0 b.1 e → Refuses ks y e
 raised-refuses ks y b e rai refuse digits large up down at c f fits =
     elim (cases_lt y 26592) [
@@ -235,9 +235,9 @@ module _ (bs : List ℕ) (x : ℕ) where
       refuse (digits-kept a.0 ds k cut.is (front-digits digits)) (large-kept a.0 ds k cut.is (front-large digits)) (up + k) down (omega arith) c f
       (fits-moved a.0 ds k up down c f cut.is (subst (λ m. FitsShifted m up down c f) front-value fits))
 
-  pub fitted-cases : x ≤ 65535 → MatchResult (fitted bs x) IsFitted FittedRefuses
-  unfolding fitted
-  fitted-cases low =
+  pub stored_pair-cases : x ≤ 65535 → MatchResult (stored_pair bs x) IsFitted FittedRefuses
+  unfolding stored_pair
+  stored_pair-cases low =
       let ds = without_leading_zeros bs in
       let k = length ds - 34 in
       bind-by IsFitted FittedRefuses (IsCut ds x) (CutRefuses ds x) (cut_at_34 ds x) _ (cut_at_34-cases ds x low)

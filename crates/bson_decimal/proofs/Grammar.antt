@@ -14,8 +14,8 @@ use Rattle.bson_decimal.specs.declared.ParseError.{ParseError}
 use Rattle.std.specs.Option.{ok_or}
 use Rattle.bson_decimal.specs.declared.ParseError.TheVariants.{EmptyExponent, InvalidExponent}
 use Rattle.bson_decimal.specs.Numeral.{Sign, none, plus, minus, sign_bytes, is_minus, Exponent, unwritten, written, exponent_bytes, fraction_bytes, fraction_digits, IsExponent}
-use Rattle.bson_decimal.proofs.Shifted.{raised, lowered}
-use Rattle.bson_decimal.specs.Steps.{is_mark, is_point, has, is_exponent, biased_exponent, exponent_value, written_exponent, scaled_exponent, fitted, finite, bind}
+use Rattle.bson_decimal.proofs.Shifted.{written_up, written_down}
+use Rattle.bson_decimal.specs.Steps.{is_mark, is_point, has, is_exponent, written_place, exponent_value, written_exponent, scaled_exponent, stored_pair, finite, bind}
 use Rattle.bson_decimal.proofs.StepLaws.{if-cases, not-true, not-false}
 use Rattle.bson_decimal.proofs.Zeros.{AllDigits-parts}
 use Rattle.bson_decimal.proofs.DigitTests.{AllDigits-from_test, test-from_AllDigits}
@@ -90,9 +90,9 @@ pub record ReadsExponent (rest : List ℕ) (w : ℕ) : Type 0 where
   pub part : Exponent
   pub is : rest ≡ before_first is_mark rest ++ exponent_bytes part
   pub ok : IsExponent part
-  pub value : w + lowered part ≡ 32768 + raised part
-  pub high : raised part ≤ 32767
-  pub low : lowered part ≤ 32768
+  pub value : w + written_down part ≡ 32768 + written_up part
+  pub high : written_up part ≤ 32767
+  pub low : written_down part ≤ 32768
 
 mark-cases : (b : ℕ) → is_mark b ≡ true → (b ≡ 101) ⊎ (b ≡ 69)
 mark-cases b e = elim (or_cases (eqb b 101) (eqb b 69) e) [ inl t ↦ inl (eqb-true b 101 t) | inr t ↦ inr (eqb-true b 69 t) ]
@@ -120,7 +120,7 @@ reads-exponent rest =
             part = written (get_or rest place 0) s.0 (without_leading_sign tail);
             is = split_at_first is_mark rest 0 within ∙ ap (λ t. before_first is_mark rest ++ get_or rest place 0 ∷ t) s.1;
             ok = (mark-cases _ (passes_at_first is_mark rest 0 within), ltb-true 0 _ a.0, AllDigits-from_test _ b.0);
-            value = subst (λ (m : Bool). biased_exponent tail + cond m v 0 ≡ 32768 + cond m 0 v) s.2 fits.0;
+            value = subst (λ (m : Bool). written_place tail + cond m v 0 ≡ 32768 + cond m 0 v) s.2 fits.0;
             high = subst (λ (m : Bool). cond m 0 v ≤ 32767) s.2 fits.1;
             low = subst (λ (m : Bool). cond m v 0 ≤ 32768) s.2 fits.2;
           })
@@ -194,7 +194,7 @@ exponent-is s ds w some digits high low at =
 written_from : List ℕ → Bool → Result ℕ ParseError
 written_from tail marked = cond (not marked) (Ok 32768) (cond (eqb (length tail) 0) (Err EmptyExponent) (ok_or (exponent_value tail) InvalidExponent))
 
-written-is : (cs : List ℕ) (ex : Exponent) (w : ℕ) → Fails is_mark cs → IsExponent ex → raised ex ≤ 32767 → lowered ex ≤ 32768 → w + lowered ex ≡ 32768 + raised ex → written_exponent (cs ++ exponent_bytes ex) ≡ Ok w
+written-is : (cs : List ℕ) (ex : Exponent) (w : ℕ) → Fails is_mark cs → IsExponent ex → written_up ex ≤ 32767 → written_down ex ≤ 32768 → w + written_down ex ≡ 32768 + written_up ex → written_exponent (cs ++ exponent_bytes ex) ≡ Ok w
 unfolding written_exponent written_from
 written-is cs unwritten w h ok high low at =
     let none : ltb (position_or_len is_mark cs) (length cs) ≡ false = rw (first-none is_mark cs h) (grind (arith, nat_tests)) in
@@ -212,10 +212,10 @@ written-is cs (written m s ds) w h ok high low at =
 
 -- the steps, from the parts of a text
 finite_from : Result ℕ ParseError → List ℕ → List ℕ → Result (ℕ × ℕ) ParseError
-finite_from w fraction whole = bind w (λ v. bind (scaled_exponent v fraction) (λ x. fitted (whole ++ fraction) x))
+finite_from w fraction whole = bind w (λ v. bind (scaled_exponent v fraction) (λ x. stored_pair (whole ++ fraction) x))
 
 -- the steps on a text that is put together of its parts
-module _ (whole : List ℕ) (f : Option (List ℕ)) (ex : Exponent) (digits : AllDigits 10 (whole ++ fraction_digits f)) (ok : IsExponent ex) (high : raised ex ≤ 32767) (low : lowered ex ≤ 32768) where
+module _ (whole : List ℕ) (f : Option (List ℕ)) (ex : Exponent) (digits : AllDigits 10 (whole ++ fraction_digits f)) (ok : IsExponent ex) (high : written_up ex ≤ 32767) (low : written_down ex ≤ 32768) where
   coefficient_bytes : List ℕ
   coefficient_bytes = whole ++ fraction_bytes f
 
@@ -227,7 +227,7 @@ module _ (whole : List ℕ) (f : Option (List ℕ)) (ex : Exponent) (digits : Al
   before-is : before_first is_mark ((whole ++ fraction_bytes f) ++ exponent_bytes ex) ≡ whole ++ fraction_bytes f
   before-is = before-mark (whole ++ fraction_bytes f) ex no-mark ok
 
-  pub finite-is : (w x : ℕ) → w + lowered ex ≡ 32768 + raised ex → length (fraction_digits f) ≤ 32767 → w ≡ x + length (fraction_digits f) → finite ((whole ++ fraction_bytes f) ++ exponent_bytes ex) ≡ fitted (whole ++ fraction_digits f) x
+  pub finite-is : (w x : ℕ) → w + written_down ex ≡ 32768 + written_up ex → length (fraction_digits f) ≤ 32767 → w ≡ x + length (fraction_digits f) → finite ((whole ++ fraction_bytes f) ++ exponent_bytes ex) ≡ stored_pair (whole ++ fraction_digits f) x
   unfolding finite scaled_exponent finite_from
   finite-is w x at short sum =
       let rest = (whole ++ fraction_bytes f) ++ exponent_bytes ex in

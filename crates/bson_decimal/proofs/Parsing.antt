@@ -14,10 +14,10 @@ use Rattle.bson_decimal.specs.Pattern.{first_form, sign_weight}
 use Rattle.bson_decimal.proofs.Shifted.{FitsShifted, IsNearestShifted}
 use Rattle.bson_decimal.specs.Numeral.{Sign, sign_bytes, is_minus, Exponent, exponent_bytes, fraction_bytes, fraction_digits, IsExponent, Numeral, digits_of, IsFiniteText, number}
 use Rattle.bson_decimal.specs.Text.{SpecialWord, nan, snan, infinity, inf, Parses, special, finite as finite_text, lowercase}
-use Rattle.bson_decimal.proofs.Shifted.{raised, lowered, up, down, IsWithin16Shifted, within16, within16-shifted, nearest, nearest-shifted}
-use Rattle.bson_decimal.specs.Steps.{is_mark, is_point, scaled_exponent, fitted, finite}
+use Rattle.bson_decimal.proofs.Shifted.{written_up, written_down, up, down, IsWithin16Shifted, within16, within16-shifted, nearest, nearest-shifted}
+use Rattle.bson_decimal.specs.Steps.{is_mark, is_point, scaled_exponent, stored_pair, finite}
 use Rattle.bson_decimal.proofs.StepLaws.{if-cases}
-use Rattle.bson_decimal.proofs.Fitted.{bind-by, IsFitted, FittedRefuses, fitted-cases}
+use Rattle.bson_decimal.proofs.Fitted.{bind-by, IsFitted, FittedRefuses, stored_pair-cases}
 use Rattle.bson_decimal.proofs.NearestLaws.{nearest-one}
 use Rattle.bson_decimal.proofs.Grammar.{ReadsExponent, reads-exponent, reads-point, finite-is, sign-of, sign-off}
 
@@ -28,11 +28,11 @@ pub record ReadsFinite (rest : List ℕ) (r : ℕ × ℕ) : Type 0 where
   pub exponent : Exponent
   pub is : rest ≡ (whole ++ fraction_bytes fraction) ++ exponent_bytes exponent
   pub ok : IsExponent exponent
-  pub high : raised exponent ≤ 32767
-  pub low : lowered exponent ≤ 32768
+  pub high : written_up exponent ≤ 32767
+  pub low : written_down exponent ≤ 32768
   pub short : length (fraction_digits fraction) ≤ 32767
   pub scaled : ℕ
-  pub scaled_is : scaled + length (fraction_digits fraction) + lowered exponent ≡ 32768 + raised exponent
+  pub scaled_is : scaled + length (fraction_digits fraction) + written_down exponent ≡ 32768 + written_up exponent
   pub fitted_is : IsFitted (whole ++ fraction_digits fraction) scaled r
 
 scaled-cases : (w : ℕ) (f : List ℕ) → MatchResult (scaled_exponent w f) (λ x. (x + length f ≡ w) × (length f ≤ 32767)) (λ _. ⊤)
@@ -43,8 +43,8 @@ scaled-cases w f =
     (λ e. if-cases (λ x. (x + length f ≡ w) × (length f ≤ 32767)) (λ _. ⊤) (ltb w (length f)) _ _ (λ _. tt)
     (λ g. let a = ltb-false 32767 (length f) e in let b = ltb-false w (length f) g in (omega arith, a)))
 
-fitted-ok : (bs : List ℕ) (x : ℕ) → x ≤ 65535 → MatchResult (fitted bs x) (IsFitted bs x) (λ _. ⊤)
-fitted-ok bs x low = weaker (fitted bs x) (fitted-cases bs x low)
+stored_pair-ok : (bs : List ℕ) (x : ℕ) → x ≤ 65535 → MatchResult (stored_pair bs x) (IsFitted bs x) (λ _. ⊤)
+stored_pair-ok bs x low = weaker (stored_pair bs x) (stored_pair-cases bs x low)
   where
     weaker : (r : Result (ℕ × ℕ) ParseError) → MatchResult r (IsFitted bs x) (FittedRefuses bs x) → MatchResult r (IsFitted bs x) (λ _. ⊤)
     weaker (Ok a) h = h
@@ -61,12 +61,12 @@ reads-finite rest =
     (λ w ex.
     bind-by (ReadsFinite rest) (λ _. ⊤) (λ x. (x + length fraction ≡ w) × (length fraction ≤ 32767)) (λ _. ⊤) (scaled_exponent w fraction) _ (scaled-cases w fraction)
     (λ x sum. ok-finite rest whole p.part ex.part fraction w x p.digits (ex.is ∙ ap (λ t. t ++ exponent_bytes ex.part) p.is) ex.ok ex.high ex.low ex.value sum.0 sum.1
-    (fitted (whole ++ fraction) x) (fitted-ok (whole ++ fraction) x (let v = ex.value in let h = ex.high in let s = sum.0 in omega arith)))
+    (stored_pair (whole ++ fraction) x) (stored_pair-ok (whole ++ fraction) x (let v = ex.value in let h = ex.high in let s = sum.0 in omega arith)))
     (λ e h. tt))
     (λ e h. tt)
   where
-    ok-finite : (rest whole : List ℕ) (f : Option (List ℕ)) (ex : Exponent) (fraction : List ℕ) (w x : ℕ) → fraction_digits f ≡ fraction → rest ≡ (whole ++ fraction_bytes f) ++ exponent_bytes ex → IsExponent ex → raised ex ≤ 32767 → lowered ex ≤ 32768
-        → w + lowered ex ≡ 32768 + raised ex → x + length fraction ≡ w → length fraction ≤ 32767 → (r : Result (ℕ × ℕ) ParseError) → MatchResult r (IsFitted (whole ++ fraction) x) (λ _. ⊤) → MatchResult r (ReadsFinite rest) (λ _. ⊤)
+    ok-finite : (rest whole : List ℕ) (f : Option (List ℕ)) (ex : Exponent) (fraction : List ℕ) (w x : ℕ) → fraction_digits f ≡ fraction → rest ≡ (whole ++ fraction_bytes f) ++ exponent_bytes ex → IsExponent ex → written_up ex ≤ 32767 → written_down ex ≤ 32768
+        → w + written_down ex ≡ 32768 + written_up ex → x + length fraction ≡ w → length fraction ≤ 32767 → (r : Result (ℕ × ℕ) ParseError) → MatchResult r (IsFitted (whole ++ fraction) x) (λ _. ⊤) → MatchResult r (ReadsFinite rest) (λ _. ⊤)
     ok-finite rest whole f ex fraction w x same is ok high low value sum short (Ok r) h =
         record { whole = whole; fraction = f; exponent = ex; is = is; ok = ok; high = high; low = low; short = rw same short; scaled = x; scaled_is = rw same (omega arith); fitted_is = rw same h }
     ok-finite rest whole f ex fraction w x same is ok high low value sum short (Err e) h = tt
@@ -89,7 +89,7 @@ pub record StepsOn (text : List ℕ) (n : Numeral) : Type 0 where
   pub x : ℕ
   pub at : x + down n ≡ up n + 32768
   pub within : x ≤ 65535
-  pub steps : finite (without_leading_sign text) ≡ fitted (digits_of n) x
+  pub steps : finite (without_leading_sign text) ≡ stored_pair (digits_of n) x
   pub sign : starts_with_minus text ≡ is_minus n.sign
 
 pub steps-on : (text : List ℕ) (n : Numeral) → IsFiniteText text n → IsWithin16Shifted n → StepsOn text n
@@ -101,7 +101,7 @@ steps-on text n t l =
     let low = l.low in
     let least = l.least in
     let x = up n + 32768 - down n in
-    let w = 32768 + raised n.exponent - lowered n.exponent in
+    let w = 32768 + written_up n.exponent - written_down n.exponent in
     record {
       x = x;
       at = omega arith;
@@ -117,14 +117,14 @@ refused text k is n c e t l fits =
     let s = steps-on text n t l in
     let at = s.at in
     let great = l.greatest in
-    rw (sym s.steps ∙ is) at (fitted-cases (digits_of n) s.x s.within) t.digits t.some l.cut (omega arith) (up n) (down n) s.at c e fits
+    rw (sym s.steps ∙ is) at (stored_pair-cases (digits_of n) s.x s.within) t.digits t.some l.cut (omega arith) (up n) (down n) s.at c e fits
 
 -- and what they give is the one pair
 pub only : (text : List ℕ) (r : ℕ × ℕ) → finite (without_leading_sign text) ≡ Ok r → (n : Numeral) (c e : ℕ) → IsFiniteText text n → IsWithin16Shifted n → IsNearestShifted (number n) (up n) (down n) c e
     → (c ≡ r.0) × (e ≡ r.1)
 only text r is n c e t l near =
     let s = steps-on text n t l in
-    let given = (rw (sym s.steps ∙ is) at (fitted-cases (digits_of n) s.x s.within)).nearest (up n) (down n) s.at in
+    let given = (rw (sym s.steps ∙ is) at (stored_pair-cases (digits_of n) s.x s.within)).nearest (up n) (down n) s.at in
     nearest-one (number n) (up n) (down n) c r.0 e r.1 near given
 
 -- a text that the steps read
@@ -133,18 +133,18 @@ read text r h =
     let s = sign-of text in
     let n : Numeral = record { sign = s.0; whole = h.whole; fraction = h.fraction; exponent = h.exponent } in
     let sum = h.scaled_is in
-    let fitted = h.fitted_is in
-    let few = fitted.few in
-    let most = fitted.high in
+    let stored_pair = h.fitted_is in
+    let few = stored_pair.few in
+    let most = stored_pair.high in
     finite_text n r.0 r.1
     (record {
       is = s.1 ∙ ap (λ t. sign_bytes s.0 ++ t) (h.is ∙ append_assoc h.whole (fraction_bytes h.fraction) (exponent_bytes h.exponent));
-      digits = fitted.digits;
-      some = fitted.some;
+      digits = stored_pair.digits;
+      some = stored_pair.some;
       exponent = h.ok;
     })
     (within16 n (record { high = h.high; low = h.low; fraction = h.short; least = omega arith; cut = few; greatest = omega arith }))
-    (nearest n r.0 r.1 (fitted.nearest (up n) (down n) (omega arith)))
+    (nearest n r.0 r.1 (stored_pair.nearest (up n) (down n) (omega arith)))
     (ap (λ b. to_le_bytes w128 (first_form b r.0 r.1)) s.2)
 
 -- words

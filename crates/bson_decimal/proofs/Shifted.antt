@@ -5,7 +5,7 @@ use lib.IntN.{nat_abs}
 use Rattle.std.proofs.lemmas.Int.{ints, clamps}
 use Rattle.std.proofs.lemmas.Nat.{pow-add}
 use Rattle.std.specs.Str.Parse.{digits_value}
-use Rattle.bson_decimal.specs.Pattern.{exponent_at}
+use Rattle.bson_decimal.specs.Exponents.{exponent_at}
 use Rattle.bson_decimal.specs.Numeral.{is_minus, Exponent, unwritten, written, Numeral, fraction_digits, written_exponent, exponent, number}
 use Rattle.bson_decimal.specs.Nearest.{Fits, IsNearest, distance}
 use Rattle.bson_decimal.specs.Text.{excess, IsWithin16}
@@ -25,25 +25,25 @@ pub record IsNearestShifted (m up down c e : ℕ) : Type 0 where
   pub fits : FitsShifted m up down c e
   pub least : (d f : ℕ) → FitsShifted m up down d f → distance_shifted up down e ≤ distance_shifted up down f
 
--- the exponent that is written is raised - lowered
-abbrev pub raised : Exponent → ℕ
-raised unwritten = 0
-raised (written mark s ds) = cond (is_minus s) 0 (digits_value 10 ds)
+-- the exponent that is written is written_up - written_down
+abbrev pub written_up : Exponent → ℕ
+written_up unwritten = 0
+written_up (written mark s ds) = cond (is_minus s) 0 (digits_value 10 ds)
 
-abbrev pub lowered : Exponent → ℕ
-lowered unwritten = 0
-lowered (written mark s ds) = cond (is_minus s) (digits_value 10 ds) 0
+abbrev pub written_down : Exponent → ℕ
+written_down unwritten = 0
+written_down (written mark s ds) = cond (is_minus s) (digits_value 10 ds) 0
 
 -- the exponent that is denoted is up n - down n
 abbrev pub up : Numeral → ℕ
-up n = raised n.exponent
+up n = written_up n.exponent
 
 abbrev pub down : Numeral → ℕ
-down n = length (fraction_digits n.fraction) + lowered n.exponent
+down n = length (fraction_digits n.fraction) + written_down n.exponent
 
 pub record IsWithin16Shifted (n : Numeral) : Type 0 where
-  pub high : raised n.exponent ≤ 32767
-  pub low : lowered n.exponent ≤ 32768
+  pub high : written_up n.exponent ≤ 32767
+  pub low : written_down n.exponent ≤ 32768
   pub fraction : length (fraction_digits n.fraction) ≤ 32767
   pub least : down n ≤ up n + 32768
   pub cut : excess n ≤ 32767
@@ -58,7 +58,7 @@ signed-is : (b : Bool) (v : ℕ) → signed b v ≡ pos (cond b 0 v) -ℤ pos (c
 signed-is true v = omega (arith, ints)
 signed-is false v = omega (arith, ints)
 
-written_exponent-is : (e : Exponent) → written_exponent e ≡ pos (raised e) -ℤ pos (lowered e)
+written_exponent-is : (e : Exponent) → written_exponent e ≡ pos (written_up e) -ℤ pos (written_down e)
 written_exponent-is unwritten = refl
 written_exponent-is (written mark s ds) = signed-is (is_minus s) (digits_value 10 ds)
 
@@ -74,13 +74,13 @@ signed-high : (b : Bool) (v k : ℕ) → signed b v ≤ℤ pos k → cond b 0 v 
 signed-high true v k h = omega arith
 signed-high false v k h = omega (arith, ints)
 
-lowered-low : (e : Exponent) (k : ℕ) → neg_ℤ (pos k) ≤ℤ written_exponent e → lowered e ≤ k
-lowered-low unwritten k h = omega arith
-lowered-low (written mark s ds) k h = signed-low (is_minus s) (digits_value 10 ds) k h
+written_down-low : (e : Exponent) (k : ℕ) → neg_ℤ (pos k) ≤ℤ written_exponent e → written_down e ≤ k
+written_down-low unwritten k h = omega arith
+written_down-low (written mark s ds) k h = signed-low (is_minus s) (digits_value 10 ds) k h
 
-raised-high : (e : Exponent) (k : ℕ) → written_exponent e ≤ℤ pos k → raised e ≤ k
-raised-high unwritten k h = omega arith
-raised-high (written mark s ds) k h = signed-high (is_minus s) (digits_value 10 ds) k h
+written_up-high : (e : Exponent) (k : ℕ) → written_exponent e ≤ℤ pos k → written_up e ≤ k
+written_up-high unwritten k h = omega arith
+written_up-high (written mark s ds) k h = signed-high (is_minus s) (digits_value 10 ds) k h
 
 -- ---- limits
 
@@ -90,8 +90,8 @@ within16-shifted n l =
     let least = l.least in
     let greatest = l.greatest in
     record {
-      high = raised-high n.exponent 32767 l.high;
-      low = lowered-low n.exponent 32768 l.low;
+      high = written_up-high n.exponent 32767 l.high;
+      low = written_down-low n.exponent 32768 l.low;
       fraction = l.fraction;
       least = omega (arith, ints);
       cut = l.cut;

@@ -1,5 +1,5 @@
 -- Where a text is cut.
-use Rattle.std.proofs.Common.{◌≡◌, ℕ, ◌+◌, ◌-◌, ◌<◌, ◌≤◌, Bool, true, false, cond, zero, suc, ltb, leb, eqb, List, length, get_or, ℤ, pos, neg_ℤ, ◌+ℤ◌, inl, inr, arith, refl, rules, tests, ap}
+use Rattle.std.proofs.Common.{◌≡◌, ℕ, ◌+◌, ◌-◌, ◌<◌, ◌≤◌, Bool, true, false, cond, zero, suc, ltb, leb, eqb, List, length, get_or, ℤ, pos, neg_ℤ, ◌+ℤ◌, inl, inr, arith, refl, rules, tests, ap, ◌∙◌}
 use Rattle.std.specs.Prelude.{position, Some, None}
 use Rattle.std.specs.Option.{unwrap_or}
 use Rattle.std.specs.Int.{w16, w32}
@@ -16,7 +16,7 @@ use Rattle.std.specs.Str.{all_ascii_digits}
 use Rattle.bson_decimal.specs.Steps.{is_mark, is_exponent, exponent_value}
 use Rattle.bson_decimal.proofs.DigitTests.{AllDigits-from_test, test-from_AllDigits}
 
-pub position-or : (p : ℕ → Bool) (xs : List ℕ) → unwrap_or (position p xs) (length xs) ≡ position_or_len p xs
+position-or : (p : ℕ → Bool) (xs : List ℕ) → unwrap_or (position p xs) (length xs) ≡ position_or_len p xs
 position-or p xs =
     elim (cases_Bool (ltb (position_or_len p xs) (length xs))) [
       | inl e ↦ rw e refl
@@ -25,6 +25,10 @@ position-or p xs =
 
 pub position_or_len-le : (p : ℕ → Bool) (xs : List ℕ) → position_or_len p xs ≤ length xs
 position_or_len-le p xs = prefix_len-le-length _ xs
+
+-- the place of the first such byte, where the place found or else the length is told
+pub first-place : (p : ℕ → Bool) (xs : List ℕ) (n : ℕ) → n ≡ unwrap_or (position p xs) (length xs) → (n ≡ position_or_len p xs) × (n ≤ length xs)
+first-place p xs n is = let place = is ∙ position-or p xs in (place, rw place (position_or_len-le p xs))
 
 pub mark-ascii : (b : ℕ) → is_mark b ≡ true → b < 128
 mark-ascii b e = elim (or_cases (eqb b 101) (eqb b 69) e) [ inl t ↦ omega (arith, eqb-true b 101 t) | inr t ↦ omega (arith, eqb-true b 69 t) ]

@@ -1,9 +1,10 @@
--- How a decimal is printed: the scientific text of IEEE 754-2008, section 5.12, in the form of the BSON specification of decimal128. Exponents are the stored ones.
-use Rattle.std.specs.Prelude.{ℕ, ◌+◌, ◌-◌, ◌&&◌, List, [], ◌++◌, length, take, drop, replicate, codes, nat_lt, nat_le, ◌==◌, if◌then◌else◌}
-use Rattle.std.specs.Fmt.{decimal, sign_text}
+-- How a decimal is printed: the scientific text of IEEE 754-2008, section 5.12, in the form of the BSON specification of decimal128.
+use Rattle.std.specs.Prelude.{ℕ, ◌-◌, ◌&&◌, ℤ, pos, neg_ℤ, ◌+ℤ◌, ◌-ℤ◌, int_lt, int_le, unsigned_abs, List, [], ◌++◌, length, take, drop, replicate, codes, nat_lt, ◌==◌, if◌then◌else◌}
+use Rattle.std.specs.Fmt.{decimal, signed_decimal, sign_text}
 use Rattle.bson_decimal.specs.declared.bits.Decoded.{Decoded}
 use Rattle.bson_decimal.specs.declared.bits.Decoded.TheVariants.{Nan, Infinity, Finite}
-use Rattle.bson_decimal.specs.Pattern.{dec}
+use Rattle.bson_decimal.specs.Exponents.{exponent_at}
+use Rattle.bson_decimal.specs.Pattern.{bytes_meaning}
 
 -- the digits with a point before the last `places` of them, or `0.` and zeros where there are no more
 abbrev pub plain_text : List ℕ → ℕ → List ℕ
@@ -12,28 +13,30 @@ plain_text ds places =
     else (if nat_lt places (length ds) then take (length ds - places) ds ++ (codes "." ++ drop (length ds - places) ds)
     else codes "0." ++ (replicate (places - length ds) 48 ++ ds))
 
--- the exponent k - 6177, with its sign
-abbrev pub power_text : ℕ → List ℕ
-power_text k =
-    if nat_lt 6177 k then codes "+" ++ decimal (k - 6177)
-    else (if k == 6177 then codes "0" else codes "-" ++ decimal (6177 - k))
+-- an exponent with its sign, `+` where it is above 0
+abbrev pub power_text : ℤ → List ℕ
+power_text exponent = if int_lt (pos 0) exponent then codes "+" ++ signed_decimal exponent else signed_decimal exponent
 
--- The first digit, a point and the other digits if there are any, and the exponent of the first digit. It is stored - 6176 + length ds - 1.
-abbrev pub scientific_text : List ℕ → ℕ → List ℕ
-scientific_text ds stored =
-    take 1 ds ++ ((if length ds == 1 then [] else codes "." ++ drop 1 ds) ++ (codes "E" ++ power_text (stored + length ds)))
+-- the exponent of the first digit, from that of the last
+abbrev pub scientific_exponent : List ℕ → ℤ → ℤ
+scientific_exponent ds exponent = exponent +ℤ pos (length ds) -ℤ pos 1
+
+-- the first digit, a point and the other digits if there are any, and the exponent of the first digit
+abbrev pub scientific_text : List ℕ → ℤ → List ℕ
+scientific_text ds first = take 1 ds ++ ((if length ds == 1 then [] else codes "." ++ drop 1 ds) ++ (codes "E" ++ power_text first))
 
 -- plain where the exponent is at most 0 and that of the first digit at least -6
-abbrev pub finite_text : List ℕ → ℕ → List ℕ
-finite_text ds stored =
-    if nat_le stored 6176 && nat_le 6171 (stored + length ds) then plain_text ds (6176 - stored) else scientific_text ds stored
+abbrev pub finite_text : List ℕ → ℤ → List ℕ
+finite_text ds exponent =
+    if int_le exponent (pos 0) && int_le (neg_ℤ (pos 6)) (scientific_exponent ds exponent) then plain_text ds (unsigned_abs exponent)
+    else scientific_text ds (scientific_exponent ds exponent)
 
 -- a NaN has neither a sign nor a mark that it signals
-abbrev pub decoded_displayed : Decoded → List ℕ
-decoded_displayed (Nan negative signalling) = codes "NaN"
-decoded_displayed (Infinity negative) = sign_text negative ++ codes "Infinity"
-decoded_displayed (Finite negative c stored) = sign_text negative ++ finite_text (decimal c) stored
+abbrev pub meaning_text : Decoded → List ℕ
+meaning_text (Nan negative signalling) = codes "NaN"
+meaning_text (Infinity negative) = sign_text negative ++ codes "Infinity"
+meaning_text (Finite negative c stored) = sign_text negative ++ finite_text (decimal c) (exponent_at stored)
 
 -- the text of 16 bytes
-unfoldable pub displayed : List ℕ → List ℕ
-displayed b = decoded_displayed (dec b)
+unfoldable pub display_text : List ℕ → List ℕ
+display_text b = meaning_text (bytes_meaning b)

@@ -1,5 +1,5 @@
 -- What the 16 bytes of a decimal mean: IEEE 754-2008, section 3.5.2, decimal128 with its coefficient as one binary number. BSON 1.1 stores the 128 bits with their lowest byte first.
-use Rattle.std.specs.Prelude.{◌≡◌, ℕ, ◌+◌, ◌*◌, ◌/◌, ◌%◌, ◌^◌, ◌<◌, ℤ, pos, ◌-ℤ◌, Bool, List, length, slice_index, nat_lt, ◌==◌, if◌then◌else◌}
+use Rattle.std.specs.Prelude.{◌≡◌, ℕ, ◌+◌, ◌*◌, ◌/◌, ◌%◌, ◌^◌, ◌<◌, Bool, List, length, slice_index, nat_lt, ◌==◌, if◌then◌else◌}
 use Rattle.std.specs.Int.{w128, from_le_bytes, to_le_bytes}
 use Rattle.bson_decimal.specs.declared.bits.Decoded.{Decoded}
 use Rattle.bson_decimal.specs.declared.bits.Decoded.TheVariants.{Nan, Infinity, Finite}
@@ -16,25 +16,21 @@ abbrev pub is_set : ℕ → ℕ → Bool
 is_set n k = field n k 1 == 1
 
 -- a coefficient of more than 34 digits counts as 0
-abbrev pub counted : ℕ → ℕ
-counted c = if nat_lt c (10 ^ 34) then c else 0
+abbrev pub canonical_coefficient : ℕ → ℕ
+canonical_coefficient c = if nat_lt c (10 ^ 34) then c else 0
 
 -- Bit 127 is the sign. Bits 126 to 122 are all one in a NaN, whose bit 121 says that it signals, and all but the last are one in an infinity.
 -- Else, where bits 126 and 125 are both one, the pattern is in its second form, with the stored exponent in bits 124 to 111 and a coefficient above 10 ^ 34 - 1; else it is in its first form, with the stored exponent in bits 126 to 113 and the coefficient below them.
-abbrev pub decoded : ℕ → Decoded
-decoded n =
+abbrev pub number_meaning : ℕ → Decoded
+number_meaning n =
     if field n 122 5 == 31 then Nan (is_set n 127) (is_set n 121)
     else (if field n 122 5 == 30 then Infinity (is_set n 127)
     else (if field n 125 2 == 3 then Finite (is_set n 127) 0 (field n 111 14)
-    else Finite (is_set n 127) (counted (field n 0 113)) (field n 113 14)))
+    else Finite (is_set n 127) (canonical_coefficient (field n 0 113)) (field n 113 14)))
 
 -- what 16 bytes mean
-abbrev pub dec : List ℕ → Decoded
-dec b = decoded (from_le_bytes w128 b)
-
--- the exponent that a stored one stands for, from -6176 to 6111
-abbrev pub exponent_at : ℕ → ℤ
-exponent_at stored = pos stored -ℤ pos 6176
+abbrev pub bytes_meaning : List ℕ → Decoded
+bytes_meaning b = number_meaning (from_le_bytes w128 b)
 
 abbrev pub sign_weight : Bool → ℕ
 sign_weight negative = if negative then 2 ^ 127 else 0
@@ -51,4 +47,4 @@ normal_number (Finite negative c stored) = first_form negative c stored
 
 -- the canonical pattern in the place of b
 unfoldable pub normal_decimal : List ℕ → List ℕ
-normal_decimal b = to_le_bytes w128 (normal_number (dec b))
+normal_decimal b = to_le_bytes w128 (normal_number (bytes_meaning b))

@@ -1,12 +1,13 @@
 -- Why a text is refused: the kind of the first of these steps that finds a fault. They are for `decimal_fault` and for the proofs; which texts denote a decimal, and which one, is said in Text, with no step.
--- An exponent x is kept as x + 32768, so that it is a natural number: 26592 is the exponent -6176, 38879 is 6111, and 65535 is 32767.
-use Rattle.std.specs.Prelude.{ℕ, ◌+◌, ◌-◌, ◌*◌, ◌^◌, Bool, not, ◌&&◌, ◌||◌, List, ◌++◌, length, take, drop, Option, Some, None, Result, Ok, Err, nat_lt, nat_le, ◌==◌, if◌then◌else◌, slice_index, min}
+-- An exponent is kept by its place among those of 16 bits, which is a natural number.
+use Rattle.std.specs.Prelude.{ℕ, ◌+◌, ◌-◌, ◌*◌, ◌^◌, Bool, not, ◌&&◌, ◌||◌, List, ◌++◌, length, take, drop, Option, Some, None, Result, Ok, Err, nat_lt, nat_le, ◌==◌, if◌then◌else◌, slice_index, min, ℤ, pos, ◌+ℤ◌, unsigned_abs}
 use Rattle.std.specs.Option.{ok_or}
 use Rattle.std.specs.List.{list_all, position_or_len, before_first, after_first}
 use Rattle.std.specs.Str.{all_ascii_digits}
 use Rattle.std.specs.Str.Parse.{digits_value, without_leading_sign, starts_with_minus}
 use Rattle.bson_decimal.specs.declared.ParseError.{ParseError}
 use Rattle.bson_decimal.specs.declared.ParseError.TheVariants.{EmptyExponent, InvalidExponent, InvalidCoefficient, Overflow, Underflow, InexactRounding, Unparseable}
+use Rattle.bson_decimal.specs.Exponents.{least_exponent, greatest_exponent}
 use Rattle.bson_decimal.specs.Numeral.{is_zero, without_leading_zeros}
 
 abbrev pub is_mark : ℕ → Bool
@@ -15,11 +16,28 @@ is_mark b = b == 101 || b == 69
 abbrev pub is_point : ℕ → Bool
 is_point b = b == 46
 
+-- the place of an exponent among those of 16 bits, counted from the least, which is -2 ^ 15
+abbrev pub place_of : ℤ → ℕ
+place_of exponent = unsigned_abs (exponent +ℤ pos (2 ^ 15))
+
+abbrev pub zero_place : ℕ
+zero_place = place_of (pos 0)
+
+abbrev pub least_place : ℕ
+least_place = place_of least_exponent
+
+abbrev pub greatest_place : ℕ
+greatest_place = place_of greatest_exponent
+
+-- the place of the greatest of 16 bits
+abbrev pub last_place : ℕ
+last_place = place_of (pos 32767)
+
 -- a character goes on at this byte
 abbrev pub is_inside : ℕ → Bool
 is_inside b = nat_le 128 b && nat_lt b 192
 
--- the digits of a coefficient, and its exponent
+-- the digits of a coefficient, and the place of its exponent
 abbrev pub Scaled : Type 0
 Scaled = List ℕ × ℕ
 
@@ -30,49 +48,45 @@ cut_at_34 ds x =
     else (if is_inside (slice_index ds 34) then Err Unparseable
     else (if not (list_all is_zero (drop 34 ds)) then Err InexactRounding
     else (if nat_lt 32767 (length ds - 34) then Err Overflow
-    else (if nat_lt 65535 (x + (length ds - 34)) then Err Overflow
+    else (if nat_lt last_place (x + (length ds - 34)) then Err Overflow
     else Ok (take 34 ds, x + (length ds - 34))))))
 
 -- the exponent is raised to the least one, for zeros dropped
 unfoldable pub raise_to_least : List ℕ → ℕ → Result Scaled ParseError
 raise_to_least ds x =
-    if nat_le 26592 x then Ok (ds, x)
-    else (if length ds == 0 then Ok (ds, 26592)
-    else (if nat_lt (length ds) (26592 - x) then Err Underflow
-    else (if is_inside (slice_index ds (length ds - (26592 - x))) then Err Unparseable
-    else (if not (list_all is_zero (drop (length ds - (26592 - x)) ds)) then Err InexactRounding
-    else Ok (take (length ds - (26592 - x)) ds, 26592)))))
+    if nat_le least_place x then Ok (ds, x)
+    else (if length ds == 0 then Ok (ds, least_place)
+    else (if nat_lt (length ds) (least_place - x) then Err Underflow
+    else (if is_inside (slice_index ds (length ds - (least_place - x))) then Err Unparseable
+    else (if not (list_all is_zero (drop (length ds - (least_place - x)) ds)) then Err InexactRounding
+    else Ok (take (length ds - (least_place - x)) ds, least_place)))))
 
 -- the exponent is lowered to the greatest one, for so many zeros added
 unfoldable pub zeros_to_add : List ℕ → ℕ → Result ℕ ParseError
 zeros_to_add ds x =
-    if nat_le x 38879 then Ok 0
+    if nat_le x greatest_place then Ok 0
     else (if length ds == 0 then Ok 0
-    else (if nat_lt 34 (length ds + (x - 38879)) then Err Overflow
-    else Ok (x - 38879)))
-
--- the bytes after a leading sign
-abbrev pub unsigned : List ℕ → List ℕ
-unsigned bs = without_leading_sign bs
+    else (if nat_lt 34 (length ds + (x - greatest_place)) then Err Overflow
+    else Ok (x - greatest_place)))
 
 abbrev pub has : (ℕ → Bool) → List ℕ → Bool
 has p bs = nat_lt (position_or_len p bs) (length bs)
 
 -- a sign and digits, of a value from -32768 to 32767
 abbrev pub is_exponent : List ℕ → Bool
-is_exponent bs = nat_lt 0 (length (unsigned bs)) && (all_ascii_digits (unsigned bs) && nat_le (digits_value 10 (unsigned bs)) (if starts_with_minus bs then 32768 else 32767))
+is_exponent bs = nat_lt 0 (length (without_leading_sign bs)) && (all_ascii_digits (without_leading_sign bs) && nat_le (digits_value 10 (without_leading_sign bs)) (if starts_with_minus bs then 32768 else 32767))
 
--- that value, with 32768 added
-abbrev pub biased_exponent : List ℕ → ℕ
-biased_exponent bs = if starts_with_minus bs then 32768 - digits_value 10 (unsigned bs) else 32768 + digits_value 10 (unsigned bs)
+-- the place of that value
+abbrev pub written_place : List ℕ → ℕ
+written_place bs = if starts_with_minus bs then zero_place - digits_value 10 (without_leading_sign bs) else zero_place + digits_value 10 (without_leading_sign bs)
 
 unfoldable pub exponent_value : List ℕ → Option ℕ
-exponent_value bs = if is_exponent bs then Some (biased_exponent bs) else None
+exponent_value bs = if is_exponent bs then Some (written_place bs) else None
 
--- the written exponent, with 32768 added
+-- the place of the exponent that is written, or of 0
 unfoldable pub written_exponent : List ℕ → Result ℕ ParseError
 written_exponent rest =
-    if not (has is_mark rest) then Ok 32768
+    if not (has is_mark rest) then Ok zero_place
     else (if length (after_first is_mark rest) == 0 then Err EmptyExponent
     else ok_or (exponent_value (after_first is_mark rest)) InvalidExponent)
 
@@ -100,20 +114,20 @@ coefficient ds z has_digit =
     else Ok (digits_value 10 ds * 10 ^ z))
 
 -- a coefficient and a stored exponent
-unfoldable pub fitted : List ℕ → ℕ → Result (ℕ × ℕ) ParseError
-fitted bs x = do
+unfoldable pub stored_pair : List ℕ → ℕ → Result (ℕ × ℕ) ParseError
+stored_pair bs x = do
   a ← cut_at_34 (without_leading_zeros bs) x
   b ← raise_to_least a.0 a.1
   z ← zeros_to_add b.0 b.1
   c ← coefficient b.0 z (nat_lt 0 (length bs))
-  Ok (c, min b.1 38879 - 26592)
+  Ok (c, min b.1 greatest_place - least_place)
 
 -- a finite text without its sign
 unfoldable pub finite : List ℕ → Result (ℕ × ℕ) ParseError
 finite rest = do
   w ← written_exponent rest
   x ← scaled_exponent w (after_first is_point (before_first is_mark rest))
-  fitted (before_first is_point (before_first is_mark rest) ++ after_first is_point (before_first is_mark rest)) x
+  stored_pair (before_first is_point (before_first is_mark rest) ++ after_first is_point (before_first is_mark rest)) x
 
 -- the kind of fault of a text that denotes nothing
 abbrev pub fault_of : Result (ℕ × ℕ) ParseError → ParseError
@@ -121,4 +135,4 @@ fault_of (Ok r) = InvalidCoefficient
 fault_of (Err k) = k
 
 unfoldable pub decimal_fault : List ℕ → ParseError
-decimal_fault text = fault_of (finite (unsigned text))
+decimal_fault text = fault_of (finite (without_leading_sign text))

@@ -2,7 +2,8 @@
 use Rattle.std.specs.Prelude.{◌≡◌, ℕ, ◌+◌, ◌-◌, ◌*◌, ◌^◌, ◌≤◌, pos, neg_ℤ, ◌+ℤ◌, ◌≤ℤ◌, List, ◌++◌, length, map, codes}
 use Rattle.std.specs.Char.{to_ascii_lowercase}
 use Rattle.std.specs.Int.{w128, to_le_bytes}
-use Rattle.bson_decimal.specs.Pattern.{first_form, sign_weight, exponent_at}
+use Rattle.bson_decimal.specs.Exponents.{exponent_at}
+use Rattle.bson_decimal.specs.Pattern.{first_form, sign_weight}
 use Rattle.bson_decimal.specs.Numeral.{Sign, sign_bytes, is_minus, Numeral, fraction_digits, digits_of, IsFiniteText, number, written_exponent, exponent, without_leading_zeros}
 use Rattle.bson_decimal.specs.Nearest.{IsNearest}
 

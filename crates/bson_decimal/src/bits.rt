@@ -1,6 +1,7 @@
 //! The bits of a pattern, taken apart and put together (IEEE 754-2008, section 3.5.2).
 
 ghost use Rattle.std.specs.Prelude.{◌≡◌, ◌^◌, ◌<◌, ◌≤◌};
+ghost use Rattle.bson_decimal.specs.Exponents.{exponent_at};
 ghost use Rattle.bson_decimal.specs.Pattern.{sign_weight, first_form};
 
 use crate::Decimal128;
@@ -34,10 +35,10 @@ pub(crate) const SIGNALLING_NAN: u128 = 0x7e << 120;
 pub(crate) const INFINITY: u128 = 0x78 << 120;
 
 impl Decimal128 {
-    ghost use Rattle.bson_decimal.specs.Pattern.{dec};
+    ghost use Rattle.bson_decimal.specs.Pattern.{bytes_meaning};
 
     pub(crate) fn decoded(&self) -> Decoded
-        ensures { result ≡ dec self.now }
+        ensures { result ≡ bytes_meaning self.now }
     {
         let number = u128::from_le_bytes(self.bytes());
         let negative = (number >> 127) % 2 == 1;
@@ -71,6 +72,13 @@ impl Decimal128 {
             stored_exponent: ((number >> 113) % 16384) as u16,
         }
     }
+}
+
+// The exponent that a stored one stands for.
+pub(crate) fn exponent_at(stored: u16) -> i32
+    ensures { result ≡ exponent_at stored }
+{
+    i32::from(stored) - 6176
 }
 
 // The sign bit, as a number.

@@ -2,14 +2,12 @@
 
 ghost use Rattle.std.specs.Prelude.{◌≡◌, ◌+◌, ◌-◌, ◌*◌, ◌^◌, ◌<◌, ◌≤◌, ◌++◌, [], length, take, drop, replicate, Some, IsAscii};
 ghost use Rattle.std.specs.Fmt.{decimal, sign_text, WritesOnOk};
-ghost use Rattle.bson_decimal.specs.Displayed.{plain_text, power_text, scientific_text, finite_text, displayed};
+ghost use Rattle.bson_decimal.specs.Exponents.{exponent_at};
+ghost use Rattle.bson_decimal.specs.Displayed.{plain_text, power_text, scientific_exponent, scientific_text, finite_text, display_text};
 
 use crate::Decimal128;
-use crate::bits::Decoded;
+use crate::bits::{Decoded, exponent_at};
 use std::{fmt, str};
-
-// What is added to an exponent where it is stored.
-const BIAS: usize = 6176;
 
 // Writes the digits of a coefficient so that they end the buffer, and returns where they start.
 fn write_digits(coefficient: u128, buffer: &mut [u8; 34]) -> usize
@@ -57,29 +55,25 @@ fn write_plain<W: fmt::Write>(f: &mut fmt::Formatter<W>, digits: &str, places: u
     f.write_str(digits)
 }
 
-// The exponent that is less than `shifted` by 6177, with its sign.
-fn write_power<W: fmt::Write>(f: &mut fmt::Formatter<W>, shifted: usize) -> fmt::Result
-    ensures { WritesOnOk W.write_str_gives f.old result (power_text shifted) f.new }
+// An exponent with its sign, `+` where it is above 0.
+fn write_power<W: fmt::Write>(f: &mut fmt::Formatter<W>, exponent: i32) -> fmt::Result
+    ensures { WritesOnOk W.write_str_gives f.old result (power_text exponent) f.new }
 {
-    if shifted > BIAS + 1 {
-        write!(f, "+{}", shifted - (BIAS + 1))
-    } else if shifted == BIAS + 1 {
-        f.write_str("0")
-    } else {
-        write!(f, "-{}", BIAS + 1 - shifted)
+    if exponent > 0 {
+        f.write_str("+")?;
     }
+    write!(f, "{exponent}")
 }
 
 // One digit, a point before the others if there are any, and the exponent of the first digit.
 fn write_scientific<W: fmt::Write>(
     f: &mut fmt::Formatter<W>,
     digits: &str,
-    stored_exponent: u16,
+    first: i32,
 ) -> fmt::Result
     requires ascii { IsAscii digits.now }
     requires some { 0 < length digits.now }
-    requires short { length digits.now ≤ 34 }
-    ensures { WritesOnOk W.write_str_gives f.old result (scientific_text digits.now stored_exponent) f.new }
+    ensures { WritesOnOk W.write_str_gives f.old result (scientific_text digits.now first) f.new }
 {
     f.write_str(&digits[..1])?;
     if digits.len() != 1 {
@@ -87,7 +81,15 @@ fn write_scientific<W: fmt::Write>(
         f.write_str(&digits[1..])?;
     }
     f.write_str("E")?;
-    write_power(f, stored_exponent as usize + digits.len())
+    write_power(f, first)
+}
+
+// The exponent of the first digit.
+fn scientific_exponent(digits: &str, stored_exponent: u16) -> i32
+    requires { length digits.now ≤ 34 }
+    ensures { result ≡ scientific_exponent digits.now (exponent_at stored_exponent) }
+{
+    exponent_at(stored_exponent) + digits.len() as i32 - 1
 }
 
 // Plain where the exponent is at most 0 and that of the first digit at least -6.
@@ -99,13 +101,14 @@ fn write_finite<W: fmt::Write>(
     requires ascii { IsAscii digits.now }
     requires some { 0 < length digits.now }
     requires short { length digits.now ≤ 34 }
-    ensures { WritesOnOk W.write_str_gives f.old result (finite_text digits.now stored_exponent) f.new }
+    ensures { WritesOnOk W.write_str_gives f.old result (finite_text digits.now (exponent_at stored_exponent)) f.new }
 {
-    let stored = stored_exponent as usize;
-    if stored <= BIAS && stored + digits.len() >= BIAS - 5 {
-        write_plain(f, digits, BIAS - stored)
+    let exponent = exponent_at(stored_exponent);
+    let first = scientific_exponent(digits, stored_exponent);
+    if exponent <= 0 && first >= -6 {
+        write_plain(f, digits, exponent.unsigned_abs() as usize)
     } else {
-        write_scientific(f, digits, stored_exponent)
+        write_scientific(f, digits, first)
     }
 }
 
@@ -119,7 +122,7 @@ fn write_signed<W: fmt::Write>(
     requires some { 0 < length digits.now }
     requires short { length digits.now ≤ 34 }
     ensures { WritesOnOk W.write_str_gives f.old result
-        (sign_text negative ++ finite_text digits.now stored_exponent) f.new }
+        (sign_text negative ++ finite_text digits.now (exponent_at stored_exponent)) f.new }
 {
     if negative {
         f.write_str("-")?;
@@ -132,9 +135,9 @@ fn write_signed<W: fmt::Write>(
 /// `1.05E+3`. Zeros at the end are kept. A NaN is `NaN`, whatever its sign, and an infinity
 /// `Infinity` or `-Infinity` (IEEE 754-2008, section 5.12).
 impl fmt::Display for Decimal128 {
-    ghost output = { λ d. Some (displayed d) };
+    ghost output = { λ d. Some (display_text d) };
 
-    #[tactic(auto, unfolding(crate::specs::Displayed::displayed))]
+    #[tactic(auto, unfolding(crate::specs::Displayed::display_text))]
     fn fmt<W: fmt::Write>(&self, f: &mut fmt::Formatter<W>) -> fmt::Result {
         match self.decoded() {
             Decoded::Nan { .. } => f.write_str("NaN"),

@@ -2,11 +2,11 @@
 
 ghost use Rattle.std.specs.Prelude.{◌≡◌, ◌↔◌, ◌+◌, ◌*◌, ◌^◌, ◌<◌, ◌≤◌, List, ℕ, length, position, slice_index, IfOk, IfSome, IsOkAnd, MatchOption};
 ghost use Rattle.std.specs.List.{position_or_len};
-ghost use Rattle.std.specs.Str.Parse.{starts_with_minus};
+ghost use Rattle.std.specs.Str.Parse.{starts_with_minus, without_leading_sign};
 ghost use Rattle.bson_decimal.specs.Pattern.{normal_decimal};
-ghost use Rattle.bson_decimal.specs.Displayed.{displayed};
+ghost use Rattle.bson_decimal.specs.Displayed.{display_text};
 ghost use Rattle.bson_decimal.specs.Text.{SpecialWord};
-ghost use Rattle.bson_decimal.specs.Steps.{is_mark, is_point, is_inside, cut_at_34, raise_to_least, zeros_to_add, fitted, coefficient, written_exponent, scaled_exponent, exponent_value, finite, unsigned};
+ghost use Rattle.bson_decimal.specs.Steps.{is_mark, is_point, is_inside, cut_at_34, raise_to_least, zeros_to_add, least_place, last_place, stored_pair, coefficient, written_exponent, scaled_exponent, exponent_value, finite};
 ghost use Rattle.bson_decimal.specs.FromStr.{ParsesTo};
 
 use crate::bits::{INFINITY, QUIET_NAN, SIGNALLING_NAN, first_form, sign_weight};
@@ -47,9 +47,9 @@ impl FromStr for Decimal128 {
 
         // Two laws: a printed text parses to the canonical pattern, and two patterns print alike
         // exactly if their canonical patterns are one.
-        ensures reads_displayed { (b : List ℕ) → text.now ≡ displayed b
+        ensures reads_displayed { (b : List ℕ) → text.now ≡ display_text b
             → IsOkAnd result (λ d. d ≡ normal_decimal b) }
-        ensures prints_apart { (a b : List ℕ) → (displayed a ≡ displayed b) ↔ (normal_decimal a ≡ normal_decimal b) }
+        ensures prints_apart { (a b : List ℕ) → (display_text a ≡ display_text b) ↔ (normal_decimal a ≡ normal_decimal b) }
     {
         let negative = is_negative(text);
         let rest = without_sign(text);
@@ -69,7 +69,7 @@ fn is_negative(text: &str) -> bool
 }
 
 fn without_sign(text: &str) -> &str
-    ensures { result.now ≡ unsigned text.now }
+    ensures { result.now ≡ without_leading_sign text.now }
 {
     let bytes = text.as_bytes();
     if bytes.is_empty() {
@@ -104,15 +104,15 @@ fn special(rest: &str) -> Option<u128>
     None
 }
 
-// An exponent is kept with 32768 added, so that it is never negative. These are -6176, 6111 and
-// 32767, and 0.
-const LEAST: usize = 26592;
+// An exponent is kept by its place among those of 16 bits, so that it is never negative. These are
+// the places of 0, -6176, 6111 and 32767.
+const ZERO: usize = 1 << 15;
 
-const GREATEST: usize = 38879;
+const LEAST: usize = ZERO - 6176;
 
-const LIMIT: usize = 65535;
+const GREATEST: usize = ZERO + 6111;
 
-const ZERO: usize = 32768;
+const LAST: usize = ZERO + 32767;
 
 // The coefficient and the stored exponent of a finite text without its sign.
 #[tactic(auto, unfolding(crate::specs::Steps::finite))]
@@ -130,7 +130,7 @@ fn finite(rest: &str) -> Result<(u128, u16), ParseError>
         &[]
     };
     let exponent = scaled_exponent(exponent, fraction)?;
-    fitted(Digits::new(whole, fraction), exponent)
+    stored_pair(Digits::new(whole, fraction), exponent)
 }
 
 fn find_mark(text: &[u8]) -> Option<usize>
@@ -165,7 +165,7 @@ fn point_at(text: &[u8]) -> usize
 #[tactic(auto, unfolding(crate::specs::Steps::written_exponent))]
 fn written_exponent(rest: &str) -> Result<usize, ParseError>
     ensures value { result ≡ written_exponent rest.now }
-    ensures within { IfOk result (λ x. x ≤ 65535) }
+    ensures within { IfOk result (λ x. x ≤ last_place) }
 {
     let at = mark_at(rest.as_bytes());
     if at == rest.len() {
@@ -183,7 +183,7 @@ fn written_exponent(rest: &str) -> Result<usize, ParseError>
 
 fn exponent_value(text: &str) -> Option<usize>
     ensures value { result ≡ exponent_value text.now }
-    ensures within { IfSome result (λ x. x ≤ 65535) }
+    ensures within { IfSome result (λ x. x ≤ last_place) }
 {
     let Ok(exponent) = text.parse::<i16>() else {
         return None;
@@ -205,10 +205,10 @@ fn scaled_exponent(exponent: usize, fraction: &[u8]) -> Result<usize, ParseError
 }
 
 // The coefficient and the stored exponent, from all digits and their exponent.
-#[tactic(auto, unfolding(crate::specs::Steps::fitted))]
-fn fitted(digits: Digits, exponent: usize) -> Result<(u128, u16), ParseError>
-    requires { exponent ≤ 65535 }
-    ensures { result ≡ fitted digits.entry exponent }
+#[tactic(auto, unfolding(crate::specs::Steps::stored_pair))]
+fn stored_pair(digits: Digits, exponent: usize) -> Result<(u128, u16), ParseError>
+    requires { exponent ≤ last_place }
+    ensures { result ≡ stored_pair digits.entry exponent }
 {
     let has_digit = digits.len() > 0;
     let (digits, exponent) = cut_at_34(digits.without_leading_zeros(), exponent)?;
@@ -228,7 +228,7 @@ fn is_inside(byte: u8) -> bool
 // Keeps 34 bytes at most, and drops zeros only.
 #[tactic(auto, unfolding(crate::specs::Steps::cut_at_34))]
 fn cut_at_34(digits: Digits, exponent: usize) -> Result<(Digits, usize), ParseError>
-    requires { exponent ≤ 65535 }
+    requires { exponent ≤ last_place }
     ensures value { result ≡ cut_at_34 digits.entry exponent }
     ensures short { IfOk result (λ r. length r.0 ≤ 34) }
 {
@@ -245,7 +245,7 @@ fn cut_at_34(digits: Digits, exponent: usize) -> Result<(Digits, usize), ParseEr
     if len - 34 > 32767 {
         return Err(ParseError::Overflow);
     }
-    if exponent + (len - 34) > LIMIT {
+    if exponent + (len - 34) > LAST {
         return Err(ParseError::Overflow);
     }
     Ok((digits.first(34), exponent + (len - 34)))
@@ -256,7 +256,7 @@ fn cut_at_34(digits: Digits, exponent: usize) -> Result<(Digits, usize), ParseEr
 fn raise_to_least(digits: Digits, exponent: usize) -> Result<(Digits, usize), ParseError>
     ensures value { result ≡ raise_to_least digits.entry exponent }
     ensures shorter { IfOk result (λ r. length r.0 ≤ length digits.entry) }
-    ensures least { IfOk result (λ r. 26592 ≤ r.1) }
+    ensures least { IfOk result (λ r. least_place ≤ r.1) }
 {
     if exponent >= LEAST {
         return Ok((digits, exponent));

@@ -152,9 +152,9 @@ impl<'a> Hash for ScalarRef<'a> {
 
 impl<'a> fmt::Display for ScalarRef<'a> {
     ghost use Rattle.std.specs.Prelude.{Some};
-    ghost use Rattle.bson_wrapper.specs.Displayed.{scalar_displayed};
+    ghost use Rattle.bson_wrapper.specs.Displayed.{scalar_text};
 
-    ghost output = { λ x. Some (scalar_displayed (scalar_of x)) };
+    ghost output = { λ x. Some (scalar_text (scalar_of x)) };
 
     fn fmt<W: fmt::Write>(&self, f: &mut fmt::Formatter<W>) -> fmt::Result {
         match *self {

@@ -7,7 +7,7 @@ use Rattle.bson_wrapper.specs.declared.form.Form.{Form}
 use Rattle.bson_model.specs.Value.{Value, document, value, Pairs}
 use Rattle.bson_model.specs.Means.{Means, MeansDocument}
 use Rattle.bson_model.specs.Same.{same}
-use Rattle.bson_model.specs.Normal.{normal_form, narrowed, as_read, plain, plain_values, InRange, writable, writable_pairs}
+use Rattle.bson_model.specs.Normal.{normal_form, narrowed_form, as_read, plain, plain_values, InRange, writable, writable_pairs}
 use Rattle.bson_model.specs.Written.{Written}
 
 -- the tree of a plain value means one value, the same as its normal form, settled
@@ -47,7 +47,7 @@ pub record IsTreeOf (f : Form) (v : Value) (t : Data) : Type 0 where
 -- a normal form is its own, and so is a narrowed value; the normal form of a plain value is plain, that of a writable one writable, and of no other
 pub record FormsAreIdempotent (v : Value) : Type 0 where
   pub normal : normal_form (normal_form v) ≡ normal_form v
-  pub narrow : narrowed (narrowed v) ≡ narrowed v
+  pub narrow : narrowed_form (narrowed_form v) ≡ narrowed_form v
   pub keeps_plain : plain (normal_form v) ≡ plain v
   pub keeps_writable : writable (normal_form v) ≡ writable v
 

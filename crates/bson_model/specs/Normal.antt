@@ -29,13 +29,13 @@ abbrev pub normal_form : Value → Value
 normal_form v = map_scalars normal_scalar v
 
 -- each Int64 that an i32 has is the Int32
-abbrev pub narrowed : Value → Value
-narrowed v = map_scalars (scalar_as_read Relaxed) v
+abbrev pub narrowed_form : Value → Value
+narrowed_form v = map_scalars (scalar_as_read Relaxed) v
 
 -- the value as it is read back from its tree
 abbrev pub as_read : Form → Value → Value
 as_read Canonical v = v
-as_read Relaxed v = narrowed v
+as_read Relaxed v = narrowed_form v
 
 -- ---- what a value may be
 

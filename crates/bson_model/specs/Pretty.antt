@@ -1,7 +1,7 @@
 -- The text of a value on several lines, at an indent.
 use Rattle.std.specs.Prelude.{ℕ, ◌+◌, ◌-◌, ◌^◌, min, List, [], ◌∷◌, ◌++◌, replicate, codes}
-use Rattle.bson_wrapper.specs.Displayed.{scalar_displayed}
-use Rattle.bson_model.specs.Displayed.{enclosed, entry}
+use Rattle.bson_wrapper.specs.Displayed.{scalar_text}
+use Rattle.bson_model.specs.Displayed.{bracketed_text, entry}
 use Rattle.bson_model.specs.Value.{Value, scalar, code_scope, array, document, Values, no_values, value, Pairs, no_pairs, pair}
 
 abbrev pub blanks : ℕ → List ℕ
@@ -18,10 +18,10 @@ closing i bracket = codes "\n" ++ (blanks (i - 2) ++ bracket)
 -- each element and each entry on a line of its own at the indent; all else, and what is empty, as it is shown
 abbrev mutual
   pub pretty : ℕ → Value → List ℕ
-  pretty i (scalar x) = scalar_displayed x
+  pretty i (scalar x) = scalar_text x
   pretty i (code_scope s ps) = s
-  pretty i (array vs) = enclosed (codes "[]") (codes "[") (codes ", ") (closing i (codes "]")) (item_lines i vs)
-  pretty i (document ps) = enclosed (codes "{}") (codes "{\n") (codes ",\n") (closing i (codes "}")) (entry_lines i ps)
+  pretty i (array vs) = bracketed_text (codes "[]") (codes "[") (codes ", ") (closing i (codes "]")) (item_lines i vs)
+  pretty i (document ps) = bracketed_text (codes "{}") (codes "{\n") (codes ",\n") (closing i (codes "}")) (entry_lines i ps)
 
   pub item_lines : ℕ → Values → List (List ℕ)
   item_lines i no_values = []

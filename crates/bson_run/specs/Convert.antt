@@ -8,7 +8,7 @@ use Rattle.bson_wrapper.specs.declared.form.Form.{Form}
 use Rattle.bson_wrapper.specs.declared.form.Form.TheVariants as form
 use Rattle.bson_model.specs.Fault.{MeansNothing, fault_of}
 use Rattle.bson_model.specs.Means.{Means}
-use Rattle.bson_model.specs.Displayed.{displayed}
+use Rattle.bson_model.specs.Displayed.{display_text}
 use Rattle.bson_model.specs.Value.{Value}
 use Rattle.bson_model.specs.Normal.{normal_form}
 use Rattle.bson_model.specs.Written.{Written}
@@ -40,7 +40,7 @@ pub record IsWritten (f : Form) (value : Value) (output : List ℕ) : Type 0 whe
 abbrev pub IsOutput : Mode → Value → List ℕ → Type 0
 IsOutput Canonical value output = IsWritten form.Canonical value output
 IsOutput Relaxed value output = IsWritten form.Relaxed value output
-IsOutput Show value output = output ≡ displayed value ++ newline
+IsOutput Show value output = output ≡ display_text value ++ newline
 
 -- ---- converting
 

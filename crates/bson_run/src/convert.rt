@@ -2,7 +2,7 @@
 ghost use Rattle.std.specs.Prelude.{◌≡◌, ◌++◌, IfOk, IfErr, ℕ, List, string_bytes};
 ghost use Rattle.serde_json.specs.Data.{Data};
 ghost use Rattle.bson_model.specs.Means.{Means};
-ghost use Rattle.bson_model.specs.Displayed.{displayed};
+ghost use Rattle.bson_model.specs.Displayed.{display_text};
 ghost use Rattle.bson_model.specs.Value as model;
 ghost use Rattle.bson_model.specs.Laws.{IsReadForm};
 ghost use Rattle.bson.specs.View.{bson_view};
@@ -88,7 +88,7 @@ fn output(alloc: Global, mode: Mode, value: Bson) -> Result<Vec<u8>, Fault>
 
 /// The text that shows the value, and a newline.
 fn displayed_line(alloc: Global, value: &Bson) -> Result<Vec<u8>, Fault>
-    ensures ok { IfOk result (λ line. line.items ≡ displayed (bson_view value.now) ++ newline) }
+    ensures ok { IfOk result (λ line. line.items ≡ display_text (bson_view value.now) ++ newline) }
     ensures fault { IfErr result (λ fault. fault ≡ Fault.OutOfMemory) }
 {
     match format!(in alloc; "{value}\n") {

@@ -3,15 +3,15 @@ use Rattle.std.proofs.Common.{◌≡◌, ℕ, suc, ◌+◌, ◌*◌, ◌/◌, �
 use Rattle.std.specs.Prelude.{replicate}
 use Rattle.base64.specs.Rfc4648.{encode_symbols, padding_len}
 use Rattle.base64.specs.Engines.{standard}
-use Rattle.base64.specs.GeneralPurpose.{IsBytes, decode_of, engine_symbols}
+use Rattle.base64.specs.GeneralPurpose.{IsBytes, decode_of, encode_of, engine_symbols}
 use Rattle.base64.proofs.EngineFacts.{decode_of_strict, decode_of-encode_of}
-use Rattle.bson_scalar.specs.Base64.{IsBase64, base64_text, digit, padded_text}
+use Rattle.bson_scalar.specs.Base64.{IsBase64, digit, padded_text}
 use Rattle.bson_scalar.proofs.ByteRanges.{base64_bytes}
 
 three_more : (n : ℕ) → padding_len (suc (suc (suc n))) ≡ padding_len n
 three_more n = omega arith
 
-pub padded : (bytes : List ℕ) → base64_text bytes ≡ padded_text bytes
+pub padded : (bytes : List ℕ) → encode_of standard bytes ≡ padded_text bytes
 unfolding encode_symbols
 padded [] = refl
 padded (a ∷ []) = refl

@@ -7,6 +7,7 @@ pub mod SortedText
 pub mod IdOrderParts
 pub mod HexLaws
 pub mod UuidLaws
+mod UuidWriting
 pub mod Base64Laws
 pub mod ByteRanges
 pub mod Offered

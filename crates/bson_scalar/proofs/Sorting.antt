@@ -6,7 +6,7 @@ use Rattle.std.proofs.lemmas.List.Sorted.{sum_by-IsPermutation, IsNonDecreasingB
 use Rattle.std.proofs.lemmas.List.Sums.{sum_by-cons}
 use Rattle.std.specs.List.{sum_by, AllByRecursion}
 use Rattle.std.specs.List.Sorted.{IsNonDecreasing}
-use Rattle.bson_scalar.specs.Regex.{insert_sorted, ascending}
+use Rattle.bson_scalar.specs.Regex.{insert_sorted, ascending_numbers}
 
 abbrev Rises : List ℕ → Type 0
 Rises [] = Unit {0}
@@ -38,9 +38,9 @@ count-insert_sorted c n (x ∷ xs) = elim (cases_Bool (nat_le n x)) [
   | inr e ↦ let more = count-insert_sorted c n xs in rw e (omega (arith, more))
 ]
 
-pub count-ascending : (c : ℕ) (xs : List ℕ) → count c (ascending xs) ≡ count c xs
-count-ascending c [] = refl
-count-ascending c (x ∷ xs) = count-insert_sorted c x (ascending xs) ∙ ap (λ n. tally c x + n) (count-ascending c xs)
+pub count-ascending_numbers : (c : ℕ) (xs : List ℕ) → count c (ascending_numbers xs) ≡ count c xs
+count-ascending_numbers c [] = refl
+count-ascending_numbers c (x ∷ xs) = count-insert_sorted c x (ascending_numbers xs) ∙ ap (λ n. tally c x + n) (count-ascending_numbers c xs)
 
 all-insert_sorted : (P : ℕ → Type 0) (n : ℕ) (xs : List ℕ) → P n → AllByRecursion P xs → AllByRecursion P (insert_sorted n xs)
 all-insert_sorted P n [] h all = (h, tt)
@@ -57,13 +57,13 @@ rises-insert_sorted n (x ∷ xs) up = elim (cases_Bool (nat_le n x)) [
   | inr e ↦ let gt = leb-false n x e in rw e (all-insert_sorted (λ y. x ≤ y) n xs (omega arith) up.0, rises-insert_sorted n xs up.1)
 ]
 
-pub rises-ascending : (xs : List ℕ) → Rises (ascending xs)
-rises-ascending [] = tt
-rises-ascending (x ∷ xs) = rises-insert_sorted x (ascending xs) (rises-ascending xs)
+pub rises-ascending_numbers : (xs : List ℕ) → Rises (ascending_numbers xs)
+rises-ascending_numbers [] = tt
+rises-ascending_numbers (x ∷ xs) = rises-insert_sorted x (ascending_numbers xs) (rises-ascending_numbers xs)
 
-pub all-ascending : (P : ℕ → Type 0) (xs : List ℕ) → AllByRecursion P xs → AllByRecursion P (ascending xs)
-all-ascending P [] all = tt
-all-ascending P (x ∷ xs) all = all-insert_sorted P x _ all.0 (all-ascending P xs all.1)
+pub all-ascending_numbers : (P : ℕ → Type 0) (xs : List ℕ) → AllByRecursion P xs → AllByRecursion P (ascending_numbers xs)
+all-ascending_numbers P [] all = tt
+all-ascending_numbers P (x ∷ xs) all = all-insert_sorted P x _ all.0 (all-ascending_numbers P xs all.1)
 
 -- ---- one ascending list
 
@@ -91,8 +91,8 @@ rises-one (x ∷ xs) (y ∷ ys) up vp same = elim (cases_order x y) [
   | inr (inr gt) ↦ absurd (omega (arith, same y, some-here y ys, head-missing y x xs gt up.0))
 ]
 
-pub ascending-again : (xs : List ℕ) → ascending (ascending xs) ≡ ascending xs
-ascending-again xs = rises-one _ _ (rises-ascending (ascending xs)) (rises-ascending xs) (λ c. count-ascending c (ascending xs))
+pub ascending_numbers-again : (xs : List ℕ) → ascending_numbers (ascending_numbers xs) ≡ ascending_numbers xs
+ascending_numbers-again xs = rises-one _ _ (rises-ascending_numbers (ascending_numbers xs)) (rises-ascending_numbers xs) (λ c. count-ascending_numbers c (ascending_numbers xs))
 
 all-from-reads : (x : ℕ) (xs : List ℕ) → ((i : ℕ) → i < length xs → x ≤ get_or xs i 0) → AllByRecursion (λ y. x ≤ y) xs
 all-from-reads x [] h = tt
@@ -103,7 +103,7 @@ rises-from [] up = tt
 rises-from (x ∷ xs) up = (all-from-reads x xs (λ i l. up 0 (suc i) 0 (omega arith) (omega arith)), rises-from xs (λ i j d l m. up (suc i) (suc j) d (omega arith) (omega arith)))
 
 -- what a sort leaves is the ascending list
-pub sorted-ascending : (xs ys : List ℕ) → IsPermutation xs ys → IsSorted nat_cmp ys → ys ≡ ascending xs
-sorted-ascending xs ys same sorted =
-    rises-one ys (ascending xs) (rises-from ys (IsNonDecreasingBy-from_sort (λ x. x) ys sorted)) (rises-ascending xs)
-    (λ c. sym (count-sum c ys) ∙ sum_by-IsPermutation (tally c) xs ys same ∙ count-sum c xs ∙ sym (count-ascending c xs))
+pub sorted-ascending_numbers : (xs ys : List ℕ) → IsPermutation xs ys → IsSorted nat_cmp ys → ys ≡ ascending_numbers xs
+sorted-ascending_numbers xs ys same sorted =
+    rises-one ys (ascending_numbers xs) (rises-from ys (IsNonDecreasingBy-from_sort (λ x. x) ys sorted)) (rises-ascending_numbers xs)
+    (λ c. sym (count-sum c ys) ∙ sum_by-IsPermutation (tally c) xs ys same ∙ count-sum c xs ∙ sym (count-ascending_numbers c xs))

@@ -23,7 +23,7 @@ digit_to v c (inl is) = (grind (arith, nat_tests, is.0, is.1), grind (arith, nat
 digit_to v c (inr (least, most, inl is)) = (grind (arith, nat_tests, least, most, is), grind (arith, nat_tests, least, most, is))
 digit_to v c (inr (least, most, inr is)) = (grind (arith, nat_tests, least, most, is), grind (arith, nat_tests, least, most, is))
 
-by_front : (n : ℕ) (f : ℕ → ℕ) → by_index (suc n) f ≡ f 0 ∷ by_index n (λ i. f (suc i))
+pub by_front : (n : ℕ) (f : ℕ → ℕ) → by_index (suc n) f ≡ f 0 ∷ by_index n (λ i. f (suc i))
 unfolding by_index
 by_front zero f = refl
 by_front (suc n) f = ap (λ xs. xs ++ f (suc n) ∷ []) (by_front n f)

@@ -12,7 +12,7 @@ use Rattle.bson_scalar.specs.declared.vector.Vector.{Vector}
 use Rattle.bson_scalar.specs.declared.vector.Vector.TheVariants.{Int8, Float32, PackedBit}
 use Rattle.bson_scalar.specs.Oid.{IsBytes}
 use Rattle.bson_scalar.specs.Vectors.{is_vector_of_any_bits, le_bytes_of, vector_bytes}
-use Rattle.bson_scalar.specs.VectorData.{VectorData, IsInRange, IsOnlyOne, data_bytes, vector_held, vector_view, int8, float32, packed}
+use Rattle.bson_scalar.specs.VectorData.{VectorData, IsInRange, IsOnlyOne, data_bytes, data_in_range, vector_view, int8, float32, packed}
 
 head_is : {X : Type 0} (x y : X) (xs ys : List X) → x ∷ xs ≡ y ∷ ys → x ≡ y
 head_is x y xs ys h = cc
@@ -118,13 +118,13 @@ held_back (n ∷ ns) are =
 two_less : (x y : ℕ) (ns : List ℕ) → IsBytes (x ∷ y ∷ ns) → IsBytes ns
 two_less x y ns are = λ i. are (suc (suc i))
 
-same_held : (v : Vector) → IsBytes (vector_bytes v) → data_bytes (vector_held v) ≡ vector_bytes v
+same_held : (v : Vector) → IsBytes (vector_bytes v) → data_bytes (data_in_range v) ≡ vector_bytes v
 same_held (Int8 v) are = ap (λ xs. 3 ∷ 0 ∷ xs) (held_back (map (cast_unsigned w8) v.items) (two_less 3 0 _ are))
 same_held (Float32 v) are = refl
 same_held (PackedBit v) are = refl
 
 -- a vector is the only one of its bytes
-pub only_held : (v : Vector) (bytes : List ℕ) → IsBytes bytes → IsInRange (vector_held v) → vector_bytes v ≡ bytes → IsOnlyOne bytes (vector_held v)
+pub only_held : (v : Vector) (bytes : List ℕ) → IsBytes bytes → IsInRange (data_in_range v) → vector_bytes v ≡ bytes → IsOnlyOne bytes (data_in_range v)
 only_held v bytes are range is =
     let back = same_held v (rw is are) in
-    λ w in_range same. one_vector w (vector_held v) in_range range (same ∙ sym is ∙ sym back)
+    λ w in_range same. one_vector w (data_in_range v) in_range range (same ∙ sym is ∙ sym back)

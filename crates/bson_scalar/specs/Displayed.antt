@@ -3,7 +3,7 @@ use Rattle.std.specs.Prelude.{ℕ, ◌++◌, List, false, codes}
 use Rattle.std.specs.Fmt.{digits}
 use Rattle.bson_scalar.specs.declared.binary.Binary.{Binary}
 use Rattle.bson_scalar.specs.Subtype.{subtype_byte}
-use Rattle.bson_scalar.specs.Base64.{base64_text}
+use Rattle.bson_scalar.specs.Base64.{padded_text}
 
-abbrev pub binary_displayed : Binary → List ℕ
-binary_displayed b = codes "Binary(0x" ++ digits 16 false (subtype_byte b.subtype) ++ codes ", " ++ base64_text b.bytes.items ++ codes ")"
+abbrev pub binary_text : Binary → List ℕ
+binary_text b = codes "Binary(0x" ++ digits 16 false (subtype_byte b.subtype) ++ codes ", " ++ padded_text b.bytes.items ++ codes ")"

@@ -11,5 +11,5 @@ abbrev pub ignored_bits : List ℕ → ℕ → ℕ
 ignored_bits bytes padding = last_byte bytes % 2 ^ padding
 
 -- the bytes with the ignored bits zero
-abbrev pub cleared : List ℕ → ℕ → List ℕ
-cleared bytes padding = slice_set bytes (length bytes - 1) (last_byte bytes / 2 ^ padding * 2 ^ padding)
+abbrev pub cleared_bytes : List ℕ → ℕ → List ℕ
+cleared_bytes bytes padding = slice_set bytes (length bytes - 1) (last_byte bytes / 2 ^ padding * 2 ^ padding)

@@ -6,7 +6,7 @@ use Rattle.bson_scalar.specs.declared.spec.BinarySubtype.{BinarySubtype}
 use Rattle.bson_scalar.specs.declared.spec.BinarySubtype.TheVariants.{UuidOld, Uuid}
 use Rattle.bson_scalar.specs.declared.uuid_value.Error.{Error}
 use Rattle.bson_scalar.specs.declared.uuid_value.Error.TheVariants.{InvalidUuidString, RepresentationMismatch, InvalidLength}
-pub use Rattle.uuid.specs.Text.{parsed_hyphenated, hyphenated_text, lower}
+pub use Rattle.uuid.specs.Text.{parsed_hyphenated}
 
 -- the place that each byte comes from: 0-3, 4-5 and 6-7 each reversed, or 0-7 and 8-15
 abbrev pub places_of : UuidRepresentation → List ℕ
@@ -15,8 +15,8 @@ places_of JavaLegacy = 7 ∷ 6 ∷ 5 ∷ 4 ∷ 3 ∷ 2 ∷ 1 ∷ 0 ∷ 15 ∷ 14
 places_of _ = 0 ∷ 1 ∷ 2 ∷ 3 ∷ 4 ∷ 5 ∷ 6 ∷ 7 ∷ 8 ∷ 9 ∷ 10 ∷ 11 ∷ 12 ∷ 13 ∷ 14 ∷ 15 ∷ []
 
 -- the bytes in the order of a representation, which undoes itself
-abbrev pub ordered : UuidRepresentation → List ℕ → List ℕ
-ordered r xs = map (slice_index xs) (places_of r)
+abbrev pub bytes_in_order : UuidRepresentation → List ℕ → List ℕ
+bytes_in_order r xs = map (slice_index xs) (places_of r)
 
 -- the subtype that a representation is stored with
 abbrev pub subtype_for : UuidRepresentation → BinarySubtype

@@ -3,5 +3,5 @@ use Rattle.std.specs.Prelude.{ℕ, ◌++◌, List, codes}
 use Rattle.std.specs.Fmt.{decimal}
 use Rattle.bson_scalar.specs.declared.timestamp.Timestamp.{Timestamp}
 
-abbrev pub timestamp_displayed : Timestamp → List ℕ
-timestamp_displayed t = codes "Timestamp(" ++ decimal t.time ++ codes ", " ++ decimal t.increment ++ codes ")"
+abbrev pub timestamp_text : Timestamp → List ℕ
+timestamp_text t = codes "Timestamp(" ++ decimal t.time ++ codes ", " ++ decimal t.increment ++ codes ")"

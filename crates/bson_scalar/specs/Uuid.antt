@@ -1,7 +1,7 @@
 -- UUIDs: sixteen bytes, and the texts that spell them (RFC 9562 section 4, in either case of the digits).
 use Rattle.std.specs.Prelude.{◌≡◌, ℕ, List, ◌++◌, length, take, drop, codes}
 use Rattle.std.specs.Str.{str_to_ascii_lowercase}
-use Rattle.hex.specs.Hex.{IsBytes}
+use Rattle.hex.specs.Hex.{IsBytes, encode_lower}
 use Rattle.bson_scalar.specs.HexText.{IsHexText}
 
 -- sixteen bytes
@@ -21,6 +21,10 @@ in_groups digits =
 -- the digits of the id in their groups
 abbrev pub IsHyphenatedText : List ℕ → List ℕ → Type 0
 IsHyphenatedText text id = (digits : List ℕ) × AreUuidDigits digits id × (text ≡ in_groups digits)
+
+-- the text that is written: its digits are lower-case ones (RFC 9562 section 4)
+abbrev pub hyphenated_text : List ℕ → List ℕ
+hyphenated_text id = in_groups (encode_lower id)
 
 -- what a URN of a UUID opens with, in either case (RFC 8141 section 3.1)
 abbrev pub IsUrnPrefix : List ℕ → Type 0

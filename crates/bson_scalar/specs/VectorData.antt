@@ -22,10 +22,10 @@ vector_view (vector.Float32 v) = float32 v.items
 vector_view (vector.PackedBit v) = packed (packed_bytes v) (packed_padding v)
 
 -- the same with each number of 8 bits as the one from -128 to 127 that has its byte: for a vector in range no other
-abbrev pub vector_held : Vector → VectorData
-vector_held (vector.Int8 v) = int8 (map (cast_signed w8) (map (cast_unsigned w8) v.items))
-vector_held (vector.Float32 v) = float32 v.items
-vector_held (vector.PackedBit v) = packed (packed_bytes v) (packed_padding v)
+abbrev pub data_in_range : Vector → VectorData
+data_in_range (vector.Int8 v) = int8 (map (cast_signed w8) (map (cast_unsigned w8) v.items))
+data_in_range (vector.Float32 v) = float32 v.items
+data_in_range (vector.PackedBit v) = packed (packed_bytes v) (packed_padding v)
 
 -- what packed bits hold
 abbrev pub packed_view : PackedBitVector → VectorData

@@ -3,7 +3,7 @@ use Rattle.std.specs.Prelude.{ℕ, ◌%◌, ◌==◌, ◌&&◌, ◌||◌, nat_lt
 use Rattle.std.specs.Int.{w8, w32, cast_unsigned, to_le_bytes}
 use Rattle.std.specs.List.{flat_map}
 use Rattle.bson_scalar.specs.Packed.{packed_bytes, packed_padding}
-use Rattle.bson_scalar.specs.IgnoredBits.{cleared, ignored_bits}
+use Rattle.bson_scalar.specs.IgnoredBits.{cleared_bytes, ignored_bits}
 use Rattle.bson_scalar.specs.declared.vector.Vector.{Vector}
 use Rattle.bson_scalar.specs.declared.vector.Vector.TheVariants.{Int8, Float32, PackedBit}
 
@@ -35,6 +35,6 @@ abbrev pub is_vector : List ℕ → Bool
 is_vector bytes = is_vector_of_any_bits bytes && has_zero_bits bytes
 
 -- the same bytes with the ignored bits zero
-abbrev pub vector_cleared : List ℕ → List ℕ
-vector_cleared (kind ∷ padding ∷ rest) = kind ∷ padding ∷ (if kind == 0x10 then cleared rest padding else rest)
-vector_cleared bytes = bytes
+abbrev pub cleared_vector : List ℕ → List ℕ
+cleared_vector (kind ∷ padding ∷ rest) = kind ∷ padding ∷ (if kind == 0x10 then cleared_bytes rest padding else rest)
+cleared_vector bytes = bytes

@@ -1,10 +1,12 @@
 //! Binaries: bytes with a subtype (BSON 1.1, type 0x05), their base64 texts (RFC 4648 section 4), and
 //! the UUIDs and vectors that they hold.
 ghost use Rattle.std.specs.Prelude.{◌≡◌, ◌≢◌, ◌⊎◌, ◌↔◌, ◌≤◌, ℕ, List, Some, IfErr, IfOk, IsOk, OnOk, length, true, unwrap_or, vec_len};
-ghost use Rattle.bson_scalar.specs.Base64.{IsBase64, base64_text};
+ghost use Rattle.base64.specs.Engines.{standard};
+ghost use Rattle.base64.specs.GeneralPurpose.{encode_of};
+ghost use Rattle.bson_scalar.specs.Base64.{IsBase64, padded_text};
 ghost use Rattle.bson_scalar.specs.Fault.{IsDecodingError, IsOutOfMemory};
-ghost use Rattle.bson_scalar.specs.Orders.{ordered, subtype_for};
-ghost use Rattle.bson_scalar.specs.VectorData.{IsInRange, IsOnlyOne, vector_held, vector_view};
+ghost use Rattle.bson_scalar.specs.Orders.{bytes_in_order, subtype_for};
+ghost use Rattle.bson_scalar.specs.VectorData.{IsInRange, IsOnlyOne, data_in_range, vector_view};
 ghost use Rattle.bson_scalar.specs.Vectors.{is_vector, vector_bytes};
 
 pub use crate::packed::PackedBitVector;
@@ -121,11 +123,11 @@ impl Binary {
         representation: UuidRepresentation,
     ) -> Result<Binary, AllocError>
         ensures subtype { IfOk result (λ b. b.subtype ≡ subtype_for representation) }
-        ensures bytes { IfOk result (λ b. b.bytes.items ≡ ordered representation id) }
+        ensures bytes { IfOk result (λ b. b.bytes.items ≡ bytes_in_order representation id) }
 
         // What reading back asks for, and gives.
         ensures length { IfOk result (λ b. vec_len b.bytes ≡ 16) }
-        ensures undone { IfOk result (λ b. ordered representation b.bytes.items ≡ id) }
+        ensures undone { IfOk result (λ b. bytes_in_order representation b.bytes.items ≡ id) }
     {
         let bytes = reordered(&id.bytes(), representation);
         Ok(Binary {
@@ -144,8 +146,8 @@ impl Binary {
         ensures only { IfOk result (λ b. IsInRange (vector_view vector.now) → IsOnlyOne b.bytes.items (vector_view vector.now)) }
 
         // The same of any vector: `held` is `view` but for numbers of 8 bits that a clause has out of their range.
-        ensures ranged { OnOk result (IsInRange (vector_held vector.now)) }
-        ensures held { IfOk result (λ b. IsOnlyOne b.bytes.items (vector_held vector.now)) }
+        ensures ranged { OnOk result (IsInRange (data_in_range vector.now)) }
+        ensures held { IfOk result (λ b. IsOnlyOne b.bytes.items (data_in_range vector.now)) }
     {
         let bytes = vector.to_bytes(alloc)?;
         are_bytes(bytes.as_slice());
@@ -187,7 +189,7 @@ impl Binary {
         &self,
         representation: UuidRepresentation,
     ) -> uuid_value::Result<Uuid>
-        ensures ok { IfOk result (λ id. id ≡ ordered representation self.now.bytes.items) }
+        ensures ok { IfOk result (λ id. id ≡ bytes_in_order representation self.now.bytes.items) }
         ensures succeeds { IsOk result ↔ ((self.now.subtype ≡ subtype_for representation) × (vec_len self.now.bytes ≡ 16)) }
         ensures mismatch { self.now.subtype ≢ subtype_for representation → IfErr result (IsMismatch (subtype_for representation) self.now.subtype representation) }
         ensures length { self.now.subtype ≡ subtype_for representation → IfErr result (IsInvalidLength (vec_len self.now.bytes)) }
@@ -219,7 +221,7 @@ fn subtype_of(representation: UuidRepresentation) -> BinarySubtype
 }
 
 fn reordered(b: &[u8; 16], representation: UuidRepresentation) -> [u8; 16]
-    ensures { result ≡ ordered representation b.now }
+    ensures { result ≡ bytes_in_order representation b.now }
 {
     match representation {
         UuidRepresentation::Standard | UuidRepresentation::PythonLegacy => [
@@ -238,9 +240,9 @@ fn reordered(b: &[u8; 16], representation: UuidRepresentation) -> [u8; 16]
 }
 
 impl fmt::Display for Binary {
-    ghost use Rattle.bson_scalar.specs.Displayed.{binary_displayed};
+    ghost use Rattle.bson_scalar.specs.Displayed.{binary_text};
 
-    ghost output = { λ b. Some (binary_displayed b) };
+    ghost output = { λ b. Some (binary_text b) };
 
     fn fmt<W: fmt::Write>(&self, f: &mut fmt::Formatter<W>) -> fmt::Result {
         let byte = u8::from(self.subtype);
@@ -258,7 +260,7 @@ struct Base64<'a> {
 }
 
 impl fmt::Display for Base64<'_> {
-    ghost output = { λ b. Some (base64_text b.bytes.now) };
+    ghost output = { λ b. Some (padded_text b.bytes.now) };
 
     fn fmt<W: fmt::Write>(&self, f: &mut fmt::Formatter<W>) -> fmt::Result {
         let mut rest = self.bytes;
@@ -275,7 +277,7 @@ impl fmt::Display for Base64<'_> {
 
 fn group_text<'o>(bytes: &[u8], out: &'o mut [u8; 4]) -> &'o str
     requires { length bytes.now ≤ 3 }
-    ensures { result.now ≡ base64_text bytes.now }
+    ensures { result.now ≡ padded_text bytes.now }
 {
     match str::from_utf8(group_bytes(bytes, out)) {
         Ok(text) => text,
@@ -283,10 +285,10 @@ fn group_text<'o>(bytes: &[u8], out: &'o mut [u8; 4]) -> &'o str
     }
 }
 
-// The text of at most three bytes, on the stack.
+// The text of at most three bytes, on the stack, as the engine writes it.
 fn group_bytes<'o>(bytes: &[u8], out: &'o mut [u8; 4]) -> &'o [u8]
     requires { length bytes.now ≤ 3 }
-    ensures { result.now ≡ base64_text bytes.now }
+    ensures { result.now ≡ encode_of standard bytes.now }
 {
     match STANDARD.encode_slice(bytes, out) {
         Ok(len) => &out[..len],

@@ -1,7 +1,7 @@
 //! Vectors of single bits, packed into bytes.
 ghost use Rattle.std.specs.Prelude.{◌≡◌, ◌<◌, ◌*◌, ◌/◌, ◌^◌, ◌↔◌, ◌⊎◌, [], vec_len, unwrap_or, IfOk, IfErr, IsErr};
 ghost use Rattle.bson_scalar.specs.Fault.{IsVectorError};
-ghost use Rattle.bson_scalar.specs.IgnoredBits.{cleared, ignored_bits};
+ghost use Rattle.bson_scalar.specs.IgnoredBits.{cleared_bytes, ignored_bits};
 
 use crate::binary::{Error, Result};
 use std::alloc::{AllocError, Global};
@@ -61,7 +61,7 @@ impl PackedBitVector {
 
     // The vector of these bytes with the ignored bits made zero; a padding is refused as by `new`.
     pub(crate) fn clearing(bytes: Vec<u8>, padding: u8) -> Result<PackedBitVector>
-        ensures bytes { IfOk result (λ v. packed_bytes v ≡ cleared bytes.items padding) }
+        ensures bytes { IfOk result (λ v. packed_bytes v ≡ cleared_bytes bytes.items padding) }
         ensures padding { IfOk result (λ v. packed_padding v ≡ padding) }
 
         ensures refused { IsErr result ↔ ((7 < padding) ⊎ ((vec_len bytes ≡ 0) × (0 < padding))) }
@@ -117,7 +117,7 @@ fn ignored_in(bytes: &[u8], padding: u8) -> u8
 // The bytes with these bits zero.
 fn with_zero_bits(mut bytes: Vec<u8>, padding: u8) -> Vec<u8>
     requires { padding < 8 }
-    ensures items { result.items ≡ cleared bytes.items padding }
+    ensures items { result.items ≡ cleared_bytes bytes.items padding }
     ensures len { vec_len result ≡ vec_len bytes }
 {
     if !bytes.is_empty() {

@@ -1,7 +1,7 @@
 //! Regular expressions (BSON 1.1, type 0x0B).
 ghost use Rattle.std.specs.Prelude.{◌≡◌, IfOk, Some, string_bytes};
 ghost use Rattle.std.specs.Str.{chars, encode_utf8_all};
-ghost use Rattle.bson_scalar.specs.Regex.{sorted_text, ascending};
+ghost use Rattle.bson_scalar.specs.Regex.{sorted_text, ascending_numbers};
 
 use std::alloc::{AllocError, Global};
 use std::fmt;
@@ -46,9 +46,9 @@ impl Regex {
 }
 
 impl fmt::Display for Regex {
-    ghost use Rattle.bson_scalar.specs.Regex.{regex_displayed};
+    ghost use Rattle.bson_scalar.specs.Regex.{regex_text};
 
-    ghost output = { λ r. Some (regex_displayed r) };
+    ghost output = { λ r. Some (regex_text r) };
 
     fn fmt<W: fmt::Write>(&self, f: &mut fmt::Formatter<W>) -> fmt::Result {
         write!(f, "/{}/{}", self.pattern, self.options)
@@ -70,7 +70,7 @@ fn characters_of(alloc: Global, text: &str) -> Result<Vec<char>, AllocError>
 }
 
 fn ascending_of(mut characters: Vec<char>) -> Vec<char>
-    ensures { result.items ≡ ascending characters.items }
+    ensures { result.items ≡ ascending_numbers characters.items }
 {
     characters.sort_unstable();
     characters

@@ -20,9 +20,9 @@ pub struct Timestamp {
 }
 
 impl fmt::Display for Timestamp {
-    ghost use Rattle.bson_scalar.specs.Timestamp.{timestamp_displayed};
+    ghost use Rattle.bson_scalar.specs.Timestamp.{timestamp_text};
 
-    ghost output = { λ t. Some (timestamp_displayed t) };
+    ghost output = { λ t. Some (timestamp_text t) };
 
     fn fmt<W: fmt::Write>(&self, f: &mut fmt::Formatter<W>) -> fmt::Result {
         write!(f, "Timestamp({}, {})", self.time, self.increment)

@@ -1,7 +1,6 @@
 //! UUIDs and their texts (RFC 9562), which the library names `uuid`.
 ghost use Rattle.std.specs.Prelude.{◌≡◌, ℕ, List, Ok, Some, IfOk, IfErr};
-ghost use Rattle.bson_scalar.specs.Uuid.{IsUuid, IsUuidText};
-ghost use Rattle.bson_scalar.specs.Orders.{hyphenated_text, lower};
+ghost use Rattle.bson_scalar.specs.Uuid.{IsUuid, IsUuidText, hyphenated_text};
 
 use crate::spec::BinarySubtype;
 use std::fmt;
@@ -132,9 +131,9 @@ fn ranged(bytes: [u8; 16]) -> [u8; 16]
 }
 
 impl fmt::Display for Uuid {
-    ghost output = { λ id. Some (hyphenated_text lower id) };
+    ghost output = { λ id. Some (hyphenated_text id) };
 
     fn fmt<W: fmt::Write>(&self, f: &mut fmt::Formatter<W>) -> fmt::Result {
-        fmt::Display::fmt(&uuid::Uuid::from_bytes(self.bytes), f)
+        fmt::Display::fmt(&uuid::Uuid::from_bytes(self.bytes()), f)
     }
 }

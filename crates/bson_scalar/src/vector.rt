@@ -5,9 +5,9 @@ ghost use Rattle.std.specs.List.{AllByRecursion};
 ghost use Rattle.bson_scalar.specs.Oid.{IsBytes};
 ghost use Rattle.bson_scalar.specs.Fault.{IsOutOfMemory, IsVectorError};
 ghost use Rattle.bson_scalar.specs.Packed.{packed_bytes, packed_padding};
-ghost use Rattle.bson_scalar.specs.IgnoredBits.{cleared};
-ghost use Rattle.bson_scalar.specs.Vectors.{is_vector, is_vector_of_any_bits, le_bytes_of, vector_bytes, vector_cleared};
-ghost use Rattle.bson_scalar.specs.VectorData.{IsInRange, IsOnlyOne, packed, packed_view, vector_held, vector_view};
+ghost use Rattle.bson_scalar.specs.IgnoredBits.{cleared_bytes};
+ghost use Rattle.bson_scalar.specs.Vectors.{is_vector, is_vector_of_any_bits, le_bytes_of, vector_bytes, cleared_vector};
+ghost use Rattle.bson_scalar.specs.VectorData.{IsInRange, IsOnlyOne, packed, packed_view, data_in_range, vector_view};
 
 use crate::binary::{Binary, Error, Result};
 use crate::packed::PackedBitVector;
@@ -69,9 +69,9 @@ impl Vector {
     /// these zero: the vector written again is the input with the ignored bits zero. Where `from_bytes`
     /// accepts, the two answers are equal.
     pub fn from_bytes_clearing(alloc: Global, bytes: &[u8]) -> Result<Vector>
-        ensures ok { IfOk result (λ v. vector_bytes v ≡ vector_cleared bytes.now) }
+        ensures ok { IfOk result (λ v. vector_bytes v ≡ cleared_vector bytes.now) }
         ensures ranged { IfOk result (λ v. IsInRange (vector_view v)) }
-        ensures only { IfOk result (λ v. IsOnlyOne (vector_cleared bytes.now) (vector_view v)) }
+        ensures only { IfOk result (λ v. IsOnlyOne (cleared_vector bytes.now) (vector_view v)) }
 
         // What `from_bytes` reads in these bytes is the same.
         ensures same { IfOk result (λ v. IsOnlyOne bytes.now (vector_view v)) }
@@ -122,7 +122,7 @@ impl Vector {
     pub(crate) fn to_bytes(&self, alloc: Global) -> Result<Vec<u8>, AllocError>
         ensures bytes { IfOk result (λ v. v.items ≡ vector_bytes self.now) }
         ensures readable { OnOk result (is_vector (vector_bytes self.now) ≡ true) }
-        ensures ranged { OnOk result (IsInRange (vector_held self.now)) }
+        ensures ranged { OnOk result (IsInRange (data_in_range self.now)) }
     {
         match self {
             Vector::Int8(items) => int8_bytes(alloc, items.as_slice()),
@@ -145,7 +145,7 @@ fn packed_bits(alloc: Global, padding: u8, contents: &[u8]) -> Result<Vector>
 }
 
 fn cleared_bits(alloc: Global, padding: u8, contents: &[u8]) -> Result<Vector>
-    ensures ok { IfOk result (λ v. vector_view v ≡ packed (cleared contents.now padding) padding) }
+    ensures ok { IfOk result (λ v. vector_view v ≡ packed (cleared_bytes contents.now padding) padding) }
     ensures ranged { IfOk result (λ v. IsInRange (vector_view v)) }
     ensures accepted { OnOk result (is_vector_of_any_bits (0x10 ∷ padding ∷ contents.now) ≡ true) }
     ensures refused { IfErr result (λ e. IsOutOfMemory e ⊎ (IsVectorError e × (is_vector_of_any_bits (0x10 ∷ padding ∷ contents.now) ≡ false))) }

@@ -3,7 +3,7 @@ use Rattle.std.proofs.Common.{◌≡◌, false, refl}
 use Rattle.std.specs.Prelude.{codes}
 use Rattle.serde_json.specs.Data.{Data, negative}
 use Rattle.serde_json.specs.Data as tree
-use Rattle.bson_decimal.specs.Steps.{cut_at_34, raise_to_least, zeros_to_add, exponent_value, written_exponent, scaled_exponent, coefficient, fitted, finite}
+use Rattle.bson_decimal.specs.Steps.{cut_at_34, raise_to_least, zeros_to_add, exponent_value, written_exponent, scaled_exponent, coefficient, stored_pair, finite}
 use Rattle.bson_wrapper.specs.Reading.{decimal_of}
 use Rattle.bson_wrapper.specs.Shapes.{object_of_one, object_of_two}
 use Rattle.bson_wrapper.specs.Faults.{wrong_shape, wrong_id}
@@ -29,11 +29,11 @@ unfolding Rattle.bson_wrapper.specs.Reading.int_of
 int_space = (none _ wrong_shape refl, refl)
 
 decimal_too_large : MeansNothing (object_of_one (codes "$numberDecimal") (tree.string (codes "1E+6145"))) × (fault_of (object_of_one (codes "$numberDecimal") (tree.string (codes "1E+6145"))) ≡ wrong_shape)
-unfolding decimal_of cut_at_34 raise_to_least zeros_to_add exponent_value written_exponent scaled_exponent coefficient fitted finite
+unfolding decimal_of cut_at_34 raise_to_least zeros_to_add exponent_value written_exponent scaled_exponent coefficient stored_pair finite
 decimal_too_large = (none _ wrong_shape refl, refl)
 
 decimal_too_small : MeansNothing (object_of_one (codes "$numberDecimal") (tree.string (codes "1E-6177"))) × (fault_of (object_of_one (codes "$numberDecimal") (tree.string (codes "1E-6177"))) ≡ wrong_shape)
-unfolding decimal_of cut_at_34 raise_to_least zeros_to_add exponent_value written_exponent scaled_exponent coefficient fitted finite
+unfolding decimal_of cut_at_34 raise_to_least zeros_to_add exponent_value written_exponent scaled_exponent coefficient stored_pair finite
 decimal_too_small = (none _ wrong_shape refl, refl)
 
 oid_short : MeansNothing (object_of_one (codes "$oid") (tree.string (codes "zz"))) × (fault_of (object_of_one (codes "$oid") (tree.string (codes "zz"))) ≡ (wrong_id (codes "zz")))

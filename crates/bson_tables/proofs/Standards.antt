@@ -7,9 +7,9 @@ use Rattle.base64.specs.Decode.{groups_error, groups_bytes, scan_steps}
 use Rattle.base64.specs.Rfc4648.{encode_symbols}
 use Rattle.hex.specs.Hex.{encode_with, decode_pairs}
 use Rattle.uuid.specs.Text.{by_index}
-use Rattle.bson_decimal.specs.Steps.{cut_at_34, raise_to_least, zeros_to_add, exponent_value, written_exponent, scaled_exponent, coefficient, fitted, finite}
+use Rattle.bson_decimal.specs.Steps.{cut_at_34, raise_to_least, zeros_to_add, exponent_value, written_exponent, scaled_exponent, coefficient, stored_pair, finite}
 use Rattle.bson_decimal.specs.Pattern.{normal_decimal}
-use Rattle.bson_decimal.specs.Displayed.{displayed as decimal_displayed}
+use Rattle.bson_decimal.specs.Displayed.{display_text as decimal_text}
 use Rattle.bson_wrapper.specs.Reading.{decimal_of}
 use Rattle.bson_wrapper.specs.Scalar as kind
 use Rattle.bson_wrapper.specs.Shapes.{object_of_one, object_of_two}
@@ -66,22 +66,22 @@ uuid_read = row _ _ refl
 
 -- 15 at the exponent -1, little-endian
 decimal_read : Means (object_of_one (codes "$numberDecimal") (tree.string (codes "1.5"))) (model.scalar (kind.decimal (0x0F ∷ 0 ∷ 0 ∷ 0 ∷ 0 ∷ 0 ∷ 0 ∷ 0 ∷ 0 ∷ 0 ∷ 0 ∷ 0 ∷ 0 ∷ 0 ∷ 0x3E ∷ 0x30 ∷ [])))
-unfolding decimal_of cut_at_34 raise_to_least zeros_to_add exponent_value written_exponent scaled_exponent coefficient fitted finite
+unfolding decimal_of cut_at_34 raise_to_least zeros_to_add exponent_value written_exponent scaled_exponent coefficient stored_pair finite
 decimal_read = row _ _ refl
 
 decimal_written : (f : Form) → Written f (normal_form (model.scalar (kind.decimal (0x0F ∷ 0 ∷ 0 ∷ 0 ∷ 0 ∷ 0 ∷ 0 ∷ 0 ∷ 0 ∷ 0 ∷ 0 ∷ 0 ∷ 0 ∷ 0 ∷ 0x3E ∷ 0x30 ∷ [])))) (object_of_one (codes "$numberDecimal") (tree.string (codes "1.5")))
-unfolding normal_decimal decimal_displayed digits
+unfolding normal_decimal decimal_text digits
 decimal_written f = canon_from f (model.scalar (kind.decimal (0x0F ∷ 0 ∷ 0 ∷ 0 ∷ 0 ∷ 0 ∷ 0 ∷ 0 ∷ 0 ∷ 0 ∷ 0 ∷ 0 ∷ 0 ∷ 0 ∷ 0x3E ∷ 0x30 ∷ []))) _ refl
 
 -- the greatest exponent and the least one
 greatest_exponent_read : Means (object_of_one (codes "$numberDecimal") (tree.string (codes "1E+6111"))) (model.scalar (kind.decimal (1 ∷ 0 ∷ 0 ∷ 0 ∷ 0 ∷ 0 ∷ 0 ∷ 0 ∷ 0 ∷ 0 ∷ 0 ∷ 0 ∷ 0 ∷ 0 ∷ 0xFE ∷ 0x5F ∷ [])))
-unfolding decimal_of cut_at_34 raise_to_least zeros_to_add exponent_value written_exponent scaled_exponent coefficient fitted finite
+unfolding decimal_of cut_at_34 raise_to_least zeros_to_add exponent_value written_exponent scaled_exponent coefficient stored_pair finite
 greatest_exponent_read = row _ _ refl
 
 least_exponent_read : Means (object_of_one (codes "$numberDecimal") (tree.string (codes "1E-6176"))) (model.scalar (kind.decimal (1 ∷ 0 ∷ 0 ∷ 0 ∷ 0 ∷ 0 ∷ 0 ∷ 0 ∷ 0 ∷ 0 ∷ 0 ∷ 0 ∷ 0 ∷ 0 ∷ 0 ∷ 0 ∷ [])))
-unfolding decimal_of cut_at_34 raise_to_least zeros_to_add exponent_value written_exponent scaled_exponent coefficient fitted finite
+unfolding decimal_of cut_at_34 raise_to_least zeros_to_add exponent_value written_exponent scaled_exponent coefficient stored_pair finite
 least_exponent_read = row _ _ refl
 
 added_zero_read : Means (object_of_one (codes "$numberDecimal") (tree.string (codes "1E+6112"))) (model.scalar (kind.decimal (10 ∷ 0 ∷ 0 ∷ 0 ∷ 0 ∷ 0 ∷ 0 ∷ 0 ∷ 0 ∷ 0 ∷ 0 ∷ 0 ∷ 0 ∷ 0 ∷ 0xFE ∷ 0x5F ∷ [])))
-unfolding decimal_of cut_at_34 raise_to_least zeros_to_add exponent_value written_exponent scaled_exponent coefficient fitted finite
+unfolding decimal_of cut_at_34 raise_to_least zeros_to_add exponent_value written_exponent scaled_exponent coefficient stored_pair finite
 added_zero_read = row _ _ refl

@@ -8,8 +8,8 @@ use Rattle.bson_wrapper.specs.Shapes.{object_of_one, object_of_two}
 use Rattle.std.specs.Fmt.{signed_decimal}
 use Rattle.hex.specs.Hex.{encode_lower}
 use Rattle.bson_datetime.specs.Displayed.{rfc}
-use Rattle.bson_decimal.specs.Displayed.{displayed as decimal_displayed}
-use Rattle.bson_scalar.specs.Base64.{base64_text}
+use Rattle.bson_decimal.specs.Displayed.{display_text as decimal_text}
+use Rattle.bson_scalar.specs.Base64.{padded_text}
 use Rattle.bson_scalar.specs.Regex.{sorted_text}
 use Rattle.bson_scalar.specs.declared.spec.BinarySubtype.TheVariants.{Generic}
 use Rattle.bson_wrapper.specs.declared.form.Form.{Form}
@@ -98,10 +98,10 @@ db_pointer_tree f n id = canon_from f (model.scalar (kind.db_pointer n id)) _ re
 regex_tree : (f : Form) (p o : List ℕ) → Written f (normal_form (model.scalar (kind.regex p o))) (object_of_one (codes "$regularExpression") (object_of_two (codes "options") (tree.string (sorted_text o)) (codes "pattern") (tree.string p)))
 regex_tree f p o = canon_from f (model.scalar (kind.regex p o)) _ refl
 
-binary_tree : (f : Form) (bytes : List ℕ) → Written f (normal_form (model.scalar (kind.binary Generic bytes))) (object_of_one (codes "$binary") (object_of_two (codes "base64") (tree.string (base64_text bytes)) (codes "subType") (tree.string (encode_lower (0 ∷ [])))))
+binary_tree : (f : Form) (bytes : List ℕ) → Written f (normal_form (model.scalar (kind.binary Generic bytes))) (object_of_one (codes "$binary") (object_of_two (codes "base64") (tree.string (padded_text bytes)) (codes "subType") (tree.string (encode_lower (0 ∷ [])))))
 binary_tree f bytes = canon_from f (model.scalar (kind.binary Generic bytes)) _ refl
 
-decimal_tree : (f : Form) (b : List ℕ) → Written f (normal_form (model.scalar (kind.decimal b))) (object_of_one (codes "$numberDecimal") (tree.string (decimal_displayed b)))
+decimal_tree : (f : Form) (b : List ℕ) → Written f (normal_form (model.scalar (kind.decimal b))) (object_of_one (codes "$numberDecimal") (tree.string (decimal_text b)))
 decimal_tree f b = canon_from f (model.scalar (kind.decimal b)) _ refl
 
 date_canonical : (z : ℤ) → Written Canonical (normal_form (model.scalar (kind.date z))) (object_of_one (codes "$date") (object_of_one (codes "$numberLong") (tree.string (signed_decimal z))))

@@ -9,10 +9,10 @@ use Rattle.hex.specs.Hex.{encode_lower, IsBytes}
 use Rattle.hex.proofs.HexLemmas.{decode_sized-encode_lower}
 use Rattle.base64.specs.Engines.{standard}
 use Rattle.base64.specs.GeneralPurpose.{decode_of}
-use Rattle.bson_scalar.specs.Base64.{IsBase64, base64_text, padded_text}
+use Rattle.bson_scalar.specs.Base64.{IsBase64, padded_text}
 use Rattle.bson_scalar.specs.Orders.{parsed_hyphenated}
 use Rattle.bson_scalar.specs.Subtype.{subtype_byte, subtype_of}
-use Rattle.bson_scalar.proofs.Offered.{base64_bytes, base64_to, hyphenated_from, padded, sized_from}
+use Rattle.bson_scalar.proofs.Offered.{base64_bytes, base64_to, hyphenated_from, sized_from}
 use Rattle.serde_json.specs.Data.{Data}
 use Rattle.bson_wrapper.specs.Faults.{or_wrong_shape, wrong_shape}
 use Rattle.bson_wrapper.specs.Means.{MeansScalar, binary, uuid}
@@ -90,8 +90,8 @@ uuid_from d x h =
     let i = some_then (parsed_hyphenated t.0) _ x t.2 in
     means_by (codes "$uuid") d _ x _ t.1 (un_ok _ _ i.2) (uuid t.0 i.0 (hyphenated_from t.0 i.0 i.1))
 
-pub bytes_again : (bytes : List ℕ) → IsBytes bytes → bytes_of (base64_text bytes) ≡ Some bytes
-bytes_again bytes are = bytes_to (base64_text bytes) bytes (are, padded bytes)
+pub bytes_again : (bytes : List ℕ) → IsBytes bytes → bytes_of (padded_text bytes) ≡ Some bytes
+bytes_again bytes are = bytes_to (padded_text bytes) bytes (are, refl)
 
 pub byte_again : (n : ℕ) → n < 256 → byte_of (encode_lower (n ∷ [])) ≡ Some n
 byte_again n small = ap only_byte (decode_sized-encode_lower (n ∷ []) 1 refl one_byte)

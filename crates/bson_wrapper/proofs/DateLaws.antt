@@ -4,9 +4,9 @@ use Rattle.std.specs.Prelude.{codes, int_le}
 use Rattle.std.proofs.lemmas.Bool.{and_parts}
 use Rattle.std.proofs.lemmas.Bool.Decides.{nat_tests}
 use Rattle.jiff.proofs.SpanFacts.{signed_arith}
-use Rattle.bson_datetime.specs.Rfc3339.{denoted, IsRfcMillis}
+use Rattle.bson_datetime.specs.Rfc3339.{named_moment, IsRfcMillis}
 use Rattle.bson_datetime.specs.Displayed.{rfc}
-use Rattle.bson_datetime.proofs.Offered.{denotes-names, denoted-rfc}
+use Rattle.bson_datetime.proofs.Offered.{denotes-names, named_moment-rfc}
 use Rattle.serde_json.specs.Data.{Data}
 use Rattle.serde_json.specs.Data as tree
 use Rattle.bson_wrapper.specs.Dates.{is_recent}
@@ -34,5 +34,5 @@ date_from d x h = let t = then_ok (millis_of d) _ x h in means_by (codes "$date"
 recent_in_years : (z : ℤ) → is_recent z ≡ true → IsRfcMillis z
 recent_in_years z h = let p = and_parts (int_le (pos 0) z) (int_le z (pos 253_402_300_799_999)) h in grind (arith, signed_arith, nat_tests, p.0, p.1)
 
-pub recent_denoted : (z : ℤ) → is_recent z ≡ true → denoted (rfc z) ≡ Some z
-recent_denoted z h = denoted-rfc z (recent_in_years z h)
+pub recent_denoted : (z : ℤ) → is_recent z ≡ true → named_moment (rfc z) ≡ Some z
+recent_denoted z h = named_moment-rfc z (recent_in_years z h)

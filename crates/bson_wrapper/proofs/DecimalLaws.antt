@@ -9,10 +9,10 @@ use Rattle.std.proofs.lemmas.Slice.Eq.{bytes_eq-Decides}
 use Rattle.bson_decimal.specs.declared.ParseError.{ParseError}
 use Rattle.bson_decimal.specs.FromStr.{ParsesTo}
 use Rattle.bson_decimal.specs.Pattern.{first_form, normal_decimal}
-use Rattle.bson_decimal.specs.Displayed.{displayed as decimal_displayed}
+use Rattle.bson_decimal.specs.Displayed.{display_text as decimal_text}
 use Rattle.bson_decimal.specs.Steps.{finite}
 use Rattle.bson_decimal.specs.Text.{Parses, SpecialWord, nan, snan, infinity, inf, lowercase}
-use Rattle.bson_decimal.proofs.Offered.{special-parses, finite-parses, refused-parses, displayed-parses, displayed-same, displayed-canon}
+use Rattle.bson_decimal.proofs.Offered.{special-parses, finite-parses, refused-parses, display_text-parses, display_text-same, display_text-canon}
 use Rattle.serde_json.specs.Data.{Data}
 use Rattle.bson_wrapper.specs.Means.{MeansScalar, number_decimal}
 use Rattle.bson_wrapper.specs.Reading.{word_of, decimal_at, decimal_of, decimal_read}
@@ -90,11 +90,11 @@ pub parsed_decimal : (s : List ℕ) (r : Result (List ℕ) ParseError) → Parse
 parsed_decimal s (Ok d) h = sym (decimal_of-some s d h.0)
 parsed_decimal s (Err k) h = sym (none_from s _ (answers s) h.0)
 
-pub decimal_of-displayed : (b : List ℕ) → decimal_of (decimal_displayed b) ≡ Some (normal_decimal b)
-decimal_of-displayed b = decimal_of-some (decimal_displayed b) (normal_decimal b) (displayed-parses b)
+pub decimal_of-display_text : (b : List ℕ) → decimal_of (decimal_text b) ≡ Some (normal_decimal b)
+decimal_of-display_text b = decimal_of-some (decimal_text b) (normal_decimal b) (display_text-parses b)
 
 pub canon-again : (b : List ℕ) → normal_decimal (normal_decimal b) ≡ normal_decimal b
-canon-again b = (displayed-same (normal_decimal b) b).0 (displayed-canon b)
+canon-again b = (display_text-same (normal_decimal b) b).0 (display_text-canon b)
 
 pub decimal_from : (d : Data) (x : Scalar) → decimal_read d ≡ Ok x → MeansScalar (object_of_one (codes "$numberDecimal") d) x
 decimal_from d x h =

@@ -8,11 +8,11 @@ use Rattle.serde_json.specs.Data.{Data, no_members, member}
 use Rattle.serde_json.specs.Data as tree
 use Rattle.serde_json.specs.Find.{of_integer}
 use Rattle.serde_json.specs.Written.{has_float}
-use Rattle.bson_scalar.specs.Base64.{base64_text}
+use Rattle.bson_scalar.specs.Base64.{padded_text}
 use Rattle.bson_wrapper.specs.Shapes.{object_of_one, object_of_two}
 use Rattle.bson_scalar.specs.Subtype.{subtype_byte, subtype_of}
 use Rattle.bson_decimal.specs.Pattern.{normal_decimal}
-use Rattle.bson_decimal.proofs.Offered.{displayed-canon}
+use Rattle.bson_decimal.proofs.Offered.{display_text-canon}
 use Rattle.bson_wrapper.specs.Dates.{is_recent, relaxed_date_tree}
 use lib.Signed.{mag}
 use Rattle.bson_wrapper.specs.Decimals.{decimal_tree}
@@ -37,7 +37,7 @@ use Rattle.bson_wrapper.proofs.BinaryLaws.{binary_from, uuid_from, bytes_to, byt
 use Rattle.bson_datetime.proofs.Offered.{denotes-names}
 use Rattle.bson_scalar.proofs.Offered.{hyphenated_to, sized_to, sorted_text-again}
 use Rattle.bson_wrapper.proofs.DateLaws.{date_from, recent_denoted}
-use Rattle.bson_wrapper.proofs.DecimalLaws.{decimal_from, decimal_of-some, decimal_of-displayed, canon-again}
+use Rattle.bson_wrapper.proofs.DecimalLaws.{decimal_from, decimal_of-some, decimal_of-display_text, canon-again}
 use Rattle.bson_wrapper.proofs.DoubleLaws.{double_from, double_form, double_text-form, double_again, nan_form-again, special_is}
 use Rattle.bson_wrapper.proofs.IdLaws.{oid_from, pointer_from, id_again}
 use Rattle.bson_wrapper.proofs.IntLaws.{int32_from, int64_from, number_from, narrow_read, wide_read, int32_again, int64_again, number_again}
@@ -189,13 +189,13 @@ some_from (Some s) t h = ap Some (sym (un_ok _ _ h))
 some_from None t h = cc
 
 decimal_same : (b : List ℕ) → decimal_tree (normal_decimal b) ≡ decimal_tree b
-decimal_same b = ap (λ s. object_of_one (codes "$numberDecimal") (tree.string s)) (displayed-canon b)
+decimal_same b = ap (λ s. object_of_one (codes "$numberDecimal") (tree.string s)) (display_text-canon b)
 
 -- a scalar's tree is that of its normal form
 pub nf_written : (f : Form) (x : Scalar) → writes_scalar f (normal_scalar x) ≡ writes_scalar f x
 nf_written f (double p) = ap (λ o. or_finite o >>= λ s. Ok (double_tree s)) (double_text-form p)
 nf_written f (regex p o) = ap (λ s. Ok (regex_tree p s)) (sorted_text-again o)
-nf_written f (binary k bytes) = ap (λ n. Ok (object_of_one (codes "$binary") (object_of_two (codes "base64") (tree.string (base64_text bytes)) (codes "subType") (tree.string (encode_lower (n ∷ [])))))) (subtype_byte-of (subtype_byte k))
+nf_written f (binary k bytes) = ap (λ n. Ok (object_of_one (codes "$binary") (object_of_two (codes "base64") (tree.string (padded_text bytes)) (codes "subType") (tree.string (encode_lower (n ∷ [])))))) (subtype_byte-of (subtype_byte k))
 nf_written f (decimal b) = ap Ok (decimal_same b)
 nf_written f x = refl
 
@@ -269,7 +269,7 @@ back f (timestamp s i) t h r = rw (un_ok _ _ h) (rw (natural_again s r.0, natura
 back f (binary k bytes) t h r = rw (un_ok _ _ h) (rw (bytes_again bytes r.1, byte_again (subtype_byte k) r.0) refl)
 back f (object_id id) t h r = rw (un_ok _ _ h) (rw (id_again id r.0 r.1) refl)
 back f (date z) t h r = rw (un_ok _ _ h) (date_back f z r)
-back f (decimal b) t h r = rw (un_ok _ _ h) (rw (decimal_of-displayed b) refl)
+back f (decimal b) t h r = rw (un_ok _ _ h) (rw (decimal_of-display_text b) refl)
 back f (db_pointer s id) t h r = rw (un_ok _ _ h) (rw (id_again id r.0 r.1) refl)
 
 pub reads_back : (f : Form) (x : Scalar) (t : Data) → writes_scalar f x ≡ Ok t → ScalarInRange x → MeansScalar t (scalar_as_read f (normal_scalar x))

@@ -5,7 +5,7 @@
 use Rattle.std.specs.Prelude.{ℕ, List, [], ◌∷◌, codes}
 use Rattle.hex.specs.Hex.{encode_lower}
 use Rattle.bson_scalar.specs.HexText.{IsHexText}
-use Rattle.bson_scalar.specs.Base64.{base64_text}
+use Rattle.bson_scalar.specs.Base64.{padded_text}
 use Rattle.bson_scalar.specs.Subtype.{subtype_byte}
 use Rattle.bson_scalar.specs.declared.spec.BinarySubtype.{BinarySubtype}
 use Rattle.serde_json.specs.Data.{Data}
@@ -20,4 +20,4 @@ IsByteText s n = IsHexText s (n ∷ [])
 
 -- the digits are written in lower case
 abbrev pub binary_tree : BinarySubtype → List ℕ → Data
-binary_tree k bytes = object_of_one (key_of Binary) (object_of_two (codes "base64") (tree.string (base64_text bytes)) (codes "subType") (tree.string (encode_lower (subtype_byte k ∷ []))))
+binary_tree k bytes = object_of_one (key_of Binary) (object_of_two (codes "base64") (tree.string (padded_text bytes)) (codes "subType") (tree.string (encode_lower (subtype_byte k ∷ []))))

@@ -1,7 +1,7 @@
 -- `$numberDecimal` (MongoDB Extended JSON v2): the text of a decimal that a Decimal128 has exactly.
 -- Read: {"$numberDecimal": "1.50"}. Written: the printed text.
 use Rattle.std.specs.Prelude.{ℕ, List}
-use Rattle.bson_decimal.specs.Displayed.{displayed as decimal_displayed}
+use Rattle.bson_decimal.specs.Displayed.{display_text as decimal_text}
 use Rattle.serde_json.specs.Data.{Data}
 use Rattle.serde_json.specs.Data as tree
 use Rattle.bson_wrapper.specs.Shapes.{object_of_one}
@@ -9,4 +9,4 @@ use Rattle.bson_wrapper.specs.Table.{key_of}
 use Rattle.bson_wrapper.specs.declared.wrapper.Wrapper.TheVariants.{NumberDecimal}
 
 abbrev pub decimal_tree : List ℕ → Data
-decimal_tree b = object_of_one (key_of NumberDecimal) (tree.string (decimal_displayed b))
+decimal_tree b = object_of_one (key_of NumberDecimal) (tree.string (decimal_text b))

@@ -8,7 +8,7 @@ use Rattle.base64.specs.GeneralPurpose.{decode_of}
 use Rattle.base64.specs.Engines.{standard}
 use Rattle.hex.specs.Hex.{decode_sized}
 use Rattle.hex.specs.declared.error.FromHexError.{FromHexError}
-use Rattle.bson_datetime.specs.Rfc3339.{denoted}
+use Rattle.bson_datetime.specs.Rfc3339.{named_moment}
 use Rattle.bson_decimal.specs.Pattern.{first_form, sign_weight}
 use Rattle.bson_decimal.specs.Steps.{finite}
 use Rattle.bson_decimal.specs.Text.{lowercase}
@@ -129,7 +129,7 @@ abbrev pub timestamp_read : Data → Result Scalar Fault
 timestamp_read d = on_two (codes "i") (codes "t") d (λ i t. or_wrong_shape (u32_at i) >>= λ m. or_wrong_shape (u32_at t) >>= λ n. Ok (timestamp n m))
 
 abbrev pub millis_of : Data → Result ℤ Fault
-millis_of (tree.string s) = or_wrong_shape (denoted s)
+millis_of (tree.string s) = or_wrong_shape (named_moment s)
 millis_of (tree.number n) = or_wrong_shape (as_i64 n)
 millis_of d = on_lone (codes "$numberLong") d (λ t. on_text t (λ s. or_wrong_shape (int_of 63 s)))
 

@@ -5,6 +5,7 @@
 ghost use Rattle.std.specs.Prelude.{◌≡◌, ◌<◌, IfOk, OnOk, ◌∷◌, [], string_bytes};
 ghost use Rattle.serde_json.specs.View.{view};
 ghost use Rattle.hex.specs.Hex.{encode_lower, IsBytes};
+ghost use Rattle.bson_scalar.specs.Base64.{padded_text};
 ghost use Rattle.bson_scalar.specs.Orders.{parsed_hyphenated};
 ghost use Rattle.bson_scalar.specs.Subtype.{subtype_byte};
 ghost use Rattle.bson_wrapper.specs.Binaries.{binary_tree};
@@ -101,6 +102,12 @@ fn byte_text(alloc: Global, subtype: BinarySubtype) -> Result<String, AllocError
     hex::encode(alloc, [byte])
 }
 
+fn base64_text(alloc: Global, bytes: &[u8]) -> Result<String, AllocError>
+    ensures { IfOk result (λ s. string_bytes s ≡ padded_text bytes.now) }
+{
+    STANDARD.encode(alloc, bytes)
+}
+
 /// Writes the tree of a binary, in both forms.
 pub fn write_binary<S: Sink>(
     alloc: Global,
@@ -113,7 +120,7 @@ pub fn write_binary<S: Sink>(
     ensures ranged { OnOk result ((subtype_byte binary.now.subtype < 256) × IsBytes binary.now.bytes.items) }
 {
     are_bytes(binary.bytes.as_slice());
-    let base64 = STANDARD.encode(alloc, binary.bytes.as_slice())?;
+    let base64 = base64_text(alloc, binary.bytes.as_slice())?;
     let subtype = byte_text(alloc, binary.subtype)?;
     let key = begin("$binary", out)?;
     let texts = two_texts("base64", base64, "subType", subtype, out)?;

@@ -4,7 +4,7 @@
 ghost use Rattle.std.specs.Prelude.{◌≡◌, IfOk, OnOk, FitsSigned, codes, pos, ◌≤ℤ◌, string_bytes};
 ghost use Rattle.std.specs.Int.{w64};
 ghost use Rattle.serde_json.specs.View.{view};
-ghost use Rattle.bson_datetime.specs.Rfc3339.{denoted};
+ghost use Rattle.bson_datetime.specs.Rfc3339.{named_moment};
 ghost use Rattle.bson_datetime.specs.Displayed.{rfc};
 ghost use Rattle.bson_wrapper.specs.Dates.{date_tree, relaxed_date_tree};
 ghost use Rattle.bson_wrapper.specs.Faults.{Gives, or_wrong_shape};
@@ -29,7 +29,7 @@ const SHAPE: &str = "`$date` holds `$numberLong`, an RFC 3339 text or a whole nu
 const LAST_RELAXED: i64 = 253_402_300_799_999;
 
 fn denoted_by(text: &str) -> Option<DateTime>
-    ensures { result ≡ denoted text.now }
+    ensures { result ≡ named_moment text.now }
 {
     match DateTime::parse_rfc3339_str(text) {
         Ok(date) => Some(date),

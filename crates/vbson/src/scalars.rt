@@ -1,7 +1,7 @@
 //! Decimals, object ids and moments: from a text to plain bytes or a number, and back.
 ghost use Rattle.std.specs.Prelude.{◌≡◌, ◌⊎◌, ◌<◌, ℕ, ℤ, List, IsUtf8};
 ghost use Rattle.bson_decimal.specs.Text.{Parses};
-ghost use Rattle.bson_decimal.specs.Displayed.{displayed as decimal_displayed};
+ghost use Rattle.bson_decimal.specs.Displayed.{display_text as decimal_text};
 ghost use Rattle.bson_scalar.specs.Oid.{IsOidText, encode_lower};
 ghost use Rattle.bson_datetime.specs.Grammar.{Names};
 ghost use Rattle.bson_datetime.specs.Moment.{IsRfcMillis};
@@ -45,8 +45,8 @@ pub extern "C" fn vbson_decimal128_print(
     room: &mut [u8],
     len: &mut usize,
 ) -> u32
-    ensures done { result ≡ 0 → IsPut (decimal_displayed bytes.now) room.old room.new len.new }
-    ensures no_room { result ≡ 8 → HasNoRoom (decimal_displayed bytes.now) room.old room.new len.new }
+    ensures done { result ≡ 0 → IsPut (decimal_text bytes.now) room.old room.new len.new }
+    ensures no_room { result ≡ 8 → HasNoRoom (decimal_text bytes.now) room.old room.new len.new }
     ensures listed { (result ≡ 0) ⊎ (result ≡ 5) ⊎ (result ≡ 8) }
     ensures kept { result ≡ 5 → (room.new ≡ room.old) × (len.new ≡ len.old) }
 {

@@ -1,14 +1,8 @@
-use Rattle.std.proofs.Common.{◌≡◌, ◌∙◌}
-use Rattle.std.specs.List.{position_or_len}
 use Rattle.bson_decimal.specs.Steps.{is_point}
-use Rattle.bson_decimal.proofs.TextLemmas.{position-or, position_or_len-le}
+use Rattle.bson_decimal.proofs.TextLemmas.{first-place}
 use Rattle.bson_decimal.proofs.parse.point_at.Goals as goal
 
 pub returns : goal.returns
 returns c =
-    let xs = c.args.text.now in
-    let value : c.unwrap_or.result ≡ position_or_len is_point xs = rw c.find_point.ensures at c.unwrap_or.ensures ∙ position-or is_point xs in
-    record {
-      value = value;
-      within = rw value (position_or_len-le is_point xs);
-    }
+    let place = first-place is_point c.args.text.now _ (rw c.find_point.ensures at c.unwrap_or.ensures) in
+    record { value = place.0; within = place.1 }

@@ -1,7 +1,7 @@
 use Rattle.std.proofs.Common.{arith, sym, rules, to_z-of_z, FitsSigned, w64}
 use Rattle.std.proofs.lemmas.Grind.{common_steps}
 use Rattle.bson_datetime.proofs.NamesLaws.{denotes-names, denotes-none, names-one}
-use Rattle.bson_datetime.proofs.RoundTrip.{denoted-rfc}
+use Rattle.bson_datetime.proofs.RoundTrip.{named_moment-rfc}
 use Rattle.bson_datetime.proofs.datetime.DateTime.parse_rfc3339_str.Goals as goal
 
 pub returns-in-Some-clause-ok : goal.returns-in-Some-clause-ok
@@ -23,12 +23,12 @@ returns-in-None-clause-one c = λ a b. names-one _ a b
 
 pub returns-in-Some-clause-round_trip : goal.returns-in-Some-clause-round_trip
 returns-in-Some-clause-round_trip c = λ ms h same.
-    let e = rw (← same) at (denoted-rfc ms h) in
+    let e = rw (← same) at (named_moment-rfc ms h) in
     grind (arith, common_steps, e)
 
 pub returns-in-None-clause-round_trip : goal.returns-in-None-clause-round_trip
 returns-in-None-clause-round_trip c = λ ms h same.
-    let e = rw (← same) at (denoted-rfc ms h) in
+    let e = rw (← same) at (named_moment-rfc ms h) in
     grind (arith, common_steps, e)
 
 pub returns-in-Some-clause-grammar : goal.returns-in-Some-clause-grammar

@@ -4,7 +4,7 @@ use Rattle.jiff.proofs.Family.{civil_nanos_range}
 use Rattle.bson_datetime.proofs.RfcLemmas.{rfc-jiff}
 use Rattle.bson_datetime.proofs.DisplayedLemmas.{rfc-fields}
 use Rattle.bson_datetime.proofs.NamesLaws.{denotes-names}
-use Rattle.bson_datetime.proofs.RoundTrip.{denoted-rfc}
+use Rattle.bson_datetime.proofs.RoundTrip.{named_moment-rfc}
 use Rattle.bson_datetime.proofs.MomentLemmas.{moment-negative, moment-natural, natural_year}
 use Rattle.bson_datetime.proofs.datetime.DateTime.try_to_rfc3339_string.Goals as goal
 
@@ -37,7 +37,7 @@ returns-in-Ok-clause-fields c = λ fields is. written c ∙ rfc-fields c.args.se
 
 pub returns-in-Ok-clause-reads_back : goal.returns-in-Ok-clause-reads_back
 returns-in-Ok-clause-reads_back c =
-    let denotes = denoted-rfc c.args.self (in_years c) in
+    let denotes = named_moment-rfc c.args.self (in_years c) in
     rw (written c) ((denotes-names _ c.args.self).0 denotes)
 
 pub returns-in-Ok-clause-in_years : goal.returns-in-Ok-clause-in_years

@@ -8,7 +8,7 @@ use Rattle.bson_decimal.specs.Text.{Parses}
 use Rattle.bson_decimal.specs.Steps.{finite, decimal_fault, fault_of}
 use Rattle.bson_decimal.proofs.Parsing.{special-parses, finite-parses, refused-parses, finite-within}
 use Rattle.bson_decimal.specs.FromStr.{ParsesTo}
-use Rattle.bson_decimal.proofs.DisplayedLaws.{reads-displayed, displayed-same}
+use Rattle.bson_decimal.proofs.DisplayedLaws.{reads-display_text, display_text-same}
 use Rattle.bson_decimal.proofs.parse.Decimal128FromStr.from_str.Goals as goal
 
 abbrev Only : List ℕ → List ℕ → Type 0
@@ -26,10 +26,10 @@ pub returns-in-Some-clause-answer : goal.returns-in-Some-clause-answer
 returns-in-Some-clause-answer c = some c
 
 pub returns-in-Some-clause-reads_displayed : goal.returns-in-Some-clause-reads_displayed
-returns-in-Some-clause-reads_displayed c = reads-displayed c.args.text.now (Ok c.from_bytes.result) (some c)
+returns-in-Some-clause-reads_displayed c = reads-display_text c.args.text.now (Ok c.from_bytes.result) (some c)
 
 pub returns-in-Some-clause-prints_apart : goal.returns-in-Some-clause-prints_apart
-returns-in-Some-clause-prints_apart c = displayed-same
+returns-in-Some-clause-prints_apart c = display_text-same
 
 refused : (c : goal.After-from_residual) → ParsesTo c.args.text.now c.from_residual.result
 unfolding decimal_fault
@@ -44,10 +44,10 @@ pub returns-in_err-coefficient-clause-answer : goal.returns-in_err-coefficient-c
 returns-in_err-coefficient-clause-answer c = refused c
 
 pub returns-in_err-coefficient-clause-reads_displayed : goal.returns-in_err-coefficient-clause-reads_displayed
-returns-in_err-coefficient-clause-reads_displayed c = reads-displayed c.args.text.now c.from_residual.result (refused c)
+returns-in_err-coefficient-clause-reads_displayed c = reads-display_text c.args.text.now c.from_residual.result (refused c)
 
 pub returns-in_err-coefficient-clause-prints_apart : goal.returns-in_err-coefficient-clause-prints_apart
-returns-in_err-coefficient-clause-prints_apart c = displayed-same
+returns-in_err-coefficient-clause-prints_apart c = display_text-same
 
 pub first_form-requires-clause-coefficient : goal.first_form-requires-clause-coefficient
 first_form-requires-clause-coefficient c = (finite-within _ _ (sym c.in_ok-coefficient.ensures.value)).0
@@ -68,7 +68,7 @@ pub returns-clause-answer : goal.returns-clause-answer
 returns-clause-answer c = pair c
 
 pub returns-clause-reads_displayed : goal.returns-clause-reads_displayed
-returns-clause-reads_displayed c = reads-displayed c.args.text.now (Ok c.from_bytes-2.result) (pair c)
+returns-clause-reads_displayed c = reads-display_text c.args.text.now (Ok c.from_bytes-2.result) (pair c)
 
 pub returns-clause-prints_apart : goal.returns-clause-prints_apart
-returns-clause-prints_apart c = displayed-same
+returns-clause-prints_apart c = display_text-same

@@ -1,16 +1,19 @@
-use Rattle.std.proofs.Common.{◌≡◌, ℕ, ◌%◌, List, ◌++◌, length, refl, sym, ◌∙◌, append_assoc}
+use Rattle.std.proofs.Common.{◌≡◌, ℕ, List, [], ◌∷◌, ◌++◌, arith, length, refl, sym, ◌∙◌, append_assoc}
 use Rattle.std.proofs.lemmas.List.{take-append-drop}
 use Rattle.std.proofs.Output.{has_written_append, has_written_of_eq}
-use Rattle.base64.specs.Engines.{standard}
-use Rattle.base64.proofs.EngineFacts.{encode_of-append}
-use Rattle.bson_scalar.specs.Base64.{base64_text}
+use Rattle.bson_scalar.specs.Base64.{padded_text}
 use Rattle.bson_scalar.proofs.binary.Base64Display.fmt.Goals as goal
 
 -- a text is that of its first three bytes and that of the rest
-cut : (all front back : List ℕ) → all ≡ front ++ back → length front ≡ 3 → base64_text all ≡ base64_text front ++ base64_text back
-cut all front back e three =
-    let whole : length front % 3 ≡ 0 = rw three refl in
-    rw e (encode_of-append standard front back whole)
+cut : (all front back : List ℕ) → all ≡ front ++ back → length front ≡ 3 → padded_text all ≡ padded_text front ++ padded_text back
+cut all front back e three = rw e (after-three front back three)
+  where
+    after-three : (front back : List ℕ) → length front ≡ 3 → padded_text (front ++ back) ≡ padded_text front ++ padded_text back
+    after-three [] back three = absurd cc
+    after-three (a ∷ []) back three = absurd cc
+    after-three (a ∷ b ∷ []) back three = absurd cc
+    after-three (a ∷ b ∷ c ∷ []) back three = refl
+    after-three (a ∷ b ∷ c ∷ d ∷ rest) back three = absurd (omega arith)
 
 pub groups-preserved : goal.groups-preserved
 groups-preserved g c = λ p.
@@ -19,7 +22,7 @@ groups-preserved g c = λ p.
     let whole : c.groups.rest.now ≡ c.split_at.result.0.now ++ c.split_at.result.1.now = rw (c.split_at.ensures.front, c.split_at.ensures.back) (sym (take-append-drop 3 c.groups.rest.now)) in
     let parts = cut c.groups.rest.now c.split_at.result.0.now c.split_at.result.1.now whole c.split_at.ensures.front_len in
     let text = rw (parts, ← c.group_text.ensures) at inv.2 in
-    (inv.0 ++ c.group_text.result.now, has_written_append _ _ _ _ _ _ inv.1 wrote, append_assoc inv.0 c.group_text.result.now (base64_text c.split_at.result.1.now) ∙ text)
+    (inv.0 ++ c.group_text.result.now, has_written_append _ _ _ _ _ _ inv.1 wrote, append_assoc inv.0 c.group_text.result.now (padded_text c.split_at.result.1.now) ∙ text)
 
 pub returns-clause-writes : goal.returns-clause-writes
 returns-clause-writes g c = λ p ok.

@@ -1,6 +1,6 @@
 use Rattle.std.proofs.Common.{◌≡◌, ◌<◌, ◌⊎◌, ℕ, inl, inr, arith, sym, ap, ◌∙◌}
 use Rattle.bson_scalar.specs.IgnoredBits.{ignored_bits}
-use Rattle.bson_scalar.proofs.ClearedBits.{cleared-zero}
+use Rattle.bson_scalar.proofs.ClearedBits.{cleared_bytes-zero}
 use Rattle.bson_scalar.proofs.packed.PackedBitVector.clearing.Goals as goal
 
 -- the third cause falls away where the ignored bits are zero, and the second speaks of as many bytes
@@ -23,5 +23,5 @@ pub returns-clause-refused : goal.returns-clause-refused
 returns-clause-refused c =
     let bits = c.with_zero_bits in
     let zero : ignored_bits bits.result.items c.args.padding ≡ 0 =
-    ap (λ bytes. ignored_bits bytes c.args.padding) bits.ensures.items ∙ cleared-zero c.args.bytes.items c.args.padding in
+    ap (λ bytes. ignored_bits bytes c.args.padding) bits.ensures.items ∙ cleared_bytes-zero c.args.bytes.items c.args.padding in
     two_left _ c.args.padding _ _ _ bits.ensures.len zero c.new.ensures.refused
