@@ -1,5 +1,5 @@
 -- How far a run over lines has come, with a reader and writers.
-use Rattle.std.proofs.Common.{◌≡◌, ◌+◌, ℕ, List, [], ◌∷◌, ◌++◌, length, Option, None, Some, Result, Ok, Err, IfErr, OnOk, refl, ap, sym, subst, ◌∙◌, append-nil}
+use Rattle.std.proofs.Common.{◌≡◌, ◌<◌, ◌+◌, ℕ, List, [], ◌∷◌, ◌++◌, length, take, Option, None, Some, Result, Ok, Err, IfErr, OnOk, refl, ap, sym, subst, ◌∙◌, append-nil}
 use Rattle.std.specs.Io.{StartsWith}
 use Rattle.std.specs.Io.KnownBytes.{Keeps, Appends, Consumes, IsAtEnd}
 use Rattle.std.proofs.KnownBytes.{Appends-nil, Appends-trans, Consumes-nil, Consumes-trans, Consumes-kept}
@@ -82,6 +82,7 @@ module _ {task : Task} {on_refusal : OnRefusal} where
         verdicts = verdicts ++ s.told.items;
         reaches = record { bytes = bytes; refused = s.refused; given = given; whole = r.whole; outcomes = r.outcomes };
         counted = n ∙ ap (λ k. k + 1) r.counted;
+        reason = tt;
         written = begun had mid holds output s.output.items written begins;
         reported = begun told said tells verdicts s.told.items reported says;
       } in
@@ -109,7 +110,7 @@ module _ {task : Task} {on_refusal : OnRefusal} where
   }
 
   -- a reader that gave nothing
-  pub unmoved : (before given after had holds told tells : Option (List ℕ)) (bytes : List ℕ) (s : Gathered) → bytes ≡ [] → Consumes given after bytes → Running task on_refusal before given had holds told tells s → Running task on_refusal before after had holds told tells s
+  unmoved : (before given after had holds told tells : Option (List ℕ)) (bytes : List ℕ) (s : Gathered) → bytes ≡ [] → Consumes given after bytes → Running task on_refusal before given had holds told tells s → Running task on_refusal before after had holds told tells s
   unmoved before given after had holds told tells bytes s e c p = record {
     bytes = p.bytes;
     output = p.output;
@@ -121,6 +122,12 @@ module _ {task : Task} {on_refusal : OnRefusal} where
     nothing_untold = p.nothing_untold;
     progress = p.progress;
   }
+
+  -- it has nothing left, as a read of no byte into a block that has room says
+  pub drained : {before given after had holds told tells : Option (List ℕ)} {count : ℕ} {s : Gathered} (block : List ℕ) → count ≡ 0 → 0 < length block
+      → Consumes given after (take count block) × (count ≡ 0 → 0 < length block → IsAtEnd after) → Running task on_refusal before given had holds told tells s
+      → Running task on_refusal before after had holds told tells s × IsAtEnd after
+  drained block none room read p = (unmoved _ _ _ _ _ _ _ _ _ (ap (λ n. take n block) none) read.0 p, read.1 none room)
 
   -- a reader that failed
   pub unread : (number : ℕ) (before given after had holds told tells : Option (List ℕ)) (s : Gathered) → number ≡ s.lines + 1 → Keeps given after → Running task on_refusal before given had holds told tells s

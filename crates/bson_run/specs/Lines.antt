@@ -6,6 +6,7 @@ use Rattle.std.specs.Io.KnownBytes.{Appends, Consumes}
 use Rattle.bson_run.specs.Convert.{Converts, IsRefused, newline}
 use Rattle.bson_run.specs.Place.{IsWhere}
 use Rattle.bson_run.specs.Run.{ReadsAll, WritesBeginning}
+use Rattle.bson_run.specs.Words.{words_of}
 use Rattle.bson_run.specs.declared.fault.Fault.{Fault}
 use Rattle.bson_run.specs.declared.fault.Fault.TheVariants.{CannotRead, NotJson, BadObjectId, NotExtendedJson, OutOfMemory, CannotWrite}
 use Rattle.bson_run.specs.declared.mode.Mode.TheVariants.{Canonical}
@@ -53,14 +54,6 @@ IsBadText BadObjectId text = IsRefused BadObjectId text
 IsBadText NotExtendedJson text = IsRefused NotExtendedJson text
 IsBadText OutOfMemory text = ⊥
 IsBadText CannotWrite text = ⊥
-
-abbrev pub words_of : Fault → List ℕ
-words_of CannotRead = codes "cannot read"
-words_of NotJson = codes "not JSON"
-words_of BadObjectId = codes "bad object id"
-words_of NotExtendedJson = codes "not Extended JSON"
-words_of OutOfMemory = codes "out of memory"
-words_of CannotWrite = codes "cannot write"
 
 -- what is told of a refused line, by its number
 abbrev pub told_of : ℕ → Fault → List ℕ
@@ -112,8 +105,9 @@ pub record Reaches (task : Task) (on_refusal : OnRefusal) (before after : Option
   pub whole : lines (bytes ++ left_of after) ≡ done ++ others
   pub outcomes : Outcomes task on_refusal done output verdicts refused
 
--- the run stopped at the line of this number: what the lines before it give was written and told
-pub record StopsAt (why : ℕ → List (List ℕ) → Type 0) (task : Task) (on_refusal : OnRefusal) (before after had holds told tells : Option (List ℕ)) (number : ℕ) : Type 0 where
+-- the run came to the line of this number and no further: this became of what the lines before it give, and this is why
+pub record EndsAt (leaves : Option (List ℕ) → Option (List ℕ) → List ℕ → Type 0) (why : ℕ → List (List ℕ) → Type 0) (task : Task) (on_refusal : OnRefusal)
+    (before after had holds told tells : Option (List ℕ)) (number : ℕ) : Type 0 where
   pub done : List (List ℕ)
   pub others : List (List ℕ)
   pub output : List ℕ
@@ -121,19 +115,17 @@ pub record StopsAt (why : ℕ → List (List ℕ) → Type 0) (task : Task) (on_
   pub reaches : Reaches task on_refusal before after done others output verdicts
   pub counted : number ≡ length done + 1
   pub reason : why (length done) others
-  pub written : Appends had holds output
-  pub reported : Appends told tells verdicts
+  pub written : leaves had holds output
+  pub reported : leaves told tells verdicts
+
+-- the run stopped at the line of this number: what the lines before it give was written and told
+abbrev pub StopsAt : (ℕ → List (List ℕ) → Type 0) → Task → OnRefusal → (before after had holds told tells : Option (List ℕ)) → ℕ → Type 0
+StopsAt why task on_refusal before after had holds told tells number = EndsAt Appends why task on_refusal before after had holds told tells number
 
 -- no more than a beginning of what the lines before it give was written and told
-pub record CutShortAt (task : Task) (on_refusal : OnRefusal) (before after had holds told tells : Option (List ℕ)) (number : ℕ) : Type 0 where
-  pub done : List (List ℕ)
-  pub others : List (List ℕ)
-  pub output : List ℕ
-  pub verdicts : List ℕ
-  pub reaches : Reaches task on_refusal before after done others output verdicts
-  pub counted : number ≡ length done + 1
-  pub written : WritesBeginning had holds output
-  pub reported : WritesBeginning told tells verdicts
+abbrev pub CutShortAt : Task → OnRefusal → (before after had holds told tells : Option (List ℕ)) → ℕ → Type 0
+CutShortAt task on_refusal before after had holds told tells number =
+    EndsAt WritesBeginning (λ n others. Unit {0}) task on_refusal before after had holds told tells number
 
 -- why a run stops at a text: it is refused, and refusals stop the run; or for no reason that the bytes tell
 abbrev pub IsStopped : OnRefusal → Fault → List ℕ → Type 0

@@ -1,10 +1,10 @@
 //! The line that is being gathered, and what the lines before it gave.
 ghost use Rattle.std.specs.Prelude.{◌≡◌, ◌⊎◌, ◌++◌, ◌+◌, [], ◌∷◌, ℕ, List, length, IfOk, IfErr, OnOk, OnErr, None, Ok, IsTrue, ◌↔◌, codes, string_bytes, MatchOption, MatchResult, IfSome, All, ◌≢◌, ◌<◌, take, slice_index, ◌-◌, ◌^◌};
-ghost use Rattle.bson_run.specs.Lines.{IsBlank, IsBadText, IsStopped, Outcomes, Tells, Writes, told_at, told_of, words_of, text_of};
+ghost use Rattle.bson_run.specs.Lines.{IsBlank, IsBadText, IsStopped, Outcomes, Tells, Writes, told_at, told_of, text_of};
 ghost use Rattle.bson_run.specs.LinesSteps.{Ends, HasRoom, HaveSameOutcomes, IsJudged, IsOpen, IsStart, IsTold, StopsLast, StopsWithin, Takes, TakesLine};
 ghost use Rattle.bson_run.specs.declared.order.OnRefusal.TheVariants.{Stop, Explain};
 ghost use Rattle.bson_run.specs.Place.{IsOfNoText, IsWhere};
-ghost use Rattle.bson_run.specs.Words.{line_of};
+ghost use Rattle.bson_run.specs.Words.{words_of};
 
 use crate::convert::convert;
 use crate::explain::explain;
@@ -75,7 +75,6 @@ fn judge(alloc: Global, task: Task, text: &[u8]) -> Result<Option<Vec<u8>>, Faul
 /// The words for a fault.
 pub fn words(fault: Fault) -> &'static str
     ensures words { result.now ≡ words_of fault }
-    ensures same { line_of fault ≡ codes "bson_cli: " ++ words_of fault }
 {
     match fault {
         Fault::CannotRead => "cannot read",

@@ -1,6 +1,6 @@
 //! Where a run over lines stopped, and why.
 ghost use Rattle.std.specs.Prelude.{◌≡◌};
-ghost use Rattle.bson_run.specs.Lines.{words_of};
+ghost use Rattle.bson_run.specs.Words.{words_of};
 
 use crate::fault::Fault;
 use crate::gathered::words;
