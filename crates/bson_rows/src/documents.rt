@@ -1,7 +1,9 @@
-//! `document COMMAND ..` runs commands on an empty document, writes their replies, and then the document.
+//! `document COMMAND ..` runs commands on an empty document, writes their replies, and then the
+//! document.
 //!
-//! Commands: `insert:KEY:N`, `remove:KEY`, `get:KEY`, `write:KEY:N`, `write_at:PLACE:N`, `place:PLACE:N`, `entry:KEY:N`,
-//! `entry_with:KEY:N`, `key:KEY`, `len`, `clear`, `clone`, `keys`, `values`.
+//! Commands: `insert:KEY:N`, `remove:KEY`, `get:KEY`, `write:KEY:N`, `write_at:PLACE:N`,
+//! `place:PLACE:N`, `entry:KEY:N`, `entry_with:KEY:N`, `key:KEY`, `len`, `clear`, `clone`, `keys`,
+//! `values`.
 use crate::answer::Answer;
 use crate::stop::{Outcome, Stop};
 use crate::words::{cut_at_colon, number};

@@ -17,7 +17,8 @@ use crate::gathered::words;
 /// ```
 #[derive(Clone, Copy, PartialEq, Eq, Debug)]
 pub struct LineFault {
-    /// The number of the first line that was not done. Lines are counted from 1, and blank ones count.
+    /// The number of the first line that was not done. Lines are counted from 1, and blank ones
+    /// count.
     pub line: u64,
     /// Why it stopped.
     pub fault: Fault,

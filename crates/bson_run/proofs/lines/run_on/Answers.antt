@@ -13,7 +13,9 @@ loop-init g c = record {
 
 pub returns-in_default-clause-fails : goal.returns-in_default-clause-fails
 returns-in_default-clause-fails g c =
-    rw c.stopped.ensures.fault (unread c.stopped.result.line _ _ _ _ _ _ _ c.loop.gathered c.stopped.ensures.line c.in_default.ensures.bytes c.loop.invariant.running)
+    rw c.stopped.ensures.fault
+    (unread c.stopped.result.line _ _ _ _ _ _ _ c.loop.gathered c.stopped.ensures.line c.in_default.ensures.bytes
+    c.loop.invariant.running)
 
 pub returns-then-count-eq0-clause-done : goal.returns-then-count-eq0-clause-done
 returns-then-count-eq0-clause-done g c =
@@ -38,4 +40,6 @@ loop-preserved g c = record {
 
 pub returns-clause-fails : goal.returns-clause-fails
 returns-clause-fails g c =
-    rw c.stopped-2.ensures.fault (unread c.stopped-2.result.line _ _ _ _ _ _ _ c.loop.gathered c.stopped-2.ensures.line (Keeps-refl (g.R.Read.remaining c.loop.reader)) c.loop.invariant.running)
+    rw c.stopped-2.ensures.fault
+    (unread c.stopped-2.result.line _ _ _ _ _ _ _ c.loop.gathered c.stopped-2.ensures.line
+    (Keeps-refl (g.R.Read.remaining c.loop.reader)) c.loop.invariant.running)
