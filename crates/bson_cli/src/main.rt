@@ -1,7 +1,9 @@
-//! The program `bson_cli MODE`: reads one JSON text from standard input, and writes the value that it means to
-//! standard output, in the form of MongoDB Extended JSON v2 that MODE names, or as it is shown, and a newline.
+//! The program `bson_cli MODE`: reads one JSON text from standard input, and writes the value that
+//! it means to standard output, in the form of MongoDB Extended JSON v2 that MODE names, or as it
+//! is shown, and a newline.
 //!
-//! The library `bson_run` goes the whole way; here stand the arguments, the lines on standard error and the statuses.
+//! The library `bson_run` goes the whole way; here stand the arguments, the lines on standard error
+//! and the statuses.
 #![tactic(auto)]
 
 use bson_run::fault::Fault;
@@ -13,7 +15,8 @@ use std::process::ExitCode;
 
 const USAGE: &str = "usage: bson_cli canonical|relaxed|show";
 
-/// Status 0: done. Status 1: refused, with one line on standard error. Status 2: other arguments, and nothing was read.
+/// Status 0: done. Status 1: refused, with one line on standard error. Status 2: other arguments,
+/// and nothing was read.
 fn main(rt: HostRuntime) -> ExitCode {
     let answer = match asked(&rt) {
         Ok(Some(mode)) => run(rt.alloc(), mode, &mut rt.stdin(), &mut rt.stdout()),
@@ -26,7 +29,8 @@ fn main(rt: HostRuntime) -> ExitCode {
     }
 }
 
-/// The status, once the line was given to standard error. Where that takes nothing, the status alone tells.
+/// The status, once the line was given to standard error. Where that takes nothing, the status
+/// alone tells.
 fn ended(rt: &HostRuntime, line: &str, status: u8) -> ExitCode {
     let _ = rt.eprintln(line);
     ExitCode::from(status)

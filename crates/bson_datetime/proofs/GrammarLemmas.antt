@@ -286,11 +286,9 @@ un_map : {A B : Type 0} (f : A → B) (o : Option A) (y : B) → option_map f o 
 un_map f None y h = cc
 un_map f (Some x) y h = (x, refl, un_some _ _ h)
 
-abbrev ahead_by : ℕ × List ℕ → ℤ × List ℕ
-ahead_by n = (pos n.0, n.1)
-
-abbrev behind_by : ℕ × List ℕ → ℤ × List ℕ
-behind_by n = (neg_ℤ (pos n.0), n.1)
+-- a number that was read, as it counts
+abbrev counted : (ℕ → ℤ) → ℕ × List ℕ → ℤ × List ℕ
+counted count n = (count n.0, n.1)
 
 record OffsetRead (s : List ℕ) (z : ℤ) (rest : List ℕ) : Type 0 where
   offset : Offset
@@ -298,37 +296,41 @@ record OffsetRead (s : List ℕ) (z : ℤ) (rest : List ℕ) : Type 0 where
   value : offset_seconds offset ≡ z
   text : s ≡ offset_text offset ++ rest
 
+-- hours and minutes behind a sign are an offset of this kind, whose seconds count so
+signed-read : (sign : ℕ) (way : ℕ → ℕ → Offset) (count : ℕ → ℤ) → ((h m : ℕ) → h < 24 → m < 60 → IsOffset (way h m))
+    → ((h m : ℕ) → offset_seconds (way h m) ≡ count (h * 3600 + m * 60))
+    → ((h m : ℕ) (t : List ℕ) → sign ∷ two_digit_text h ++ 58 ∷ two_digit_text m ++ t ≡ offset_text (way h m) ++ t)
+    → (s : List ℕ) (r : ℤ × List ℕ) → option_map (counted count) (hours_minutes s) ≡ Some r → OffsetRead (sign ∷ s) r.0 r.1
+signed-read sign way count is seconds text s r h =
+    let n = un_map (counted count) (hours_minutes s) r h in
+    let p = hours_minutes-read s n.0 n.1 in
+    let rest = ap (λ t. two_digit_text p.0 ++ 58 ∷ two_digit_text p.1 ++ t) (ap (λ q. q.1) n.2) in
+    record {
+      offset = way p.0 p.1;
+      is = is p.0 p.1 p.2 p.3;
+      value = seconds p.0 p.1 ∙ ap count p.4 ∙ ap (λ q. q.0) n.2;
+      text = ap (λ t. sign ∷ t) (p.5 ∙ rest) ∙ text p.0 p.1 r.1;
+    }
+
 offset-behind : (c : ℕ) (s : List ℕ) (r : ℤ × List ℕ) (t : Bool) → (c == 45) ≡ t
-    → (if t then option_map behind_by (hours_minutes s) else None) ≡ Some r → OffsetRead (c ∷ s) r.0 r.1
+    → (if t then option_map (counted (λ k. neg_ℤ (pos k))) (hours_minutes s) else None) ≡ Some r → OffsetRead (c ∷ s) r.0 r.1
 offset-behind c s r true e h =
     let sign : c ≡ 45 = grind (arith, nat_tests, e) in
-    let n = un_map behind_by (hours_minutes s) r h in
-    let p = hours_minutes-read s n.0 n.1 in
-    record {
-      offset = behind p.0 p.1;
-      is = (p.2, p.3);
-      value = ap (λ k. neg_ℤ (pos k)) p.4 ∙ ap (λ q. q.0) n.2;
-      text = rw sign (ap (λ t. 45 ∷ t) (p.5 ∙ ap (λ t. two_digit_text p.0 ++ 58 ∷ two_digit_text p.1 ++ t) (ap (λ q. q.1) n.2)));
-    }
+    rw sign (signed-read 45 behind (λ k. neg_ℤ (pos k)) (λ h m p q. (p, q)) (λ h m. refl) (λ h m t. refl) s r h)
 offset-behind c s r false e h = cc
 
 offset-ahead : (c : ℕ) (s : List ℕ) (r : ℤ × List ℕ) (t : Bool) → (c == 43) ≡ t
-    → (if t then option_map ahead_by (hours_minutes s) else if c == 45 then option_map behind_by (hours_minutes s) else None) ≡ Some r
+    → (if t then option_map (counted pos) (hours_minutes s)
+    else if c == 45 then option_map (counted (λ k. neg_ℤ (pos k))) (hours_minutes s) else None) ≡ Some r
     → OffsetRead (c ∷ s) r.0 r.1
 offset-ahead c s r true e h =
     let sign : c ≡ 43 = grind (arith, nat_tests, e) in
-    let n = un_map ahead_by (hours_minutes s) r h in
-    let p = hours_minutes-read s n.0 n.1 in
-    record {
-      offset = ahead p.0 p.1;
-      is = (p.2, p.3);
-      value = ap (λ k. pos k) p.4 ∙ ap (λ q. q.0) n.2;
-      text = rw sign (ap (λ t. 43 ∷ t) (p.5 ∙ ap (λ t. two_digit_text p.0 ++ 58 ∷ two_digit_text p.1 ++ t) (ap (λ q. q.1) n.2)));
-    }
+    rw sign (signed-read 43 ahead pos (λ h m p q. (p, q)) (λ h m. refl) (λ h m t. refl) s r h)
 offset-ahead c s r false e h = offset-behind c s r (c == 45) refl h
 
 offset-zulu : (c : ℕ) (s : List ℕ) (r : ℤ × List ℕ) (t : Bool) → ((c == 90) || (c == 122)) ≡ t
-    → (if t then found (pos 0) s else if c == 43 then option_map ahead_by (hours_minutes s) else if c == 45 then option_map behind_by (hours_minutes s) else None) ≡ Some r
+    → (if t then found (pos 0) s else if c == 43 then option_map (counted pos) (hours_minutes s)
+    else if c == 45 then option_map (counted (λ k. neg_ℤ (pos k))) (hours_minutes s) else None) ≡ Some r
     → OffsetRead (c ∷ s) r.0 r.1
 offset-zulu c s r true e h =
     let same = un_some _ _ h in

@@ -15,10 +15,7 @@ unset = record {
   year = record {};
   month = record {};
   day = record {};
-  hour = None;
-  minute = None;
-  second = None;
-  millisecond = None;
+  time = record { hour = None; minute = None; second = None; millisecond = None };
 }
 
 -- a builder that is told one thing more; what else it was told stays
@@ -27,10 +24,7 @@ with_year n b = record {
   year = record { value = n };
   month = b.month;
   day = b.day;
-  hour = b.hour;
-  minute = b.minute;
-  second = b.second;
-  millisecond = b.millisecond;
+  time = b.time;
 }
 
 abbrev pub with_month : {Y D : Type 0} → ℕ → DateTimeBuilder Y NoMonth D → DateTimeBuilder Y Month D
@@ -38,10 +32,7 @@ with_month n b = record {
   year = b.year;
   month = record { value = n };
   day = b.day;
-  hour = b.hour;
-  minute = b.minute;
-  second = b.second;
-  millisecond = b.millisecond;
+  time = b.time;
 }
 
 abbrev pub with_day : {Y M : Type 0} → ℕ → DateTimeBuilder Y M NoDay → DateTimeBuilder Y M Day
@@ -49,25 +40,22 @@ with_day n b = record {
   year = b.year;
   month = b.month;
   day = record { value = n };
-  hour = b.hour;
-  minute = b.minute;
-  second = b.second;
-  millisecond = b.millisecond;
+  time = b.time;
 }
 
 -- the time of day: the last that it is told counts
 module _ {Y M D : Type 0} where
   abbrev pub with_hour : ℕ → DateTimeBuilder Y M D → DateTimeBuilder Y M D
-  with_hour n b = record b { hour = Some n }
+  with_hour n b = record b { time = record b.time { hour = Some n } }
 
   abbrev pub with_minute : ℕ → DateTimeBuilder Y M D → DateTimeBuilder Y M D
-  with_minute n b = record b { minute = Some n }
+  with_minute n b = record b { time = record b.time { minute = Some n } }
 
   abbrev pub with_second : ℕ → DateTimeBuilder Y M D → DateTimeBuilder Y M D
-  with_second n b = record b { second = Some n }
+  with_second n b = record b { time = record b.time { second = Some n } }
 
   abbrev pub with_millisecond : ℕ → DateTimeBuilder Y M D → DateTimeBuilder Y M D
-  with_millisecond n b = record b { millisecond = Some n }
+  with_millisecond n b = record b { time = record b.time { millisecond = Some n } }
 
 -- the date and time that a full builder was told; what was not set of the time is 0
 abbrev pub civil_fields : DateTimeBuilder Year Month Day → Civil
@@ -75,8 +63,8 @@ civil_fields b = record {
   year = b.year.value;
   month = b.month.value;
   day = b.day.value;
-  hour = unwrap_or b.hour 0;
-  minute = unwrap_or b.minute 0;
-  second = unwrap_or b.second 0;
-  millisecond = unwrap_or b.millisecond 0;
+  hour = unwrap_or b.time.hour 0;
+  minute = unwrap_or b.time.minute 0;
+  second = unwrap_or b.time.second 0;
+  millisecond = unwrap_or b.time.millisecond 0;
 }

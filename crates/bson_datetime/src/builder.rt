@@ -54,6 +54,12 @@ pub struct DateTimeBuilder<Y = NoYear, M = NoMonth, D = NoDay> {
     year: Y,
     month: M,
     day: D,
+    time: TimeOfDay,
+}
+
+/// What is set of the time of day.
+#[derive(Drop)]
+struct TimeOfDay {
     hour: Option<u8>,
     minute: Option<u8>,
     second: Option<u8>,
@@ -70,10 +76,12 @@ impl Default for DateTimeBuilder<NoYear, NoMonth, NoDay> {
             year: NoYear {},
             month: NoMonth {},
             day: NoDay {},
-            hour: None,
-            minute: None,
-            second: None,
-            millisecond: None,
+            time: TimeOfDay {
+                hour: None,
+                minute: None,
+                second: None,
+                millisecond: None,
+            },
         }
     }
 }
@@ -85,23 +93,11 @@ impl<M, D> DateTimeBuilder<NoYear, M, D> {
     pub fn year(self, year: i32) -> DateTimeBuilder<Year, M, D>
         ensures { result ≡ with_year year self }
     {
-        let DateTimeBuilder {
-            year: _,
-            month,
-            day,
-            hour,
-            minute,
-            second,
-            millisecond,
-        } = self;
         DateTimeBuilder {
             year: Year { value: year },
-            month,
-            day,
-            hour,
-            minute,
-            second,
-            millisecond,
+            month: self.month,
+            day: self.day,
+            time: self.time,
         }
     }
 }
@@ -113,23 +109,11 @@ impl<Y, D> DateTimeBuilder<Y, NoMonth, D> {
     pub fn month(self, month: u8) -> DateTimeBuilder<Y, Month, D>
         ensures { result ≡ with_month month self }
     {
-        let DateTimeBuilder {
-            year,
-            month: _,
-            day,
-            hour,
-            minute,
-            second,
-            millisecond,
-        } = self;
         DateTimeBuilder {
-            year,
+            year: self.year,
             month: Month { value: month },
-            day,
-            hour,
-            minute,
-            second,
-            millisecond,
+            day: self.day,
+            time: self.time,
         }
     }
 }
@@ -141,23 +125,11 @@ impl<Y, M> DateTimeBuilder<Y, M, NoDay> {
     pub fn day(self, day: u8) -> DateTimeBuilder<Y, M, Day>
         ensures { result ≡ with_day day self }
     {
-        let DateTimeBuilder {
-            year,
-            month,
-            day: _,
-            hour,
-            minute,
-            second,
-            millisecond,
-        } = self;
         DateTimeBuilder {
-            year,
-            month,
+            year: self.year,
+            month: self.month,
             day: Day { value: day },
-            hour,
-            minute,
-            second,
-            millisecond,
+            time: self.time,
         }
     }
 }
@@ -170,7 +142,7 @@ impl<Y, M, D> DateTimeBuilder<Y, M, D> {
     pub fn hour(mut self, hour: u8) -> DateTimeBuilder<Y, M, D>
         ensures { result ≡ with_hour hour self }
     {
-        self.hour = Some(hour);
+        self.time.hour = Some(hour);
         self
     }
 
@@ -178,7 +150,7 @@ impl<Y, M, D> DateTimeBuilder<Y, M, D> {
     pub fn minute(mut self, minute: u8) -> DateTimeBuilder<Y, M, D>
         ensures { result ≡ with_minute minute self }
     {
-        self.minute = Some(minute);
+        self.time.minute = Some(minute);
         self
     }
 
@@ -186,7 +158,7 @@ impl<Y, M, D> DateTimeBuilder<Y, M, D> {
     pub fn second(mut self, second: u8) -> DateTimeBuilder<Y, M, D>
         ensures { result ≡ with_second second self }
     {
-        self.second = Some(second);
+        self.time.second = Some(second);
         self
     }
 
@@ -194,7 +166,7 @@ impl<Y, M, D> DateTimeBuilder<Y, M, D> {
     pub fn millisecond(mut self, millisecond: u16) -> DateTimeBuilder<Y, M, D>
         ensures { result ≡ with_millisecond millisecond self }
     {
-        self.millisecond = Some(millisecond);
+        self.time.millisecond = Some(millisecond);
         self
     }
 }
@@ -213,10 +185,10 @@ impl DateTimeBuilder<Year, Month, Day> {
         ensures time { ¬ (IsTimeOfDay (civil_fields self)) → IfErr result (IsInvalidFor Message.NoSuchTime) }
         ensures day { IsTimeOfDay (civil_fields self) → IfErr result (IsInvalidFor Message.NoSuchDay) }
     {
-        let hour = self.hour.unwrap_or(0);
-        let minute = self.minute.unwrap_or(0);
-        let second = self.second.unwrap_or(0);
-        let millisecond = self.millisecond.unwrap_or(0);
+        let hour = self.time.hour.unwrap_or(0);
+        let minute = self.time.minute.unwrap_or(0);
+        let second = self.time.second.unwrap_or(0);
+        let millisecond = self.time.millisecond.unwrap_or(0);
         if hour > 23 || minute > 59 || second > 59 || millisecond > 999 {
             return Err(NO_SUCH_TIME);
         }

@@ -7,8 +7,8 @@ ghost use Rattle.bson_datetime.specs.Sums.{sum_with, millis_since, nanos_of_mill
 ghost use Rattle.bson_datetime.specs.JiffSteps.{IsJiffMoment};
 
 use crate::builder::{DateTimeBuilder, NoDay, NoMonth, NoYear};
-use crate::error::Message;
 use crate::display::CivilText;
+use crate::error::Message;
 use crate::{Error, Result, rfc3339};
 use jiff::civil;
 use std::alloc::Global;

@@ -1,4 +1,5 @@
-//! A caller of the library from another crate, with a contract of its own that stands on the library's.
+//! A caller of the library from another crate, with a contract of its own that stands on the
+//! library's.
 #![tactic(auto)]
 
 ghost use Rattle.std.specs.Prelude.{◌≡◌, [], IfOk, string_bytes};

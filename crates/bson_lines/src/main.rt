@@ -1,8 +1,9 @@
-//! The program `bson_lines MODE [FILE ..]`: reads documents, one a line, and writes the output of each on a line of its
-//! own, in constant memory.
+//! The program `bson_lines MODE [FILE ..]`: reads documents, one a line, and writes the output of
+//! each on a line of its own, in constant memory.
 //!
-//! The library `bson_run` goes the whole way; here stand the arguments (`order`), the files (`streams`, `run`), the line
-//! of progress (`progress`), and the lines on standard error and the statuses.
+//! The library `bson_run` goes the whole way; here stand the arguments (`order`), the files
+//! (`streams`, `run`), the line of progress (`progress`), and the lines on standard error and the
+//! statuses.
 #![tactic(auto)]
 
 mod order;
@@ -22,8 +23,8 @@ use std::env;
 use std::io::ErrorKind;
 use std::process::ExitCode;
 
-/// Status 0: done, and no line was refused. Status 1: a line was refused, or the run could not go on, which standard
-/// error tells. Status 2: other arguments, and nothing was read.
+/// Status 0: done, and no line was refused. Status 1: a line was refused, or the run could not go
+/// on, which standard error tells. Status 2: other arguments, and nothing was read.
 fn main(rt: HostRuntime) -> ExitCode {
     match given(&rt) {
         Ok(Asked::Run(order)) => done(&rt, &order),
@@ -104,7 +105,8 @@ fn told(rt: &HostRuntime, line: Result<String, AllocError>) -> ExitCode {
     }
 }
 
-/// The status, once the line was given to standard error. Where that takes nothing, the status alone tells.
+/// The status, once the line was given to standard error. Where that takes nothing, the status
+/// alone tells.
 fn ended(rt: &HostRuntime, line: &str, status: u8) -> ExitCode {
     let _ = rt.eprintln(line);
     ExitCode::from(status)

@@ -93,7 +93,8 @@ impl<R: Read> Read for Counted<'_, R> {
     }
 }
 
-/// A writer of verdicts, a line for each refused line, with the name of their file before the first where it has one.
+/// A writer of verdicts, a line for each refused line, with the name of their file before the first
+/// where it has one.
 #[derive(Drop)]
 pub struct Verdicts<'a, 'n, T> {
     pub writer: T,

@@ -24,8 +24,8 @@ pub enum Stop<'a> {
     Line(Refusal, Option<&'a str>),
 }
 
-/// Converts the lines of all files in their order. It stops where a file can't be read or written, or as `run_lines`
-/// does. Nothing is written before each file was found to be one that opens.
+/// Converts the lines of all files in their order. It stops where a file can't be read or written,
+/// or as `run_lines` does. Nothing is written before each file was found to be one that opens.
 pub fn run<'a>(rt: &HostRuntime, order: &'a Order) -> Result<Counts, Stop<'a>> {
     for name in order.inputs.iter() {
         try_input(rt, order, name.as_str())?;
@@ -137,8 +137,8 @@ fn sink<'a>(rt: &HostRuntime, order: &'a Order) -> Result<Sink, Stop<'a>> {
     }
 }
 
-/// How many bytes are to be read, where progress is told: standard error is a terminal to which no output goes, and all
-/// that is read is files.
+/// How many bytes are to be read, where progress is told: standard error is a terminal to which no
+/// output goes, and all that is read is files.
 fn total(rt: &HostRuntime, order: &Order) -> Option<u64> {
     let is_apart = order.output.is_some()
         || order.task == Task::Check

@@ -5,7 +5,7 @@ pub use Rattle.bson_model.proofs.Members.{Member, just_one, just_two, more_than_
 pub use Rattle.bson_model.proofs.PutMembers.{put_members_swap}
 pub use Rattle.bson_model.proofs.PutSwap.{equal_keys, flipped}
 pub use Rattle.bson_model.proofs.ReadBack.{forms_idempotent, tree_is, writable_from, write_both, write_finite, write_ok}
-pub use Rattle.bson_model.proofs.ReadLaws.{document_read_accepts, document_read_ascends, document_read_fault, document_read_ok, read_accepts, read_fault, read_ok}
+pub use Rattle.bson_model.proofs.ReadLaws.{IsRead, document_read, document_read_ascends, value_read}
 pub use Rattle.bson_model.proofs.ReadTrees.{read_tree}
 pub use Rattle.bson_model.proofs.SameSorted.{at_each, from_each, option_same, same_document, same_feeds}
 pub use Rattle.bson_model.proofs.WriteLaws.{canon_from, writable_is}

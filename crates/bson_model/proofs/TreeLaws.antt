@@ -1,5 +1,5 @@
 -- What is written is a tree that `serde_json` has.
-use Rattle.std.proofs.Common.{◌≡◌, ◌<◌, ◌^◌, ℕ, ℤ, pos, negsuc, List, Bool, true, false, Result, Ok, Err, Ordering, Less, Equal, Greater, refl, sym, subst, arith, w32, w64}
+use Rattle.std.proofs.Common.{◌≡◌, ◌<◌, ◌^◌, ℕ, ℤ, pos, negsuc, List, Bool, true, false, Ok, Ordering, Less, Equal, Greater, refl, sym, subst, arith, w32, w64}
 use Rattle.std.specs.Prelude.{FitsSigned, codes}
 use Rattle.std.specs.Ordering.{match_ordering}
 use Rattle.std.proofs.lemmas.Cmp.{nat_list_cmp_total}
@@ -12,7 +12,7 @@ use Rattle.bson_wrapper.specs.Doubles.{double_text}
 use Rattle.bson_wrapper.specs.Normal.{ScalarInRange}
 use Rattle.bson_wrapper.specs.Scalar.{Scalar, null, undefined, min_key, max_key, boolean, double, int32, int64, text, symbol, code, regex, timestamp, binary, object_id, date, decimal, db_pointer}
 use Rattle.bson_wrapper.specs.Shapes.{object_of_two}
-use Rattle.bson_wrapper.specs.Written.{Refusal, ◌>>=◌, or_finite, writes_scalar, int32_form, int64_form, date_form}
+use Rattle.bson_wrapper.specs.Written.{or_finite, writes_scalar, int32_form, int64_form, date_form}
 use Rattle.bson_wrapper.specs.declared.form.Form.{Form}
 use Rattle.bson_wrapper.specs.declared.form.Form.TheVariants.{Canonical, Relaxed}
 use Rattle.bson_model.specs.Texts.{IsBelow, Ascends, IsTree, ItemsAreTrees, MembersAreTrees}
@@ -20,13 +20,7 @@ use Rattle.bson_model.specs.Value.{Value, scalar, code_scope, array, document, V
 use Rattle.bson_model.specs.Normal.{InRange, ItemsInRange, PairsInRange}
 use Rattle.bson_model.specs.Writing.{writes, writes_items, writes_pairs}
 use Rattle.bson_model.proofs.PutSwap.{cmp, flipped}
-
-bind_ok : {A B : Type 0} (r : Result A Refusal) (f : A → Result B Refusal) (y : B) → (r >>= f) ≡ Ok y → (x : A) × (r ≡ Ok x) × (f x ≡ Ok y)
-bind_ok (Ok x) f y h = (x, refl, h)
-bind_ok (Err e) f y h = cc
-
-un_ok : {A : Type 0} (x y : A) → ◌≡◌ {A = Result A Refusal} (Ok x) (Ok y) → y ≡ x
-un_ok x y h = cc
+use Rattle.bson_model.proofs.Binds.{bind_ok, un_ok}
 
 -- ---- a map stays one
 

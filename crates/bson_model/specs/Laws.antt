@@ -4,7 +4,7 @@ use Rattle.serde_json.specs.Data.{Data, Members}
 use Rattle.serde_json.specs.Data as tree
 use Rattle.serde_json.specs.Written.{has_float}
 use Rattle.bson_wrapper.specs.declared.form.Form.{Form}
-use Rattle.bson_model.specs.Value.{Value, document, value, Pairs}
+use Rattle.bson_model.specs.Value.{Value, document, Pairs}
 use Rattle.bson_model.specs.Means.{Means, MeansDocument}
 use Rattle.bson_model.specs.Same.{same}
 use Rattle.bson_model.specs.Normal.{normal_form, narrowed_form, as_read, plain, plain_values, InRange, writable, writable_pairs}

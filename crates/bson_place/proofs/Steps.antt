@@ -1,5 +1,7 @@
 -- Places of what a tree holds are places of the tree.
-use Rattle.std.proofs.Common.{◌<◌, ◌≡◌, ◌+◌, ℕ, List, [], ◌∷◌, ◌++◌, Bool, true, false, cond, Option, Some, None, IsSome, ℤ, Result, Ok, Err, IfOk, MatchOption, MatchBool, ◌&&◌, refl, sym, ap, subst, ◌∙◌, String, Global, string_bytes, rules, length, arith}
+use Rattle.std.proofs.Common.{◌<◌, ◌≡◌, ◌+◌, ℕ, List, [], ◌∷◌, ◌++◌, Bool, true, false, cond, Option, Some, None}
+use Rattle.std.proofs.Common.{IsSome, ℤ, Result, Ok, Err, IfOk, MatchOption, MatchBool, ◌&&◌, refl, sym, ap, subst, ◌∙◌}
+use Rattle.std.proofs.Common.{String, Global, string_bytes, rules, length, arith}
 use Rattle.std.specs.Prelude.{codes}
 use Rattle.std.specs.Str.{bytes_eq}
 use Rattle.std.proofs.lemmas.Bool.{and_parts}
@@ -19,12 +21,15 @@ use Rattle.bson_wrapper.specs.Scalar.{Scalar}
 use Rattle.bson_wrapper.specs.Scalar as kind
 use Rattle.bson_wrapper.specs.Table.{wrapper_of, has_wrapper}
 use Rattle.bson_wrapper.specs.declared.error.Error.{Error}
-use Rattle.bson_model.specs.Reading.{reads, reads_items, reads_members, reads_wrapper, reads_scope, scalar_value, code_at, code_value, scope_value}
+use Rattle.bson_model.specs.Reading.{reads, reads_items, reads_members, reads_wrapper, reads_scope, scalar_value}
+use Rattle.bson_model.specs.Reading.{code_at, code_value, scope_value}
 use Rattle.bson_model.specs.Value.{Value, Values, value, Pairs, pair}
 use Rattle.bson_model.specs.Value as model
 use Rattle.bson_model.proofs.Offered.{Member}
 use Rattle.bson_place.specs.declared.place.Place.{Place}
-use Rattle.bson_place.specs.Place.{dotted, word_of, Turn, key, way_of, FaultAt, FaultAmong, FaultIn, number, array, document, wrapper, scope, shape, later, behind, HasValue, IsErrorOf, IsPlace, HasScope, IsScopeFault, in_scope, no_scope, IsOpen, code_with_scope}
+use Rattle.bson_place.specs.Place.{dotted, word_of, Turn, key, way_of, FaultAt, FaultAmong, FaultIn, number, array}
+use Rattle.bson_place.specs.Place.{document, wrapper, scope, shape, later, behind, HasValue, IsErrorOf, IsPlace}
+use Rattle.bson_place.specs.Place.{HasScope, IsScopeFault, in_scope, no_scope, IsOpen, code_with_scope}
 
 -- ---- what a value stands for
 
@@ -51,7 +56,8 @@ boolean_value b = (model.scalar (kind.boolean b), refl)
 pub text_value : (s : List ℕ) → HasValue (tree.string s)
 text_value s = (model.scalar (kind.text s), refl)
 
-whole_value : (o : Option ℤ) → IsSome o → (v : Value) × (scalar_value (or_wrong_shape o >>= λ z. Ok (narrowest z)) ≡ Ok v)
+whole_value : (o : Option ℤ) → IsSome o
+    → (v : Value) × (scalar_value (or_wrong_shape o >>= λ z. Ok (narrowest z)) ≡ Ok v)
 whole_value (Some z) h = (model.scalar (narrowest z), refl)
 whole_value None h = cc
 
@@ -61,7 +67,8 @@ number_value n h = whole_value (as_i64 n) h
 -- ---- places
 
 -- the same error at a way that leads through one more turn
-pub carried : {A B : Fault → List Turn → Type 0} (p q : Place) (t : Turn) → ((f : Fault) (way : List Turn) → A f way → B f (way ++ t ∷ []))
+pub carried : {A B : Fault → List Turn → Type 0} (p q : Place) (t : Turn)
+    → ((f : Fault) (way : List Turn) → A f way → B f (way ++ t ∷ []))
     → way_of q ≡ way_of p ++ t ∷ [] → q.error ≡ p.error → IsPlace A p → IsPlace B q
 carried {A} {B} p q t f way error is = record {
   fault = is.fault;
@@ -70,10 +77,12 @@ carried {A} {B} p q t f way error is = record {
 }
 
 -- the same place, seen from further out
-with_place : {A B : Fault → List Turn → Type 0} (p : Place) → ((f : Fault) (way : List Turn) → A f way → B f way) → IsPlace A p → IsPlace B p
+with_place : {A B : Fault → List Turn → Type 0} (p : Place) → ((f : Fault) (way : List Turn) → A f way → B f way)
+    → IsPlace A p → IsPlace B p
 with_place p f is = record { fault = is.fault; way = f is.fault (way_of p) is.way; error = is.error }
 
-pub found_from : {V W : Type 0} {A B : Fault → List Turn → Type 0} (r : Result (Option Place) AllocError) → (V → W) → ((f : Fault) (way : List Turn) → A f way → B f way)
+pub found_from : {V W : Type 0} {A B : Fault → List Turn → Type 0} (r : Result (Option Place) AllocError) → (V → W)
+    → ((f : Fault) (way : List Turn) → A f way → B f way)
     → IfOk r (λ found. MatchOption found V (IsPlace A)) → IfOk r (λ found. MatchOption found W (IsPlace B))
 found_from (Ok None) v f h = v h
 found_from (Ok (Some p)) v f h = with_place p f h
@@ -94,14 +103,19 @@ all_items all = record { value = λ h. h; fault = λ f way h. h }
 
 pub one_less : (n : ℕ) (d : Data) (rest all : Items) → HasValue d → IsRest n (item d rest) all → IsRest (n + 1) rest all
 one_less n d rest all v is = record {
-  value = λ vs. is.value (value v.0 vs.0, ap (λ r. r >>= λ w. reads_items rest >>= λ ws. Ok (value w ws)) v.1 ∙ ap (λ r. r >>= λ ws. Ok (value v.0 ws)) vs.1);
+  value = λ vs. is.value (
+    value v.0 vs.0,
+    ap (λ r. r >>= λ w. reads_items rest >>= λ ws. Ok (value w ws)) v.1
+        ∙ ap (λ r. r >>= λ ws. Ok (value v.0 ws)) vs.1,
+  );
   fault = λ f way h. is.fault f way (later n d v.0 rest v.1 h);
 }
 
 pub array_value : (ds : Items) → HasItems ds → HasValue (tree.array ds)
 array_value ds vs = (model.array vs.0, ap (λ r. r >>= λ ws. Ok (model.array ws)) vs.1)
 
-pub of_array : (ds : Items) (r : Result (Option Place) AllocError) → IfOk r (λ found. MatchOption found (HasItems ds) (IsPlace (λ f. FaultAmong f 0 ds)))
+pub of_array : (ds : Items) (r : Result (Option Place) AllocError)
+    → IfOk r (λ found. MatchOption found (HasItems ds) (IsPlace (λ f. FaultAmong f 0 ds)))
     → IfOk r (λ found. MatchOption found (HasValue (tree.array ds)) (IsPlace (λ f. FaultAt f (tree.array ds))))
 of_array ds r h = found_from r (array_value ds) (λ f way w. array ds w) h
 
@@ -117,16 +131,26 @@ pub record IsRestOf (rest all : Members) : Type 0 where
 pub all_members : (all : Members) → IsRestOf all all
 all_members all = record { value = λ h. h; fault = λ f way h. h }
 
-pub member_less : (k : List ℕ) (d : Data) (rest all : Members) → HasValue d → IsRestOf (member k d rest) all → IsRestOf rest all
+pub member_less : (k : List ℕ) (d : Data) (rest all : Members) → HasValue d → IsRestOf (member k d rest) all
+    → IsRestOf rest all
 member_less k d rest all v is = record {
-  value = λ ps. is.value (pair k v.0 ps.0, ap (λ r. r >>= λ w. reads_members rest >>= λ qs. Ok (pair k w qs)) v.1 ∙ ap (λ r. r >>= λ qs. Ok (pair k v.0 qs)) ps.1);
+  value = λ ps. is.value (
+    pair k v.0 ps.0,
+    ap (λ r. r >>= λ w. reads_members rest >>= λ qs. Ok (pair k w qs)) v.1
+        ∙ ap (λ r. r >>= λ qs. Ok (pair k v.0 qs)) ps.1,
+  );
   fault = λ f way h. is.fault f way (behind k d v.0 rest v.1 h);
 }
 
 document_value : (ms : Members) → has_wrapper ms ≡ false → HasPairs ms → HasValue (tree.object ms)
-document_value ms none ps = (model.document ps.0, ap (λ b. cond b (reads_wrapper ms) (reads_members ms >>= λ qs. Ok (model.document qs))) none ∙ ap (λ r. r >>= λ qs. Ok (model.document qs)) ps.1)
+document_value ms none ps = (
+  model.document ps.0,
+  ap (λ b. cond b (reads_wrapper ms) (reads_members ms >>= λ qs. Ok (model.document qs))) none
+      ∙ ap (λ r. r >>= λ qs. Ok (model.document qs)) ps.1,
+)
 
-pub of_document : (ms : Members) (r : Result (Option Place) AllocError) → has_wrapper ms ≡ false → IfOk r (λ found. MatchOption found (HasPairs ms) (IsPlace (λ f. FaultIn f ms)))
+pub of_document : (ms : Members) (r : Result (Option Place) AllocError) → has_wrapper ms ≡ false
+    → IfOk r (λ found. MatchOption found (HasPairs ms) (IsPlace (λ f. FaultIn f ms)))
     → IfOk r (λ found. MatchOption found (HasValue (tree.object ms)) (IsPlace (λ f. FaultAt f (tree.object ms))))
 of_document ms r none h = found_from r (document_value ms none) (λ f way w. document ms none w) h
 
@@ -136,21 +160,27 @@ of_document ms r none h = found_from r (document_value ms none) (λ f way w. doc
 pub wrapped : (ms : Members) → has_wrapper ms ≡ true → reads (tree.object ms) ≡ reads_wrapper ms
 wrapped ms h = ap (λ b. cond b (reads_wrapper ms) (reads_members ms >>= λ qs. Ok (model.document qs))) h
 
-pub lone_value : (k : List ℕ) (d : Data) (x : Scalar) → has_wrapper (member k d no_members) ≡ true → single_at (wrapper_of k) d ≡ Ok x → HasValue (tree.object (member k d no_members))
+pub lone_value : (k : List ℕ) (d : Data) (x : Scalar) → has_wrapper (member k d no_members) ≡ true
+    → single_at (wrapper_of k) d ≡ Ok x → HasValue (tree.object (member k d no_members))
 lone_value k d x h e = (model.scalar x, wrapped (member k d no_members) h ∙ ap scalar_value e)
 
 -- a place at a tree itself
-pub at_once : {A : Fault → List Turn → Type 0} (p : Place) → IsErrorOf wrong_shape p.error → way_of p ≡ [] → A wrong_shape [] → IsPlace A p
+pub at_once : {A : Fault → List Turn → Type 0} (p : Place) → IsErrorOf wrong_shape p.error → way_of p ≡ []
+    → A wrong_shape [] → IsPlace A p
 at_once {A} p error way a = record { fault = wrong_shape; way = subst (A wrong_shape) (sym way) a; error = error }
 
 -- two keys that are not those of code and its scope
-not_open_by_keys : (k : List ℕ) (d : Data) (l : List ℕ) (e : Data) → (bytes_eq k (codes "$code") && bytes_eq l (codes "$scope")) ≡ false → IsOpen (member k d (member l e no_members)) → ⊥
+not_open_by_keys : (k : List ℕ) (d : Data) (l : List ℕ) (e : Data)
+    → (bytes_eq k (codes "$code") && bytes_eq l (codes "$scope")) ≡ false → IsOpen (member k d (member l e no_members))
+    → ⊥
 not_open_by_keys k d l e h (code_with_scope s ms) = cc
 
-other_keys : (k : List ℕ) (d : Data) (l : List ℕ) (r : Result (Option Pairs) Fault) → (bytes_eq k (codes "$code") && bytes_eq l (codes "$scope")) ≡ false → code_at k d l r ≡ Err wrong_shape
+other_keys : (k : List ℕ) (d : Data) (l : List ℕ) (r : Result (Option Pairs) Fault)
+    → (bytes_eq k (codes "$code") && bytes_eq l (codes "$scope")) ≡ false → code_at k d l r ≡ Err wrong_shape
 other_keys k d l r h = ap (λ b. cond b (on_text d (λ s. scope_value s r)) (Err wrong_shape)) h
 
-pub not_code : (k : List ℕ) (d : Data) (l : List ℕ) (e : Data) → has_wrapper (member k d (member l e no_members)) ≡ true → (bytes_eq k (codes "$code") && bytes_eq l (codes "$scope")) ≡ false
+pub not_code : (k : List ℕ) (d : Data) (l : List ℕ) (e : Data) → has_wrapper (member k d (member l e no_members)) ≡ true
+    → (bytes_eq k (codes "$code") && bytes_eq l (codes "$scope")) ≡ false
     → FaultAt wrong_shape (tree.object (member k d (member l e no_members))) []
 not_code k d l e w h =
     let ms = member k d (member l e no_members) in
@@ -160,7 +190,8 @@ same_branches : (b : Bool) (x y : Result Value Fault) → x ≡ y → cond b x y
 same_branches true x y h = h
 same_branches false x y h = refl
 
-no_code_text : (k : List ℕ) (d : Data) (l : List ℕ) (e : Data) → ((s : List ℕ) → d ≡ tree.string s → ⊥) → code_at k d l (reads_scope e) ≡ Err wrong_shape
+no_code_text : (k : List ℕ) (d : Data) (l : List ℕ) (e : Data) → ((s : List ℕ) → d ≡ tree.string s → ⊥)
+    → code_at k d l (reads_scope e) ≡ Err wrong_shape
 no_code_text k tree.null l e h = same_branches _ _ _ refl
 no_code_text k (tree.boolean b) l e h = same_branches _ _ _ refl
 no_code_text k (tree.number n) l e h = same_branches _ _ _ refl
@@ -168,47 +199,67 @@ no_code_text k (tree.string s) l e h = absurd (h s refl)
 no_code_text k (tree.array ds) l e h = same_branches _ _ _ refl
 no_code_text k (tree.object ms) l e h = same_branches _ _ _ refl
 
-not_open_by_code : (k : List ℕ) (d : Data) (l : List ℕ) (e : Data) → ((s : List ℕ) → d ≡ tree.string s → ⊥) → IsOpen (member k d (member l e no_members)) → ⊥
+not_open_by_code : (k : List ℕ) (d : Data) (l : List ℕ) (e : Data) → ((s : List ℕ) → d ≡ tree.string s → ⊥)
+    → IsOpen (member k d (member l e no_members)) → ⊥
 not_open_by_code k d l e h (code_with_scope s ms) = h s refl
 
-pub not_text : (k : List ℕ) (d : Data) (l : List ℕ) (e : Data) → has_wrapper (member k d (member l e no_members)) ≡ true → ((s : List ℕ) → d ≡ tree.string s → ⊥)
+pub not_text : (k : List ℕ) (d : Data) (l : List ℕ) (e : Data) → has_wrapper (member k d (member l e no_members)) ≡ true
+    → ((s : List ℕ) → d ≡ tree.string s → ⊥)
     → FaultAt wrong_shape (tree.object (member k d (member l e no_members))) []
 not_text k d l e w h =
     let ms = member k d (member l e no_members) in
     shape ms w (not_open_by_code k d l e h) (wrapped ms w ∙ no_code_text k d l e h)
 
-not_open_by_scope : (k : List ℕ) (d : Data) (l : List ℕ) (e : Data) → ((ms : Members) → e ≡ tree.object ms → ⊥) → IsOpen (member k d (member l e no_members)) → ⊥
+not_open_by_scope : (k : List ℕ) (d : Data) (l : List ℕ) (e : Data) → ((ms : Members) → e ≡ tree.object ms → ⊥)
+    → IsOpen (member k d (member l e no_members)) → ⊥
 not_open_by_scope k d l e h (code_with_scope s ms) = h ms refl
 
-code_read : (k : List ℕ) (d : Data) (l : List ℕ) (s : List ℕ) (r : Result (Option Pairs) Fault) → (bytes_eq k (codes "$code") && bytes_eq l (codes "$scope")) ≡ true → d ≡ tree.string s → code_at k d l r ≡ scope_value s r
+code_read : (k : List ℕ) (d : Data) (l : List ℕ) (s : List ℕ) (r : Result (Option Pairs) Fault)
+    → (bytes_eq k (codes "$code") && bytes_eq l (codes "$scope")) ≡ true → d ≡ tree.string s
+    → code_at k d l r ≡ scope_value s r
 code_read k d l s r h e = rw e (ap (λ b. cond b (scope_value s r) (Err wrong_shape)) h)
 
-value_of_code : (k : List ℕ) (d : Data) (l : List ℕ) (e : Data) (s : List ℕ) → has_wrapper (member k d (member l e no_members)) ≡ true → (bytes_eq k (codes "$code") && bytes_eq l (codes "$scope")) ≡ true
+value_of_code : (k : List ℕ) (d : Data) (l : List ℕ) (e : Data) (s : List ℕ)
+    → has_wrapper (member k d (member l e no_members)) ≡ true
+    → (bytes_eq k (codes "$code") && bytes_eq l (codes "$scope")) ≡ true
     → d ≡ tree.string s → HasScope e → HasValue (tree.object (member k d (member l e no_members)))
-value_of_code k d l e s w h is ps = (code_value s ps.0, wrapped (member k d (member l e no_members)) w ∙ code_read k d l s (reads_scope e) h is ∙ ap (scope_value s) ps.1)
+value_of_code k d l e s w h is ps = (
+  code_value s ps.0,
+  wrapped (member k d (member l e no_members)) w ∙ code_read k d l s (reads_scope e) h is
+      ∙ ap (scope_value s) ps.1,
+)
 
-scope_way : (k : List ℕ) (d : Data) (l : List ℕ) (e : Data) (s : List ℕ) → has_wrapper (member k d (member l e no_members)) ≡ true → k ≡ codes "$code" → l ≡ codes "$scope"
-    → d ≡ tree.string s → (f : Fault) (way : List Turn) → IsScopeFault l e f way → FaultAt f (tree.object (member k d (member l e no_members))) way
+scope_way : (k : List ℕ) (d : Data) (l : List ℕ) (e : Data) (s : List ℕ)
+    → has_wrapper (member k d (member l e no_members)) ≡ true → k ≡ codes "$code" → l ≡ codes "$scope"
+    → d ≡ tree.string s → (f : Fault) (way : List Turn) → IsScopeFault l e f way
+    → FaultAt f (tree.object (member k d (member l e no_members))) way
 scope_way k d l e s w a b is f way (in_scope ms h) = rw (a, b, is) (scope s ms h)
 scope_way k d l e s w a b is f way (no_scope x none bad_scope) =
     let ms = member k d (member l e no_members) in
-    shape ms w (not_open_by_scope k d l e none) (wrapped ms w ∙ code_read k d l s (reads_scope e) (rw (a, b) refl) is ∙ ap (scope_value s) bad_scope)
+    shape ms w (not_open_by_scope k d l e none) (wrapped ms w ∙ code_read k d l s (reads_scope e) (rw (a, b) refl) is
+    ∙ ap (scope_value s) bad_scope)
 
-pub of_code : (k : List ℕ) (d : Data) (l : List ℕ) (e : Data) (r : Result (Option Place) AllocError) → has_wrapper (member k d (member l e no_members)) ≡ true
+pub of_code : (k : List ℕ) (d : Data) (l : List ℕ) (e : Data) (r : Result (Option Place) AllocError)
+    → has_wrapper (member k d (member l e no_members)) ≡ true
     → (bytes_eq k (codes "$code") && bytes_eq l (codes "$scope")) ≡ true → (s : List ℕ) × (d ≡ tree.string s)
     → IfOk r (λ found. MatchOption found (HasScope e) (IsPlace (IsScopeFault l e)))
-    → IfOk r (λ found. MatchOption found (HasValue (tree.object (member k d (member l e no_members)))) (IsPlace (λ f. FaultAt f (tree.object (member k d (member l e no_members))))))
+    → IfOk r
+    (λ found. MatchOption found (HasValue (tree.object (member k d (member l e no_members))))
+    (IsPlace (λ f. FaultAt f (tree.object (member k d (member l e no_members))))))
 of_code k d l e r w h text g =
     let keys = and_parts _ _ h in
-    found_from r (value_of_code k d l e text.0 w h text.1) (scope_way k d l e text.0 w ((bytes_eq-Decides _ _).0 keys.0) ((bytes_eq-Decides _ _).0 keys.1) text.1) g
+    found_from r (value_of_code k d l e text.0 w h text.1)
+    (scope_way k d l e text.0 w ((bytes_eq-Decides _ _).0 keys.0) ((bytes_eq-Decides _ _).0 keys.1) text.1) g
 
 pub no_number : (n : Num) → as_i64 n ≡ None → FaultAt wrong_shape (tree.number n) []
 no_number n h = number n (ap (λ o. or_wrong_shape o >>= λ z. Ok (narrowest z)) h)
 
-pub no_scope_found : (k : List ℕ) (d e : Data) (p : Place) → d ≡ e → ((ms : Members) → e ≡ tree.object ms → ⊥) → reads_scope e ≡ Err wrong_shape → IsErrorOf wrong_shape p.error → way_of p ≡ [] → IsPlace (IsScopeFault k d) p
+pub no_scope_found : (k : List ℕ) (d e : Data) (p : Place) → d ≡ e → ((ms : Members) → e ≡ tree.object ms → ⊥)
+    → reads_scope e ≡ Err wrong_shape → IsErrorOf wrong_shape p.error → way_of p ≡ [] → IsPlace (IsScopeFault k d) p
 no_scope_found k d e p is none h error way = rw is (at_once p error way (no_scope e none h))
 
-pub scope_found : (k : List ℕ) (ms : Members) (f : Fault) (way : List Turn) → FaultIn f ms way → IsScopeFault k (tree.object ms) f (way ++ key k ∷ [])
+pub scope_found : (k : List ℕ) (ms : Members) (f : Fault) (way : List Turn) → FaultIn f ms way
+    → IsScopeFault k (tree.object ms) f (way ++ key k ∷ [])
 scope_found k ms f way h = in_scope ms h
 
 pub scope_of_map : (ms : Members) → HasPairs ms → HasScope (tree.object ms)
@@ -218,7 +269,8 @@ pub inside_none : {V : Type 0} (P : Place → Type 0) (o : Option Place) → o �
 inside_none P None e h = h
 inside_none P (Some p) e h = cc
 
-pub inside_some : (V : Type 0) (P : Place → Type 0) (o : Option Place) (p : Place) → o ≡ Some p → MatchOption o V P → P p
+pub inside_some : (V : Type 0) (P : Place → Type 0) (o : Option Place) (p : Place) → o ≡ Some p → MatchOption o V P
+    → P p
 inside_some V P o p e h = subst (λ x. MatchOption x V P) e h
 
 pub is_true : {P : Type 0} (Q : Type 0) (b : Bool) → b ≡ true → MatchBool b P Q → P
@@ -230,9 +282,12 @@ is_false P true e h = cc
 is_false P false e h = h
 
 -- the error of a wrapper's value, at its key
-pub lone_place : (k : List ℕ) (d : Data) (f : Fault) (e : Error) (r : Result (Option Place) AllocError) → has_wrapper (member k d no_members) ≡ true → single_at (wrapper_of k) d ≡ Err f → IsErrorOf f e
+pub lone_place : (k : List ℕ) (d : Data) (f : Fault) (e : Error) (r : Result (Option Place) AllocError)
+    → has_wrapper (member k d no_members) ≡ true → single_at (wrapper_of k) d ≡ Err f → IsErrorOf f e
     → IfOk r (λ found. MatchOption found ⊥ (λ p. (way_of p ≡ key k ∷ []) × (p.error ≡ e)))
-    → IfOk r (λ found. MatchOption found (HasValue (tree.object (member k d no_members))) (IsPlace (λ g. FaultAt g (tree.object (member k d no_members)))))
+    → IfOk r
+    (λ found. MatchOption found (HasValue (tree.object (member k d no_members)))
+    (IsPlace (λ g. FaultAt g (tree.object (member k d no_members)))))
 lone_place k d f e (Ok None) w h is p = absurd p
 lone_place k d f e (Ok (Some place)) w h is p = record {
   fault = f;
@@ -246,24 +301,33 @@ lone_place k d f e (Err o) w h is p = tt
 never : {k l m : List ℕ} {c d e : Data} {ms : Members} → IsOpen (member k c (member l d (member m e ms))) → ⊥
 never is = elim is [ ]
 
-not_open_by_more : (x y : Member) (rest : List Member) → (length rest ≡ 0 → ⊥) → IsOpen (members_view (x ∷ y ∷ rest)) → ⊥
+not_open_by_more : (x y : Member) (rest : List Member) → (length rest ≡ 0 → ⊥) → IsOpen (members_view (x ∷ y ∷ rest))
+    → ⊥
 not_open_by_more x y [] h is = h refl
 not_open_by_more x y (z ∷ rest) h is = never is
 
-pub more_found : (es : List Member) (x y : Member) (mid rest : List Member) → es ≡ x ∷ mid → mid ≡ y ∷ rest → (length rest ≡ 0 → ⊥) → has_wrapper (members_view es) ≡ true → reads_wrapper (members_view es) ≡ Err wrong_shape
+pub more_found : (es : List Member) (x y : Member) (mid rest : List Member) → es ≡ x ∷ mid → mid ≡ y ∷ rest
+    → (length rest ≡ 0 → ⊥) → has_wrapper (members_view es) ≡ true → reads_wrapper (members_view es) ≡ Err wrong_shape
     → FaultAt wrong_shape (tree.object (members_view es)) []
-more_found es x y mid rest a b h w e = shape (members_view es) w (subst (λ l. IsOpen (members_view l) → ⊥) (sym (a ∙ ap (λ l. x ∷ l) b)) (not_open_by_more x y rest h)) (wrapped (members_view es) w ∙ e)
+more_found es x y mid rest a b h w e =
+    shape (members_view es) w (subst (λ l. IsOpen (members_view l)
+    → ⊥) (sym (a ∙ ap (λ l. x ∷ l) b)) (not_open_by_more x y rest h)) (wrapped (members_view es) w ∙ e)
 
-two_left : (x y : Member) (rest : List Member) → length rest ≡ 0 → members_view (x ∷ y ∷ rest) ≡ member (string_bytes x.0) (view x.1) (member (string_bytes y.0) (view y.1) no_members)
+two_left : (x y : Member) (rest : List Member) → length rest ≡ 0
+    → members_view (x ∷ y ∷ rest) ≡ member (string_bytes x.0) (view x.1)
+    (member (string_bytes y.0) (view y.1) no_members)
 two_left x y [] h = refl
 two_left x y (z ∷ rest) h = absurd (omega arith)
 
-pub two_members_left : (es : List Member) (x y : Member) (mid rest : List Member) → es ≡ x ∷ mid → mid ≡ y ∷ rest → length rest ≡ 0 → members_view es ≡ member (string_bytes x.0) (view x.1) (member (string_bytes y.0) (view y.1) no_members)
+pub two_members_left : (es : List Member) (x y : Member) (mid rest : List Member) → es ≡ x ∷ mid → mid ≡ y ∷ rest
+    → length rest ≡ 0
+    → members_view es ≡ member (string_bytes x.0) (view x.1) (member (string_bytes y.0) (view y.1) no_members)
 two_members_left es x y mid rest a b h = rw (a, b) (two_left x y rest h)
 
 -- ---- the text of a way
 
-pub dotted_more : (turn : Turn) (out : List Turn) → 0 < length out → dotted (turn ∷ out) ≡ dotted out ++ codes "." ++ word_of turn
+pub dotted_more : (turn : Turn) (out : List Turn) → 0 < length out
+    → dotted (turn ∷ out) ≡ dotted out ++ codes "." ++ word_of turn
 dotted_more turn [] some = absurd (omega arith)
 dotted_more turn (u ∷ out) some = refl
 

@@ -48,7 +48,8 @@ dotted (turn ∷ out ∷ more) = dotted (out ∷ more) ++ codes "." ++ word_of t
 -- an object that has one key, or the two of code with a scope that is an object
 pub data IsOpen : Members → Type 0 where
   lone : (k : List ℕ) (d : Data) → IsOpen (member k d no_members)
-  code_with_scope : (s : List ℕ) (ms : Members) → IsOpen (member (codes "$code") (tree.string s) (member (codes "$scope") (tree.object ms) no_members))
+  code_with_scope : (s : List ℕ) (ms : Members)
+      → IsOpen (member (codes "$code") (tree.string s) (member (codes "$scope") (tree.object ms) no_members))
 
 mutual
   -- the first fault of the tree, and the way from it outward
@@ -56,24 +57,32 @@ mutual
     -- a number that is no i64
     number : (n : Num) → number_read n ≡ Err wrong_shape → FaultAt wrong_shape (tree.number n) []
     array : {f : Fault} {way : List Turn} (ds : Items) → FaultAmong f 0 ds way → FaultAt f (tree.array ds) way
-    document : {f : Fault} {way : List Turn} (ms : Members) → has_wrapper ms ≡ false → FaultIn f ms way → FaultAt f (tree.object ms) way
+    document : {f : Fault} {way : List Turn} (ms : Members) → has_wrapper ms ≡ false → FaultIn f ms way
+        → FaultAt f (tree.object ms) way
     -- what stands at the key of a wrapper
-    wrapper : {f : Fault} (k : List ℕ) (d : Data) → has_wrapper (member k d no_members) ≡ true → single_at (wrapper_of k) d ≡ Err f
+    wrapper : {f : Fault} (k : List ℕ) (d : Data) → has_wrapper (member k d no_members) ≡ true
+        → single_at (wrapper_of k) d ≡ Err f
         → FaultAt f (tree.object (member k d no_members)) (key k ∷ [])
     scope : {f : Fault} {way : List Turn} (s : List ℕ) (ms : Members) → FaultIn f ms way
-        → FaultAt f (object_of_two (codes "$code") (tree.string s) (codes "$scope") (tree.object ms)) (way ++ key (codes "$scope") ∷ [])
+        → FaultAt f (object_of_two (codes "$code") (tree.string s) (codes "$scope") (tree.object ms)) (way
+        ++ key (codes "$scope") ∷ [])
     -- an object with a wrapper key that has the shape of no wrapper
-    shape : (ms : Members) → has_wrapper ms ≡ true → (IsOpen ms → ⊥) → reads (tree.object ms) ≡ Err wrong_shape → FaultAt wrong_shape (tree.object ms) []
+    shape : (ms : Members) → has_wrapper ms ≡ true → (IsOpen ms → ⊥) → reads (tree.object ms) ≡ Err wrong_shape
+        → FaultAt wrong_shape (tree.object ms) []
 
   -- of elements, the first of which has this place in its list
   pub data FaultAmong : Fault → ℕ → Items → List Turn → Type 0 where
-    here : {f : Fault} {way : List Turn} (n : ℕ) (d : Data) (ds : Items) → FaultAt f d way → FaultAmong f n (item d ds) (way ++ element n ∷ [])
-    later : {f : Fault} {way : List Turn} (n : ℕ) (d : Data) (v : Value) (ds : Items) → reads d ≡ Ok v → FaultAmong f (n + 1) ds way → FaultAmong f n (item d ds) way
+    here : {f : Fault} {way : List Turn} (n : ℕ) (d : Data) (ds : Items) → FaultAt f d way
+        → FaultAmong f n (item d ds) (way ++ element n ∷ [])
+    later : {f : Fault} {way : List Turn} (n : ℕ) (d : Data) (v : Value) (ds : Items) → reads d ≡ Ok v
+        → FaultAmong f (n + 1) ds way → FaultAmong f n (item d ds) way
 
   -- of the values of a map, by ascending key
   pub data FaultIn : Fault → Members → List Turn → Type 0 where
-    at_key : {f : Fault} {way : List Turn} (k : List ℕ) (d : Data) (ms : Members) → FaultAt f d way → FaultIn f (member k d ms) (way ++ key k ∷ [])
-    behind : {f : Fault} {way : List Turn} (k : List ℕ) (d : Data) (v : Value) (ms : Members) → reads d ≡ Ok v → FaultIn f ms way → FaultIn f (member k d ms) way
+    at_key : {f : Fault} {way : List Turn} (k : List ℕ) (d : Data) (ms : Members) → FaultAt f d way
+        → FaultIn f (member k d ms) (way ++ key k ∷ [])
+    behind : {f : Fault} {way : List Turn} (k : List ℕ) (d : Data) (v : Value) (ms : Members) → reads d ≡ Ok v
+        → FaultIn f ms way → FaultIn f (member k d ms) way
 
 -- ---- what is found
 
@@ -101,5 +110,7 @@ HasScope d = (ps : Option Pairs) × (reads_scope d ≡ Ok ps)
 
 -- why a tree that stands at this key is no scope, and the way from the fault to the object that it stands in
 pub data IsScopeFault (k : List ℕ) : Data → Fault → List Turn → Type 0 where
-  in_scope : {f : Fault} {way : List Turn} (ms : Members) → FaultIn f ms way → IsScopeFault k (tree.object ms) f (way ++ key k ∷ [])
-  no_scope : (d : Data) → ((ms : Members) → d ≡ tree.object ms → ⊥) → reads_scope d ≡ Err wrong_shape → IsScopeFault k d wrong_shape []
+  in_scope : {f : Fault} {way : List Turn} (ms : Members) → FaultIn f ms way
+      → IsScopeFault k (tree.object ms) f (way ++ key k ∷ [])
+  no_scope : (d : Data) → ((ms : Members) → d ≡ tree.object ms → ⊥) → reads_scope d ≡ Err wrong_shape
+      → IsScopeFault k d wrong_shape []

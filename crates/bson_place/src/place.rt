@@ -38,8 +38,8 @@ pub struct Place {
 }
 
 impl Place {
-    /// The way from the tree inward: keys as they are and places in lists by their numbers, with points between, as
-    /// `orders.3._id.$oid`. It is empty where the fault is the tree's own.
+    /// The way from the tree inward: keys as they are and places in lists by their numbers, with
+    /// points between, as `orders.3._id.$oid`. It is empty where the fault is the tree's own.
     pub fn path(&self, alloc: Global) -> Result<String, AllocError>
         ensures { IfOk result (λ text. string_bytes text ≡ dotted (way_of self.now)) }
     {

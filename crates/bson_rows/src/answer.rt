@@ -174,14 +174,8 @@ impl Answer {
         value: &T,
         copy: Result<T, E>,
     ) {
-        match copy {
-            Ok(copy) => {
-                if copy != *value {
-                    self.text("another ");
-                }
-                self.show(&copy)
-            }
-            Err(error) => self.refuse(&error),
+        if let Some(copy) = self.compared(value, copy) {
+            self.show(&copy);
         }
     }
 
@@ -191,14 +185,28 @@ impl Answer {
         value: &T,
         copy: Result<T, E>,
     ) {
+        if let Some(copy) = self.compared(value, copy) {
+            self.show_debug(&copy);
+        }
+    }
+
+    /// The copy, once it is told whether it is another value; or why there is none.
+    fn compared<T: PartialEq + Drop, E: Refusal>(
+        &mut self,
+        value: &T,
+        copy: Result<T, E>,
+    ) -> Option<T> {
         match copy {
             Ok(copy) => {
                 if copy != *value {
                     self.text("another ");
                 }
-                self.show_debug(&copy)
+                Some(copy)
             }
-            Err(error) => self.refuse(&error),
+            Err(error) => {
+                self.refuse(&error);
+                None
+            }
         }
     }
 

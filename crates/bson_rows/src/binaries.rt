@@ -97,7 +97,8 @@ fn as_value(alloc: Global, text: &str, out: &mut Answer) -> Outcome {
     Ok(())
 }
 
-/// `binary base64 TEXT`, `binary base64_as SUBTYPE TEXT`, `binary shown SUBTYPE BYTES`, `binary clone SUBTYPE BYTES`.
+/// `binary base64 TEXT`, `binary base64_as SUBTYPE TEXT`, `binary shown SUBTYPE BYTES`, `binary
+/// clone SUBTYPE BYTES`.
 pub(crate) fn call(alloc: Global, rest: &str, out: &mut Answer) -> Outcome {
     let (name, text) = cut(rest);
     match name {

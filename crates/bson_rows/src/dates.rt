@@ -54,7 +54,8 @@ fn of_moment(alloc: Global, name: &str, text: &str, out: &mut Answer) -> Outcome
     Ok(())
 }
 
-/// `YEAR MONTH DAY` and then any of `hour:H minute:M second:S millisecond:MS`, of which the last call of each counts.
+/// `YEAR MONTH DAY` and then any of `hour:H minute:M second:S millisecond:MS`, of which the last
+/// call of each counts.
 fn build(text: &str, out: &mut Answer) -> Outcome {
     let (year, rest) = cut(text);
     let (month, rest) = cut(rest);

@@ -1,7 +1,9 @@
-//! `document COMMAND ..` runs commands on an empty document, writes their replies, and then the document.
+//! `document COMMAND ..` runs commands on an empty document, writes their replies, and then the
+//! document.
 //!
-//! Commands: `insert:KEY:N`, `remove:KEY`, `get:KEY`, `write:KEY:N`, `write_at:PLACE:N`, `place:PLACE:N`, `entry:KEY:N`,
-//! `entry_with:KEY:N`, `key:KEY`, `len`, `clear`, `clone`, `keys`, `values`.
+//! Commands: `insert:KEY:N`, `remove:KEY`, `get:KEY`, `write:KEY:N`, `write_at:PLACE:N`,
+//! `place:PLACE:N`, `entry:KEY:N`, `entry_with:KEY:N`, `key:KEY`, `len`, `clear`, `clone`, `keys`,
+//! `values`.
 use crate::answer::Answer;
 use crate::stop::{Outcome, Stop};
 use crate::words::{cut_at_colon, number};
@@ -53,7 +55,7 @@ fn run_with(
         "write" => write_value(document, key, number::<i32>(value)?, out),
         "place" => write_place(document, number::<usize>(key)?, number::<i32>(value)?, out),
         "write_at" => write_at(document, number::<usize>(key)?, number::<i32>(value)?, out),
-        _ => of_entry(alloc, document, name, rest, out),
+        _ => of_entry(alloc, document, name, key, value, out),
     }
 }
 
@@ -111,10 +113,10 @@ fn of_entry(
     alloc: Global,
     document: &mut Document,
     name: &str,
-    rest: &str,
+    key: &str,
+    value: &str,
     out: &mut Answer,
 ) -> Outcome {
-    let (key, value) = cut_at_colon(rest);
     let key = String::from_str(alloc, key)?;
     match name {
         "key" => out.word(document.entry(key).key()),

@@ -1,5 +1,5 @@
-//! `error NAME`: the refusals that no call answers by the row's arguments alone, want of memory among them, and what is
-//! written of them in the row's style.
+//! `error NAME`: the refusals that no call answers by the row's arguments alone, want of memory
+//! among them, and what is written of them in the row's style.
 use crate::answer::Answer;
 use crate::held::value;
 use crate::stop::{Outcome, Stop};

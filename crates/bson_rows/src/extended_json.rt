@@ -1,4 +1,5 @@
-//! Trees that are read, and values that are written: `canonical`, `relaxed`, `show`, `map` and `pretty`.
+//! Trees that are read, and values that are written: `canonical`, `relaxed`, `show`, `map` and
+//! `pretty`.
 use crate::answer::{Answer, Style};
 use crate::held::{tree, value};
 use crate::steps;
@@ -23,8 +24,8 @@ pub(crate) fn call(alloc: Global, form: &str, rest: &str, out: &mut Answer) -> O
     }
 }
 
-/// `map FORM MAP`: the map is read as the value that it means. `map own MAP`: as a document, whatever its own keys
-/// are, and written canonically.
+/// `map FORM MAP`: the map is read as the value that it means. `map own MAP`: as a document,
+/// whatever its own keys are, and written canonically.
 pub(crate) fn map(alloc: Global, rest: &str, out: &mut Answer) -> Outcome {
     let (form, text) = cut(rest);
     let Value::Object(map) = tree(alloc, text)? else {

@@ -1,5 +1,5 @@
-//! `get KEY DOCUMENT`: what each typed getter of the document answers at the key, by Debug; and `get_i32 KEY DOCUMENT`,
-//! the answer of that one.
+//! `get KEY DOCUMENT`: what each typed getter of the document answers at the key, by Debug; and
+//! `get_i32 KEY DOCUMENT`, the answer of that one.
 use crate::answer::Answer;
 use crate::held::document;
 use crate::stop::Outcome;

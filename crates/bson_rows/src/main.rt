@@ -1,8 +1,9 @@
-//! The program `bson_rows`: for each line `CALL ARGS` of standard input it makes that call of the library, and writes
-//! a line with what the call answered. The rows of tests/rows are run by it.
+//! The program `bson_rows`: for each line `CALL ARGS` of standard input it makes that call of the
+//! library, and writes a line with what the call answered. The rows of tests/rows are run by it.
 //!
-//! In reading order: `row` (a line and its call), `answer` (what is written for it), `stop` (why a call gives no
-//! answer), `words` (the parts of a line), `held` (values that a line names); then the calls, a file a subject.
+//! In reading order: `row` (a line and its call), `answer` (what is written for it), `stop` (why a
+//! call gives no answer), `words` (the parts of a line), `held` (values that a line names); then
+//! the calls, a file a subject.
 #![tactic(auto)]
 
 mod answer;

@@ -1,5 +1,5 @@
-//! `timestamp T,I`, `timestamp_order T,I T,I`, `regex PATTERN OPTIONS`, `code TEXT SCOPE`, `representation ORDER`: the
-//! kinds that are small structs, by themselves.
+//! `timestamp T,I`, `timestamp_order T,I T,I`, `regex PATTERN OPTIONS`, `code TEXT SCOPE`,
+//! `representation ORDER`: the kinds that are small structs, by themselves.
 use crate::answer::Answer;
 use crate::binaries::order_of;
 use crate::held::document;

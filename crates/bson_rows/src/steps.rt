@@ -1,7 +1,9 @@
-//! Values made step by step, for those that no tree means: a step puts a value on a pile, or takes from it.
+//! Values made step by step, for those that no tree means: a step puts a value on a pile, or takes
+//! from it.
 //!
-//! `doc` and `list` begin an empty one; `put:KEY` and `add` put the topmost value into the document or the list below
-//! it; `scope:CODE` makes code of the document on top; each other step is a value of its kind.
+//! `doc` and `list` begin an empty one; `put:KEY` and `add` put the topmost value into the document
+//! or the list below it; `scope:CODE` makes code of the document on top; each other step is a value
+//! of its kind.
 use crate::stop::Stop;
 use crate::words::{byte_of, bytes_of, cut_at_colon, number, pattern_of, sixteen};
 use bson::binary::Binary;

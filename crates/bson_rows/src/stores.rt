@@ -1,8 +1,8 @@
-//! `store small|indexed COMMAND ..` runs commands on an empty store, and `replay` runs them by the library's own call;
-//! the replies are written, and then the pairs that the store holds.
+//! `store small|indexed COMMAND ..` runs commands on an empty store, and `replay` runs them by the
+//! library's own call; the replies are written, and then the pairs that the store holds.
 //!
-//! Commands: `put:KEY:N`, `take:KEY`, `clear`; of `store` alone: `push:KEY:N`, `find:KEY`, `at:PLACE`,
-//! `write:PLACE:N`, `write_pair:PLACE:N`, `remove_at:PLACE`, `above:KEY`, `first`.
+//! Commands: `put:KEY:N`, `take:KEY`, `clear`; of `store` alone: `push:KEY:N`, `find:KEY`,
+//! `at:PLACE`, `write:PLACE:N`, `write_pair:PLACE:N`, `remove_at:PLACE`, `above:KEY`, `first`.
 use crate::answer::Answer;
 use crate::stop::{Outcome, Stop};
 use crate::words::{cut, cut_at_colon, number};

@@ -19,7 +19,8 @@ pub(crate) fn put_element(element: ElementType, out: &mut Answer) {
     out.hex(&[element.tag()]);
 }
 
-/// The subtype of the byte, its byte again, and its hexadecimal digits. `own BYTE` and `reserved BYTE` are declared so.
+/// The subtype of the byte, its byte again, and its hexadecimal digits. `own BYTE` and `reserved
+/// BYTE` are declared so.
 pub(crate) fn subtype(rest: &str, out: &mut Answer) -> Outcome {
     let (name, text) = cut(rest);
     let subtype = match name {

@@ -9,7 +9,8 @@ use Rattle.bson_model.proofs.Offered.{means_one}
 use Rattle.bson.specs.Texts.{IsTextIn}
 use Rattle.bson_run.specs.Convert.{IsWritten, newline}
 
-pub is_written : (f : Form) (v : Value) (text output : List ℕ) → IsReadForm v → IsTextIn f v text → output ≡ text ++ newline → IsWritten f v output
+pub is_written : (f : Form) (v : Value) (text output : List ℕ) → IsReadForm v → IsTextIn f v text
+    → output ≡ text ++ newline → IsWritten f v output
 is_written f v text output p i l =
     let t = i.tree in
     let has = i.reads_again p.0 in

@@ -1,12 +1,17 @@
 -- How the lines of bytes grow with the bytes, and how far a run has come.
-use Rattle.std.proofs.Common.{◌≡◌, ◌≢◌, ◌<◌, ◌+◌, ℕ, List, [], ◌∷◌, ◌++◌, cond, length, drop, take, refl, ap, sym, subst, ◌∙◌, append_assoc, append-nil, length-append, arith, ne_eqb, ◌-◌, suc, get_or, add-one, take-append-drop, Result, Ok, Err, IfOk, IfErr, OnOk, OnErr}
+use Rattle.std.proofs.Common.{◌≡◌, ◌≢◌, ◌<◌, ◌+◌, ℕ, List, [], ◌∷◌, ◌++◌, cond, length, drop, take, refl, ap, sym}
+use Rattle.std.proofs.Common.{subst, ◌∙◌, append_assoc, append-nil, length-append, arith, ne_eqb, ◌-◌, suc, get_or}
+use Rattle.std.proofs.Common.{add-one, take-append-drop, Result, Ok, Err, IfOk, IfErr, OnOk, OnErr}
 use Rattle.std.proofs.Math.Seq.{drop-cons}
 use Rattle.std.proofs.lemmas.List.{take_rest}
 use Rattle.std.proofs.lemmas.List.Elements.{All-append, All-head, All-tail}
-use Rattle.bson_run.specs.Lines.{lines, onto_first, text_of, Tells, IsBlank, IsBadText, Writes, Outcomes, blank, written, passed_over, IsStopped, IsStoppedAt}
-use Rattle.bson_run.specs.LinesSteps.{IsFirst, IsStoppedOver, IsOpen, IsJudged, IsTold, HaveSameOutcomes, TakesLine, Progress, Takes, Ends, Reached, Stopped, StopsWithin, StopsLast}
+use Rattle.bson_run.specs.Lines.{lines, onto_first, text_of, Tells, IsBlank, IsBadText, Writes, Outcomes, blank}
+use Rattle.bson_run.specs.Lines.{written, passed_over, IsStopped, IsStoppedAt}
+use Rattle.bson_run.specs.LinesSteps.{IsFirst, IsStoppedOver, IsOpen, IsJudged, IsTold, HaveSameOutcomes, TakesLine}
+use Rattle.bson_run.specs.LinesSteps.{Progress, Takes, Ends, Reached, Stopped, StopsWithin, StopsLast}
 use Rattle.bson_run.specs.declared.fault.Fault.{Fault}
-use Rattle.bson_run.specs.declared.fault.Fault.TheVariants.{CannotRead, NotJson, BadObjectId, NotExtendedJson, OutOfMemory, CannotWrite}
+use Rattle.bson_run.specs.declared.fault.Fault.TheVariants.{CannotRead, NotJson, BadObjectId, NotExtendedJson}
+use Rattle.bson_run.specs.declared.fault.Fault.TheVariants.{OutOfMemory, CannotWrite}
 use Rattle.bson_run.specs.declared.gathered.Gathered.{Gathered}
 use Rattle.bson_run.specs.declared.order.OnRefusal.{OnRefusal}
 use Rattle.bson_run.specs.declared.order.Task.{Task}
@@ -15,7 +20,8 @@ use Rattle.bson_run.specs.declared.order.Task.{Task}
 lines_ended : (line more : List ℕ) → IsOpen line → lines (line ++ 10 ∷ more) ≡ line ∷ lines more
 lines_ended [] more h = refl
 lines_ended (x ∷ xs) more h =
-    ap (λ b. cond b ([] ∷ lines (xs ++ 10 ∷ more)) (onto_first x (lines (xs ++ 10 ∷ more)))) (ne_eqb x 10 (All-head (λ y. y ≢ 10) x xs h))
+    ap (λ b. cond b ([] ∷ lines (xs ++ 10 ∷ more)) (onto_first x (lines (xs ++ 10 ∷ more))))
+    (ne_eqb x 10 (All-head (λ y. y ≢ 10) x xs h))
     ∙ ap (onto_first x) (lines_ended xs more (All-tail (λ y. y ≢ 10) x xs h))
 
 -- a last line that no newline ends
@@ -23,7 +29,8 @@ lines_last : (line : List ℕ) → IsOpen line → 0 < length line → lines lin
 lines_last [] h some = absurd (omega arith)
 lines_last (x ∷ []) h some = ap (λ b. cond b ([] ∷ []) (onto_first x [])) (ne_eqb x 10 (All-head (λ y. y ≢ 10) x [] h))
 lines_last (x ∷ y ∷ xs) h some =
-    ap (λ b. cond b ([] ∷ lines (y ∷ xs)) (onto_first x (lines (y ∷ xs)))) (ne_eqb x 10 (All-head (λ z. z ≢ 10) x (y ∷ xs) h))
+    ap (λ b. cond b ([] ∷ lines (y ∷ xs)) (onto_first x (lines (y ∷ xs))))
+    (ne_eqb x 10 (All-head (λ z. z ≢ 10) x (y ∷ xs) h))
     ∙ ap (onto_first x) (lines_last (y ∷ xs) (All-tail (λ z. z ≢ 10) x (y ∷ xs) h) (omega arith))
 
 pub open_nil : IsOpen []
@@ -37,7 +44,8 @@ judged_bad NotExtendedJson text h other = h
 judged_bad OutOfMemory text h other = absurd (other refl)
 judged_bad CannotWrite text h other = h
 
-stopped_at : (on_refusal : OnRefusal) (fault : Fault) (n : ℕ) (line : List ℕ) (others : List (List ℕ)) → IsStopped on_refusal fault (text_of n line) → IsStoppedAt on_refusal fault n (line ∷ others)
+stopped_at : (on_refusal : OnRefusal) (fault : Fault) (n : ℕ) (line : List ℕ) (others : List (List ℕ))
+    → IsStopped on_refusal fault (text_of n line) → IsStoppedAt on_refusal fault n (line ∷ others)
 stopped_at on_refusal CannotRead n line others h = h
 stopped_at on_refusal NotJson n line others h = h
 stopped_at on_refusal BadObjectId n line others h = h
@@ -46,7 +54,8 @@ stopped_at on_refusal OutOfMemory n line others h = h
 stopped_at on_refusal CannotWrite n line others h = h
 
 -- the line that is gathered is the first of the others
-first_at : (fault : Fault) (line : List ℕ) (number n : ℕ) (others : List (List ℕ)) → n ≡ number → IsFirst fault line number n (line ∷ others)
+first_at : (fault : Fault) (line : List ℕ) (number n : ℕ) (others : List (List ℕ)) → n ≡ number
+    → IsFirst fault line number n (line ∷ others)
 first_at CannotRead line number n others e = tt
 first_at NotJson line number n others e = (others, refl, e)
 first_at BadObjectId line number n others e = (others, refl, e)
@@ -54,33 +63,43 @@ first_at NotExtendedJson line number n others e = (others, refl, e)
 first_at OutOfMemory line number n others e = tt
 first_at CannotWrite line number n others e = tt
 
-stopped_over : (on_refusal : OnRefusal) (fault : Fault) (n : ℕ) (line : List ℕ) (others : List (List ℕ)) (t : Gathered) → t.line.items ≡ line → n ≡ t.lines → IsStopped on_refusal fault (text_of n line) → IsStoppedOver on_refusal t fault n (line ∷ others)
-stopped_over on_refusal fault n line others t e number h =
-    (stopped_at on_refusal fault n line others h, subst (λ l. IsFirst fault l t.lines n (line ∷ others)) (sym e) (first_at fault line t.lines n others number))
+stopped_over : (on_refusal : OnRefusal) (fault : Fault) (n : ℕ) (line : List ℕ) (others : List (List ℕ)) (t : Gathered)
+    → t.line.items ≡ line → n ≡ t.lines → IsStopped on_refusal fault (text_of n line)
+    → IsStoppedOver on_refusal t fault n (line ∷ others)
+stopped_over on_refusal fault n line others t e number h = (
+  stopped_at on_refusal fault n line others h,
+  subst (λ l. IsFirst fault l t.lines n (line ∷ others)) (sym e) (first_at fault line t.lines n others number),
+)
 
 lines_none : (line : List ℕ) → length line ≡ 0 → lines line ≡ []
 lines_none [] none = refl
 lines_none (x ∷ xs) none = absurd (omega arith)
 
-by_memory : (on_refusal : OnRefusal) (fault : Fault) (n : ℕ) (others : List (List ℕ)) (t : Gathered) → fault ≡ OutOfMemory → IsStoppedOver on_refusal t fault n others
+by_memory : (on_refusal : OnRefusal) (fault : Fault) (n : ℕ) (others : List (List ℕ)) (t : Gathered)
+    → fault ≡ OutOfMemory → IsStoppedOver on_refusal t fault n others
 by_memory on_refusal fault n others t e = subst (λ f. IsStoppedOver on_refusal t f n others) (sym e) (tt, tt)
 
 -- a newline among bytes
-at_newline : (rest : List ℕ) (n : ℕ) → n < length rest → get_or rest n 0 ≡ 10 → rest ≡ take n rest ++ 10 ∷ drop (n + 1) rest
+at_newline : (rest : List ℕ) (n : ℕ) → n < length rest → get_or rest n 0 ≡ 10
+    → rest ≡ take n rest ++ 10 ∷ drop (n + 1) rest
 at_newline rest n h is =
-    let after : drop n rest ≡ 10 ∷ drop (n + 1) rest = drop-cons rest n 0 h ∙ ap (λ x. x ∷ drop (suc n) rest) is ∙ ap (λ k. 10 ∷ drop k rest) (sym (add-one n)) in
+    let after : drop n rest ≡ 10 ∷ drop (n + 1) rest =
+    drop-cons rest n 0 h ∙ ap (λ x. x ∷ drop (suc n) rest) is ∙ ap (λ k. 10 ∷ drop k rest) (sym (add-one n)) in
     sym (take-append-drop n rest) ∙ ap (λ l. take n rest ++ l) after
 
 -- the bytes behind it
-pub regrouped : (taken rest : List ℕ) (n : ℕ) → n < length rest → get_or rest n 0 ≡ 10 → taken ++ rest ≡ (taken ++ (take n rest ++ 10 ∷ [])) ++ take (length rest - (n + 1)) (drop (n + 1) rest)
+pub regrouped : (taken rest : List ℕ) (n : ℕ) → n < length rest → get_or rest n 0 ≡ 10
+    → taken ++ rest ≡ (taken ++ (take n rest ++ 10 ∷ [])) ++ take (length rest - (n + 1)) (drop (n + 1) rest)
 regrouped taken rest n h is =
     let tail = drop (n + 1) rest in
-    ap (λ l. taken ++ l) (at_newline rest n h is ∙ sym (append_assoc (take n rest) (10 ∷ []) tail)) ∙ sym (append_assoc taken (take n rest ++ 10 ∷ []) tail)
+    ap (λ l. taken ++ l) (at_newline rest n h is ∙ sym (append_assoc (take n rest) (10 ∷ []) tail))
+    ∙ sym (append_assoc taken (take n rest ++ 10 ∷ []) tail)
     ∙ ap (λ l. (taken ++ (take n rest ++ 10 ∷ [])) ++ l) (sym (take_rest rest (n + 1)))
 
 -- ---- results
 
-pub errs : {X E : Type 0} {P Q : E → Type 0} {A : Type 0} (r : Result X E) → OnErr r A → IfErr r P → ((e : E) → A → P e → Q e) → IfErr r Q
+pub errs : {X E : Type 0} {P Q : E → Type 0} {A : Type 0} (r : Result X E) → OnErr r A → IfErr r P
+    → ((e : E) → A → P e → Q e) → IfErr r Q
 errs (Ok x) a p f = tt
 errs (Err e) a p f = f e a p
 
@@ -99,42 +118,57 @@ oks (Err e) p f = tt
 module _ {task : Task} {on_refusal : OnRefusal} where
   -- ---- what a line gives
 
-  pub blank_taken : (s t : Gathered) → t.line.items ≡ [] → t.lines ≡ s.lines + 1 → t.output.items ≡ s.output.items → t.told.items ≡ s.told.items → t.refused ≡ s.refused
+  pub blank_taken : (s t : Gathered) → t.line.items ≡ [] → t.lines ≡ s.lines + 1 → t.output.items ≡ s.output.items
+      → t.told.items ≡ s.told.items → t.refused ≡ s.refused
       → IsBlank (text_of s.lines s.line.items) → TakesLine task on_refusal s t
   blank_taken s t line number output told refused h = record {
     line = line;
     lines = number;
-    outcomes = λ before written verdicts e p. rw (output, told, refused) (blank s.line.items p (subst (λ n. IsBlank (text_of n s.line.items)) e h));
+    outcomes =
+        λ before written verdicts e p. rw (output, told, refused)
+        (blank s.line.items p (subst (λ n. IsBlank (text_of n s.line.items)) e h));
   }
 
-  pub written_taken : (s t : Gathered) (more : List ℕ) → t.line.items ≡ [] → t.lines ≡ s.lines + 1 → t.output.items ≡ s.output.items ++ more → t.told.items ≡ s.told.items → t.refused ≡ s.refused
+  pub written_taken : (s t : Gathered) (more : List ℕ) → t.line.items ≡ [] → t.lines ≡ s.lines + 1
+      → t.output.items ≡ s.output.items ++ more → t.told.items ≡ s.told.items → t.refused ≡ s.refused
       → Writes task (text_of s.lines s.line.items) more → TakesLine task on_refusal s t
   written_taken s t more line number grown told refused h = record {
     line = line;
     lines = number;
-    outcomes = λ before output verdicts e p. rw (grown, told, refused, ← append_assoc output s.output.items more) (written s.line.items more p (subst (λ n. Writes task (text_of n s.line.items) more) e h));
+    outcomes =
+        λ before output verdicts e p. rw (grown, told, refused, ← append_assoc output s.output.items more)
+        (written s.line.items more p (subst (λ n. Writes task (text_of n s.line.items) more) e h));
   }
 
-  pub told_taken : (s t : Gathered) (fault : Fault) → t.line.items ≡ [] → t.lines ≡ s.lines + 1 → t.output.items ≡ s.output.items → t.refused ≡ s.refused + 1
-      → IsBadText fault (text_of s.lines s.line.items) → IsTold on_refusal (s.lines + 1) fault (text_of s.lines s.line.items) s.told.items t.told.items → TakesLine task on_refusal s t
+  pub told_taken : (s t : Gathered) (fault : Fault) → t.line.items ≡ [] → t.lines ≡ s.lines + 1
+      → t.output.items ≡ s.output.items → t.refused ≡ s.refused + 1
+      → IsBadText fault (text_of s.lines s.line.items)
+      → IsTold on_refusal (s.lines + 1) fault (text_of s.lines s.line.items) s.told.items t.told.items
+      → TakesLine task on_refusal s t
   told_taken s t fault line number output refused h told = record {
     line = line;
     lines = number;
     outcomes = λ before written verdicts e p.
         rw (output, told.2, refused, ← append_assoc verdicts s.told.items told.0)
-        (passed_over s.line.items fault told.0 p (subst (λ n. IsBadText fault (text_of n s.line.items)) e h) (subst (λ n. Tells on_refusal (n + 1) fault (text_of n s.line.items) told.0) e (told.1 h)));
+        (passed_over s.line.items fault told.0 p (subst (λ n. IsBadText fault (text_of n s.line.items)) e h)
+        (subst (λ n. Tells on_refusal (n + 1) fault (text_of n s.line.items) told.0) e (told.1 h)));
   }
 
   -- ---- taking bytes
 
   pub take_nothing : (s : Gathered) → Takes task on_refusal [] s s
-  take_nothing s before output told p = subst (λ l. Progress task on_refusal l output told s) (sym (append-nil before)) p
+  take_nothing s before output told p =
+      subst (λ l. Progress task on_refusal l output told s) (sym (append-nil before)) p
 
-  pub take_more : (xs ys : List ℕ) (s t u : Gathered) → Takes task on_refusal xs s t → Takes task on_refusal ys t u → Takes task on_refusal (xs ++ ys) s u
-  take_more xs ys s t u f g before output told p = subst (λ l. Progress task on_refusal l output told u) (append_assoc before xs ys) (g (before ++ xs) output told (f before output told p))
+  pub take_more : (xs ys : List ℕ) (s t u : Gathered) → Takes task on_refusal xs s t → Takes task on_refusal ys t u
+      → Takes task on_refusal (xs ++ ys) s u
+  take_more xs ys s t u f g before output told p =
+      subst (λ l. Progress task on_refusal l output told u) (append_assoc before xs ys)
+      (g (before ++ xs) output told (f before output told p))
 
   -- a piece of the line
-  pub piece_taken : (piece : List ℕ) (s t : Gathered) → IsOpen piece → t.line.items ≡ s.line.items ++ piece → HaveSameOutcomes s t → Takes task on_refusal piece s t
+  pub piece_taken : (piece : List ℕ) (s t : Gathered) → IsOpen piece → t.line.items ≡ s.line.items ++ piece
+      → HaveSameOutcomes s t → Takes task on_refusal piece s t
   piece_taken piece s t h e same before output told p = record {
     done = p.done;
     whole = λ more. ap lines (append_assoc before piece more) ∙ p.whole (piece ++ more)
@@ -162,7 +196,8 @@ module _ {task : Task} {on_refusal : OnRefusal} where
 
   -- ---- stopping
 
-  pub reached : {bytes output told : List ℕ} {s : Gathered} (t : Gathered) (more : List ℕ) → HaveSameOutcomes s t → Progress task on_refusal bytes output told s → Reached task on_refusal (bytes ++ more) output told t
+  pub reached : {bytes output told : List ℕ} {s : Gathered} (t : Gathered) (more : List ℕ) → HaveSameOutcomes s t
+      → Progress task on_refusal bytes output told s → Reached task on_refusal (bytes ++ more) output told t
   reached {s} t more same p = record {
     done = p.done;
     others = lines (s.line.items ++ more);
@@ -171,11 +206,14 @@ module _ {task : Task} {on_refusal : OnRefusal} where
     outcomes = rw (same.output, same.told, same.refused) p.outcomes;
   }
 
-  pub stops_after : (xs ys : List ℕ) (fault : Fault) (number : ℕ) (s t u : Gathered) → Takes task on_refusal xs s t → StopsWithin task on_refusal ys fault number t u → StopsWithin task on_refusal (xs ++ ys) fault number s u
+  pub stops_after : (xs ys : List ℕ) (fault : Fault) (number : ℕ) (s t u : Gathered) → Takes task on_refusal xs s t
+      → StopsWithin task on_refusal ys fault number t u → StopsWithin task on_refusal (xs ++ ys) fault number s u
   stops_after xs ys fault number s t u f g before output told more p =
-      subst (λ l. Stopped task on_refusal (l ++ more) output told fault number u) (append_assoc before xs ys) (g (before ++ xs) output told more (f before output told p))
+      subst (λ l. Stopped task on_refusal (l ++ more) output told fault number u) (append_assoc before xs ys)
+      (g (before ++ xs) output told more (f before output told p))
 
-  pub memory_stops : (bytes : List ℕ) (fault : Fault) (number : ℕ) (s t : Gathered) → fault ≡ OutOfMemory → number ≡ s.lines + 1 → HaveSameOutcomes s t → StopsWithin task on_refusal bytes fault number s t
+  pub memory_stops : (bytes : List ℕ) (fault : Fault) (number : ℕ) (s t : Gathered) → fault ≡ OutOfMemory
+      → number ≡ s.lines + 1 → HaveSameOutcomes s t → StopsWithin task on_refusal bytes fault number s t
   memory_stops bytes fault number s t e n same before output told more p = record {
     reached = record {
       done = p.done;
@@ -188,41 +226,57 @@ module _ {task : Task} {on_refusal : OnRefusal} where
     reason = by_memory on_refusal fault (length p.done) (lines (s.line.items ++ (bytes ++ more))) t e;
   }
 
-  pub line_stops : (bytes : List ℕ) (fault : Fault) (number : ℕ) (s t : Gathered) → IsStopped on_refusal fault (text_of s.lines s.line.items) → number ≡ s.lines + 1 → HaveSameOutcomes s t → t.line.items ≡ s.line.items → StopsWithin task on_refusal (10 ∷ bytes) fault number s t
+  pub line_stops : (bytes : List ℕ) (fault : Fault) (number : ℕ) (s t : Gathered)
+      → IsStopped on_refusal fault (text_of s.lines s.line.items) → number ≡ s.lines + 1 → HaveSameOutcomes s t
+      → t.line.items ≡ s.line.items → StopsWithin task on_refusal (10 ∷ bytes) fault number s t
   line_stops bytes fault number s t h n same line before output told more p = record {
     reached = record {
       done = p.done;
       others = s.line.items ∷ lines (bytes ++ more);
-      whole = ap lines (append_assoc before (10 ∷ bytes) more) ∙ p.whole (10 ∷ bytes ++ more) ∙ ap (λ l. p.done ++ l) (lines_ended s.line.items (bytes ++ more) p.unbroken);
+      whole = ap lines (append_assoc before (10 ∷ bytes) more) ∙ p.whole (10 ∷ bytes ++ more)
+          ∙ ap (λ l. p.done ++ l) (lines_ended s.line.items (bytes ++ more) p.unbroken);
       counted = same.lines ∙ p.counted;
       outcomes = rw (same.output, same.told, same.refused) p.outcomes;
     };
     line = n ∙ ap (λ k. k + 1) (sym same.lines);
-    reason = stopped_over on_refusal fault (length p.done) s.line.items (lines (bytes ++ more)) t line (sym (same.lines ∙ p.counted)) (subst (λ k. IsStopped on_refusal fault (text_of k s.line.items)) p.counted h);
+    reason =
+        stopped_over on_refusal fault (length p.done) s.line.items (lines (bytes ++ more)) t line
+        (sym (same.lines ∙ p.counted)) (subst (λ k. IsStopped on_refusal fault (text_of k s.line.items)) p.counted h);
   }
 
   -- ---- the last line
 
-  last_whole : {bytes output told : List ℕ} {s : Gathered} → (p : Progress task on_refusal bytes output told s) → lines bytes ≡ p.done ++ lines s.line.items
-  last_whole {bytes} {s} p = ap lines (sym (append-nil bytes)) ∙ p.whole [] ∙ ap (λ l. p.done ++ lines l) (append-nil s.line.items)
+  last_whole : {bytes output told : List ℕ} {s : Gathered} → (p : Progress task on_refusal bytes output told s)
+      → lines bytes ≡ p.done ++ lines s.line.items
+  last_whole {bytes} {s} p =
+      ap lines (sym (append-nil bytes)) ∙ p.whole [] ∙ ap (λ l. p.done ++ lines l) (append-nil s.line.items)
 
   pub no_last : (s : Gathered) → length s.line.items ≡ 0 → Ends task on_refusal s s
   no_last s none before output told p =
-      let all : lines before ≡ p.done = last_whole p ∙ ap (λ l. p.done ++ l) (lines_none s.line.items none) ∙ append-nil p.done in
+      let all : lines before ≡ p.done =
+      last_whole p ∙ ap (λ l. p.done ++ l) (lines_none s.line.items none) ∙ append-nil p.done in
       record {
         counted = p.counted ∙ ap length (sym all);
-        outcomes = subst (λ l. Outcomes task on_refusal l (output ++ s.output.items) (told ++ s.told.items) s.refused) (sym all) p.outcomes;
+        outcomes =
+            subst (λ l. Outcomes task on_refusal l (output ++ s.output.items) (told ++ s.told.items) s.refused)
+            (sym all) p.outcomes;
       }
 
   pub last_taken : (s t : Gathered) → 0 < length s.line.items → TakesLine task on_refusal s t → Ends task on_refusal s t
   last_taken s t some taken before output told p =
-      let all : lines before ≡ p.done ++ s.line.items ∷ [] = last_whole p ∙ ap (λ l. p.done ++ l) (lines_last s.line.items p.unbroken some) in
+      let all : lines before ≡ p.done ++ s.line.items ∷ [] =
+      last_whole p ∙ ap (λ l. p.done ++ l) (lines_last s.line.items p.unbroken some) in
       record {
-        counted = taken.lines ∙ ap (λ n. n + 1) p.counted ∙ sym (length-append p.done (s.line.items ∷ [])) ∙ ap length (sym all);
-        outcomes = subst (λ l. Outcomes task on_refusal l (output ++ t.output.items) (told ++ t.told.items) t.refused) (sym all) (taken.outcomes p.done output told p.counted p.outcomes);
+        counted = taken.lines ∙ ap (λ n. n + 1) p.counted ∙ sym (length-append p.done (s.line.items ∷ []))
+            ∙ ap length (sym all);
+        outcomes =
+            subst (λ l. Outcomes task on_refusal l (output ++ t.output.items) (told ++ t.told.items) t.refused)
+            (sym all) (taken.outcomes p.done output told p.counted p.outcomes);
       }
 
-  pub last_stops : (fault : Fault) (number : ℕ) (s t : Gathered) → 0 < length s.line.items → IsStopped on_refusal fault (text_of s.lines s.line.items) → number ≡ s.lines + 1 → HaveSameOutcomes s t → t.line.items ≡ s.line.items → StopsLast task on_refusal fault number s t
+  pub last_stops : (fault : Fault) (number : ℕ) (s t : Gathered) → 0 < length s.line.items
+      → IsStopped on_refusal fault (text_of s.lines s.line.items) → number ≡ s.lines + 1 → HaveSameOutcomes s t
+      → t.line.items ≡ s.line.items → StopsLast task on_refusal fault number s t
   last_stops fault number s t some h n same line before output told p = record {
     reached = record {
       done = p.done;
@@ -232,22 +286,36 @@ module _ {task : Task} {on_refusal : OnRefusal} where
       outcomes = rw (same.output, same.told, same.refused) p.outcomes;
     };
     line = n ∙ ap (λ k. k + 1) (sym same.lines);
-    reason = stopped_over on_refusal fault (length p.done) s.line.items [] t line (sym (same.lines ∙ p.counted)) (subst (λ k. IsStopped on_refusal fault (text_of k s.line.items)) p.counted h);
+    reason =
+        stopped_over on_refusal fault (length p.done) s.line.items [] t line (sym (same.lines ∙ p.counted))
+        (subst (λ k. IsStopped on_refusal fault (text_of k s.line.items)) p.counted h);
   }
 
   -- ---- a line that ends among bytes
 
-  pub line_taken : (front : List ℕ) (s t u : Gathered) → IsOpen front → t.line.items ≡ s.line.items ++ front → HaveSameOutcomes s t → TakesLine task on_refusal t u → Takes task on_refusal (front ++ 10 ∷ []) s u
-  line_taken front s t u h e same taken = take_more front (10 ∷ []) s t u (piece_taken front s t h e same) (newline_taken t u taken)
+  pub line_taken : (front : List ℕ) (s t u : Gathered) → IsOpen front → t.line.items ≡ s.line.items ++ front
+      → HaveSameOutcomes s t → TakesLine task on_refusal t u → Takes task on_refusal (front ++ 10 ∷ []) s u
+  line_taken front s t u h e same taken =
+      take_more front (10 ∷ []) s t u (piece_taken front s t h e same) (newline_taken t u taken)
 
-  pub line_stops_in : (rest : List ℕ) (n : ℕ) (fault : Fault) (number : ℕ) (s t u : Gathered) → n < length rest → IsOpen (take n rest) → get_or rest n 0 ≡ 10
-      → t.line.items ≡ s.line.items ++ take n rest → HaveSameOutcomes s t → IsStopped on_refusal fault (text_of t.lines t.line.items) → number ≡ t.lines + 1 → HaveSameOutcomes t u → u.line.items ≡ t.line.items → StopsWithin task on_refusal rest fault number s u
+  pub line_stops_in : (rest : List ℕ) (n : ℕ) (fault : Fault) (number : ℕ) (s t u : Gathered) → n < length rest
+      → IsOpen (take n rest) → get_or rest n 0 ≡ 10
+      → t.line.items ≡ s.line.items ++ take n rest → HaveSameOutcomes s t
+      → IsStopped on_refusal fault (text_of t.lines t.line.items) → number ≡ t.lines + 1 → HaveSameOutcomes t u
+      → u.line.items ≡ t.line.items → StopsWithin task on_refusal rest fault number s u
   line_stops_in rest n fault number s t u within h is e same stops number_is kept line =
       subst (λ l. StopsWithin task on_refusal l fault number s u) (sym (at_newline rest n within is))
-      (stops_after (take n rest) (10 ∷ drop (n + 1) rest) fault number s t u (piece_taken (take n rest) s t h e same) (line_stops (drop (n + 1) rest) fault number t u stops number_is kept line))
+      (stops_after (take n rest) (10 ∷ drop (n + 1) rest) fault number s t u (piece_taken (take n rest) s t h e same)
+      (line_stops (drop (n + 1) rest) fault number t u stops number_is kept line))
 
-  pub whole_stops : (bytes taken rest : List ℕ) (fault : Fault) (number : ℕ) (s t u : Gathered) → bytes ≡ taken ++ rest → Takes task on_refusal taken s t → StopsWithin task on_refusal rest fault number t u → StopsWithin task on_refusal bytes fault number s u
-  whole_stops bytes taken rest fault number s t u e f g = subst (λ l. StopsWithin task on_refusal l fault number s u) (sym e) (stops_after taken rest fault number s t u f g)
+  pub whole_stops : (bytes taken rest : List ℕ) (fault : Fault) (number : ℕ) (s t u : Gathered) → bytes ≡ taken ++ rest
+      → Takes task on_refusal taken s t → StopsWithin task on_refusal rest fault number t u
+      → StopsWithin task on_refusal bytes fault number s u
+  whole_stops bytes taken rest fault number s t u e f g =
+      subst (λ l. StopsWithin task on_refusal l fault number s u) (sym e)
+      (stops_after taken rest fault number s t u f g)
 
-  pub whole_taken : (bytes taken rest : List ℕ) (s t u : Gathered) → bytes ≡ taken ++ rest → Takes task on_refusal taken s t → Takes task on_refusal rest t u → Takes task on_refusal bytes s u
-  whole_taken bytes taken rest s t u e f g = subst (λ l. Takes task on_refusal l s u) (sym e) (take_more taken rest s t u f g)
+  pub whole_taken : (bytes taken rest : List ℕ) (s t u : Gathered) → bytes ≡ taken ++ rest
+      → Takes task on_refusal taken s t → Takes task on_refusal rest t u → Takes task on_refusal bytes s u
+  whole_taken bytes taken rest s t u e f g =
+      subst (λ l. Takes task on_refusal l s u) (sym e) (take_more taken rest s t u f g)

@@ -17,14 +17,16 @@ use Rattle.bson.specs.TextMeaning.{IsTextOf, IsNoText}
 use Rattle.bson_run.specs.declared.mode.Mode.{Mode}
 use Rattle.bson_run.specs.declared.mode.Mode.TheVariants.{Canonical, Relaxed, Show}
 use Rattle.bson_run.specs.declared.fault.Fault.{Fault}
-use Rattle.bson_run.specs.declared.fault.Fault.TheVariants.{CannotRead, NotJson, BadObjectId, NotExtendedJson, OutOfMemory, CannotWrite}
+use Rattle.bson_run.specs.declared.fault.Fault.TheVariants.{CannotRead, NotJson, BadObjectId, NotExtendedJson}
+use Rattle.bson_run.specs.declared.fault.Fault.TheVariants.{OutOfMemory, CannotWrite}
 
 -- ---- the output
 
 abbrev pub newline : List ℕ
 newline = 10 ∷ []
 
--- the compact text of the tree and a newline; where the tree nests no deeper than a text may, its text reads as the tree
+-- the compact text of the tree and a newline; where the tree nests no deeper than a text may, its text reads as the
+-- tree
 pub record IsLineOf (tree : Data) (output : List ℕ) : Type 0 where
   pub text : output ≡ compact_text tree ++ newline
   pub read_again : depth tree ≤ max_depth → read (compact_text tree) ≡ Some tree

@@ -1,13 +1,16 @@
 -- What a run over lines does: each line of the input is a text of its own.
-use Rattle.std.specs.Prelude.{◌≡◌, ◌⊎◌, ◌+◌, ◌==◌, ◌&&◌, ℕ, List, [], ◌∷◌, ◌++◌, Option, None, Some, length, drop, codes, All, if◌then◌else◌}
+use Rattle.std.specs.Prelude.{◌≡◌, ◌⊎◌, ◌+◌, ◌==◌, ◌&&◌, ℕ, List, [], ◌∷◌, ◌++◌, Option, None, Some, length, drop}
+use Rattle.std.specs.Prelude.{codes, All, if◌then◌else◌}
 use Rattle.std.specs.Fmt.{decimal}
 use Rattle.std.specs.List.{starts_with}
 use Rattle.std.specs.Io.KnownBytes.{Appends, Consumes}
 use Rattle.bson_run.specs.Convert.{Converts, IsRefused, newline}
 use Rattle.bson_run.specs.Place.{IsWhere}
 use Rattle.bson_run.specs.Run.{ReadsAll, WritesBeginning}
+use Rattle.bson_run.specs.Words.{words_of}
 use Rattle.bson_run.specs.declared.fault.Fault.{Fault}
-use Rattle.bson_run.specs.declared.fault.Fault.TheVariants.{CannotRead, NotJson, BadObjectId, NotExtendedJson, OutOfMemory, CannotWrite}
+use Rattle.bson_run.specs.declared.fault.Fault.TheVariants.{CannotRead, NotJson, BadObjectId, NotExtendedJson}
+use Rattle.bson_run.specs.declared.fault.Fault.TheVariants.{OutOfMemory, CannotWrite}
 use Rattle.bson_run.specs.declared.mode.Mode.TheVariants.{Canonical}
 use Rattle.bson_run.specs.declared.order.OnRefusal.{OnRefusal}
 use Rattle.bson_run.specs.declared.order.OnRefusal.TheVariants.{Stop, KeepGoing, Explain}
@@ -54,21 +57,14 @@ IsBadText NotExtendedJson text = IsRefused NotExtendedJson text
 IsBadText OutOfMemory text = ⊥
 IsBadText CannotWrite text = ⊥
 
-abbrev pub words_of : Fault → List ℕ
-words_of CannotRead = codes "cannot read"
-words_of NotJson = codes "not JSON"
-words_of BadObjectId = codes "bad object id"
-words_of NotExtendedJson = codes "not Extended JSON"
-words_of OutOfMemory = codes "out of memory"
-words_of CannotWrite = codes "cannot write"
-
 -- what is told of a refused line, by its number
 abbrev pub told_of : ℕ → Fault → List ℕ
 told_of number fault = codes "bson_lines: line " ++ decimal number ++ codes ": " ++ words_of fault ++ newline
 
 -- the same with the place of the fault
 abbrev pub told_at : ℕ → Fault → List ℕ → List ℕ
-told_at number fault place = codes "bson_lines: line " ++ decimal number ++ codes ": " ++ words_of fault ++ place ++ newline
+told_at number fault place =
+    codes "bson_lines: line " ++ decimal number ++ codes ": " ++ words_of fault ++ place ++ newline
 
 -- what is told of a refused line where the run goes on
 abbrev pub Tells : OnRefusal → ℕ → Fault → List ℕ → List ℕ → Type 0
@@ -81,10 +77,17 @@ Tells Explain number fault text told = (place : List ℕ) × IsWhere fault text 
 -- these lines give this output, what is told of them is this, and so many of them were refused
 pub data Outcomes (task : Task) (on_refusal : OnRefusal) : List (List ℕ) → List ℕ → List ℕ → ℕ → Type 0 where
   none : Outcomes task on_refusal [] [] [] 0
-  blank : {before : List (List ℕ)} {output told : List ℕ} {refused : ℕ} (line : List ℕ) → Outcomes task on_refusal before output told refused → IsBlank (text_of (length before) line) → Outcomes task on_refusal (before ++ line ∷ []) output told refused
-  written : {before : List (List ℕ)} {output told : List ℕ} {refused : ℕ} (line more : List ℕ) → Outcomes task on_refusal before output told refused → Writes task (text_of (length before) line) more → Outcomes task on_refusal (before ++ line ∷ []) (output ++ more) told refused
-  passed_over : {before : List (List ℕ)} {output told : List ℕ} {refused : ℕ} (line : List ℕ) (fault : Fault) (more : List ℕ) → Outcomes task on_refusal before output told refused → IsBadText fault (text_of (length before) line)
-      → Tells on_refusal (length before + 1) fault (text_of (length before) line) more → Outcomes task on_refusal (before ++ line ∷ []) output (told ++ more) (refused + 1)
+  blank : {before : List (List ℕ)} {output told : List ℕ} {refused : ℕ} (line : List ℕ)
+      → Outcomes task on_refusal before output told refused → IsBlank (text_of (length before) line)
+      → Outcomes task on_refusal (before ++ line ∷ []) output told refused
+  written : {before : List (List ℕ)} {output told : List ℕ} {refused : ℕ} (line more : List ℕ)
+      → Outcomes task on_refusal before output told refused → Writes task (text_of (length before) line) more
+      → Outcomes task on_refusal (before ++ line ∷ []) (output ++ more) told refused
+  passed_over : {before : List (List ℕ)} {output told : List ℕ} {refused : ℕ} (line : List ℕ) (fault : Fault)
+      (more : List ℕ) → Outcomes task on_refusal before output told refused
+      → IsBadText fault (text_of (length before) line)
+      → Tells on_refusal (length before + 1) fault (text_of (length before) line) more
+      → Outcomes task on_refusal (before ++ line ∷ []) output (told ++ more) (refused + 1)
 
 -- ---- a run
 
@@ -94,7 +97,8 @@ left_of None = []
 left_of (Some bytes) = bytes
 
 -- all lines of the input were done, and what they give was written and told
-pub record DoneLines (task : Task) (on_refusal : OnRefusal) (before after had holds told tells : Option (List ℕ)) (number refused : ℕ) : Type 0 where
+pub record DoneLines (task : Task) (on_refusal : OnRefusal) (before after had holds told tells : Option (List ℕ))
+    (number refused : ℕ) : Type 0 where
   pub bytes : List ℕ
   pub output : List ℕ
   pub verdicts : List ℕ
@@ -105,15 +109,18 @@ pub record DoneLines (task : Task) (on_refusal : OnRefusal) (before after had ho
   pub reported : Appends told tells verdicts
 
 -- what was read, with what the reader has left, is the lines that were done and others; this is what the first gave
-pub record Reaches (task : Task) (on_refusal : OnRefusal) (before after : Option (List ℕ)) (done others : List (List ℕ)) (output verdicts : List ℕ) : Type 0 where
+pub record Reaches (task : Task) (on_refusal : OnRefusal) (before after : Option (List ℕ)) (done others : List (List ℕ))
+    (output verdicts : List ℕ) : Type 0 where
   pub bytes : List ℕ
   pub refused : ℕ
   pub given : Consumes before after bytes
   pub whole : lines (bytes ++ left_of after) ≡ done ++ others
   pub outcomes : Outcomes task on_refusal done output verdicts refused
 
--- the run stopped at the line of this number: what the lines before it give was written and told
-pub record StopsAt (why : ℕ → List (List ℕ) → Type 0) (task : Task) (on_refusal : OnRefusal) (before after had holds told tells : Option (List ℕ)) (number : ℕ) : Type 0 where
+-- the run came to the line of this number and no further: this became of what the lines before it give, and this is why
+pub record EndsAt (leaves : Option (List ℕ) → Option (List ℕ) → List ℕ → Type 0) (why : ℕ → List (List ℕ)
+    → Type 0) (task : Task) (on_refusal : OnRefusal)
+    (before after had holds told tells : Option (List ℕ)) (number : ℕ) : Type 0 where
   pub done : List (List ℕ)
   pub others : List (List ℕ)
   pub output : List ℕ
@@ -121,19 +128,19 @@ pub record StopsAt (why : ℕ → List (List ℕ) → Type 0) (task : Task) (on_
   pub reaches : Reaches task on_refusal before after done others output verdicts
   pub counted : number ≡ length done + 1
   pub reason : why (length done) others
-  pub written : Appends had holds output
-  pub reported : Appends told tells verdicts
+  pub written : leaves had holds output
+  pub reported : leaves told tells verdicts
+
+-- the run stopped at the line of this number: what the lines before it give was written and told
+abbrev pub StopsAt : (ℕ → List (List ℕ) → Type 0) → Task → OnRefusal
+    → (before after had holds told tells : Option (List ℕ)) → ℕ → Type 0
+StopsAt why task on_refusal before after had holds told tells number =
+    EndsAt Appends why task on_refusal before after had holds told tells number
 
 -- no more than a beginning of what the lines before it give was written and told
-pub record CutShortAt (task : Task) (on_refusal : OnRefusal) (before after had holds told tells : Option (List ℕ)) (number : ℕ) : Type 0 where
-  pub done : List (List ℕ)
-  pub others : List (List ℕ)
-  pub output : List ℕ
-  pub verdicts : List ℕ
-  pub reaches : Reaches task on_refusal before after done others output verdicts
-  pub counted : number ≡ length done + 1
-  pub written : WritesBeginning had holds output
-  pub reported : WritesBeginning told tells verdicts
+abbrev pub CutShortAt : Task → OnRefusal → (before after had holds told tells : Option (List ℕ)) → ℕ → Type 0
+CutShortAt task on_refusal before after had holds told tells number =
+    EndsAt WritesBeginning (λ n others. Unit {0}) task on_refusal before after had holds told tells number
 
 -- why a run stops at a text: it is refused, and refusals stop the run; or for no reason that the bytes tell
 abbrev pub IsStopped : OnRefusal → Fault → List ℕ → Type 0
@@ -152,30 +159,41 @@ IsStoppedAt on_refusal NotJson before (line ∷ others) = IsStopped on_refusal N
 IsStoppedAt on_refusal BadObjectId before [] = ⊥
 IsStoppedAt on_refusal BadObjectId before (line ∷ others) = IsStopped on_refusal BadObjectId (text_of before line)
 IsStoppedAt on_refusal NotExtendedJson before [] = ⊥
-IsStoppedAt on_refusal NotExtendedJson before (line ∷ others) = IsStopped on_refusal NotExtendedJson (text_of before line)
+IsStoppedAt on_refusal NotExtendedJson before (line ∷ others) =
+    IsStopped on_refusal NotExtendedJson (text_of before line)
 IsStoppedAt on_refusal OutOfMemory before others = Unit {0}
 IsStoppedAt on_refusal CannotWrite before others = ⊥
 
--- what each fault says of the bytes, and of the line whose number stands beside it: that it came for this reason, but for
--- a fault of a writer
-abbrev pub FailsFor : (Fault → ℕ → List (List ℕ) → Type 0) → Fault → Task → OnRefusal → (before after had holds told tells : Option (List ℕ)) → ℕ → Type 0
-FailsFor why CannotWrite task on_refusal before after had holds told tells number = CutShortAt task on_refusal before after had holds told tells number
-FailsFor why CannotRead task on_refusal before after had holds told tells number = StopsAt (why CannotRead) task on_refusal before after had holds told tells number
-FailsFor why NotJson task on_refusal before after had holds told tells number = StopsAt (why NotJson) task on_refusal before after had holds told tells number
-FailsFor why BadObjectId task on_refusal before after had holds told tells number = StopsAt (why BadObjectId) task on_refusal before after had holds told tells number
-FailsFor why NotExtendedJson task on_refusal before after had holds told tells number = StopsAt (why NotExtendedJson) task on_refusal before after had holds told tells number
-FailsFor why OutOfMemory task on_refusal before after had holds told tells number = StopsAt (why OutOfMemory) task on_refusal before after had holds told tells number
+-- what each fault says of the bytes, and of the line whose number stands beside it: that it came for this reason, but
+-- for a fault of a writer
+abbrev pub FailsFor : (Fault → ℕ → List (List ℕ) → Type 0) → Fault → Task → OnRefusal
+    → (before after had holds told tells : Option (List ℕ)) → ℕ → Type 0
+FailsFor why CannotWrite task on_refusal before after had holds told tells number =
+    CutShortAt task on_refusal before after had holds told tells number
+FailsFor why CannotRead task on_refusal before after had holds told tells number =
+    StopsAt (why CannotRead) task on_refusal before after had holds told tells number
+FailsFor why NotJson task on_refusal before after had holds told tells number =
+    StopsAt (why NotJson) task on_refusal before after had holds told tells number
+FailsFor why BadObjectId task on_refusal before after had holds told tells number =
+    StopsAt (why BadObjectId) task on_refusal before after had holds told tells number
+FailsFor why NotExtendedJson task on_refusal before after had holds told tells number =
+    StopsAt (why NotExtendedJson) task on_refusal before after had holds told tells number
+FailsFor why OutOfMemory task on_refusal before after had holds told tells number =
+    StopsAt (why OutOfMemory) task on_refusal before after had holds told tells number
 
 abbrev pub FailsAt : Fault → Task → OnRefusal → (before after had holds told tells : Option (List ℕ)) → ℕ → Type 0
-FailsAt fault task on_refusal before after had holds told tells number = FailsFor (IsStoppedAt on_refusal) fault task on_refusal before after had holds told tells number
+FailsAt fault task on_refusal before after had holds told tells number =
+    FailsFor (IsStoppedAt on_refusal) fault task on_refusal before after had holds told tells number
 
--- the words tell where the fault of the first of the lines that stand after so many others lies; or there are none, where
--- memory was wanting for them
+-- the words tell where the fault of the first of the lines that stand after so many others lies; or there are none,
+-- where memory was wanting for them
 abbrev pub IsPlaceAt : List ℕ → Fault → ℕ → List (List ℕ) → Type 0
 IsPlaceAt place fault before [] = place ≡ []
 IsPlaceAt place fault before (line ∷ others) = IsWhere fault (text_of before line) place ⊎ (place ≡ [])
 
 -- the same as FailsAt, and the words tell the place
-abbrev pub FailsWith : List ℕ → Fault → Task → OnRefusal → (before after had holds told tells : Option (List ℕ)) → ℕ → Type 0
+abbrev pub FailsWith : List ℕ → Fault → Task → OnRefusal → (before after had holds told tells : Option (List ℕ)) → ℕ
+    → Type 0
 FailsWith place fault task on_refusal before after had holds told tells number =
-    FailsFor (λ f n others. IsStoppedAt on_refusal f n others × IsPlaceAt place f n others) fault task on_refusal before after had holds told tells number
+    FailsFor (λ f n others. IsStoppedAt on_refusal f n others
+    × IsPlaceAt place f n others) fault task on_refusal before after had holds told tells number

@@ -7,7 +7,8 @@ use Rattle.bson_wrapper.specs.Faults.{Fault as TreeFault}
 use Rattle.bson_place.specs.Place.{Turn, FaultAt, dotted}
 use Rattle.bson.specs.TextMeaning.{IsTextOf}
 use Rattle.bson_run.specs.declared.fault.Fault.{Fault}
-use Rattle.bson_run.specs.declared.fault.Fault.TheVariants.{CannotRead, NotJson, BadObjectId, NotExtendedJson, OutOfMemory, CannotWrite}
+use Rattle.bson_run.specs.declared.fault.Fault.TheVariants.{CannotRead, NotJson, BadObjectId, NotExtendedJson}
+use Rattle.bson_run.specs.declared.fault.Fault.TheVariants.{OutOfMemory, CannotWrite}
 
 -- a path that has no word is left out
 abbrev pub at_path : List ℕ → List ℕ
@@ -25,7 +26,8 @@ IsVisible byte = (32 ≤ byte) × (byte ≢ 127)
 -- the words as they are, where a terminal shows them so; else that they have other characters
 abbrev pub IsTold : List ℕ → List ℕ → Type 0
 IsTold words told =
-    (All IsVisible words × (told ≡ words)) ⊎ (¬ (All IsVisible words) × (told ≡ codes " at a text with control characters"))
+    (All IsVisible words × (told ≡ words))
+    ⊎ (¬ (All IsVisible words) × (told ≡ codes " at a text with control characters"))
 
 -- the way to the first fault of the text's tree
 pub record IsPlaced (text words : List ℕ) : Type 0 where

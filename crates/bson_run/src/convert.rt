@@ -18,10 +18,11 @@ use std::alloc::Global;
 
 /// The text that the mode asks for of the one value that the bytes mean, and a newline.
 ///
-/// It is Ok exactly where the bytes are UTF-8 and as a whole one JSON text (nested at most 127 deep), and its tree has a
-/// meaning in MongoDB Extended JSON v2; only want of memory may come in its place. `NotJson` is answered where there is
-/// no such text, `BadObjectId` where the first fault of its tree is the text of an object id, and `NotExtendedJson` where
-/// it is any other. `CannotRead` and `CannotWrite` are never answered.
+/// It is Ok exactly where the bytes are UTF-8 and as a whole one JSON text (nested at most 127
+/// deep), and its tree has a meaning in MongoDB Extended JSON v2; only want of memory may come in
+/// its place. `NotJson` is answered where there is no such text, `BadObjectId` where the first
+/// fault of its tree is the text of an object id, and `NotExtendedJson` where it is any other.
+/// `CannotRead` and `CannotWrite` are never answered.
 ///
 /// ```
 /// if let Ok(line) = convert(alloc, Mode::Relaxed, br#"{"$numberLong": "5"}"#) {
@@ -39,7 +40,8 @@ pub fn convert(alloc: Global, mode: Mode, bytes: &[u8]) -> Result<Vec<u8>, Fault
     output(alloc, mode, value)
 }
 
-/// The same of bytes that are let go once their value is read, so that they take no memory beside the output.
+/// The same of bytes that are let go once their value is read, so that they take no memory beside
+/// the output.
 pub(crate) fn convert_whole(alloc: Global, mode: Mode, bytes: Vec<u8>) -> Result<Vec<u8>, Fault>
     ensures ok { IfOk result (λ output. Converts mode bytes.items output.items) }
     ensures fault { IfErr result (λ fault. IsRefused fault bytes.items) }

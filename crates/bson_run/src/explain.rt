@@ -6,7 +6,8 @@ ghost use Rattle.serde_json.specs.View.{view};
 ghost use Rattle.bson_model.specs.Fault.{MeansNothing};
 ghost use Rattle.bson_place.specs.Place.{way_of};
 ghost use Rattle.bson_run.specs.Lines.{IsBadText};
-ghost use Rattle.bson_run.specs.Place.{IsColumn, IsOfNoText, IsPlaced, IsDisplayed, IsTold, IsVisible, IsWhere};
+ghost use Rattle.bson_run.specs.Place.{IsColumn, IsOfNoText, IsPlaced, IsDisplayed, IsTold};
+ghost use Rattle.bson_run.specs.Place.{IsVisible, IsWhere};
 ghost use Rattle.bson.specs.TextMeaning.{IsTextOf, IsNoText};
 
 use crate::fault::Fault;
@@ -15,12 +16,14 @@ use bson_place::walk::place_of_fault;
 use serde_json::Value;
 use std::alloc::{AllocError, Global};
 
-/// Where the fault of a refused text lies, to be put behind the words for it; empty for a fault that no text has.
+/// Where the fault of a refused text lies, to be put behind the words for it; empty for a fault
+/// that no text has.
 ///
-/// For `NotJson` it is ` at column N`, the column of the byte at which `serde_json` stopped, counted from 1. For the
-/// others it is ` at orders.3._id.$oid (MESSAGE)`: the way to the first fault, its keys as they are and places in lists
-/// counted from 0, and what is wrong there; with the message alone where the fault is that of the whole text. Where a
-/// control character of ASCII stands in it, which could break a line or steer a terminal, only that is told.
+/// For `NotJson` it is ` at column N`, the column of the byte at which `serde_json` stopped,
+/// counted from 1. For the others it is ` at orders.3._id.$oid (MESSAGE)`: the way to the first
+/// fault, its keys as they are and places in lists counted from 0, and what is wrong there; with
+/// the message alone where the fault is that of the whole text. Where a control character of ASCII
+/// stands in it, which could break a line or steer a terminal, only that is told.
 pub fn explain(alloc: Global, fault: Fault, text: &[u8]) -> Result<String, AllocError>
     ensures place { IfOk result (λ place. IsBadText fault text.now → IsWhere fault text.now (string_bytes place)) }
     ensures bare { IfOk result (λ place. IsOfNoText fault → string_bytes place ≡ []) }
@@ -62,7 +65,8 @@ fn parse(alloc: Global, bytes: &[u8]) -> Result<Value, Fault>
 
 /// The way to the first fault of a text's tree.
 fn path(alloc: Global, text: &[u8]) -> Result<String, AllocError>
-    ensures { IfOk result (λ place. (tree : Data) → IsTextOf text.now tree → MeansNothing tree → IsPlaced text.now (string_bytes place)) }
+    ensures { IfOk result (λ place. (tree : Data) → IsTextOf text.now tree → MeansNothing tree
+        → IsPlaced text.now (string_bytes place)) }
 {
     let Ok(tree) = parse(alloc, text) else {
         // (a text that has a tree is refused for want of memory alone)

@@ -13,7 +13,8 @@ ghost use Rattle.bson_run.specs.Words.{line_of};
 pub enum Fault {
     /// The reader answered an error, whichever it was.
     CannotRead,
-    /// The input is not one JSON text: its bytes are no UTF-8, it nests deeper than 127, or it breaks the grammar.
+    /// The input is not one JSON text: its bytes are no UTF-8, it nests deeper than 127, or it
+    /// breaks the grammar.
     NotJson,
     /// A wrapper of an object id has the right shape and a text that is no object id.
     BadObjectId,

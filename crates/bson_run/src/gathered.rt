@@ -1,10 +1,16 @@
 //! The line that is being gathered, and what the lines before it gave.
-ghost use Rattle.std.specs.Prelude.{◌≡◌, ◌⊎◌, ◌++◌, ◌+◌, [], ◌∷◌, ℕ, List, length, IfOk, IfErr, OnOk, OnErr, None, Ok, IsTrue, ◌↔◌, codes, string_bytes, MatchOption, MatchResult, IfSome, All, ◌≢◌, ◌<◌, take, slice_index, ◌-◌, ◌^◌};
-ghost use Rattle.bson_run.specs.Lines.{IsBlank, IsBadText, IsStopped, Outcomes, Tells, Writes, told_at, told_of, words_of, text_of};
-ghost use Rattle.bson_run.specs.LinesSteps.{Ends, HasRoom, HaveSameOutcomes, IsJudged, IsOpen, IsStart, IsTold, StopsLast, StopsWithin, Takes, TakesLine};
+ghost use Rattle.std.specs.Prelude.{◌≡◌, ◌⊎◌, ◌++◌, ◌+◌, [], ◌∷◌, ℕ, List, length, IfOk, IfErr};
+ghost use Rattle.std.specs.Prelude.{OnOk, OnErr, None, Ok, IsTrue, ◌↔◌, codes, string_bytes};
+ghost use Rattle.std.specs.Prelude.{MatchOption, MatchResult, IfSome, All, ◌≢◌, ◌<◌, take};
+ghost use Rattle.std.specs.Prelude.{slice_index, ◌-◌, ◌^◌};
+ghost use Rattle.bson_run.specs.Lines.{IsBlank, IsBadText, IsStopped, Outcomes, Tells, Writes};
+ghost use Rattle.bson_run.specs.Lines.{told_at, told_of, text_of};
+ghost use Rattle.bson_run.specs.LinesSteps.{Ends, HasRoom, HaveSameOutcomes, IsJudged, IsOpen};
+ghost use Rattle.bson_run.specs.LinesSteps.{IsStart, IsTold, StopsLast, StopsWithin, Takes};
+ghost use Rattle.bson_run.specs.LinesSteps.{TakesLine};
 ghost use Rattle.bson_run.specs.declared.order.OnRefusal.TheVariants.{Stop, Explain};
 ghost use Rattle.bson_run.specs.Place.{IsOfNoText, IsWhere};
-ghost use Rattle.bson_run.specs.Words.{line_of};
+ghost use Rattle.bson_run.specs.Words.{words_of};
 
 use crate::convert::convert;
 use crate::explain::explain;
@@ -30,7 +36,8 @@ pub struct Gathered {
 
 /// Where the first newline stands.
 fn newline_at(bytes: &[u8]) -> Option<usize>
-    ensures { MatchOption result (IsOpen bytes.now) (λ at. (at < length bytes.now) × IsOpen (take at bytes.now) × (slice_index bytes.now at ≡ 10)) }
+    ensures { MatchOption result (IsOpen bytes.now) (λ at. (at < length bytes.now) × IsOpen (take at bytes.now)
+        × (slice_index bytes.now at ≡ 10)) }
 {
     memchr(b'\n', bytes)
 }
@@ -75,7 +82,6 @@ fn judge(alloc: Global, task: Task, text: &[u8]) -> Result<Option<Vec<u8>>, Faul
 /// The words for a fault.
 pub fn words(fault: Fault) -> &'static str
     ensures words { result.now ≡ words_of fault }
-    ensures same { line_of fault ≡ codes "bson_cli: " ++ words_of fault }
 {
     match fault {
         Fault::CannotRead => "cannot read",
@@ -96,7 +102,8 @@ fn verdict(
     text: &[u8],
 ) -> Result<String, AllocError>
     requires { on_refusal ≢ Stop }
-    ensures { IfOk result (λ told. IsBadText fault text.now → Tells on_refusal number fault text.now (string_bytes told)) }
+    ensures { IfOk result (λ told. IsBadText fault text.now
+        → Tells on_refusal number fault text.now (string_bytes told)) }
 {
     match on_refusal {
         OnRefusal::Stop => unreachable!(),
@@ -180,7 +187,8 @@ impl Gathered {
     /// The place of the fault in the line that is being gathered, unless memory is wanting for it.
     pub fn place_of(&self, alloc: Global, fault: Fault) -> String
         ensures place { IsBadText fault (text_of self.now.lines self.now.line.items)
-            → IsWhere fault (text_of self.now.lines self.now.line.items) (string_bytes result) ⊎ (string_bytes result ≡ []) }
+            → IsWhere fault (text_of self.now.lines self.now.line.items) (string_bytes result)
+            ⊎ (string_bytes result ≡ []) }
         ensures bare { IsOfNoText fault → string_bytes result ≡ [] }
     {
         match explain(alloc, fault, text(self.lines, &self.line)) {
@@ -210,7 +218,8 @@ impl Gathered {
         ensures room { HasRoom self.new }
         ensures ok { OnOk result (TakesLine task on_refusal self.old self.new) }
         ensures same { OnErr result (HaveSameOutcomes self.old self.new × (self.new.line ≡ self.old.line)) }
-        ensures fault { IfErr result (λ e. IsStopped on_refusal e.fault (text_of self.old.lines self.old.line.items) × (e.line ≡ self.old.lines + 1)) }
+        ensures fault { IfErr result (λ e. IsStopped on_refusal e.fault (text_of self.old.lines self.old.line.items)
+            × (e.line ≡ self.old.lines + 1)) }
     {
         if self.lines + 1 == u64::MAX {
             // A count that no run reaches.
@@ -231,7 +240,8 @@ impl Gathered {
         requires room { HasRoom self.old }
         ensures ok { OnOk result (self.new.output.items ≡ self.old.output.items ++ output.now) }
         ensures err { OnErr result (self.new.output.items ≡ self.old.output.items) }
-        ensures same { (self.new.line ≡ self.old.line) × (self.new.told ≡ self.old.told) × (self.new.lines ≡ self.old.lines) × (self.new.refused ≡ self.old.refused) }
+        ensures same { (self.new.line ≡ self.old.line) × (self.new.told ≡ self.old.told)
+            × (self.new.lines ≡ self.old.lines) × (self.new.refused ≡ self.old.refused) }
         ensures fault { IfErr result (λ e. (e.fault ≡ Fault.OutOfMemory) × (e.line ≡ self.old.lines + 1)) }
     {
         append(&mut self.output, output, self.lines)
@@ -245,10 +255,15 @@ impl Gathered {
         fault: Fault,
     ) -> Result<(), LineFault>
         requires room { HasRoom self.old }
-        ensures ok { OnOk result ((fault ≢ Fault.OutOfMemory) × (self.new.refused ≡ self.old.refused + 1) × IsTold on_refusal (self.old.lines + 1) fault (text_of self.old.lines self.old.line.items) self.old.told.items self.new.told.items) }
-        ensures err { OnErr result ((self.new.told.items ≡ self.old.told.items) × (self.new.refused ≡ self.old.refused)) }
-        ensures same { (self.new.line ≡ self.old.line) × (self.new.output ≡ self.old.output) × (self.new.lines ≡ self.old.lines) }
-        ensures fault { IfErr result (λ e. ((e.fault ≡ Fault.OutOfMemory) ⊎ ((on_refusal ≡ Stop) × (e.fault ≡ fault))) × (e.line ≡ self.old.lines + 1)) }
+        ensures ok { OnOk result ((fault ≢ Fault.OutOfMemory) × (self.new.refused ≡ self.old.refused + 1)
+            × IsTold on_refusal (self.old.lines + 1) fault
+            (text_of self.old.lines self.old.line.items) self.old.told.items self.new.told.items) }
+        ensures err { OnErr result ((self.new.told.items ≡ self.old.told.items)
+            × (self.new.refused ≡ self.old.refused)) }
+        ensures same { (self.new.line ≡ self.old.line) × (self.new.output ≡ self.old.output)
+            × (self.new.lines ≡ self.old.lines) }
+        ensures fault { IfErr result (λ e. ((e.fault ≡ Fault.OutOfMemory) ⊎ ((on_refusal ≡ Stop) × (e.fault ≡ fault)))
+            × (e.line ≡ self.old.lines + 1)) }
     {
         if fault == Fault::OutOfMemory {
             return Err(self.stopped(fault));
@@ -268,9 +283,12 @@ impl Gathered {
     fn tell(&mut self, alloc: Global, on_refusal: OnRefusal, fault: Fault) -> Result<(), AllocError>
         requires room { HasRoom self.old }
         requires goes { on_refusal ≢ Stop }
-        ensures ok { OnOk result (IsTold on_refusal (self.old.lines + 1) fault (text_of self.old.lines self.old.line.items) self.old.told.items self.new.told.items) }
+        ensures ok { OnOk result
+            (IsTold on_refusal (self.old.lines + 1) fault
+            (text_of self.old.lines self.old.line.items) self.old.told.items self.new.told.items) }
         ensures err { OnErr result (self.new.told.items ≡ self.old.told.items) }
-        ensures same { (self.new.line ≡ self.old.line) × (self.new.output ≡ self.old.output) × (self.new.lines ≡ self.old.lines) × (self.new.refused ≡ self.old.refused) }
+        ensures same { (self.new.line ≡ self.old.line) × (self.new.output ≡ self.old.output)
+            × (self.new.lines ≡ self.old.lines) × (self.new.refused ≡ self.old.refused) }
     {
         let number = self.lines + 1;
         let verdict = verdict(

@@ -1,10 +1,11 @@
-//! The way from a text to a text: MongoDB Extended JSON v2 is read as a value, and written in the form that is asked
-//! for. Programs and libraries for other languages stand on this crate.
+//! The way from a text to a text: MongoDB Extended JSON v2 is read as a value, and written in the
+//! form that is asked for. Programs and libraries for other languages stand on this crate.
 //!
-//! In reading order: `mode` and `fault` (what is asked, and what is refused), `convert` (bytes to bytes) with `value`
-//! (bytes to a value), `stream` (all bytes of a reader and to a writer) and `run` (the whole way from a reader to a
-//! writer). Over lines: `order` and `line_fault` (what is asked, and what is refused), `gathered` (the line that is read,
-//! and what those before it gave) and `lines` (the whole way).
+//! In reading order: `mode` and `fault` (what is asked, and what is refused), `convert` (bytes to
+//! bytes) with `value` (bytes to a value), `stream` (all bytes of a reader and to a writer) and
+//! `run` (the whole way from a reader to a writer). Over lines: `order` and `line_fault` (what is
+//! asked, and what is refused), `gathered` (the line that is read, and what those before it gave)
+//! and `lines` (the whole way).
 #![tactic(auto)]
 
 pub mod convert;

@@ -1,6 +1,6 @@
 //! Where a run over lines stopped, and why.
 ghost use Rattle.std.specs.Prelude.{◌≡◌};
-ghost use Rattle.bson_run.specs.Lines.{words_of};
+ghost use Rattle.bson_run.specs.Words.{words_of};
 
 use crate::fault::Fault;
 use crate::gathered::words;
@@ -17,7 +17,8 @@ use crate::gathered::words;
 /// ```
 #[derive(Clone, Copy, PartialEq, Eq, Debug)]
 pub struct LineFault {
-    /// The number of the first line that was not done. Lines are counted from 1, and blank ones count.
+    /// The number of the first line that was not done. Lines are counted from 1, and blank ones
+    /// count.
     pub line: u64,
     /// Why it stopped.
     pub fault: Fault,

@@ -1,5 +1,6 @@
 //! One run over lines: each line of a reader is a text of its own.
-ghost use Rattle.std.specs.Prelude.{◌≡◌, ◌+◌, [], ℕ, List, Option, IfOk, IfErr, OnOk, OnErr, string_bytes};
+ghost use Rattle.std.specs.Prelude.{◌≡◌, ◌+◌, [], ℕ, List, Option, IfOk, IfErr, OnOk, OnErr};
+ghost use Rattle.std.specs.Prelude.{string_bytes};
 ghost use Rattle.std.specs.Io.KnownBytes.{Appends, Consumes, IsAtEnd};
 ghost use Rattle.bson_run.specs.Lines.{DoneLines, FailsAt, FailsWith};
 ghost use Rattle.bson_run.specs.LinesSteps.{FailsOver, HasRoom, HasWritten, IsStart, Running};
@@ -34,17 +35,19 @@ pub struct Counts {
     pub refused: u64,
 }
 
-/// Reads lines until the reader has nothing left, each as one JSON text, and writes the output of each in the order of
-/// the lines. A newline ends a line; what stands behind the last newline is a line too, unless it is empty. Lines of
-/// spaces, tabs and carriage returns give nothing, and count. A byte order mark at the start of the input is passed over.
+/// Reads lines until the reader has nothing left, each as one JSON text, and writes the output of
+/// each in the order of the lines. A newline ends a line; what stands behind the last newline is a
+/// line too, unless it is empty. Lines of spaces, tabs and carriage returns give nothing, and
+/// count. A byte order mark at the start of the input is passed over.
 ///
-/// A line that is refused ends the run, or is told to `report` and left out, as `on_refusal` says. Where the run stops,
-/// the number of the first line that was not done stands beside the fault; all that the lines before it gave was written,
-/// and nothing of the line itself. At `CannotWrite` no more than a beginning of it was written. A fault of the reader
-/// or of a writer, Interrupted too, is `CannotRead` or `CannotWrite`, and so is a write that takes no byte.
+/// A line that is refused ends the run, or is told to `report` and left out, as `on_refusal` says.
+/// Where the run stops, the number of the first line that was not done stands beside the fault; all
+/// that the lines before it gave was written, and nothing of the line itself. At `CannotWrite` no
+/// more than a beginning of it was written. A fault of the reader or of a writer, Interrupted too,
+/// is `CannotRead` or `CannotWrite`, and so is a write that takes no byte.
 ///
-/// Memory is that of the longest line and of a block of 64 KiB with its output. The output of a block is written before
-/// the next is read.
+/// Memory is that of the longest line and of a block of 64 KiB with its output. The output of a
+/// block is written before the next is read.
 pub fn run_lines<R: Read, W: Write, T: Write>(
     alloc: Global,
     task: Task,
@@ -53,8 +56,12 @@ pub fn run_lines<R: Read, W: Write, T: Write>(
     writer: &mut W,
     report: &mut T,
 ) -> Result<Counts, LineFault>
-    ensures done { IfOk result (λ counts. DoneLines task on_refusal (R.remaining reader.old) (R.remaining reader.new) (W.contents writer.old) (W.contents writer.new) (T.contents report.old) (T.contents report.new) counts.lines counts.refused) }
-    ensures fails { IfErr result (λ e. FailsAt e.fault task on_refusal (R.remaining reader.old) (R.remaining reader.new) (W.contents writer.old) (W.contents writer.new) (T.contents report.old) (T.contents report.new) e.line) }
+    ensures done { IfOk result
+        (λ counts. DoneLines task on_refusal (R.remaining reader.old) (R.remaining reader.new) (W.contents writer.old)
+        (W.contents writer.new) (T.contents report.old) (T.contents report.new) counts.lines counts.refused) }
+    ensures fails { IfErr result
+        (λ e. FailsAt e.fault task on_refusal (R.remaining reader.old) (R.remaining reader.new) (W.contents writer.old)
+        (W.contents writer.new) (T.contents report.old) (T.contents report.new) e.line) }
 {
     match run_lines_explained(alloc, task, on_refusal, reader, writer, report) {
         Ok(counts) => Ok(counts),
@@ -62,8 +69,9 @@ pub fn run_lines<R: Read, W: Write, T: Write>(
     }
 }
 
-/// The same, and where the run stops at a refused line, the place of its fault too, in the words of `explain`; which are
-/// empty where the run stops for another reason, or memory is wanting for them.
+/// The same, and where the run stops at a refused line, the place of its fault too, in the words of
+/// `explain`; which are empty where the run stops for another reason, or memory is wanting for
+/// them.
 pub fn run_lines_explained<R: Read, W: Write, T: Write>(
     alloc: Global,
     task: Task,
@@ -72,8 +80,12 @@ pub fn run_lines_explained<R: Read, W: Write, T: Write>(
     writer: &mut W,
     report: &mut T,
 ) -> Result<Counts, Refusal>
-    ensures done { IfOk result (λ counts. DoneLines task on_refusal (R.remaining reader.old) (R.remaining reader.new) (W.contents writer.old) (W.contents writer.new) (T.contents report.old) (T.contents report.new) counts.lines counts.refused) }
-    ensures fails { IfErr result (λ e. FailsAt e.at.fault task on_refusal (R.remaining reader.old) (R.remaining reader.new) (W.contents writer.old) (W.contents writer.new) (T.contents report.old) (T.contents report.new) e.at.line) }
+    ensures done { IfOk result
+        (λ counts. DoneLines task on_refusal (R.remaining reader.old) (R.remaining reader.new) (W.contents writer.old)
+        (W.contents writer.new) (T.contents report.old) (T.contents report.new) counts.lines counts.refused) }
+    ensures fails { IfErr result
+        (λ e. FailsAt e.at.fault task on_refusal (R.remaining reader.old) (R.remaining reader.new)
+        (W.contents writer.old) (W.contents writer.new) (T.contents report.old) (T.contents report.new) e.at.line) }
     ensures place { IfErr result (λ e. FailsWith (string_bytes e.place) e.at.fault task on_refusal
         (R.remaining reader.old) (R.remaining reader.new) (W.contents writer.old) (W.contents writer.new)
         (T.contents report.old) (T.contents report.new) e.at.line) }
@@ -109,8 +121,12 @@ fn run_on<R: Read, W: Write, T: Write>(
 ) -> Result<Counts, LineFault>
     requires start { IsStart gathered.old }
     requires room { HasRoom gathered.old }
-    ensures done { IfOk result (λ counts. DoneLines task on_refusal (R.remaining reader.old) (R.remaining reader.new) (W.contents writer.old) (W.contents writer.new) (T.contents report.old) (T.contents report.new) counts.lines counts.refused) }
-    ensures fails { IfErr result (λ e. FailsOver gathered.new e.fault task on_refusal (R.remaining reader.old) (R.remaining reader.new) (W.contents writer.old) (W.contents writer.new) (T.contents report.old) (T.contents report.new) e.line) }
+    ensures done { IfOk result
+        (λ counts. DoneLines task on_refusal (R.remaining reader.old) (R.remaining reader.new) (W.contents writer.old)
+        (W.contents writer.new) (T.contents report.old) (T.contents report.new) counts.lines counts.refused) }
+    ensures fails { IfErr result
+        (λ e. FailsOver gathered.new e.fault task on_refusal (R.remaining reader.old) (R.remaining reader.new)
+        (W.contents writer.old) (W.contents writer.new) (T.contents report.old) (T.contents report.new) e.line) }
 {
     let mut block = [0u8; BLOCK];
     for _ in 0..u64::MAX {
@@ -146,10 +162,15 @@ fn pass_on<W: Write, T: Write>(
 ) -> Result<(), LineFault>
     requires room { HasRoom gathered.old }
     ensures room { HasRoom gathered.new }
-    ensures ok { OnOk result ((before given after had told : Option (List ℕ)) → Running task on_refusal before given had (W.contents writer.old) told (T.contents report.old) gathered.old → Consumes given after block.now
+    ensures ok { OnOk result ((before given after had told : Option (List ℕ))
+        → Running task on_refusal before given had (W.contents writer.old) told (T.contents report.old) gathered.old
+        → Consumes given after block.now
         → Running task on_refusal before after had (W.contents writer.new) told (T.contents report.new) gathered.new) }
-    ensures fails { IfErr result (λ e. (before given after had told : Option (List ℕ)) → Running task on_refusal before given had (W.contents writer.old) told (T.contents report.old) gathered.old → Consumes given after block.now
-        → FailsOver gathered.new e.fault task on_refusal before after had (W.contents writer.new) told (T.contents report.new) e.line) }
+    ensures fails { IfErr result (λ e. (before given after had told : Option (List ℕ))
+        → Running task on_refusal before given had (W.contents writer.old) told (T.contents report.old) gathered.old
+        → Consumes given after block.now
+        → FailsOver gathered.new e.fault task on_refusal before after had (W.contents writer.new) told
+        (T.contents report.new) e.line) }
 {
     let step = gathered.take(alloc, task, on_refusal, block);
     write_out(gathered, writer, report)?;
@@ -166,10 +187,16 @@ fn end<W: Write, T: Write>(
     report: &mut T,
 ) -> Result<Counts, LineFault>
     requires room { HasRoom gathered.old }
-    ensures done { IfOk result (λ counts. (before after had told : Option (List ℕ)) → Running task on_refusal before after had (W.contents writer.old) told (T.contents report.old) gathered.old → IsAtEnd after
-        → DoneLines task on_refusal before after had (W.contents writer.new) told (T.contents report.new) counts.lines counts.refused) }
-    ensures fails { IfErr result (λ e. (before after had told : Option (List ℕ)) → Running task on_refusal before after had (W.contents writer.old) told (T.contents report.old) gathered.old → IsAtEnd after
-        → FailsOver gathered.new e.fault task on_refusal before after had (W.contents writer.new) told (T.contents report.new) e.line) }
+    ensures done { IfOk result (λ counts. (before after had told : Option (List ℕ))
+        → Running task on_refusal before after had (W.contents writer.old) told (T.contents report.old) gathered.old
+        → IsAtEnd after
+        → DoneLines task on_refusal before after had (W.contents writer.new) told
+        (T.contents report.new) counts.lines counts.refused) }
+    ensures fails { IfErr result (λ e. (before after had told : Option (List ℕ))
+        → Running task on_refusal before after had (W.contents writer.old) told (T.contents report.old) gathered.old
+        → IsAtEnd after
+        → FailsOver gathered.new e.fault task on_refusal before after had (W.contents writer.new) told
+        (T.contents report.new) e.line) }
 {
     let step = gathered.take_last(alloc, task, on_refusal);
     write_out(gathered, writer, report)?;
@@ -180,7 +207,8 @@ fn end<W: Write, T: Write>(
     })
 }
 
-/// Writes what is held, and tells what is untold. The verdicts come first, so that a writer that takes no more hides none.
+/// Writes what is held, and tells what is untold. The verdicts come first, so that a writer that
+/// takes no more hides none.
 fn write_out<W: Write, T: Write>(
     gathered: &mut Gathered,
     writer: &mut W,
@@ -191,8 +219,10 @@ fn write_out<W: Write, T: Write>(
     ensures ok { OnOk result (HasWritten gathered.old gathered.new) }
     ensures written { OnOk result (Appends (W.contents writer.old) (W.contents writer.new) gathered.old.output.items) }
     ensures reported { OnOk result (Appends (T.contents report.old) (T.contents report.new) gathered.old.told.items) }
-    ensures cut { OnErr result (WritesBeginning (W.contents writer.old) (W.contents writer.new) gathered.old.output.items) }
-    ensures cut_report { OnErr result (WritesBeginning (T.contents report.old) (T.contents report.new) gathered.old.told.items) }
+    ensures cut { OnErr result
+        (WritesBeginning (W.contents writer.old) (W.contents writer.new) gathered.old.output.items) }
+    ensures cut_report { OnErr result
+        (WritesBeginning (T.contents report.old) (T.contents report.new) gathered.old.told.items) }
     ensures fault { IfErr result (λ e. (e.fault ≡ Fault.CannotWrite) × (e.line ≡ gathered.old.lines + 1)) }
 {
     let Ok(()) = write_whole(report, &gathered.told) else {

@@ -9,13 +9,14 @@ use crate::stream::{read_whole, write_whole};
 use std::alloc::Global;
 use std::io::{Read, Write};
 
-/// Reads all that the reader has, as one JSON text, and writes the value that it means in the mode, and a
-/// newline. Nothing is written before all of the input was accepted.
+/// Reads all that the reader has, as one JSON text, and writes the value that it means in the mode,
+/// and a newline. Nothing is written before all of the input was accepted.
 ///
-/// A fault of the reader or the writer, Interrupted too, is `CannotRead` or `CannotWrite`, and so is a write that takes
-/// no byte; the output was then not written whole, and what was written is a beginning of it. `NotJson`, `BadObjectId` and
-/// `NotExtendedJson` come after all input was read: the first where it is no UTF-8 or `serde_json` reads no tree from it,
-/// the others where the tree has no meaning in MongoDB Extended JSON v2. `OutOfMemory` may come at any time before the
+/// A fault of the reader or the writer, Interrupted too, is `CannotRead` or `CannotWrite`, and so
+/// is a write that takes no byte; the output was then not written whole, and what was written is a
+/// beginning of it. `NotJson`, `BadObjectId` and `NotExtendedJson` come after all input was read:
+/// the first where it is no UTF-8 or `serde_json` reads no tree from it, the others where the tree
+/// has no meaning in MongoDB Extended JSON v2. `OutOfMemory` may come at any time before the
 /// output.
 pub fn run<R: Read, W: Write>(
     alloc: Global,
@@ -23,8 +24,11 @@ pub fn run<R: Read, W: Write>(
     reader: &mut R,
     writer: &mut W,
 ) -> Result<(), Fault>
-    ensures done { OnOk result (Done mode (R.remaining reader.old) (R.remaining reader.new) (W.contents writer.old) (W.contents writer.new)) }
-    ensures fails { IfErr result (λ fault. Fails fault mode (R.remaining reader.old) (R.remaining reader.new) (W.contents writer.old) (W.contents writer.new)) }
+    ensures done { OnOk result
+        (Done mode (R.remaining reader.old) (R.remaining reader.new) (W.contents writer.old) (W.contents writer.new)) }
+    ensures fails { IfErr result
+        (λ fault. Fails fault mode (R.remaining reader.old) (R.remaining reader.new) (W.contents writer.old)
+        (W.contents writer.new)) }
 {
     let bytes = read_whole(alloc, reader)?;
     let output = convert_whole(alloc, mode, bytes)?;

@@ -30,7 +30,8 @@ pub fn read_whole<R: Read>(alloc: Global, reader: &mut R) -> Result<Vec<u8>, Fau
     }
 }
 
-/// Writes all bytes. Any error of the writer, Interrupted too, is its fault, and so is a write that takes no byte.
+/// Writes all bytes. Any error of the writer, Interrupted too, is its fault, and so is a write that
+/// takes no byte.
 pub fn write_whole<W: Write>(writer: &mut W, bytes: &[u8]) -> Result<(), Fault>
     ensures ok { OnOk result (Appends (W.contents writer.old) (W.contents writer.new) bytes.now) }
     ensures cut { OnErr result (WritesBeginning (W.contents writer.old) (W.contents writer.new) bytes.now) }

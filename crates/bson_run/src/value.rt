@@ -12,7 +12,8 @@ use crate::fault::Fault;
 use bson::Bson;
 use std::alloc::Global;
 
-/// The one value that the bytes mean as a text, where they mean one; the faults are those of `convert`.
+/// The one value that the bytes mean as a text, where they mean one; the faults are those of
+/// `convert`.
 pub fn value_of(alloc: Global, bytes: &[u8]) -> Result<Bson, Fault>
     ensures ok { IfOk result (λ value. HasTextMeaning bytes.now (bson_view value)) }
     ensures accepts { (tree : Data) (value : model.Value) → IsTextOf bytes.now tree → Means tree value

@@ -165,8 +165,7 @@ impl<V: Drop> PairStore<V> for SmallPairs<V> {
     }
 
     fn value_at_mut(&mut self, at: usize) -> &mut V {
-        let pair = &mut self.pairs[at];
-        &mut pair.value
+        self.pair_at_mut(at).1
     }
 
     fn pair_at_mut(&mut self, at: usize) -> (&String, &mut V) {

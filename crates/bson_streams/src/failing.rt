@@ -1,4 +1,5 @@
-//! A reader that gives its bytes in pieces, and a writer that takes one byte a call. Both fail in the end.
+//! A reader that gives its bytes in pieces, and a writer that takes one byte a call. Both fail in
+//! the end.
 ghost use Rattle.std.specs.Prelude.{◌≡◌, IfOk};
 
 use std::io;

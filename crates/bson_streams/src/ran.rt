@@ -66,7 +66,8 @@ fn whole(alloc: Global, mode: Mode, ends: &mut Ends<'_>) -> Result<String, Alloc
     }
 }
 
-/// The answer of `convert`, as that of `run`. What it gives stands where a writer would have taken it.
+/// The answer of `convert`, as that of `run`. What it gives stands where a writer would have taken
+/// it.
 fn converted(
     alloc: Global,
     mode: Mode,
@@ -82,7 +83,8 @@ fn converted(
     }
 }
 
-/// The answer of `run_lines`: `LINES REFUSED`, or the line where it stopped and the words for its fault.
+/// The answer of `run_lines`: `LINES REFUSED`, or the line where it stopped and the words for its
+/// fault.
 fn by_lines(
     alloc: Global,
     task: Task,

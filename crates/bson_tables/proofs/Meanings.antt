@@ -52,23 +52,17 @@ number_long_row : Means (object_of_one (codes "$numberLong") (tree.string (codes
 unfolding Rattle.bson_wrapper.specs.Reading.int_of
 number_long_row = row _ _ refl
 
-double_zero_row : Means (object_of_one (codes "$numberDouble") (tree.string (codes "0.0"))) (model.scalar (kind.double 0))
-double_zero_row = row _ _ refl
+abbrev MeansDouble : List ℕ → ℕ → Type 0
+MeansDouble text bits = Means (object_of_one (codes "$numberDouble") (tree.string text)) (model.scalar (kind.double bits))
 
-double_minus_zero_row : Means (object_of_one (codes "$numberDouble") (tree.string (codes "-0.0"))) (model.scalar (kind.double 0x8000000000000000))
-double_minus_zero_row = row _ _ refl
-
-double_infinity_row : Means (object_of_one (codes "$numberDouble") (tree.string (codes "Infinity"))) (model.scalar (kind.double 0x7FF0000000000000))
-double_infinity_row = row _ _ refl
-
-double_minus_infinity_row : Means (object_of_one (codes "$numberDouble") (tree.string (codes "-Infinity"))) (model.scalar (kind.double 0xFFF0000000000000))
-double_minus_infinity_row = row _ _ refl
-
-double_nan_row : Means (object_of_one (codes "$numberDouble") (tree.string (codes "NaN"))) (model.scalar (kind.double 0x7FF8000000000000))
-double_nan_row = row _ _ refl
-
-double_minus_nan_row : Means (object_of_one (codes "$numberDouble") (tree.string (codes "-NaN"))) (model.scalar (kind.double 0xFFF8000000000000))
-double_minus_nan_row = row _ _ refl
+-- the doubles that are written as texts: zeros, infinities and NaNs, with their bits (IEEE 754, binary64)
+double_rows : MeansDouble (codes "0.0") 0
+    × MeansDouble (codes "-0.0") 0x8000000000000000
+    × MeansDouble (codes "Infinity") 0x7FF0000000000000
+    × MeansDouble (codes "-Infinity") 0xFFF0000000000000
+    × MeansDouble (codes "NaN") 0x7FF8000000000000
+    × MeansDouble (codes "-NaN") 0xFFF8000000000000
+double_rows = (row _ _ refl, row _ _ refl, row _ _ refl, row _ _ refl, row _ _ refl, row _ _ refl)
 
 symbol_row : Means (object_of_one (codes "$symbol") (tree.string (codes "s"))) (model.scalar (kind.symbol (codes "s")))
 symbol_row = row _ _ refl

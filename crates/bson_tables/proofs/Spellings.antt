@@ -23,29 +23,25 @@ use Rattle.bson_tables.proofs.Shapes.{row, none}
 example : List ℕ
 example = 0xf8 ∷ 0x1d ∷ 0x4f ∷ 0xae ∷ 0x7d ∷ 0xec ∷ 0x11 ∷ 0xd0 ∷ 0xa7 ∷ 0x65 ∷ 0x00 ∷ 0xa0 ∷ 0xc9 ∷ 0x1e ∷ 0x6b ∷ 0xf6 ∷ []
 
-digits_alone : IsUuidText (codes "f81d4fae7dec11d0a76500a0c91e6bf6") example
-unfolding example by_index
-digits_alone = parsed_from _ _ refl
+abbrev IsExample : List ℕ → Type 0
+IsExample text = IsUuidText text example
 
-hyphenated : IsUuidText (codes "f81d4fae-7dec-11d0-a765-00a0c91e6bf6") example
+-- digits alone, hyphenated, in capitals, in braces, behind the prefix of the URN, and behind that in capitals
+spellings : IsExample (codes "f81d4fae7dec11d0a76500a0c91e6bf6")
+    × IsExample (codes "f81d4fae-7dec-11d0-a765-00a0c91e6bf6")
+    × IsExample (codes "F81D4FAE-7DEC-11D0-A765-00A0C91E6BF6")
+    × IsExample (codes "{f81d4fae-7dec-11d0-a765-00a0c91e6bf6}")
+    × IsExample (codes "urn:uuid:f81d4fae-7dec-11d0-a765-00a0c91e6bf6")
+    × IsExample (codes "URN:UUID:f81d4fae-7dec-11d0-a765-00a0c91e6bf6")
 unfolding example by_index
-hyphenated = parsed_from _ _ refl
-
-upper_case : IsUuidText (codes "F81D4FAE-7DEC-11D0-A765-00A0C91E6BF6") example
-unfolding example by_index
-upper_case = parsed_from _ _ refl
-
-braced : IsUuidText (codes "{f81d4fae-7dec-11d0-a765-00a0c91e6bf6}") example
-unfolding example by_index
-braced = parsed_from _ _ refl
-
-urn : IsUuidText (codes "urn:uuid:f81d4fae-7dec-11d0-a765-00a0c91e6bf6") example
-unfolding example by_index
-urn = parsed_from _ _ refl
-
-upper_urn : IsUuidText (codes "URN:UUID:f81d4fae-7dec-11d0-a765-00a0c91e6bf6") example
-unfolding example by_index
-upper_urn = parsed_from _ _ refl
+spellings = (
+  parsed_from _ _ refl,
+  parsed_from _ _ refl,
+  parsed_from _ _ refl,
+  parsed_from _ _ refl,
+  parsed_from _ _ refl,
+  parsed_from _ _ refl,
+)
 
 IsNoUuid : List ℕ → Type 0
 IsNoUuid text = (id : List ℕ) → ¬ (IsUuidText text id)
@@ -54,17 +50,12 @@ no_uuid : (text : List ℕ) → parsed text ≡ None → IsNoUuid text
 unfolding IsNoUuid
 no_uuid text e id is = let both : None ≡ Some id = sym e ∙ parsed_to is in cc
 
-hyphen_at_7 : IsNoUuid (codes "f81d4fa-e7dec-11d0-a765-00a0c91e6bf6")
-hyphen_at_7 = no_uuid _ refl
-
-no_digit : IsNoUuid (codes "g81d4fae7dec11d0a76500a0c91e6bf6")
-no_digit = no_uuid _ refl
-
-braced_digits : IsNoUuid (codes "{f81d4fae7dec11d0a76500a0c91e6bf6}")
-braced_digits = no_uuid _ refl
-
-other_prefix : IsNoUuid (codes "urn:guid:f81d4fae-7dec-11d0-a765-00a0c91e6bf6")
-other_prefix = no_uuid _ refl
+-- a hyphen at 7, a letter that is no digit, braces round digits alone, and another prefix
+no_spellings : IsNoUuid (codes "f81d4fa-e7dec-11d0-a765-00a0c91e6bf6")
+    × IsNoUuid (codes "g81d4fae7dec11d0a76500a0c91e6bf6")
+    × IsNoUuid (codes "{f81d4fae7dec11d0a76500a0c91e6bf6}")
+    × IsNoUuid (codes "urn:guid:f81d4fae-7dec-11d0-a765-00a0c91e6bf6")
+no_spellings = (no_uuid _ refl, no_uuid _ refl, no_uuid _ refl, no_uuid _ refl)
 
 -- ---- `$uuid` takes the hyphenated spelling alone
 
@@ -78,17 +69,20 @@ wrapped_upper_case : Means (uuid_tree (codes "F81D4FAE-7DEC-11D0-A765-00A0C91E6B
 unfolding example by_index
 wrapped_upper_case = row _ _ refl
 
-wrapped_digits : IsRefused (uuid_tree (codes "f81d4fae7dec11d0a76500a0c91e6bf6"))
-wrapped_digits = (none _ wrong_shape refl, refl)
+abbrev IsNoWrappedUuid : List ℕ → Type 0
+IsNoWrappedUuid text = IsRefused (uuid_tree text)
 
-wrapped_braces : IsRefused (uuid_tree (codes "{f81d4fae-7dec-11d0-a765-00a0c91e6bf6}"))
-wrapped_braces = (none _ wrong_shape refl, refl)
-
-wrapped_urn : IsRefused (uuid_tree (codes "urn:uuid:f81d4fae-7dec-11d0-a765-00a0c91e6bf6"))
-wrapped_urn = (none _ wrong_shape refl, refl)
-
-wrapped_hyphen_at_7 : IsRefused (uuid_tree (codes "f81d4fa-e7dec-11d0-a765-00a0c91e6bf6"))
-wrapped_hyphen_at_7 = (none _ wrong_shape refl, refl)
+-- digits alone, braces, the URN, and a hyphen at 7
+not_wrapped : IsNoWrappedUuid (codes "f81d4fae7dec11d0a76500a0c91e6bf6")
+    × IsNoWrappedUuid (codes "{f81d4fae-7dec-11d0-a765-00a0c91e6bf6}")
+    × IsNoWrappedUuid (codes "urn:uuid:f81d4fae-7dec-11d0-a765-00a0c91e6bf6")
+    × IsNoWrappedUuid (codes "f81d4fa-e7dec-11d0-a765-00a0c91e6bf6")
+not_wrapped = (
+  (none _ wrong_shape refl, refl),
+  (none _ wrong_shape refl, refl),
+  (none _ wrong_shape refl, refl),
+  (none _ wrong_shape refl, refl),
+)
 
 -- ---- base64
 
@@ -112,28 +106,23 @@ no_padding_due : Means (binary_tree (codes "Zm9vYmFy")) (model.scalar (kind.bina
 unfolding groups_error groups_bytes scan_steps decode_pairs
 no_padding_due = row _ _ refl
 
-without_padding : IsRefused (binary_tree (codes "Zm9vYg"))
-unfolding groups_error groups_bytes scan_steps decode_pairs
-without_padding = (none _ wrong_shape refl, refl)
+abbrev IsNoBase64 : List ℕ → Type 0
+IsNoBase64 text = IsRefused (binary_tree text)
 
-half_padding : IsRefused (binary_tree (codes "Zm9vYg="))
+-- no padding, half of it, bits left over in the digit before the padding, which must be zero, the alphabet of URLs,
+-- a blank, and numbers that are no bytes
+no_base64 : IsNoBase64 (codes "Zm9vYg")
+    × IsNoBase64 (codes "Zm9vYg=")
+    × IsNoBase64 (codes "Zh==")
+    × IsNoBase64 (codes "-_8=")
+    × IsNoBase64 (codes "Zm9v ")
+    × IsNoBase64 (256 ∷ 256 ∷ 256 ∷ 256 ∷ [])
 unfolding groups_error groups_bytes scan_steps decode_pairs
-half_padding = (none _ wrong_shape refl, refl)
-
--- the digit before the padding has bits left over, which must be zero
-bits_left_over : IsRefused (binary_tree (codes "Zh=="))
-unfolding groups_error groups_bytes scan_steps decode_pairs
-bits_left_over = (none _ wrong_shape refl, refl)
-
-other_alphabet : IsRefused (binary_tree (codes "-_8="))
-unfolding groups_error groups_bytes scan_steps decode_pairs
-other_alphabet = (none _ wrong_shape refl, refl)
-
-blank : IsRefused (binary_tree (codes "Zm9v "))
-unfolding groups_error groups_bytes scan_steps decode_pairs
-blank = (none _ wrong_shape refl, refl)
-
--- numbers that are no bytes
-no_characters : IsRefused (binary_tree (256 ∷ 256 ∷ 256 ∷ 256 ∷ []))
-unfolding groups_error groups_bytes scan_steps decode_pairs
-no_characters = (none _ wrong_shape refl, refl)
+no_base64 = (
+  (none _ wrong_shape refl, refl),
+  (none _ wrong_shape refl, refl),
+  (none _ wrong_shape refl, refl),
+  (none _ wrong_shape refl, refl),
+  (none _ wrong_shape refl, refl),
+  (none _ wrong_shape refl, refl),
+)

@@ -1,8 +1,9 @@
-//! The program `bson_tour`: the examples of the public types, each as it stands in the documentation of its type, made
-//! in turn. What they print is compared with the file `stdout`, and tests/examples holds them to the documentation.
+//! The program `bson_tour`: the examples of the public types, each as it stands in the
+//! documentation of its type, made in turn. What they print is compared with the file `stdout`, and
+//! tests/examples holds them to the documentation.
 //!
-//! In reading order: `given` (what examples start from); then the examples, a file a subject. A comment in an example
-//! is a line that it prints.
+//! In reading order: `given` (what examples start from); then the examples, a file a subject. A
+//! comment in an example is a line that it prints.
 #![tactic(auto)]
 
 mod binaries;

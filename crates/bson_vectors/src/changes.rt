@@ -1,5 +1,5 @@
-//! Values that are written in their place: what a closure makes of them, and that a call which finds nothing to write
-//! leaves the whole document as it was.
+//! Values that are written in their place: what a closure makes of them, and that a call which
+//! finds nothing to write leaves the whole document as it was.
 use bson::document::ValueAccessError;
 use bson::{Bson, Document};
 use std::alloc::{AllocError, Global};
@@ -39,7 +39,8 @@ fn nested(alloc: Global, keys: &str) -> Result<Document, AllocError> {
     Ok(document)
 }
 
-/// Whether the two documents have the same pairs in the same order, and the first finds each of its keys.
+/// Whether the two documents have the same pairs in the same order, and the first finds each of its
+/// keys.
 fn is_as(document: &Document, before: &Document) -> bool {
     let mut left = before.iter();
     for (key, value) in document {
@@ -55,7 +56,8 @@ fn is_as(document: &Document, before: &Document) -> bool {
     left.next().is_none()
 }
 
-/// Where there is no such place, nothing is called and the document is as it was, with few pairs and with many.
+/// Where there is no such place, nothing is called and the document is as it was, with few pairs
+/// and with many.
 #[test]
 fn refused_nowhere_behind_the_last_place(rt: HostRuntime) -> Result<(), Fail> {
     let alloc = rt.alloc();
@@ -80,7 +82,8 @@ fn refused_nowhere_behind_the_last_place(rt: HostRuntime) -> Result<(), Fail> {
     Ok(())
 }
 
-/// What the closure leaves is the value at the place, its answer comes back, and the other pairs stay.
+/// What the closure leaves is the value at the place, its answer comes back, and the other pairs
+/// stay.
 #[test]
 fn refused_nowhere_at_a_place(rt: HostRuntime) -> Result<(), Fail> {
     let alloc = rt.alloc();
@@ -94,7 +97,8 @@ fn refused_nowhere_at_a_place(rt: HostRuntime) -> Result<(), Fail> {
                 (key.len(), old)
             });
             assert!(rt;
-                matches!(old, Some((1, Some(number))) if usize::try_from(number).ok() == Some(at + 1))
+                matches!(old, Some((1, Some(number)))
+                    if usize::try_from(number).ok() == Some(at + 1))
             );
             assert!(rt; document != before);
             let back = document.change_index(at, |_, value| {
@@ -109,7 +113,8 @@ fn refused_nowhere_at_a_place(rt: HostRuntime) -> Result<(), Fail> {
     Ok(())
 }
 
-/// Where the key is absent, or has no document, nothing is called and the whole document is as it was.
+/// Where the key is absent, or has no document, nothing is called and the whole document is as it
+/// was.
 #[test]
 fn refused_nowhere_at_no_document(rt: HostRuntime) -> Result<(), Fail> {
     let alloc = rt.alloc();
@@ -136,7 +141,8 @@ fn refused_nowhere_at_no_document(rt: HostRuntime) -> Result<(), Fail> {
     Ok(())
 }
 
-/// What the closure leaves is the document at the key, its answer comes back, and the other pairs stay.
+/// What the closure leaves is the document at the key, its answer comes back, and the other pairs
+/// stay.
 #[test]
 fn refused_nowhere_in_a_document_within(rt: HostRuntime) -> Result<(), Fail> {
     let alloc = rt.alloc();

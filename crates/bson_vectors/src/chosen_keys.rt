@@ -1,5 +1,5 @@
-//! Keys that were chosen to have one hash under the hasher of std's maps, and the order in which an index gives its
-//! keys.
+//! Keys that were chosen to have one hash under the hasher of std's maps, and the order in which an
+//! index gives its keys.
 //!
 //! tests/rows/many_keys.py makes the same keys, and puts 100,000 of them into a document.
 use bson::Bson;
@@ -7,9 +7,9 @@ use bson::store::{PairStore, SmallPairs};
 use std::hash::{FoldHasher, Hash, Hasher};
 use std::test::Fail;
 
-/// Keys of one hash under the hasher that std's maps have, which starts from a fixed, public state. The first 16 bytes
-/// lead it to a state that the next 8 undo, so that what comes after them is multiplied by zero; the last 16 go in by
-/// themselves, and are alike.
+/// Keys of one hash under the hasher that std's maps have, which starts from a fixed, public state.
+/// The first 16 bytes lead it to a state that the next 8 undo, so that what comes after them is
+/// multiplied by zero; the last 16 go in by themselves, and are alike.
 const CHOSEN: [&str; 4] = [
     "k000000000002398]rCpp7mg00000000TTTTTTTTTTTTTTTT",
     "k000000000002398]rCpp7mg00000001TTTTTTTTTTTTTTTT",

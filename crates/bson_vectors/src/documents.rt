@@ -30,7 +30,8 @@ fn holds(document: &Document, pairs: &[(&str, i32)]) -> bool {
     left.next().is_none() && document.len() == pairs.len()
 }
 
-/// Whether the document has exactly `a` with the value, and then the other pairs in their order, and finds each key.
+/// Whether the document has exactly `a` with the value, and then the other pairs in their order,
+/// and finds each key.
 fn follows(document: &Document, value: i32, others: &[(String, i32)]) -> bool {
     let mut left = document.iter();
     if !is_pair(left.next(), "a", value) || !has(document, "a", value) {
@@ -91,7 +92,8 @@ fn place_of(pairs: &[(String, i32)], key: &str) -> Option<usize>
     None
 }
 
-/// Whether inserting the key and number, refused, gave both back and left the document with `a` 1 and the others.
+/// Whether inserting the key and number, refused, gave both back and left the document with `a` 1
+/// and the others.
 fn is_refused(answer: &Result<Option<Bson>, Refused>, key: &str, value: i32) -> bool {
     match answer {
         Err(refused) => refused.key.as_str() == key && refused.value.as_i32() == Some(value),
@@ -107,8 +109,8 @@ fn replaces(document: &mut Document, key: String, value: i32, old: i32) -> bool 
     }
 }
 
-/// k1 to k40 are inserted behind `a`: a refusal hands the pair back and leaves the document as it was, and a known key
-/// then still takes a value.
+/// k1 to k40 are inserted behind `a`: a refusal hands the pair back and leaves the document as it
+/// was, and a known key then still takes a value.
 #[test]
 fn refused_insert(rt: HostRuntime) -> Result<(), Fail> {
     let alloc = rt.alloc();
@@ -173,7 +175,8 @@ fn stops_at(document: &Document, refused: &Refused, others: &[(String, i32)]) ->
     }
 }
 
-/// The refused item is handed back, exactly those before it are put in, and those behind it are left.
+/// The refused item is handed back, exactly those before it are put in, and those behind it are
+/// left.
 #[test]
 fn refused_extend(rt: HostRuntime) -> Result<(), Fail> {
     let alloc = rt.alloc();

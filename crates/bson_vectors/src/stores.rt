@@ -50,7 +50,8 @@ fn fill<S: PairStore<u32>>(
     Ok(())
 }
 
-/// A refused push hands the pair back and leaves the store as it was; the same pair is then pushed again.
+/// A refused push hands the pair back and leaves the store as it was; the same pair is then pushed
+/// again.
 fn pushes<S: PairStore<u32>>(rt: &impl Abort, alloc: Global, store: &mut S) -> Result<(), Fail> {
     let mut was_refused = false;
     for i in 0..PAIRS.len() {
@@ -136,7 +137,8 @@ const REPLIES: [Option<u32>; 13] = [
     None,
 ];
 
-/// A stopped replay leaves the store as it is after the first `done` commands. From the tenth on none takes memory.
+/// A stopped replay leaves the store as it is after the first `done` commands. From the tenth on
+/// none takes memory.
 fn replays<S: PairStore<u32>>(rt: &impl Abort, alloc: Global, store: &mut S) -> Result<(), Fail> {
     match replay(alloc, store, commands(alloc)?) {
         Ok(replies) => {

@@ -16,8 +16,9 @@ use bson_run::fault::Fault;
 use bson_run::mode::Mode;
 use std::alloc::Global;
 
-/// Reads the text as one text of Extended JSON, and leaves the text of its value in a mode: 0 the canonical form, 1 the
-/// relaxed form, 2 the text of Display. The block of the new text is the caller's, who frees it by `free`.
+/// Reads the text as one text of Extended JSON, and leaves the text of its value in a mode: 0 the
+/// canonical form, 1 the relaxed form, 2 the text of Display. The block of the new text is the
+/// caller's, who frees it by `free`.
 #[unsafe(no_mangle)]
 pub extern "C" fn vbson_convert(
     alloc: Global,
@@ -26,8 +27,10 @@ pub extern "C" fn vbson_convert(
     out: &mut Text<'static>,
 ) -> u32
     ensures done { result ≡ 0 → IsConverted mode text.now out.new }
-    ensures one { result ≡ 0 → (m : Mode) (other : List ℕ) → mode_at mode ≡ Some m → Converts m text.now (other ++ newline) → out.new.bytes.now ≡ other ++ nul }
-    ensures accepts { (tree : Data) (value : model.Value) → mode ≤ 2 → IsTextOf text.now tree → Means tree value → 0 < result → result ≡ 5 }
+    ensures one { result ≡ 0 → (m : Mode) (other : List ℕ) → mode_at mode ≡ Some m
+        → Converts m text.now (other ++ newline) → out.new.bytes.now ≡ other ++ nul }
+    ensures accepts { (tree : Data) (value : model.Value) → mode ≤ 2 → IsTextOf text.now tree → Means tree value
+        → 0 < result → result ≡ 5 }
 
     // When each other status comes, and that nothing is left then.
     ensures no_mode { result ≡ 1 ↔ 2 < mode }

@@ -1,10 +1,11 @@
-//! Extended JSON and the small values of BSON for callers in C, and in every language that calls C. `languages/c/vbson.h`
-//! is the header, with what a caller owes.
+//! Extended JSON and the small values of BSON for callers in C, and in every language that calls C.
+//! `languages/c/vbson.h` is the header, with what a caller owes.
 //!
-//! Every call reads what it is handed for its own time only, keeps nothing between calls, requires nothing beyond its
-//! types, and answers a number of `status`: 0 where it did what it is for. On any other number an out parameter is as
-//! it was, except where its call says more. In reading order: `status`, `text` (a text that the caller has and frees)
-//! with `convert` (one text to another), `values` (two texts by what they mean), and `room` (room of the caller's) with
+//! Every call reads what it is handed for its own time only, keeps nothing between calls, requires
+//! nothing beyond its types, and answers a number of `status`: 0 where it did what it is for. On
+//! any other number an out parameter is as it was, except where its call says more. In reading
+//! order: `status`, `text` (a text that the caller has and frees) with `convert` (one text to
+//! another), `values` (two texts by what they mean), and `room` (room of the caller's) with
 //! `scalars` (decimals, object ids, moments).
 #![tactic(auto)]
 

@@ -87,7 +87,8 @@ pub extern "C" fn vbson_object_id_print(bytes: &[u8; 12], room: &mut [u8], len: 
     }
 }
 
-/// The milliseconds since 1970-01-01T00:00:00Z of the moment whose text of RFC 3339 (section 5.6) this is.
+/// The milliseconds since 1970-01-01T00:00:00Z of the moment whose text of RFC 3339 (section 5.6)
+/// this is.
 #[unsafe(no_mangle)]
 pub extern "C" fn vbson_date_time_parse(text: &[u8], out: &mut i64) -> u32
     ensures done { result ≡ 0 → Names text.now out.new }
@@ -107,8 +108,8 @@ pub extern "C" fn vbson_date_time_parse(text: &[u8], out: &mut i64) -> u32
     }
 }
 
-/// The text of RFC 3339 of the moment so many milliseconds after 1970-01-01T00:00:00Z, of at most 24 bytes. Moments of
-/// the years 0000 to 9999 have one.
+/// The text of RFC 3339 of the moment so many milliseconds after 1970-01-01T00:00:00Z, of at most
+/// 24 bytes. Moments of the years 0000 to 9999 have one.
 #[unsafe(no_mangle)]
 pub extern "C" fn vbson_date_time_print(
     alloc: Global,

@@ -2,8 +2,8 @@
 ghost use Rattle.std.specs.Prelude.{◌<◌, ◌-◌, length, take};
 ghost use Rattle.vbson.specs.Text.{IsText};
 
-/// A text that the caller has: its bytes with a NUL behind them, in a block of their own which the caller frees by
-/// `free`, and its length without the NUL.
+/// A text that the caller has: its bytes with a NUL behind them, in a block of their own which the
+/// caller frees by `free`, and its length without the NUL.
 #[repr(C)]
 #[derive(Drop)]
 pub struct Text<'a> {

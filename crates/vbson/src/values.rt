@@ -14,8 +14,9 @@ use bson_run::value::value_of;
 use std::alloc::Global;
 use std::hash::{DefaultHasher, Hash, Hasher};
 
-/// Tells whether two texts mean the same value: of the same kind, lists place by place, and documents with the same
-/// keys and the same values under each, in any order. 0 where they do, and `DIFFERENT` where they mean two.
+/// Tells whether two texts mean the same value: of the same kind, lists place by place, and
+/// documents with the same keys and the same values under each, in any order. 0 where they do, and
+/// `DIFFERENT` where they mean two.
 ///
 /// The first text is read first, so that its fault is told where both have one.
 #[unsafe(no_mangle)]
@@ -40,8 +41,9 @@ pub extern "C" fn vbson_same(alloc: Global, a: &[u8], b: &[u8]) -> u32
     }
 }
 
-/// The hash of the value that the text means, which is one for texts that `vbson_same` finds the same: the value's words
-/// in SipHash-1-3 with both keys 0. Whoever chooses the texts can choose many of one hash.
+/// The hash of the value that the text means, which is one for texts that `vbson_same` finds the
+/// same: the value's words in SipHash-1-3 with both keys 0. Whoever chooses the texts can choose
+/// many of one hash.
 #[unsafe(no_mangle)]
 pub extern "C" fn vbson_hash(alloc: Global, text: &[u8], out: &mut u64) -> u32
     ensures done { result ≡ 0 → IsHashOf text.now out.new }

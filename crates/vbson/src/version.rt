@@ -1,7 +1,8 @@
 //! Which version of the library this is.
 ghost use Rattle.std.specs.Prelude.{◌≡◌};
 
-/// Ten thousand times the first number of the version, a hundred times the second, and the third: 200 is 0.2.0.
+/// Ten thousand times the first number of the version, a hundred times the second, and the third:
+/// 200 is 0.2.0.
 #[unsafe(no_mangle)]
 pub extern "C" fn vbson_version() -> u32
     ensures { result ≡ 200 }

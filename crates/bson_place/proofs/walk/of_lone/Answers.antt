@@ -9,20 +9,26 @@ use Rattle.bson_place.proofs.Steps.{lone_value, lone_place}
 use Rattle.bson_place.proofs.walk.of_lone.Goals as goal
 
 pub returns-in-Ok : goal.returns-in-Ok
-returns-in-Ok c = lone_value (string_bytes c.args.key) (view c.args.value) (scalar_view c.in-Ok.field-0) c.requires (ap (λ k. single_at (wrapper_of k) (view c.args.value)) (sym c.as_str.ensures.value) ∙ c.in-Ok.ensures)
+returns-in-Ok c =
+    lone_value (string_bytes c.args.key) (view c.args.value) (scalar_view c.in-Ok.field-0) c.requires
+    (ap (λ k. single_at (wrapper_of k) (view c.args.value)) (sym c.as_str.ensures.value) ∙ c.in-Ok.ensures)
 
 pub returns-in-Err-InvalidObjectId : goal.returns-in-Err-InvalidObjectId
 returns-in-Err-InvalidObjectId c =
     let id = c.in-Err-InvalidObjectId.id in
     let read = single_at (wrapper_of c.as_str.result.now) (view c.args.value) in
     let is = subst (λ e. Fails e read) c.in-Err-InvalidObjectId.field-0-is c.in-Err-InvalidObjectId.ensures in
-    lone_place (string_bytes c.args.key) (view c.args.value) (wrong_id is.0) (InvalidObjectId id) c.at_key.result c.requires
-    (ap (λ k. single_at (wrapper_of k) (view c.args.value)) (sym c.as_str.ensures.value) ∙ is.1) (is.0, refl, is.2) c.at_key.ensures
+    lone_place (string_bytes c.args.key) (view c.args.value) (wrong_id is.0)
+    (InvalidObjectId id) c.at_key.result c.requires
+    (ap (λ k. single_at (wrapper_of k) (view c.args.value)) (sym c.as_str.ensures.value) ∙ is.1)
+    (is.0, refl, is.2) c.at_key.ensures
 
 pub returns-in-Err-DeserializationError : goal.returns-in-Err-DeserializationError
 returns-in-Err-DeserializationError c =
     let message = c.in-Err-DeserializationError.message in
     let read = single_at (wrapper_of c.as_str.result.now) (view c.args.value) in
     let is = subst (λ e. Fails e read) c.in-Err-DeserializationError.field-0-is c.in-Err-DeserializationError.ensures in
-    lone_place (string_bytes c.args.key) (view c.args.value) wrong_shape (DeserializationError message) c.at_key-in-Err-DeserializationError.result c.requires
-    (ap (λ k. single_at (wrapper_of k) (view c.args.value)) (sym c.as_str.ensures.value) ∙ is) refl c.at_key-in-Err-DeserializationError.ensures
+    lone_place (string_bytes c.args.key) (view c.args.value) wrong_shape
+    (DeserializationError message) c.at_key-in-Err-DeserializationError.result c.requires
+    (ap (λ k. single_at (wrapper_of k) (view c.args.value)) (sym c.as_str.ensures.value)
+    ∙ is) refl c.at_key-in-Err-DeserializationError.ensures

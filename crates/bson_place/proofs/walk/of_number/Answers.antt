@@ -7,4 +7,6 @@ pub returns-in-Some : goal.returns-in-Some
 returns-in-Some c = number_value (number_view c.args.n) (subst IsSome (sym c.in-Some.is ∙ c.as_i64.ensures) refl)
 
 pub returns-in-None : goal.returns-in-None
-returns-in-None c = at_once c.here.result c.here.ensures.error c.here.ensures.way (no_number (number_view c.args.n) (sym c.as_i64.ensures ∙ c.in-None.is))
+returns-in-None c =
+    at_once c.here.result c.here.ensures.error c.here.ensures.way
+    (no_number (number_view c.args.n) (sym c.as_i64.ensures ∙ c.in-None.is))

@@ -11,7 +11,8 @@ use Rattle.bson_run.proofs.Again.{is_written}
 use Rattle.bson_run.proofs.convert.output.Goals as goal
 use Rattle.bson_run.proofs.convert.output.Goals.{in-Canonical, in-Relaxed}
 
-line_written : (f : Form) (v : Value) (text : List ℕ) (r : Result (Vec ℕ Global) Fault) → IsReadForm v → IsTextIn f v text → IfOk r (λ o. o.items ≡ text ++ newline) → IfOk r (λ o. IsWritten f v o.items)
+line_written : (f : Form) (v : Value) (text : List ℕ) (r : Result (Vec ℕ Global) Fault) → IsReadForm v
+    → IsTextIn f v text → IfOk r (λ o. o.items ≡ text ++ newline) → IfOk r (λ o. IsWritten f v o.items)
 line_written f v text (Ok o) p i h = is_written f v text o.items p i h
 line_written f v text (Err e) p i h = tt
 
@@ -21,9 +22,13 @@ returns-in-Ok-clause-ok c =
     let s = string_bytes c.in-Ok.text in
     elim c.match-mode.branch [
       | in-Canonical w ↦
-          let t : IsTextIn form.Canonical v s = subst (λ r. IfOk r (λ x. IsTextIn form.Canonical v (string_bytes x))) (sym w.text-is ∙ c.in-Ok.is) w.into_canonical_text-text.ensures.text in
+          let t : IsTextIn form.Canonical v s =
+          subst (λ r. IfOk r (λ x. IsTextIn form.Canonical v (string_bytes x))) (sym w.text-is
+          ∙ c.in-Ok.is) w.into_canonical_text-text.ensures.text in
           rw w.in-Canonical.is (line_written form.Canonical v s c.line.result c.requires t c.line.ensures.ok)
       | in-Relaxed w ↦
-          let t : IsTextIn form.Relaxed v s = subst (λ r. IfOk r (λ x. IsTextIn form.Relaxed v (string_bytes x))) (sym w.text-is ∙ c.in-Ok.is) w.into_relaxed_text-text.ensures.text in
+          let t : IsTextIn form.Relaxed v s =
+          subst (λ r. IfOk r (λ x. IsTextIn form.Relaxed v (string_bytes x))) (sym w.text-is
+          ∙ c.in-Ok.is) w.into_relaxed_text-text.ensures.text in
           rw w.in-Relaxed.is (line_written form.Relaxed v s c.line.result c.requires t c.line.ensures.ok)
     ]

@@ -10,13 +10,17 @@ returns-then-is_empty c =
     let path = string_bytes c.in_ok-path.path in
     let message = string_bytes c.in_ok-message.message in
     let none : length path ≡ 0 = grind (arith, common_steps) in
-    let said : IfOk c.format-then-is_empty.result (λ s. string_bytes s ≡ codes " (" ++ message ++ codes ")") = simp append_assoc c.format-then-is_empty.ensures.ok in
-    oks_with c.format-then-is_empty.result said (λ s e. displayed_bare (way_of c.args.place.now) path message (string_bytes s) c.in_ok-path.ensures none e)
+    let said : IfOk c.format-then-is_empty.result (λ s. string_bytes s ≡ codes " (" ++ message ++ codes ")") =
+    simp append_assoc c.format-then-is_empty.ensures.ok in
+    oks_with c.format-then-is_empty.result said (λ s e.
+    displayed_bare (way_of c.args.place.now) path message (string_bytes s) c.in_ok-path.ensures none e)
 
 pub returns : goal.returns
 returns c =
     let path = string_bytes c.in_ok-path.path in
     let message = string_bytes c.in_ok-message.message in
     let some : 0 < length path = grind (arith, common_steps) in
-    let said : IfOk c.format-2.result (λ s. string_bytes s ≡ codes " at " ++ path ++ codes " (" ++ message ++ codes ")") = simp append_assoc c.format-2.ensures.ok in
-    oks_with c.format-2.result said (λ s e. displayed_at (way_of c.args.place.now) path message (string_bytes s) c.in_ok-path.ensures some e)
+    let said : IfOk c.format-2.result (λ s. string_bytes s ≡ codes " at " ++ path ++ codes " (" ++ message
+    ++ codes ")") = simp append_assoc c.format-2.ensures.ok in
+    oks_with c.format-2.result said
+    (λ s e. displayed_at (way_of c.args.place.now) path message (string_bytes s) c.in_ok-path.ensures some e)

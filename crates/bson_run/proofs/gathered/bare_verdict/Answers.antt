@@ -5,5 +5,6 @@ use Rattle.bson_run.proofs.gathered.bare_verdict.Goals as goal
 
 pub returns : goal.returns
 returns c =
-    subst (λ words. IfOk c.format.result (λ told. string_bytes told ≡ codes "bson_lines: line " ++ decimal c.args.number ++ codes ": " ++ words ++ newline)) c.words-words.ensures.words
+    subst (λ words. IfOk c.format.result (λ told. string_bytes told ≡ codes "bson_lines: line " ++ decimal c.args.number
+    ++ codes ": " ++ words ++ newline)) c.words-words.ensures.words
     (simp append_assoc c.format.ensures.ok)

@@ -9,17 +9,20 @@ returns-in_err-write_out-clause-fails g c =
     let e = c.in_err-write_out.field-0.0 in
     let cut = c.in_err-write_out.ensures in
     rw (p.1, p.2) (λ before given after had told running consumed.
-    block_cut c.take-step.result e.fault e.line c.args.block.now c.args.gathered.now c.take-step.new.self c.write_out.new.gathered c.take-step.ensures.ok c.take-step.ensures.fault cut.fault.0 cut.fault.1
+    block_cut c.take-step.result e.fault e.line c.args.block.now c.args.gathered.now c.take-step.new.self
+    c.write_out.new.gathered c.take-step.ensures.ok c.take-step.ensures.fault cut.fault.0 cut.fault.1
     before given after had _ _ told _ _ cut.cut cut.cut_report running consumed)
 
 pub returns-clause-ok : goal.returns-clause-ok
 returns-clause-ok g c =
     let out = c.in_ok-write_out.ensures in
     oks c.take-step.result c.take-step.ensures.ok (λ takes before given after had told running consumed.
-    block_done c.args.block.now c.args.gathered.now c.take-step.new.self c.write_out.new.gathered before given after had _ _ told _ _ takes out.ok out.written out.reported running consumed)
+    block_done c.args.block.now c.args.gathered.now c.take-step.new.self c.write_out.new.gathered before given after had
+    _ _ told _ _ takes out.ok out.written out.reported running consumed)
 
 pub returns-clause-fails : goal.returns-clause-fails
 returns-clause-fails g c =
     let out = c.in_ok-write_out.ensures in
     errs_alone c.take-step.result c.take-step.ensures.fault (λ e stops before given after had told running consumed.
-    block_fails e.fault e.line c.args.block.now c.args.gathered.now c.take-step.new.self c.write_out.new.gathered before given after had _ _ told _ _ stops out.ok out.written out.reported running consumed)
+    block_fails e.fault e.line c.args.block.now c.args.gathered.now c.take-step.new.self c.write_out.new.gathered before
+    given after had _ _ told _ _ stops out.ok out.written out.reported running consumed)

@@ -1,8 +1,8 @@
-use Rattle.std.proofs.Common.{◌<◌, length, take, ap, arith}
+use Rattle.std.proofs.Common.{arith}
 use Rattle.std.proofs.KnownBytes.{Keeps-refl}
 use Rattle.std.proofs.lemmas.Result.{err_from_is_err_and}
 use Rattle.bson_run.proofs.LinesLaws.{errs_alone, oks_with}
-use Rattle.bson_run.proofs.LinesRuns.{starts, unmoved, unread}
+use Rattle.bson_run.proofs.LinesRuns.{drained, starts, unread}
 use Rattle.bson_run.proofs.lines.run_on.Goals as goal
 
 pub loop-init : goal.loop-init
@@ -13,21 +13,19 @@ loop-init g c = record {
 
 pub returns-in_default-clause-fails : goal.returns-in_default-clause-fails
 returns-in_default-clause-fails g c =
-    rw c.stopped.ensures.fault (unread c.stopped.result.line _ _ _ _ _ _ _ c.loop.gathered c.stopped.ensures.line c.in_default.ensures.bytes c.loop.invariant.running)
+    rw c.stopped.ensures.fault
+    (unread c.stopped.result.line _ _ _ _ _ _ _ c.loop.gathered c.stopped.ensures.line c.in_default.ensures.bytes
+    c.loop.invariant.running)
 
 pub returns-then-count-eq0-clause-done : goal.returns-then-count-eq0-clause-done
 returns-then-count-eq0-clause-done g c =
-    let bytes = c.in-Ok.ensures.bytes in
-    let running = unmoved _ _ _ _ _ _ _ (take c.in-Ok.count c.read.new.buf) c.loop.gathered (ap (λ n. take n c.read.new.buf) c.if-count-eq0.true) bytes.0 c.loop.invariant.running in
-    let room : 0 < length c.read.new.buf = omega arith in
-    oks_with c.end.result c.end.ensures.done (λ counts done. done _ _ _ _ running (bytes.1 c.if-count-eq0.true room))
+    let all = drained c.read.new.buf c.if-count-eq0.true (omega arith) c.in-Ok.ensures.bytes c.loop.invariant.running in
+    oks_with c.end.result c.end.ensures.done (λ counts done. done _ _ _ _ all.0 all.1)
 
 pub returns-then-count-eq0-clause-fails : goal.returns-then-count-eq0-clause-fails
 returns-then-count-eq0-clause-fails g c =
-    let bytes = c.in-Ok.ensures.bytes in
-    let running = unmoved _ _ _ _ _ _ _ (take c.in-Ok.count c.read.new.buf) c.loop.gathered (ap (λ n. take n c.read.new.buf) c.if-count-eq0.true) bytes.0 c.loop.invariant.running in
-    let room : 0 < length c.read.new.buf = omega arith in
-    errs_alone c.end.result c.end.ensures.fails (λ e fails. fails _ _ _ _ running (bytes.1 c.if-count-eq0.true room))
+    let all = drained c.read.new.buf c.if-count-eq0.true (omega arith) c.in-Ok.ensures.bytes c.loop.invariant.running in
+    errs_alone c.end.result c.end.ensures.fails (λ e fails. fails _ _ _ _ all.0 all.1)
 
 pub returns-in_err-pass_on-clause-fails : goal.returns-in_err-pass_on-clause-fails
 returns-in_err-pass_on-clause-fails g c =
@@ -42,4 +40,6 @@ loop-preserved g c = record {
 
 pub returns-clause-fails : goal.returns-clause-fails
 returns-clause-fails g c =
-    rw c.stopped-2.ensures.fault (unread c.stopped-2.result.line _ _ _ _ _ _ _ c.loop.gathered c.stopped-2.ensures.line (Keeps-refl (g.R.Read.remaining c.loop.reader)) c.loop.invariant.running)
+    rw c.stopped-2.ensures.fault
+    (unread c.stopped-2.result.line _ _ _ _ _ _ _ c.loop.gathered c.stopped-2.ensures.line
+    (Keeps-refl (g.R.Read.remaining c.loop.reader)) c.loop.invariant.running)

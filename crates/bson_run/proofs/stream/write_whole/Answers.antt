@@ -11,5 +11,6 @@ loop-at-preserved g c =
     let at = c.loop-at.at in
     let n = c.in-Ok.count in (
       search (rules, places),
-      subst (Appends _ _) (ap (λ l. take at bytes ++ take n l) (take_rest bytes at) ∙ sym (take-add at n bytes)) (Appends-trans _ _ _ _ _ c.loop-at.invariant.1 c.in-Ok.ensures.bytes),
+      subst (Appends _ _) (ap (λ l. take at bytes ++ take n l) (take_rest bytes at) ∙ sym (take-add at n bytes))
+          (Appends-trans _ _ _ _ _ c.loop-at.invariant.1 c.in-Ok.ensures.bytes),
     )

@@ -8,4 +8,5 @@ returns-in-Ok-from_str-clause-done c z =
     (subst (λ t. Parses t c.in-Ok-from_str.decimal) c.in-Ok.ensures.cases.0 c.in-Ok-from_str.ensures.answer.0)
 
 pub returns-in-Err-clause-no_such_text : goal.returns-in-Err-clause-no_such_text
-returns-in-Err-clause-no_such_text c z u b p = c.in-Err.ensures.answer.0 b (subst (λ t. Parses t b) (sym c.in-Ok.ensures.cases.0) p)
+returns-in-Err-clause-no_such_text c z u b p =
+    c.in-Err.ensures.answer.0 b (subst (λ t. Parses t b) (sym c.in-Ok.ensures.cases.0) p)

@@ -4,24 +4,32 @@ use Rattle.bson_run.specs.LinesSteps.{IsJudged, IsTold}
 use Rattle.bson_run.specs.declared.gathered.Gathered.{Gathered}
 use Rattle.bson_run.proofs.LinesLaws.{blank_taken, written_taken, told_taken, judged_bad}
 use Rattle.bson_run.proofs.gathered.Gathered.end_line.Goals as goal
-use Rattle.bson_run.proofs.gathered.Gathered.end_line.Goals.{in-Ok-None, in-Ok-Some+in_ok-add-in-Ok-Some, in-Err+in_ok-refuse-in-Err}
+use Rattle.bson_run.proofs.gathered.Gathered.end_line.Goals.{in-Ok-None, in-Ok-Some+in_ok-add-in-Ok-Some}
+use Rattle.bson_run.proofs.gathered.Gathered.end_line.Goals.{in-Err+in_ok-refuse-in-Err}
 
 pub returns-clause-ok : goal.returns-clause-ok
 returns-clause-ok c =
     let self = c.args.self.now in
-    let text : c.text.result.now ≡ text_of self.lines self.line.items = c.text.ensures ∙ ap (text_of self.lines) c.deref.ensures.value in
+    let text : c.text.result.now ≡ text_of self.lines self.line.items =
+    c.text.ensures ∙ ap (text_of self.lines) c.deref.ensures.value in
     elim c.match-judge.branch [
       | in-Ok-None w ↦
-          blank_taken self _ c.clear.ensures.items (ap (λ (s : Gathered). s.lines + 1) w.self-is) (ap (λ (s : Gathered). s.output.items) w.self-is) (ap (λ (s : Gathered). s.told.items) w.self-is)
-          (ap (λ (s : Gathered). s.refused) w.self-is) (subst IsBlank text (c.judge.ensures.blank (w.in-Ok-None.is ∙ ap Ok w.in-Ok-None.field-0-is)))
+          blank_taken self _ c.clear.ensures.items (ap (λ (s : Gathered). s.lines + 1) w.self-is)
+          (ap (λ (s : Gathered). s.output.items) w.self-is) (ap (λ (s : Gathered). s.told.items) w.self-is)
+          (ap (λ (s : Gathered). s.refused) w.self-is)
+          (subst IsBlank text (c.judge.ensures.blank (w.in-Ok-None.is ∙ ap Ok w.in-Ok-None.field-0-is)))
       | in-Ok-Some+in_ok-add-in-Ok-Some w ↦
           let added = w.in_ok-add-in-Ok-Some.ensures in
           written_taken self _ w.in-Ok-Some.output.items c.clear.ensures.items
           (ap (λ (s : Gathered). s.lines + 1) w.self-is ∙ ap (λ n. n + 1) added.same.2)
-          (ap (λ (s : Gathered). s.output.items) w.self-is ∙ added.ok ∙ ap (λ l. self.output.items ++ l) w.deref-in-Ok-Some.ensures.value ∙ ap (λ (v : Vec ℕ Global). self.output.items ++ v.items) w.in-Ok-Some.output-is)
+          (ap (λ (s : Gathered). s.output.items) w.self-is ∙ added.ok
+          ∙ ap (λ l. self.output.items ++ l) w.deref-in-Ok-Some.ensures.value
+          ∙ ap (λ (v : Vec ℕ Global). self.output.items ++ v.items) w.in-Ok-Some.output-is)
           (ap (λ (s : Gathered). s.told.items) w.self-is ∙ ap (λ v. v.items) added.same.1)
           (ap (λ (s : Gathered). s.refused) w.self-is ∙ added.same.3)
-          (subst (λ x. Writes c.args.task x w.in-Ok-Some.output.items) text (subst (λ some. IfSome some (λ output. Writes c.args.task c.text.result.now output.items)) w.in-Ok-Some.field-0-is w.in-Ok-Some.ensures.ok))
+          (subst (λ x. Writes c.args.task x w.in-Ok-Some.output.items) text
+          (subst (λ some. IfSome some (λ output. Writes c.args.task c.text.result.now output.items))
+          w.in-Ok-Some.field-0-is w.in-Ok-Some.ensures.ok))
       | in-Err+in_ok-refuse-in-Err w ↦
           let refused = w.in_ok-refuse-in-Err.ensures in
           told_taken self _ w.in-Err.fault c.clear.ensures.items
@@ -29,5 +37,7 @@ returns-clause-ok c =
           (ap (λ (s : Gathered). s.output.items) w.self-is ∙ ap (λ v. v.items) refused.same.1)
           (ap (λ (s : Gathered). s.refused) w.self-is ∙ refused.ok.1)
           (judged_bad w.in-Err.fault _ (subst (IsJudged w.in-Err.fault) text w.in-Err.ensures.fault) refused.ok.0)
-          (subst (IsTold c.args.on_refusal (self.lines + 1) w.in-Err.fault (text_of self.lines self.line.items) self.told.items) (sym (ap (λ (s : Gathered). s.told.items) w.self-is)) refused.ok.2)
+          (subst (IsTold c.args.on_refusal (self.lines + 1) w.in-Err.fault
+          (text_of self.lines self.line.items) self.told.items)
+          (sym (ap (λ (s : Gathered). s.told.items) w.self-is)) refused.ok.2)
     ]

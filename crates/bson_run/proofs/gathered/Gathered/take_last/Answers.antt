@@ -14,4 +14,6 @@ returns-clause-ok c =
 pub returns-clause-fault : goal.returns-clause-fault
 returns-clause-fault c =
     let some : 0 < length c.args.self.now.line.items = grind (arith, common_steps) in
-    errs c.end_line.result c.end_line.ensures.same c.end_line.ensures.fault (λ e same p. last_stops e.fault e.line c.args.self.now c.end_line.new.self some p.0 p.1 same.0 (ap (λ v. v.items) same.1))
+    errs c.end_line.result c.end_line.ensures.same c.end_line.ensures.fault
+    (λ e same p. last_stops e.fault e.line c.args.self.now c.end_line.new.self some p.0 p.1 same.0
+    (ap (λ v. v.items) same.1))
