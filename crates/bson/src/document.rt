@@ -10,7 +10,7 @@ mod iter;
 mod place;
 
 use crate::bson::Bson;
-use bson_store::{PairStore, SmallPairs};
+use bson_store::SmallPairs;
 pub use entry::{Entry, OccupiedEntry, VacantEntry};
 pub use getters::{ValueAccessError, ValueAccessResult};
 pub use insert::Refused;
@@ -43,9 +43,7 @@ pub struct Document {
 
 impl Document {
     ghost use Rattle.std.specs.Prelude.{◌≡◌, []};
-    ghost use Rattle.bson_model.specs.Value.{document};
-    ghost use Rattle.bson_model.specs.Same.{same};
-    ghost use Rattle.bson.specs.View.{contents, pairs_view};
+    ghost use Rattle.bson.specs.View.{contents};
 
     /// A document of no pairs, which takes its memory from `alloc` and has taken none yet.
     pub fn new(alloc: Global) -> Document
@@ -54,26 +52,5 @@ impl Document {
         Document {
             pairs: SmallPairs::new(alloc),
         }
-    }
-
-    #[cycle(same)]
-    pub(crate) fn is_same(&self, other: &Document) -> bool
-        ensures { result
-            ≡ same (document (pairs_view (contents self.now))) (document (pairs_view (contents other.now))) }
-    {
-        if self.pairs.len() != other.pairs.len() {
-            return false;
-        }
-        for i in 0..self.pairs.len() {
-            match other.pairs.find(self.pairs.key_at(i).as_str()) {
-                None => return false,
-                Some(j) => {
-                    if !crate::same::same_values(self.pairs.value_at(i), other.pairs.value_at(j)) {
-                        return false;
-                    }
-                }
-            }
-        }
-        true
     }
 }

@@ -25,7 +25,7 @@ use thiserror::Error;
 /// }
 /// ```
 #[derive(Drop, Error)]
-#[error("out of memory: the pair was not insert_pair")]
+#[error("out of memory: the pair was not put")]
 pub struct Refused {
     /// The key.
     pub key: String,

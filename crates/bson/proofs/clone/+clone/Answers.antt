@@ -2,7 +2,7 @@ use Rattle.std.proofs.Common.{◌≡◌, ◌++◌, ◌∷◌, [], string_bytes, 
 use Rattle.bson_store.specs.Pairs.{position_of}
 use Rattle.bson.proofs.Places.{pair_from}
 use Rattle.bson.proofs.Copied.{viewed, copy_lacks, copy_next}
-use Rattle.bson.proofs.clone.+copy.Goals as goal
+use Rattle.bson.proofs.clone.+clone.Goals as goal
 
 pub copy_pairs-push-requires : goal.copy_pairs-push-requires
 copy_pairs-push-requires t c =
