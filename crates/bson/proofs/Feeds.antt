@@ -1,6 +1,6 @@
 -- What a document feeds, turn by turn.
-use Rattle.std.proofs.Common.{◌≡◌, ℕ, ◌+◌, ◌<◌, List, [], ◌∷◌, ◌++◌, map, length, fold, drop, get_or, nat_cmp, refl, sym, ap, ◌∙◌, arith}
-use Rattle.std.proofs.lemmas.List.{drop_more}
+use Rattle.std.proofs.Common.{◌≡◌, ℕ, ◌+◌, List, [], ◌∷◌, ◌++◌, map, length, fold, nat_cmp, refl, sym, ap, ◌∙◌, arith}
+use Rattle.std.proofs.lemmas.List.Sums.{fold-append}
 use Rattle.std.specs.Cmp.Lexicographic.{slice_cmp}
 use Rattle.std.specs.declared.cmp.Ordering.TheVariants.{Less, Equal, Greater}
 use Rattle.std.specs.FinMap.Entries.{put, by_order}
@@ -64,18 +64,7 @@ list_words vs = items_words (sorted_items (values_view vs))
 pub array_words : (vs : List Bson) → feed (array (values_view vs)) ≡ usize (length vs) ++ list_words vs
 array_words vs = ap (λ n. usize n ++ list_words vs) (count-items vs)
 
-pub fold-append : {S A : Type 0} (step : S → A → S) (s : S) (xs ys : List A) → fold step s (xs ++ ys) ≡ fold step (fold step s xs) ys
-fold-append step s [] ys = refl
-fold-append step s (x ∷ xs) ys = fold-append step (step s x) xs ys
-
 module _ {S : Type 0} (write : S → List ℕ → S) where
-  -- one more element
-  pub feeds_item : (s₀ s₁ s₂ : S) (xs : List Bson) (i : ℕ) (x : Bson) → i < length xs → x ≡ get_or xs i x → s₂ ≡ fold write s₁ (feed (bson_view x))
-      → fold write s₀ (list_words xs) ≡ fold write s₁ (list_words (drop i xs)) → fold write s₀ (list_words xs) ≡ fold write s₂ (list_words (drop (i + 1) xs))
-  feeds_item s₀ s₁ s₂ xs i x h is e before =
-      let here : drop i xs ≡ x ∷ drop (i + 1) xs = drop_more xs i x h ∙ ap (λ y. y ∷ drop (i + 1) xs) (sym is) in
-      before ∙ ap (λ ys. fold write s₁ (list_words ys)) here ∙ fold-append write s₁ (feed (bson_view x)) _ ∙ ap (λ s. fold write s (list_words (drop (i + 1) xs))) (sym e)
-
   -- one more pair
   pub feeds_pair : (s₀ s₁ s₂ s₃ : S) (all es rest : List Entry) (k : List ℕ) (v : Bson) → es ≡ (k, v) ∷ rest → s₂ ≡ fold write s₁ (str k) → s₃ ≡ fold write s₂ (feed (bson_view v))
       → fold write s₀ (turn_words all) ≡ fold write s₁ (turn_words es) → fold write s₀ (turn_words all) ≡ fold write s₃ (turn_words rest)

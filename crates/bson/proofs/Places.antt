@@ -1,5 +1,6 @@
 -- `same` of two documents, by the places of the pairs.
-use Rattle.std.proofs.Common.{◌≡◌, ℕ, zero, suc, ◌<◌, Bool, true, false, cond, List, [], ◌∷◌, length, get_or, Option, None, Some, is_some, option_map, slice_get, refl, sym, ap, ◌∙◌, arith, true≢false, ◌&&◌, subst}
+use Rattle.std.proofs.Common.{◌≡◌, ℕ, zero, suc, ◌<◌, Bool, true, false, cond, List, [], ◌∷◌, length, get_or, Option, None, Some, is_some, option_map, slice_get, refl, sym, ap, ◌∙◌, arith, true≢false, subst}
+use Rattle.std.proofs.lemmas.Bool.{and_from, and_parts}
 use Rattle.std.specs.Str.{bytes_eq}
 use Rattle.bson_store.specs.Pairs as store
 use Rattle.bson_store.specs.Pairs.{HasDistinctKeys, position_of}
@@ -38,18 +39,6 @@ not_same false h = refl
 none_of : {A : Type 0} (r : Option A) → is_some r ≡ false → r ≡ None
 none_of None e = refl
 none_of (Some a) e = cc
-
-and_first : (a b : Bool) → (a && b) ≡ true → a ≡ true
-and_first true b e = refl
-and_first false b e = e
-
-and_second : (a b : Bool) → (a && b) ≡ true → b ≡ true
-and_second true b e = e
-and_second false b e = cc
-
-and_both : (a b : Bool) → a ≡ true → b ≡ true → (a && b) ≡ true
-and_both true b d e = e
-and_both false b d e = d
 
 module _ (ps qs : Entries) where
   -- what is at a key of one is the same as what is at it in the other
@@ -111,7 +100,7 @@ unfolding same_items
 items_differ [] [] n h = n refl
 items_differ [] (w ∷ ws) n h = cc
 items_differ (v ∷ vs) [] n h = cc
-items_differ (v ∷ vs) (w ∷ ws) n h = items_differ vs ws (λ e. n (ap suc e)) (and_second (same (bson_view v) (bson_view w)) _ h)
+items_differ (v ∷ vs) (w ∷ ws) n h = items_differ vs ws (λ e. n (ap suc e)) (and_parts (same (bson_view v) (bson_view w)) _ h).1
 
 pub items_differ_at : (vs ws : List Bson) (i : ℕ) (v w : Bson) → slice_get vs i ≡ Some v → slice_get ws i ≡ Some w → same (bson_view v) (bson_view w) ≡ false
     → same_items (values_view vs) (values_view ws) ≡ true → ⊥
@@ -121,12 +110,12 @@ items_differ_at (x ∷ vs) [] i v w e f n h = cc
 items_differ_at (x ∷ vs) (y ∷ ws) zero v w e f n h =
     let p : x ≡ v = cc in
     let q : y ≡ w = cc in
-    true≢false (sym (and_first (same (bson_view x) (bson_view y)) _ h) ∙ (λ j. same (bson_view (p j)) (bson_view (q j))) ∙ n)
-items_differ_at (x ∷ vs) (y ∷ ws) (suc i) v w e f n h = items_differ_at vs ws i v w e f n (and_second (same (bson_view x) (bson_view y)) _ h)
+    true≢false (sym (and_parts (same (bson_view x) (bson_view y)) _ h).0 ∙ (λ j. same (bson_view (p j)) (bson_view (q j))) ∙ n)
+items_differ_at (x ∷ vs) (y ∷ ws) (suc i) v w e f n h = items_differ_at vs ws i v w e f n (and_parts (same (bson_view x) (bson_view y)) _ h).1
 
 pub items_all : (vs ws : List Bson) → length vs ≡ length ws → ((i : ℕ) (d : Bson) → i < length vs → same (bson_view (get_or vs i d)) (bson_view (get_or ws i d)) ≡ true) → same_items (values_view vs) (values_view ws) ≡ true
 unfolding same_items
 items_all [] [] n h = refl
 items_all [] (w ∷ ws) n h = absurd (omega arith)
 items_all (v ∷ vs) [] n h = absurd (omega arith)
-items_all (v ∷ vs) (w ∷ ws) n h = and_both (same (bson_view v) (bson_view w)) _ (h 0 v (omega arith)) (items_all vs ws (omega arith) (λ i d l. h (suc i) d (omega arith)))
+items_all (v ∷ vs) (w ∷ ws) n h = and_from (same (bson_view v) (bson_view w)) _ (h 0 v (omega arith)) (items_all vs ws (omega arith) (λ i d l. h (suc i) d (omega arith)))

@@ -1,9 +1,11 @@
 -- The texts of lists and documents by those of what they hold.
-use Rattle.std.proofs.Common.{◌≡◌, ℕ, ◌<◌, ◌-◌, ◌^◌, false, append-nil, arith, List, [], ◌∷◌, ◌++◌, length, map, codes, refl, sym, ap, ◌∙◌}
+use Rattle.std.proofs.Common.{◌≡◌, ℕ, ◌<◌, ◌≤◌, ◌-◌, ◌^◌, false, append-nil, arith, List, [], ◌∷◌, ◌++◌, length, map, take}
+use Rattle.std.proofs.Common.{codes, refl, ap}
 use Rattle.std.specs.List.{join_by}
 use Rattle.bson_model.specs.Value.{array, document}
-use Rattle.bson_model.specs.Displayed.{displayed, items_displayed, entries_displayed, enclosed, entry}
-use Rattle.bson_model.specs.Pretty.{pretty, item_lines, entry_lines, blanks, inner, closing}
+use Rattle.bson_model.specs.Displayed.{displayed, items_displayed, entries_displayed, entry}
+use Rattle.bson_model.specs.Pretty.{pretty, item_lines, entry_lines, closing}
+use Rattle.bson.specs.Lines.{item_line, entry_line}
 use Rattle.bson.specs.View.{bson_view, values_view, pairs_view}
 use Rattle.bson.specs.declared.bson.Bson.{Bson}
 use Rattle.bson.proofs.Joined.{enclosed_all}
@@ -14,12 +16,6 @@ item_displayed v = displayed (bson_view v)
 
 abbrev pub entry_displayed : Entry → List ℕ
 entry_displayed p = entry p.0 (displayed (bson_view p.1))
-
-abbrev pub item_line : ℕ → Bson → List ℕ
-item_line i v = codes "\n" ++ (blanks i ++ pretty (inner i) (bson_view v))
-
-abbrev pub entry_line : ℕ → Entry → List ℕ
-entry_line i p = blanks i ++ entry p.0 (pretty (inner i) (bson_view p.1))
 
 items : (vs : List Bson) → items_displayed (values_view vs) ≡ map item_displayed vs
 items [] = refl
@@ -37,14 +33,21 @@ pair_lines : (i : ℕ) (ps : List Entry) → entry_lines i (pairs_view ps) ≡ m
 pair_lines i [] = refl
 pair_lines i (p ∷ ps) = ap (λ l. entry_line i p ∷ l) (pair_lines i ps)
 
-pub array_displayed : (vs : List Bson) → 0 < length vs → codes "[" ++ (join_by item_displayed (codes ", ") vs ++ codes "]") ≡ displayed (array (values_view vs))
-array_displayed vs h = enclosed_all item_displayed (codes "[]") (codes "[") (codes ", ") (codes "]") vs h ∙ ap (enclosed (codes "[]") (codes "[") (codes ", ") (codes "]")) (sym (items vs))
+pub array_displayed : (vs : List Bson) (i : ℕ) → 0 < length vs → length vs ≤ i
+    → codes "[" ++ (join_by item_displayed (codes ", ") (take i vs) ++ codes "]") ≡ displayed (array (values_view vs))
+array_displayed vs i = enclosed_all item_displayed (codes "[]") (codes "[") (codes ", ") (codes "]") vs i _ (items vs)
 
-pub document_displayed : (ps : List Entry) → 0 < length ps → codes "{ " ++ (join_by entry_displayed (codes ", ") ps ++ codes " }") ≡ displayed (document (pairs_view ps))
-document_displayed ps h = enclosed_all entry_displayed (codes "{}") (codes "{ ") (codes ", ") (codes " }") ps h ∙ ap (enclosed (codes "{}") (codes "{ ") (codes ", ") (codes " }")) (sym (entries ps))
+pub document_displayed : (ps : List Entry) (i : ℕ) → 0 < length ps → length ps ≤ i
+    → codes "{ " ++ (join_by entry_displayed (codes ", ") (take i ps) ++ codes " }")
+    ≡ displayed (document (pairs_view ps))
+document_displayed ps i = enclosed_all entry_displayed (codes "{}") (codes "{ ") (codes ", ") (codes " }") ps i _ (entries ps)
 
-pub array_pretty : (i : ℕ) (vs : List Bson) → 0 < length vs → codes "[" ++ (join_by (item_line i) (codes ", ") vs ++ closing i (codes "]")) ≡ pretty i (array (values_view vs))
-array_pretty i vs h = enclosed_all (item_line i) (codes "[]") (codes "[") (codes ", ") (closing i (codes "]")) vs h ∙ ap (enclosed (codes "[]") (codes "[") (codes ", ") (closing i (codes "]"))) (sym (lines i vs))
+pub array_pretty : (n : ℕ) (vs : List Bson) (i : ℕ) → 0 < length vs → length vs ≤ i
+    → codes "[" ++ (join_by (item_line n) (codes ", ") (take i vs) ++ closing n (codes "]"))
+    ≡ pretty n (array (values_view vs))
+array_pretty n vs i = enclosed_all (item_line n) (codes "[]") (codes "[") (codes ", ") (closing n (codes "]")) vs i _ (lines n vs)
 
-pub document_pretty : (i : ℕ) (ps : List Entry) → 0 < length ps → codes "{\n" ++ (join_by (entry_line i) (codes ",\n") ps ++ closing i (codes "}")) ≡ pretty i (document (pairs_view ps))
-document_pretty i ps h = enclosed_all (entry_line i) (codes "{}") (codes "{\n") (codes ",\n") (closing i (codes "}")) ps h ∙ ap (enclosed (codes "{}") (codes "{\n") (codes ",\n") (closing i (codes "}"))) (sym (pair_lines i ps))
+pub document_pretty : (n : ℕ) (ps : List Entry) (i : ℕ) → 0 < length ps → length ps ≤ i
+    → codes "{\n" ++ (join_by (entry_line n) (codes ",\n") (take i ps) ++ closing n (codes "}"))
+    ≡ pretty n (document (pairs_view ps))
+document_pretty n ps i = enclosed_all (entry_line n) (codes "{}") (codes "{\n") (codes ",\n") (closing n (codes "}")) ps i _ (pair_lines n ps)

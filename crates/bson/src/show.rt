@@ -81,7 +81,8 @@ fn show_items<W: fmt::Write>(items: &Vec<Bson>, f: &mut fmt::Formatter<W>) -> fm
 
 #[cycle(show)]
 fn show_pairs<W: fmt::Write>(document: &Document, f: &mut fmt::Formatter<W>) -> fmt::Result
-    ensures { WritesOnOk W.write_str_gives f.old result (displayed (document_of (pairs_view document.now.pairs))) f.new }
+    ensures { WritesOnOk W.write_str_gives f.old result
+        (displayed (document_of (pairs_view document.now.pairs))) f.new }
 {
     let pairs = &document.pairs;
     if pairs.len() == 0 {
