@@ -20,11 +20,13 @@ module _ {X : Type 0} where
   between sep [] = []
   between sep (x ∷ xs) = sep
 
-  join_last : (f : X → List ℕ) (sep : List ℕ) (xs : List X) (x : X) → join_by f sep (xs ++ x ∷ []) ≡ join_by f sep xs ++ (between sep xs ++ f x)
+  join_last : (f : X → List ℕ) (sep : List ℕ) (xs : List X) (x : X)
+      → join_by f sep (xs ++ x ∷ []) ≡ join_by f sep xs ++ (between sep xs ++ f x)
   unfolding between
   join_last f sep [] x = append-nil (f x)
   join_last f sep (y ∷ ys) x =
-      ap (λ l. f y ++ l) (flat_map-append (λ z. sep ++ f z) ys (x ∷ []) ∙ ap (λ l. flat_map (λ z. sep ++ f z) ys ++ l) (append-nil (sep ++ f x)))
+      ap (λ l. f y ++ l) (flat_map-append (λ z. sep ++ f z) ys (x ∷ [])
+          ∙ ap (λ l. flat_map (λ z. sep ++ f z) ys ++ l) (append-nil (sep ++ f x)))
       ∙ sym (append_assoc (f y) (flat_map (λ z. sep ++ f z) ys) (sep ++ f x))
 
   between-take : (sep : List ℕ) (xs : List X) (i : ℕ) → i < length xs → between sep (take i xs) ≡ cond (i == 0) [] sep
@@ -39,9 +41,11 @@ module _ {X : Type 0} where
   at_get (y ∷ ys) (suc i) x e = at_get ys i x e
 
   -- the text of one element more
-  pub join_more : (f : X → List ℕ) (sep : List ℕ) (xs : List X) (i : ℕ) (x : X) → i < length xs → x ≡ get_or xs i x → join_by f sep (take i xs) ++ (cond (i == 0) [] sep ++ f x) ≡ join_by f sep (take (i + 1) xs)
+  pub join_more : (f : X → List ℕ) (sep : List ℕ) (xs : List X) (i : ℕ) (x : X) → i < length xs → x ≡ get_or xs i x
+      → join_by f sep (take i xs) ++ (cond (i == 0) [] sep ++ f x) ≡ join_by f sep (take (i + 1) xs)
   join_more f sep xs i x h is =
-      ap (λ s. join_by f sep (take i xs) ++ (s ++ f x)) (sym (between-take sep xs i h)) ∙ sym (join_last f sep (take i xs) x)
+      ap (λ s. join_by f sep (take i xs) ++ (s ++ f x)) (sym (between-take sep xs i h))
+          ∙ sym (join_last f sep (take i xs) x)
       ∙ ap (λ y. join_by f sep (take i xs ++ y ∷ [])) is ∙ ap (join_by f sep) (sym (take_more xs i x h))
 
   enclosed_some : (f : X → List ℕ) (empty opening sep closing : List ℕ) (xs : List X) → 0 < length xs
@@ -60,7 +64,8 @@ module _ {X : Type 0} where
 
 -- a text to which three are appended in turn
 pub appended : (o m a b s t u : List ℕ) → s ≡ o ++ m → t ≡ s ++ a → u ≡ t ++ b → u ≡ o ++ (m ++ (a ++ b))
-appended o m a b s t u p q r = r ∙ ap (λ l. l ++ b) (q ∙ ap (λ l. l ++ a) p) ∙ append_assoc (o ++ m) a b ∙ append_assoc o m (a ++ b)
+appended o m a b s t u p q r = r ∙ ap (λ l. l ++ b) (q ∙ ap (λ l. l ++ a) p) ∙ append_assoc (o ++ m) a b
+    ∙ append_assoc o m (a ++ b)
 
 -- the same of three writings to a plain formatter
 pub written : {W : Type 0} (took : W → List ℕ → W → Type 0) (f g h i : Formatter W) (a b c all : List ℕ)

@@ -1,5 +1,6 @@
 -- The texts of lists and documents by those of what they hold.
-use Rattle.std.proofs.Common.{◌≡◌, ℕ, ◌<◌, ◌≤◌, ◌-◌, ◌^◌, false, append-nil, arith, List, [], ◌∷◌, ◌++◌, length, map, take}
+use Rattle.std.proofs.Common.{◌≡◌, ℕ, ◌<◌, ◌≤◌, ◌-◌, ◌^◌, false, append-nil, arith, List, [], ◌∷◌, ◌++◌, length, map}
+use Rattle.std.proofs.Common.{take}
 use Rattle.std.proofs.Common.{codes, refl, ap}
 use Rattle.std.specs.List.{join_by}
 use Rattle.bson_model.specs.Value.{array, document}
@@ -40,14 +41,17 @@ array_displayed vs i = enclosed_all item_displayed (codes "[]") (codes "[") (cod
 pub document_displayed : (ps : List Entry) (i : ℕ) → 0 < length ps → length ps ≤ i
     → codes "{ " ++ (join_by entry_displayed (codes ", ") (take i ps) ++ codes " }")
     ≡ displayed (document (pairs_view ps))
-document_displayed ps i = enclosed_all entry_displayed (codes "{}") (codes "{ ") (codes ", ") (codes " }") ps i _ (entries ps)
+document_displayed ps i = enclosed_all entry_displayed (codes "{}") (codes "{ ") (codes ", ") (codes " }")
+    ps i _ (entries ps)
 
 pub array_pretty : (n : ℕ) (vs : List Bson) (i : ℕ) → 0 < length vs → length vs ≤ i
     → codes "[" ++ (join_by (item_line n) (codes ", ") (take i vs) ++ closing n (codes "]"))
     ≡ pretty n (array (values_view vs))
-array_pretty n vs i = enclosed_all (item_line n) (codes "[]") (codes "[") (codes ", ") (closing n (codes "]")) vs i _ (lines n vs)
+array_pretty n vs i = enclosed_all (item_line n) (codes "[]") (codes "[") (codes ", ") (closing n (codes "]"))
+    vs i _ (lines n vs)
 
 pub document_pretty : (n : ℕ) (ps : List Entry) (i : ℕ) → 0 < length ps → length ps ≤ i
     → codes "{\n" ++ (join_by (entry_line n) (codes ",\n") (take i ps) ++ closing n (codes "}"))
     ≡ pretty n (document (pairs_view ps))
-document_pretty n ps i = enclosed_all (entry_line n) (codes "{}") (codes "{\n") (codes ",\n") (closing n (codes "}")) ps i _ (pair_lines n ps)
+document_pretty n ps i = enclosed_all (entry_line n) (codes "{}") (codes "{\n") (codes ",\n") (closing n (codes "}"))
+    ps i _ (pair_lines n ps)

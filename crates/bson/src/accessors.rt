@@ -16,8 +16,8 @@ use bson_scalar::db_pointer::DbPointer;
 use bson_scalar::oid::ObjectId;
 use bson_scalar::timestamp::Timestamp;
 
-/// Each accessor gives what a value of its kind holds, and None for a value of any other kind. What is written
-/// through a `_mut` form is then what the value holds.
+/// Each accessor gives what a value of its kind holds, and None for a value of any other kind. What
+/// is written through a `_mut` form is then what the value holds.
 impl Bson {
     /// The pattern of a `Double` (IEEE 754 binary64).
     pub fn as_f64(&self) -> Option<u64>

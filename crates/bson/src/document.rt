@@ -1,7 +1,7 @@
 //! Documents.
 //!
-//! `get` looks up by key, `insert` puts and takes, `entry` is the place of one key, `place` is the pair at one place,
-//! and `iter` walks the pairs. The typed look-ups stand in `getters`.
+//! `get` looks up by key, `insert` puts and takes, `entry` is the place of one key, `place` is the
+//! pair at one place, and `iter` walks the pairs. The typed look-ups stand in `getters`.
 mod entry;
 mod get;
 mod getters;
@@ -18,15 +18,16 @@ pub use iter::{IntoIter, Iter, Keys, Values};
 pub use place::PlaceMut;
 use std::alloc::Global;
 
-/// A document of BSON 1.1: a list of pairs of a key and a value, in the order in which the keys were put, in which no
-/// key stands twice.
+/// A document of BSON 1.1: a list of pairs of a key and a value, in the order in which the keys
+/// were put, in which no key stands twice.
 ///
 /// Two documents are equal if they have the same keys, in any order, and equal values under each.
 ///
-/// Of n pairs, in the worst case and whatever the keys are, a key is found, or put where it is new, in the order of
-/// log n comparisons of keys; where there are no more than eight pairs, in n. `remove` takes in the order of log n for
-/// each pair behind the one that it takes out. `==`, `Hash`, and writing the text of a document whose keys don't ascend
-/// take in the order of n log n. `remove`, `==` and `Hash` take no memory.
+/// Of n pairs, in the worst case and whatever the keys are, a key is found, or put where it is new,
+/// in the order of log n comparisons of keys; where there are no more than eight pairs, in n.
+/// `remove` takes in the order of log n for each pair behind the one that it takes out. `==`,
+/// `Hash`, and writing the text of a document whose keys don't ascend take in the order of n log n.
+/// `remove`, `==` and `Hash` take no memory.
 ///
 /// ```
 /// let mut document = Document::new(alloc);

@@ -1,7 +1,8 @@
 //! Typed access to a document's values.
 //!
-//! Each getter answers `NotPresent` exactly where the key is absent, and `UnexpectedType` exactly where its value
-//! is of another kind. What is written through a `_mut` form becomes the value of that key, and the rest stays.
+//! Each getter answers `NotPresent` exactly where the key is absent, and `UnexpectedType` exactly
+//! where its value is of another kind. What is written through a `_mut` form becomes the value of
+//! that key, and the rest stays.
 use crate::bson::Array;
 use crate::document::Document;
 use crate::kinds::Kind;
@@ -105,9 +106,9 @@ impl Document {
 
     /// The document at the key, to write.
     ///
-    /// Nothing is promised of this document after the call, also where it is refused: its contract can't say so in this
-    /// form. [`Document::change_document`] promises it whole, and so do [`Document::get_mut`] and then
-    /// [`Bson::as_document_mut`](crate::Bson::as_document_mut).
+    /// Nothing is promised of this document after the call, also where it is refused: its contract
+    /// can't say so in this form. [`Document::change_document`] promises it whole, and so do
+    /// [`Document::get_mut`] and then [`Bson::as_document_mut`](crate::Bson::as_document_mut).
     pub fn get_document_mut(&mut self, key: &str) -> ValueAccessResult<&mut Document>
         ensures value { ok_copied_mut result ≡ held_at document_of key.now self.old }
     {
@@ -116,9 +117,9 @@ impl Document {
 
     /// Calls `change` on the document at the key, and answers what that returned.
     ///
-    /// The document that `change` leaves becomes the value of the key; the key keeps its place, and the other pairs
-    /// stay.
-    /// Where the call is refused, `change` was not called and this document is as it was.
+    /// The document that `change` leaves becomes the value of the key; the key keeps its place, and
+    /// the other pairs stay. Where the call is refused, `change` was not called and this document
+    /// is as it was.
     pub fn change_document<U, F: FnOnce(&mut Document) -> U>(
         &mut self,
         key: &str,

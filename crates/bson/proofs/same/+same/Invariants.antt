@@ -9,4 +9,5 @@ abbrev pub invariant-same_documents-loop-i : goal.invariant-same_documents-loop-
 invariant-same_documents-loop-i l = (k : ℕ) → k < l.i → IsSameAt l.a.pairs l.b.pairs k
 
 abbrev pub invariant-same_lists-loop-i : goal.invariant-same_lists-loop-i
-invariant-same_lists-loop-i l = (k : ℕ) (d : Bson) → k < l.i → same (bson_view (get_or l.a.items k d)) (bson_view (get_or l.b.items k d)) ≡ true
+invariant-same_lists-loop-i l = (k : ℕ) (d : Bson) → k < l.i
+    → same (bson_view (get_or l.a.items k d)) (bson_view (get_or l.b.items k d)) ≡ true
