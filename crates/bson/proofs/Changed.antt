@@ -13,7 +13,7 @@ drop-first (x ∷ xs) (suc i) = drop-first xs i
 pub drop-next : {A : Type 0} (xs ys : List A) (i : ℕ) → drop i xs ≡ drop i ys → drop (i + 1) xs ≡ drop (i + 1) ys
 drop-next xs ys i e =
     ap (λ n. drop n xs) (add-one i) ∙ drop-first xs i ∙ ap (drop 1) e ∙ sym (drop-first ys i)
-        ∙ ap (λ n. drop n ys) (sym (add-one i))
+    ∙ ap (λ n. drop n ys) (sym (add-one i))
 
 module _ {V : Type 0} where
   pub length-with : (ps : List (List ℕ × V)) (i : ℕ) (w : V) → length (with_value ps i w) ≡ length ps

@@ -27,8 +27,8 @@ put_in k v (e ∷ es) =
     let t = sorted (bson_view e.1) in
     let rest = pairs_of (sorted_views es) in
     elim (slice_cmp nat_cmp k e.0) as (λ r.
-        match_ordering r (pair k s (pair e.0 t rest)) (pair e.0 s rest) (pair e.0 t (put_pair k s rest))
-        ≡ pairs_of (sorted_views (by_order r ((k, v) ∷ e ∷ es) ((e.0, v) ∷ es) (e ∷ put key_cmp k v es)))) [
+    match_ordering r (pair k s (pair e.0 t rest)) (pair e.0 s rest) (pair e.0 t (put_pair k s rest))
+    ≡ pairs_of (sorted_views (by_order r ((k, v) ∷ e ∷ es) ((e.0, v) ∷ es) (e ∷ put key_cmp k v es)))) [
       | Less ↦ refl
       | Equal ↦ refl
       | Greater ↦ ap (pair e.0 t) (put_in k v es)

@@ -26,7 +26,7 @@ module _ {X : Type 0} where
   join_last f sep [] x = append-nil (f x)
   join_last f sep (y ∷ ys) x =
       ap (λ l. f y ++ l) (flat_map-append (λ z. sep ++ f z) ys (x ∷ [])
-          ∙ ap (λ l. flat_map (λ z. sep ++ f z) ys ++ l) (append-nil (sep ++ f x)))
+      ∙ ap (λ l. flat_map (λ z. sep ++ f z) ys ++ l) (append-nil (sep ++ f x)))
       ∙ sym (append_assoc (f y) (flat_map (λ z. sep ++ f z) ys) (sep ++ f x))
 
   between-take : (sep : List ℕ) (xs : List X) (i : ℕ) → i < length xs → between sep (take i xs) ≡ cond (i == 0) [] sep
@@ -45,7 +45,7 @@ module _ {X : Type 0} where
       → join_by f sep (take i xs) ++ (cond (i == 0) [] sep ++ f x) ≡ join_by f sep (take (i + 1) xs)
   join_more f sep xs i x h is =
       ap (λ s. join_by f sep (take i xs) ++ (s ++ f x)) (sym (between-take sep xs i h))
-          ∙ sym (join_last f sep (take i xs) x)
+      ∙ sym (join_last f sep (take i xs) x)
       ∙ ap (λ y. join_by f sep (take i xs ++ y ∷ [])) is ∙ ap (join_by f sep) (sym (take_more xs i x h))
 
   enclosed_some : (f : X → List ℕ) (empty opening sep closing : List ℕ) (xs : List X) → 0 < length xs

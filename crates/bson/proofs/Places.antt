@@ -57,14 +57,14 @@ module _ (ps qs : Entries) where
       → same (document (pairs_view ps)) (document (pairs_view qs)) ≡ true → ⊥
   lengths_differ d e n h =
       n (length-same_keys ps qs d e
-          (λ k. sym (some_view (store.get k ps)) ∙ same_some _ _ (at_key h k) ∙ some_view (store.get k qs)))
+      (λ k. sym (some_view (store.get k ps)) ∙ same_some _ _ (at_key h k) ∙ some_view (store.get k qs)))
 
   -- a key that the other lacks
   pub lacking : (i : ℕ) (p : List ℕ × Bson) → HasDistinctKeys ps → slice_get ps i ≡ Some p → store.get p.0 qs ≡ None
       → same (document (pairs_view ps)) (document (pairs_view qs)) ≡ true → ⊥
   lacking i p d e n h =
       true≢false (sym (ap is_some (get-at ps i p d e)) ∙ sym (some_view (store.get p.0 ps))
-          ∙ same_some _ _ (at_key h p.0) ∙ some_view (store.get p.0 qs) ∙ ap is_some n)
+      ∙ same_some _ _ (at_key h p.0) ∙ some_view (store.get p.0 qs) ∙ ap is_some n)
 
   -- a key at which the values are not the same
   pub differing : (i : ℕ) (p : List ℕ × Bson) (w : Bson) → HasDistinctKeys ps → slice_get ps i ≡ Some p
@@ -72,7 +72,7 @@ module _ (ps qs : Entries) where
       → same (document (pairs_view ps)) (document (pairs_view qs)) ≡ true → ⊥
   differing i p w d e f n h =
       true≢false (sym (at_key h p.0)
-          ∙ (λ j. option_same (option_map bson_view (get-at ps i p d e j)) (option_map bson_view (f j))) ∙ n)
+      ∙ (λ j. option_same (option_map bson_view (get-at ps i p d e j)) (option_map bson_view (f j))) ∙ n)
 
   there : ((i : ℕ) → i < length ps → IsSameAt i) → (k : List ℕ) (r : Option Bson) → store.get k ps ≡ r
       → is_some r ≡ true → is_some (store.get k qs) ≡ true
@@ -80,7 +80,7 @@ module _ (ps qs : Entries) where
   there h k (Some v) e s =
       let at = at-get k ps v e in
       sym (ap is_some (get-bson_view k qs) ∙ some_view (store.get k qs))
-          ∙ sym (same_some (Some (bson_view v)) (get k (pairs_view qs)) (h at.0 at.1 (k, v) at.2))
+      ∙ sym (same_some (Some (bson_view v)) (get k (pairs_view qs)) (h at.0 at.1 (k, v) at.2))
 
   found : (k : List ℕ) (r : Option Bson) → store.get k ps ≡ r → length ps ≡ length qs → HasDistinctKeys ps
       → ((i : ℕ) → i < length ps → IsSameAt i)
@@ -88,12 +88,12 @@ module _ (ps qs : Entries) where
   found k (Some v) e n d h =
       let at = at-get k ps v e in
       ap (λ o. option_same o (get k (pairs_view qs))) (get-bson_view k ps ∙ ap (option_map bson_view) e)
-          ∙ h at.0 at.1 (k, v) at.2
+      ∙ h at.0 at.1 (k, v) at.2
   found k None e n d h =
       let no = none_of (store.get k qs)
-          (no_other ps qs d n (λ q s. there h q (store.get q ps) refl s) k (ap is_some e)) in
+      (no_other ps qs d n (λ q s. there h q (store.get q ps) refl s) k (ap is_some e)) in
       λ i. option_same ((get-bson_view k ps ∙ ap (option_map bson_view) e) i)
-          ((get-bson_view k qs ∙ ap (option_map bson_view) no) i)
+      ((get-bson_view k qs ∙ ap (option_map bson_view) no) i)
 
   pub all_places : length ps ≡ length qs → HasDistinctKeys ps → ((i : ℕ) → i < length ps → IsSameAt i)
       → same (document (pairs_view ps)) (document (pairs_view qs)) ≡ true
@@ -139,7 +139,7 @@ items_differ_at (x ∷ vs) (y ∷ ws) zero v w e f n h =
     let p : x ≡ v = cc in
     let q : y ≡ w = cc in
     true≢false (sym (and_parts (same (bson_view x) (bson_view y)) _ h).0
-        ∙ (λ j. same (bson_view (p j)) (bson_view (q j))) ∙ n)
+    ∙ (λ j. same (bson_view (p j)) (bson_view (q j))) ∙ n)
 items_differ_at (x ∷ vs) (y ∷ ws) (suc i) v w e f n h =
     items_differ_at vs ws i v w e f n (and_parts (same (bson_view x) (bson_view y)) _ h).1
 

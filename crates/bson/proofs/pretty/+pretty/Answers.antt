@@ -14,7 +14,7 @@ push_items-loop-i-preserved t c =
     let inside : c.loop-i.i < length vs = omega (arith, c.args.items.now.ok.0) in
     let more = join_more (item_line i) (codes ", ") vs c.loop-i.i c.index.result.now inside c.index.ensures in
     appended _ _ _ (item_line i c.index.result.now) _ _ _ c.loop-i.invariant c.in_ok-push_separator.ensures
-        c.in_ok-push_item.ensures
+    c.in_ok-push_item.ensures
     ∙ ap (λ l. string_bytes c.push_str-2.new.self ++ l) more
 
 pub push_items-returns : goal.push_items-returns
@@ -24,7 +24,7 @@ push_items-returns t c =
     let all : length vs ≤ c.loop-i.i = omega (arith, c.args.items.now.ok.0) in
     on_ok_weaker c.push_closing.result
     (λ d. appended _ _ _ (closing i (codes "]")) _ _ _ c.in_ok-push_str.ensures.bytes c.loop-i.invariant d
-        ∙ ap (λ l. string_bytes c.args.out.now ++ l) (array_pretty i vs c.loop-i.i (search rules) all))
+    ∙ ap (λ l. string_bytes c.args.out.now ++ l) (array_pretty i vs c.loop-i.i (search rules) all))
     c.push_closing.ensures
 
 pub push_pairs-loop-i-preserved : goal.push_pairs-loop-i-preserved
@@ -38,7 +38,7 @@ push_pairs-loop-i-preserved t c =
     let here = at_get ps c.loop-i.i (k, v) (pair_from ps c.loop-i.i k v c.key_at.ensures c.value_at.ensures) in
     appended _ _ _ (entry_line i (k, v)) _ _ _ c.loop-i.invariant c.in_ok-push_separator.ensures line
     ∙ ap (λ l. string_bytes c.push_str-2.new.self ++ l)
-        (join_more (entry_line i) (codes ",\n") ps c.loop-i.i (k, v) inside here)
+    (join_more (entry_line i) (codes ",\n") ps c.loop-i.i (k, v) inside here)
 
 pub push_pairs-returns : goal.push_pairs-returns
 push_pairs-returns t c =
@@ -48,5 +48,5 @@ push_pairs-returns t c =
     let some : 0 < length ps = omega (arith, c.len.ensures.len) in
     on_ok_weaker c.push_closing.result
     (λ d. appended _ _ _ (closing i (codes "}")) _ _ _ c.in_ok-push_str.ensures.bytes c.loop-i.invariant d
-        ∙ ap (λ l. string_bytes c.args.out.now ++ l) (document_pretty i ps c.loop-i.i some all))
+    ∙ ap (λ l. string_bytes c.args.out.now ++ l) (document_pretty i ps c.loop-i.i some all))
     c.push_closing.ensures

@@ -20,8 +20,15 @@ loop-at-preserved g c =
     let there : drop at old ≡ (k, v) ∷ drop (at + 1) old
     = sym c.loop-at.invariant.ahead ∙ drop-at now at (k, v) here ∙ ap (λ l. (k, v) ∷ l) ahead in
     let call : ChangesValue g.F.FnMut c.loop-at.change k v c.change.new.self w
-    = record { key = lent.0; value = lent.1; left = _; names = refl; shows = refl;
-        called = c.change.ensures; leaves = refl } in
+    = record {
+      key = lent.0;
+      value = lent.1;
+      left = _;
+      names = refl;
+      shows = refl;
+      called = c.change.ensures;
+      leaves = refl;
+    } in
     record {
       callable = let can = c.loop-at.invariant.callable in search of_calls;
       same_length = length-with now at w ∙ c.loop-at.invariant.same_length;
