@@ -1,6 +1,6 @@
 -- What a document feeds, turn by turn.
-use Rattle.std.proofs.Common.{◌≡◌, ℕ, ◌+◌, ◌<◌, List, [], ◌∷◌, ◌++◌, map, length, fold, drop, get_or, nat_cmp, refl, sym, ap, ◌∙◌, arith}
-use Rattle.std.proofs.lemmas.List.{drop_more}
+use Rattle.std.proofs.Common.{◌≡◌, ℕ, ◌+◌, List, [], ◌∷◌, ◌++◌, map, length, fold, nat_cmp, refl, sym, ap, ◌∙◌, arith}
+use Rattle.std.proofs.lemmas.List.Sums.{fold-append}
 use Rattle.std.specs.Cmp.Lexicographic.{slice_cmp}
 use Rattle.std.specs.declared.cmp.Ordering.TheVariants.{Less, Equal, Greater}
 use Rattle.std.specs.FinMap.Entries.{put, by_order}
@@ -19,13 +19,16 @@ use Rattle.bson.proofs.Onto.{Entry}
 abbrev pub sorted_views : List Entry → List (List ℕ × Value)
 sorted_views es = map (λ e. (e.0, sorted (bson_view e.1))) es
 
-put_in : (k : List ℕ) (v : Bson) (es : List Entry) → put_pair k (sorted (bson_view v)) (pairs_of (sorted_views es)) ≡ pairs_of (sorted_views (put key_cmp k v es))
+put_in : (k : List ℕ) (v : Bson) (es : List Entry)
+    → put_pair k (sorted (bson_view v)) (pairs_of (sorted_views es)) ≡ pairs_of (sorted_views (put key_cmp k v es))
 put_in k v [] = refl
 put_in k v (e ∷ es) =
     let s = sorted (bson_view v) in
     let t = sorted (bson_view e.1) in
     let rest = pairs_of (sorted_views es) in
-    elim (slice_cmp nat_cmp k e.0) as (λ r. match_ordering r (pair k s (pair e.0 t rest)) (pair e.0 s rest) (pair e.0 t (put_pair k s rest)) ≡ pairs_of (sorted_views (by_order r ((k, v) ∷ e ∷ es) ((e.0, v) ∷ es) (e ∷ put key_cmp k v es)))) [
+    elim (slice_cmp nat_cmp k e.0) as (λ r.
+    match_ordering r (pair k s (pair e.0 t rest)) (pair e.0 s rest) (pair e.0 t (put_pair k s rest))
+    ≡ pairs_of (sorted_views (by_order r ((k, v) ∷ e ∷ es) ((e.0, v) ∷ es) (e ∷ put key_cmp k v es)))) [
       | Less ↦ refl
       | Equal ↦ refl
       | Greater ↦ ap (pair e.0 t) (put_in k v es)
@@ -34,7 +37,8 @@ put_in k v (e ∷ es) =
 -- the pairs by ascending key, in the store and in the model
 pub sorted-in_order : (ps : List Entry) → sorted_pairs (pairs_view ps) ≡ pairs_of (sorted_views (in_order ps))
 sorted-in_order [] = refl
-sorted-in_order (p ∷ ps) = ap (put_pair p.0 (sorted (bson_view p.1))) (sorted-in_order ps) ∙ put_in p.0 p.1 (in_order ps)
+sorted-in_order (p ∷ ps) = ap (put_pair p.0 (sorted (bson_view p.1))) (sorted-in_order ps)
+    ∙ put_in p.0 p.1 (in_order ps)
 
 -- the words of each pair in turn
 abbrev pub turn_words : List Entry → HashWrites
@@ -49,7 +53,8 @@ turn_count : (es : List Entry) → pairs_count (pairs_of (sorted_views es)) ≡ 
 turn_count [] = refl
 turn_count (e ∷ es) = ap (λ n. n + 1) (turn_count es) ∙ omega arith
 
-pub document_words : (ps : List Entry) → HasDistinctKeys ps → feed (document (pairs_view ps)) ≡ usize (length ps) ++ turn_words (in_order ps)
+pub document_words : (ps : List Entry) → HasDistinctKeys ps
+    → feed (document (pairs_view ps)) ≡ usize (length ps) ++ turn_words (in_order ps)
 document_words ps d =
     ap (λ qs. usize (pairs_count qs) ++ pairs_words qs) (sorted-in_order ps)
     ∙ (λ i. usize ((turn_count (in_order ps) ∙ length-in_order ps d) i) ++ turns (in_order ps) i)
@@ -64,25 +69,20 @@ list_words vs = items_words (sorted_items (values_view vs))
 pub array_words : (vs : List Bson) → feed (array (values_view vs)) ≡ usize (length vs) ++ list_words vs
 array_words vs = ap (λ n. usize n ++ list_words vs) (count-items vs)
 
-pub fold-append : {S A : Type 0} (step : S → A → S) (s : S) (xs ys : List A) → fold step s (xs ++ ys) ≡ fold step (fold step s xs) ys
-fold-append step s [] ys = refl
-fold-append step s (x ∷ xs) ys = fold-append step (step s x) xs ys
-
 module _ {S : Type 0} (write : S → List ℕ → S) where
-  -- one more element
-  pub feeds_item : (s₀ s₁ s₂ : S) (xs : List Bson) (i : ℕ) (x : Bson) → i < length xs → x ≡ get_or xs i x → s₂ ≡ fold write s₁ (feed (bson_view x))
-      → fold write s₀ (list_words xs) ≡ fold write s₁ (list_words (drop i xs)) → fold write s₀ (list_words xs) ≡ fold write s₂ (list_words (drop (i + 1) xs))
-  feeds_item s₀ s₁ s₂ xs i x h is e before =
-      let here : drop i xs ≡ x ∷ drop (i + 1) xs = drop_more xs i x h ∙ ap (λ y. y ∷ drop (i + 1) xs) (sym is) in
-      before ∙ ap (λ ys. fold write s₁ (list_words ys)) here ∙ fold-append write s₁ (feed (bson_view x)) _ ∙ ap (λ s. fold write s (list_words (drop (i + 1) xs))) (sym e)
-
   -- one more pair
-  pub feeds_pair : (s₀ s₁ s₂ s₃ : S) (all es rest : List Entry) (k : List ℕ) (v : Bson) → es ≡ (k, v) ∷ rest → s₂ ≡ fold write s₁ (str k) → s₃ ≡ fold write s₂ (feed (bson_view v))
-      → fold write s₀ (turn_words all) ≡ fold write s₁ (turn_words es) → fold write s₀ (turn_words all) ≡ fold write s₃ (turn_words rest)
+  pub feeds_pair : (s₀ s₁ s₂ s₃ : S) (all es rest : List Entry) (k : List ℕ) (v : Bson) → es ≡ (k, v) ∷ rest
+      → s₂ ≡ fold write s₁ (str k) → s₃ ≡ fold write s₂ (feed (bson_view v))
+      → fold write s₀ (turn_words all) ≡ fold write s₁ (turn_words es)
+      → fold write s₀ (turn_words all) ≡ fold write s₃ (turn_words rest)
   feeds_pair s₀ s₁ s₂ s₃ all es rest k v here a b before =
-      before ∙ ap (λ ys. fold write s₁ (turn_words ys)) here ∙ fold-append write s₁ (str k ++ feed (bson_view v)) (turn_words rest)
-      ∙ ap (λ s. fold write s (turn_words rest)) (fold-append write s₁ (str k) (feed (bson_view v)) ∙ ap (λ s. fold write s (feed (bson_view v))) (sym a) ∙ sym b)
+      before ∙ ap (λ ys. fold write s₁ (turn_words ys)) here
+      ∙ fold-append write s₁ (str k ++ feed (bson_view v)) (turn_words rest)
+      ∙ ap (λ s. fold write s (turn_words rest))
+      (fold-append write s₁ (str k) (feed (bson_view v)) ∙ ap (λ s. fold write s (feed (bson_view v))) (sym a) ∙ sym b)
 
   -- the length, and then the rest
-  pub feeds_all : (s₀ s₁ s : S) (ws : HashWrites) (n m : ℕ) (fed : HashWrites) → s₁ ≡ write s₀ (le_bytes 8 n) → n ≡ m → fold write s₁ ws ≡ s → fed ≡ usize m ++ ws → s ≡ fold write s₀ fed
-  feeds_all s₀ s₁ s ws n m fed a b kept is = sym (ap (fold write s₀) is ∙ ap (λ x. fold write x ws) (sym (a ∙ ap (λ x. write s₀ (le_bytes 8 x)) b)) ∙ kept)
+  pub feeds_all : (s₀ s₁ s : S) (ws : HashWrites) (n m : ℕ) (fed : HashWrites) → s₁ ≡ write s₀ (le_bytes 8 n) → n ≡ m
+      → fold write s₁ ws ≡ s → fed ≡ usize m ++ ws → s ≡ fold write s₀ fed
+  feeds_all s₀ s₁ s ws n m fed a b kept is =
+      sym (ap (fold write s₀) is ∙ ap (λ x. fold write x ws) (sym (a ∙ ap (λ x. write s₀ (le_bytes 8 x)) b)) ∙ kept)

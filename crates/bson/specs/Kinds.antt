@@ -10,6 +10,8 @@ use Rattle.bson_scalar.specs.declared.db_pointer.DbPointer.{DbPointer as Pointer
 use Rattle.bson_scalar.specs.declared.spec.BinarySubtype.{BinarySubtype}
 use Rattle.bson_scalar.specs.declared.spec.BinarySubtype.TheVariants.{Generic}
 use Rattle.bson_scalar.specs.declared.timestamp.Timestamp.{Timestamp as Stamp}
+use Rattle.bson_store.specs.Pairs.{get}
+use Rattle.bson.specs.View.{contents}
 use Rattle.bson.specs.declared.bson.Bson.{Bson, Bson-F, out-Bson}
 use Rattle.bson.specs.declared.bson.Bson.TheVariants as bson
 use Rattle.bson.specs.declared.bson.JavaScriptCodeWithScope.{JavaScriptCodeWithScope}
@@ -25,10 +27,6 @@ double_of _ = None
 abbrev pub string_of : Bson → Option (Text Global)
 string_of (bson.String s) = Some s
 string_of _ = None
-
--- the bytes of a string
-abbrev pub text_of : Bson → Option (List ℕ)
-text_of v = option_map string_bytes (string_of v)
 
 -- one level, with the values inside as they are
 abbrev pub array_step : Bson-F Bson JavaScriptCodeWithScope Document → Option (Vec Bson Global)
@@ -92,9 +90,9 @@ abbrev pub symbol_of : Bson → Option (Text Global)
 symbol_of (bson.Symbol s) = Some s
 symbol_of _ = None
 
--- the bytes of a symbol
-abbrev pub symbol_text_of : Bson → Option (List ℕ)
-symbol_text_of v = option_map string_bytes (symbol_of v)
+-- the bytes of the text that a kind holds
+abbrev pub bytes_of : (Bson → Option (Text Global)) → Bson → Option (List ℕ)
+bytes_of held v = option_map string_bytes (held v)
 
 -- the sixteen bytes of a decimal
 abbrev pub decimal_of : Bson → Option (List ℕ)
@@ -110,10 +108,14 @@ abbrev pub type_result : {T : Type 0} → Option T → Result T ValueAccessError
 type_result None = Err UnexpectedType
 type_result (Some x) = Ok x
 
--- what a getter answers of the value that the key has, if any
+-- the same of the value that a key has, if any
 abbrev pub access_result : {T : Type 0} → (Bson → Option T) → Option Bson → Result T ValueAccessError
 access_result f None = Err NotPresent
 access_result f (Some v) = type_result (f v)
+
+-- what a getter answers at a key of a document
+abbrev pub held_at : {T : Type 0} → (Bson → Option T) → List ℕ → Document → Result T ValueAccessError
+held_at f key d = access_result f (get key (contents d))
 
 -- an answer with the value behind its reference
 abbrev pub ok_copied : {T E : Type 0} → Result (Bor T) E → Result T E

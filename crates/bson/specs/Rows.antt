@@ -1,10 +1,24 @@
--- Types as the logic of loans holds them.
+-- Types as the logic of loans holds them: of values, of documents, and of what each kind holds.
 use denote.RattleType.{RattleType}
-use Rattle.bson.specs.contracts.bson.Bson.{the_row}
-use Rattle.bson.specs.contracts.document.Document as document
+use Rattle.std.specs.Borrow.{u8}
+use Rattle.std.specs.contracts.alloc.Global as heap
+use Rattle.std.specs.contracts.impls.GlobalAllocator.TheImpl.{ghosts}
+use Rattle.std.specs.contracts.string.String as string
+use Rattle.std.specs.contracts.vec.Vec as vec
+pub use Rattle.std.specs.Borrow.{bool as boolean_row, i32 as int32_row, i64 as int64_row, u64 as double_row}
+pub use Rattle.bson_datetime.specs.contracts.datetime.DateTime.{the_row as date_row}
+pub use Rattle.bson_decimal.specs.contracts.Decimal128.{the_row as decimal_row}
+pub use Rattle.bson_scalar.specs.contracts.binary.Binary.{the_row as binary_row}
+pub use Rattle.bson_scalar.specs.contracts.oid.ObjectId.{the_row as object_id_row}
+pub use Rattle.bson_scalar.specs.contracts.timestamp.Timestamp.{the_row as timestamp_row}
+pub use Rattle.bson.specs.contracts.bson.Bson.{the_row as bson_row}
+pub use Rattle.bson.specs.contracts.document.Document.{the_row as document_row}
 
-abbrev pub bson_row : RattleType
-bson_row = the_row
+abbrev pub array_row : RattleType
+array_row = vec.the_row bson_row heap.the_row ghosts
 
-abbrev pub document_row : RattleType
-document_row = document.the_row
+abbrev pub string_row : RattleType
+string_row = string.the_row heap.the_row ghosts
+
+abbrev pub bytes_row : RattleType
+bytes_row = vec.the_row u8 heap.the_row ghosts

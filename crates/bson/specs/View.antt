@@ -1,10 +1,12 @@
 -- The value that a `Bson` stands for.
 use Rattle.std.specs.Prelude.{ℕ, List, [], ◌∷◌, map, string_bytes}
 use Rattle.bson_scalar.specs.DbPointer.{namespace_of, id_of}
-use Rattle.bson_wrapper.specs.Scalar.{null, undefined, min_key, max_key, boolean, double, int32, int64, text, symbol, code, regex, timestamp, binary, object_id, date, decimal, db_pointer}
-use Rattle.bson_model.specs.Value.{Value, scalar, code_scope, array, document, Values, no_values, value, Pairs, no_pairs, pair}
+use Rattle.bson_wrapper.specs.Scalar as kind
+use Rattle.bson_model.specs.Value.{Value, scalar, code_scope, array, document, Values, no_values, value, Pairs}
+use Rattle.bson_model.specs.Value.{no_pairs, pair}
 use Rattle.bson.specs.declared.bson.Bson.{Bson, fold-Bson, Bson-F}
-use Rattle.bson.specs.declared.bson.JavaScriptCodeWithScope.{JavaScriptCodeWithScope, fold-JavaScriptCodeWithScope, JavaScriptCodeWithScope-F}
+use Rattle.bson.specs.declared.bson.JavaScriptCodeWithScope.{JavaScriptCodeWithScope, fold-JavaScriptCodeWithScope}
+use Rattle.bson.specs.declared.bson.JavaScriptCodeWithScope.{JavaScriptCodeWithScope-F}
 use Rattle.bson.specs.declared.document.Document.{Document, fold-Document, Document-F}
 
 -- the pairs that a document holds, in their order
@@ -25,27 +27,27 @@ pairs_of (p ∷ ps) = pair p.0 p.1 (pairs_of ps)
 
 -- one level, with each value inside already seen
 abbrev pub view_step : Bson-F Value Value Pairs → Value
-view_step (Bson-F.Double p) = scalar (double p)
-view_step (Bson-F.String s) = scalar (text (string_bytes s))
+view_step (Bson-F.Double p) = scalar (kind.double p)
+view_step (Bson-F.String s) = scalar (kind.text (string_bytes s))
 view_step (Bson-F.Array v) = array (values_of v.items)
 view_step (Bson-F.Document ps) = document ps
-view_step (Bson-F.Boolean b) = scalar (boolean b)
-view_step Bson-F.Null = scalar null
-view_step (Bson-F.RegularExpression r) = scalar (regex (string_bytes r.pattern) (string_bytes r.options))
-view_step (Bson-F.JavaScriptCode s) = scalar (code (string_bytes s))
+view_step (Bson-F.Boolean b) = scalar (kind.boolean b)
+view_step Bson-F.Null = scalar kind.null
+view_step (Bson-F.RegularExpression r) = scalar (kind.regex (string_bytes r.pattern) (string_bytes r.options))
+view_step (Bson-F.JavaScriptCode s) = scalar (kind.code (string_bytes s))
 view_step (Bson-F.JavaScriptCodeWithScope v) = v
-view_step (Bson-F.Int32 z) = scalar (int32 z)
-view_step (Bson-F.Int64 z) = scalar (int64 z)
-view_step (Bson-F.Timestamp t) = scalar (timestamp t.time t.increment)
-view_step (Bson-F.Binary b) = scalar (binary b.subtype b.bytes.items)
-view_step (Bson-F.ObjectId id) = scalar (object_id id)
-view_step (Bson-F.DateTime z) = scalar (date z)
-view_step (Bson-F.Symbol s) = scalar (symbol (string_bytes s))
-view_step (Bson-F.Decimal128 b) = scalar (decimal b)
-view_step Bson-F.Undefined = scalar undefined
-view_step Bson-F.MaxKey = scalar max_key
-view_step Bson-F.MinKey = scalar min_key
-view_step (Bson-F.DbPointer p) = scalar (db_pointer (namespace_of p) (id_of p))
+view_step (Bson-F.Int32 z) = scalar (kind.int32 z)
+view_step (Bson-F.Int64 z) = scalar (kind.int64 z)
+view_step (Bson-F.Timestamp t) = scalar (kind.timestamp t.time t.increment)
+view_step (Bson-F.Binary b) = scalar (kind.binary b.subtype b.bytes.items)
+view_step (Bson-F.ObjectId id) = scalar (kind.object_id id)
+view_step (Bson-F.DateTime z) = scalar (kind.date z)
+view_step (Bson-F.Symbol s) = scalar (kind.symbol (string_bytes s))
+view_step (Bson-F.Decimal128 b) = scalar (kind.decimal b)
+view_step Bson-F.Undefined = scalar kind.undefined
+view_step Bson-F.MaxKey = scalar kind.max_key
+view_step Bson-F.MinKey = scalar kind.min_key
+view_step (Bson-F.DbPointer p) = scalar (kind.db_pointer (namespace_of p) (id_of p))
 
 abbrev pub scope_step : JavaScriptCodeWithScope-F Value Value Pairs → Value
 scope_step c = code_scope (string_bytes c.code) c.scope

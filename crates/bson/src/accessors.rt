@@ -2,11 +2,11 @@
 ghost use Rattle.std.specs.Prelude.{◌≡◌, ◌↔◌, IsSome, option_copied, option_map};
 ghost use Rattle.std.specs.Borrow.{LendsIf, sem};
 ghost use Rattle.bson.specs.declared.bson.Bson.TheVariants as value;
-ghost use Rattle.bson.specs.Kinds.{array_of, boolean_of, date_of, db_pointer_of, document_of, double_of};
-ghost use Rattle.bson.specs.Kinds.{int32_of, int64_of, object_id_of, string_of, symbol_of};
-ghost use Rattle.bson.specs.Kinds.{symbol_text_of, text_of, timestamp_of};
-ghost use Rattle.bson.specs.KindRows.{array_row, date_row, object_id_row, string_row};
-ghost use Rattle.bson.specs.Rows.{bson_row, document_row};
+ghost use Rattle.bson.specs.Kinds.{array_of, boolean_of, bytes_of, date_of, db_pointer_of};
+ghost use Rattle.bson.specs.Kinds.{document_of, double_of, int32_of, int64_of, object_id_of};
+ghost use Rattle.bson.specs.Kinds.{string_of, symbol_of, timestamp_of};
+ghost use Rattle.bson.specs.Rows.{array_row, bson_row, date_row, document_row, object_id_row};
+ghost use Rattle.bson.specs.Rows.{string_row};
 
 use crate::bson::{Array, Bson};
 use crate::document::Document;
@@ -16,8 +16,8 @@ use bson_scalar::db_pointer::DbPointer;
 use bson_scalar::oid::ObjectId;
 use bson_scalar::timestamp::Timestamp;
 
-/// Each accessor gives what a value of its kind holds, and None for a value of any other kind. What is written
-/// through a `_mut` form is then what the value holds.
+/// Each accessor gives what a value of its kind holds, and None for a value of any other kind. What
+/// is written through a `_mut` form is then what the value holds.
 impl Bson {
     /// The pattern of a `Double` (IEEE 754 binary64).
     pub fn as_f64(&self) -> Option<u64>
@@ -28,7 +28,7 @@ impl Bson {
 
     /// The text of a `String`.
     pub fn as_str(&self) -> Option<&str>
-        ensures { option_copied result ≡ text_of self.now }
+        ensures { option_copied result ≡ bytes_of string_of self.now }
     {
         match self {
             Bson::String(text) => Some(text.as_str()),
@@ -144,7 +144,7 @@ impl Bson {
 
     /// The text of a `Symbol`.
     pub fn as_symbol(&self) -> Option<&str>
-        ensures { option_copied result ≡ symbol_text_of self.now }
+        ensures { option_copied result ≡ bytes_of symbol_of self.now }
     {
         match self {
             Bson::Symbol(text) => Some(text.as_str()),

@@ -36,7 +36,7 @@ impl Document {
     }
 }
 
-#[cycle(copy)]
+#[cycle(clone)]
 fn copy(alloc: Global, value: &Bson) -> Result<Bson, AllocError>
     ensures { IfOk result (λ v. bson_view v ≡ bson_view value.now) }
 {
@@ -50,7 +50,7 @@ fn copy(alloc: Global, value: &Bson) -> Result<Bson, AllocError>
     })
 }
 
-#[cycle(copy)]
+#[cycle(clone)]
 fn copy_scoped(
     alloc: Global,
     scoped: &JavaScriptCodeWithScope,
@@ -63,7 +63,7 @@ fn copy_scoped(
     })
 }
 
-#[cycle(copy)]
+#[cycle(clone)]
 fn copy_values(alloc: Global, values: &Vec<Bson>) -> Result<Vec<Bson>, AllocError>
     ensures { IfOk result (λ v. values_view v.items ≡ values_view values.now.items) }
 {
@@ -74,7 +74,7 @@ fn copy_values(alloc: Global, values: &Vec<Bson>) -> Result<Vec<Bson>, AllocErro
     Ok(copies)
 }
 
-#[cycle(copy)]
+#[cycle(clone)]
 fn copy_pairs(alloc: Global, document: &Document) -> Result<Document, AllocError>
     ensures { IfOk result (λ d. pairs_view d.pairs ≡ pairs_view document.now.pairs) }
 {

@@ -192,7 +192,8 @@ impl Bson {
     ) -> Result<Bson, AllocError>
         requires can { I.can_next values }
         requires ends { IsFinite (I.remaining values) }
-        ensures { IfOk result (λ v. (xs : List Bson) × Drains I.next_gives values xs × (bson_view v ≡ array (values_view xs))) }
+        ensures { IfOk result (λ v. (xs : List Bson) × Drains I.next_gives values xs
+            × (bson_view v ≡ array (values_view xs))) }
     {
         Ok(Bson::Array(values.collect(alloc)?))
     }
@@ -213,7 +214,8 @@ impl Bson {
 
     /// A `Binary` of the subtype `Vector`, of the vector's bytes.
     pub fn from_vector(alloc: Global, vector: &Vector) -> Result<Bson, AllocError>
-        ensures { IfOk result (λ v. bson_view v ≡ scalar (kind.binary BinarySubtype.Vector (vector_bytes vector.now))) }
+        ensures { IfOk result (λ v. bson_view v
+            ≡ scalar (kind.binary BinarySubtype.Vector (vector_bytes vector.now))) }
     {
         Ok(Bson::Binary(Binary::from_vector(alloc, vector)?))
     }

@@ -1,4 +1,5 @@
-//! Texts of values for a reader at a fault: each kind's name, with what it holds. Nothing is promised of them.
+//! Texts of values for a reader at a fault: each kind's name, with what it holds. Nothing is
+//! promised of them.
 use crate::bson::{Bson, JavaScriptCodeWithScope};
 use crate::document::{Document, Refused};
 use crate::scalar::scalar_ref;

@@ -1,7 +1,7 @@
 //! Documents.
 //!
-//! `get` looks up by key, `insert` puts and takes, `entry` is the place of one key, `place` is the pair at one place,
-//! and `iter` walks the pairs. The typed look-ups stand in `getters`.
+//! `get` looks up by key, `insert` puts and takes, `entry` is the place of one key, `place` is the
+//! pair at one place, and `iter` walks the pairs. The typed look-ups stand in `getters`.
 mod entry;
 mod get;
 mod getters;
@@ -10,7 +10,7 @@ mod iter;
 mod place;
 
 use crate::bson::Bson;
-use bson_store::{PairStore, SmallPairs};
+use bson_store::SmallPairs;
 pub use entry::{Entry, OccupiedEntry, VacantEntry};
 pub use getters::{ValueAccessError, ValueAccessResult};
 pub use insert::Refused;
@@ -18,15 +18,16 @@ pub use iter::{IntoIter, Iter, Keys, Values};
 pub use place::PlaceMut;
 use std::alloc::Global;
 
-/// A document of BSON 1.1: a list of pairs of a key and a value, in the order in which the keys were put, in which no
-/// key stands twice.
+/// A document of BSON 1.1: a list of pairs of a key and a value, in the order in which the keys
+/// were put, in which no key stands twice.
 ///
 /// Two documents are equal if they have the same keys, in any order, and equal values under each.
 ///
-/// Of n pairs, in the worst case and whatever the keys are, a key is found, or put where it is new, in the order of
-/// log n comparisons of keys; where there are no more than eight pairs, in n. `remove` takes in the order of log n for
-/// each pair behind the one that it takes out. `==`, `Hash`, and writing the text of a document whose keys don't ascend
-/// take in the order of n log n. `remove`, `==` and `Hash` take no memory.
+/// Of n pairs, in the worst case and whatever the keys are, a key is found, or put where it is new,
+/// in the order of log n comparisons of keys; where there are no more than eight pairs, in n.
+/// `remove` takes in the order of log n for each pair behind the one that it takes out. `==`,
+/// `Hash`, and writing the text of a document whose keys don't ascend take in the order of n log n.
+/// `remove`, `==` and `Hash` take no memory.
 ///
 /// ```
 /// let mut document = Document::new(alloc);
@@ -43,9 +44,7 @@ pub struct Document {
 
 impl Document {
     ghost use Rattle.std.specs.Prelude.{◌≡◌, []};
-    ghost use Rattle.bson_model.specs.Value.{document};
-    ghost use Rattle.bson_model.specs.Same.{same};
-    ghost use Rattle.bson.specs.View.{contents, pairs_view};
+    ghost use Rattle.bson.specs.View.{contents};
 
     /// A document of no pairs, which takes its memory from `alloc` and has taken none yet.
     pub fn new(alloc: Global) -> Document
@@ -54,26 +53,5 @@ impl Document {
         Document {
             pairs: SmallPairs::new(alloc),
         }
-    }
-
-    #[cycle(same)]
-    pub(crate) fn is_same(&self, other: &Document) -> bool
-        ensures { result
-            ≡ same (document (pairs_view (contents self.now))) (document (pairs_view (contents other.now))) }
-    {
-        if self.pairs.len() != other.pairs.len() {
-            return false;
-        }
-        for i in 0..self.pairs.len() {
-            match other.pairs.find(self.pairs.key_at(i).as_str()) {
-                None => return false,
-                Some(j) => {
-                    if !crate::same::same_values(self.pairs.value_at(i), other.pairs.value_at(j)) {
-                        return false;
-                    }
-                }
-            }
-        }
-        true
     }
 }

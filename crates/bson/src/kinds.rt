@@ -4,8 +4,7 @@ ghost use Rattle.std.specs.Borrow.{LendsIf, sem};
 ghost use Rattle.bson.specs.declared.bson.Bson.{Bson};
 ghost use Rattle.bson.specs.declared.bson.Bson.TheVariants as value;
 ghost use Rattle.bson.specs.Kinds.{generic_binary, generic_bytes};
-ghost use Rattle.bson.specs.KindRows.{binary_row, bytes_row};
-ghost use Rattle.bson.specs.Rows.{bson_row};
+ghost use Rattle.bson.specs.Rows.{binary_row, bson_row, bytes_row};
 
 use crate::bson::{Array, Bson};
 use crate::document::Document;

@@ -1,8 +1,8 @@
 //! The texts of values on several lines.
-ghost use Rattle.std.specs.Prelude.{◌≡◌, ◌==◌, ◌++◌, cond, [], codes, IfOk, OnOk, string_bytes};
+ghost use Rattle.std.specs.Prelude.{◌≡◌, ◌==◌, cond, [], IfOk, string_bytes};
 ghost use Rattle.bson_model.specs.Value.{array, document as document_of};
-ghost use Rattle.bson_model.specs.Displayed.{entry};
 ghost use Rattle.bson_model.specs.Pretty.{pretty, blanks, inner, closing};
+ghost use Rattle.bson.specs.Lines.{AppendsOnOk, entry_line, item_line};
 ghost use Rattle.bson.specs.View.{bson_view, values_view, pairs_view, document_view};
 
 use crate::bson::Bson;
@@ -11,10 +11,10 @@ use bson_store::PairStore;
 use std::alloc::{AllocError, Global};
 
 impl Bson {
-    /// The value on several lines: each entry of a document and each element of a list on a line of its own, at the
-    /// indent, a number of blanks. What lies inside stands 2 blanks further in, up to the greatest usize, and a closing
-    /// bracket 2 blanks further out, as far as there are any. Empty documents, empty lists and all other values are
-    /// written as by `Display`.
+    /// The value on several lines: each entry of a document and each element of a list on a line of
+    /// its own, at the indent, a number of blanks. What lies inside stands 2 blanks further in, up
+    /// to the greatest usize, and a closing bracket 2 blanks further out, as far as there are any.
+    /// Empty documents, empty lists and all other values are written as by `Display`.
     ///
     /// The error is want of memory.
     pub fn to_pretty_string(&self, alloc: Global, indent: usize) -> Result<String, AllocError>
@@ -27,8 +27,8 @@ impl Bson {
 }
 
 impl Document {
-    /// The document on several lines at an indent, as [`Bson::to_pretty_string`] writes it. It takes its memory from the
-    /// document's allocator.
+    /// The document on several lines at an indent, as [`Bson::to_pretty_string`] writes it. It
+    /// takes its memory from the document's allocator.
     ///
     /// The error is want of memory.
     pub fn to_pretty_string(&self, indent: usize) -> Result<String, AllocError>
@@ -42,7 +42,7 @@ impl Document {
 
 #[cycle(pretty)]
 fn push_value(value: &Bson, indent: usize, out: &mut String) -> Result<(), AllocError>
-    ensures { OnOk result (string_bytes out.new ≡ string_bytes out.old ++ pretty indent (bson_view value.now)) }
+    ensures { AppendsOnOk out.old result (pretty indent (bson_view value.now)) out.new }
 {
     match value {
         Bson::Array(items) => push_items(items, indent, out),
@@ -53,7 +53,7 @@ fn push_value(value: &Bson, indent: usize, out: &mut String) -> Result<(), Alloc
 
 #[cycle(pretty)]
 fn push_items(items: &Vec<Bson>, indent: usize, out: &mut String) -> Result<(), AllocError>
-    ensures { OnOk result (string_bytes out.new ≡ string_bytes out.old ++ pretty indent (array (values_view items.now.items))) }
+    ensures { AppendsOnOk out.old result (pretty indent (array (values_view items.now.items))) out.new }
 {
     if items.is_empty() {
         return out.push_str("[]");
@@ -68,7 +68,7 @@ fn push_items(items: &Vec<Bson>, indent: usize, out: &mut String) -> Result<(), 
 
 #[cycle(pretty)]
 fn push_item(value: &Bson, indent: usize, out: &mut String) -> Result<(), AllocError>
-    ensures { OnOk result (string_bytes out.new ≡ string_bytes out.old ++ (codes "\n" ++ (blanks indent ++ pretty (inner indent) (bson_view value.now)))) }
+    ensures { AppendsOnOk out.old result (item_line indent value.now) out.new }
 {
     out.push_str("\n")?;
     push_blanks(indent, out)?;
@@ -77,7 +77,7 @@ fn push_item(value: &Bson, indent: usize, out: &mut String) -> Result<(), AllocE
 
 #[cycle(pretty)]
 fn push_pairs(document: &Document, indent: usize, out: &mut String) -> Result<(), AllocError>
-    ensures { OnOk result (string_bytes out.new ≡ string_bytes out.old ++ pretty indent (document_of (pairs_view document.now.pairs))) }
+    ensures { AppendsOnOk out.old result (pretty indent (document_of (pairs_view document.now.pairs))) out.new }
 {
     let pairs = &document.pairs;
     if pairs.len() == 0 {
@@ -93,7 +93,7 @@ fn push_pairs(document: &Document, indent: usize, out: &mut String) -> Result<()
 
 #[cycle(pretty)]
 fn push_entry(key: &str, value: &Bson, indent: usize, out: &mut String) -> Result<(), AllocError>
-    ensures { OnOk result (string_bytes out.new ≡ string_bytes out.old ++ (blanks indent ++ entry key.now (pretty (inner indent) (bson_view value.now)))) }
+    ensures { AppendsOnOk out.old result (entry_line indent (key.now, value.now)) out.new }
 {
     push_blanks(indent, out)?;
     write!(out, "\"{key}\": ")?;
@@ -109,7 +109,7 @@ fn inner_indent(indent: usize) -> usize
 
 // What stands before the element at a place.
 fn push_separator(at: usize, separator: &str, out: &mut String) -> Result<(), AllocError>
-    ensures { OnOk result (string_bytes out.new ≡ string_bytes out.old ++ cond (at == 0) [] separator.now) }
+    ensures { AppendsOnOk out.old result (cond (at == 0) [] separator.now) out.new }
 {
     if at == 0 {
         Ok(())
@@ -119,7 +119,7 @@ fn push_separator(at: usize, separator: &str, out: &mut String) -> Result<(), Al
 }
 
 fn push_blanks(count: usize, out: &mut String) -> Result<(), AllocError>
-    ensures { OnOk result (string_bytes out.new ≡ string_bytes out.old ++ blanks count) }
+    ensures { AppendsOnOk out.old result (blanks count) out.new }
 {
     out.reserve(count)?;
     for _ in 0..count {
@@ -130,7 +130,7 @@ fn push_blanks(count: usize, out: &mut String) -> Result<(), AllocError>
 
 // The closing bracket, on a line of its own.
 fn push_closing(indent: usize, bracket: &str, out: &mut String) -> Result<(), AllocError>
-    ensures { OnOk result (string_bytes out.new ≡ string_bytes out.old ++ closing indent bracket.now) }
+    ensures { AppendsOnOk out.old result (closing indent bracket.now) out.new }
 {
     out.push_str("\n")?;
     push_blanks(indent.saturating_sub(2), out)?;

@@ -1,12 +1,13 @@
 //! Equality of values.
 ghost use Rattle.std.specs.Prelude.{◌≡◌};
 ghost use Rattle.bson_model.specs.Value.{document};
-ghost use Rattle.bson.specs.View.{bson_view, values_view, scoped_view};
+ghost use Rattle.bson.specs.View.{bson_view, contents, pairs_view, scoped_view, values_view};
 ghost use Rattle.bson_model.specs.Same.{same, same_items};
 
 use crate::bson::{Bson, JavaScriptCodeWithScope};
 use crate::document::Document;
 use crate::scalar::same_scalars;
+use bson_store::PairStore;
 
 impl PartialEq for Bson {
     ghost use Rattle.std.specs.Cmp.{on_per, partial_equiv_from_equiv};
@@ -43,7 +44,7 @@ impl PartialEq for Document {
     ghost laws = { on_per (λ d. document (document_view d)) (partial_equiv_from_equiv same_equiv) };
 
     fn eq(&self, other: &Document) -> bool {
-        self.is_same(other)
+        same_documents(self, other)
     }
 }
 
@@ -81,12 +82,12 @@ impl Eq for JavaScriptCodeWithScope {
 
 #[cycle(same)]
 #[tactic(auto, unfolding(bson_model::specs::Same::same))]
-pub(crate) fn same_values(a: &Bson, b: &Bson) -> bool
+fn same_values(a: &Bson, b: &Bson) -> bool
     ensures { result ≡ same (bson_view a.now) (bson_view b.now) }
 {
     match (a, b) {
         (Bson::Array(x), Bson::Array(y)) => same_lists(x, y),
-        (Bson::Document(x), Bson::Document(y)) => x.is_same(y),
+        (Bson::Document(x), Bson::Document(y)) => same_documents(x, y),
         (Bson::JavaScriptCodeWithScope(x), Bson::JavaScriptCodeWithScope(y)) => same_scoped(x, y),
         (a, b) => same_scalars(a, b),
     }
@@ -97,7 +98,7 @@ pub(crate) fn same_values(a: &Bson, b: &Bson) -> bool
 fn same_scoped(a: &JavaScriptCodeWithScope, b: &JavaScriptCodeWithScope) -> bool
     ensures { result ≡ same (scoped_view a.now) (scoped_view b.now) }
 {
-    a.code == b.code && a.scope.is_same(&b.scope)
+    a.code == b.code && same_documents(&a.scope, &b.scope)
 }
 
 #[cycle(same)]
@@ -110,6 +111,27 @@ fn same_lists(a: &Vec<Bson>, b: &Vec<Bson>) -> bool
     for i in 0..a.len() {
         if !same_values(&a[i], &b[i]) {
             return false;
+        }
+    }
+    true
+}
+
+#[cycle(same)]
+fn same_documents(a: &Document, b: &Document) -> bool
+    ensures { result
+        ≡ same (document (pairs_view (contents a.now))) (document (pairs_view (contents b.now))) }
+{
+    if a.pairs.len() != b.pairs.len() {
+        return false;
+    }
+    for i in 0..a.pairs.len() {
+        match b.pairs.find(a.pairs.key_at(i).as_str()) {
+            None => return false,
+            Some(j) => {
+                if !same_values(a.pairs.value_at(i), b.pairs.value_at(j)) {
+                    return false;
+                }
+            }
         }
     }
     true

@@ -11,10 +11,12 @@ use crate::scalar::scalar_ref;
 use bson_store::PairStore;
 use std::fmt;
 
-/// The value on one line, as MongoDB's shell would show it: `{ "k": v, "l": w }`, `[a, b]`, `ObjectId("..")`.
+/// The value on one line, as MongoDB's shell would show it: `{ "k": v, "l": w }`, `[a, b]`,
+/// `ObjectId("..")`.
 ///
-/// Documents stand in their own order. Keys and texts are written as they are, with nothing escaped; a double is
-/// written as its pattern of bits, `Double(0x3ff8000000000000)`. It takes no memory.
+/// Documents stand in their own order. Keys and texts are written as they are, with nothing
+/// escaped; a double is written as its pattern of bits, `Double(0x3ff8000000000000)`. It takes no
+/// memory.
 impl fmt::Display for Bson {
     ghost use Rattle.std.specs.Prelude.{Some};
     ghost use Rattle.bson_model.specs.Displayed.{display_text};
@@ -27,7 +29,8 @@ impl fmt::Display for Bson {
     }
 }
 
-/// The document on one line, its pairs in their order: `{ "k": v, "l": w }`, or `{}` where it has none.
+/// The document on one line, its pairs in their order: `{ "k": v, "l": w }`, or `{}` where it has
+/// none.
 impl fmt::Display for Document {
     ghost use Rattle.std.specs.Prelude.{Some};
     ghost use Rattle.bson_model.specs.Value.{document};
@@ -81,7 +84,8 @@ fn show_items<W: fmt::Write>(items: &Vec<Bson>, f: &mut fmt::Formatter<W>) -> fm
 
 #[cycle(show)]
 fn show_pairs<W: fmt::Write>(document: &Document, f: &mut fmt::Formatter<W>) -> fmt::Result
-    ensures { WritesOnOk W.write_str_gives f.old result (display_text (document_of (pairs_view document.now.pairs))) f.new }
+    ensures { WritesOnOk W.write_str_gives f.old result
+        (display_text (document_of (pairs_view document.now.pairs))) f.new }
 {
     let pairs = &document.pairs;
     if pairs.len() == 0 {

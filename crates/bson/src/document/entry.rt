@@ -1,6 +1,7 @@
 //! The place of one key in a document, to look at or to fill.
 //!
-//! A clause `writes_back` says what the document holds once the reference that the call returns has ended.
+//! A clause `writes_back` says what the document holds once the reference that the call returns has
+//! ended.
 ghost use Rattle.std.specs.Prelude.{◌≡◌, Some, None, string_bytes};
 ghost use Rattle.bson_store.specs.Pairs.{position_of};
 
@@ -115,11 +116,11 @@ impl<'a> Entry<'a> {
         }
     }
 
-    /// The value at the key, to be written; where the document lacked the key, the pair of the key and `default` is put
-    /// last.
+    /// The value at the key, to be written; where the document lacked the key, the pair of the key
+    /// and `default` is put last.
     ///
-    /// An occupied entry takes no memory and answers the value that is there. Where memory is refused the document is as
-    /// it was.
+    /// An occupied entry takes no memory and answers the value that is there. Where memory is
+    /// refused the document is as it was.
     pub fn or_insert(self, default: Bson) -> Result<&'a mut Bson, AllocError>
         ensures* writes_back { sem 𝓛 (entry_lends self.entry result) }
         ensures value { IfOk result (λ x. x.now ≡ unwrap_or (entry_value self.entry) default) }
@@ -134,11 +135,12 @@ impl<'a> Entry<'a> {
         }
     }
 
-    /// The value at the key, to be written; where the document lacked the key, the pair of the key and what `default`
-    /// returns is put last.
+    /// The value at the key, to be written; where the document lacked the key, the pair of the key
+    /// and what `default` returns is put last.
     ///
-    /// An occupied entry takes no memory, doesn't call `default` and answers the value that is there. A vacant one calls
-    /// it once, before the document grows; where memory is refused the document is as it was.
+    /// An occupied entry takes no memory, doesn't call `default` and answers the value that is
+    /// there. A vacant one calls it once, before the document grows; where memory is refused the
+    /// document is as it was.
     pub fn or_insert_with<F: FnOnce() -> Bson>(self, default: F) -> Result<&'a mut Bson, AllocError>
         requires { entry_value self ≡ None → F.pre default }
         ensures* writes_back { sem 𝓛 (entry_lends self.entry result) }

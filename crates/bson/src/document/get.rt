@@ -37,7 +37,8 @@ impl Document {
         }
     }
 
-    /// The value at the key, to be written. A write changes that value, and nothing else of the document.
+    /// The value at the key, to be written. A write changes that value, and nothing else of the
+    /// document.
     pub fn get_mut(&mut self, key: &str) -> Option<&mut Bson>
         ensures* writes_back { sem 𝓛 (LendsValue self.entry self.old key.now result) }
         ensures value { option_map (λ x. x.now) result ≡ value_of key.now (contents self.old) }

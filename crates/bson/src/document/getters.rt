@@ -1,7 +1,8 @@
 //! Typed access to a document's values.
 //!
-//! Each getter answers `NotPresent` exactly where the key is absent, and `UnexpectedType` exactly where its value
-//! is of another kind. What is written through a `_mut` form becomes the value of that key, and the rest stays.
+//! Each getter answers `NotPresent` exactly where the key is absent, and `UnexpectedType` exactly
+//! where its value is of another kind. What is written through a `_mut` form becomes the value of
+//! that key, and the rest stays.
 use crate::bson::Array;
 use crate::document::Document;
 use crate::kinds::Kind;
@@ -40,19 +41,19 @@ impl Document {
     ghost use Rattle.bson.specs.Lends.{LendsAtKey};
     ghost use Rattle.bson.specs.View.{contents};
     ghost use Rattle.bson.specs.declared.document.Document as document;
-    ghost use Rattle.bson_store.specs.Pairs.{get, insert_pair};
+    ghost use Rattle.bson_store.specs.Pairs.{insert_pair};
     ghost use Rattle.bson.specs.declared.bson.Bson.TheVariants as value;
-    ghost use Rattle.bson.specs.KindRows.{array_row, boolean_row, bytes_row, date_row, decimal_row};
-    ghost use Rattle.bson.specs.KindRows.{double_row, int32_row, int64_row, object_id_row, string_row};
-    ghost use Rattle.bson.specs.KindRows.{timestamp_row};
-    ghost use Rattle.bson.specs.Kinds.{access_result, ok_copied, ok_copied_mut};
+    ghost use Rattle.bson.specs.Rows.{array_row, boolean_row, bytes_row, date_row, decimal_row};
+    ghost use Rattle.bson.specs.Rows.{double_row, int32_row, int64_row, object_id_row, string_row};
+    ghost use Rattle.bson.specs.Rows.{timestamp_row};
+    ghost use Rattle.bson.specs.Kinds.{held_at, ok_copied, ok_copied_mut};
     ghost use Rattle.bson.specs.Kinds.{array_of, boolean_of, date_of, decimal_of, document_of, double_of};
     ghost use Rattle.bson.specs.Kinds.{generic, generic_of, int32_of, int64_of, object_id_of, string_of};
-    ghost use Rattle.bson.specs.Kinds.{text_of, timestamp_of};
+    ghost use Rattle.bson.specs.Kinds.{bytes_of, timestamp_of};
 
     /// The pattern of the double at the key.
     pub fn get_f64(&self, key: &str) -> ValueAccessResult<u64>
-        ensures { result ≡ access_result double_of (get key.now (contents self.now)) }
+        ensures { result ≡ held_at double_of key.now self.now }
     {
         Ok(*self.kind_at::<u64>(key)?)
     }
@@ -60,14 +61,14 @@ impl Document {
     /// The pattern of the double at the key, to write.
     pub fn get_f64_mut(&mut self, key: &str) -> ValueAccessResult<&mut u64>
         ensures* writes_back { sem 𝓛 (LendsAtKey double_row value.Double self.entry self.old key.now result) }
-        ensures value { ok_copied_mut result ≡ access_result double_of (get key.now (contents self.old)) }
+        ensures value { ok_copied_mut result ≡ held_at double_of key.now self.old }
     {
         self.kind_at_mut::<u64>(key)
     }
 
     /// The string at the key.
     pub fn get_str(&self, key: &str) -> ValueAccessResult<&str>
-        ensures { ok_copied result ≡ access_result text_of (get key.now (contents self.now)) }
+        ensures { ok_copied result ≡ held_at (bytes_of string_of) key.now self.now }
     {
         let text = self.kind_at::<String>(key)?;
         Ok(text.as_str())
@@ -76,14 +77,14 @@ impl Document {
     /// The string at the key, to write.
     pub fn get_str_mut(&mut self, key: &str) -> ValueAccessResult<&mut String>
         ensures* writes_back { sem 𝓛 (LendsAtKey string_row value.String self.entry self.old key.now result) }
-        ensures value { ok_copied_mut result ≡ access_result string_of (get key.now (contents self.old)) }
+        ensures value { ok_copied_mut result ≡ held_at string_of key.now self.old }
     {
         self.kind_at_mut::<String>(key)
     }
 
     /// The list at the key.
     pub fn get_array(&self, key: &str) -> ValueAccessResult<&Array>
-        ensures { ok_copied result ≡ access_result array_of (get key.now (contents self.now)) }
+        ensures { ok_copied result ≡ held_at array_of key.now self.now }
     {
         self.kind_at::<Array>(key)
     }
@@ -91,46 +92,46 @@ impl Document {
     /// The list at the key, to write.
     pub fn get_array_mut(&mut self, key: &str) -> ValueAccessResult<&mut Array>
         ensures* writes_back { sem 𝓛 (LendsAtKey array_row value.Array self.entry self.old key.now result) }
-        ensures value { ok_copied_mut result ≡ access_result array_of (get key.now (contents self.old)) }
+        ensures value { ok_copied_mut result ≡ held_at array_of key.now self.old }
     {
         self.kind_at_mut::<Array>(key)
     }
 
     /// The document at the key.
     pub fn get_document(&self, key: &str) -> ValueAccessResult<&Document>
-        ensures { ok_copied result ≡ access_result document_of (get key.now (contents self.now)) }
+        ensures { ok_copied result ≡ held_at document_of key.now self.now }
     {
         self.kind_at::<Document>(key)
     }
 
     /// The document at the key, to write.
     ///
-    /// Nothing is promised of this document after the call, also where it is refused: its contract can't say so in this
-    /// form. [`Document::change_document`] promises it whole, and so do [`Document::get_mut`] and then
-    /// [`Bson::as_document_mut`](crate::Bson::as_document_mut).
+    /// Nothing is promised of this document after the call, also where it is refused: its contract
+    /// can't say so in this form. [`Document::change_document`] promises it whole, and so do
+    /// [`Document::get_mut`] and then [`Bson::as_document_mut`](crate::Bson::as_document_mut).
     pub fn get_document_mut(&mut self, key: &str) -> ValueAccessResult<&mut Document>
-        ensures value { ok_copied_mut result ≡ access_result document_of (get key.now (contents self.old)) }
+        ensures value { ok_copied_mut result ≡ held_at document_of key.now self.old }
     {
         self.kind_at_mut::<Document>(key)
     }
 
     /// Calls `change` on the document at the key, and answers what that returned.
     ///
-    /// The document that `change` leaves becomes the value of the key; the key keeps its place, and the other pairs
-    /// stay.
-    /// Where the call is refused, `change` was not called and this document is as it was.
+    /// The document that `change` leaves becomes the value of the key; the key keeps its place, and
+    /// the other pairs stay. Where the call is refused, `change` was not called and this document
+    /// is as it was.
     pub fn change_document<U, F: FnOnce(&mut Document) -> U>(
         &mut self,
         key: &str,
         change: F,
     ) -> ValueAccessResult<U>
         requires { (d : MutBor document.Document)
-            → access_result document_of (get key.now (contents self.old)) ≡ Ok d.now → F.pre change d }
+            → held_at document_of key.now self.old ≡ Ok d.now → F.pre change d }
         ensures changed { IfOk result (λ u. (d e : document.Document)
-            × (access_result document_of (get key.now (contents self.old)) ≡ Ok d)
+            × (held_at document_of key.now self.old ≡ Ok d)
             × FnOnceReturnsAtMut F.FnOnce change d u e
             × (contents self.new ≡ insert_pair key.now (value.Document e) (contents self.old))) }
-        ensures refused { IfErr result (λ e. (access_result document_of (get key.now (contents self.old)) ≡ Err e)
+        ensures refused { IfErr result (λ e. (held_at document_of key.now self.old ≡ Err e)
             × (contents self.new ≡ contents self.old)) }
     {
         match self.get_mut(key) {
@@ -144,7 +145,7 @@ impl Document {
 
     /// The truth value at the key.
     pub fn get_bool(&self, key: &str) -> ValueAccessResult<bool>
-        ensures { result ≡ access_result boolean_of (get key.now (contents self.now)) }
+        ensures { result ≡ held_at boolean_of key.now self.now }
     {
         Ok(*self.kind_at::<bool>(key)?)
     }
@@ -152,14 +153,14 @@ impl Document {
     /// The truth value at the key, to write.
     pub fn get_bool_mut(&mut self, key: &str) -> ValueAccessResult<&mut bool>
         ensures* writes_back { sem 𝓛 (LendsAtKey boolean_row value.Boolean self.entry self.old key.now result) }
-        ensures value { ok_copied_mut result ≡ access_result boolean_of (get key.now (contents self.old)) }
+        ensures value { ok_copied_mut result ≡ held_at boolean_of key.now self.old }
     {
         self.kind_at_mut::<bool>(key)
     }
 
     /// The number of 32 bits at the key.
     pub fn get_i32(&self, key: &str) -> ValueAccessResult<i32>
-        ensures { result ≡ access_result int32_of (get key.now (contents self.now)) }
+        ensures { result ≡ held_at int32_of key.now self.now }
     {
         Ok(*self.kind_at::<i32>(key)?)
     }
@@ -167,14 +168,14 @@ impl Document {
     /// The number of 32 bits at the key, to write.
     pub fn get_i32_mut(&mut self, key: &str) -> ValueAccessResult<&mut i32>
         ensures* writes_back { sem 𝓛 (LendsAtKey int32_row value.Int32 self.entry self.old key.now result) }
-        ensures value { ok_copied_mut result ≡ access_result int32_of (get key.now (contents self.old)) }
+        ensures value { ok_copied_mut result ≡ held_at int32_of key.now self.old }
     {
         self.kind_at_mut::<i32>(key)
     }
 
     /// The number of 64 bits at the key.
     pub fn get_i64(&self, key: &str) -> ValueAccessResult<i64>
-        ensures { result ≡ access_result int64_of (get key.now (contents self.now)) }
+        ensures { result ≡ held_at int64_of key.now self.now }
     {
         Ok(*self.kind_at::<i64>(key)?)
     }
@@ -182,14 +183,14 @@ impl Document {
     /// The number of 64 bits at the key, to write.
     pub fn get_i64_mut(&mut self, key: &str) -> ValueAccessResult<&mut i64>
         ensures* writes_back { sem 𝓛 (LendsAtKey int64_row value.Int64 self.entry self.old key.now result) }
-        ensures value { ok_copied_mut result ≡ access_result int64_of (get key.now (contents self.old)) }
+        ensures value { ok_copied_mut result ≡ held_at int64_of key.now self.old }
     {
         self.kind_at_mut::<i64>(key)
     }
 
     /// The timestamp at the key.
     pub fn get_timestamp(&self, key: &str) -> ValueAccessResult<Timestamp>
-        ensures { result ≡ access_result timestamp_of (get key.now (contents self.now)) }
+        ensures { result ≡ held_at timestamp_of key.now self.now }
     {
         Ok(*self.kind_at::<Timestamp>(key)?)
     }
@@ -197,7 +198,7 @@ impl Document {
     /// The timestamp at the key, to write.
     pub fn get_timestamp_mut(&mut self, key: &str) -> ValueAccessResult<&mut Timestamp>
         ensures* writes_back { sem 𝓛 (LendsAtKey timestamp_row value.Timestamp self.entry self.old key.now result) }
-        ensures value { ok_copied_mut result ≡ access_result timestamp_of (get key.now (contents self.old)) }
+        ensures value { ok_copied_mut result ≡ held_at timestamp_of key.now self.old }
     {
         self.kind_at_mut::<Timestamp>(key)
     }
@@ -205,7 +206,7 @@ impl Document {
     /// The bytes of the binary of subtype `Generic` at the key.
     /// A binary of another subtype, `UserDefined(0)` among them, is of another kind here.
     pub fn get_binary_generic(&self, key: &str) -> ValueAccessResult<&Vec<u8>>
-        ensures { ok_copied result ≡ access_result generic_of (get key.now (contents self.now)) }
+        ensures { ok_copied result ≡ held_at generic_of key.now self.now }
     {
         self.kind_at::<Vec<u8>>(key)
     }
@@ -213,14 +214,14 @@ impl Document {
     /// The bytes of the binary of subtype `Generic` at the key, to write.
     pub fn get_binary_generic_mut(&mut self, key: &str) -> ValueAccessResult<&mut Vec<u8>>
         ensures* writes_back { sem 𝓛 (LendsAtKey bytes_row generic self.entry self.old key.now result) }
-        ensures value { ok_copied_mut result ≡ access_result generic_of (get key.now (contents self.old)) }
+        ensures value { ok_copied_mut result ≡ held_at generic_of key.now self.old }
     {
         self.kind_at_mut::<Vec<u8>>(key)
     }
 
     /// The object id at the key.
     pub fn get_object_id(&self, key: &str) -> ValueAccessResult<ObjectId>
-        ensures { result ≡ access_result object_id_of (get key.now (contents self.now)) }
+        ensures { result ≡ held_at object_id_of key.now self.now }
     {
         Ok(*self.kind_at::<ObjectId>(key)?)
     }
@@ -228,14 +229,14 @@ impl Document {
     /// The object id at the key, to write.
     pub fn get_object_id_mut(&mut self, key: &str) -> ValueAccessResult<&mut ObjectId>
         ensures* writes_back { sem 𝓛 (LendsAtKey object_id_row value.ObjectId self.entry self.old key.now result) }
-        ensures value { ok_copied_mut result ≡ access_result object_id_of (get key.now (contents self.old)) }
+        ensures value { ok_copied_mut result ≡ held_at object_id_of key.now self.old }
     {
         self.kind_at_mut::<ObjectId>(key)
     }
 
     /// The moment at the key.
     pub fn get_datetime(&self, key: &str) -> ValueAccessResult<&DateTime>
-        ensures { ok_copied result ≡ access_result date_of (get key.now (contents self.now)) }
+        ensures { ok_copied result ≡ held_at date_of key.now self.now }
     {
         self.kind_at::<DateTime>(key)
     }
@@ -243,14 +244,14 @@ impl Document {
     /// The moment at the key, to write.
     pub fn get_datetime_mut(&mut self, key: &str) -> ValueAccessResult<&mut DateTime>
         ensures* writes_back { sem 𝓛 (LendsAtKey date_row value.DateTime self.entry self.old key.now result) }
-        ensures value { ok_copied_mut result ≡ access_result date_of (get key.now (contents self.old)) }
+        ensures value { ok_copied_mut result ≡ held_at date_of key.now self.old }
     {
         self.kind_at_mut::<DateTime>(key)
     }
 
     /// The decimal at the key.
     pub fn get_decimal128(&self, key: &str) -> ValueAccessResult<&Decimal128>
-        ensures { ok_copied result ≡ access_result decimal_of (get key.now (contents self.now)) }
+        ensures { ok_copied result ≡ held_at decimal_of key.now self.now }
     {
         self.kind_at::<Decimal128>(key)
     }
@@ -258,14 +259,14 @@ impl Document {
     /// The decimal at the key, to write.
     pub fn get_decimal128_mut(&mut self, key: &str) -> ValueAccessResult<&mut Decimal128>
         ensures* writes_back { sem 𝓛 (LendsAtKey decimal_row value.Decimal128 self.entry self.old key.now result) }
-        ensures value { ok_copied_mut result ≡ access_result decimal_of (get key.now (contents self.old)) }
+        ensures value { ok_copied_mut result ≡ held_at decimal_of key.now self.old }
     {
         self.kind_at_mut::<Decimal128>(key)
     }
 
     // The value at the key, of the one kind that the type stands for.
     fn kind_at<T: Kind>(&self, key: &str) -> ValueAccessResult<&T>
-        ensures { ok_copied result ≡ access_result T.held (get key.now (contents self.now)) }
+        ensures { ok_copied result ≡ held_at T.held key.now self.now }
     {
         let value = self.get(key).ok_or(ValueAccessError::NotPresent)?;
         T::kind(value).ok_or(ValueAccessError::UnexpectedType)
@@ -274,7 +275,7 @@ impl Document {
     // The same, to write.
     fn kind_at_mut<T: Kind>(&mut self, key: &str) -> ValueAccessResult<&mut T>
         ensures* writes_back { sem 𝓛 (LendsAtKey T.row T.made self.entry self.old key.now result) }
-        ensures value { ok_copied_mut result ≡ access_result T.held (get key.now (contents self.old)) }
+        ensures value { ok_copied_mut result ≡ held_at T.held key.now self.old }
     {
         match self.get_mut(key) {
             None => Err(ValueAccessError::NotPresent),

@@ -14,7 +14,8 @@ use bson_store::{PairStore, calls};
 use std::alloc::Global;
 use thiserror::Error;
 
-/// Want of memory at a new key, with the pair that was not put. It is an error with a text, so `?` carries it.
+/// Want of memory at a new key, with the pair that was not put. It is an error with a text, so `?`
+/// carries it.
 ///
 /// Where `document` is `{ "a": 1, "b": 2 }`:
 ///
@@ -25,7 +26,7 @@ use thiserror::Error;
 /// }
 /// ```
 #[derive(Drop, Error)]
-#[error("out of memory: the pair was not insert_pair")]
+#[error("out of memory: the pair was not put")]
 pub struct Refused {
     /// The key.
     pub key: String,
@@ -34,8 +35,8 @@ pub struct Refused {
 }
 
 impl Document {
-    /// Puts the value at the key, and returns the one that was there. A key that is there keeps its place, takes no
-    /// memory and succeeds; a new one goes last.
+    /// Puts the value at the key, and returns the one that was there. A key that is there keeps its
+    /// place, takes no memory and succeeds; a new one goes last.
     ///
     /// Where memory is refused it hands the pair back, and the document is as it was.
     pub fn insert(&mut self, key: String, value: Bson) -> Result<Option<Bson>, Refused>
@@ -53,7 +54,8 @@ impl Document {
         }
     }
 
-    /// Takes the value at the key, and its pair out of the document. The other pairs keep their order.
+    /// Takes the value at the key, and its pair out of the document. The other pairs keep their
+    /// order.
     pub fn remove(&mut self, key: &str) -> Option<Bson>
         ensures old { result ≡ get key.now (contents self.old) }
         ensures rest { contents self.new ≡ remove_pair key.now (contents self.old) }
@@ -68,7 +70,7 @@ impl Document {
         self.pairs.clear();
     }
 
-    // `insert`, without the old value. A drop of a value inside a loop gives the loop a goal for each kind.
+    // `insert`, without the old value, which is dropped here and not in the loop of `extend`.
     fn set(&mut self, key: String, value: Bson) -> Result<(), Refused>
         ensures put { OnOk result (contents self.new ≡ insert_pair (string_bytes key) value (contents self.old)) }
         ensures err { OnErr result (contents self.new ≡ contents self.old) }
@@ -80,8 +82,8 @@ impl Document {
 
     /// Puts each pair in turn, as `insert` does.
     ///
-    /// Where memory is refused it stops and hands the refused pair back: the document then has exactly the pairs before
-    /// it put in.
+    /// Where memory is refused it stops and hands the refused pair back: the document then has
+    /// exactly the pairs before it put in.
     pub fn extend<I: Iterator<Item = (String, Bson)> + Drop>(
         &mut self,
         items: I,
@@ -102,8 +104,8 @@ impl Document {
         Ok(())
     }
 
-    /// The document of the pairs, put in turn: of a key that comes twice the last value stays, in the place of the
-    /// first.
+    /// The document of the pairs, put in turn: of a key that comes twice the last value stays, in
+    /// the place of the first.
     ///
     /// Where memory is refused it hands the refused pair back.
     pub fn from_pairs<I: Iterator<Item = (String, Bson)> + Drop>(

@@ -1,6 +1,7 @@
 //! The pair at one place of a document, to be looked at or written.
 //!
-//! A clause `writes_back` says what the document holds once the reference that the call returns has ended.
+//! A clause `writes_back` says what the document holds once the reference that the call returns has
+//! ended.
 ghost use Rattle.std.specs.Prelude.{◌≡◌, ◌<◌, ◌≤◌, Some, length, slice_get, IfSome, IfNone};
 ghost use Rattle.std.specs.Prelude.{String, string_bytes};
 ghost use Rattle.std.specs.Borrow.{Bor, MutBor, sem};
@@ -36,8 +37,9 @@ impl Document {
 
     /// The pair at a place, from 0, its value to be written. None past the last pair.
     ///
-    /// Nothing is promised of the document after this call, also where it answers None: its contract can't say so in
-    /// this form. [`Document::change_index`] and [`Document::place_mut`] promise it whole.
+    /// Nothing is promised of the document after this call, also where it answers None: its
+    /// contract can't say so in this form. [`Document::change_index`] and [`Document::place_mut`]
+    /// promise it whole.
     pub fn get_index_mut(&mut self, at: usize) -> Option<(&String, &mut Bson)>
         ensures pair { IfSome result (λ p. Some (string_bytes p.0.now, p.1.now) ≡ slice_get (contents self.old) at) }
         ensures none { IfNone result (length (contents self.old) ≤ at) }
@@ -49,10 +51,11 @@ impl Document {
         }
     }
 
-    /// Calls `change` on the pair at a place, from 0, and answers what that returned. None past the last pair.
+    /// Calls `change` on the pair at a place, from 0, and answers what that returned. None past the
+    /// last pair.
     ///
-    /// The value that `change` leaves becomes the value of the pair; its key and the other pairs stay. Where the answer
-    /// is None, `change` was not called and the document is as it was.
+    /// The value that `change` leaves becomes the value of the pair; its key and the other pairs
+    /// stay. Where the answer is None, `change` was not called and the document is as it was.
     pub fn change_index<U, F: FnOnce(&String, &mut Bson) -> U>(
         &mut self,
         at: usize,
@@ -114,7 +117,8 @@ impl<'a> PlaceMut<'a> {
         self.document.pairs.key_at(self.at)
     }
 
-    /// The value of the pair, to be written. A write changes that value, and nothing else of the document.
+    /// The value of the pair, to be written. A write changes that value, and nothing else of the
+    /// document.
     pub fn into_value(self) -> &'a mut Bson
         ensures* writes_back { sem 𝓛 (place_lends self.entry result) }
         ensures value { Some result.now

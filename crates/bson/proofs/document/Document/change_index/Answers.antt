@@ -8,7 +8,8 @@ returns-then-at-len-clause-changed g c =
       p.0,
       p.1,
       _,
-      pair_from c.args.self.now.pairs c.args.at (string_bytes p.0.now) p.1.now c.pair_at_mut-value.ensures.key c.pair_at_mut-value.ensures.value,
+      pair_from c.args.self.now.pairs c.args.at (string_bytes p.0.now) p.1.now c.pair_at_mut-value.ensures.key
+          c.pair_at_mut-value.ensures.value,
       c.change.ensures,
       refl,
     )

@@ -20,7 +20,15 @@ loop-at-preserved g c =
     let there : drop at old ≡ (k, v) ∷ drop (at + 1) old
     = sym c.loop-at.invariant.ahead ∙ drop-at now at (k, v) here ∙ ap (λ l. (k, v) ∷ l) ahead in
     let call : ChangesValue g.F.FnMut c.loop-at.change k v c.change.new.self w
-    = record { key = lent.0; value = lent.1; left = _; names = refl; shows = refl; called = c.change.ensures; leaves = refl } in
+    = record {
+      key = lent.0;
+      value = lent.1;
+      left = _;
+      names = refl;
+      shows = refl;
+      called = c.change.ensures;
+      leaves = refl;
+    } in
     record {
       callable = let can = c.loop-at.invariant.callable in search of_calls;
       same_length = length-with now at w ∙ c.loop-at.invariant.same_length;
@@ -43,7 +51,8 @@ returns g c =
     let over = c.loop-at-test.false in
     let last = c.loop-at.change in (
       last,
-      subst (λ xs. ChangesEach g.F.FnMut c.args.change old last xs) (append-nil (take at now) ∙ take_all at now (omega arith))
+      subst (λ xs. ChangesEach g.F.FnMut c.args.change old last xs)
+          (append-nil (take at now) ∙ take_all at now (omega arith))
           (c.loop-at.invariant.done last []
           (subst (λ xs. ChangesEach g.F.FnMut last xs last []) (sym (drop_all at old (omega arith))) (refl, refl))),
     )

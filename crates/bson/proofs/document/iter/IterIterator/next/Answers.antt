@@ -7,4 +7,5 @@ pub returns-then-at-len-clause-steps : goal.returns-then-at-len-clause-steps
 returns-then-at-len-clause-steps c =
     let ps = c.args.self.now.pairs.now in
     let i = c.args.self.now.at in
-    drop-at ps i (string_bytes c.key_at.result.now, c.value_at.result.now) (pair_from ps i (string_bytes c.key_at.result.now) c.value_at.result.now c.key_at.ensures c.value_at.ensures)
+    drop-at ps i (string_bytes c.key_at.result.now, c.value_at.result.now)
+    (pair_from ps i (string_bytes c.key_at.result.now) c.value_at.result.now c.key_at.ensures c.value_at.ensures)
