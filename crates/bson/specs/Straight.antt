@@ -2,7 +2,7 @@
 use Rattle.std.specs.Prelude.{◌≡◌, ◌<◌, ◌≤◌, ℕ, List, codes, length, Option, Some, None, Ok}
 use Rattle.json.specs.Token.{Token}
 use Rattle.json.specs.Json.{read_key, members, value}
-use Rattle.serde_json.specs.Data.{Data, Items, Members, no_members, object}
+use Rattle.serde_json.specs.Data.{Data, Items, Members, no_members, object, put}
 use Rattle.serde_json.specs.Read.{of_json, of_members, converted, read}
 use Rattle.bson_model.specs.Reading.{reads, reads_items, reads_members, reads_scope, code_at}
 use Rattle.bson_model.specs.Sorted.{put_pair}
@@ -33,12 +33,21 @@ PairsMean members ps rest = (ms : Members) × (members ≡ Some (ms, rest)) × (
 abbrev pub ScopeMeans : Option (Data × List Token) → Option Pairs → List Token → Type 0
 ScopeMeans tree scope rest = (d : Data) × (tree ≡ Some (d, rest)) × (reads_scope d ≡ Ok scope)
 
--- of an object whose first key was read: the members are read to its end from before that key, and mean the value
+-- a tree was read, and put at the key among the members
+abbrev pub IsEntered : Option (Data × List Token) → List ℕ → Members → Members → List Token → Type 0
+IsEntered tree k old new rest = (d : Data) × (tree ≡ Some (d, rest)) × (new ≡ put k d old)
+
+-- the members are read to the end of the object, beside those before them
+abbrev pub MembersAre : ℕ → Members → List Token → Members → List Token → Type 0
+MembersAre depth old ts new rest = (n : ℕ) → length ts ≤ n → converted (λ js. of_members js old) (members (value depth) n ts) ≡ Some (new, rest)
+
+-- of an object whose first key was read: the members are read to its end from before that key
+abbrev pub ObjectIs : ℕ → List ℕ → List Token → Members → List Token → Type 0
+ObjectIs depth k ts ms rest = (before : List Token) → read_key before ≡ Some (Some k, ts) → MembersAre depth no_members before ms rest
+
+-- these members mean the value
 abbrev pub WrapperMeans : ℕ → List ℕ → List Token → Value → List Token → Type 0
-WrapperMeans depth k ts v rest =
-    (ms : Members)
-    × ((n : ℕ) (before : List Token) → length before ≤ n → read_key before ≡ Some (Some k, ts) → converted (λ js. of_members js no_members) (members (value depth) n before) ≡ Some (ms, rest))
-    × (reads (object ms) ≡ Ok v)
+WrapperMeans depth k ts v rest = (ms : Members) × ObjectIs depth k ts ms rest × (reads (object ms) ≡ Ok v)
 
 -- after the key l behind the key k, at which d stands: a scope, and the end of the object
 abbrev pub CodeMeans : ℕ → List ℕ → Data → List ℕ → List Token → Value → List Token → Type 0

@@ -28,9 +28,9 @@ pub(crate) fn read_single(alloc: Global, key: &str, value: Value) -> Result<Bson
     Ok(of_scalar(read_scalar(alloc, key, value)?))
 }
 
-const SHAPE: &str = "a wrapper key stands in an object of another shape";
+pub(crate) const SHAPE: &str = "a wrapper key stands in an object of another shape";
 
-const CODE: &str = "`$code` stands alone, or beside `$scope` with a text";
+pub(crate) const CODE: &str = "`$code` stands alone, or beside `$scope` with a text";
 
 #[cycle(read)]
 pub(crate) fn read(alloc: Global, value: Value) -> Result<Bson, Error>
