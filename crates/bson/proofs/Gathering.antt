@@ -20,7 +20,7 @@ pub record Gathers (depth : ℕ) (start here : List Token) (so_far : Members) (f
   pub shorter : length here ≤ length start
 
 pub none_yet : (depth : ℕ) (ts : List Token) (found : Pairs) → found ≡ no_pairs → Gathers depth ts ts no_members found
-none_yet depth ts found none = record { all = λ ms rest are. are; read = ap Ok (sym none); ascends = subst KeysAscend (sym none) tt; shorter = omega arith; }
+none_yet depth ts found none = record { all = λ ms rest are. are; read = ap Ok (sym none); ascends = subst KeysAscend (sym none) tt; shorter = omega arith }
 
 pub one_gathered : (depth : ℕ) (k : List ℕ) (start here s r : List Token) (so_far : Members) (old new : Pairs) → Gathers depth start here so_far old → read_key here ≡ Some (Some k, s)
     → (joined : IsJoined (converted of_json (value depth s)) k old new r) → length r < length s → Gathers depth start r (put k joined.0 so_far) new

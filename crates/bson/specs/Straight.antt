@@ -1,9 +1,11 @@
 -- What the tokens of a text mean, where they are read with no tree of the whole. For private clauses.
-use Rattle.std.specs.Prelude.{◌≡◌, ◌<◌, ◌≤◌, ℕ, List, codes, length, Option, Some, None, Ok}
+use Rattle.std.specs.Prelude.{◌≡◌, ◌<◌, ◌≤◌, ℕ, List, codes, length, Option, Some, None, Result, Ok}
 use Rattle.json.specs.Token.{Token}
 use Rattle.json.specs.Json.{read_key, members, value}
 use Rattle.serde_json.specs.Data.{Data, Items, Members, no_members, object, put}
 use Rattle.serde_json.specs.Read.{of_json, of_members, converted, read}
+use Rattle.bson_wrapper.specs.Faults.{Fault, Gives, ◌>>=◌}
+use Rattle.bson_wrapper.specs.declared.error.Error.{Error}
 use Rattle.bson_model.specs.Reading.{reads, reads_items, reads_members, reads_scope, code_at}
 use Rattle.bson_model.specs.Sorted.{put_pair}
 use Rattle.bson_model.specs.Value.{Value, Values, Pairs}
@@ -54,3 +56,11 @@ abbrev pub CodeMeans : ℕ → List ℕ → Data → List ℕ → List Token →
 CodeMeans depth k d l ts v rest =
     (k ≡ codes "$code") × (l ≡ codes "$scope") × (e : Data) × (s : List Token) × (converted of_json (value depth ts) ≡ Some (e, s)) × (length s < length ts)
     × (read_key s ≡ Some (None, rest)) × (code_at k d l (reads_scope e) ≡ Ok v)
+
+-- what was read, with no value of it
+abbrev pub forgotten : {A : Type 0} → Result A Fault → Result (Unit {0}) Fault
+forgotten r = r >>= λ x. Ok tt
+
+-- a function found that there is a value to read, or the fault
+abbrev pub Finds : {X Y : Type 0} → Result X Error → Result Y Fault → Type 0
+Finds result read = Gives (λ x. tt) result (forgotten read)

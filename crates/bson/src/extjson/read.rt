@@ -14,10 +14,10 @@ ghost use Rattle.bson.specs.View.{bson_view, document_view, values_view};
 use crate::bson::{Bson, JavaScriptCodeWithScope};
 use crate::document::Document;
 use crate::extjson::scalars::{of_scalar, read_number};
+use bson_store::{PairStore, SmallPairs};
 use bson_wrapper::error::Error;
 use bson_wrapper::read::read_single as read_scalar;
 use bson_wrapper::wrapper::any_wrapper;
-use bson_store::{PairStore, SmallPairs};
 use serde_json::{Map, Value};
 use std::alloc::Global;
 

@@ -1,7 +1,8 @@
 //! Why a tree means nothing, told with no value made of it.
 ghost use Rattle.serde_json.specs.View.{view, items_view, members_view};
-ghost use Rattle.std.specs.Prelude.{string_bytes};
-ghost use Rattle.bson_model.specs.Reading.{reads, reads_items, reads_members, reads_wrapper, reads_scope, scalar_value, scope_value, code_at};
+ghost use Rattle.std.specs.Prelude.{IfErr};
+ghost use Rattle.bson_model.specs.Fault.{IsFaultOf};
+ghost use Rattle.bson_model.specs.Reading.{reads, reads_items, reads_members, reads_wrapper, reads_scope, scalar_value, code_at};
 ghost use Rattle.bson_wrapper.specs.Reading.{single_at};
 ghost use Rattle.bson_wrapper.specs.Table.{wrapper_of};
 ghost use Rattle.bson.specs.Straight.{Finds};
@@ -13,9 +14,15 @@ use bson_wrapper::wrapper::any_wrapper;
 use serde_json::{Map, Value};
 use std::alloc::Global;
 
-/// The fault of the tree, where it has one.
+/// Refuses a tree that means nothing, with its fault.
+pub(crate) fn check(alloc: Global, tree: &Value) -> Result<(), Error>
+    ensures { IfErr result (λ e. IsFaultOf (view tree.now) e) }
+{
+    check_value(alloc, tree)
+}
+
 #[cycle(fault)]
-pub(crate) fn check(alloc: Global, value: &Value) -> Result<(), Error>
+fn check_value(alloc: Global, value: &Value) -> Result<(), Error>
     ensures { Finds result (reads (view value.now)) }
 {
     match value {
@@ -38,7 +45,7 @@ fn check_items(alloc: Global, items: &Vec<Value>) -> Result<(), Error>
     ensures { Finds result (reads_items (items_view items.now.items)) }
 {
     for item in items {
-        check(alloc, item)?;
+        check_value(alloc, item)?;
     }
     Ok(())
 }
@@ -48,7 +55,7 @@ fn check_members(alloc: Global, members: &Map<String, Value>) -> Result<(), Erro
     ensures { Finds result (reads_members (members_view members.now.entries)) }
 {
     for (_, value) in members.iter() {
-        check(alloc, value)?;
+        check_value(alloc, value)?;
     }
     Ok(())
 }

@@ -1,4 +1,4 @@
-//! Trees of parts of a text: of what a wrapper's key holds, and of an object that no single pass can tell.
+//! Trees of parts of a text: of what a wrapper's key holds, and of an object that begins with a scope.
 ghost use Rattle.std.specs.Prelude.{◌≡◌, ◌<◌, length, IfOk, OnOk, Some};
 ghost use Rattle.json.specs.Json.{value, items};
 ghost use Rattle.serde_json.specs.Data.{no_members};

@@ -15,8 +15,8 @@ ghost use Rattle.bson.specs.Straight.{TreeMeans, ItemsMean, IsJoined, ObjectMean
 
 use crate::bson::Bson;
 use crate::document::Document;
-use crate::extjson::scalars::read_number;
 use crate::extjson::read::{is_code_with_scope, read, read_single, with_scope};
+use crate::extjson::scalars::read_number;
 use crate::extjson::text_reader::gathered::{Gathered, document_of, is_none, none, put};
 use crate::extjson::text_reader::held::{read_from, read_tree};
 use crate::extjson::text_reader::number::number;

@@ -104,7 +104,7 @@ read_member-returns-clause-ok t c =
     )
 
 pub read_members-members-init : goal.read_members-members-init
-read_members-members-init t c = record { all = λ ms rest is. is; shorter = omega arith; }
+read_members-members-init t c = record { all = λ ms rest is. is; shorter = omega arith }
 
 pub read_members-members-preserved : goal.read_members-members-preserved
 read_members-members-preserved t c =
