@@ -1,12 +1,18 @@
 -- A turn of the grammar's loops over tokens, where each part that is read becomes a part of the tree.
-use Rattle.std.proofs.Common.{◌≡◌, ℕ, ◌-◌, ◌<◌, ◌≤◌, List, length, Option, Some, None, option_map, refl, ap, ◌∙◌}
+use Rattle.std.proofs.Common.{◌≡◌, ℕ, ◌-◌, ◌<◌, ◌≤◌, List, length, Option, Some, None, Result, Ok, Err, IfOk, option_map, refl, ap, ◌∙◌, arith, ◌∷◌}
 use Rattle.std.proofs.lemmas.Option.{same_Some}
 use Rattle.json.specs.Token.{Token}
 use Rattle.json.specs.Json as json
-use Rattle.json.specs.Json.{Parse, parse_map, after_end_array, read_key, items, members}
-use Rattle.json.proofs.Grammar.{items_end, items_more, members_end, members_more}
+use Rattle.json.specs.Json.{Parse, parse_map, after_end_array, read_key, items, members, value}
+use Rattle.json.proofs.Grammar.{value-begin_array, value-begin_object, items_end, items_more, members_end, members_more, read_key-shorter}
 use Rattle.serde_json.specs.Data.{Data, array, object, no_items, item, Members, no_members, put}
 use Rattle.serde_json.specs.Read.{of_json, of_items, of_members, converted}
+use Rattle.bson.specs.Straight.{MembersAre}
+
+-- what holds of a value that was read has what follows from it
+pub if_ok : {X E : Type 0} {P Q : X → Type 0} (r : Result X E) → IfOk r P → ((x : X) → P x → Q x) → IfOk r Q
+if_ok (Ok x) h f = f x h
+if_ok (Err e) h f = tt
 
 -- what became a part of the tree, beside the tokens that are left
 beside : {B : Type 0} (x : Option B) (r s : List Token) (b : B) → option_map {U = B × List Token} (λ y. (y, r)) x ≡ Some (b, s) → (x ≡ Some b) × (r ≡ s)
@@ -23,13 +29,21 @@ under : {A B : Type 0} (g : A → B) (x : Option A) (r : List Token) → option_
 under g None r = refl
 under g (Some a) r = refl
 
-pub array_converted : (o : Option (json.Items × List Token)) → converted of_json (parse_map json.array o) ≡ parse_map array (converted of_items o)
+array_converted : (o : Option (json.Items × List Token)) → converted of_json (parse_map json.array o) ≡ parse_map array (converted of_items o)
 array_converted None = refl
 array_converted (Some (js, r)) = under array (of_items js) r
 
-pub object_converted : (o : Option (json.Members × List Token)) → converted of_json (parse_map json.object o) ≡ parse_map object (converted (λ ms. of_members ms no_members) o)
+object_converted : (o : Option (json.Members × List Token)) → converted of_json (parse_map json.object o) ≡ parse_map object (converted (λ ms. of_members ms no_members) o)
 object_converted None = refl
 object_converted (Some (js, r)) = under object (of_members js no_members) r
+
+-- a bracket was read, and what stands behind it is left
+pub array_opened : (depth : ℕ) (ts r : List Token) → ts ≡ Token.begin_array ∷ r → 0 < depth → converted of_json (value depth ts) ≡ parse_map array (converted of_items (items (value (depth - 1)) (length r) r))
+array_opened depth ts r is left = ap (λ t. converted of_json (value depth t)) is ∙ ap (converted of_json) (value-begin_array depth r left) ∙ array_converted (items (value (depth - 1)) (length r) r)
+
+pub object_opened : (depth : ℕ) (ts r : List Token) → ts ≡ Token.begin_object ∷ r → 0 < depth
+    → converted of_json (value depth ts) ≡ parse_map object (converted (λ ms. of_members ms no_members) (members (value (depth - 1)) (length r) r))
+object_opened depth ts r is left = ap (λ t. converted of_json (value depth t)) is ∙ ap (converted of_json) (value-begin_object depth r left) ∙ object_converted (members (value (depth - 1)) (length r) r)
 
 first_item : (j : json.Json) (d : Data) (o : Option (json.Items × List Token)) → of_json j ≡ Some d → converted of_items (parse_map (json.item j) o) ≡ parse_map (item d) (converted of_items o)
 first_item j d None h = refl
@@ -60,6 +74,16 @@ module _ (p : Parse json.Json) (n : ℕ) where
 
   pub last_member : (old : Members) (ts r : List Token) → length ts ≤ n → read_key ts ≡ Some (None, r) → converted (λ ms. of_members ms old) (members p n ts) ≡ Some (old, r)
   last_member old ts r enough e = ap (converted (λ ms. of_members ms old)) (members_end p n ts r enough e)
+
+-- to the end of the object: one more member, and no more
+pub more_members : (depth : ℕ) (k : List ℕ) (ts s r rest : List Token) (d : Data) (old new : Members) → read_key ts ≡ Some (Some k, s) → converted of_json (value depth s) ≡ Some (d, r) → length r < length s
+    → MembersAre depth (put k d old) r new rest → MembersAre depth old ts new rest
+more_members depth k ts s r rest d old new named held less more =
+    let first = read_key-shorter ts (Some k) s named in
+    λ n enough. one_member (value depth) n old k ts s r d (omega (arith, enough, first)) named held ∙ more (n - 1) (omega (arith, enough, first, less))
+
+pub no_more_members : (depth : ℕ) (ts rest : List Token) (old : Members) → read_key ts ≡ Some (None, rest) → MembersAre depth old ts old rest
+no_more_members depth ts rest old ended = λ n enough. last_member (value depth) n old ts rest enough ended
 
 -- what was read, under two functions in turn, and under none
 pub fused : {A B C : Type 0} (f : B → C) (g : A → B) (o : Option (A × List Token)) → parse_map f (parse_map g o) ≡ parse_map (λ a. f (g a)) o

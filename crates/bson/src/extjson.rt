@@ -1,7 +1,7 @@
 //! MongoDB Extended JSON v2.
 pub mod de;
-pub(crate) mod scalars;
 mod read;
+pub(crate) mod scalars;
 mod ser;
 mod text;
 mod text_error;

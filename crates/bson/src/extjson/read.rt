@@ -14,10 +14,10 @@ ghost use Rattle.bson.specs.View.{bson_view, document_view, values_view};
 use crate::bson::{Bson, JavaScriptCodeWithScope};
 use crate::document::Document;
 use crate::extjson::scalars::{of_scalar, read_number};
+use bson_store::{PairStore, SmallPairs};
 use bson_wrapper::error::Error;
 use bson_wrapper::read::read_single as read_scalar;
 use bson_wrapper::wrapper::any_wrapper;
-use bson_store::{PairStore, SmallPairs};
 use serde_json::{Map, Value};
 use std::alloc::Global;
 
@@ -28,9 +28,9 @@ pub(crate) fn read_single(alloc: Global, key: &str, value: Value) -> Result<Bson
     Ok(of_scalar(read_scalar(alloc, key, value)?))
 }
 
-const SHAPE: &str = "a wrapper key stands in an object of another shape";
+pub(crate) const SHAPE: &str = "a wrapper key stands in an object of another shape";
 
-const CODE: &str = "`$code` stands alone, or beside `$scope` with a text";
+pub(crate) const CODE: &str = "`$code` stands alone, or beside `$scope` with a text";
 
 #[cycle(read)]
 pub(crate) fn read(alloc: Global, value: Value) -> Result<Bson, Error>

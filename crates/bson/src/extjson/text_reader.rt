@@ -1,11 +1,12 @@
 //! Values from texts, with no tree of the whole.
 //!
-//! In reading order: `straight` (values from the tokens of a text), `held` (what a wrapper's key holds), `number` (the
-//! number of a token), `gathered` (the members of an object as they come, by ascending key) and `unread` (why no value
-//! was read straight).
-ghost use Rattle.std.specs.Prelude.{◌≡◌, None, IfOk, IfErr, IsTrue};
+//! In reading order: `straight` (values from the tokens of a text), `held` (trees of what a wrapper's key holds, and of
+//! an object that begins with `$scope`), `number` (the number of a token), `gathered` (the members of an object as they
+//! come, by ascending key), `unread` (why no value was read straight) and `fault` (why the tree of a text means nothing).
+ghost use Rattle.std.specs.Prelude.{◌≡◌, ℕ, List, None, IfOk, IfErr, IsTrue};
 ghost use Rattle.serde_json.specs.Data.{Data};
 ghost use Rattle.serde_json.specs.Read.{read};
+ghost use Rattle.bson_model.specs.Fault.{IsFaultOf};
 ghost use Rattle.bson_model.specs.Means.{Means};
 ghost use Rattle.bson_model.specs.Texts.{ComesBack};
 ghost use Rattle.bson_model.specs.Value as model;
@@ -14,6 +15,7 @@ ghost use Rattle.bson.specs.TextMeaning.{IsTextOf, HasTextMeaning, IsTextFault};
 ghost use Rattle.bson.specs.Straight.{TextMeans};
 ghost use Rattle.bson.specs.declared.extjson.text_error.TextError.TheVariants.{OutOfMemory};
 
+mod fault;
 mod gathered;
 mod held;
 mod number;
@@ -22,6 +24,7 @@ mod unread;
 
 use crate::bson::Bson;
 use crate::extjson::text_error::TextError;
+use crate::extjson::text_reader::fault::check;
 use crate::extjson::text_reader::straight::read_value;
 use crate::extjson::text_reader::unread::Unread;
 use bson_wrapper::error::Error;
@@ -47,8 +50,8 @@ impl Bson {
     ///
     /// What has a meaning is read straight, with no tree of the whole. A text that is refused so is
     /// read again by its tree, which finds the fault. So is, and is then accepted, a text that has an
-    /// object in which a wrapper's key stands twice, or behind another key (`$scope` before `$code`),
-    /// or in which a value of no meaning gives way to a later one of its key.
+    /// object in which a wrapper's key stands twice, or in which a value of no meaning gives way to a
+    /// later one of its key.
     ///
     /// ```
     /// let value = Bson::try_from_text(alloc, br#"{"n": {"$numberLong": "5"}}"#)?;
@@ -105,25 +108,37 @@ fn breaks_grammar(alloc: Global, text: &str) -> Result<bool, AllocError>
     }
 }
 
-// The same by the text's tree.
+// The same by the text's tree. Most such texts have a fault, which is looked for first: that makes no values.
 #[inline(never)]
 fn by_tree(alloc: Global, bytes: &[u8]) -> Result<Bson, TextError>
     ensures ok { IfOk result (λ v. HasTextMeaning bytes.now (bson_view v)) }
     ensures fault { IfErr result (λ e. IsTextFault bytes.now e) }
 {
     match Value::from_slice(alloc, bytes) {
-        Ok(tree) => match Bson::try_from_value(alloc, tree) {
-            Ok(value) => Ok(value),
-            Err(Error::OutOfMemory) => Err(TextError::OutOfMemory),
-            Err(Error::InvalidObjectId(fault)) => {
-                Err(TextError::NotExtendedJson(Error::InvalidObjectId(fault)))
+        Ok(tree) => {
+            if let Err(fault) = check(alloc, &tree) {
+                return Err(refusal(fault));
             }
-            Err(Error::DeserializationError { message }) => {
-                Err(TextError::NotExtendedJson(Error::DeserializationError { message }))
+            match Bson::try_from_value(alloc, tree) {
+                Ok(value) => Ok(value),
+                Err(fault) => Err(refusal(fault)),
             }
-        },
+        }
         Err(error) if error.is_memory() => Err(TextError::OutOfMemory),
         Err(_) => Err(TextError::NotJson),
+    }
+}
+
+// The error of a text whose tree has the fault.
+fn refusal(fault: Error) -> TextError
+    ensures { (bytes : List ℕ) (tree : Data) → IsTextOf bytes tree → IsFaultOf tree fault → IsTextFault bytes result }
+{
+    match fault {
+        Error::OutOfMemory => TextError::OutOfMemory,
+        Error::InvalidObjectId(id) => TextError::NotExtendedJson(Error::InvalidObjectId(id)),
+        Error::DeserializationError { message } => {
+            TextError::NotExtendedJson(Error::DeserializationError { message })
+        }
     }
 }
 

@@ -1,9 +1,10 @@
-//! What a wrapper's key holds.
+//! Trees of parts of a text: of what a wrapper's key holds, and of an object that begins with a scope.
 ghost use Rattle.std.specs.Prelude.{◌≡◌, ◌<◌, length, IfOk, OnOk, Some};
-ghost use Rattle.json.specs.Json.{value, members};
+ghost use Rattle.json.specs.Json.{value, items};
 ghost use Rattle.serde_json.specs.Data.{no_members};
-ghost use Rattle.serde_json.specs.Read.{of_json, of_members, converted};
-ghost use Rattle.serde_json.specs.View.{view, members_view};
+ghost use Rattle.serde_json.specs.Read.{of_json, of_items, converted};
+ghost use Rattle.serde_json.specs.View.{view, items_view, members_view};
+ghost use Rattle.bson.specs.Straight.{IsEntered, MembersAre, ObjectIs};
 
 use crate::extjson::text_reader::number::number;
 use crate::extjson::text_reader::unread::Unread;
@@ -11,7 +12,6 @@ use json::{Reader, Token};
 use serde_json::{Map, Value};
 use std::alloc::Global;
 
-// The tree under a wrapper's key: no wrapper of one key holds a list.
 #[cycle(tree)]
 pub(crate) fn read_tree(
     alloc: Global,
@@ -31,32 +31,85 @@ pub(crate) fn read_tree(
         Token::Bool(b) => Ok(Value::Bool(b)),
         Token::Null => Ok(Value::Null),
         Token::EndObject | Token::EndArray | Token::Key(_) | Token::Bad => Err(Unread::Broken),
-        Token::BeginArray => Err(Unread::LeftToTree),
+        Token::BeginArray => {
+            if depth == 0 {
+                return Err(Unread::LeftToTree);
+            }
+            Ok(Value::Array(read_items(alloc, reader, depth - 1)?))
+        }
         Token::BeginObject => {
             if depth == 0 {
                 return Err(Unread::LeftToTree);
             }
-            Ok(Value::Object(read_members(alloc, reader, depth - 1)?))
+            let none = Map::new(alloc);
+            Ok(Value::Object(read_members(alloc, reader, depth - 1, none)?))
         }
     }
 }
 
 #[cycle(tree)]
+fn read_items(alloc: Global, reader: &mut Reader<'_>, depth: usize) -> Result<Vec<Value>, Unread>
+    ensures ok { IfOk result
+        (λ v. converted of_items (items (value depth) (length reader.old) reader.old) ≡ Some (items_view v.items, reader.new)) }
+    ensures shorter { OnOk result (length reader.new < length reader.old) }
+{
+    let mut found = Vec::new(alloc);
+    'items: while !reader.take_end_array() {
+        let item = read_tree(alloc, reader, depth)?;
+        found.push(item)?;
+    }
+    Ok(found)
+}
+
+// The members to the end of the object, beside those that were found.
+#[cycle(tree)]
 fn read_members(
     alloc: Global,
     reader: &mut Reader<'_>,
     depth: usize,
+    mut found: Map<String, Value>,
 ) -> Result<Map<String, Value>, Unread>
     ensures ok { IfOk result
-        (λ m. converted (λ ms. of_members ms no_members) (members (value depth) (length reader.old) reader.old)
-        ≡ Some (members_view m.entries, reader.new)) }
+        (λ m. MembersAre depth (members_view found.entries) reader.old (members_view m.entries) reader.new) }
     ensures shorter { OnOk result (length reader.new < length reader.old) }
 {
-    let mut found = Map::new(alloc);
     'members: while let Some(name) = reader.next_key()? {
-        let key = String::from_str(alloc, name)?;
-        let member = read_tree(alloc, reader, depth)?;
-        drop(found.insert(key, member)?);
+        found = read_member(alloc, reader, depth, name, found)?;
     }
     Ok(found)
+}
+
+// The members that were found, and the one whose key was read.
+#[cycle(tree)]
+#[inline(always)]
+fn read_member(
+    alloc: Global,
+    reader: &mut Reader<'_>,
+    depth: usize,
+    name: &str,
+    mut found: Map<String, Value>,
+) -> Result<Map<String, Value>, Unread>
+    ensures ok { IfOk result
+        (λ now. IsEntered (converted of_json (value depth reader.old)) name.now (members_view found.entries) (members_view now.entries) reader.new) }
+    ensures shorter { OnOk result (length reader.new < length reader.old) }
+{
+    let key = String::from_str(alloc, name)?;
+    let member = read_tree(alloc, reader, depth)?;
+    drop(found.insert(key, member)?);
+    Ok(found)
+}
+
+/// The members of the object whose first key was read.
+pub(crate) fn read_from(
+    alloc: Global,
+    reader: &mut Reader<'_>,
+    depth: usize,
+    key: &str,
+) -> Result<Map<String, Value>, Unread>
+    ensures ok { IfOk result (λ m. ObjectIs depth key.now reader.old (members_view m.entries) reader.new) }
+    ensures shorter { OnOk result (length reader.new < length reader.old) }
+{
+    let none = Map::new(alloc);
+    let first = read_member(alloc, reader, depth, key, none)?;
+    read_members(alloc, reader, depth, first)
 }

@@ -15,10 +15,10 @@ ghost use Rattle.bson.specs.Straight.{TreeMeans, ItemsMean, IsJoined, ObjectMean
 
 use crate::bson::Bson;
 use crate::document::Document;
+use crate::extjson::read::{is_code_with_scope, read, read_single, with_scope};
 use crate::extjson::scalars::read_number;
-use crate::extjson::read::{is_code_with_scope, read_single, with_scope};
 use crate::extjson::text_reader::gathered::{Gathered, document_of, is_none, none, put};
-use crate::extjson::text_reader::held::read_tree;
+use crate::extjson::text_reader::held::{read_from, read_tree};
 use crate::extjson::text_reader::number::number;
 use crate::extjson::text_reader::unread::Unread;
 use bson_wrapper::wrapper::named;
@@ -93,10 +93,30 @@ fn read_object(alloc: Global, reader: &mut Reader<'_>, depth: usize) -> Result<B
             }
             return Err(Unread::LeftToTree);
         }
+        if name == "$scope" && is_none(&found) {
+            return read_scoped(alloc, reader, depth, name);
+        }
         found = read_member(alloc, reader, depth, name, found)?;
     }
     let document = document_of(alloc, found)?;
     Ok(Bson::Document(document))
+}
+
+// What the object means whose first key, `$scope`, was read. It has a tree of its own, since only what follows tells
+// whether a scope stands there, whose keys are not tested, or a value like any other.
+#[inline(never)]
+fn read_scoped(
+    alloc: Global,
+    reader: &mut Reader<'_>,
+    depth: usize,
+    key: &str,
+) -> Result<Bson, Unread>
+    ensures ok { IfOk result (λ v. WrapperMeans depth key.now reader.old (bson_view v) reader.new) }
+    ensures shorter { OnOk result (length reader.new < length reader.old) }
+{
+    let members = read_from(alloc, reader, depth, key)?;
+    let value = read(alloc, Value::Object(members))?;
+    Ok(value)
 }
 
 // The members, and the one whose key was read.

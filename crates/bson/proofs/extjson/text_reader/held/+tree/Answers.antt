@@ -1,14 +1,16 @@
-use Rattle.std.proofs.Common.{◌≡◌, ◌-◌, ◌∷◌, length, Some, string_bytes, sym, ap, ◌∙◌, arith, rules}
+use Rattle.std.proofs.Common.{◌≡◌, ◌-◌, ◌<◌, ◌∷◌, length, Some, None, string_bytes, sym, ap, ◌∙◌, subst, arith, rules}
 use Rattle.json.specs.Token.{Token}
-use Rattle.json.specs.Json.{parse_map, read_key, members, value}
+use Rattle.json.specs.Json.{parse_map, after_end_array, read_key, items, members, value}
 use Rattle.json.specs.Reads.{token_of}
-use Rattle.json.proofs.Grammar.{value_is, value-begin_object, read_key-shorter}
-use Rattle.serde_json.specs.Data.{null, boolean, number, string, object, put}
-use Rattle.serde_json.specs.Read.{of_json, of_members, converted}
+use Rattle.json.proofs.Grammar.{value_is, read_key-shorter}
+use Rattle.serde_json.specs.Data.{null, boolean, number, string, array, object, no_members, put}
+use Rattle.serde_json.specs.Read.{of_json, of_items, converted}
 use Rattle.serde_json.specs.View.{view, number_view, members_view}
 use Rattle.serde_json.specs.declared.value.Value.{String, Number, Bool, Null, the_lemmas}
-use Rattle.serde_json.proofs.Views.{view-Object, members_view-insert_entry}
-use Rattle.bson.proofs.Turns.{object_converted, one_member, last_member}
+use Rattle.serde_json.proofs.Views.{view-Array, view-Object, members_view-insert_entry}
+use Rattle.bson.specs.Straight.{MembersAre}
+use Rattle.bson.proofs.Trees.{items_onto, items_onto-none, one_more_item}
+use Rattle.bson.proofs.Turns.{array_opened, object_opened, one_item, last_item, more_members, no_more_members, as_it_is}
 use Rattle.bson.proofs.extjson.text_reader.held.+tree.Goals as goal
 
 pub read_tree-returns-in_ok-from_str-in-String-clause-ok : goal.read_tree-returns-in_ok-from_str-in-String-clause-ok
@@ -42,38 +44,87 @@ read_tree-returns-in-Some-clause-ok t c =
 pub read_tree-returns-in_ok-read_members-in-BeginObject-clause-ok : goal.read_tree-returns-in_ok-read_members-in-BeginObject-clause-ok
 read_tree-returns-in_ok-read_members-in-BeginObject-clause-ok t c =
     let first : c.args.reader.now ≡ token_of c.in_ok-token.token ∷ c.next.new.self = grind arith in
-    let opened = ap (converted of_json) (ap (value c.args.depth) (first ∙ ap (λ k. token_of k ∷ c.next.new.self) c.in-BeginObject.is) ∙ value-begin_object c.args.depth c.next.new.self (omega arith)) ∙ object_converted (members (value (c.args.depth - 1)) (length c.next.new.self) c.next.new.self) in
+    let opened = object_opened c.args.depth c.args.reader.now c.next.new.self (first ∙ ap (λ k. token_of k ∷ c.next.new.self) c.in-BeginObject.is) (omega arith) in
     let found = c.in_ok-read_members-in-BeginObject in
-    opened ∙ ap (parse_map object) found.ensures.ok ∙ ap (λ d. Some (d, c.read_members.new.reader)) (sym (view-Object found.field-0))
+    let none : members_view c.new-none.result.entries ≡ no_members = ap members_view c.new-none.ensures.empty in
+    let read = subst (λ ms. MembersAre (c.args.depth - 1) ms c.next.new.self (members_view found.field-0.entries) c.read_members.new.reader) none found.ensures.ok (length c.next.new.self) (omega arith) in
+    opened ∙ ap (parse_map object) read ∙ ap (λ d. Some (d, c.read_members.new.reader)) (sym (view-Object found.field-0))
+
+pub read_tree-returns-in_ok-read_items-in-BeginArray-clause-ok : goal.read_tree-returns-in_ok-read_items-in-BeginArray-clause-ok
+read_tree-returns-in_ok-read_items-in-BeginArray-clause-ok t c =
+    let first : c.args.reader.now ≡ token_of c.in_ok-token.token ∷ c.next.new.self = grind arith in
+    let opened = array_opened c.args.depth c.args.reader.now c.next.new.self (first ∙ ap (λ k. token_of k ∷ c.next.new.self) c.in-BeginArray.is) (omega arith) in
+    let found = c.in_ok-read_items-in-BeginArray in
+    opened ∙ ap (parse_map array) found.ensures.ok ∙ ap (λ d. Some (d, c.read_items.new.reader)) (sym (view-Array found.field-0))
+
+pub read_items-items-init : goal.read_items-items-init
+read_items-items-init t c =
+    let all = converted of_items (items (value c.args.depth) (length c.args.reader.now) c.args.reader.now) in
+    record {
+      n = length c.args.reader.now;
+      enough = omega arith;
+      all = as_it_is all ∙ ap (λ vs. parse_map (items_onto vs) all) (sym c.new-found.ensures.items);
+      shorter = omega arith;
+    }
+
+pub read_items-items-preserved : goal.read_items-items-preserved
+read_items-items-preserved t c =
+    let p = value c.args.depth in
+    let l = c.items in
+    let n = l.invariant.n in
+    let going : (after_end_array l.reader ≡ None) × (c.take_end_array.new.self ≡ l.reader) = grind arith in
+    let done = c.in_ok-item.ensures in
+    let v = c.in_ok-item.item in
+    let r = c.read_tree.new.reader in
+    let less : length r < length l.reader = rw (← going.1) done.shorter in
+    let turn = one_item p n l.reader r (view v) (omega (arith, l.invariant.enough, less)) going.0 (rw (← going.1) done.ok) in
+    record {
+      n = n - 1;
+      enough = omega (arith, l.invariant.enough, less);
+      all = l.invariant.all ∙ ap (parse_map (items_onto l.found.items)) turn ∙ one_more_item l.found.items v _
+          ∙ ap (λ vs. parse_map (items_onto vs) (converted of_items (items p (n - 1) r))) (sym c.in_ok-push.ensures.items);
+      shorter = omega (arith, l.invariant.shorter, less);
+    }
+
+pub read_items-returns-clause-ok : goal.read_items-returns-clause-ok
+read_items-returns-clause-ok t c =
+    let p = value c.args.depth in
+    let l = c.items in
+    let r = c.take_end_array.new.self in
+    l.invariant.all ∙ ap (parse_map (items_onto l.found.items)) (last_item p l.invariant.n l.reader r l.invariant.enough (grind arith)) ∙ ap (λ ds. Some (ds, r)) (items_onto-none l.found.items)
+
+pub read_member-returns-clause-ok : goal.read_member-returns-clause-ok
+read_member-returns-clause-ok t c =
+    let old = members_view c.args.found.entries in
+    let v = c.in_ok-member.member in
+    let copied : string_bytes c.in_ok-key.key ≡ c.args.name.now = search rules in (
+      view v,
+      c.in_ok-member.ensures.ok,
+      ap members_view c.in_ok-insert.ensures.entries ∙ members_view-insert_entry c.args.found.entries c.in_ok-key.key v ∙ ap (λ k. put k (view v) old) copied,
+    )
+
+pub read_members-members-init : goal.read_members-members-init
+read_members-members-init t c = record { all = λ ms rest is. is; shorter = omega arith }
 
 pub read_members-members-preserved : goal.read_members-members-preserved
 read_members-members-preserved t c =
-    let p = value c.args.depth in
     let l = c.members in
-    let n = l.invariant.0 in
-    let old = members_view l.found.entries in
     let k = c.in-Some.name.now in
     let s = c.next_key.new.self in
+    let r = c.read_member.new.reader in
     let named : read_key l.reader ≡ Some (Some k, s) = grind arith in
-    let done = c.in_ok-member.ensures in
-    let v = c.in_ok-member.member in
-    let r = c.read_tree.new.reader in
+    let done = c.in_ok-found.ensures in
     let less = read_key-shorter l.reader (Some k) s named in
-    let lesser = done.shorter in
-    let copied : string_bytes c.in_ok-key.key ≡ k = search rules in
-    let inserted : members_view c.insert.new.self.entries ≡ put k (view v) old =
-    ap members_view c.in_ok-insert.ensures.entries ∙ members_view-insert_entry l.found.entries c.in_ok-key.key v ∙ ap (λ name. put name (view v) old) copied in (
-      n - 1,
-      omega (arith, l.invariant.1),
-      l.invariant.2 ∙ one_member p n old k l.reader s r (view v) (omega (arith, l.invariant.1)) named done.ok
-          ∙ ap (λ found. converted (λ ms. of_members ms found) (members p (n - 1) r)) (sym inserted),
-      omega (arith, l.invariant.3),
-    )
+    let is = members_view l.found.entries in
+    record {
+      all = λ ms rest more. l.invariant.all ms rest (more_members c.args.depth k l.reader s r rest done.ok.0 is ms named done.ok.1 done.shorter
+          (subst (λ now. MembersAre c.args.depth now r ms rest) done.ok.2 more));
+      shorter = omega (arith, l.invariant.shorter, less, done.shorter);
+    }
 
 pub read_members-returns-clause-ok : goal.read_members-returns-clause-ok
 read_members-returns-clause-ok t c =
-    let p = value c.args.depth in
     let l = c.members in
-    let n = l.invariant.0 in
-    let old = members_view l.found.entries in
-    l.invariant.2 ∙ last_member p n old l.reader c.next_key.new.self l.invariant.1 (grind arith)
+    let r = c.next_key.new.self in
+    let is = members_view l.found.entries in
+    l.invariant.all is r (no_more_members c.args.depth l.reader r is (grind arith))

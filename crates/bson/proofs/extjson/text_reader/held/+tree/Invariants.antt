@@ -1,21 +1,42 @@
-use Rattle.std.proofs.Common.{◌≡◌, ℕ, ◌+◌, ◌*◌, ◌≤◌, length}
-use Rattle.json.specs.Json.{members, value}
-use Rattle.serde_json.specs.Data.{no_members}
-use Rattle.serde_json.specs.Read.{of_members, converted}
+use Rattle.std.proofs.Common.{◌≡◌, ℕ, ◌+◌, ◌*◌, ◌≤◌, List, length}
+use Rattle.json.specs.Json.{items, value, parse_map}
+use Rattle.json.specs.Token.{Token}
+use Rattle.serde_json.specs.Data.{Items, Members}
+use Rattle.serde_json.specs.Read.{of_items, converted}
 use Rattle.serde_json.specs.View.{members_view}
+use Rattle.bson.proofs.Trees.{items_onto}
+use Rattle.bson.specs.Straight.{MembersAre}
 use Rattle.bson.proofs.extjson.text_reader.held.+tree.Given as goal
 
 abbrev pub decreases-read_tree : goal.decreases-read_tree
-decreases-read_tree l = 2 * l.depth
+decreases-read_tree l = 3 * l.depth
+
+abbrev pub decreases-read_items : goal.decreases-read_items
+decreases-read_items l = 3 * l.depth + 1
+
+abbrev pub decreases-read_member : goal.decreases-read_member
+decreases-read_member l = 3 * l.depth + 1
 
 abbrev pub decreases-read_members : goal.decreases-read_members
-decreases-read_members l = 2 * l.depth + 1
+decreases-read_members l = 3 * l.depth + 2
 
+abbrev pub invariant-read_items-items : goal.invariant-read_items-items
+invariant-read_items-items l = record {
+  n : ℕ;
+  enough : length l.reader ≤ n;
+  all : converted of_items (items (value l.depth) (length l.initial.reader) l.initial.reader) ≡ parse_map (items_onto l.found.items) (converted of_items (items (value l.depth) n l.reader));
+  shorter : length l.reader ≤ length l.initial.reader;
+}
+
+abbrev pub decreases-read_items-items : goal.decreases-read_items-items
+decreases-read_items-items l = length l.reader
+
+-- what is read from here to the end is what is read from the start
 abbrev pub invariant-read_members-members : goal.invariant-read_members-members
-invariant-read_members-members l =
-    (n : ℕ) × (length l.reader ≤ n)
-    × (converted (λ ms. of_members ms no_members) (members (value l.depth) (length l.initial.reader) l.initial.reader) ≡ converted (λ ms. of_members ms (members_view l.found.entries)) (members (value l.depth) n l.reader))
-    × (length l.reader ≤ length l.initial.reader)
+invariant-read_members-members l = record {
+  all : (ms : Members) (rest : List Token) → MembersAre l.depth (members_view l.found.entries) l.reader ms rest → MembersAre l.depth (members_view l.initial.found.entries) l.initial.reader ms rest;
+  shorter : length l.reader ≤ length l.initial.reader;
+}
 
 abbrev pub decreases-read_members-members : goal.decreases-read_members-members
 decreases-read_members-members l = length l.reader

@@ -1,4 +1,4 @@
-use Rattle.std.proofs.Common.{Vec, Global, Result, Err, IfOk, false, ◌≡◌, ◌-◌, ◌<◌, List, [], ◌∷◌, ◌++◌, length, map, Ok, Some, None, string_bytes, refl, sym, ap, ◌∙◌, subst, arith, rules}
+use Rattle.std.proofs.Common.{Vec, Global, false, ◌≡◌, ◌-◌, ◌<◌, List, [], ◌∷◌, ◌++◌, length, map, Ok, Some, None, string_bytes, refl, sym, ap, ◌∙◌, subst, arith, rules}
 use Rattle.std.specs.Prelude.{is_some}
 use Rattle.json.specs.Token.{Token}
 use Rattle.json.specs.Json.{parse_map, after_end_array, read_key, items, members, value}
@@ -20,17 +20,14 @@ use Rattle.bson.specs.declared.document.Document.{Document}
 use Rattle.bson.proofs.Onto.{onto_values, onto_values-ok, values_step}
 use Rattle.bson.specs.Gathered.{gathered}
 use Rattle.bson.proofs.PutReads.{put_reads, put_plain, put_ascends, nothing_read, object_read}
-use Rattle.bson.proofs.Turns.{array_converted, object_converted, one_item, last_item, one_member, last_member, fused, as_it_is}
+use Rattle.bson.proofs.Gathering.{none_yet, one_gathered, all_gathered, from_first}
+use Rattle.bson.proofs.Turns.{array_opened, object_opened, one_item, last_item, fused, as_it_is, if_ok}
 use Rattle.bson.proofs.Wrapped.{alone, with_scope}
 use Rattle.bson.proofs.extjson.text_reader.straight.+straight.Goals as goal
 
 map-snoc : (xs : List Bson) (x : Bson) → map bson_view (xs ++ x ∷ []) ≡ map bson_view xs ++ bson_view x ∷ []
 map-snoc [] x = refl
 map-snoc (y ∷ xs) x = ap (λ l. bson_view y ∷ l) (map-snoc xs x)
-
-if_ok : {X E : Type 0} {P Q : X → Type 0} (r : Result X E) → IfOk r P → ((x : X) → P x → Q x) → IfOk r Q
-if_ok (Ok x) h f = f x h
-if_ok (Err e) h f = tt
 
 bson_view-Document : (d : Document) → bson_view (bson.Document d) ≡ model.document (document_view d)
 bson_view-Document d = search (rules, the_lemmas)
@@ -75,50 +72,24 @@ read_value-returns-in_ok-read_number-in-Some-clause-ok t c =
 pub read_value-returns-else-depth-eq0-2-clause-ok : goal.read_value-returns-else-depth-eq0-2-clause-ok
 read_value-returns-else-depth-eq0-2-clause-ok t c =
     let first : c.args.reader.now ≡ token_of c.in_ok-token.token ∷ c.next.new.self = grind arith in
-    let opened = ap (converted of_json) (ap (value c.args.depth) (first ∙ ap (λ k. token_of k ∷ c.next.new.self) c.in-BeginObject.is) ∙ value-begin_object c.args.depth c.next.new.self (omega arith)) ∙ object_converted (members (value (c.args.depth - 1)) (length c.next.new.self) c.next.new.self) in
+    let opened = object_opened c.args.depth c.args.reader.now c.next.new.self (first ∙ ap (λ k. token_of k ∷ c.next.new.self) c.in-BeginObject.is) (omega arith) in
     if_ok c.read_object.result c.read_object.ensures.ok (λ v read. (object read.0, opened ∙ ap (parse_map object) read.1, read.2))
 
 pub read_object-members-init : goal.read_object-members-init
-read_object-members-init t c =
-    let none : gathered c.none-found.result ≡ model.no_pairs = c.none-found.ensures in
-    record {
-      n = length c.args.reader.now;
-      enough = omega arith;
-      so_far = no_members;
-      all = refl;
-      plain = refl;
-      read = ap Ok (sym none);
-      ascends = subst KeysAscend (sym none) tt;
-      shorter = omega arith;
-    }
+read_object-members-init t c = (no_members, none_yet c.args.depth c.args.reader.now (gathered c.none-found.result) c.none-found.ensures, refl)
 
 pub read_object-members-preserved : goal.read_object-members-preserved
 read_object-members-preserved t c =
-    let p = value c.args.depth in
     let l = c.members in
-    let n = l.invariant.n in
-    let so_far = l.invariant.so_far in
     let k = c.in-Some.name.now in
     let s = c.next_key.new.self in
     let named : read_key l.reader ≡ Some (Some k, s) = grind arith in
     let done = c.in_ok-found.ensures in
-    let r = c.read_member.new.reader in
-    let d = done.ok.0 in
-    let v = done.ok.1 in
-    let less = read_key-shorter l.reader (Some k) s named in
-    let lesser = done.shorter in
-    let plain : is_some (wrapper_of k) ≡ false = ap is_some (sym c.named.ensures) ∙ sym c.is_some.ensures ∙ c.if-is_some.false in
-    let turn = one_member p n so_far k l.reader s r d (omega (arith, l.invariant.enough, less)) named done.ok.2 in
-    record {
-      n = n - 1;
-      enough = omega (arith, l.invariant.enough, less, lesser);
-      so_far = put k d so_far;
-      all = l.invariant.all ∙ turn;
-      plain = put_plain k d plain so_far ∙ l.invariant.plain;
-      read = put_reads k d v done.ok.3 so_far (gathered l.found) l.invariant.read ∙ ap Ok (sym done.ok.4);
-      ascends = subst KeysAscend (sym done.ok.4) (put_ascends k v (gathered l.found) l.invariant.ascends);
-      shorter = omega (arith, l.invariant.shorter, less, lesser);
-    }
+    let plain : is_some (wrapper_of k) ≡ false = ap is_some (sym c.named.ensures) ∙ sym c.is_some.ensures ∙ c.if-is_some.false in (
+      put k done.ok.0 l.invariant.0,
+      one_gathered c.args.depth k c.args.reader.now l.reader s c.read_member.new.reader l.invariant.0 (gathered l.found) (gathered c.in_ok-found.found) l.invariant.1 named done.ok done.shorter,
+      put_plain k done.ok.0 plain l.invariant.0 ∙ l.invariant.2,
+    )
 
 pub read_object-returns-then-is_none-clause-ok : goal.read_object-returns-then-is_none-clause-ok
 read_object-returns-then-is_none-clause-ok t c =
@@ -126,34 +97,34 @@ read_object-returns-then-is_none-clause-ok t c =
     let k = c.in-Some.name.now in
     let s = c.next_key.new.self in
     let named : read_key l.reader ≡ Some (Some k, s) = grind arith in
-    let none : gathered l.found ≡ model.no_pairs = c.is_none.ensures c.if-is_none.true in
-    let start : l.invariant.so_far ≡ no_members = nothing_read l.invariant.so_far (l.invariant.read ∙ ap Ok none) in
-    if_ok c.read_wrapper.result c.read_wrapper.ensures.ok (λ v h. (
-      h.0,
-      l.invariant.all
-          ∙ ap (λ ms. converted (λ js. of_members js ms) (members (value c.args.depth) l.invariant.n l.reader)) start
-          ∙ h.1 l.invariant.n l.reader l.invariant.enough named,
-      h.2,
-    ))
+    if_ok c.read_wrapper.result c.read_wrapper.ensures.ok (λ v m.
+    from_first c.args.depth k c.args.reader.now l.reader s c.read_wrapper.new.reader l.invariant.0 (gathered l.found) (bson_view v) l.invariant.1 (c.is_none.ensures c.if-is_none.true) named m)
+
+pub read_object-returns-then-is_none-2-clause-ok : goal.read_object-returns-then-is_none-2-clause-ok
+read_object-returns-then-is_none-2-clause-ok t c =
+    let l = c.members in
+    let k = c.in-Some.name.now in
+    let s = c.next_key.new.self in
+    let named : read_key l.reader ≡ Some (Some k, s) = grind arith in
+    if_ok c.read_scoped.result c.read_scoped.ensures.ok (λ v m.
+    from_first c.args.depth k c.args.reader.now l.reader s c.read_scoped.new.reader l.invariant.0 (gathered l.found) (bson_view v) l.invariant.1 (c.is_none-then-eq.ensures c.if-is_none-2.true) named m)
 
 pub read_object-returns-clause-ok : goal.read_object-returns-clause-ok
 read_object-returns-clause-ok t c =
-    let p = value c.args.depth in
     let l = c.members in
-    let n = l.invariant.n in
-    let so_far = l.invariant.so_far in
-    let r = c.next_key.new.self in
-    let ended : read_key l.reader ≡ Some (None, r) = grind arith in (
+    let so_far = l.invariant.0 in
+    let found = gathered l.found in
+    let ended : read_key l.reader ≡ Some (None, c.next_key.new.self) = grind arith in (
       so_far,
-      l.invariant.all ∙ last_member p n so_far l.reader r l.invariant.enough ended,
-      object_read so_far (gathered l.found) l.invariant.plain l.invariant.read
+      all_gathered c.args.depth c.args.reader.now l.reader c.next_key.new.self so_far found l.invariant.1 ended,
+      object_read so_far found l.invariant.2 l.invariant.1.read
           ∙ ap Ok (sym (bson_view-Document c.in_ok-document.document ∙ ap model.document c.in_ok-document.ensures)),
     )
 
 pub read_value-returns-in_ok-read_items-in-BeginArray-clause-ok : goal.read_value-returns-in_ok-read_items-in-BeginArray-clause-ok
 read_value-returns-in_ok-read_items-in-BeginArray-clause-ok t c =
     let first : c.args.reader.now ≡ token_of c.in_ok-token.token ∷ c.next.new.self = grind arith in
-    let opened = ap (converted of_json) (ap (value c.args.depth) (first ∙ ap (λ k. token_of k ∷ c.next.new.self) c.in-BeginArray.is) ∙ value-begin_array c.args.depth c.next.new.self (omega arith)) ∙ array_converted (items (value (c.args.depth - 1)) (length c.next.new.self) c.next.new.self) in
+    let opened = array_opened c.args.depth c.args.reader.now c.next.new.self (first ∙ ap (λ k. token_of k ∷ c.next.new.self) c.in-BeginArray.is) (omega arith) in
     let found = c.in_ok-read_items-in-BeginArray in
     let read = found.ensures.ok in
     (array read.0, opened ∙ ap (parse_map array) read.1, ap (λ r. r >>= λ vs. Ok (model.array vs)) read.2 ∙ ap Ok (sym (bson_view-Array found.field-0)))
@@ -205,54 +176,28 @@ read_items-returns-clause-ok t c =
     )
 
 pub read_pairs-members-init : goal.read_pairs-members-init
-read_pairs-members-init t c =
-    let none : gathered c.none-found.result ≡ model.no_pairs = c.none-found.ensures in
-    record {
-      n = length c.args.reader.now;
-      enough = omega arith;
-      so_far = no_members;
-      all = refl;
-      read = ap Ok (sym none);
-      ascends = subst KeysAscend (sym none) tt;
-      shorter = omega arith;
-    }
+read_pairs-members-init t c = (no_members, none_yet c.args.depth c.args.reader.now (gathered c.none-found.result) c.none-found.ensures)
 
 pub read_pairs-members-preserved : goal.read_pairs-members-preserved
 read_pairs-members-preserved t c =
-    let p = value c.args.depth in
     let l = c.members in
-    let n = l.invariant.n in
-    let so_far = l.invariant.so_far in
     let k = c.in-Some.name.now in
     let s = c.next_key.new.self in
     let named : read_key l.reader ≡ Some (Some k, s) = grind arith in
-    let done = c.in_ok-found.ensures in
-    let r = c.read_member.new.reader in
-    let d = done.ok.0 in
-    let v = done.ok.1 in
-    let less = read_key-shorter l.reader (Some k) s named in
-    let lesser = done.shorter in
-    let turn = one_member p n so_far k l.reader s r d (omega (arith, l.invariant.enough, less)) named done.ok.2 in
-    record {
-      n = n - 1;
-      enough = omega (arith, l.invariant.enough, less, lesser);
-      so_far = put k d so_far;
-      all = l.invariant.all ∙ turn;
-      read = put_reads k d v done.ok.3 so_far (gathered l.found) l.invariant.read ∙ ap Ok (sym done.ok.4);
-      ascends = subst KeysAscend (sym done.ok.4) (put_ascends k v (gathered l.found) l.invariant.ascends);
-      shorter = omega (arith, l.invariant.shorter, less, lesser);
-    }
+    let done = c.in_ok-found.ensures in (
+      put k done.ok.0 l.invariant.0,
+      one_gathered c.args.depth k c.args.reader.now l.reader s c.read_member.new.reader l.invariant.0 (gathered l.found) (gathered c.in_ok-found.found) l.invariant.1 named done.ok done.shorter,
+    )
 
 pub read_pairs-returns-clause-ok : goal.read_pairs-returns-clause-ok
 read_pairs-returns-clause-ok t c =
     let l = c.members in
-    let so_far = l.invariant.so_far in
-    let r = c.next_key.new.self in
-    let ended : read_key l.reader ≡ Some (None, r) = grind arith in
+    let so_far = l.invariant.0 in
+    let ended : read_key l.reader ≡ Some (None, c.next_key.new.self) = grind arith in
     if_ok c.document_of.result c.document_of.ensures (λ v e. (
       so_far,
-      l.invariant.all ∙ last_member (value c.args.depth) l.invariant.n so_far l.reader r l.invariant.enough ended,
-      l.invariant.read ∙ ap Ok (sym e),
+      all_gathered c.args.depth c.args.reader.now l.reader c.next_key.new.self so_far (gathered l.found) l.invariant.1 ended,
+      l.invariant.1.read ∙ ap Ok (sym e),
     ))
 
 pub read_scope-returns-in-Null-clause-ok : goal.read_scope-returns-in-Null-clause-ok
@@ -264,7 +209,7 @@ read_scope-returns-in-Null-clause-ok t c =
 pub read_scope-returns-in_ok-read_pairs-in-BeginObject-clause-ok : goal.read_scope-returns-in_ok-read_pairs-in-BeginObject-clause-ok
 read_scope-returns-in_ok-read_pairs-in-BeginObject-clause-ok t c =
     let first : c.args.reader.now ≡ token_of c.in_ok-token.token ∷ c.next.new.self = grind arith in
-    let opened = ap (converted of_json) (ap (value c.args.depth) (first ∙ ap (λ k. token_of k ∷ c.next.new.self) c.in-BeginObject.is) ∙ value-begin_object c.args.depth c.next.new.self (omega arith)) ∙ object_converted (members (value (c.args.depth - 1)) (length c.next.new.self) c.next.new.self) in
+    let opened = object_opened c.args.depth c.args.reader.now c.next.new.self (first ∙ ap (λ k. token_of k ∷ c.next.new.self) c.in-BeginObject.is) (omega arith) in
     let read = c.in_ok-read_pairs-in-BeginObject.ensures.ok in
     (object read.0, opened ∙ ap (parse_map object) read.1, ap (λ r. r >>= λ ps. Ok (Some ps)) read.2)
 

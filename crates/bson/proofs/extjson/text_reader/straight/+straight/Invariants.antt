@@ -1,10 +1,10 @@
 use Rattle.std.proofs.Common.{◌≡◌, ℕ, ◌+◌, ◌*◌, ◌≤◌, length, map, false, Ok}
-use Rattle.json.specs.Json.{items, members, value, parse_map}
-use Rattle.serde_json.specs.Data.{Items, Members, no_members}
-use Rattle.serde_json.specs.Read.{of_items, of_members, converted}
+use Rattle.json.specs.Json.{items, value, parse_map}
+use Rattle.serde_json.specs.Data.{Items, Members}
+use Rattle.serde_json.specs.Read.{of_items, converted}
 use Rattle.bson_wrapper.specs.Table.{has_wrapper}
-use Rattle.bson_model.specs.Reading.{reads_items, reads_members}
-use Rattle.bson_model.specs.Sorted.{KeysAscend}
+use Rattle.bson_model.specs.Reading.{reads_items}
+use Rattle.bson.proofs.Gathering.{Gathers}
 use Rattle.bson.proofs.Onto.{onto_values}
 use Rattle.bson.specs.View.{bson_view}
 use Rattle.bson.specs.Gathered.{gathered}
@@ -50,30 +50,13 @@ decreases-read_items-items l = length l.reader
 
 -- the map of the members so far has no wrapper's key, and is read as what was gathered
 abbrev pub invariant-read_object-members : goal.invariant-read_object-members
-invariant-read_object-members l = record {
-  n : ℕ;
-  enough : length l.reader ≤ n;
-  so_far : Members;
-  all : converted (λ ms. of_members ms no_members) (members (value l.depth) (length l.initial.reader) l.initial.reader) ≡ converted (λ ms. of_members ms so_far) (members (value l.depth) n l.reader);
-  plain : has_wrapper so_far ≡ false;
-  read : reads_members so_far ≡ Ok (gathered l.found);
-  ascends : KeysAscend (gathered l.found);
-  shorter : length l.reader ≤ length l.initial.reader;
-}
+invariant-read_object-members l = (so_far : Members) × Gathers l.depth l.initial.reader l.reader so_far (gathered l.found) × (has_wrapper so_far ≡ false)
 
 abbrev pub decreases-read_object-members : goal.decreases-read_object-members
 decreases-read_object-members l = length l.reader
 
 abbrev pub invariant-read_pairs-members : goal.invariant-read_pairs-members
-invariant-read_pairs-members l = record {
-  n : ℕ;
-  enough : length l.reader ≤ n;
-  so_far : Members;
-  all : converted (λ ms. of_members ms no_members) (members (value l.depth) (length l.initial.reader) l.initial.reader) ≡ converted (λ ms. of_members ms so_far) (members (value l.depth) n l.reader);
-  read : reads_members so_far ≡ Ok (gathered l.found);
-  ascends : KeysAscend (gathered l.found);
-  shorter : length l.reader ≤ length l.initial.reader;
-}
+invariant-read_pairs-members l = (so_far : Members) × Gathers l.depth l.initial.reader l.reader so_far (gathered l.found)
 
 abbrev pub decreases-read_pairs-members : goal.decreases-read_pairs-members
 decreases-read_pairs-members l = length l.reader
