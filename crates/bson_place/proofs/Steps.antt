@@ -183,9 +183,9 @@ not_open_by_scope k d l e h (code_with_scope s ms) = h ms refl
 code_read : (k : List ℕ) (d : Data) (l : List ℕ) (s : List ℕ) (r : Result (Option Pairs) Fault) → (bytes_eq k (codes "$code") && bytes_eq l (codes "$scope")) ≡ true → d ≡ tree.string s → code_at k d l r ≡ scope_value s r
 code_read k d l s r h e = rw e (ap (λ b. cond b (scope_value s r) (Err wrong_shape)) h)
 
-code_value : (k : List ℕ) (d : Data) (l : List ℕ) (e : Data) (s : List ℕ) → has_wrapper (member k d (member l e no_members)) ≡ true → (bytes_eq k (codes "$code") && bytes_eq l (codes "$scope")) ≡ true
+value_of_code : (k : List ℕ) (d : Data) (l : List ℕ) (e : Data) (s : List ℕ) → has_wrapper (member k d (member l e no_members)) ≡ true → (bytes_eq k (codes "$code") && bytes_eq l (codes "$scope")) ≡ true
     → d ≡ tree.string s → HasScope e → HasValue (tree.object (member k d (member l e no_members)))
-code_value k d l e s w h is ps = (code_value s ps.0, wrapped (member k d (member l e no_members)) w ∙ code_read k d l s (reads_scope e) h is ∙ ap (scope_value s) ps.1)
+value_of_code k d l e s w h is ps = (code_value s ps.0, wrapped (member k d (member l e no_members)) w ∙ code_read k d l s (reads_scope e) h is ∙ ap (scope_value s) ps.1)
 
 scope_way : (k : List ℕ) (d : Data) (l : List ℕ) (e : Data) (s : List ℕ) → has_wrapper (member k d (member l e no_members)) ≡ true → k ≡ codes "$code" → l ≡ codes "$scope"
     → d ≡ tree.string s → (f : Fault) (way : List Turn) → IsScopeFault l e f way → FaultAt f (tree.object (member k d (member l e no_members))) way
@@ -200,7 +200,7 @@ pub of_code : (k : List ℕ) (d : Data) (l : List ℕ) (e : Data) (r : Result (O
     → IfOk r (λ found. MatchOption found (HasValue (tree.object (member k d (member l e no_members)))) (IsPlace (λ f. FaultAt f (tree.object (member k d (member l e no_members))))))
 of_code k d l e r w h text g =
     let keys = and_parts _ _ h in
-    found_from r (code_value k d l e text.0 w h text.1) (scope_way k d l e text.0 w ((bytes_eq-Decides _ _).0 keys.0) ((bytes_eq-Decides _ _).0 keys.1) text.1) g
+    found_from r (value_of_code k d l e text.0 w h text.1) (scope_way k d l e text.0 w ((bytes_eq-Decides _ _).0 keys.0) ((bytes_eq-Decides _ _).0 keys.1) text.1) g
 
 pub no_number : (n : Num) → as_i64 n ≡ None → FaultAt wrong_shape (tree.number n) []
 no_number n h = number n (ap (λ o. or_wrong_shape o >>= λ z. Ok (narrowest z)) h)
@@ -211,8 +211,8 @@ no_scope_found k d e p is none h error way = rw is (at_once p error way (no_scop
 pub scope_found : (k : List ℕ) (ms : Members) (f : Fault) (way : List Turn) → FaultIn f ms way → IsScopeFault k (tree.object ms) f (way ++ key k ∷ [])
 scope_found k ms f way h = in_scope ms h
 
-pub scope_value : (ms : Members) → HasPairs ms → HasScope (tree.object ms)
-scope_value ms ps = (Some ps.0, ap (λ r. r >>= λ qs. Ok (Some qs)) ps.1)
+pub scope_of_map : (ms : Members) → HasPairs ms → HasScope (tree.object ms)
+scope_of_map ms ps = (Some ps.0, ap (λ r. r >>= λ qs. Ok (Some qs)) ps.1)
 
 pub inside_none : {V : Type 0} (P : Place → Type 0) (o : Option Place) → o ≡ None → MatchOption o V P → V
 inside_none P None e h = h

@@ -7,7 +7,7 @@ use Rattle.bson_place.specs.Place.{here as at_element, at_key, element, key}
 use Rattle.serde_json.proofs.Views.{view-Array}
 use Rattle.std.proofs.lemmas.Bool.{false≢true}
 use Rattle.bson_model.proofs.Offered.{more_than_two}
-use Rattle.bson_place.proofs.Steps.{view_null, view_boolean, view_number, view_string, inside_none, inside_some, is_true, is_false, no_scope_found, scope_found, scope_value, more_found, two_members_left, IsRest, IsRestOf, null_value, boolean_value, text_value, carried, one_less, of_array, member_less, of_document, at_once, not_code, not_text, of_code, HasItems, HasPairs}
+use Rattle.bson_place.proofs.Steps.{view_null, view_boolean, view_number, view_string, inside_none, inside_some, is_true, is_false, no_scope_found, scope_found, scope_of_map, more_found, two_members_left, IsRest, IsRestOf, null_value, boolean_value, text_value, carried, one_less, of_array, member_less, of_document, at_once, not_code, not_text, of_code, HasItems, HasPairs}
 use Rattle.bson_place.proofs.walk.+walk.Goals as goal
 
 nothing_left : {X : Type 0} (l : List X) → length l ≡ 0 → l ≡ []
@@ -81,7 +81,7 @@ of_scope-returns-in-Array t c =
     no_scope_found _ _ _ c.here-in-Array.result (ap view c.in-Array.is ∙ view-Array c.in-Array.field-0) (λ ms e. cc) refl c.here-in-Array.ensures.error c.here-in-Array.ensures.way
 
 pub of_scope_map-returns-in-None : goal.of_scope_map-returns-in-None
-of_scope_map-returns-in-None t c = scope_value (members_view c.args.members.entries) (inside_none _ c.in_ok-of_members.field-0 c.in-None.is c.in_ok-of_members.ensures)
+of_scope_map-returns-in-None t c = scope_of_map (members_view c.args.members.entries) (inside_none _ c.in_ok-of_members.field-0 c.in-None.is c.in_ok-of_members.ensures)
 
 pub of_scope_map-returns-in_ok-inside-in-Some : goal.of_scope_map-returns-in_ok-inside-in-Some
 of_scope_map-returns-in_ok-inside-in-Some t c =
