@@ -73,6 +73,7 @@ impl Document {
     // `insert`, without the old value, which is dropped here and not in the loop of `extend`.
     fn set(&mut self, key: String, value: Bson) -> Result<(), Refused>
         ensures put { OnOk result (contents self.new ≡ insert_pair (string_bytes key) value (contents self.old)) }
+        ensures absent { OnErr result (get (string_bytes key) (contents self.old) ≡ None) }
         ensures err { OnErr result (contents self.new ≡ contents self.old) }
         ensures refused { IfErr result (λ r. (r.key ≡ key) × (r.value ≡ value)) }
     {
@@ -93,10 +94,11 @@ impl Document {
         ensures ok { OnOk result ((xs : List (String Global × value.Bson)) × Drains I.next_gives items xs
             × (contents self.new ≡ put_all xs (contents self.old))) }
 
-        // Out of memory.
+        // Out of memory, which comes at a new key alone.
         ensures err { IfErr result (λ r. (xs : List (String Global × value.Bson)) × (u : _)
             × YieldsThen I.next_gives items xs (Some (r.key, r.value)) u
             × (contents self.new ≡ put_all xs (contents self.old))) }
+        ensures absent { IfErr result (λ r. get (string_bytes r.key) (contents self.new) ≡ None) }
     {
         for (key, value) in items {
             self.set(key, value)?;
@@ -117,9 +119,10 @@ impl Document {
         ensures ok { IfOk result (λ d. (xs : List (String Global × value.Bson)) × Drains I.next_gives items xs
             × (contents d ≡ put_all xs [])) }
 
-        // Out of memory.
+        // Out of memory, which comes at a new key alone.
         ensures err { IfErr result (λ r. (xs : List (String Global × value.Bson)) × (u : _)
-            × YieldsThen I.next_gives items xs (Some (r.key, r.value)) u) }
+            × YieldsThen I.next_gives items xs (Some (r.key, r.value)) u
+            × (get (string_bytes r.key) (put_all xs []) ≡ None)) }
     {
         let mut document = Document::new(alloc);
         document.extend(items)?;
