@@ -7,7 +7,7 @@ use crate::answer::Answer;
 use crate::stop::{Outcome, Stop};
 use crate::words::{cut, cut_at_colon, number};
 use bson::store::{Command, IndexedPairs, PairStore, SmallPairs, replay};
-use bson_store::calls;
+use bson_store::by_key;
 use bson_store::order::next_above;
 use std::alloc::Global;
 
@@ -45,7 +45,7 @@ fn run_one<S: PairStore<i32>>(
     match name {
         "put" | "push" => put(alloc, store, name, rest, out),
         "take" => {
-            out.reply(calls::take(store, rest));
+            out.reply(by_key::take(store, rest));
             Ok(())
         }
         "clear" => {
@@ -73,7 +73,7 @@ fn put<S: PairStore<i32>>(
     if name == "push" {
         return push(store, key, value);
     }
-    match calls::put(store, key, value) {
+    match by_key::put(store, key, value) {
         Ok(old) => {
             out.reply(old);
             Ok(())

@@ -2,7 +2,7 @@
 ghost use Rattle.std.specs.Prelude.{◌≡◌, ◌<◌, IfOk, IfErr, OnErr, length, take};
 ghost use Rattle.bson_store.specs.Replay.{reply, step, replies, after};
 
-use crate::calls;
+use crate::by_key;
 use crate::pair_store::PairStore;
 use std::alloc::Global;
 use thiserror::Error;
@@ -46,8 +46,8 @@ fn run_one<V: Drop, S: PairStore<V>>(
     ensures err { OnErr result (S.pairs store.new ≡ S.pairs store.old) }
 {
     match command {
-        Command::Put(key, value) => calls::put(store, key, value),
-        Command::Take(key) => Ok(calls::take(store, key.as_str())),
+        Command::Put(key, value) => by_key::put(store, key, value),
+        Command::Take(key) => Ok(by_key::take(store, key.as_str())),
         Command::Clear => {
             store.clear();
             Ok(None)

@@ -1,7 +1,7 @@
 //! What examples start from.
 use bson::document::Refused;
 use bson::{Bson, Document};
-use bson_store::calls::put;
+use bson_store::by_key::put;
 use bson_store::{IndexedPairs, PairStore, SmallPairs};
 use std::alloc::{AllocError, Global};
 

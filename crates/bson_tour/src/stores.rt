@@ -1,7 +1,7 @@
 //! The stores that documents can stand on, and commands to them.
 use crate::given;
 use bson::store::{Command, IndexedPairs, PairStore, SmallPairs, Stopped, replay};
-use bson_store::calls::{put, take};
+use bson_store::by_key::{put, take};
 use std::alloc::Global;
 
 pub(crate) fn print(rt: &impl Print, alloc: Global) -> anyhow::Result<()> {

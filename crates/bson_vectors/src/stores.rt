@@ -1,6 +1,6 @@
 //! What a refused request for memory leaves of a store. Each test runs on both stores.
 use bson::store::{Command, IndexedPairs, PairStore, SmallPairs, Stopped, replay};
-use bson_store::calls::{put, take};
+use bson_store::by_key::{put, take};
 use std::alloc::{AllocError, Global};
 use std::process::Abort;
 use std::test::Fail;

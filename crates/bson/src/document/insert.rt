@@ -10,7 +10,7 @@ ghost use Rattle.bson.specs.declared.bson.Bson as value;
 
 use super::Document;
 use crate::bson::Bson;
-use bson_store::{PairStore, calls};
+use bson_store::{PairStore, by_key};
 use std::alloc::Global;
 use thiserror::Error;
 
@@ -48,7 +48,7 @@ impl Document {
         ensures err { OnErr result (contents self.new ≡ contents self.old) }
         ensures refused { IfErr result (λ r. (r.key ≡ key) × (r.value ≡ value)) }
     {
-        match calls::put(&mut self.pairs, key, value) {
+        match by_key::put(&mut self.pairs, key, value) {
             Ok(old) => Ok(old),
             Err((key, value)) => Err(Refused { key, value }),
         }
@@ -60,7 +60,7 @@ impl Document {
         ensures old { result ≡ get key.now (contents self.old) }
         ensures rest { contents self.new ≡ remove_pair key.now (contents self.old) }
     {
-        calls::take(&mut self.pairs, key)
+        by_key::take(&mut self.pairs, key)
     }
 
     /// Takes every pair out.
