@@ -1,5 +1,5 @@
 -- Members in ascending order, by their places.
-use Rattle.std.proofs.Common.{◌≡◌, ℕ, zero, suc, ◌<◌, ◌≤◌, List, [], ◌∷◌, ◌++◌, length, get_or, set, Box, String, Global, string_bytes, string_cmp, Ordering, Less, Equal, Greater, nat_cmp, refl, sym, ap, ◌∙◌, subst, arith}
+use Rattle.std.proofs.Common.{◌≡◌, ℕ, zero, suc, ◌<◌, ◌≤◌, List, [], ◌∷◌, ◌++◌, length, get_or, set, String, Global, string_bytes, string_cmp, Ordering, Less, Equal, Greater, nat_cmp, refl, sym, ap, ◌∙◌, subst, arith}
 use Rattle.std.specs.Cmp.Lexicographic.{slice_cmp}
 use Rattle.std.specs.List.{insert}
 use Rattle.std.specs.BTreeMap.{insert_entry}
@@ -13,7 +13,7 @@ use Rattle.bson.specs.declared.bson.Bson.{Bson}
 use Rattle.bson_model.specs.Sorted.{put_pair, IsLeast, KeysAscend}
 use Rattle.bson_model.specs.Value.{pair}
 use Rattle.bson_model.proofs.Offered.{flipped, equal_keys}
-use Rattle.bson.specs.Gathered.{Member, gathered_pairs, unboxed, StandsAt, FitsAt}
+use Rattle.bson.specs.Gathered.{Member, gathered_pairs, StandsAt, FitsAt}
 
 abbrev pub key_at : List Member → ℕ → Member → List ℕ
 key_at ms i d = string_bytes (get_or ms i d).0
@@ -94,21 +94,9 @@ seen-match_ordering Less a b c = refl
 seen-match_ordering Equal a b c = refl
 seen-match_ordering Greater a b c = refl
 
-seen_entered : (k : String Global) (v : Bson) (ms : List Member) → gathered_pairs (insert_entry string_cmp ms k v) ≡ put_pair (string_bytes k) (bson_view v) (gathered_pairs ms)
+pub seen_entered : (k : String Global) (v : Bson) (ms : List Member) → gathered_pairs (insert_entry string_cmp ms k v) ≡ put_pair (string_bytes k) (bson_view v) (gathered_pairs ms)
 seen_entered k v [] = refl
 seen_entered k v (m ∷ ms) = seen-match_ordering (string_cmp k m.0) _ _ _ ∙ rw (seen_entered k v ms) refl
-
-unboxed-match_ordering : (o : Ordering) (a b c : List (String Global × Box Bson Global)) → unboxed (match_ordering o a b c) ≡ match_ordering o (unboxed a) (unboxed b) (unboxed c)
-unboxed-match_ordering Less a b c = refl
-unboxed-match_ordering Equal a b c = refl
-unboxed-match_ordering Greater a b c = refl
-
-unboxed-insert_entry : (k : String Global) (b : Box Bson Global) (ms : List (String Global × Box Bson Global)) → unboxed (insert_entry string_cmp ms k b) ≡ insert_entry string_cmp (unboxed ms) k b.value
-unboxed-insert_entry k b [] = refl
-unboxed-insert_entry k b (m ∷ ms) = unboxed-match_ordering (string_cmp k m.0) _ _ _ ∙ rw (unboxed-insert_entry k b ms) refl
-
-pub seen_boxed : (k : String Global) (b : Box Bson Global) (ms : List (String Global × Box Bson Global)) → gathered_pairs (unboxed (insert_entry string_cmp ms k b)) ≡ put_pair (string_bytes k) (bson_view b.value) (gathered_pairs (unboxed ms))
-seen_boxed k b ms = ap gathered_pairs (unboxed-insert_entry k b ms) ∙ seen_entered k b.value (unboxed ms)
 
 abbrev pub Entry : Type 0
 Entry = List ℕ × Bson

@@ -1,5 +1,5 @@
 -- The members of an object by ascending key, and the place of one more. For private clauses.
-use Rattle.std.specs.Prelude.{◌≡◌, ℕ, zero, suc, List, [], ◌∷◌, map, Box, String, string_bytes}
+use Rattle.std.specs.Prelude.{◌≡◌, ℕ, zero, suc, List, [], ◌∷◌, map, String, string_bytes}
 use Rattle.std.specs.Cmp.Lexicographic.{slice_cmp}
 use Rattle.std.specs.Ordering.{nat_cmp}
 use Rattle.std.specs.declared.alloc.Global.{Global}
@@ -20,13 +20,9 @@ by_bytes ms = map (λ m. (string_bytes m.0, m.1)) ms
 abbrev pub gathered_pairs : List Member → Pairs
 gathered_pairs ms = pairs_view (by_bytes ms)
 
--- members whose values stand in boxes, without these
-abbrev pub unboxed : List (String Global × Box Bson Global) → List Member
-unboxed ms = map (λ m. (m.0, m.1.value)) ms
-
 abbrev pub gathered : Gathered → Pairs
 gathered (Few v) = gathered_pairs v.items
-gathered (Many m) = gathered_pairs (unboxed m.entries)
+gathered (Many m) = gathered_pairs m.entries
 
 -- the key stands at the place, and is above all before it
 abbrev pub StandsAt : List ℕ → List Member → ℕ → Type 0

@@ -3,7 +3,7 @@ ghost use Rattle.std.specs.Prelude.{◌≡◌, IfOk, OnOk, IsTrue, MatchResult, 
 ghost use Rattle.bson_model.specs.Sorted.{put_pair, KeysAscend};
 ghost use Rattle.bson_model.specs.Value.{no_pairs};
 ghost use Rattle.bson.specs.View.{bson_view, document_view};
-ghost use Rattle.bson.specs.Gathered.{gathered_pairs, unboxed, gathered, StandsAt, FitsAt};
+ghost use Rattle.bson.specs.Gathered.{gathered_pairs, gathered, StandsAt, FitsAt};
 
 use crate::bson::Bson;
 use crate::document::Document;
@@ -21,9 +21,8 @@ const MANY: usize = 32;
 pub(crate) enum Gathered {
     /// In one list: they came in ascending order, or are few.
     Few(Vec<(String, Bson)>),
-    /// In an ordered map, each value in a box, so that little is moved where a key goes between
-    /// others.
-    Many(BTreeMap<String, Box<Bson>>),
+    /// In an ordered map.
+    Many(BTreeMap<String, Bson>),
 }
 
 /// No members.
@@ -56,7 +55,7 @@ pub(crate) fn put(
 {
     match found {
         Gathered::Few(members) => put_few(alloc, members, key, value),
-        Gathered::Many(members) => put_many(alloc, members, key, value),
+        Gathered::Many(members) => put_many(members, key, value),
     }
 }
 
@@ -77,7 +76,7 @@ fn put_few(
         }
         Err(at) => {
             if at < members.len() && members.len() >= MANY {
-                return put_many(alloc, map_of(alloc, members)?, key, value);
+                return put_many(map_of(alloc, members)?, key, value);
             }
             members.insert(at, (key, value))?;
             Ok(Gathered::Few(members))
@@ -86,15 +85,14 @@ fn put_few(
 }
 
 fn put_many(
-    alloc: Global,
-    mut members: BTreeMap<String, Box<Bson>>,
+    mut members: BTreeMap<String, Bson>,
     key: String,
     value: Bson,
 ) -> Result<Gathered, Unread>
     ensures { IfOk result
-        (λ now. gathered now ≡ put_pair (string_bytes key) (bson_view value) (gathered_pairs (unboxed members.entries))) }
+        (λ now. gathered now ≡ put_pair (string_bytes key) (bson_view value) (gathered_pairs members.entries)) }
 {
-    enter(alloc, &mut members, key, value)?;
+    enter(&mut members, key, value)?;
     Ok(Gathered::Many(members))
 }
 
@@ -115,31 +113,21 @@ fn place_of(found: &Vec<(String, Bson)>, key: &str) -> Result<usize, usize>
 }
 
 // The same members in an ordered map.
-fn map_of(
-    alloc: Global,
-    members: Vec<(String, Bson)>,
-) -> Result<BTreeMap<String, Box<Bson>>, Unread>
+fn map_of(alloc: Global, members: Vec<(String, Bson)>) -> Result<BTreeMap<String, Bson>, Unread>
     requires { KeysAscend (gathered_pairs members.items) }
-    ensures { IfOk result (λ map. gathered_pairs (unboxed map.entries) ≡ gathered_pairs members.items) }
+    ensures { IfOk result (λ map. gathered_pairs map.entries ≡ gathered_pairs members.items) }
 {
     let mut map = BTreeMap::new(alloc);
     'members: for (key, value) in members {
-        enter(alloc, &mut map, key, value)?;
+        enter(&mut map, key, value)?;
     }
     Ok(map)
 }
 
-fn enter(
-    alloc: Global,
-    map: &mut BTreeMap<String, Box<Bson>>,
-    key: String,
-    value: Bson,
-) -> Result<(), Unread>
-    ensures { OnOk result (gathered_pairs (unboxed map.new.entries)
-        ≡ put_pair (string_bytes key) (bson_view value) (gathered_pairs (unboxed map.old.entries))) }
+fn enter(map: &mut BTreeMap<String, Bson>, key: String, value: Bson) -> Result<(), Unread>
+    ensures { OnOk result (gathered_pairs map.new.entries ≡ put_pair (string_bytes key) (bson_view value) (gathered_pairs map.old.entries)) }
 {
-    let boxed = Box::new(alloc, value)?;
-    drop(map.insert(key, boxed)?);
+    drop(map.insert(key, value)?);
     Ok(())
 }
 
@@ -168,13 +156,13 @@ fn of_few(alloc: Global, found: Vec<(String, Bson)>) -> Result<Document, Unread>
     Ok(Document { pairs })
 }
 
-fn of_many(alloc: Global, found: BTreeMap<String, Box<Bson>>) -> Result<Document, Unread>
-    requires { KeysAscend (gathered_pairs (unboxed found.entries)) }
-    ensures { IfOk result (λ document. document_view document ≡ gathered_pairs (unboxed found.entries)) }
+fn of_many(alloc: Global, found: BTreeMap<String, Bson>) -> Result<Document, Unread>
+    requires { KeysAscend (gathered_pairs found.entries) }
+    ensures { IfOk result (λ document. document_view document ≡ gathered_pairs found.entries) }
 {
     let mut pairs = SmallPairs::with_capacity(alloc, found.len())?;
-    'members: for (key, boxed) in found {
-        match pairs.push(key, Box::into_inner(boxed)) {
+    'members: for (key, value) in found {
+        match pairs.push(key, value) {
             Ok(()) => {}
             Err(_) => return Err(Unread::OutOfMemory),
         }

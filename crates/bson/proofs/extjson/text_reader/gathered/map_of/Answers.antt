@@ -2,7 +2,7 @@ use Rattle.std.proofs.Common.{◌≡◌, [], ◌∷◌, ◌++◌, length, string
 use Rattle.std.specs.Vec.Iter.{into_iter_items}
 use Rattle.bson.specs.View.{bson_view, pairs_view}
 use Rattle.bson_model.specs.Sorted.{put_pair, KeysAscend}
-use Rattle.bson.specs.Gathered.{by_bytes, gathered_pairs, unboxed}
+use Rattle.bson.specs.Gathered.{by_bytes, gathered_pairs}
 use Rattle.bson.proofs.Members.{Entry, put_last, nothing_left, then_last, at_end}
 use Rattle.bson.proofs.extjson.text_reader.gathered.map_of.Goals as goal
 
@@ -12,7 +12,7 @@ members-init c =
     record {
       left = let all = ap length given.0 in omega (arith, given.1, c.args.members.ok.0);
       done = [];
-      is = ap (λ ms. gathered_pairs (unboxed ms)) c.new-map.ensures.empty;
+      is = ap gathered_pairs c.new-map.ensures.empty;
       all = rw given.0 refl;
     }
 

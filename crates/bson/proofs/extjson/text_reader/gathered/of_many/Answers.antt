@@ -2,7 +2,7 @@ use Rattle.std.proofs.Common.{◌≡◌, [], ◌∷◌, ◌++◌, string_bytes, 
 use Rattle.bson.proofs.Fresh.{Fresh, fresh_next}
 use Rattle.bson.proofs.Seen.{document_view-pairs}
 use Rattle.bson.specs.View.{pairs_view}
-use Rattle.bson.specs.Gathered.{by_bytes, unboxed}
+use Rattle.bson.specs.Gathered.{by_bytes}
 use Rattle.bson.proofs.Members.{fresh, then_last, at_end}
 use Rattle.bson.proofs.extjson.text_reader.gathered.of_many.Goals as goal
 
@@ -10,32 +10,27 @@ pub members-init : goal.members-init
 members-init c =
     let given = c.into_iter-key-iterator.ensures.into_iter_gives in
     record {
-      fresh = rw (c.in_ok-pairs.ensures, given.0) (fresh (unboxed c.args.found.entries) c.requires);
+      fresh = rw (c.in_ok-pairs.ensures, given.0) (fresh c.args.found.entries c.requires);
       all = rw (c.in_ok-pairs.ensures, given.0) refl;
     }
-
-pub push-requires : goal.push-requires
-push-requires c = (subst (λ ms. Fresh c.members.pairs (unboxed ms)) c.in-Some.ensures.steps c.members.invariant.fresh).0
 
 pub members-preserved : goal.members-preserved
 members-preserved c =
     let at = c.members in
     let steps = c.in-Some.ensures.steps in
-    let was = subst (λ ms. Fresh at.pairs (unboxed ms)) steps at.invariant.fresh in
+    let was = subst (λ ms. Fresh at.pairs ms) steps at.invariant.fresh in
     let k = string_bytes c.in-Some.key in
-    let v = c.in-Some.boxed.value in
-    let rest = unboxed c.next.new.self in
-    let put : c.push.new.self ≡ at.pairs ++ (k, v) ∷ [] = c.in-Ok.ensures.ok ∙ ap (λ w. at.pairs ++ (k, w) ∷ []) c.into_inner.ensures in
+    let put : c.push.new.self ≡ at.pairs ++ (k, c.in-Some.value) ∷ [] = c.in-Ok.ensures.ok in
     record {
-      fresh = rw put (fresh_next at.pairs (c.in-Some.key, v) v rest was);
+      fresh = rw put (fresh_next at.pairs (c.in-Some.key, c.in-Some.value) c.in-Some.value c.next.new.self was);
       all =
-          ap (λ ps. ps ++ by_bytes rest) put
-          ∙ then_last at.pairs (k, v) (by_bytes rest)
-          ∙ ap (λ ms. at.pairs ++ by_bytes (unboxed ms)) (sym steps) ∙ at.invariant.all;
+          ap (λ ps. ps ++ by_bytes c.next.new.self) put
+          ∙ then_last at.pairs (k, c.in-Some.value) (by_bytes c.next.new.self)
+          ∙ ap (λ ms. at.pairs ++ by_bytes ms) (sym steps) ∙ at.invariant.all;
     }
 
 pub returns : goal.returns
 returns c =
     let at = c.members in
     let none = c.in-None.ensures.steps.0 in
-    document_view-pairs record { pairs = at.pairs } ∙ ap pairs_view (sym (at_end at.pairs) ∙ ap (λ ms. at.pairs ++ by_bytes (unboxed ms)) (sym none) ∙ at.invariant.all)
+    document_view-pairs record { pairs = at.pairs } ∙ ap pairs_view (sym (at_end at.pairs) ∙ ap (λ ms. at.pairs ++ by_bytes ms) (sym none) ∙ at.invariant.all)
