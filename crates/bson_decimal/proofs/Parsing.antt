@@ -15,7 +15,7 @@ use Rattle.bson_decimal.proofs.Shifted.{FitsShifted, IsNearestShifted}
 use Rattle.bson_decimal.specs.Numeral.{Sign, sign_bytes, is_minus, Exponent, exponent_bytes, fraction_bytes, fraction_digits, IsExponent, Numeral, digits_of, IsFiniteText, number}
 use Rattle.bson_decimal.specs.Text.{SpecialWord, nan, snan, infinity, inf, Parses, special, finite as finite_text, lowercase}
 use Rattle.bson_decimal.proofs.Shifted.{written_up, written_down, up, down, IsWithin16Shifted, within16, within16-shifted, nearest, nearest-shifted}
-use Rattle.bson_decimal.specs.Steps.{is_mark, is_point, scaled_exponent, stored_pair, finite}
+use Rattle.bson_decimal.specs.Steps.{last_place, is_mark, is_point, scaled_exponent, stored_pair, finite}
 use Rattle.bson_decimal.proofs.StepLaws.{if-cases}
 use Rattle.bson_decimal.proofs.Fitted.{bind-by, IsFitted, FittedRefuses, stored_pair-cases}
 use Rattle.bson_decimal.proofs.NearestLaws.{nearest-one}
@@ -43,7 +43,7 @@ scaled-cases w f =
     (λ e. if-cases (λ x. (x + length f ≡ w) × (length f ≤ 32767)) (λ _. ⊤) (ltb w (length f)) _ _ (λ _. tt)
     (λ g. let a = ltb-false 32767 (length f) e in let b = ltb-false w (length f) g in (omega arith, a)))
 
-stored_pair-ok : (bs : List ℕ) (x : ℕ) → x ≤ 65535 → MatchResult (stored_pair bs x) (IsFitted bs x) (λ _. ⊤)
+stored_pair-ok : (bs : List ℕ) (x : ℕ) → x ≤ last_place → MatchResult (stored_pair bs x) (IsFitted bs x) (λ _. ⊤)
 stored_pair-ok bs x low = weaker (stored_pair bs x) (stored_pair-cases bs x low)
   where
     weaker : (r : Result (ℕ × ℕ) ParseError) → MatchResult r (IsFitted bs x) (FittedRefuses bs x) → MatchResult r (IsFitted bs x) (λ _. ⊤)
@@ -88,7 +88,7 @@ front-low (d ∷ ds) f rest digits some = let r = digit_at (d ∷ (ds ++ fractio
 pub record StepsOn (text : List ℕ) (n : Numeral) : Type 0 where
   pub x : ℕ
   pub at : x + down n ≡ up n + 32768
-  pub within : x ≤ 65535
+  pub within : x ≤ last_place
   pub steps : finite (without_leading_sign text) ≡ stored_pair (digits_of n) x
   pub sign : starts_with_minus text ≡ is_minus n.sign
 

@@ -13,7 +13,7 @@ use Rattle.std.specs.Str.Parse.{AllDigits, digits_value}
 use Rattle.bson_decimal.specs.declared.ParseError.{ParseError}
 use Rattle.bson_decimal.proofs.Shifted.{FitsShifted}
 use Rattle.bson_decimal.specs.Numeral.{is_zero}
-use Rattle.bson_decimal.specs.Steps.{is_inside, cut_at_34, raise_to_least, zeros_to_add, Scaled}
+use Rattle.bson_decimal.specs.Steps.{least_place, greatest_place, last_place, is_inside, cut_at_34, raise_to_least, zeros_to_add, Scaled}
 use Rattle.bson_decimal.proofs.Tens.{tens-pos, tens-le, reach}
 use Rattle.bson_decimal.proofs.Zeros.{value-append, zeros-are, zeros-not, AllDigits-parts}
 use Rattle.bson_decimal.proofs.NearestLaws.{fits-above, fits-exact}
@@ -68,12 +68,12 @@ module _ (ds : List ℕ) (x : ℕ) where
     pub is : ds ≡ r.0 ++ replicate (length ds - 34) 48
     pub power : r.1 ≡ x + (length ds - 34)
     pub few : length ds - 34 ≤ 32767
-    pub high : r.1 ≤ 65535
+    pub high : r.1 ≤ last_place
 
   abbrev pub CutRefuses : ParseError → Type 0
-  CutRefuses k = AllDigits 10 ds → IsLarge ds → length ds - 34 ≤ 32767 → x + (length ds - 34) ≤ 65535 → NoneFitsAt ds x
+  CutRefuses k = AllDigits 10 ds → IsLarge ds → length ds - 34 ≤ 32767 → x + (length ds - 34) ≤ last_place → NoneFitsAt ds x
 
-  pub cut_at_34-cases : x ≤ 65535 → MatchResult (cut_at_34 ds x) IsCut CutRefuses
+  pub cut_at_34-cases : x ≤ last_place → MatchResult (cut_at_34 ds x) IsCut CutRefuses
   unfolding cut_at_34
   cut_at_34-cases low =
       if-cases IsCut CutRefuses (leb (length ds) 34) _ _
@@ -91,74 +91,74 @@ module _ (ds : List ℕ) (x : ℕ) where
       no-multiple ds 34 digits (not-true _ e3) (fits-exact _ up down c f (length ds - 34) above fits))
       (λ e3. if-cases IsCut CutRefuses (ltb 32767 (length ds - 34)) _ _
       (λ e4 digits large few high up down at c f fits. omega (arith, ltb-true 32767 (length ds - 34) e4))
-      (λ e4. if-cases IsCut CutRefuses (ltb 65535 (x + (length ds - 34))) _ _
-      (λ e5 digits large few high up down at c f fits. omega (arith, ltb-true 65535 (x + (length ds - 34)) e5))
+      (λ e4. if-cases IsCut CutRefuses (ltb last_place (x + (length ds - 34))) _ _
+      (λ e5 digits large few high up down at c f fits. omega (arith, ltb-true last_place (x + (length ds - 34)) e5))
       (λ e5. record {
         is = zeros-dropped ds 34 (not-false _ e3);
         power = refl;
         few = omega (arith, ltb-false 32767 (length ds - 34) e4);
-        high = omega (arith, ltb-false 65535 (x + (length ds - 34)) e5);
+        high = omega (arith, ltb-false last_place (x + (length ds - 34)) e5);
       })))))
 
   -- zeros dropped down to the least exponent
   pub record IsRaised (r : Scaled) : Type 0 where
-    pub kept : 26592 ≤ x → (r.0 ≡ ds) × (r.1 ≡ x)
-    pub raised : x < 26592 → (r.1 ≡ 26592) × (((ds ≡ []) × (r.0 ≡ [])) ⊎ (ds ≡ r.0 ++ replicate (26592 - x) 48))
+    pub kept : least_place ≤ x → (r.0 ≡ ds) × (r.1 ≡ x)
+    pub raised : x < least_place → (r.1 ≡ least_place) × (((ds ≡ []) × (r.0 ≡ [])) ⊎ (ds ≡ r.0 ++ replicate (least_place - x) 48))
 
   abbrev pub Refuses : ParseError → Type 0
   Refuses k = AllDigits 10 ds → IsLarge ds → NoneFitsAt ds x
 
   -- where j digits would have to go, the number is a multiple of 10 ^ j
-  divides : (up down c e j : ℕ) → x + down ≡ up + 32768 → FitsShifted (digits_value 10 ds) up down c e → x + j ≡ 26592 → digits_value 10 ds % 10 ^ j ≡ 0
+  divides : (up down c e j : ℕ) → x + down ≡ up + 32768 → FitsShifted (digits_value 10 ds) up down c e → x + j ≡ least_place → digits_value 10 ds % 10 ^ j ≡ 0
   divides up down c e j at fits to = fits-exact (digits_value 10 ds) up down c e j (omega arith) fits
 
   pub raise_to_least-cases : MatchResult (raise_to_least ds x) IsRaised Refuses
   unfolding raise_to_least
   raise_to_least-cases =
-      if-cases IsRaised Refuses (leb 26592 x) _ _
-      (λ e. let low = leb-true 26592 x e in record { kept = λ _. (refl, refl); raised = λ h. absurd (omega arith) })
-      (λ e. let low = leb-false 26592 x e in
+      if-cases IsRaised Refuses (leb least_place x) _ _
+      (λ e. let low = leb-true least_place x e in record { kept = λ _. (refl, refl); raised = λ h. absurd (omega arith) })
+      (λ e. let low = leb-false least_place x e in
       if-cases IsRaised Refuses (eqb (length ds) 0) _ _
       (λ e2. let none = nil_from_length ds (eqb-true (length ds) 0 e2) in
       record { kept = λ h. absurd (omega arith); raised = λ _. (refl, inl (none, none)) })
-      (λ e2. if-cases IsRaised Refuses (ltb (length ds) (26592 - x)) _ _
+      (λ e2. if-cases IsRaised Refuses (ltb (length ds) (least_place - x)) _ _
       (λ e3 digits large up down at c f fits.
       let some : 0 < length ds = grind (arith, nat_tests) in
-      let long = ltb-true (length ds) (26592 - x) e3 in
-      let whole = divides up down c f (26592 - x) at fits (omega arith) in
+      let long = ltb-true (length ds) (least_place - x) e3 in
+      let whole = divides up down c f (least_place - x) at fits (omega arith) in
       let below = digits_value-lt 10 ds digits in
-      let wide = tens-le (length ds) (26592 - x) (omega arith) in
-      let small : digits_value 10 ds < 10 ^ (26592 - x) = omega arith in
+      let wide = tens-le (length ds) (least_place - x) (omega arith) in
+      let small : digits_value 10 ds < 10 ^ (least_place - x) = omega arith in
       omega (arith, mod-eq_of_lt small, large some, tens-pos (length ds - 1)))
-      (λ e3. let within = ltb-false (length ds) (26592 - x) e3 in
-      if-cases IsRaised Refuses (is_inside (slice_index ds (length ds - (26592 - x)))) _ _
-      (λ e4 digits large up down at c f fits. inside-no-digit ds (length ds - (26592 - x)) digits (omega arith) e4)
-      (λ e4. let size : length ds - (length ds - (26592 - x)) ≡ 26592 - x = omega arith in
-      if-cases IsRaised Refuses (not (list_all is_zero (drop (length ds - (26592 - x)) ds))) _ _
-      (λ e5 digits large up down at c f fits. no-multiple ds (length ds - (26592 - x)) digits (not-true _ e5) (rw size (divides up down c f (26592 - x) at fits (omega arith))))
+      (λ e3. let within = ltb-false (length ds) (least_place - x) e3 in
+      if-cases IsRaised Refuses (is_inside (slice_index ds (length ds - (least_place - x)))) _ _
+      (λ e4 digits large up down at c f fits. inside-no-digit ds (length ds - (least_place - x)) digits (omega arith) e4)
+      (λ e4. let size : length ds - (length ds - (least_place - x)) ≡ least_place - x = omega arith in
+      if-cases IsRaised Refuses (not (list_all is_zero (drop (length ds - (least_place - x)) ds))) _ _
+      (λ e5 digits large up down at c f fits. no-multiple ds (length ds - (least_place - x)) digits (not-true _ e5) (rw size (divides up down c f (least_place - x) at fits (omega arith))))
       (λ e5. record {
         kept = λ h. absurd (omega arith);
-        raised = λ _. (refl, inr (rw size at (zeros-dropped ds (length ds - (26592 - x)) (not-false _ e5))));
+        raised = λ _. (refl, inr (rw size at (zeros-dropped ds (length ds - (least_place - x)) (not-false _ e5))));
       })))))
 
   -- zeros added up to the greatest exponent
   pub record IsPadded (z : ℕ) : Type 0 where
-    pub same : x ≤ 38879 → z ≡ 0
-    pub padded : 38879 < x → ((ds ≡ []) × (z ≡ 0)) ⊎ ((z ≡ x - 38879) × (length ds + z ≤ 34))
+    pub same : x ≤ greatest_place → z ≡ 0
+    pub padded : greatest_place < x → ((ds ≡ []) × (z ≡ 0)) ⊎ ((z ≡ x - greatest_place) × (length ds + z ≤ 34))
 
   pub zeros_to_add-cases : MatchResult (zeros_to_add ds x) IsPadded Refuses
   unfolding zeros_to_add
   zeros_to_add-cases =
-      if-cases IsPadded Refuses (leb x 38879) _ _
-      (λ e. let low = leb-true x 38879 e in record { same = λ _. refl; padded = λ h. absurd (omega arith) })
-      (λ e. let high = leb-false x 38879 e in
+      if-cases IsPadded Refuses (leb x greatest_place) _ _
+      (λ e. let low = leb-true x greatest_place e in record { same = λ _. refl; padded = λ h. absurd (omega arith) })
+      (λ e. let high = leb-false x greatest_place e in
       if-cases IsPadded Refuses (eqb (length ds) 0) _ _
       (λ e2. let none = nil_from_length ds (eqb-true (length ds) 0 e2) in record { same = λ h. absurd (omega arith); padded = λ _. inl (none, refl) })
-      (λ e2. if-cases IsPadded Refuses (ltb 34 (length ds + (x - 38879))) _ _
+      (λ e2. if-cases IsPadded Refuses (ltb 34 (length ds + (x - greatest_place))) _ _
       (λ e3 digits large up down at c f fits.
       let some : 0 < length ds = grind (arith, nat_tests) in
-      let long = ltb-true 34 (length ds + (x - 38879)) e3 in
+      let long = ltb-true 34 (length ds + (x - greatest_place)) e3 in
       let within = fits.exponent in
       omega (arith, reach 34 (length ds - 1) c (f + down) (digits_value 10 ds) (up + 6176) fits.coefficient (large some) fits.equal))
-      (λ e3. let short = ltb-false 34 (length ds + (x - 38879)) e3 in
+      (λ e3. let short = ltb-false 34 (length ds + (x - greatest_place)) e3 in
       record { same = λ h. absurd (omega arith); padded = λ _. inr (refl, omega arith) })))

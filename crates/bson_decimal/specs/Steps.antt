@@ -33,7 +33,7 @@ greatest_place = place_of greatest_exponent
 abbrev pub last_place : ℕ
 last_place = place_of (pos 32767)
 
--- a character goes on at this byte
+-- a character goes on at this byte (UTF-8, RFC 3629 section 3)
 abbrev pub is_inside : ℕ → Bool
 is_inside b = nat_le 128 b && nat_lt b 192
 
