@@ -6,7 +6,7 @@ use Rattle.bson_wrapper.specs.declared.error.Error.{Error}
 use Rattle.bson_wrapper.specs.declared.error.Error.TheVariants.{InvalidObjectId, DeserializationError, OutOfMemory}
 use Rattle.bson_model.specs.Fault.{IsFaultOf}
 use Rattle.bson_model.specs.Reading.{reads}
-use Rattle.bson_model.proofs.Offered.{read_fault}
+use Rattle.bson_model.proofs.Offered.{value_read}
 use Rattle.bson.specs.Straight.{forgotten, Finds}
 use Rattle.bson.specs.View.{bson_view}
 
@@ -33,4 +33,4 @@ found_fails r (InvalidObjectId e) h = (h.0, forgotten_fault r _ h.1, h.2)
 
 pub found_fault : {X : Type 0} (t : Data) (r : Result X Error) → Finds r (reads t) → IfErr r (λ e. IsFaultOf t e)
 found_fault t (Ok x) h = tt
-found_fault t (Err e) h = read_fault bson_view t (Err e) (found_fails (reads t) e h)
+found_fault t (Err e) h = (value_read bson_view t (Err e) (found_fails (reads t) e h)).fault
