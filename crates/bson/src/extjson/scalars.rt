@@ -16,12 +16,12 @@ ghost use Rattle.bson.specs.View.{bson_view};
 
 use crate::bson::Bson;
 use crate::scalar::scalar_ref;
-use bson_wrapper::error::Error;
-use bson_wrapper::scalar::Scalar;
 use bson_scalar::binary::Binary;
 use bson_scalar::db_pointer::DbPointer;
 use bson_scalar::oid::ObjectId;
 use bson_scalar::spec::BinarySubtype;
+use bson_wrapper::error::Error;
+use bson_wrapper::scalar::Scalar;
 use serde_json::{Map, Number, Value};
 use std::alloc::{AllocError, Global};
 

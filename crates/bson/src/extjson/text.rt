@@ -11,10 +11,10 @@ ghost use Rattle.bson.specs.View.{bson_view, scoped_view, values_view, pairs_vie
 use crate::bson::{Bson, JavaScriptCodeWithScope};
 use crate::document::Document;
 use crate::scalar::scalar_ref;
+use bson_store::{PairStore, SmallPairs};
 use bson_wrapper::form::Form;
 use bson_wrapper::write::{print_scalar, put_binary};
 use bson_wrapper::write_error::WriteError;
-use bson_store::{PairStore, SmallPairs};
 use json::Writer;
 use std::alloc::{AllocError, Global};
 
