@@ -3,6 +3,8 @@ ghost use Rattle.std.specs.Prelude.{◌≡◌};
 ghost use Rattle.bson.specs.ElementType.{element_type_of};
 
 use crate::bson::Bson;
+use crate::scalar::scalar_ref;
+use bson_kind::scalar_ref::Element;
 use bson_scalar::spec::ElementType;
 
 impl Bson {
@@ -12,27 +14,14 @@ impl Bson {
         ensures { result ≡ element_type_of self.now }
     {
         match self {
-            Bson::Double(_) => ElementType::Double,
-            Bson::String(_) => ElementType::String,
             Bson::Array(_) => ElementType::Array,
             Bson::Document(_) => ElementType::EmbeddedDocument,
-            Bson::Boolean(_) => ElementType::Boolean,
-            Bson::Null => ElementType::Null,
-            Bson::RegularExpression(_) => ElementType::RegularExpression,
-            Bson::JavaScriptCode(_) => ElementType::JavaScriptCode,
             Bson::JavaScriptCodeWithScope(_) => ElementType::JavaScriptCodeWithScope,
-            Bson::Int32(_) => ElementType::Int32,
-            Bson::Int64(_) => ElementType::Int64,
-            Bson::Timestamp(_) => ElementType::Timestamp,
-            Bson::Binary(_) => ElementType::Binary,
-            Bson::ObjectId(_) => ElementType::ObjectId,
-            Bson::DateTime(_) => ElementType::DateTime,
-            Bson::Symbol(_) => ElementType::Symbol,
-            Bson::Decimal128(_) => ElementType::Decimal128,
-            Bson::Undefined => ElementType::Undefined,
-            Bson::MaxKey => ElementType::MaxKey,
-            Bson::MinKey => ElementType::MinKey,
-            Bson::DbPointer(_) => ElementType::DbPointer,
+            // (with names: the toolchain has to see each type that a scalar borrows)
+            Bson::RegularExpression(_regex) => ElementType::RegularExpression,
+            Bson::Binary(_binary) => ElementType::Binary,
+            Bson::DbPointer(_pointer) => ElementType::DbPointer,
+            value => scalar_ref(value).element_type(),
         }
     }
 }

@@ -1,18 +1,20 @@
 //! A scalar by reference.
 ghost use Rattle.std.specs.Prelude.{◌≡◌, ◌++◌, IfOk, codes};
 ghost use Rattle.std.specs.Fmt.{WritesOnOk};
+ghost use Rattle.bson_scalar.specs.declared.spec.ElementType.{ElementType};
 ghost use Rattle.bson_wrapper.specs.Displayed.{sixteen_digits};
 ghost use Rattle.bson_wrapper.specs.View.{scalar_view};
 ghost use Rattle.bson_kind.specs.View.{scalar_of};
 
 use bson_datetime::DateTime;
 use bson_decimal::Decimal128;
-use bson_wrapper::scalar::Scalar;
 use bson_scalar::binary::Binary;
 use bson_scalar::db_pointer::DbPointer;
 use bson_scalar::oid::ObjectId;
 use bson_scalar::regex::Regex;
+use bson_scalar::spec::ElementType;
 use bson_scalar::timestamp::Timestamp;
+use bson_wrapper::scalar::Scalar;
 use std::alloc::{AllocError, Global};
 use std::fmt;
 use std::hash::{Hash, Hasher};
@@ -56,6 +58,45 @@ pub enum ScalarRef<'a> {
     Decimal128(Decimal128),
     /// A pointer into another collection (deprecated).
     DbPointer(&'a DbPointer),
+}
+
+/// What is stored under an element type (BSON 1.1).
+pub trait Element {
+    // The element type.
+    ghost stored_as: { Self → ElementType };
+
+    /// The element type that the value is stored with.
+    fn element_type(&self) -> ElementType
+        ensures { result ≡ stored_as self.now };
+}
+
+impl<'a> Element for ScalarRef<'a> {
+    ghost use Rattle.bson_kind.specs.ElementType.{scalar_type};
+
+    ghost stored_as = { λ x. scalar_type (scalar_of x) };
+
+    fn element_type(&self) -> ElementType {
+        match *self {
+            ScalarRef::Null => ElementType::Null,
+            ScalarRef::Undefined => ElementType::Undefined,
+            ScalarRef::MinKey => ElementType::MinKey,
+            ScalarRef::MaxKey => ElementType::MaxKey,
+            ScalarRef::Boolean(_) => ElementType::Boolean,
+            ScalarRef::Double(_) => ElementType::Double,
+            ScalarRef::Int32(_) => ElementType::Int32,
+            ScalarRef::Int64(_) => ElementType::Int64,
+            ScalarRef::String(_) => ElementType::String,
+            ScalarRef::Symbol(_) => ElementType::Symbol,
+            ScalarRef::JavaScriptCode(_) => ElementType::JavaScriptCode,
+            ScalarRef::RegularExpression(_) => ElementType::RegularExpression,
+            ScalarRef::Timestamp(_) => ElementType::Timestamp,
+            ScalarRef::Binary(_) => ElementType::Binary,
+            ScalarRef::ObjectId(_) => ElementType::ObjectId,
+            ScalarRef::DateTime(_) => ElementType::DateTime,
+            ScalarRef::Decimal128(_) => ElementType::Decimal128,
+            ScalarRef::DbPointer(_) => ElementType::DbPointer,
+        }
+    }
 }
 
 impl<'a> PartialEq for ScalarRef<'a> {
@@ -231,7 +272,9 @@ impl<'a> ScalarRef<'a> {
             ScalarRef::Int64(z) => Scalar::Int64(z),
             ScalarRef::String(text) => Scalar::String(String::from_str(alloc, text)?),
             ScalarRef::Symbol(text) => Scalar::Symbol(String::from_str(alloc, text)?),
-            ScalarRef::JavaScriptCode(code) => Scalar::JavaScriptCode(String::from_str(alloc, code)?),
+            ScalarRef::JavaScriptCode(code) => Scalar::JavaScriptCode(String::from_str(
+                alloc, code,
+            )?),
             ScalarRef::RegularExpression(regex) => Scalar::RegularExpression(regex.clone(alloc)?),
             ScalarRef::Timestamp(stamp) => Scalar::Timestamp(stamp),
             ScalarRef::Binary(binary) => Scalar::Binary(binary.clone(alloc)?),
