@@ -1,11 +1,13 @@
 -- The walk over years and months finds jiff's date.
-use Rattle.std.proofs.Common.{◌≡◌, ℕ, zero, suc, ◌+◌, ◌-◌, ◌<◌, ◌≤◌, nat_lt, true, false, refl, ◌∙◌, arith, ℤ, pos, negsuc, ◌+ℤ◌, ◌-ℤ◌, ◌≤ℤ◌, unsigned_abs}
+use Rattle.std.proofs.Common.{◌≡◌, ℕ, zero, suc, ◌+◌, ◌-◌, ◌<◌, ◌≤◌, nat_lt, true, false, refl, ◌∙◌, arith, ℤ, pos}
+use Rattle.std.proofs.Common.{negsuc, ◌+ℤ◌, ◌-ℤ◌, ◌≤ℤ◌, unsigned_abs}
 use Rattle.std.proofs.lemmas.Bool.Decides.{nat_tests}
 use Rattle.jiff.specs.Types.{Date}
 use Rattle.jiff.specs.Words.{epoch_day, days_in_year, days_in_month}
 use Rattle.jiff.proofs.SpanFacts.{signed_arith}
 use Rattle.jiff_core.specs.Calendar.{days_of_years, days_of_months, day_count}
-use Rattle.jiff_core.proofs.CalendarLemmas.{days_from_civil-day_count, days_of_months_mono, day_of_year_bound, days_of_months-zero}
+use Rattle.jiff_core.proofs.CalendarLemmas.{days_from_civil-day_count, days_of_months_mono, day_of_year_bound}
+use Rattle.jiff_core.proofs.CalendarLemmas.{days_of_months-zero}
 use Rattle.jiff_core.proofs.DateLemmas.{civil}
 use Rattle.bson_datetime.specs.Moment.{year_and_rest, month_and_rest, date_of}
 
@@ -34,14 +36,16 @@ year_stops (suc more) k n h =
     let test : nat_lt n (year_len k) ≡ true = grind (arith, nat_tests) in
     rw test
 
-year_goes_on : (more k n : ℕ) → year_len k ≤ n → year_and_rest (suc more) k n ≡ year_and_rest more (suc k) (n - year_len k)
+year_goes_on : (more k n : ℕ) → year_len k ≤ n
+    → year_and_rest (suc more) k n ≡ year_and_rest more (suc k) (n - year_len k)
 unfolding year_and_rest
 year_goes_on more k n h =
     let test : nat_lt n (year_len k) ≡ false = grind (arith, nat_tests) in
     rw test
 
 -- a walk from the year k to the year y
-year_walk : (ahead more k y n r : ℕ) → y ≡ k + ahead → ahead ≤ more → days_of_years k + n ≡ days_of_years y + r → r < year_len y
+year_walk : (ahead more k y n r : ℕ) → y ≡ k + ahead → ahead ≤ more → days_of_years k + n ≡ days_of_years y + r
+    → r < year_len y
     → year_and_rest more k n ≡ (y, r)
 year_walk zero more k y n r at h e s =
     let same : y ≡ k = omega arith in
@@ -70,14 +74,16 @@ month_stops y (suc more) m n h =
     let test : nat_lt n (days_in_month y m) ≡ true = grind (arith, nat_tests) in
     rw test
 
-month_goes_on : (y : ℤ) (more m n : ℕ) → days_in_month y m ≤ n → month_and_rest y (suc more) m n ≡ month_and_rest y more (suc m) (n - days_in_month y m)
+month_goes_on : (y : ℤ) (more m n : ℕ) → days_in_month y m ≤ n
+    → month_and_rest y (suc more) m n ≡ month_and_rest y more (suc m) (n - days_in_month y m)
 unfolding month_and_rest
 month_goes_on y more m n h =
     let test : nat_lt n (days_in_month y m) ≡ false = grind (arith, nat_tests) in
     rw test
 
 -- a walk from the month k + 1 to the month t + 1
-month_walk : (y : ℤ) (ahead more k t n r : ℕ) → t ≡ k + ahead → ahead ≤ more → days_of_months y k + n ≡ days_of_months y t + r → r < days_in_month y (suc t)
+month_walk : (y : ℤ) (ahead more k t n r : ℕ) → t ≡ k + ahead → ahead ≤ more
+    → days_of_months y k + n ≡ days_of_months y t + r → r < days_in_month y (suc t)
     → month_and_rest y more (suc k) n ≡ (suc t, r)
 month_walk y zero more k t n r at h e s =
     let same : t ≡ k = omega arith in
@@ -95,11 +101,13 @@ month_walk y (suc ahead) (suc more) k t n r at h e s =
 
 -- ---- the date
 
-pub unfold_count : (y : ℤ) (m d : ℕ) → day_count y m d ≡ days_of_years (unsigned_abs (y +ℤ pos 10000)) + (days_of_months y (m - 1) + d - 1)
+pub unfold_count : (y : ℤ) (m d : ℕ)
+    → day_count y m d ≡ days_of_years (unsigned_abs (y +ℤ pos 10000)) + (days_of_months y (m - 1) + d - 1)
 unfolding day_count
 unfold_count y m d = refl
 
-parts : (d : Date) (k : ℕ) → d.year +ℤ pos 10000 ≡ pos k → day_count d.year d.month d.day ≡ days_of_years k + (days_of_months d.year (d.month - 1) + d.day - 1)
+parts : (d : Date) (k : ℕ) → d.year +ℤ pos 10000 ≡ pos k
+    → day_count d.year d.month d.day ≡ days_of_years k + (days_of_months d.year (d.month - 1) + d.day - 1)
 parts d k e = unfold_count d.year d.month d.day ∙ rw e refl
 
 pub days_of_years-none : days_of_years 0 ≡ 0
@@ -112,27 +120,35 @@ size_of (pos n) h = refl
 size_of (negsuc n) h = absurd (omega (arith, signed_arith))
 
 -- the function gives the date that has the day number
-date_found : (d : Date) (k count : ℕ) → d.year +ℤ pos 10000 ≡ pos k → unsigned_abs (epoch_day d +ℤ pos 4_371_953) ≡ count → count ≡ day_count d.year d.month d.day
+date_found : (d : Date) (k count : ℕ) → d.year +ℤ pos 10000 ≡ pos k
+    → unsigned_abs (epoch_day d +ℤ pos 4_371_953) ≡ count → count ≡ day_count d.year d.month d.day
     → date_of (epoch_day d) ≡ record { year = d.year; month = d.month; day = d.day }
 unfolding date_of
 date_found d k count since is e =
     let bound : k ≤ 20000 = omega (arith, signed_arith, d.year_in, since) in
     let year : pos k -ℤ pos 10000 ≡ d.year = omega (arith, signed_arith, since) in
     let rest = days_of_months d.year (d.month - 1) + d.day - 1 in
-    let inside : rest < year_len k = rw year (omega (arith, day_of_year_bound d.year d.month d.day (civil d), d.day_in)) in
-    let total : days_of_years 0 + count ≡ days_of_years k + rest = rw days_of_years-none (omega (arith, e, parts d k since)) in
-    let y : year_and_rest 20000 0 count ≡ (k, rest) = year_walk k 20000 0 k count rest (omega arith) bound total inside in
+    let inside : rest < year_len k =
+    rw year (omega (arith, day_of_year_bound d.year d.month d.day (civil d), d.day_in)) in
+    let total : days_of_years 0 + count ≡ days_of_years k + rest =
+    rw days_of_years-none (omega (arith, e, parts d k since)) in
+    let y : year_and_rest 20000 0 count ≡ (k, rest) =
+    year_walk k 20000 0 k count rest (omega arith) bound total inside in
     let month : suc (d.month - 1) ≡ d.month = omega (arith, d.month_in) in
     let here : d.day - 1 < days_in_month d.year (suc (d.month - 1)) = rw month (omega (arith, d.day_in)) in
-    let of_year : days_of_months d.year 0 + rest ≡ days_of_months d.year (d.month - 1) + (d.day - 1) = rw (days_of_months-zero d.year) (omega (arith, d.day_in)) in
-    let m : month_and_rest d.year 12 1 rest ≡ (suc (d.month - 1), d.day - 1) = month_walk d.year (d.month - 1) 12 0 (d.month - 1) rest (d.day - 1) (omega arith) (omega (arith, d.month_in)) of_year here in
+    let of_year : days_of_months d.year 0 + rest ≡ days_of_months d.year (d.month - 1) + (d.day - 1) =
+    rw (days_of_months-zero d.year) (omega (arith, d.day_in)) in
+    let m : month_and_rest d.year 12 1 rest ≡ (suc (d.month - 1), d.day - 1) =
+    month_walk d.year (d.month - 1) 12 0 (d.month - 1) rest (d.day - 1) (omega arith)
+    (omega (arith, d.month_in)) of_year here in
     let day : d.day - 1 + 1 ≡ d.day = omega (arith, d.day_in) in
     rw (is, y, year, m, month, day) refl
 
 pub date_of-date : (d : Date) → date_of (epoch_day d) ≡ record { year = d.year; month = d.month; day = d.day }
 date_of-date d =
     let low : pos 0 ≤ℤ (d.year +ℤ pos 10000) = omega (arith, signed_arith, d.year_in) in
-    let positive : pos 0 ≤ℤ (epoch_day d +ℤ pos 4_371_953) = omega (arith, signed_arith, days_from_civil-day_count d.year d.month d.day) in
+    let positive : pos 0 ≤ℤ (epoch_day d +ℤ pos 4_371_953) =
+    omega (arith, signed_arith, days_from_civil-day_count d.year d.month d.day) in
     let size = size_of _ positive in
     date_found d (unsigned_abs (d.year +ℤ pos 10000)) (unsigned_abs (epoch_day d +ℤ pos 4_371_953)) (size_of _ low) refl
     (omega (arith, signed_arith, size, days_from_civil-day_count d.year d.month d.day))

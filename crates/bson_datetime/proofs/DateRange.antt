@@ -1,5 +1,6 @@
 -- A moment that a text names is in the range of an i64.
-use Rattle.std.proofs.Common.{◌<◌, ◌+◌, ◌-◌, ◌*◌, ◌^◌, ℕ, zero, suc, ℤ, pos, List, [], ◌∷◌, refl, sym, subst, w64, arith}
+use Rattle.std.proofs.Common.{◌<◌, ◌+◌, ◌-◌, ◌*◌, ◌^◌, ℕ, zero, suc, ℤ, pos, List, [], ◌∷◌, refl, sym, subst, w64}
+use Rattle.std.proofs.Common.{arith}
 use Rattle.std.specs.Prelude.{FitsSigned, int_div}
 use Rattle.std.specs.Char.{IsAsciiDigit}
 use Rattle.std.specs.List.{All}
@@ -23,7 +24,8 @@ offset_range (zulu c) h = omega (arith, signed_arith)
 offset_range (ahead h m) is = let a : h < 24 = is.0 in let b : m < 60 = is.1 in omega (arith, signed_arith)
 offset_range (behind h m) is = let a : h < 24 = is.0 in let b : m < 60 = is.1 in omega (arith, signed_arith)
 
-fits : (day o : ℤ) (s n : ℕ) → IsEpochDay day → s < 86_400 → n < 1_000_000_000 → IsWithin 86_399 o → FitsSigned w64 (int_div (nanos_of day s n o) (pos 1_000_000))
+fits : (day o : ℤ) (s n : ℕ) → IsEpochDay day → s < 86_400 → n < 1_000_000_000 → IsWithin 86_399 o
+    → FitsSigned w64 (int_div (nanos_of day s n o) (pos 1_000_000))
 fits day o s n a b c d = omega (arith, signed_arith)
 
 fraction_small : (k : ℕ) (ds : List ℕ) → All IsAsciiDigit ds → fraction_value k ds < 10 ^ k
@@ -45,4 +47,7 @@ named_fits s z n =
     let second : p.second < 60 = r.second in
     let day = day_range p.year p.month p.day r.date in
     let fraction : fraction_value 9 p.fraction < 1_000_000_000 = fraction_small 9 p.fraction r.fraction in
-    subst (FitsSigned w64) (sym n.moment) (fits (days_from_civil (pos p.year) p.month p.day) (offset_seconds p.offset) (p.hour * 3600 + p.minute * 60 + p.second) (fraction_value 9 p.fraction) day (omega arith) fraction (offset_range p.offset r.offset))
+    subst (FitsSigned w64) (sym n.moment)
+    (fits (days_from_civil (pos p.year) p.month p.day) (offset_seconds p.offset)
+    (p.hour * 3600 + p.minute * 60 + p.second) (fraction_value 9 p.fraction) day (omega arith) fraction
+    (offset_range p.offset r.offset))

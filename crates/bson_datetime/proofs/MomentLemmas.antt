@@ -9,11 +9,20 @@ use Rattle.bson_datetime.specs.JiffSteps.{IsJiffMoment}
 
 -- the last day before the year 0000
 last_before : Date
-last_before = record { year = neg_ℤ (pos 1); month = 12; day = 31; year_in = search rules; month_in = search rules; day_in = search rules }
+last_before =
+    record {
+      year = neg_ℤ (pos 1);
+      month = 12;
+      day = 31;
+      year_in = search rules;
+      month_in = search rules;
+      day_in = search rules;
+    }
 
 -- its first day
 first_of : Date
-first_of = record { year = pos 0; month = 1; day = 1; year_in = search rules; month_in = search rules; day_in = search rules }
+first_of =
+    record { year = pos 0; month = 1; day = 1; year_in = search rules; month_in = search rules; day_in = search rules }
 
 epoch_day-first_of : epoch_day first_of ≡ neg_ℤ (pos 719_528)
 unfolding days_from_civil day_count days_of_years days_of_months first_of
@@ -35,11 +44,13 @@ year-natural d h =
     omega (arith, signed_arith, epoch_day-lt last_before d (inl before), epoch_day-last_before)
 
 -- a moment before the year 0 is a millisecond before -62167219200000
-pub moment-negative : (ms : ℤ) (at : DateTime) → IsJiffMoment ms at → at.date.year <ℤ pos 0 → ms <ℤ neg_ℤ (pos 62_167_219_200_000)
+pub moment-negative : (ms : ℤ) (at : DateTime) → IsJiffMoment ms at → at.date.year <ℤ pos 0
+    → ms <ℤ neg_ℤ (pos 62_167_219_200_000)
 moment-negative ms at is h =
     omega (arith, signed_arith, civil_nanos-parts at, time_nanos_bound at.time, year-negative at.date h)
 
-pub moment-natural : (ms : ℤ) (at : DateTime) → IsJiffMoment ms at → pos 0 ≤ℤ at.date.year → neg_ℤ (pos 62_167_219_200_000) ≤ℤ ms
+pub moment-natural : (ms : ℤ) (at : DateTime) → IsJiffMoment ms at → pos 0 ≤ℤ at.date.year
+    → neg_ℤ (pos 62_167_219_200_000) ≤ℤ ms
 moment-natural ms at is h =
     omega (arith, signed_arith, civil_nanos-parts at, time_nanos_bound at.time, year-natural at.date h)
 
@@ -52,6 +63,7 @@ pub natural_year : (z : ℤ) → pos 0 ≤ℤ z → (n : ℕ) × (z ≡ pos n)
 natural_year z h = natural z (λ low. omega (arith, signed_arith))
 
 -- from -62167219200000 on the year is a natural number
-pub moment-not_negative : (ms : ℤ) (at : DateTime) → IsJiffMoment ms at → neg_ℤ (pos 62_167_219_200_000) ≤ℤ ms → (y : ℕ) × (at.date.year ≡ pos y)
+pub moment-not_negative : (ms : ℤ) (at : DateTime) → IsJiffMoment ms at → neg_ℤ (pos 62_167_219_200_000) ≤ℤ ms
+    → (y : ℕ) × (at.date.year ≡ pos y)
 moment-not_negative ms at is h =
     natural at.date.year (λ low. omega (arith, signed_arith, moment-negative ms at is low))

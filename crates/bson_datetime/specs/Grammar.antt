@@ -39,8 +39,10 @@ fraction_text (d ∷ ds) = codes "." ++ d ∷ ds
 -- `YYYY-MM-DDThh:mm:ss`, the fraction and the offset
 abbrev pub text_of : Parts → List ℕ
 text_of p =
-    two_digit_text (p.year / 100) ++ two_digit_text (p.year % 100) ++ codes "-" ++ two_digit_text p.month ++ codes "-" ++ two_digit_text p.day ++ p.separator ∷ two_digit_text p.hour
-    ++ codes ":" ++ two_digit_text p.minute ++ codes ":" ++ two_digit_text p.second ++ fraction_text p.fraction ++ offset_text p.offset
+    two_digit_text (p.year / 100) ++ two_digit_text (p.year % 100) ++ codes "-" ++ two_digit_text p.month ++ codes "-"
+    ++ two_digit_text p.day ++ p.separator ∷ two_digit_text p.hour
+    ++ codes ":" ++ two_digit_text p.minute ++ codes ":" ++ two_digit_text p.second ++ fraction_text p.fraction
+    ++ offset_text p.offset
 
 -- a letter of either case: a small letter lies 32 above its capital
 abbrev pub IsLetter : ℕ → ℕ → Type 0

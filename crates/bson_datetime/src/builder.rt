@@ -1,4 +1,5 @@
-//! A builder of moments whose states are types: `build` can be called once year, month and day are set.
+//! A builder of moments whose states are types: `build` can be called once year, month and day are
+//! set.
 ghost use Rattle.std.specs.Prelude.{◌≡◌, ◌↔◌, IsOk, IfOk, IfErr};
 ghost use Rattle.jiff.specs.Words.{IsEpochDay};
 ghost use Rattle.jiff_core.specs.Calendar.{IsCivilDate, days_from_civil};
@@ -174,9 +175,10 @@ impl<Y, M, D> DateTimeBuilder<Y, M, D> {
 impl DateTimeBuilder<Year, Month, Day> {
     ghost use Rattle.bson_datetime.specs.Builder.{civil_fields};
 
-    /// The moment with the date and time that were set, on the proleptic Gregorian calendar. `InvalidTimestamp` exactly
-    /// where one of them is out of its range, or the month hasn't that day: with the message `NoSuchTime` where the
-    /// time of day is out of range, else with `NoSuchDay`.
+    /// The moment with the date and time that were set, on the proleptic Gregorian calendar.
+    /// `InvalidTimestamp` exactly where one of them is out of its range, or the month hasn't that
+    /// day: with the message `NoSuchTime` where the time of day is out of range, else with
+    /// `NoSuchDay`.
     pub fn build(self) -> Result<DateTime>
         ensures exists { IsOk result ↔ IsCivil (civil_fields self) }
         ensures value { IfOk result (λ ms. IsMoment ms (civil_fields self)) }

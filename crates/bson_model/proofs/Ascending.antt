@@ -3,11 +3,13 @@ use Rattle.std.proofs.Common.{◌≡◌, ℕ, List, refl, ap}
 use Rattle.serde_json.specs.Data.{Data, Items, Members}
 use Rattle.bson_model.specs.Value.{Value, code_scope, Values, Pairs, pair}
 use Rattle.bson_model.specs.Value as model
-use Rattle.bson_model.specs.Means.{Means, scalar, code_with_scope, array, document, MeansItems, nothing, then, MeansDocument, empty, entry}
+use Rattle.bson_model.specs.Means.{Means, scalar, code_with_scope, array, document, MeansItems, nothing, then}
+use Rattle.bson_model.specs.Means.{MeansDocument, empty, entry}
 use Rattle.bson_model.specs.Sorted.{put_pair, sorted, sorted_items, sorted_pairs, IsLeast, KeysAscend}
 use Rattle.bson_model.specs.Texts.{IsBelow, Ascends, IsTree, ItemsAreTrees, MembersAreTrees}
 
-put_first : {ms : Members} {ps : Pairs} (k : List ℕ) (v : Value) → MeansDocument ms ps → IsBelow k ms → put_pair k v ps ≡ pair k v ps
+put_first : {ms : Members} {ps : Pairs} (k : List ℕ) (v : Value) → MeansDocument ms ps → IsBelow k ms
+    → put_pair k v ps ≡ pair k v ps
 put_first k v empty below = refl
 put_first k v (entry l e w ms ps m n) below = rw below.0 refl
 
@@ -22,7 +24,8 @@ mutual
   items_sorted nothing is = refl
   items_sorted (then d v ds vs m n) is = rw (is_sorted m is.0, items_sorted n is.1) refl
 
-  pairs_sorted : {ms : Members} {ps : Pairs} → MeansDocument ms ps → Ascends ms → MembersAreTrees ms → sorted_pairs ps ≡ ps
+  pairs_sorted : {ms : Members} {ps : Pairs} → MeansDocument ms ps → Ascends ms → MembersAreTrees ms
+      → sorted_pairs ps ≡ ps
   pairs_sorted empty up are = refl
   pairs_sorted (entry k d v ms ps m n) up are = rw (is_sorted m are.0, pairs_sorted n up.1 are.1) (put_first k v n up.0)
 

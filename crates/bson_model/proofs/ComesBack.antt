@@ -37,13 +37,17 @@ pub has_tree : (f : Form) (v : Value) → writable v ≡ true → (t : Data) × 
 has_tree f v h = let t = tree_of f v h in (t.0, canon_from f v t.0 t.1)
 
 -- the value that a tree of v means has that tree
-same_tree : (f : Form) (v : Value) (u : Data) (w : Value) → writes f v ≡ Ok u → Means u w → same w (as_read f (normal_form v)) ≡ true → Written f (normal_form w) u
+same_tree : (f : Form) (v : Value) (u : Data) (w : Value) → writes f v ≡ Ok u → Means u w
+    → same w (as_read f (normal_form v)) ≡ true → Written f (normal_form w) u
 same_tree f v u w h m is =
     let own = tree_of f w (form m).1 in
-    let one : own.0 ≡ u = same_trees f w (as_read f (normal_form v)) own.0 u own.1 (as_read_form f v u h) (same_to w (as_read f (normal_form v)) is) in
+    let one : own.0 ≡ u =
+    same_trees f w (as_read f (normal_form v)) own.0 u own.1 (as_read_form f v u h)
+    (same_to w (as_read f (normal_form v)) is) in
     canon_from f w u (own.1 ∙ ap Ok one)
 
-equal_texts : (f : Form) (v : Value) (u : Data) (w : Value) (x : Data) → writes f v ≡ Ok u → plain v ≡ true → InRange v → HasEqualTexts f v u w x
+equal_texts : (f : Form) (v : Value) (u : Data) (w : Value) (x : Data) → writes f v ≡ Ok u → plain v ≡ true → InRange v
+    → HasEqualTexts f v u w x
 equal_texts f v u w x h p r q s c =
     let g = canon_to f w x c in
     let trees = equal_is f v u w x h r p q s c in (
@@ -68,6 +72,7 @@ pub read_comes_back : (t : Data) (v : Value) → IsTree t → Means t v → Come
 read_comes_back t v is m = let f = form m in comes_back v f.0 f.1 (in_range m is)
 
 -- what a reader gave comes back
-pub read_back_ok : {X : Type 0} (see : X → Value) (t : Data) (r : Result X Error) → Gives see r (reads t) → IfOk r (λ v. InRange (see v)) → IfOk r (λ v. ComesBack (see v))
+pub read_back_ok : {X : Type 0} (see : X → Value) (t : Data) (r : Result X Error) → Gives see r (reads t)
+    → IfOk r (λ v. InRange (see v)) → IfOk r (λ v. ComesBack (see v))
 read_back_ok see t (Ok x) h ranged = let f = form (means_from t (see x) h) in comes_back (see x) f.0 f.1 ranged
 read_back_ok see t (Err e) h ranged = tt

@@ -1,16 +1,20 @@
 -- What a tree means is in range.
-use Rattle.std.proofs.Common.{◌≡◌, ◌<◌, ◌^◌, ℕ, ℤ, pos, negsuc, [], ◌∷◌, Bool, true, false, cond, Option, Some, None, refl, sym, subst, w64, arith}
+use Rattle.std.proofs.Common.{◌≡◌, ◌<◌, ◌^◌, ℕ, ℤ, pos, negsuc, [], ◌∷◌, Bool, true, false, cond, Option, Some, None}
+use Rattle.std.proofs.Common.{refl, sym, subst, w64, arith}
 use Rattle.std.specs.Prelude.{FitsSigned}
 use Rattle.std.proofs.lemmas.Bool.{ltb-true}
 use Rattle.serde_json.specs.Data.{Data, Num, unsigned, negative, float, Items, Members}
 use Rattle.serde_json.specs.Find.{as_i64}
-use Rattle.bson_wrapper.specs.Means.{MeansScalar, narrow_number, wide_number, oid, number_int, number_long, number_double, binary, uuid, timestamp, date_of_millis, date_of_text, date_of_number, db_pointer}
+use Rattle.bson_wrapper.specs.Means.{MeansScalar, narrow_number, wide_number, oid, number_int, number_long}
+use Rattle.bson_wrapper.specs.Means.{number_double, binary, uuid, timestamp, date_of_millis, date_of_text}
+use Rattle.bson_wrapper.specs.Means.{date_of_number, db_pointer}
 use Rattle.bson_wrapper.specs.Normal.{ScalarInRange}
 use Rattle.bson_wrapper.specs.Scalar.{Scalar}
 use Rattle.bson_wrapper.specs.Shapes.{small_number, whole}
 use Rattle.bson_wrapper.proofs.Offered.{subtype_byte-of}
 use Rattle.bson_model.specs.Value.{Value, Values, Pairs}
-use Rattle.bson_model.specs.Means.{Means, scalar, code_with_scope, array, document, MeansItems, nothing, then, MeansDocument, empty, entry}
+use Rattle.bson_model.specs.Means.{Means, scalar, code_with_scope, array, document, MeansItems, nothing, then}
+use Rattle.bson_model.specs.Means.{MeansDocument, empty, entry}
 use Rattle.bson_model.specs.Texts.{NumberFits, IsTree, ItemsAreTrees, MembersAreTrees}
 use Rattle.bson_model.specs.Normal.{InRange, ItemsInRange, PairsInRange}
 use Rattle.bson_scalar.proofs.Offered.{hex_bytes, sized_to}
@@ -40,7 +44,11 @@ small_range (Some (negsuc n)) m h = absurd cc
 small_range None m h = absurd cc
 
 double_at : (a b c d e f : Bool) (p : ℕ)
-    → cond a (Some 0) (cond b (Some 0x8000000000000000) (cond c (Some 0x7FF0000000000000) (cond d (Some 0xFFF0000000000000) (cond e (Some 0x7FF8000000000000) (cond f (Some 0xFFF8000000000000) None))))) ≡ Some p → p < 2 ^ 64
+    → cond a (Some 0)
+    (cond b (Some 0x8000000000000000)
+    (cond c (Some 0x7FF0000000000000)
+    (cond d (Some 0xFFF0000000000000) (cond e (Some 0x7FF8000000000000) (cond f (Some 0xFFF8000000000000) None)))))
+    ≡ Some p → p < 2 ^ 64
 double_at true b c d e f p h = let is = un_some _ _ h in omega (arith, is)
 double_at false true c d e f p h = let is = un_some _ _ h in omega (arith, is)
 double_at false false true d e f p h = let is = un_some _ _ h in omega (arith, is)
@@ -61,7 +69,8 @@ scalar_range (number_double s p is) t = double_at _ _ _ _ _ _ p is
 scalar_range (binary s k bytes n is byte) t =
     let fits : n < 256 = (hex_bytes k 1 (n ∷ []) (sized_to 1 k (n ∷ []) byte refl)).1 0 in
     (subst (λ m. m < 256) (sym (subtype_byte-of n)) fits, is.0)
-scalar_range (uuid s id is) t = let byte : 4 < 256 = omega arith in (byte, (hex_bytes is.0 16 id (sized_to 16 is.0 id is.1.0 is.1.1)).1)
+scalar_range (uuid s id is) t =
+    let byte : 4 < 256 = omega arith in (byte, (hex_bytes is.0 16 id (sized_to 16 is.0 id is.1.0 is.1.1)).1)
 scalar_range (timestamp i e m n i_is e_is) t = (small_range (whole e) n e_is, small_range (whole i) m i_is)
 scalar_range (date_of_millis s z is) t = is.2
 scalar_range (date_of_text s z is) t = named_fits s z is

@@ -1,5 +1,6 @@
 -- The compact text of a tree with no float is read as that tree.
-use Rattle.std.proofs.Common.{◌≡◌, ℕ, suc, max, ◌≤◌, pos, negsuc, List, [], false, Option, Some, option_map, option_and_then, Less, refl, sym, ap, ap₂, ◌∙◌, subst, arith, append-nil}
+use Rattle.std.proofs.Common.{◌≡◌, ℕ, suc, max, ◌≤◌, pos, negsuc, List, [], false, Option, Some, option_map}
+use Rattle.std.proofs.Common.{option_and_then, Less, refl, sym, ap, ap₂, ◌∙◌, subst, arith, append-nil}
 use Rattle.std.proofs.lemmas.Bool.{or_parts}
 use Rattle.json.specs.Lex.{tokens}
 use Rattle.json.specs.Json as json
@@ -7,11 +8,13 @@ use Rattle.json.specs.Tree as parsed
 use Rattle.json.proofs.Printed.Tokens.{tokens-print}
 use Rattle.json.proofs.Printed.Trees.{ArePrintable-json_tokens, value-json_tokens}
 use Rattle.json.proofs.Printed.Decimals.{IsNumber-decimal, IsNumber-signed_decimal}
-use Rattle.serde_json.specs.Data.{Num, unsigned, negative, float, Data, Items, no_items, item, Members, no_members, member, put, depth, items_depth, members_depth}
+use Rattle.serde_json.specs.Data.{Num, unsigned, negative, float, Data, Items, no_items, item, Members, no_members}
+use Rattle.serde_json.specs.Data.{member, put, depth, items_depth, members_depth}
 use Rattle.serde_json.specs.Data as tree
 use Rattle.serde_json.specs.Find.{is_float}
 use Rattle.serde_json.specs.Read.{number_of, of_json, of_items, of_members, read, max_depth}
-use Rattle.serde_json.specs.Written.{number_text, outline, items_outline, members_outline, has_float, items_have_float, members_have_float, compact_text}
+use Rattle.serde_json.specs.Written.{number_text, outline, items_outline, members_outline, has_float, items_have_float}
+use Rattle.serde_json.specs.Written.{members_have_float, compact_text}
 use Rattle.serde_json.proofs.Numbers.{number_of-decimal, number_of-negative}
 use Rattle.serde_json.proofs.Texts.{print-outline}
 use Rattle.bson_model.specs.Texts.{NumberFits, IsBelow, Ascends, IsTree, ItemsAreTrees, MembersAreTrees, HasOwnText}
@@ -31,13 +34,16 @@ mutual
   numbers (tree.array ds) h t = items_numbers ds h t
   numbers (tree.object ms) h t = members_numbers ms h t.1
 
-  items_numbers : (ds : Items) → items_have_float ds ≡ false → ItemsAreTrees ds → parsed.ItemsHaveNumbers (items_outline ds)
+  items_numbers : (ds : Items) → items_have_float ds ≡ false → ItemsAreTrees ds
+      → parsed.ItemsHaveNumbers (items_outline ds)
   items_numbers no_items h t = tt
   items_numbers (item d ds) h t = let p = or_parts (has_float d) _ h in (numbers d p.0 t.0, items_numbers ds p.1 t.1)
 
-  members_numbers : (ms : Members) → members_have_float ms ≡ false → MembersAreTrees ms → parsed.MembersHaveNumbers (members_outline ms)
+  members_numbers : (ms : Members) → members_have_float ms ≡ false → MembersAreTrees ms
+      → parsed.MembersHaveNumbers (members_outline ms)
   members_numbers no_members h t = tt
-  members_numbers (member k d ms) h t = let p = or_parts (has_float d) _ h in (numbers d p.0 t.0, members_numbers ms p.1 t.1)
+  members_numbers (member k d ms) h t =
+      let p = or_parts (has_float d) _ h in (numbers d p.0 t.0, members_numbers ms p.1 t.1)
 
 mutual
   same_depth : (d : Data) → parsed.depth (outline d) ≡ depth d
@@ -62,7 +68,8 @@ abbrev joined : Members → Members → Members
 joined no_members ms = ms
 joined (member l e found) ms = member l e (joined found ms)
 
-joined_again : (found : Members) (k : List ℕ) (d : Data) (ms : Members) → joined (joined found (member k d no_members)) ms ≡ joined found (member k d ms)
+joined_again : (found : Members) (k : List ℕ) (d : Data) (ms : Members)
+    → joined (joined found (member k d no_members)) ms ≡ joined found (member k d ms)
 joined_again no_members k d ms = refl
 joined_again (member l e found) k d ms = ap (member l e) (joined_again found k d ms)
 
@@ -70,14 +77,17 @@ joined_none : (found : Members) → joined found no_members ≡ found
 joined_none no_members = refl
 joined_none (member l e found) = ap (member l e) (joined_none found)
 
-below_key : (l : List ℕ) (found : Members) (k : List ℕ) (d : Data) (ms : Members) → IsBelow l (joined found (member k d ms)) → cmp l k ≡ Less
+below_key : (l : List ℕ) (found : Members) (k : List ℕ) (d : Data) (ms : Members)
+    → IsBelow l (joined found (member k d ms)) → cmp l k ≡ Less
 below_key l no_members k d ms h = h.0
 below_key l (member a e found) k d ms h = below_key l found k d ms h.1
 
 -- a key above all others goes last
-put_last : (found : Members) (k : List ℕ) (d : Data) (ms : Members) → Ascends (joined found (member k d ms)) → put k d found ≡ joined found (member k d no_members)
+put_last : (found : Members) (k : List ℕ) (d : Data) (ms : Members) → Ascends (joined found (member k d ms))
+    → put k d found ≡ joined found (member k d no_members)
 put_last no_members k d ms h = refl
-put_last (member l e found) k d ms h = rw (flipped l k Less (below_key l found k d ms h.0)) (ap (member l e) (put_last found k d ms h.1))
+put_last (member l e found) k d ms h =
+    rw (flipped l k Less (below_key l found k d ms h.0)) (ap (member l e) (put_last found k d ms h.1))
 
 -- ---- what is parsed is the tree
 
@@ -98,24 +108,31 @@ mutual
 
   items_back : (ds : Items) → items_have_float ds ≡ false → ItemsAreTrees ds → of_items (items_outline ds) ≡ Some ds
   items_back no_items h t = refl
-  items_back (item d ds) h t = let p = or_parts (has_float d) _ h in rw (data_back d p.0 t.0, items_back ds p.1 t.1) refl
+  items_back (item d ds) h t =
+      let p = or_parts (has_float d) _ h in rw (data_back d p.0 t.0, items_back ds p.1 t.1) refl
 
-  members_back : (ms found : Members) → members_have_float ms ≡ false → Ascends (joined found ms) → MembersAreTrees ms → of_members (members_outline ms) found ≡ Some (joined found ms)
+  members_back : (ms found : Members) → members_have_float ms ≡ false → Ascends (joined found ms) → MembersAreTrees ms
+      → of_members (members_outline ms) found ≡ Some (joined found ms)
   members_back no_members found h up t = ap Some (sym (joined_none found))
   members_back (member k d ms) found h up t =
       let p = or_parts (has_float d) _ h in
       let last = put_last found k d ms up in
       let again = joined_again found k d ms in
-      rw (data_back d p.0 t.0, last) (members_back ms (joined found (member k d no_members)) p.1 (subst Ascends (sym again) up) t.1 ∙ ap Some again)
+      rw (data_back d p.0 t.0, last)
+      (members_back ms (joined found (member k d no_members)) p.1 (subst Ascends (sym again) up) t.1
+      ∙ ap Some again)
 
 -- the tree that a text is, nested no deeper than n
 abbrev read_within : ℕ → List ℕ → Option Data
 read_within n text = option_and_then of_json (option_and_then (λ p. json.if_last p.0 p.1) (json.value n (tokens text)))
 
-back_within : (n : ℕ) (d : Data) → has_float d ≡ false → IsTree d → depth d ≤ n → read_within n (compact_text d) ≡ Some d
+back_within : (n : ℕ) (d : Data) → has_float d ≡ false → IsTree d → depth d ≤ n
+    → read_within n (compact_text d) ≡ Some d
 back_within n d h t shallow =
-    let printed = ap tokens (sym (print-outline d)) ∙ tokens-print (parsed.json_tokens (outline d)) (ArePrintable-json_tokens (outline d) (numbers d h t)) in
-    let value = ap (json.value n) (printed ∙ sym (append-nil (parsed.json_tokens (outline d)))) ∙ value-json_tokens (outline d) n [] (omega (arith, same_depth d)) in
+    let printed = ap tokens (sym (print-outline d))
+    ∙ tokens-print (parsed.json_tokens (outline d)) (ArePrintable-json_tokens (outline d) (numbers d h t)) in
+    let value = ap (json.value n) (printed ∙ sym (append-nil (parsed.json_tokens (outline d))))
+    ∙ value-json_tokens (outline d) n [] (omega (arith, same_depth d)) in
     ap (λ o. option_and_then of_json (option_and_then (λ p. json.if_last p.0 p.1) o)) value ∙ data_back d h t
 
 -- the compact text is read as the tree, unless it nests deeper than texts may
@@ -126,7 +143,8 @@ un_some : {A : Type 0} (x y : A) → Some x ≡ Some y → x ≡ y
 un_some x y h = cc
 
 -- two trees, however deep, have one text only where they are equal
-pub one_tree : (d e : Data) → has_float d ≡ false → IsTree d → has_float e ≡ false → IsTree e → compact_text d ≡ compact_text e → d ≡ e
+pub one_tree : (d e : Data) → has_float d ≡ false → IsTree d → has_float e ≡ false → IsTree e
+    → compact_text d ≡ compact_text e → d ≡ e
 one_tree d e h t g s same =
     let n = max (depth d) (depth e) in
     un_some d e (sym (back_within n d h t (omega arith)) ∙ ap (read_within n) same ∙ back_within n e g s (omega arith))

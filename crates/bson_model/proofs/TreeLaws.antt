@@ -1,5 +1,6 @@
 -- What is written is a tree that `serde_json` has.
-use Rattle.std.proofs.Common.{◌≡◌, ◌<◌, ◌^◌, ℕ, ℤ, pos, negsuc, List, Bool, true, false, Ok, Ordering, Less, Equal, Greater, refl, sym, subst, arith, w32, w64}
+use Rattle.std.proofs.Common.{◌≡◌, ◌<◌, ◌^◌, ℕ, ℤ, pos, negsuc, List, Bool, true, false, Ok, Ordering, Less, Equal}
+use Rattle.std.proofs.Common.{Greater, refl, sym, subst, arith, w32, w64}
 use Rattle.std.specs.Prelude.{FitsSigned, codes}
 use Rattle.std.specs.Ordering.{match_ordering}
 use Rattle.std.proofs.lemmas.Cmp.{nat_list_cmp_total}
@@ -10,13 +11,15 @@ use Rattle.serde_json.specs.Find.{of_integer}
 use Rattle.bson_wrapper.specs.Dates.{is_recent, relaxed_date_tree}
 use Rattle.bson_wrapper.specs.Doubles.{double_text}
 use Rattle.bson_wrapper.specs.Normal.{ScalarInRange}
-use Rattle.bson_wrapper.specs.Scalar.{Scalar, null, undefined, min_key, max_key, boolean, double, int32, int64, text, symbol, code, regex, timestamp, binary, object_id, date, decimal, db_pointer}
+use Rattle.bson_wrapper.specs.Scalar.{Scalar, null, undefined, min_key, max_key, boolean, double, int32, int64, text}
+use Rattle.bson_wrapper.specs.Scalar.{symbol, code, regex, timestamp, binary, object_id, date, decimal, db_pointer}
 use Rattle.bson_wrapper.specs.Shapes.{object_of_two}
 use Rattle.bson_wrapper.specs.Written.{or_finite, writes_scalar, int32_form, int64_form, date_form}
 use Rattle.bson_wrapper.specs.declared.form.Form.{Form}
 use Rattle.bson_wrapper.specs.declared.form.Form.TheVariants.{Canonical, Relaxed}
 use Rattle.bson_model.specs.Texts.{IsBelow, Ascends, IsTree, ItemsAreTrees, MembersAreTrees}
-use Rattle.bson_model.specs.Value.{Value, scalar, code_scope, array, document, Values, no_values, value, Pairs, no_pairs, pair}
+use Rattle.bson_model.specs.Value.{Value, scalar, code_scope, array, document, Values, no_values, value, Pairs}
+use Rattle.bson_model.specs.Value.{no_pairs, pair}
 use Rattle.bson_model.specs.Normal.{InRange, ItemsInRange, PairsInRange}
 use Rattle.bson_model.specs.Writing.{writes, writes_items, writes_pairs}
 use Rattle.bson_model.proofs.PutSwap.{cmp, flipped}
@@ -28,7 +31,8 @@ below_more : (k l : List ℕ) (ms : Members) → cmp k l ≡ Less → IsBelow l 
 below_more k l no_members h b = tt
 below_more k l (member a d ms) h b = (nat_list_cmp_total.trans k l a h b.0, below_more k l ms h b.1)
 
-below_put_at : (o : Ordering) (q k l : List ℕ) (d e : Data) (ms : Members) → cmp q k ≡ Less → cmp q l ≡ Less → IsBelow q ms → IsBelow q (put k d ms)
+below_put_at : (o : Ordering) (q k l : List ℕ) (d e : Data) (ms : Members) → cmp q k ≡ Less → cmp q l ≡ Less
+    → IsBelow q ms → IsBelow q (put k d ms)
     → IsBelow q (match_ordering o (member k d (member l e ms)) (member l d ms) (member l e (put k d ms)))
 below_put_at Less q k l d e ms a b h is = (a, (b, h))
 below_put_at Equal q k l d e ms a b h is = (b, h)
@@ -38,7 +42,8 @@ below_put : (q k : List ℕ) (d : Data) (ms : Members) → cmp q k ≡ Less → 
 below_put q k d no_members a h = (a, tt)
 below_put q k d (member l e ms) a h = below_put_at (cmp k l) q k l d e ms a h.0 h.1 (below_put q k d ms a h.1)
 
-ascends_put_at : (o : Ordering) (k l : List ℕ) (d e : Data) (ms : Members) → cmp k l ≡ o → IsBelow l ms → Ascends ms → Ascends (put k d ms)
+ascends_put_at : (o : Ordering) (k l : List ℕ) (d e : Data) (ms : Members) → cmp k l ≡ o → IsBelow l ms → Ascends ms
+    → Ascends (put k d ms)
     → Ascends (match_ordering o (member k d (member l e ms)) (member l d ms) (member l e (put k d ms)))
 ascends_put_at Less k l d e ms c b h is = ((c, below_more k l ms c b), (b, h))
 ascends_put_at Equal k l d e ms c b h is = (b, h)
@@ -48,7 +53,8 @@ pub ascends_put : (k : List ℕ) (d : Data) (ms : Members) → Ascends ms → As
 ascends_put k d no_members h = (tt, tt)
 ascends_put k d (member l e ms) h = ascends_put_at _ k l d e ms refl h.0 h.1 (ascends_put k d ms h.1)
 
-trees_put_at : (o : Ordering) (k l : List ℕ) (d e : Data) (ms : Members) → IsTree d → IsTree e → MembersAreTrees ms → MembersAreTrees (put k d ms)
+trees_put_at : (o : Ordering) (k l : List ℕ) (d e : Data) (ms : Members) → IsTree d → IsTree e → MembersAreTrees ms
+    → MembersAreTrees (put k d ms)
     → MembersAreTrees (match_ordering o (member k d (member l e ms)) (member l d ms) (member l e (put k d ms)))
 trees_put_at Less k l d e ms a b h is = (a, (b, h))
 trees_put_at Equal k l d e ms a b h is = (a, h)
@@ -92,7 +98,8 @@ scalar_is f undefined t h r = rw (un_ok _ _ h) ((tt, tt), (tt, tt))
 scalar_is f min_key t h r = rw (un_ok _ _ h) ((tt, tt), (omega arith, tt))
 scalar_is f max_key t h r = rw (un_ok _ _ h) ((tt, tt), (omega arith, tt))
 scalar_is f (boolean b) t h r = rw (un_ok _ _ h) tt
-scalar_is f (double p) t h r = let b = bind_ok (or_finite (double_text p)) _ t h in rw (un_ok _ _ b.2) ((tt, tt), (tt, tt))
+scalar_is f (double p) t h r =
+    let b = bind_ok (or_finite (double_text p)) _ t h in rw (un_ok _ _ b.2) ((tt, tt), (tt, tt))
 scalar_is f (int32 z) t h r = rw (un_ok _ _ h) (int32_is f z r)
 scalar_is f (int64 z) t h r = rw (un_ok _ _ h) (int64_is f z r)
 scalar_is f (text s) t h r = rw (un_ok _ _ h) tt
@@ -107,7 +114,8 @@ scalar_is f (binary k bytes) t h r = rw (un_ok _ _ h) ((tt, tt), ((((refl, tt), 
 scalar_is f (object_id id) t h r = rw (un_ok _ _ h) ((tt, tt), (tt, tt))
 scalar_is f (date z) t h r = rw (un_ok _ _ h) (date_is f z)
 scalar_is f (decimal b) t h r = rw (un_ok _ _ h) ((tt, tt), (tt, tt))
-scalar_is f (db_pointer s id) t h r = rw (un_ok _ _ h) ((tt, tt), ((((refl, tt), (tt, tt)), (((tt, tt), (tt, tt)), (tt, tt))), tt))
+scalar_is f (db_pointer s id) t h r =
+    rw (un_ok _ _ h) ((tt, tt), ((((refl, tt), (tt, tt)), (((tt, tt), (tt, tt)), (tt, tt))), tt))
 
 -- ---- values
 
@@ -116,9 +124,12 @@ mutual
   tree_is f (scalar x) t h r = scalar_is f x t h r
   tree_is f (code_scope s ps) t h r =
       let b = bind_ok (writes_pairs f ps) _ t h in
-      rw (un_ok _ _ b.2) (two_is (codes "$code") (codes "$scope") (tree.string s) (tree.object b.0) refl tt (pairs_are f ps b.0 b.1 r))
-  tree_is f (array vs) t h r = let b = bind_ok (writes_items f vs) _ t h in rw (un_ok _ _ b.2) (items_are f vs b.0 b.1 r)
-  tree_is f (document ps) t h r = let b = bind_ok (writes_pairs f ps) _ t h in rw (un_ok _ _ b.2) (pairs_are f ps b.0 b.1 r)
+      rw (un_ok _ _ b.2)
+      (two_is (codes "$code") (codes "$scope") (tree.string s) (tree.object b.0) refl tt (pairs_are f ps b.0 b.1 r))
+  tree_is f (array vs) t h r =
+      let b = bind_ok (writes_items f vs) _ t h in rw (un_ok _ _ b.2) (items_are f vs b.0 b.1 r)
+  tree_is f (document ps) t h r =
+      let b = bind_ok (writes_pairs f ps) _ t h in rw (un_ok _ _ b.2) (pairs_are f ps b.0 b.1 r)
 
   items_are : (f : Form) (vs : Values) (ds : Items) → writes_items f vs ≡ Ok ds → ItemsInRange vs → ItemsAreTrees ds
   items_are f no_values ds h r = rw (un_ok _ _ h) tt
@@ -127,10 +138,12 @@ mutual
       let c = bind_ok (writes_items f vs) _ ds b.2 in
       rw (un_ok _ _ c.2) (tree_is f v b.0 b.1 r.0, items_are f vs c.0 c.1 r.1)
 
-  pairs_are : (f : Form) (ps : Pairs) (ms : Members) → writes_pairs f ps ≡ Ok ms → PairsInRange ps → Ascends ms × MembersAreTrees ms
+  pairs_are : (f : Form) (ps : Pairs) (ms : Members) → writes_pairs f ps ≡ Ok ms → PairsInRange ps
+      → Ascends ms × MembersAreTrees ms
   pairs_are f no_pairs ms h r = rw (un_ok _ _ h) (tt, tt)
   pairs_are f (pair k v ps) ms h r =
       let b = bind_ok (writes f v) _ ms h in
       let c = bind_ok (writes_pairs f ps) _ ms b.2 in
       let rest = pairs_are f ps c.0 c.1 r.1 in
-      subst (λ m. Ascends m × MembersAreTrees m) (sym (un_ok _ _ c.2)) (ascends_put k b.0 c.0 rest.0, trees_put k b.0 c.0 (tree_is f v b.0 b.1 r.0) rest.1)
+      subst (λ m. Ascends m × MembersAreTrees m) (sym (un_ok _ _ c.2))
+      (ascends_put k b.0 c.0 rest.0, trees_put k b.0 c.0 (tree_is f v b.0 b.1 r.0) rest.1)

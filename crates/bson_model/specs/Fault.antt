@@ -37,4 +37,5 @@ MeansNoDocument ms = (ps : Pairs) → MeansDocument ms ps → ⊥
 abbrev pub IsDocumentFault : Members → Error → Type 0
 IsDocumentFault ms OutOfMemory = Unit {0}
 IsDocumentFault ms (DeserializationError message) = MeansNoDocument ms × (document_fault ms ≡ wrong_shape)
-IsDocumentFault ms (InvalidObjectId e) = MeansNoDocument ms × (s : List ℕ) × (document_fault ms ≡ wrong_id s) × IsIdFault s e
+IsDocumentFault ms (InvalidObjectId e) =
+    MeansNoDocument ms × (s : List ℕ) × (document_fault ms ≡ wrong_id s) × IsIdFault s e

@@ -8,7 +8,8 @@ use Rattle.bson_wrapper.specs.Faults.{Fault, wrong_shape, ◌>>=◌}
 use Rattle.bson_wrapper.specs.Reading.{number_read, single_at, on_text}
 use Rattle.bson_wrapper.specs.Scalar.{Scalar, null, boolean, text, code}
 use Rattle.bson_wrapper.specs.Table.{wrapper_of, has_wrapper}
-use Rattle.bson_model.specs.Value.{Value, scalar, code_scope, array, document, Values, no_values, value, Pairs, no_pairs, pair}
+use Rattle.bson_model.specs.Value.{Value, scalar, code_scope, array, document, Values, no_values, value, Pairs}
+use Rattle.bson_model.specs.Value.{no_pairs, pair}
 
 abbrev pub scalar_value : Result Scalar Fault → Result Value Fault
 scalar_value r = r >>= λ s. Ok (scalar s)
@@ -23,7 +24,8 @@ scope_value s scope = scope >>= λ ps. Ok (code_value s ps)
 
 -- the only wrapper of two keys
 abbrev pub code_at : List ℕ → Data → List ℕ → Result (Option Pairs) Fault → Result Value Fault
-code_at k d l scope = if bytes_eq k (codes "$code") && bytes_eq l (codes "$scope") then on_text d (λ s. scope_value s scope) else Err wrong_shape
+code_at k d l scope = if bytes_eq k (codes "$code") && bytes_eq l (codes "$scope")
+    then on_text d (λ s. scope_value s scope) else Err wrong_shape
 
 abbrev mutual
   pub reads : Data → Result Value Fault

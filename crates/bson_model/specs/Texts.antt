@@ -3,7 +3,8 @@ use Rattle.std.specs.Prelude.{◌≡◌, ◌<◌, ◌≤◌, ◌^◌, ◌↔◌,
 use Rattle.std.specs.Cmp.Lexicographic.{slice_cmp}
 use Rattle.std.specs.Ordering.{nat_cmp}
 use Rattle.std.specs.declared.cmp.Ordering.TheVariants.{Less}
-use Rattle.serde_json.specs.Data.{Num, unsigned, negative, float, Data, Items, no_items, item, Members, no_members, member, depth}
+use Rattle.serde_json.specs.Data.{Num, unsigned, negative, float, Data, Items, no_items, item, Members, no_members}
+use Rattle.serde_json.specs.Data.{member, depth}
 use Rattle.serde_json.specs.Data as tree
 use Rattle.serde_json.specs.Read.{read, max_depth}
 use Rattle.serde_json.specs.Written.{has_float, compact_text}
@@ -51,13 +52,15 @@ abbrev mutual
 
 -- the text is read as the tree again, unless that nests deeper than texts may, and no other tree has the text
 abbrev pub HasOwnText : Data → Type 0
-HasOwnText t = (depth t ≤ max_depth → read (compact_text t) ≡ Some t) × ((u : Data) → has_float u ≡ false → IsTree u → compact_text t ≡ compact_text u → t ≡ u)
+HasOwnText t = (depth t ≤ max_depth → read (compact_text t) ≡ Some t)
+    × ((u : Data) → has_float u ≡ false → IsTree u → compact_text t ≡ compact_text u → t ≡ u)
 
 -- ---- texts of values
 
 -- the tree u of v, and the tree x of w
 abbrev pub HasEqualTexts : Form → Value → Data → Value → Data → Type 0
-HasEqualTexts f v u w x = plain w ≡ true → InRange w → Written f (normal_form w) x → ((compact_text u ≡ compact_text x) ↔ (same (as_read f (normal_form v)) (as_read f (normal_form w)) ≡ true))
+HasEqualTexts f v u w x = plain w ≡ true → InRange w → Written f (normal_form w) x
+    → ((compact_text u ≡ compact_text x) ↔ (same (as_read f (normal_form v)) (as_read f (normal_form w)) ≡ true))
 
 -- what the tree u of the value v in the form f, and its compact text, are
 pub record HasText (f : Form) (v : Value) (u : Data) : Type 0 where

@@ -4,10 +4,12 @@ use Rattle.serde_json.specs.Data.{Data, Items, no_items, item, Members, no_membe
 use Rattle.serde_json.specs.Data as tree
 use Rattle.bson_wrapper.specs.Written.{writes_scalar, Refusal, ◌>>=◌}
 use Rattle.bson_wrapper.specs.declared.form.Form.{Form}
-use Rattle.bson_model.specs.Value.{Value, scalar, code_scope, array, document, Values, no_values, value, Pairs, no_pairs, pair}
+use Rattle.bson_model.specs.Value.{Value, scalar, code_scope, array, document, Values, no_values, value, Pairs}
+use Rattle.bson_model.specs.Value.{no_pairs, pair}
 
 abbrev pub with_scope : List ℕ → Members → Data
-with_scope s ms = tree.object (member (codes "$code") (tree.string s) (member (codes "$scope") (tree.object ms) no_members))
+with_scope s ms =
+    tree.object (member (codes "$code") (tree.string s) (member (codes "$scope") (tree.object ms) no_members))
 
 abbrev mutual
   pub writes : Form → Value → Result Data Refusal

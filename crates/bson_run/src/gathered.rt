@@ -21,6 +21,9 @@ use crate::order::{OnRefusal, Task};
 use memchr::memchr;
 use std::alloc::{AllocError, Global};
 
+/// What a step over a line answers.
+type Step = Result<(), LineFault>;
+
 /// U+FEFF in UTF-8.
 const BYTE_ORDER_MARK: [u8; 3] = [0xef, 0xbb, 0xbf];
 
@@ -142,7 +145,7 @@ fn at_place(alloc: Global, number: u64, fault: Fault, place: &str) -> Result<Str
 }
 
 /// Adds more bytes, for the line that stands after so many others.
-fn append(bytes: &mut Vec<u8>, more: &[u8], before: u64) -> Result<(), LineFault>
+fn append(bytes: &mut Vec<u8>, more: &[u8], before: u64) -> Step
     requires room { before < 2 ^ 64 - 1 }
     ensures ok { OnOk result (bytes.new.items ≡ bytes.old.items ++ more.now) }
     ensures err { OnErr result (bytes.new.items ≡ bytes.old.items) }
@@ -198,7 +201,7 @@ impl Gathered {
     }
 
     /// Adds a piece of the line.
-    fn extend_line(&mut self, piece: &[u8]) -> Result<(), LineFault>
+    fn extend_line(&mut self, piece: &[u8]) -> Step
         requires room { HasRoom self.old }
         ensures ok { OnOk result (self.new.line.items ≡ self.old.line.items ++ piece.now) }
         ensures same { HaveSameOutcomes self.old self.new }
@@ -208,12 +211,7 @@ impl Gathered {
     }
 
     /// Takes the line that was gathered: what it gives is added, and the next line is empty.
-    fn end_line(
-        &mut self,
-        alloc: Global,
-        task: Task,
-        on_refusal: OnRefusal,
-    ) -> Result<(), LineFault>
+    fn end_line(&mut self, alloc: Global, task: Task, on_refusal: OnRefusal) -> Step
         requires room { HasRoom self.old }
         ensures room { HasRoom self.new }
         ensures ok { OnOk result (TakesLine task on_refusal self.old self.new) }
@@ -236,7 +234,7 @@ impl Gathered {
     }
 
     /// Adds the output of a line.
-    fn add(&mut self, output: &[u8]) -> Result<(), LineFault>
+    fn add(&mut self, output: &[u8]) -> Step
         requires room { HasRoom self.old }
         ensures ok { OnOk result (self.new.output.items ≡ self.old.output.items ++ output.now) }
         ensures err { OnErr result (self.new.output.items ≡ self.old.output.items) }
@@ -248,12 +246,7 @@ impl Gathered {
     }
 
     /// Tells of the line, where refused lines don't stop the run.
-    fn refuse(
-        &mut self,
-        alloc: Global,
-        on_refusal: OnRefusal,
-        fault: Fault,
-    ) -> Result<(), LineFault>
+    fn refuse(&mut self, alloc: Global, on_refusal: OnRefusal, fault: Fault) -> Step
         requires room { HasRoom self.old }
         ensures ok { OnOk result ((fault ≢ Fault.OutOfMemory) × (self.new.refused ≡ self.old.refused + 1)
             × IsTold on_refusal (self.old.lines + 1) fault
@@ -302,13 +295,7 @@ impl Gathered {
     }
 
     /// Takes bytes: each line that ends in them, and what comes of the next.
-    pub fn take(
-        &mut self,
-        alloc: Global,
-        task: Task,
-        on_refusal: OnRefusal,
-        bytes: &[u8],
-    ) -> Result<(), LineFault>
+    pub fn take(&mut self, alloc: Global, task: Task, on_refusal: OnRefusal, bytes: &[u8]) -> Step
         requires room { HasRoom self.old }
         ensures room { HasRoom self.new }
         ensures ok { OnOk result (Takes task on_refusal bytes.now self.old self.new) }
@@ -324,12 +311,7 @@ impl Gathered {
     }
 
     /// Takes a last line that no newline ends, unless it is empty.
-    pub fn take_last(
-        &mut self,
-        alloc: Global,
-        task: Task,
-        on_refusal: OnRefusal,
-    ) -> Result<(), LineFault>
+    pub fn take_last(&mut self, alloc: Global, task: Task, on_refusal: OnRefusal) -> Step
         requires room { HasRoom self.old }
         ensures room { HasRoom self.new }
         ensures ok { OnOk result (Ends task on_refusal self.old self.new) }

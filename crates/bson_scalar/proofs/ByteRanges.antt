@@ -1,11 +1,15 @@
 -- What the decoders of base64 and hexadecimal digits give is bytes.
-use Rattle.std.proofs.Common.{◌≡◌, ◌<◌, ◌+◌, ◌*◌, ◌/◌, ◌%◌, ◌==◌, inl, inr, ℕ, zero, suc, nat_lt, List, [], ◌∷◌, ◌++◌, length, take, slice_index, slice_set, Bool, true, false, cond, Option, Some, None, Result, Ok, Err, refl, sym, ◌∙◌, subst, arith}
+use Rattle.std.proofs.Common.{◌≡◌, ◌<◌, ◌+◌, ◌*◌, ◌/◌, ◌%◌, ◌==◌, inl, inr, ℕ, zero, suc, nat_lt, List, [], ◌∷◌, ◌++◌}
+use Rattle.std.proofs.Common.{length, take, slice_index, slice_set, Bool, true, false, cond, Option, Some, None, Result}
+use Rattle.std.proofs.Common.{Ok, Err, refl, sym, ◌∙◌, subst, arith}
 use Rattle.std.proofs.lemmas.Bool.{cases_lt, cases_eq}
 use Rattle.std.proofs.lemmas.List.{get_or-set_same, get_or-set_other, set_past, get_or_past}
 use Rattle.hex.specs.Hex.{IsBytes, decode_sized}
 use Rattle.hex.proofs.HexLemmas.{decode_of-ok, decode_sized-ok, decode_sized-twice}
 use Rattle.base64.specs.declared.decode.DecodeError.{DecodeError}
-use Rattle.base64.specs.Decode.{IsDecodeTable, decode_group, decode_outcome, group_error, group_bytes, groups_error, groups_bytes, groups_before_last, symbol_error, or_else, push_leftover, scan_steps, scan_last, scan_bytes, suffix_bytes, no_leftover}
+use Rattle.base64.specs.Decode.{IsDecodeTable, decode_group, decode_outcome, group_error, group_bytes, groups_error}
+use Rattle.base64.specs.Decode.{groups_bytes, groups_before_last, symbol_error, or_else, push_leftover, scan_steps}
+use Rattle.base64.specs.Decode.{scan_last, scan_bytes, suffix_bytes, no_leftover}
 use Rattle.base64.specs.GeneralPurpose.{decode_of}
 use Rattle.base64.specs.Engines.{standard}
 use Rattle.base64.proofs.Tables.{are_tables_inverse, IsDecodeTable_from}
@@ -56,7 +60,8 @@ group_is a b c d ha hb hc hd =
     let third : c % 4 * 64 + d < 256 = omega arith in
     let last = c % 4 * 64 + d in
     let middle = b % 16 * 16 + c / 4 in
-    more_bytes (a * 4 + b / 16) (middle ∷ last ∷ []) first (more_bytes middle (last ∷ []) second (more_bytes last [] third no_bytes))
+    more_bytes (a * 4 + b / 16) (middle ∷ last ∷ []) first
+    (more_bytes middle (last ∷ []) second (more_bytes last [] third no_bytes))
 
 or_else_none : (x y : Option DecodeError) → or_else x y ≡ None → (x ≡ None) × (y ≡ None)
 or_else_none None y h = (refl, h)
@@ -85,14 +90,20 @@ module _ (dec : List ℕ) (table : IsDecodeTable dec) (size : length dec ≡ 256
       let a = or_else_none (symbol_error dec s i) _ h in
       let b = or_else_none (symbol_error dec s (i + 1)) _ a.1 in
       let c = or_else_none (symbol_error dec s (i + 2)) (symbol_error dec s (i + 3)) b.1 in
-      group_is (slice_index dec (slice_index s i)) (slice_index dec (slice_index s (i + 1))) (slice_index dec (slice_index s (i + 2))) (slice_index dec (slice_index s (i + 3))) (read_small s i a.0) (read_small s (i + 1) b.0) (read_small s (i + 2) c.0) (read_small s (i + 3) c.1)
+      group_is (slice_index dec (slice_index s i)) (slice_index dec (slice_index s (i + 1)))
+      (slice_index dec (slice_index s (i + 2))) (slice_index dec (slice_index s (i + 3))) (read_small s i a.0)
+      (read_small s (i + 1) b.0) (read_small s (i + 2) c.0) (read_small s (i + 3) c.1)
 
   groups_are : (s : List ℕ) (q : ℕ) → groups_error dec s q ≡ None → IsBytes (groups_bytes dec s q)
   unfolding groups_error groups_bytes
   groups_are s zero h = no_bytes
-  groups_are s (suc q) h = let p = or_else_none (groups_error dec s q) (group_error dec s (4 * q)) h in joined_bytes (groups_bytes dec s q) (group_bytes dec s (4 * q)) (groups_are s q p.0) (group_bytes_are s (4 * q) p.1)
+  groups_are s (suc q) h =
+      let p = or_else_none (groups_error dec s q) (group_error dec s (4 * q)) h in
+      joined_bytes (groups_bytes dec s q) (group_bytes dec s (4 * q)) (groups_are s q p.0)
+      (group_bytes_are s (4 * q) p.1)
 
-  set_small : (xs : List ℕ) (i v k : ℕ) → ((j : ℕ) → slice_index xs j < 64) → v < 64 → slice_index (slice_set xs i v) k < 64
+  set_small : (xs : List ℕ) (i v k : ℕ) → ((j : ℕ) → slice_index xs j < 64) → v < 64
+      → slice_index (slice_set xs i v) k < 64
   set_small xs i v k h small = elim (cases_eq k i) [
     | inl same ↦ elim (cases_lt i (length xs)) [
       | inl fits ↦ rw (same, get_or-set_same xs i v 0 fits) small
@@ -101,14 +112,17 @@ module _ (dec : List ℕ) (table : IsDecodeTable dec) (size : length dec ≡ 256
     | inr other ↦ rw (get_or-set_other xs i k v 0 other) (h k)
   ]
 
-  choose : (p l a v : Bool) (e f g : DecodeError) (x y next : Leftover) → cond p (cond l (Err e) (Ok x)) (cond a (Err f) (cond v (Err g) (Ok y))) ≡ Ok next → IsSmall x → (v ≡ false → IsSmall y) → IsSmall next
+  choose : (p l a v : Bool) (e f g : DecodeError) (x y next : Leftover)
+      → cond p (cond l (Err e) (Ok x)) (cond a (Err f) (cond v (Err g) (Ok y))) ≡ Ok next → IsSmall x
+      → (v ≡ false → IsSmall y) → IsSmall next
   choose true true a v e f g x y next h sx sy = absurd cc
   choose true false a v e f g x y next h sx sy = let same : x ≡ next = cc in subst IsSmall same sx
   choose false l true v e f g x y next h sx sy = absurd cc
   choose false l false true e f g x y next h sx sy = absurd cc
   choose false l false false e f g x y next h sx sy = let same : y ≡ next = cc in subst IsSmall same (sy refl)
 
-  push_small : (pad at i b : ℕ) (st next : Leftover) → push_leftover dec pad at st i b ≡ Ok next → IsSmall st → IsSmall next
+  push_small : (pad at i b : ℕ) (st next : Leftover) → push_leftover dec pad at st i b ≡ Ok next → IsSmall st
+      → IsSmall next
   push_small pad at i b st next h small =
       choose (b == pad) (nat_lt i 2) (nat_lt 0 st.padding_count) (slice_index dec b == 255) _ _ _ _ _ next h small
       (λ e k. set_small st.morsels st.morsels_count (slice_index dec b) k small (symbol_small b e))
@@ -121,16 +135,20 @@ module _ (dec : List ℕ) (table : IsDecodeTable dec) (size : length dec ≡ 256
   push_all (Ok st) h = h st refl
   push_all (Err e) h = tt
 
-  scan_all : (pad at i : ℕ) (bs : List ℕ) (r : Result Leftover DecodeError) → AllSmall r → AllSmall (scan_steps dec pad at r i bs)
+  scan_all : (pad at i : ℕ) (bs : List ℕ) (r : Result Leftover DecodeError) → AllSmall r
+      → AllSmall (scan_steps dec pad at r i bs)
   unfolding scan_steps
   scan_all pad at i bs (Err e) h = tt
   scan_all pad at i [] (Ok st) h = h
-  scan_all pad at i (b ∷ bs) (Ok st) h = scan_all pad at (i + 1) bs (push_leftover dec pad at st i b) (push_all _ (λ next e. push_small pad at i b st next e h))
+  scan_all pad at i (b ∷ bs) (Ok st) h =
+      scan_all pad at (i + 1) bs (push_leftover dec pad at st i b)
+      (push_all _ (λ next e. push_small pad at i b st next e h))
 
   left_bytes : (r : Result Leftover DecodeError) → AllSmall r → IsBytes (scan_bytes r)
   left_bytes (Ok st) h =
       let m = λ (k : ℕ). slice_index st.morsels k in
-      first_bytes (st.morsels_count * 6 / 8) (decode_group (m 0) (m 1) (m 2) (m 3)) (group_is (m 0) (m 1) (m 2) (m 3) (h 0) (h 1) (h 2) (h 3))
+      first_bytes (st.morsels_count * 6 / 8) (decode_group (m 0) (m 1) (m 2) (m 3))
+      (group_is (m 0) (m 1) (m 2) (m 3) (h 0) (h 1) (h 2) (h 3))
   left_bytes (Err e) h = no_bytes
 
   none_small : IsSmall no_leftover
@@ -147,9 +165,13 @@ pub base64_bytes : (s bytes : List ℕ) → decode_of standard s ≡ Ok bytes �
 base64_bytes s bytes h =
     let dec = standard.decode_table in
     let pad = standard.padding.value in
-    let table = IsDecodeTable_from standard.encode_table dec (are_tables_inverse standard.encode_table dec pad standard.tables) in
+    let table =
+    IsDecodeTable_from standard.encode_table dec
+    (are_tables_inverse standard.encode_table dec pad standard.tables) in
     let p = outcome_ok _ _ bytes h in
     let parts = or_else_none _ _ p.0 in
     let g = or_else_none (groups_error dec s (groups_before_last (length s))) _ parts.1 in
     let q = groups_before_last (length s) in
-    subst IsBytes p.1 (joined_bytes (groups_bytes dec s q) (suffix_bytes dec pad (4 * q) s) (groups_are dec table refl s q g.0) (suffix_is dec table refl pad (4 * q) s))
+    subst IsBytes p.1
+    (joined_bytes (groups_bytes dec s q) (suffix_bytes dec pad (4 * q) s) (groups_are dec table refl s q g.0)
+    (suffix_is dec table refl pad (4 * q) s))

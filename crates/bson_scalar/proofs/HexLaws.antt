@@ -1,5 +1,6 @@
 -- What the kit reads in a text of hexadecimal digits is what the text says.
-use Rattle.std.proofs.Common.{◌≡◌, inl, inr, ℕ, ◌+◌, ◌*◌, ◌%◌, List, [], ◌∷◌, length, Option, Some, None, Result, Ok, Err, refl, sym, ap, ◌∙◌, subst, arith}
+use Rattle.std.proofs.Common.{◌≡◌, inl, inr, ℕ, ◌+◌, ◌*◌, ◌%◌, List, [], ◌∷◌, length, Option, Some, None, Result, Ok}
+use Rattle.std.proofs.Common.{Err, refl, sym, ap, ◌∙◌, subst, arith}
 use Rattle.std.specs.Result.{result_unwrap_or}
 use Rattle.std.proofs.lemmas.Bool.Decides.{nat_tests}
 use Rattle.hex.specs.declared.error.FromHexError.{FromHexError}
@@ -19,7 +20,8 @@ digit_to c v (inr (least, most, inr is)) = grind (arith, nat_tests, least, most,
 
 -- ---- a text
 
-then_ok : {A B : Type 0} (r : Result A FromHexError) (f : A → Result B FromHexError) (y : B) → (r >>= f) ≡ Ok y → (x : A) × (r ≡ Ok x) × (f x ≡ Ok y)
+then_ok : {A B : Type 0} (r : Result A FromHexError) (f : A → Result B FromHexError) (y : B) → (r >>= f) ≡ Ok y
+    → (x : A) × (r ≡ Ok x) × (f x ≡ Ok y)
 then_ok (Ok x) f y h = (x, refl, h)
 then_ok (Err e) f y h = cc h
 
@@ -56,7 +58,8 @@ pub twice : {text bytes : List ℕ} → IsHexText text bytes → length text ≡
 twice nothing = refl
 twice (pair high low c d text bytes first second rest) = omega (arith, twice rest)
 
-pub sized_from : (n : ℕ) (text bytes : List ℕ) → decode_sized text n ≡ Ok bytes → IsHexText text bytes × (length bytes ≡ n)
+pub sized_from : (n : ℕ) (text bytes : List ℕ) → decode_sized text n ≡ Ok bytes
+    → IsHexText text bytes × (length bytes ≡ n)
 sized_from n text bytes h =
     let long = decode_sized-ok text n bytes h in
     let even : length text % 2 ≡ 0 = omega (arith, long) in

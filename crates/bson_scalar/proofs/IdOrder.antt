@@ -1,5 +1,6 @@
 -- The order of bytes is that of big-endian numbers.
-use Rattle.std.proofs.Common.{◌≡◌, ℕ, suc, ◌+◌, ◌*◌, ◌^◌, ◌<◌, ◌≤◌, List, [], ◌∷◌, length, inl, inr, refl, sym, ◌∙◌, arith, nat_cmp}
+use Rattle.std.proofs.Common.{◌≡◌, ℕ, suc, ◌+◌, ◌*◌, ◌^◌, ◌<◌, ◌≤◌, List, [], ◌∷◌, length, inl, inr, refl, sym, ◌∙◌}
+use Rattle.std.proofs.Common.{arith, nat_cmp}
 use Rattle.std.proofs.lemmas.Bool.{cases_order}
 use Rattle.std.proofs.lemmas.Int.{ints}
 use Rattle.std.proofs.Math.Nat.{mul-le-mul_right, pow-suc}
@@ -16,7 +17,12 @@ be_number-bound [] h = omega arith
 be_number-bound (x ∷ xs) h =
     let small : x < 256 = h 0 in
     let le : x ≤ 255 = omega arith in
-    omega (arith, pow-suc 256 (length xs), mul-le-mul_right (256 ^ length xs) le, be_number-bound xs (tail_bytes x xs h))
+    omega (
+      arith,
+      pow-suc 256 (length xs),
+      mul-le-mul_right (256 ^ length xs) le,
+      be_number-bound xs (tail_bytes x xs h),
+    )
 
 cmp-below : (a b : ℕ) → a < b → nat_cmp a b ≡ Less
 cmp-below a b h = grind (arith, ints)
@@ -41,7 +47,8 @@ first_below x y p a b h s =
     let le : suc x ≤ y = omega arith in
     omega (arith, mul-le-mul_right p le)
 
-pub slice_cmp-be_number : (a b : List ℕ) → length a ≡ length b → IsBytes a → IsBytes b → slice_cmp nat_cmp a b ≡ nat_cmp (be_number a) (be_number b)
+pub slice_cmp-be_number : (a b : List ℕ) → length a ≡ length b → IsBytes a → IsBytes b
+    → slice_cmp nat_cmp a b ≡ nat_cmp (be_number a) (be_number b)
 unfolding be_number
 slice_cmp-be_number [] [] e ha hb = refl
 slice_cmp-be_number [] (y ∷ ys) e ha hb = absurd (omega arith)
@@ -54,10 +61,12 @@ slice_cmp-be_number (x ∷ xs) (y ∷ ys) e ha hb =
     elim (cases_order x y) [
       | inl same ↦ rw (same, cmp-same y, len) (ih ∙ sym (cmp-add (y * 256 ^ length ys) (be_number xs) (be_number ys)))
       | inr (inl lt) ↦
-          let less : x * 256 ^ length xs + be_number xs < y * 256 ^ length ys + be_number ys = rw (← len) (first_below x y (256 ^ length xs) (be_number xs) (be_number ys) lt bx) in
+          let less : x * 256 ^ length xs + be_number xs < y * 256 ^ length ys + be_number ys =
+          rw (← len) (first_below x y (256 ^ length xs) (be_number xs) (be_number ys) lt bx) in
           rw (cmp-below x y lt) (sym (cmp-below _ _ less))
       | inr (inr gt) ↦
-          let more : y * 256 ^ length ys + be_number ys < x * 256 ^ length xs + be_number xs = rw len (first_below y x (256 ^ length ys) (be_number ys) (be_number xs) gt by') in
+          let more : y * 256 ^ length ys + be_number ys < x * 256 ^ length xs + be_number xs =
+          rw len (first_below y x (256 ^ length ys) (be_number ys) (be_number xs) gt by') in
           rw (cmp-above x y gt) (sym (cmp-above _ _ more))
     ]
 

@@ -1,5 +1,6 @@
 -- The order of an id's bytes is that of its numbers, part by part.
-use Rattle.std.proofs.Common.{◌≡◌, ℕ, suc, zero, ◌<◌, List, [], ◌∷◌, length, get_or, take, drop, refl, sym, ap, ap₂, ◌∙◌, arith, nat_cmp, min}
+use Rattle.std.proofs.Common.{◌≡◌, ℕ, suc, zero, ◌<◌, List, [], ◌∷◌, length, get_or, take, drop, refl, sym, ap, ap₂}
+use Rattle.std.proofs.Common.{◌∙◌, arith, nat_cmp, min}
 use Rattle.std.proofs.lemmas.List.{length-take, length-drop}
 use Rattle.std.specs.Cmp.Lexicographic.{slice_cmp}
 use Rattle.std.specs.Ordering.{ordering_then}
@@ -15,7 +16,8 @@ then-assoc Greater b c = refl
 
 -- lists of one length compare by their first n elements, and then by the rest
 slice_cmp-cut : (n : ℕ) (a b : List ℕ) → length a ≡ length b
-    → slice_cmp nat_cmp a b ≡ ordering_then (slice_cmp nat_cmp (take n a) (take n b)) (slice_cmp nat_cmp (drop n a) (drop n b))
+    → slice_cmp nat_cmp a b ≡ ordering_then (slice_cmp nat_cmp (take n a) (take n b))
+    (slice_cmp nat_cmp (drop n a) (drop n b))
 slice_cmp-cut zero a b e = refl
 slice_cmp-cut (suc n) [] [] e = refl
 slice_cmp-cut (suc n) [] (y ∷ ys) e = absurd (omega arith)
@@ -44,7 +46,8 @@ same-take n a b e = length-take n a ∙ ap (min n) e ∙ sym (length-take n b)
 
 first : (n : ℕ) (a b : List ℕ) → length a ≡ length b → IsBytes a → IsBytes b
     → slice_cmp nat_cmp (take n a) (take n b) ≡ nat_cmp (be_number (take n a)) (be_number (take n b))
-first n a b e ha hb = slice_cmp-be_number (take n a) (take n b) (same-take n a b e) (IsBytes-take n a ha) (IsBytes-take n b hb)
+first n a b e ha hb =
+    slice_cmp-be_number (take n a) (take n b) (same-take n a b e) (IsBytes-take n a ha) (IsBytes-take n b hb)
 
 pub slice_cmp-id_order : (a b : List ℕ) → IsObjectId a → IsObjectId b → slice_cmp nat_cmp a b ≡ id_order a b
 slice_cmp-id_order a b ha hb =
@@ -52,5 +55,9 @@ slice_cmp-id_order a b ha hb =
     let len-4 = same-drop 4 a b len in
     let bytes-a = IsBytes-drop 4 a ha.1 in
     let bytes-b = IsBytes-drop 4 b hb.1 in
-    let counter = slice_cmp-be_number (drop 5 (drop 4 a)) (drop 5 (drop 4 b)) (same-drop 5 _ _ len-4) (IsBytes-drop 5 _ bytes-a) (IsBytes-drop 5 _ bytes-b) in
-    slice_cmp-cut 4 a b len ∙ ap₂ ordering_then (first 4 a b len ha.1 hb.1) (slice_cmp-cut 5 (drop 4 a) (drop 4 b) len-4 ∙ ap₂ ordering_then (first 5 (drop 4 a) (drop 4 b) len-4 bytes-a bytes-b) counter)
+    let counter =
+    slice_cmp-be_number (drop 5 (drop 4 a)) (drop 5 (drop 4 b)) (same-drop 5 _ _ len-4) (IsBytes-drop 5 _ bytes-a)
+    (IsBytes-drop 5 _ bytes-b) in
+    slice_cmp-cut 4 a b len
+    ∙ ap₂ ordering_then (first 4 a b len ha.1 hb.1) (slice_cmp-cut 5 (drop 4 a) (drop 4 b) len-4
+    ∙ ap₂ ordering_then (first 5 (drop 4 a) (drop 4 b) len-4 bytes-a bytes-b) counter)

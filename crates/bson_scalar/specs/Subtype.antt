@@ -1,7 +1,9 @@
 -- Bytes of binary subtypes.
 use Rattle.std.specs.Prelude.{ℕ, ◌==◌, nat_lt, if◌then◌else◌}
 use Rattle.bson_scalar.specs.declared.spec.BinarySubtype.{BinarySubtype}
-use Rattle.bson_scalar.specs.declared.spec.BinarySubtype.TheVariants.{Generic, Function, BinaryOld, UuidOld, Uuid, Md5, Encrypted, Column, Sensitive, Vector, Reserved, UserDefined}
+use Rattle.bson_scalar.specs.declared.spec.BinarySubtype.TheVariants.{Generic, Function, BinaryOld, UuidOld, Uuid, Md5}
+use Rattle.bson_scalar.specs.declared.spec.BinarySubtype.TheVariants.{Encrypted, Column, Sensitive, Vector, Reserved}
+use Rattle.bson_scalar.specs.declared.spec.BinarySubtype.TheVariants.{UserDefined}
 
 abbrev pub subtype_byte : BinarySubtype → ℕ
 subtype_byte Generic = 0

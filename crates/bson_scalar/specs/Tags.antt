@@ -1,7 +1,11 @@
 -- The tags of elements (BSON 1.1).
 use Rattle.std.specs.Prelude.{ℕ}
 use Rattle.bson_scalar.specs.declared.spec.ElementType.{ElementType}
-use Rattle.bson_scalar.specs.declared.spec.ElementType.TheVariants.{Double, String, EmbeddedDocument, Array, Binary, Undefined, ObjectId, Boolean, DateTime, Null, RegularExpression, DbPointer, JavaScriptCode, Symbol, JavaScriptCodeWithScope, Int32, Timestamp, Int64, Decimal128, MaxKey, MinKey}
+use Rattle.bson_scalar.specs.declared.spec.ElementType.TheVariants.{Double, String, EmbeddedDocument, Array, Binary}
+use Rattle.bson_scalar.specs.declared.spec.ElementType.TheVariants.{Undefined, ObjectId, Boolean, DateTime, Null}
+use Rattle.bson_scalar.specs.declared.spec.ElementType.TheVariants.{RegularExpression, DbPointer, JavaScriptCode}
+use Rattle.bson_scalar.specs.declared.spec.ElementType.TheVariants.{Symbol, JavaScriptCodeWithScope, Int32, Timestamp}
+use Rattle.bson_scalar.specs.declared.spec.ElementType.TheVariants.{Int64, Decimal128, MaxKey, MinKey}
 
 abbrev pub tag_of : ElementType → ℕ
 tag_of Double = 0x01

@@ -1,10 +1,12 @@
 //! Object ids (BSON 1.1, type 0x07), and their texts of 24 hexadecimal digits.
-ghost use Rattle.std.specs.Prelude.{◌≡◌, ◌++◌, ℕ, List, Ok, Some, IfOk, IfErr, length, not, string_bytes};
+ghost use Rattle.std.specs.Prelude.{◌≡◌, ◌++◌, ℕ, List, Ok, Some, IfOk, IfErr, length, not};
+ghost use Rattle.std.specs.Prelude.{string_bytes};
 ghost use Rattle.std.specs.Cmp.Lexicographic.{nat_list_cmp_total, slice_cmp, texts_po, texts_ties};
 ghost use Rattle.std.specs.Int.{w32, to_be_bytes};
 ghost use Rattle.std.specs.Ordering.{nat_cmp};
 ghost use Rattle.std.proofs.Common.{refl};
-ghost use Rattle.bson_scalar.specs.Oid.{IsObjectId, IsOidText, BadLength, bad_place, encode_lower, fault_at, is_hex_digit, oid_fault, oid_millis};
+ghost use Rattle.bson_scalar.specs.Oid.{IsObjectId, IsOidText, BadLength, bad_place, encode_lower};
+ghost use Rattle.bson_scalar.specs.Oid.{fault_at, is_hex_digit, oid_fault, oid_millis};
 ghost use Rattle.bson_scalar.specs.OidFault.{IsOidError};
 
 use bson_datetime::DateTime;
@@ -23,8 +25,8 @@ use std::marker::Model;
 /// ```
 #[derive(Debug, Drop, thiserror::Error)]
 pub enum Error {
-    /// The first byte that is no hexadecimal digit: the character whose number is that byte, and its
-    /// place, counted in bytes from 0.
+    /// The first byte that is no hexadecimal digit: the character whose number is that byte, and
+    /// its place, counted in bytes from 0.
     #[error("the character '{c}' at {index} in \"{hex}\" is no hexadecimal digit")]
     InvalidHexStringCharacter {
         /// The character whose number is the byte.

@@ -125,8 +125,8 @@ impl ElementType {
 /// What the bytes of a binary are.
 ///
 /// Each byte names one subtype, and comes back from it. `Reserved` and `UserDefined` can be built
-/// with any byte, which they are then written as, while the byte reads as the subtype that it names:
-/// `UserDefined(0)` is written as 0x00, which reads as `Generic`. Hashing goes by the byte.
+/// with any byte, which they are then written as, while the byte reads as the subtype that it
+/// names: `UserDefined(0)` is written as 0x00, which reads as `Generic`. Hashing goes by the byte.
 ///
 /// ```
 /// let subtype = BinarySubtype::from(0x80);

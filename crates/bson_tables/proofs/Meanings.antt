@@ -40,20 +40,24 @@ least_int32_row = row _ _ refl
 below_int32_row : Means (tree.number (negative (negsuc 2147483648))) (model.scalar (kind.int64 (negsuc 2147483648)))
 below_int32_row = row _ _ refl
 
-number_int_row : Means (object_of_one (codes "$numberInt") (tree.string (codes "+007"))) (model.scalar (kind.int32 (pos 7)))
+number_int_row : Means (object_of_one (codes "$numberInt") (tree.string (codes "+007")))
+    (model.scalar (kind.int32 (pos 7)))
 unfolding Rattle.bson_wrapper.specs.Reading.int_of
 number_int_row = row _ _ refl
 
-number_int_minus_row : Means (object_of_one (codes "$numberInt") (tree.string (codes "-1"))) (model.scalar (kind.int32 (negsuc 0)))
+number_int_minus_row : Means (object_of_one (codes "$numberInt") (tree.string (codes "-1")))
+    (model.scalar (kind.int32 (negsuc 0)))
 unfolding Rattle.bson_wrapper.specs.Reading.int_of
 number_int_minus_row = row _ _ refl
 
-number_long_row : Means (object_of_one (codes "$numberLong") (tree.string (codes "7"))) (model.scalar (kind.int64 (pos 7)))
+number_long_row : Means (object_of_one (codes "$numberLong") (tree.string (codes "7")))
+    (model.scalar (kind.int64 (pos 7)))
 unfolding Rattle.bson_wrapper.specs.Reading.int_of
 number_long_row = row _ _ refl
 
 abbrev MeansDouble : List ℕ → ℕ → Type 0
-MeansDouble text bits = Means (object_of_one (codes "$numberDouble") (tree.string text)) (model.scalar (kind.double bits))
+MeansDouble text bits =
+    Means (object_of_one (codes "$numberDouble") (tree.string text)) (model.scalar (kind.double bits))
 
 -- the doubles that are written as texts: zeros, infinities and NaNs, with their bits (IEEE 754, binary64)
 double_rows : MeansDouble (codes "0.0") 0
@@ -70,16 +74,21 @@ symbol_row = row _ _ refl
 code_row : Means (object_of_one (codes "$code") (tree.string (codes "s"))) (model.scalar (kind.code (codes "s")))
 code_row = row _ _ refl
 
-code_null_scope_row : Means (object_of_two (codes "$code") (tree.string (codes "s")) (codes "$scope") tree.null) (model.scalar (kind.code (codes "s")))
+code_null_scope_row : Means (object_of_two (codes "$code") (tree.string (codes "s")) (codes "$scope") tree.null)
+    (model.scalar (kind.code (codes "s")))
 code_null_scope_row = row _ _ refl
 
-code_scope_row : Means (object_of_two (codes "$code") (tree.string (codes "s")) (codes "$scope") (object_of_one (codes "$oid") (whole 1))) (model.code_scope (codes "s") (model.pair (codes "$oid") (model.scalar (kind.int32 (pos 1))) model.no_pairs))
+code_scope_row : Means
+    (object_of_two (codes "$code") (tree.string (codes "s")) (codes "$scope") (object_of_one (codes "$oid") (whole 1)))
+    (model.code_scope (codes "s") (model.pair (codes "$oid") (model.scalar (kind.int32 (pos 1))) model.no_pairs))
 code_scope_row = row _ _ refl
 
-timestamp_row : Means (object_of_one (codes "$timestamp") (object_of_two (codes "i") (whole 2) (codes "t") (whole 1))) (model.scalar (kind.timestamp 1 2))
+timestamp_row : Means (object_of_one (codes "$timestamp") (object_of_two (codes "i") (whole 2) (codes "t") (whole 1)))
+    (model.scalar (kind.timestamp 1 2))
 timestamp_row = row _ _ refl
 
-date_millis_row : Means (object_of_one (codes "$date") (object_of_one (codes "$numberLong") (tree.string (codes "5")))) (model.scalar (kind.date (pos 5)))
+date_millis_row : Means (object_of_one (codes "$date") (object_of_one (codes "$numberLong") (tree.string (codes "5"))))
+    (model.scalar (kind.date (pos 5)))
 unfolding Rattle.bson_wrapper.specs.Reading.int_of
 date_millis_row = row _ _ refl
 
@@ -95,34 +104,53 @@ max_key_row = row _ _ refl
 undefined_row : Means (object_of_one (codes "$undefined") (tree.boolean true)) (model.scalar kind.undefined)
 undefined_row = row _ _ refl
 
-array_row : Means (list_of_two (whole 1) tree.null) (model.array (model.value (model.scalar (kind.int32 (pos 1))) (model.value (model.scalar kind.null) model.no_values)))
+array_row : Means (list_of_two (whole 1) tree.null)
+    (model.array
+    (model.value (model.scalar (kind.int32 (pos 1))) (model.value (model.scalar kind.null) model.no_values)))
 array_row = row _ _ refl
 
-document_row : Means (object_of_two (codes "a") (whole 1) (codes "b") tree.null) (model.document (model.pair (codes "a") (model.scalar (kind.int32 (pos 1))) (model.pair (codes "b") (model.scalar kind.null) model.no_pairs)))
+document_row : Means (object_of_two (codes "a") (whole 1) (codes "b") tree.null)
+    (model.document
+    (model.pair (codes "a") (model.scalar (kind.int32 (pos 1)))
+    (model.pair (codes "b") (model.scalar kind.null) model.no_pairs)))
 document_row = row _ _ refl
 
-ordinary_key_row : Means (object_of_one (codes "$scope") (whole 1)) (model.document (model.pair (codes "$scope") (model.scalar (kind.int32 (pos 1))) model.no_pairs))
+ordinary_key_row : Means (object_of_one (codes "$scope") (whole 1))
+    (model.document (model.pair (codes "$scope") (model.scalar (kind.int32 (pos 1))) model.no_pairs))
 ordinary_key_row = row _ _ refl
 
 -- the rows of texts whose meaning other standards say
 
-regex_row : (p o : List ℕ) → Means (object_of_one (codes "$regularExpression") (object_of_two (codes "options") (tree.string o) (codes "pattern") (tree.string p))) (model.scalar (kind.regex p (sorted_text o)))
+regex_row : (p o : List ℕ)
+    → Means (object_of_one (codes "$regularExpression")
+    (object_of_two (codes "options") (tree.string o) (codes "pattern") (tree.string p)))
+    (model.scalar (kind.regex p (sorted_text o)))
 regex_row p o = scalar _ _ (means.regular_expression p o)
 
-oid_row : (s id : List ℕ) → IsOidText s id → Means (object_of_one (codes "$oid") (tree.string s)) (model.scalar (kind.object_id id))
+oid_row : (s id : List ℕ) → IsOidText s id
+    → Means (object_of_one (codes "$oid") (tree.string s)) (model.scalar (kind.object_id id))
 oid_row s id is = scalar _ _ (means.oid s id is)
 
-db_pointer_row : (n s id : List ℕ) → IsOidText s id → Means (object_of_one (codes "$dbPointer") (object_of_two (codes "$id") (object_of_one (codes "$oid") (tree.string s)) (codes "$ref") (tree.string n))) (model.scalar (kind.db_pointer n id))
+db_pointer_row : (n s id : List ℕ) → IsOidText s id
+    → Means (object_of_one (codes "$dbPointer")
+    (object_of_two (codes "$id") (object_of_one (codes "$oid") (tree.string s)) (codes "$ref") (tree.string n)))
+    (model.scalar (kind.db_pointer n id))
 db_pointer_row n s id is = scalar _ _ (means.db_pointer n s id is)
 
-binary_row : (s k bytes : List ℕ) (n : ℕ) → IsBase64 s bytes → IsByteText k n → Means (object_of_one (codes "$binary") (object_of_two (codes "base64") (tree.string s) (codes "subType") (tree.string k))) (model.scalar (kind.binary (subtype_of n) bytes))
+binary_row : (s k bytes : List ℕ) (n : ℕ) → IsBase64 s bytes → IsByteText k n
+    → Means (object_of_one (codes "$binary")
+    (object_of_two (codes "base64") (tree.string s) (codes "subType") (tree.string k)))
+    (model.scalar (kind.binary (subtype_of n) bytes))
 binary_row s k bytes n is byte = scalar _ _ (means.binary s k bytes n is byte)
 
-uuid_row : (s id : List ℕ) → IsHyphenatedText s id → Means (object_of_one (codes "$uuid") (tree.string s)) (model.scalar (kind.binary Uuid id))
+uuid_row : (s id : List ℕ) → IsHyphenatedText s id
+    → Means (object_of_one (codes "$uuid") (tree.string s)) (model.scalar (kind.binary Uuid id))
 uuid_row s id is = scalar _ _ (means.uuid s id is)
 
-date_text_row : (s : List ℕ) (z : ℤ) → Names s z → Means (object_of_one (codes "$date") (tree.string s)) (model.scalar (kind.date z))
+date_text_row : (s : List ℕ) (z : ℤ) → Names s z
+    → Means (object_of_one (codes "$date") (tree.string s)) (model.scalar (kind.date z))
 date_text_row s z is = scalar _ _ (means.date_of_text s z is)
 
-decimal_row : (s b : List ℕ) → Parses s b → Means (object_of_one (codes "$numberDecimal") (tree.string s)) (model.scalar (kind.decimal b))
+decimal_row : (s b : List ℕ) → Parses s b
+    → Means (object_of_one (codes "$numberDecimal") (tree.string s)) (model.scalar (kind.decimal b))
 decimal_row s b is = scalar _ _ (means.number_decimal s b is)

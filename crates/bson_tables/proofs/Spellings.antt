@@ -21,7 +21,8 @@ use Rattle.bson_tables.proofs.Shapes.{row, none}
 -- ---- UUIDs
 
 example : List ℕ
-example = 0xf8 ∷ 0x1d ∷ 0x4f ∷ 0xae ∷ 0x7d ∷ 0xec ∷ 0x11 ∷ 0xd0 ∷ 0xa7 ∷ 0x65 ∷ 0x00 ∷ 0xa0 ∷ 0xc9 ∷ 0x1e ∷ 0x6b ∷ 0xf6 ∷ []
+example =
+    0xf8 ∷ 0x1d ∷ 0x4f ∷ 0xae ∷ 0x7d ∷ 0xec ∷ 0x11 ∷ 0xd0 ∷ 0xa7 ∷ 0x65 ∷ 0x00 ∷ 0xa0 ∷ 0xc9 ∷ 0x1e ∷ 0x6b ∷ 0xf6 ∷ []
 
 abbrev IsExample : List ℕ → Type 0
 IsExample text = IsUuidText text example
@@ -65,7 +66,8 @@ uuid_tree text = object_of_one (codes "$uuid") (tree.string text)
 abbrev IsRefused : Data → Type 0
 IsRefused t = MeansNothing t × (fault_of t ≡ wrong_shape)
 
-wrapped_upper_case : Means (uuid_tree (codes "F81D4FAE-7DEC-11D0-A765-00A0C91E6BF6")) (model.scalar (kind.binary Uuid example))
+wrapped_upper_case : Means (uuid_tree (codes "F81D4FAE-7DEC-11D0-A765-00A0C91E6BF6"))
+    (model.scalar (kind.binary Uuid example))
 unfolding example by_index
 wrapped_upper_case = row _ _ refl
 
@@ -96,7 +98,9 @@ last_digits : padded_text (0xfb ∷ 0xff ∷ []) ≡ codes "+/8="
 last_digits = refl
 
 abbrev binary_tree : List ℕ → Data
-binary_tree text = object_of_one (codes "$binary") (object_of_two (codes "base64") (tree.string text) (codes "subType") (tree.string (codes "00")))
+binary_tree text =
+    object_of_one (codes "$binary")
+    (object_of_two (codes "base64") (tree.string text) (codes "subType") (tree.string (codes "00")))
 
 padding_of_two : Means (binary_tree (codes "Zm9vYg==")) (model.scalar (kind.binary Generic (codes "foob")))
 unfolding groups_error groups_bytes scan_steps decode_pairs

@@ -7,15 +7,23 @@ use Rattle.bson_wrapper.specs.Scalar as kind
 use Rattle.bson_model.specs.Feed.{feed}
 use Rattle.bson_model.specs.Value as model
 
-list_words : feed (model.array (model.value (model.scalar (kind.int32 (pos 1))) (model.value (model.scalar (kind.boolean true)) model.no_values))) ≡ (2 ∷ 0 ∷ 0 ∷ 0 ∷ 0 ∷ 0 ∷ 0 ∷ 0 ∷ []) ∷ (1 ∷ 0 ∷ 0 ∷ 0 ∷ []) ∷ (1 ∷ []) ∷ []
+list_words : feed
+    (model.array
+    (model.value (model.scalar (kind.int32 (pos 1))) (model.value (model.scalar (kind.boolean true)) model.no_values)))
+    ≡ (2 ∷ 0 ∷ 0 ∷ 0 ∷ 0 ∷ 0 ∷ 0 ∷ 0 ∷ []) ∷ (1 ∷ 0 ∷ 0 ∷ 0 ∷ []) ∷ (1 ∷ []) ∷ []
 unfolding le_bytes
 list_words = refl
 
-document_words : feed (model.document (model.pair (codes "b") (model.scalar kind.null) (model.pair (codes "aa") (model.scalar (kind.boolean true)) model.no_pairs))) ≡ (2 ∷ 0 ∷ 0 ∷ 0 ∷ 0 ∷ 0 ∷ 0 ∷ 0 ∷ []) ∷ codes "aa" ∷ (0xFF ∷ []) ∷ (1 ∷ []) ∷ codes "b" ∷ (0xFF ∷ []) ∷ []
+document_words : feed
+    (model.document
+    (model.pair (codes "b") (model.scalar kind.null)
+    (model.pair (codes "aa") (model.scalar (kind.boolean true)) model.no_pairs))) ≡ (2 ∷ 0 ∷ 0 ∷ 0 ∷ 0 ∷ 0 ∷ 0 ∷ 0 ∷ [])
+    ∷ codes "aa" ∷ (0xFF ∷ []) ∷ (1 ∷ []) ∷ codes "b" ∷ (0xFF ∷ []) ∷ []
 unfolding le_bytes
 document_words = refl
 
-scope_words : feed (model.code_scope (codes "s") model.no_pairs) ≡ codes "s" ∷ (0xFF ∷ []) ∷ (0 ∷ 0 ∷ 0 ∷ 0 ∷ 0 ∷ 0 ∷ 0 ∷ 0 ∷ []) ∷ []
+scope_words : feed (model.code_scope (codes "s") model.no_pairs) ≡ codes "s" ∷ (0xFF ∷ [])
+    ∷ (0 ∷ 0 ∷ 0 ∷ 0 ∷ 0 ∷ 0 ∷ 0 ∷ 0 ∷ []) ∷ []
 unfolding le_bytes
 scope_words = refl
 

@@ -1,6 +1,7 @@
-//! The rows of the tables of Extended JSON, each computed on the definitions themselves: which tree means which value
-//! (`proofs/Meanings`), why a tree means nothing (`proofs/Faults`), and the tree of a value in both forms
-//! (`proofs/Trees`); `proofs/Standards`, `proofs/Spellings` and `proofs/Dates` have the texts that other standards say,
-//! `proofs/Words` the words for a hasher, and `proofs/Displays` texts of values. A definition that is changed together
-//! with its code is refused here.
+//! The rows of the tables of Extended JSON, each computed on the definitions themselves: which tree
+//! means which value (`proofs/Meanings`), why a tree means nothing (`proofs/Faults`), and the tree
+//! of a value in both forms (`proofs/Trees`); `proofs/Standards`, `proofs/Spellings` and
+//! `proofs/Dates` have the texts that other standards say, `proofs/Words` the words for a hasher,
+//! and `proofs/Displays` texts of values. A definition that is changed together with its code is
+//! refused here.
 #![tactic(auto)]

@@ -1,8 +1,10 @@
-use Rattle.std.proofs.Common.{◌≡◌, suc, ◌/◌, get_or-take, take, ◌<◌, ◌+◌, ◌-◌, ◌*◌, ◌^◌, ◌≤◌, length, get_or, ◌∙◌, arith, length-take}
+use Rattle.std.proofs.Common.{◌≡◌, suc, ◌/◌, get_or-take, take, ◌<◌, ◌+◌, ◌-◌, ◌*◌, ◌^◌, ◌≤◌, length, get_or, ◌∙◌}
+use Rattle.std.proofs.Common.{arith, length-take}
 use Rattle.std.proofs.lemmas.List.{at_drop_all}
 use Rattle.std.proofs.Math.Nat.{mul-le-mul_right}
 use Rattle.jiff_fmt.specs.Reader.{fraction_value}
-use Rattle.bson_datetime.proofs.ReaderLemmas.{fraction_value-nil, fraction_value-drop, fraction_value-take, tenth, ten_pow-pos}
+use Rattle.bson_datetime.proofs.ReaderLemmas.{fraction_value-nil, fraction_value-drop, fraction_value-take, tenth}
+use Rattle.bson_datetime.proofs.ReaderLemmas.{ten_pow-pos}
 use Rattle.bson_datetime.proofs.rfc3339.nanoseconds.Goals as goal
 
 pub digits-preserved : goal.digits-preserved
@@ -17,7 +19,8 @@ digits-preserved c =
     let i = l.digit-index in
     let within : i < c.min.result = omega (arith, length-take c.min.result c.args.digits.now) in
     let read : get_or ds i 0 ≡ get_or c.args.digits.now i 0 = get_or-take _ _ i 0 within in
-    let digit : get_or ds i 0 - 48 ≤ 9 = omega (arith, c.requires i (omega (arith, length-take c.min.result c.args.digits.now))) in
+    let digit : get_or ds i 0 - 48 ≤ 9 =
+    omega (arith, c.requires i (omega (arith, length-take c.min.result c.args.digits.now))) in
     let worth : (get_or ds i 0 - 48) * (l.place / 10) ≤ 9 * (l.place / 10) = mul-le-mul_right _ digit in
     let step = fraction_value-drop _ j ds l.digit-index next c.digits-test.true in
     let same : (get_or ds i 0 - 48) * (l.place / 10) ≡ (get_or ds l.digit-index 0 - 48) * power = rw place in

@@ -8,8 +8,10 @@ use Rattle.bson_scalar.proofs.binary.Binary.from_base64.Goals as goal
 pub returns-in-Ok-clause-ok : goal.returns-in-Ok-clause-ok
 returns-in-Ok-clause-ok c =
     let chars = rw c.as_bytes-input.ensures.value at c.are_bytes.ensures in
-    let kept : take c.in-Ok.len c.decode_slice_unchecked.new.output ≡ c.truncate.new.self.items = grind (arith, common_steps) in
-    let decoded : decode_of standard c.args.text.now ≡ Ok (take c.in-Ok.len c.decode_slice_unchecked.new.output) = rw c.as_bytes-input.ensures.value at c.in-Ok.ensures.ok.0 in
+    let kept : take c.in-Ok.len c.decode_slice_unchecked.new.output ≡ c.truncate.new.self.items =
+    grind (arith, common_steps) in
+    let decoded : decode_of standard c.args.text.now ≡ Ok (take c.in-Ok.len c.decode_slice_unchecked.new.output) =
+    rw c.as_bytes-input.ensures.value at c.in-Ok.ensures.ok.0 in
     base64_from c.args.text.now c.truncate.new.self.items chars (decoded ∙ ap Ok kept)
 
 pub returns-in-Err-clause-err : goal.returns-in-Err-clause-err
