@@ -96,6 +96,6 @@ unfolding encode_with
 object_id_displayed = refl
 
 -- the greatest exponent, in scientific form
-decimal_text : display_text (model.scalar (kind.decimal (1 ∷ 0 ∷ 0 ∷ 0 ∷ 0 ∷ 0 ∷ 0 ∷ 0 ∷ 0 ∷ 0 ∷ 0 ∷ 0 ∷ 0 ∷ 0 ∷ 0xFE ∷ 0x5F ∷ []))) ≡ codes "1E+6111"
+greatest_exponent_displayed : display_text (model.scalar (kind.decimal (1 ∷ 0 ∷ 0 ∷ 0 ∷ 0 ∷ 0 ∷ 0 ∷ 0 ∷ 0 ∷ 0 ∷ 0 ∷ 0 ∷ 0 ∷ 0 ∷ 0xFE ∷ 0x5F ∷ []))) ≡ codes "1E+6111"
 unfolding decimal_text digits
-decimal_text = refl
+greatest_exponent_displayed = refl
