@@ -19,21 +19,27 @@ abbrev pub key_at : List Member → ℕ → Member → List ℕ
 key_at ms i d = string_bytes (get_or ms i d).0
 
 -- the keys behind a place are above the one there
-above_first : (k : List ℕ) (ms : List Member) (i : ℕ) (d : Member) → IsLeast k (gathered_pairs ms) → i < length ms → slice_cmp nat_cmp k (key_at ms i d) ≡ Less
+above_first : (k : List ℕ) (ms : List Member) (i : ℕ) (d : Member) → IsLeast k (gathered_pairs ms) → i < length ms
+    → slice_cmp nat_cmp k (key_at ms i d) ≡ Less
 above_first k [] i d a l = absurd (omega arith)
 above_first k (m ∷ ms) zero d a l = a.0
 above_first k (m ∷ ms) (suc i) d a l = above_first k ms i d a.1 (omega arith)
 
 -- what is above a member is above all before it
-after_first : (k : List ℕ) (m : Member) (ms : List Member) (i : ℕ) (d : Member) → IsLeast (string_bytes m.0) (gathered_pairs ms) → i < length ms → slice_cmp nat_cmp k (key_at ms i d) ≡ Greater → slice_cmp nat_cmp k (string_bytes m.0) ≡ Greater
+after_first : (k : List ℕ) (m : Member) (ms : List Member) (i : ℕ) (d : Member)
+    → IsLeast (string_bytes m.0) (gathered_pairs ms) → i < length ms → slice_cmp nat_cmp k (key_at ms i d) ≡ Greater
+    → slice_cmp nat_cmp k (string_bytes m.0) ≡ Greater
 after_first k m ms i d least l h =
     flipped (string_bytes m.0) k Less (nat_list_cmp_total.trans (string_bytes m.0) (key_at ms i d) k (above_first (string_bytes m.0) ms i d least l) (flipped k (key_at ms i d) Greater h))
 
-at_first : (k : List ℕ) (m : Member) (ms : List Member) (i : ℕ) (d : Member) → IsLeast (string_bytes m.0) (gathered_pairs ms) → i < length ms → slice_cmp nat_cmp k (key_at ms i d) ≡ Equal → slice_cmp nat_cmp k (string_bytes m.0) ≡ Greater
+at_first : (k : List ℕ) (m : Member) (ms : List Member) (i : ℕ) (d : Member)
+    → IsLeast (string_bytes m.0) (gathered_pairs ms) → i < length ms → slice_cmp nat_cmp k (key_at ms i d) ≡ Equal
+    → slice_cmp nat_cmp k (string_bytes m.0) ≡ Greater
 at_first k m ms i d least l h =
     flipped (string_bytes m.0) k Less (subst (λ x. slice_cmp nat_cmp (string_bytes m.0) x ≡ Less) (sym (equal_keys k (key_at ms i d) h)) (above_first (string_bytes m.0) ms i d least l))
 
-pub stands : (k : List ℕ) (ms : List Member) (i : ℕ) (d : Member) → KeysAscend (gathered_pairs ms) → i < length ms → slice_cmp nat_cmp k (key_at ms i d) ≡ Equal → StandsAt k ms i
+pub stands : (k : List ℕ) (ms : List Member) (i : ℕ) (d : Member) → KeysAscend (gathered_pairs ms) → i < length ms
+    → slice_cmp nat_cmp k (key_at ms i d) ≡ Equal → StandsAt k ms i
 stands k [] i d up l h = absurd (omega arith)
 stands k (m ∷ ms) zero d up l h = h
 stands k (m ∷ ms) (suc i) d up l h = (at_first k m ms i d up.0 (omega arith) h, stands k ms i d up.1 (omega arith) h)
@@ -46,19 +52,22 @@ pub fits_first : (k : List ℕ) (ms : List Member) → IsBelowAt k ms 0 → Fits
 fits_first k [] below = tt
 fits_first k (m ∷ ms) below = below m (omega arith)
 
-pub fits : (k : List ℕ) (ms : List Member) (i : ℕ) (d : Member) → KeysAscend (gathered_pairs ms) → i < length ms → slice_cmp nat_cmp k (key_at ms i d) ≡ Greater → IsBelowAt k ms (suc i) → FitsAt k ms (suc i)
+pub fits : (k : List ℕ) (ms : List Member) (i : ℕ) (d : Member) → KeysAscend (gathered_pairs ms) → i < length ms
+    → slice_cmp nat_cmp k (key_at ms i d) ≡ Greater → IsBelowAt k ms (suc i) → FitsAt k ms (suc i)
 fits k [] i d up l h below = absurd (omega arith)
 fits k (m ∷ ms) zero d up l h below = (h, fits_first k ms (λ e n. below e (omega arith)))
 fits k (m ∷ ms) (suc i) d up l h below = (after_first k m ms i d up.0 (omega arith) h, fits k ms i d up.1 (omega arith) h (λ e n. below e (omega arith)))
 
 -- ---- what an edit at the place does
 
-pub seen_set : (k : String Global) (v : Bson) (ms : List Member) (i : ℕ) → StandsAt (string_bytes k) ms i → gathered_pairs (set ms i (k, v)) ≡ put_pair (string_bytes k) (bson_view v) (gathered_pairs ms)
+pub seen_set : (k : String Global) (v : Bson) (ms : List Member) (i : ℕ) → StandsAt (string_bytes k) ms i
+    → gathered_pairs (set ms i (k, v)) ≡ put_pair (string_bytes k) (bson_view v) (gathered_pairs ms)
 seen_set k v [] i h = absurd h
 seen_set k v (m ∷ ms) zero h = rw h (ap (λ x. pair x (bson_view v) (gathered_pairs ms)) (equal_keys (string_bytes k) (string_bytes m.0) h))
 seen_set k v (m ∷ ms) (suc i) h = rw h.0 (ap (pair (string_bytes m.0) (bson_view m.1)) (seen_set k v ms i h.1))
 
-pub seen_insert : (k : String Global) (v : Bson) (ms : List Member) (i : ℕ) → FitsAt (string_bytes k) ms i → gathered_pairs (insert ms i (k, v)) ≡ put_pair (string_bytes k) (bson_view v) (gathered_pairs ms)
+pub seen_insert : (k : String Global) (v : Bson) (ms : List Member) (i : ℕ) → FitsAt (string_bytes k) ms i
+    → gathered_pairs (insert ms i (k, v)) ≡ put_pair (string_bytes k) (bson_view v) (gathered_pairs ms)
 seen_insert k v [] zero h = refl
 seen_insert k v [] (suc i) h = absurd h
 seen_insert k v (m ∷ ms) zero h = rw h refl
@@ -66,7 +75,8 @@ seen_insert k v (m ∷ ms) (suc i) h = rw h.0 (ap (pair (string_bytes m.0) (bson
 
 -- ---- keys that ascend are apart
 
-apart : (k : String Global) (ms : List Member) → IsLeast (string_bytes k) (gathered_pairs ms) → AllApart (string_bytes k) ms
+apart : (k : String Global) (ms : List Member) → IsLeast (string_bytes k) (gathered_pairs ms)
+    → AllApart (string_bytes k) ms
 apart k [] h = tt
 apart k (m ∷ ms) h = (nat_list_eq_equiv.symm (string_bytes m.0) (string_bytes k) ∙ sym (is_eq-slice_cmp (string_bytes k) (string_bytes m.0)) ∙ ap is_eq h.0, apart k ms h.1)
 
@@ -89,24 +99,28 @@ fits_within k (m ∷ ms) (suc i) h = omega (arith, fits_within k ms i h.1)
 
 -- ---- in an ordered map
 
-seen-match_ordering : (o : Ordering) (a b c : List Member) → gathered_pairs (match_ordering o a b c) ≡ match_ordering o (gathered_pairs a) (gathered_pairs b) (gathered_pairs c)
+seen-match_ordering : (o : Ordering) (a b c : List Member)
+    → gathered_pairs (match_ordering o a b c) ≡ match_ordering o (gathered_pairs a) (gathered_pairs b) (gathered_pairs c)
 seen-match_ordering Less a b c = refl
 seen-match_ordering Equal a b c = refl
 seen-match_ordering Greater a b c = refl
 
-pub seen_entered : (k : String Global) (v : Bson) (ms : List Member) → gathered_pairs (insert_entry string_cmp ms k v) ≡ put_pair (string_bytes k) (bson_view v) (gathered_pairs ms)
+pub seen_entered : (k : String Global) (v : Bson) (ms : List Member)
+    → gathered_pairs (insert_entry string_cmp ms k v) ≡ put_pair (string_bytes k) (bson_view v) (gathered_pairs ms)
 seen_entered k v [] = refl
 seen_entered k v (m ∷ ms) = seen-match_ordering (string_cmp k m.0) _ _ _ ∙ rw (seen_entered k v ms) refl
 
 abbrev pub Entry : Type 0
 Entry = List ℕ × Bson
 
-least_of : (k : List ℕ) (ps : List Entry) (x : Entry) (rest : List Entry) → IsLeast k (pairs_view (ps ++ x ∷ rest)) → slice_cmp nat_cmp k x.0 ≡ Less
+least_of : (k : List ℕ) (ps : List Entry) (x : Entry) (rest : List Entry) → IsLeast k (pairs_view (ps ++ x ∷ rest))
+    → slice_cmp nat_cmp k x.0 ≡ Less
 least_of k [] x rest h = h.0
 least_of k (p ∷ ps) x rest h = least_of k ps x rest h.1
 
 -- a key that is above all others goes last
-pub put_last : (ps : List Entry) (x : Entry) (rest : List Entry) → KeysAscend (pairs_view (ps ++ x ∷ rest)) → put_pair x.0 (bson_view x.1) (pairs_view ps) ≡ pairs_view (ps ++ x ∷ [])
+pub put_last : (ps : List Entry) (x : Entry) (rest : List Entry) → KeysAscend (pairs_view (ps ++ x ∷ rest))
+    → put_pair x.0 (bson_view x.1) (pairs_view ps) ≡ pairs_view (ps ++ x ∷ [])
 put_last [] x rest up = refl
 put_last (p ∷ ps) x rest up = rw (flipped p.0 x.0 Less (least_of p.0 ps x rest up.0)) (ap (pair p.0 (bson_view p.1)) (put_last ps x rest up.1))
 

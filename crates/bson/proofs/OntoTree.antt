@@ -34,12 +34,17 @@ pub onto_items-ok : (xs : List Data) → onto_items xs (Ok no_items) ≡ Ok (ite
 onto_items-ok [] = refl
 onto_items-ok (y ∷ xs) = ap (λ q. q >>= λ ds. Ok (item y ds)) (onto_items-ok xs)
 
-pub items_stop : (f : Form) (e : WriteError) (xs : List Data) (v : Value) (vs : Values) (total : Result Items Refusal) → Stops e (writes f v) → onto_items xs (writes_items f (value v vs)) ≡ total → Stops e total
+pub items_stop : (f : Form) (e : WriteError) (xs : List Data) (v : Value) (vs : Values) (total : Result Items Refusal)
+    → Stops e (writes f v) → onto_items xs (writes_items f (value v vs)) ≡ total → Stops e total
 items_stop f OutOfMemory xs v vs total h is = tt
-items_stop f FiniteDouble xs v vs total h is = sym is ∙ ap (λ r. onto_items xs (r >>= λ d. writes_items f vs >>= λ ds. Ok (item d ds))) h ∙ onto_items-err xs
+items_stop f FiniteDouble xs v vs total h is = sym is
+    ∙ ap (λ r. onto_items xs (r >>= λ d. writes_items f vs >>= λ ds. Ok (item d ds))) h ∙ onto_items-err xs
 
-pub items_step : (f : Form) (xs : List Data) (v : Value) (d : Data) (vs : Values) (total : Result Items Refusal) → writes f v ≡ Ok d → onto_items xs (writes_items f (value v vs)) ≡ total → onto_items (xs ++ d ∷ []) (writes_items f vs) ≡ total
-items_step f xs v d vs total h is = onto_items-snoc xs d (writes_items f vs) ∙ ap (λ r. onto_items xs (r >>= λ c. writes_items f vs >>= λ ds. Ok (item c ds))) (sym h) ∙ is
+pub items_step : (f : Form) (xs : List Data) (v : Value) (d : Data) (vs : Values) (total : Result Items Refusal)
+    → writes f v ≡ Ok d → onto_items xs (writes_items f (value v vs)) ≡ total
+    → onto_items (xs ++ d ∷ []) (writes_items f vs) ≡ total
+items_step f xs v d vs total h is = onto_items-snoc xs d (writes_items f vs)
+    ∙ ap (λ r. onto_items xs (r >>= λ c. writes_items f vs >>= λ ds. Ok (item c ds))) (sym h) ∙ is
 
 -- ---- a document, in its order
 
@@ -48,11 +53,13 @@ abbrev pub onto_members : Form → List Entry → Members → Result Members Ref
 onto_members f [] ms = Ok ms
 onto_members f (x ∷ xs) ms = writes f (bson_view x.1) >>= λ d. onto_members f xs (put x.0 d ms)
 
-bind_same : {A B : Type 0} (r : Result A Refusal) (f g : A → Result B Refusal) → ((x : A) → f x ≡ g x) → (r >>= f) ≡ (r >>= g)
+bind_same : {A B : Type 0} (r : Result A Refusal) (f g : A → Result B Refusal) → ((x : A) → f x ≡ g x)
+    → (r >>= f) ≡ (r >>= g)
 bind_same (Ok x) f g h = h x
 bind_same (Err e) f g h = refl
 
-bind_out : {A B C : Type 0} (r : Result A Refusal) (f : A → Result B Refusal) (g : B → Result C Refusal) → ((r >>= f) >>= g) ≡ (r >>= λ x. f x >>= g)
+bind_out : {A B C : Type 0} (r : Result A Refusal) (f : A → Result B Refusal) (g : B → Result C Refusal)
+    → ((r >>= f) >>= g) ≡ (r >>= λ x. f x >>= g)
 bind_out (Ok x) f g = refl
 bind_out (Err e) f g = refl
 
@@ -66,14 +73,17 @@ put_last f (x ∷ xs) k d ms h =
     bind_same (writes f (bson_view x.1)) _ _ (λ e. ap (onto_members f xs) (put_members_swap x.0 k e d ms (apart k x.0 h.0)) ∙ put_last f xs k d (put x.0 e ms) h.1)
     ∙ sym (bind_out (writes f (bson_view x.1)) (λ e. onto_members f xs (put x.0 e ms)) (λ ns. Ok (put k d ns)))
 
-pub onto_members-start : (f : Form) (xs : List Entry) → HasDistinctKeys xs → onto_members f xs no_members ≡ writes_pairs f (pairs_view xs)
+pub onto_members-start : (f : Form) (xs : List Entry) → HasDistinctKeys xs
+    → onto_members f xs no_members ≡ writes_pairs f (pairs_view xs)
 unfolding IsDistinct
 onto_members-start f [] h = refl
 onto_members-start f (x ∷ xs) h = bind_same (writes f (bson_view x.1)) _ _ (λ d. put_last f xs x.0 d no_members h.0 ∙ ap (λ r. r >>= λ ns. Ok (put x.0 d ns)) (onto_members-start f xs h.1))
 
-pub members_stop : (f : Form) (e : WriteError) (xs : List Entry) (x : Entry) (ms : Members) (total : Result Members Refusal) → Stops e (writes f (bson_view x.1)) → onto_members f (x ∷ xs) ms ≡ total → Stops e total
+pub members_stop : (f : Form) (e : WriteError) (xs : List Entry) (x : Entry) (ms : Members) (total : Result Members Refusal)
+    → Stops e (writes f (bson_view x.1)) → onto_members f (x ∷ xs) ms ≡ total → Stops e total
 members_stop f OutOfMemory xs x ms total h is = tt
 members_stop f FiniteDouble xs x ms total h is = sym is ∙ ap (λ r. r >>= λ d. onto_members f xs (put x.0 d ms)) h
 
-pub members_step : (f : Form) (xs : List Entry) (x : Entry) (d : Data) (ms : Members) (total : Result Members Refusal) → writes f (bson_view x.1) ≡ Ok d → onto_members f (x ∷ xs) ms ≡ total → onto_members f xs (put x.0 d ms) ≡ total
+pub members_step : (f : Form) (xs : List Entry) (x : Entry) (d : Data) (ms : Members) (total : Result Members Refusal)
+    → writes f (bson_view x.1) ≡ Ok d → onto_members f (x ∷ xs) ms ≡ total → onto_members f xs (put x.0 d ms) ≡ total
 members_step f xs x d ms total h is = ap (λ r. r >>= λ c. onto_members f xs (put x.0 c ms)) (sym h) ∙ is

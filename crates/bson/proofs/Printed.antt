@@ -30,27 +30,34 @@ use Rattle.bson.proofs.Onto.{Entry}
 abbrev pub EndsItems : Result Items Refusal → List Token → List Token → Type 0
 EndsItems w old end = (ds : Items) × (w ≡ Ok ds) × (end ≡ old ++ items_tokens (items_outline ds))
 
-pub items_more : (f : Form) (v : Value) (vs : Values) (old new end : List Token) → ((x : Data) × (writes f v ≡ Ok x) × (new ≡ old ++ tokens_of x)) → EndsItems (writes_items f vs) new end → EndsItems (writes_items f (value v vs)) old end
+pub items_more : (f : Form) (v : Value) (vs : Values) (old new end : List Token)
+    → ((x : Data) × (writes f v ≡ Ok x) × (new ≡ old ++ tokens_of x)) → EndsItems (writes_items f vs) new end
+    → EndsItems (writes_items f (value v vs)) old end
 items_more f v vs old new end p q = (
   item p.0 q.0,
   ap (λ r. r >>= λ d. writes_items f vs >>= λ ds. Ok (item d ds)) p.1 ∙ ap (λ r. r >>= λ ds. Ok (item p.0 ds)) q.1,
   in_turn old (tokens_of p.0) new (items_tokens (items_outline q.0)) end p.2 q.2,
 )
 
-pub items_here : (f : Form) (e : WriteError) (v : Value) (vs : Values) → Stops e (writes f v) → Stops e (writes_items f (value v vs))
+pub items_here : (f : Form) (e : WriteError) (v : Value) (vs : Values) → Stops e (writes f v)
+    → Stops e (writes_items f (value v vs))
 items_here f OutOfMemory v vs h = tt
 items_here f FiniteDouble v vs h = ap (λ r. r >>= λ d. writes_items f vs >>= λ ds. Ok (item d ds)) h
 
-pub items_later : (f : Form) (e : WriteError) (v : Value) (d : Data) (vs : Values) → writes f v ≡ Ok d → Stops e (writes_items f vs) → Stops e (writes_items f (value v vs))
+pub items_later : (f : Form) (e : WriteError) (v : Value) (d : Data) (vs : Values) → writes f v ≡ Ok d
+    → Stops e (writes_items f vs) → Stops e (writes_items f (value v vs))
 items_later f OutOfMemory v d vs g h = tt
-items_later f FiniteDouble v d vs g h = ap (λ r. r >>= λ c. writes_items f vs >>= λ ds. Ok (item c ds)) g ∙ ap (λ r. r >>= λ ds. Ok (item d ds)) h
+items_later f FiniteDouble v d vs g h = ap (λ r. r >>= λ c. writes_items f vs >>= λ ds. Ok (item c ds)) g
+    ∙ ap (λ r. r >>= λ ds. Ok (item d ds)) h
 
 -- ---- documents whose keys ascend
 
 abbrev pub EndsMembers : Result Members Refusal → List Token → List Token → Type 0
 EndsMembers w old end = (ms : Members) × (w ≡ Ok ms) × (end ≡ old ++ members_tokens (members_outline ms))
 
-pub members_more : (f : Form) (k : List ℕ) (v : Value) (ps : Pairs) (old near new end : List Token) → near ≡ old ++ key k ∷ [] → ((x : Data) × (writes f v ≡ Ok x) × (new ≡ near ++ tokens_of x)) → EndsMembers (writes_in_order f ps) new end
+pub members_more : (f : Form) (k : List ℕ) (v : Value) (ps : Pairs) (old near new end : List Token)
+    → near ≡ old ++ key k ∷ [] → ((x : Data) × (writes f v ≡ Ok x) × (new ≡ near ++ tokens_of x))
+    → EndsMembers (writes_in_order f ps) new end
     → EndsMembers (writes_in_order f (pair k v ps)) old end
 members_more f k v ps old near new end n p q = (
   member k p.0 q.0,
@@ -58,15 +65,19 @@ members_more f k v ps old near new end n p q = (
   in_turn old (key k ∷ []) near (tokens_of p.0 ++ members_tokens (members_outline q.0)) end n (in_turn near (tokens_of p.0) new (members_tokens (members_outline q.0)) end p.2 q.2),
 )
 
-pub members_here : (f : Form) (e : WriteError) (k : List ℕ) (v : Value) (ps : Pairs) → Stops e (writes f v) → Stops e (writes_in_order f (pair k v ps))
+pub members_here : (f : Form) (e : WriteError) (k : List ℕ) (v : Value) (ps : Pairs) → Stops e (writes f v)
+    → Stops e (writes_in_order f (pair k v ps))
 members_here f OutOfMemory k v ps h = tt
 members_here f FiniteDouble k v ps h = ap (λ r. r >>= λ d. writes_in_order f ps >>= λ ms. Ok (member k d ms)) h
 
-pub members_later : (f : Form) (e : WriteError) (k : List ℕ) (v : Value) (d : Data) (ps : Pairs) → writes f v ≡ Ok d → Stops e (writes_in_order f ps) → Stops e (writes_in_order f (pair k v ps))
+pub members_later : (f : Form) (e : WriteError) (k : List ℕ) (v : Value) (d : Data) (ps : Pairs) → writes f v ≡ Ok d
+    → Stops e (writes_in_order f ps) → Stops e (writes_in_order f (pair k v ps))
 members_later f OutOfMemory k v d ps g h = tt
-members_later f FiniteDouble k v d ps g h = ap (λ r. r >>= λ c. writes_in_order f ps >>= λ ms. Ok (member k c ms)) g ∙ ap (λ r. r >>= λ ms. Ok (member k d ms)) h
+members_later f FiniteDouble k v d ps g h = ap (λ r. r >>= λ c. writes_in_order f ps >>= λ ms. Ok (member k c ms)) g
+    ∙ ap (λ r. r >>= λ ms. Ok (member k d ms)) h
 
-bind_same : {A B : Type 0} (r : Result A Refusal) (f g : A → Result B Refusal) → ((x : A) → f x ≡ g x) → (r >>= f) ≡ (r >>= g)
+bind_same : {A B : Type 0} (r : Result A Refusal) (f g : A → Result B Refusal) → ((x : A) → f x ≡ g x)
+    → (r >>= f) ≡ (r >>= g)
 bind_same (Ok x) f g h = h x
 bind_same (Err e) f g h = refl
 
@@ -78,7 +89,8 @@ put_first k l d h (Ok e) (Err x) = refl
 put_first k l d h (Err x) b = refl
 
 -- the map of a document whose keys ascend has its members in the document's order
-pub in_turn_is : (f : Form) (xs : List Entry) → KeysAscend (keys xs) → writes_in_order f (pairs_view xs) ≡ writes_pairs f (pairs_view xs)
+pub in_turn_is : (f : Form) (xs : List Entry) → KeysAscend (keys xs)
+    → writes_in_order f (pairs_view xs) ≡ writes_pairs f (pairs_view xs)
 in_turn_is f [] h = refl
 in_turn_is f (x ∷ []) h = refl
 in_turn_is f (x ∷ y ∷ ys) h =
@@ -112,14 +124,16 @@ written_put f k v (e ∷ es) h =
     ] refl h
 
 -- the map of a document has its members by ascending key
-pub by_key_is : (f : Form) (ps : List Entry) → HasDistinctKeys ps → writes_in_order f (pairs_view (in_order ps)) ≡ writes_pairs f (pairs_view ps)
+pub by_key_is : (f : Form) (ps : List Entry) → HasDistinctKeys ps
+    → writes_in_order f (pairs_view (in_order ps)) ≡ writes_pairs f (pairs_view ps)
 unfolding IsDistinct
 by_key_is f [] d = refl
 by_key_is f (p ∷ ps) d =
     written_put f p.0 p.1 (in_order ps) (find-in_order p.0 ps ∙ lacks p.0 ps d.0)
     ∙ bind_same (writes f (bson_view p.1)) _ _ (λ x. ap (λ r. r >>= λ ms. Ok (put p.0 x ms)) (by_key_is f ps d.1))
 
-ranged_put : (k : List ℕ) (v : Bson) (es : List Entry) → find key_cmp k es ≡ None → PairsInRange (pairs_view (put_entry key_cmp k v es)) → InRange (bson_view v) × PairsInRange (pairs_view es)
+ranged_put : (k : List ℕ) (v : Bson) (es : List Entry) → find key_cmp k es ≡ None
+    → PairsInRange (pairs_view (put_entry key_cmp k v es)) → InRange (bson_view v) × PairsInRange (pairs_view es)
 ranged_put k v [] h r = r
 ranged_put k v (e ∷ es) h r =
     elim (key_cmp k e.0) as (λ o. cond (is_eq o) (Some e.1) (find key_cmp k es) ≡ None → PairsInRange (pairs_view (by_order o ((k, v) ∷ e ∷ es) ((e.0, v) ∷ es) (e ∷ put_entry key_cmp k v es))) → InRange (bson_view v) × (InRange (bson_view e.1) × PairsInRange (pairs_view es))) [
@@ -128,7 +142,8 @@ ranged_put k v (e ∷ es) h r =
       | Greater ↦ λ n r. let rest = ranged_put k v es n r.1 in (rest.0, (r.0, rest.1))
     ] h r
 
-pub ranged_by_key : (ps : List Entry) → HasDistinctKeys ps → PairsInRange (pairs_view (in_order ps)) → PairsInRange (pairs_view ps)
+pub ranged_by_key : (ps : List Entry) → HasDistinctKeys ps → PairsInRange (pairs_view (in_order ps))
+    → PairsInRange (pairs_view ps)
 unfolding IsDistinct
 ranged_by_key [] d r = tt
 ranged_by_key (p ∷ ps) d r =
@@ -138,14 +153,18 @@ ranged_by_key (p ∷ ps) d r =
 -- ---- one more pair of what is left
 
 module _ (left rest : List Entry) (k : List ℕ) (v : Bson) (here : left ≡ (k, v) ∷ rest) where
-  pub ends_more : (f : Form) (old near new end : List Token) → near ≡ old ++ key k ∷ [] → ((x : Data) × (writes f (bson_view v) ≡ Ok x) × (new ≡ near ++ tokens_of x)) → EndsMembers (writes_in_order f (pairs_view rest)) new end
+  pub ends_more : (f : Form) (old near new end : List Token) → near ≡ old ++ key k ∷ []
+      → ((x : Data) × (writes f (bson_view v) ≡ Ok x) × (new ≡ near ++ tokens_of x))
+      → EndsMembers (writes_in_order f (pairs_view rest)) new end
       → EndsMembers (writes_in_order f (pairs_view left)) old end
   ends_more f old near new end n p h = subst (λ (xs : List Entry). EndsMembers (writes_in_order f (pairs_view xs)) old end) (sym here) (members_more f k (bson_view v) (pairs_view rest) old near new end n p h)
 
-  pub stops_here : (f : Form) (e : WriteError) → Stops e (writes f (bson_view v)) → Stops e (writes_in_order f (pairs_view left))
+  pub stops_here : (f : Form) (e : WriteError) → Stops e (writes f (bson_view v))
+      → Stops e (writes_in_order f (pairs_view left))
   stops_here f e h = subst (λ (xs : List Entry). Stops e (writes_in_order f (pairs_view xs))) (sym here) (members_here f e k (bson_view v) (pairs_view rest) h)
 
-  pub stops_more : (f : Form) (e : WriteError) (d : Data) → writes f (bson_view v) ≡ Ok d → Stops e (writes_in_order f (pairs_view rest)) → Stops e (writes_in_order f (pairs_view left))
+  pub stops_more : (f : Form) (e : WriteError) (d : Data) → writes f (bson_view v) ≡ Ok d
+      → Stops e (writes_in_order f (pairs_view rest)) → Stops e (writes_in_order f (pairs_view left))
   stops_more f e d p h = subst (λ (xs : List Entry). Stops e (writes_in_order f (pairs_view xs))) (sym here) (members_later f e k (bson_view v) d (pairs_view rest) p h)
 
   pub ranged_more : InRange (bson_view v) → PairsInRange (pairs_view rest) → PairsInRange (pairs_view left)
@@ -153,7 +172,9 @@ module _ (left rest : List Entry) (k : List ℕ) (v : Bson) (here : left ≡ (k,
 
 -- ---- code with a scope
 
-pub scoped : (f : Form) (s : List ℕ) (ps : Pairs) (old mid near new : List Token) → mid ≡ old ++ code_tokens s → ((x : Members) × (writes_pairs f ps ≡ Ok x) × (near ≡ mid ++ tokens_of (object x))) → new ≡ near ++ end_object ∷ []
+pub scoped : (f : Form) (s : List ℕ) (ps : Pairs) (old mid near new : List Token) → mid ≡ old ++ code_tokens s
+    → ((x : Members) × (writes_pairs f ps ≡ Ok x) × (near ≡ mid ++ tokens_of (object x)))
+    → new ≡ near ++ end_object ∷ []
     → (t : Data) × (writes f (code_scope s ps) ≡ Ok t) × (new ≡ old ++ tokens_of t)
 scoped f s ps old mid near new m p n = (
   _,
@@ -167,13 +188,15 @@ scoped f s ps old mid near new m p n = (
 abbrev pub AscendsTo : List (List ℕ) → ℕ → Type 0
 AscendsTo ks at = (i : ℕ) (k l : List ℕ) → suc i < at → slice_get ks i ≡ Some k → slice_get ks (suc i) ≡ Some l → key_cmp k l ≡ Less
 
-next_at : (ks : List (List ℕ)) (i : ℕ) (a b k l : List ℕ) → Some a ≡ slice_get ks i → Some b ≡ slice_get ks (suc i) → key_cmp a b ≡ Less → slice_get ks i ≡ Some k → slice_get ks (suc i) ≡ Some l → key_cmp k l ≡ Less
+next_at : (ks : List (List ℕ)) (i : ℕ) (a b k l : List ℕ) → Some a ≡ slice_get ks i → Some b ≡ slice_get ks (suc i)
+    → key_cmp a b ≡ Less → slice_get ks i ≡ Some k → slice_get ks (suc i) ≡ Some l → key_cmp k l ≡ Less
 next_at ks i a b k l p q h x y =
     let one : a ≡ k = cc in
     let two : b ≡ l = cc in
     subst (λ z. key_cmp z l ≡ Less) one (subst (λ z. key_cmp a z ≡ Less) two h)
 
-pub ascends_more : (ks : List (List ℕ)) (at : ℕ) (a b : List ℕ) → 1 ≤ at → Some a ≡ slice_get ks (at - 1) → Some b ≡ slice_get ks at → key_cmp a b ≡ Less → AscendsTo ks at → AscendsTo ks (at + 1)
+pub ascends_more : (ks : List (List ℕ)) (at : ℕ) (a b : List ℕ) → 1 ≤ at → Some a ≡ slice_get ks (at - 1)
+    → Some b ≡ slice_get ks at → key_cmp a b ≡ Less → AscendsTo ks at → AscendsTo ks (at + 1)
 ascends_more ks at a b one p q h before i k l inside x y =
     elim (eq-or-lt_of_le {n = suc i} {m = at} (omega arith)) [
       | inl e ↦

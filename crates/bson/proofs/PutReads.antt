@@ -22,13 +22,15 @@ parts k (Err e) s ps h = cc
 parts k (Ok v) (Err e) ps h = cc
 parts k (Ok v) (Ok qs) ps h = (v, qs, refl, refl, cc)
 
-put_at : (o : Ordering) (k l : List ℕ) (d e : Data) (v w : Value) (ms : Members) (qs : Pairs) → reads d ≡ Ok v → reads e ≡ Ok w → reads_members ms ≡ Ok qs → reads_members (put k d ms) ≡ Ok (put_pair k v qs)
+put_at : (o : Ordering) (k l : List ℕ) (d e : Data) (v w : Value) (ms : Members) (qs : Pairs) → reads d ≡ Ok v
+    → reads e ≡ Ok w → reads_members ms ≡ Ok qs → reads_members (put k d ms) ≡ Ok (put_pair k v qs)
     → reads_members (match_ordering o (member k d (member l e ms)) (member l d ms) (member l e (put k d ms))) ≡ Ok (match_ordering o (pair k v (pair l w qs)) (pair l v qs) (pair l w (put_pair k v qs)))
 put_at Less k l d e v w ms qs h i j is = rw (h, i, j) refl
 put_at Equal k l d e v w ms qs h i j is = rw (h, j) refl
 put_at Greater k l d e v w ms qs h i j is = rw (i, is) refl
 
-pub put_reads : (k : List ℕ) (d : Data) (v : Value) → reads d ≡ Ok v → (ms : Members) (ps : Pairs) → reads_members ms ≡ Ok ps → reads_members (put k d ms) ≡ Ok (put_pair k v ps)
+pub put_reads : (k : List ℕ) (d : Data) (v : Value) → reads d ≡ Ok v → (ms : Members) (ps : Pairs)
+    → reads_members ms ≡ Ok ps → reads_members (put k d ms) ≡ Ok (put_pair k v ps)
 put_reads k d v h no_members ps i = let e : no_pairs ≡ ps = cc in rw (h, sym e) refl
 put_reads k d v h (member l e ms) ps i =
     let p = parts l (reads e) (reads_members ms) ps i in
@@ -41,24 +43,28 @@ nothing_read (member k d ms) h = let p = parts k (reads d) (reads_members ms) no
 
 -- ---- its keys
 
-plain_at : (o : Ordering) (k l : List ℕ) (d e : Data) (ms : Members) → is_some (wrapper_of k) ≡ false → has_wrapper (put k d ms) ≡ has_wrapper ms
+plain_at : (o : Ordering) (k l : List ℕ) (d e : Data) (ms : Members) → is_some (wrapper_of k) ≡ false
+    → has_wrapper (put k d ms) ≡ has_wrapper ms
     → has_wrapper (match_ordering o (member k d (member l e ms)) (member l d ms) (member l e (put k d ms))) ≡ (is_some (wrapper_of l) || has_wrapper ms)
 plain_at Less k l d e ms plain is = rw plain refl
 plain_at Equal k l d e ms plain is = refl
 plain_at Greater k l d e ms plain is = ap (λ b. is_some (wrapper_of l) || b) is
 
 -- an ordinary key changes nothing of whether there is a wrapper's key
-pub put_plain : (k : List ℕ) (d : Data) → is_some (wrapper_of k) ≡ false → (ms : Members) → has_wrapper (put k d ms) ≡ has_wrapper ms
+pub put_plain : (k : List ℕ) (d : Data) → is_some (wrapper_of k) ≡ false → (ms : Members)
+    → has_wrapper (put k d ms) ≡ has_wrapper ms
 put_plain k d plain no_members = rw plain refl
 put_plain k d plain (member l e ms) = plain_at (slice_cmp nat_cmp k l) k l d e ms plain (put_plain k d plain ms)
 
-least_at : (o : Ordering) (q k l : List ℕ) (v w : Value) (ps : Pairs) → slice_cmp nat_cmp q k ≡ Less → slice_cmp nat_cmp q l ≡ Less → IsLeast q ps → IsLeast q (put_pair k v ps)
+least_at : (o : Ordering) (q k l : List ℕ) (v w : Value) (ps : Pairs) → slice_cmp nat_cmp q k ≡ Less
+    → slice_cmp nat_cmp q l ≡ Less → IsLeast q ps → IsLeast q (put_pair k v ps)
     → IsLeast q (match_ordering o (pair k v (pair l w ps)) (pair l v ps) (pair l w (put_pair k v ps)))
 least_at Less q k l v w ps a b more is = (a, (b, more))
 least_at Equal q k l v w ps a b more is = (b, more)
 least_at Greater q k l v w ps a b more is = (b, is)
 
-still_least : (q k : List ℕ) (v : Value) (ps : Pairs) → slice_cmp nat_cmp q k ≡ Less → IsLeast q ps → IsLeast q (put_pair k v ps)
+still_least : (q k : List ℕ) (v : Value) (ps : Pairs) → slice_cmp nat_cmp q k ≡ Less → IsLeast q ps
+    → IsLeast q (put_pair k v ps)
 still_least q k v no_pairs a h = (a, tt)
 still_least q k v (pair l w ps) a h = least_at (slice_cmp nat_cmp k l) q k l v w ps a h.0 h.1 (still_least q k v ps a h.1)
 
@@ -66,7 +72,8 @@ pub less_than_least : (q k : List ℕ) (ps : Pairs) → slice_cmp nat_cmp q k �
 less_than_least q k no_pairs a h = tt
 less_than_least q k (pair l v ps) a h = (nat_list_cmp_total.trans q k l a h.0, less_than_least q k ps a h.1)
 
-ascend_at : (o : Ordering) (k l : List ℕ) (v w : Value) (ps : Pairs) → slice_cmp nat_cmp k l ≡ o → IsLeast l ps → KeysAscend ps → KeysAscend (put_pair k v ps)
+ascend_at : (o : Ordering) (k l : List ℕ) (v w : Value) (ps : Pairs) → slice_cmp nat_cmp k l ≡ o → IsLeast l ps
+    → KeysAscend ps → KeysAscend (put_pair k v ps)
     → KeysAscend (match_ordering o (pair k v (pair l w ps)) (pair l v ps) (pair l w (put_pair k v ps)))
 ascend_at Less k l v w ps h a up is = ((h, less_than_least k l ps h a), (a, up))
 ascend_at Equal k l v w ps h a up is = (a, up)
@@ -80,8 +87,10 @@ put_ascends k v (pair l w ps) up = ascend_at (slice_cmp nat_cmp k l) k l v w ps 
 -- ---- objects
 
 -- a map with no wrapper's key, and a map of one that has
-pub object_read : (ms : Members) (ps : Pairs) → has_wrapper ms ≡ false → reads_members ms ≡ Ok ps → reads (object ms) ≡ Ok (document ps)
+pub object_read : (ms : Members) (ps : Pairs) → has_wrapper ms ≡ false → reads_members ms ≡ Ok ps
+    → reads (object ms) ≡ Ok (document ps)
 object_read ms ps plain h = rw (plain, h) refl
 
-pub lone_read : (k : List ℕ) (d : Data) (v : Value) → is_some (wrapper_of k) ≡ true → scalar_value (single_at (wrapper_of k) d) ≡ Ok v → reads (object (member k d no_members)) ≡ Ok v
+pub lone_read : (k : List ℕ) (d : Data) (v : Value) → is_some (wrapper_of k) ≡ true
+    → scalar_value (single_at (wrapper_of k) d) ≡ Ok v → reads (object (member k d no_members)) ≡ Ok v
 lone_read k d v some h = rw some h

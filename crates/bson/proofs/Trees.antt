@@ -10,7 +10,8 @@ abbrev pub items_onto : List Value → Items → Items
 items_onto [] ds = ds
 items_onto (v ∷ vs) ds = item (view v) (items_onto vs ds)
 
-pub items_onto-last : (vs : List Value) (v : Value) (ds : Items) → items_onto vs (item (view v) ds) ≡ items_onto (vs ++ v ∷ []) ds
+pub items_onto-last : (vs : List Value) (v : Value) (ds : Items)
+    → items_onto vs (item (view v) ds) ≡ items_onto (vs ++ v ∷ []) ds
 items_onto-last [] v ds = refl
 items_onto-last (w ∷ vs) v ds = ap (item (view w)) (items_onto-last vs v ds)
 
@@ -19,6 +20,7 @@ items_onto-none [] = refl
 items_onto-none (v ∷ vs) = ap (item (view v)) (items_onto-none vs)
 
 -- one more element stands after those before it
-pub one_more_item : (vs : List Value) (v : Value) (o : Option (Items × List Token)) → parse_map (items_onto vs) (parse_map (item (view v)) o) ≡ parse_map (items_onto (vs ++ v ∷ [])) o
+pub one_more_item : (vs : List Value) (v : Value) (o : Option (Items × List Token))
+    → parse_map (items_onto vs) (parse_map (item (view v)) o) ≡ parse_map (items_onto (vs ++ v ∷ [])) o
 one_more_item vs v None = refl
 one_more_item vs v (Some p) = ap (λ ds. Some (ds, p.1)) (items_onto-last vs v p.0)

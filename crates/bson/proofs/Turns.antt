@@ -20,7 +20,8 @@ beside None r s b e = cc
 beside {B} (Some y) r s b e = let same : (y, r) ≡ (b, s) = same_Some {A = B × List Token} (y, r) (b, s) e in (ap (λ p. Some p.0) same, ap (λ p. p.1) same)
 
 -- what became a part of the tree was read
-was_read : {A B : Type 0} (f : A → Option B) (o : Option (A × List Token)) (b : B) (r : List Token) → converted f o ≡ Some (b, r) → (a : A) × (o ≡ Some (a, r)) × (f a ≡ Some b)
+was_read : {A B : Type 0} (f : A → Option B) (o : Option (A × List Token)) (b : B) (r : List Token)
+    → converted f o ≡ Some (b, r) → (a : A) × (o ≡ Some (a, r)) × (f a ≡ Some b)
 was_read f None b r e = cc
 was_read f (Some (a, s)) b r e = let h = beside (f a) s r b e in (a, ap (λ t. Some (a, t)) h.1, h.0)
 
@@ -29,60 +30,74 @@ under : {A B : Type 0} (g : A → B) (x : Option A) (r : List Token) → option_
 under g None r = refl
 under g (Some a) r = refl
 
-array_converted : (o : Option (json.Items × List Token)) → converted of_json (parse_map json.array o) ≡ parse_map array (converted of_items o)
+array_converted : (o : Option (json.Items × List Token))
+    → converted of_json (parse_map json.array o) ≡ parse_map array (converted of_items o)
 array_converted None = refl
 array_converted (Some (js, r)) = under array (of_items js) r
 
-object_converted : (o : Option (json.Members × List Token)) → converted of_json (parse_map json.object o) ≡ parse_map object (converted (λ ms. of_members ms no_members) o)
+object_converted : (o : Option (json.Members × List Token))
+    → converted of_json (parse_map json.object o) ≡ parse_map object (converted (λ ms. of_members ms no_members) o)
 object_converted None = refl
 object_converted (Some (js, r)) = under object (of_members js no_members) r
 
 -- a bracket was read, and what stands behind it is left
-pub array_opened : (depth : ℕ) (ts r : List Token) → ts ≡ Token.begin_array ∷ r → 0 < depth → converted of_json (value depth ts) ≡ parse_map array (converted of_items (items (value (depth - 1)) (length r) r))
-array_opened depth ts r is left = ap (λ t. converted of_json (value depth t)) is ∙ ap (converted of_json) (value-begin_array depth r left) ∙ array_converted (items (value (depth - 1)) (length r) r)
+pub array_opened : (depth : ℕ) (ts r : List Token) → ts ≡ Token.begin_array ∷ r → 0 < depth
+    → converted of_json (value depth ts) ≡ parse_map array (converted of_items (items (value (depth - 1)) (length r) r))
+array_opened depth ts r is left = ap (λ t. converted of_json (value depth t)) is
+    ∙ ap (converted of_json) (value-begin_array depth r left) ∙ array_converted (items (value (depth - 1)) (length r) r)
 
 pub object_opened : (depth : ℕ) (ts r : List Token) → ts ≡ Token.begin_object ∷ r → 0 < depth
     → converted of_json (value depth ts) ≡ parse_map object (converted (λ ms. of_members ms no_members) (members (value (depth - 1)) (length r) r))
-object_opened depth ts r is left = ap (λ t. converted of_json (value depth t)) is ∙ ap (converted of_json) (value-begin_object depth r left) ∙ object_converted (members (value (depth - 1)) (length r) r)
+object_opened depth ts r is left = ap (λ t. converted of_json (value depth t)) is
+    ∙ ap (converted of_json) (value-begin_object depth r left)
+    ∙ object_converted (members (value (depth - 1)) (length r) r)
 
-first_item : (j : json.Json) (d : Data) (o : Option (json.Items × List Token)) → of_json j ≡ Some d → converted of_items (parse_map (json.item j) o) ≡ parse_map (item d) (converted of_items o)
+first_item : (j : json.Json) (d : Data) (o : Option (json.Items × List Token)) → of_json j ≡ Some d
+    → converted of_items (parse_map (json.item j) o) ≡ parse_map (item d) (converted of_items o)
 first_item j d None h = refl
 first_item j d (Some (js, r)) h = rw h (under (item d) (of_items js) r)
 
-first_member : (k : List ℕ) (j : json.Json) (d : Data) (old : Members) (o : Option (json.Members × List Token)) → of_json j ≡ Some d
+first_member : (k : List ℕ) (j : json.Json) (d : Data) (old : Members) (o : Option (json.Members × List Token))
+    → of_json j ≡ Some d
     → converted (λ ms. of_members ms old) (parse_map (json.member k j) o) ≡ converted (λ ms. of_members ms (put k d old)) o
 first_member k j d old None h = refl
 first_member k j d old (Some (js, r)) h = rw h refl
 
 module _ (p : Parse json.Json) (n : ℕ) where
   -- one more element, and the end of the list
-  pub one_item : (ts r : List Token) (d : Data) → 0 < n → after_end_array ts ≡ None → converted of_json (p ts) ≡ Some (d, r)
+  pub one_item : (ts r : List Token) (d : Data) → 0 < n → after_end_array ts ≡ None
+      → converted of_json (p ts) ≡ Some (d, r)
       → converted of_items (items p n ts) ≡ parse_map (item d) (converted of_items (items p (n - 1) r))
   one_item ts r d left going e =
       let j = was_read of_json (p ts) d r e in
       ap (converted of_items) (items_more p n ts r j.0 left going j.1) ∙ first_item j.0 d _ j.2
 
-  pub last_item : (ts r : List Token) → length ts ≤ n → after_end_array ts ≡ Some r → converted of_items (items p n ts) ≡ Some (no_items, r)
+  pub last_item : (ts r : List Token) → length ts ≤ n → after_end_array ts ≡ Some r
+      → converted of_items (items p n ts) ≡ Some (no_items, r)
   last_item ts r enough e = ap (converted of_items) (items_end p n ts r enough e)
 
   -- one more member, and the end of the object
-  pub one_member : (old : Members) (k : List ℕ) (ts s r : List Token) (d : Data) → 0 < n → read_key ts ≡ Some (Some k, s) → converted of_json (p s) ≡ Some (d, r)
+  pub one_member : (old : Members) (k : List ℕ) (ts s r : List Token) (d : Data) → 0 < n
+      → read_key ts ≡ Some (Some k, s) → converted of_json (p s) ≡ Some (d, r)
       → converted (λ ms. of_members ms old) (members p n ts) ≡ converted (λ ms. of_members ms (put k d old)) (members p (n - 1) r)
   one_member old k ts s r d left key e =
       let j = was_read of_json (p s) d r e in
       ap (converted (λ ms. of_members ms old)) (members_more p n k ts s r j.0 left key j.1) ∙ first_member k j.0 d old _ j.2
 
-  pub last_member : (old : Members) (ts r : List Token) → length ts ≤ n → read_key ts ≡ Some (None, r) → converted (λ ms. of_members ms old) (members p n ts) ≡ Some (old, r)
+  pub last_member : (old : Members) (ts r : List Token) → length ts ≤ n → read_key ts ≡ Some (None, r)
+      → converted (λ ms. of_members ms old) (members p n ts) ≡ Some (old, r)
   last_member old ts r enough e = ap (converted (λ ms. of_members ms old)) (members_end p n ts r enough e)
 
 -- to the end of the object: one more member, and no more
-pub more_members : (depth : ℕ) (k : List ℕ) (ts s r rest : List Token) (d : Data) (old new : Members) → read_key ts ≡ Some (Some k, s) → converted of_json (value depth s) ≡ Some (d, r) → length r < length s
+pub more_members : (depth : ℕ) (k : List ℕ) (ts s r rest : List Token) (d : Data) (old new : Members)
+    → read_key ts ≡ Some (Some k, s) → converted of_json (value depth s) ≡ Some (d, r) → length r < length s
     → MembersAre depth (put k d old) r new rest → MembersAre depth old ts new rest
 more_members depth k ts s r rest d old new named held less more =
     let first = read_key-shorter ts (Some k) s named in
     λ n enough. one_member (value depth) n old k ts s r d (omega (arith, enough, first)) named held ∙ more (n - 1) (omega (arith, enough, first, less))
 
-pub no_more_members : (depth : ℕ) (ts rest : List Token) (old : Members) → read_key ts ≡ Some (None, rest) → MembersAre depth old ts old rest
+pub no_more_members : (depth : ℕ) (ts rest : List Token) (old : Members) → read_key ts ≡ Some (None, rest)
+    → MembersAre depth old ts old rest
 no_more_members depth ts rest old ended = λ n enough. last_member (value depth) n old ts rest enough ended
 
 -- what was read, under two functions in turn, and under none

@@ -14,11 +14,13 @@ pub text_is : (f : Form) (v : Value) (r : Result (String Global) WriteError) →
 text_is f v (Ok s) g r = record { tree = g.0; is_tree = tree_is f v g.0 g.1 r; reads_again = λ p. has_text f v g.0 g.1 p r; compact = g.2 }
 text_is f v (Err e) g r = tt
 
-pub text_writable : (f : Form) (v : Value) (r : Result (String Global) WriteError) → GivesText r (writes f v) → OnOk r (writable v ≡ true)
+pub text_writable : (f : Form) (v : Value) (r : Result (String Global) WriteError) → GivesText r (writes f v)
+    → OnOk r (writable v ≡ true)
 text_writable f v (Ok s) g = writable_from f v g.0 g.1
 text_writable f v (Err e) g = tt
 
-pub text_finite : (f : Form) (v : Value) (r : Result (String Global) WriteError) → GivesText r (writes f v) → r ≡ Err FiniteDouble → writable v ≡ false
+pub text_finite : (f : Form) (v : Value) (r : Result (String Global) WriteError) → GivesText r (writes f v)
+    → r ≡ Err FiniteDouble → writable v ≡ false
 text_finite f v (Ok s) g e = cc
 text_finite f v (Err OutOfMemory) g e = cc
 text_finite f v (Err FiniteDouble) g e = sym (writable_is f v) ∙ ap is_ok g

@@ -18,7 +18,8 @@ wrapper_there : (o : Option Wrapper) (d : Data) (v : Value) → scalar_value (si
 wrapper_there None d v h = cc
 wrapper_there (Some w) d v h = refl
 
-pub alone : (depth : ℕ) (k : List ℕ) (ts s rest : List Token) (d : Data) (v : Value) → converted of_json (value depth ts) ≡ Some (d, s) → length s < length ts → read_key s ≡ Some (None, rest)
+pub alone : (depth : ℕ) (k : List ℕ) (ts s rest : List Token) (d : Data) (v : Value)
+    → converted of_json (value depth ts) ≡ Some (d, s) → length s < length ts → read_key s ≡ Some (None, rest)
     → scalar_value (single_at (wrapper_of k) d) ≡ Ok v → WrapperMeans depth k ts v rest
 alone depth k ts s rest d v held less ended h = (
   member k d no_members,
@@ -27,10 +28,12 @@ alone depth k ts s rest d v held less ended h = (
 )
 
 -- the lesser key stands first
-two_read : (d e : Data) (v : Value) → code_at (codes "$code") d (codes "$scope") (reads_scope e) ≡ Ok v → reads (object (put (codes "$scope") e (put (codes "$code") d no_members))) ≡ Ok v
+two_read : (d e : Data) (v : Value) → code_at (codes "$code") d (codes "$scope") (reads_scope e) ≡ Ok v
+    → reads (object (put (codes "$scope") e (put (codes "$code") d no_members))) ≡ Ok v
 two_read d e v h = h
 
-pub with_scope : (depth : ℕ) (k l : List ℕ) (ts s us rest : List Token) (d : Data) (v : Value) → converted of_json (value depth ts) ≡ Some (d, s) → length s < length ts → read_key s ≡ Some (Some l, us)
+pub with_scope : (depth : ℕ) (k l : List ℕ) (ts s us rest : List Token) (d : Data) (v : Value)
+    → converted of_json (value depth ts) ≡ Some (d, s) → length s < length ts → read_key s ≡ Some (Some l, us)
     → CodeMeans depth k d l us v rest → WrapperMeans depth k ts v rest
 with_scope depth k l ts s us rest d v held less named c =
     let e = c.2 in

@@ -23,7 +23,8 @@ ItemsMean trees vs rest = (ds : Items) × (trees ≡ Some (ds, rest)) × (reads_
 
 -- a tree was read, and its meaning put at the key among the pairs
 abbrev pub IsJoined : Option (Data × List Token) → List ℕ → Pairs → Pairs → List Token → Type 0
-IsJoined tree k old new rest = (d : Data) × (v : Value) × (tree ≡ Some (d, rest)) × (reads d ≡ Ok v) × (new ≡ put_pair k v old)
+IsJoined tree k old new rest =
+    (d : Data) × (v : Value) × (tree ≡ Some (d, rest)) × (reads d ≡ Ok v) × (new ≡ put_pair k v old)
 
 abbrev pub ObjectMeans : Option (Members × List Token) → Value → List Token → Type 0
 ObjectMeans members v rest = (ms : Members) × (members ≡ Some (ms, rest)) × (reads (object ms) ≡ Ok v)
@@ -41,11 +42,13 @@ IsEntered tree k old new rest = (d : Data) × (tree ≡ Some (d, rest)) × (new 
 
 -- the members are read to the end of the object, beside those before them
 abbrev pub MembersAre : ℕ → Members → List Token → Members → List Token → Type 0
-MembersAre depth old ts new rest = (n : ℕ) → length ts ≤ n → converted (λ js. of_members js old) (members (value depth) n ts) ≡ Some (new, rest)
+MembersAre depth old ts new rest = (n : ℕ) → length ts ≤ n
+    → converted (λ js. of_members js old) (members (value depth) n ts) ≡ Some (new, rest)
 
 -- of an object whose first key was read: the members are read to its end from before that key
 abbrev pub ObjectIs : ℕ → List ℕ → List Token → Members → List Token → Type 0
-ObjectIs depth k ts ms rest = (before : List Token) → read_key before ≡ Some (Some k, ts) → MembersAre depth no_members before ms rest
+ObjectIs depth k ts ms rest = (before : List Token) → read_key before ≡ Some (Some k, ts)
+    → MembersAre depth no_members before ms rest
 
 -- these members mean the value
 abbrev pub WrapperMeans : ℕ → List ℕ → List Token → Value → List Token → Type 0
@@ -54,7 +57,8 @@ WrapperMeans depth k ts v rest = (ms : Members) × ObjectIs depth k ts ms rest �
 -- after the key l behind the key k, at which d stands: a scope, and the end of the object
 abbrev pub CodeMeans : ℕ → List ℕ → Data → List ℕ → List Token → Value → List Token → Type 0
 CodeMeans depth k d l ts v rest =
-    (k ≡ codes "$code") × (l ≡ codes "$scope") × (e : Data) × (s : List Token) × (converted of_json (value depth ts) ≡ Some (e, s)) × (length s < length ts)
+    (k ≡ codes "$code") × (l ≡ codes "$scope") × (e : Data) × (s : List Token)
+    × (converted of_json (value depth ts) ≡ Some (e, s)) × (length s < length ts)
     × (read_key s ≡ Some (None, rest)) × (code_at k d l (reads_scope e) ≡ Ok v)
 
 -- what was read, with no value of it

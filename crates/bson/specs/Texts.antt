@@ -1,5 +1,6 @@
 -- Texts of values, which are written with no tree.
-use Rattle.std.specs.Prelude.{◌≡◌, ℕ, suc, [], ◌∷◌, ◌++◌, codes, List, Result, Ok, Err, Some, String, string_bytes, slice_get}
+use Rattle.std.specs.Prelude.{◌≡◌, ℕ, suc, [], ◌∷◌, ◌++◌, codes, List, Result, Ok, Err, Some, String, string_bytes}
+use Rattle.std.specs.Prelude.{slice_get}
 use Rattle.std.specs.declared.alloc.Global.{Global}
 use Rattle.std.specs.declared.cmp.Ordering.TheVariants.{Less}
 use Rattle.json.specs.Token.{Token, begin_object, key, string}
@@ -28,7 +29,8 @@ pub record IsTextIn (f : Form) (v : Value) (text : List ℕ) : Type 0 where
 abbrev pub code_tokens : List ℕ → List Token
 code_tokens s = begin_object ∷ key (codes "$code") ∷ string s ∷ key (codes "$scope") ∷ []
 
--- What a function returned is what writing gives, unless memory ran out: the tokens of the tree come after the old ones.
+-- What a function returned is what writing gives, unless memory ran out: the tokens of the tree come after the old
+-- ones.
 module _ {X : Type 0} where
   abbrev pub Prints : (X → Data) → Result (Unit {0}) WriteError → Result X Refusal → List Token → List Token → Type 0
   Prints see (Ok done) written old new = (x : X) × (written ≡ Ok x) × (new ≡ old ++ tokens_of (see x))

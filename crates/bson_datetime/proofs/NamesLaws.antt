@@ -18,7 +18,8 @@ date-parts y m d rest small is =
     let date : Date = record { year = pos y; month = m; day = d; year_in = is.0; month_in = is.1; day_in = is.2 } in
     date_part-text date y rest refl small
 
-time-parts : (h m s : ℕ) (rest : List ℕ) → h < 24 → m < 60 → s < 60 → time_part (two_digit_text h ++ 58 ∷ two_digit_text m ++ 58 ∷ two_digit_text s ++ rest) ≡ Some (h * 3600 + m * 60 + s, rest)
+time-parts : (h m s : ℕ) (rest : List ℕ) → h < 24 → m < 60 → s < 60
+    → time_part (two_digit_text h ++ 58 ∷ two_digit_text m ++ 58 ∷ two_digit_text s ++ rest) ≡ Some (h * 3600 + m * 60 + s, rest)
 time-parts h m s rest hour minute second =
     let time : Time = record { hour = h; minute = m; second = s; subsec_nanosecond = 0; hour_in = hour; minute_in = minute; second_in = second; subsec_in = omega arith } in
     time_part-text time rest
@@ -34,7 +35,8 @@ letter-parts upper c rest (inr e) =
     rw (first, second)
 
 -- so many digits, and then a byte that is none
-prefix-all : (ds : List ℕ) (c : ℕ) (rest : List ℕ) → All IsAsciiDigit ds → is_ascii_digit c ≡ false → prefix_len is_ascii_digit (ds ++ c ∷ rest) ≡ length ds
+prefix-all : (ds : List ℕ) (c : ℕ) (rest : List ℕ) → All IsAsciiDigit ds → is_ascii_digit c ≡ false
+    → prefix_len is_ascii_digit (ds ++ c ∷ rest) ≡ length ds
 prefix-all [] c rest are none = rw none
 prefix-all (d ∷ ds) c rest are none =
     let first : IsAsciiDigit d = are 0 0 (omega arith) in
@@ -43,14 +45,16 @@ prefix-all (d ∷ ds) c rest are none =
     let ind = prefix-all ds c rest more none in
     rw test (omega (arith, ind))
 
-fraction-some : (all : List ℕ) (c : ℕ) (rest : List ℕ) → 0 < length all → All IsAsciiDigit all → is_ascii_digit c ≡ false
+fraction-some : (all : List ℕ) (c : ℕ) (rest : List ℕ) → 0 < length all → All IsAsciiDigit all
+    → is_ascii_digit c ≡ false
     → fraction_part (46 ∷ all ++ c ∷ rest) ≡ Some (fraction_value 9 all, c ∷ rest)
 unfolding fraction_part
 fraction-some all c rest long are none =
     let some : (length all == 0) ≡ false = grind (arith, nat_tests) in
     rw (prefix-all all c rest are none, some, take_at all (c ∷ rest) (length all) refl, drop_at all (c ∷ rest) (length all) refl) refl
 
-fraction-parts : (ds : List ℕ) (c : ℕ) (rest : List ℕ) → All IsAsciiDigit ds → is_ascii_digit c ≡ false → (c == 46) ≡ false
+fraction-parts : (ds : List ℕ) (c : ℕ) (rest : List ℕ) → All IsAsciiDigit ds → is_ascii_digit c ≡ false
+    → (c == 46) ≡ false
     → fraction_part (fraction_text ds ++ c ∷ rest) ≡ Some (fraction_value 9 ds, c ∷ rest)
 unfolding fraction_part
 fraction-parts [] c rest are none point = rw point (ap (λ n. Some (n, c ∷ rest)) (sym (fraction_value-nil 9)))
@@ -64,7 +68,8 @@ offset-parts (ahead h m) is = rw (digits_below-pad2 24 h (58 ∷ two_digit_text 
 offset-parts (behind h m) is = rw (digits_below-pad2 24 h (58 ∷ two_digit_text m) is.0 (omega arith), digits_below-pad2 60 m [] is.1 (omega arith)) refl
 
 -- the fraction before an offset
-fraction-offset : (ds : List ℕ) (o : Offset) → All IsAsciiDigit ds → IsOffset o → fraction_part (fraction_text ds ++ offset_text o) ≡ Some (fraction_value 9 ds, offset_text o)
+fraction-offset : (ds : List ℕ) (o : Offset) → All IsAsciiDigit ds → IsOffset o
+    → fraction_part (fraction_text ds ++ offset_text o) ≡ Some (fraction_value 9 ds, offset_text o)
 fraction-offset ds (zulu c) are (inl e) = rw e (fraction-parts ds 90 [] are refl refl)
 fraction-offset ds (zulu c) are (inr e) = rw e (fraction-parts ds 122 [] are refl refl)
 fraction-offset ds (ahead h m) are is = fraction-parts ds 43 (two_digit_text h ++ 58 ∷ two_digit_text m) are refl refl

@@ -37,7 +37,8 @@ four_digits-pad4 n rest h =
     let value : n / 100 * 100 + n % 100 ≡ n = omega arith in
     rw (a, b, value)
 
-pub digits_below-pad2 : (bound n : ℕ) (rest : List ℕ) → n < bound → bound ≤ 100 → digits_below bound (pad2 n ++ rest) ≡ Some (n, rest)
+pub digits_below-pad2 : (bound n : ℕ) (rest : List ℕ) → n < bound → bound ≤ 100
+    → digits_below bound (pad2 n ++ rest) ≡ Some (n, rest)
 unfolding digits_below
 digits_below-pad2 bound n rest h k =
     let below : nat_le bound n ≡ false = grind (arith, nat_tests) in
@@ -61,7 +62,8 @@ date_part-text date y rest year small =
     rw (four_digits-pad4 y (45 ∷ pad2 date.month ++ 45 ∷ pad2 date.day ++ rest) small, two_digits-pad2 date.month (45 ∷ pad2 date.day ++ rest) month, two_digits-pad2 date.day rest day, day_number-date date y year)
 
 -- a time, and then rest
-pub time_part-text : (t : Time) (rest : List ℕ) → time_part (pad2 t.hour ++ 58 ∷ pad2 t.minute ++ 58 ∷ pad2 t.second ++ rest) ≡ Some (time_seconds t, rest)
+pub time_part-text : (t : Time) (rest : List ℕ)
+    → time_part (pad2 t.hour ++ 58 ∷ pad2 t.minute ++ 58 ∷ pad2 t.second ++ rest) ≡ Some (time_seconds t, rest)
 unfolding time_part after
 time_part-text t rest =
     rw (
@@ -98,7 +100,8 @@ int_div-whole (pos n) = omega (arith, signed_arith)
 int_div-whole (negsuc n) = omega (arith, signed_arith)
 
 -- the nanoseconds of a moment's parts
-nanos_of-moment : (at : DateTime) → nanos_of (epoch_day at.date) (time_seconds at.time) at.time.subsec_nanosecond (pos 0) ≡ civil_nanos at
+nanos_of-moment : (at : DateTime)
+    → nanos_of (epoch_day at.date) (time_seconds at.time) at.time.subsec_nanosecond (pos 0) ≡ civil_nanos at
 nanos_of-moment at = omega (arith, signed_arith, civil_nanos-parts at)
 
 named_moment-parts : (at : DateTime) (y : ℕ) (ms : ℤ) → at.date.year ≡ pos y → y < 10_000 → IsJiffMoment ms at

@@ -1,5 +1,6 @@
 -- The texts that are written for a moment: RFC 3339 section 5.6, and the one of `Display`.
-use Rattle.std.specs.Prelude.{ℕ, suc, ◌+◌, ◌/◌, ◌%◌, ◌==◌, ◌&&◌, nat_lt, Bool, ℤ, pos, negsuc, neg_ℤ, int_le, ◌++◌, List, [], ◌∷◌, if◌then◌else◌, codes}
+use Rattle.std.specs.Prelude.{ℕ, suc, ◌+◌, ◌/◌, ◌%◌, ◌==◌, ◌&&◌, nat_lt, Bool, ℤ, pos, negsuc, neg_ℤ, int_le, ◌++◌}
+use Rattle.std.specs.Prelude.{List, [], ◌∷◌, if◌then◌else◌, codes}
 use Rattle.std.specs.Fmt.{signed_decimal}
 use Rattle.bson_datetime.specs.Moment.{Civil, civil_of}
 
@@ -22,14 +23,16 @@ date_text c = year_text c.year ++ codes "-" ++ two_digit_text c.month ++ codes "
 -- the digits of a fraction in thousandths: at least one, and no further zeros at the end
 abbrev pub thousandths_text : ℕ → List ℕ
 thousandths_text n =
-    digit (n / 100) ++ (if n % 100 == 0 then [] else digit (n / 10 % 10) ++ (if n % 10 == 0 then [] else digit (n % 10)))
+    digit (n / 100)
+    ++ (if n % 100 == 0 then [] else digit (n / 10 % 10) ++ (if n % 10 == 0 then [] else digit (n % 10)))
 
 -- ---- RFC 3339
 
 -- `YYYY-MM-DDThh:mm:ssZ`, with a point and a fraction where that is not zero
 abbrev pub rfc_text : Civil → List ℕ
 rfc_text c =
-    date_text c ++ codes "T" ++ two_digit_text c.hour ++ codes ":" ++ two_digit_text c.minute ++ codes ":" ++ two_digit_text c.second
+    date_text c ++ codes "T" ++ two_digit_text c.hour ++ codes ":" ++ two_digit_text c.minute ++ codes ":"
+    ++ two_digit_text c.second
     ++ (if c.millisecond == 0 then [] else codes "." ++ thousandths_text c.millisecond) ++ codes "Z"
 
 -- the RFC 3339 text of a moment of the years 0000 to 9999
@@ -45,7 +48,8 @@ hour_text n = if nat_lt n 10 then digit n else two_digit_text n
 -- as `2023-01-23 20:11:47.316 +00:00:00`
 abbrev pub civil_text : Civil → List ℕ
 civil_text c =
-    date_text c ++ codes " " ++ hour_text c.hour ++ codes ":" ++ two_digit_text c.minute ++ codes ":" ++ two_digit_text c.second ++ codes "."
+    date_text c ++ codes " " ++ hour_text c.hour ++ codes ":" ++ two_digit_text c.minute ++ codes ":"
+    ++ two_digit_text c.second ++ codes "."
     ++ thousandths_text c.millisecond ++ codes " +00:00:00"
 
 abbrev pub is_civil_millis : ℤ → Bool

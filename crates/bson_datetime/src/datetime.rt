@@ -1,4 +1,5 @@
-//! `DateTime`, a moment in milliseconds since 1970-01-01T00:00:00Z: its sums, and its texts both ways.
+//! `DateTime`, a moment in milliseconds since 1970-01-01T00:00:00Z: its sums, and its texts both
+//! ways.
 ghost use Rattle.std.specs.Prelude.{◌≡◌, ◌↔◌, pos, ℤ, ◌+ℤ◌, ◌-ℤ◌, ◌<ℤ◌, IsSome, IsNone, IfSome};
 ghost use Rattle.std.specs.Int.{saturate_signed, w64};
 ghost use Rattle.std.specs.Duration.{as_nanos};
@@ -54,7 +55,8 @@ impl DateTime {
         DateTimeBuilder::default()
     }
 
-    /// The moment so many milliseconds after 1970-01-01T00:00:00Z, or before it where the number is negative.
+    /// The moment so many milliseconds after 1970-01-01T00:00:00Z, or before it where the number is
+    /// negative.
     pub fn from_millis(millis: i64) -> DateTime
         ensures { result ≡ millis }
     {
@@ -65,8 +67,8 @@ impl DateTime {
     pub fn timestamp_millis(self) -> i64
         ensures value { result ≡ self }
 
-        // A moment of the years -9999 to 9999 has a date and time, which its texts show; it has only one, and
-        // no other moment has any.
+        // A moment of the years -9999 to 9999 has a date and time, which its texts show; it has
+        // only one, and no other moment has any.
         ensures exists { IsCivilMillis self → IsMoment self (civil_of self) }
         ensures only { (c : Civil) → IsMoment self c → IsCivilMillis self × (civil_of self ≡ c) }
     {
@@ -134,12 +136,14 @@ impl DateTime {
     ghost use Rattle.bson_datetime.specs.Rfc3339.{named_moment};
     ghost use Rattle.bson_datetime.specs.Grammar.{Names};
     ghost use Rattle.bson_datetime.specs.Displayed.{rfc, rfc_text};
-    ghost use Rattle.bson_datetime.specs.Errors.{IsCannotFormat, IsInvalidFor, IsInvalidTimestamp, IsOutOfMemory};
+    ghost use Rattle.bson_datetime.specs.Errors.{IsCannotFormat, IsInvalidFor, IsInvalidTimestamp};
+    ghost use Rattle.bson_datetime.specs.Errors.{IsOutOfMemory};
 
-    /// The RFC 3339 text (section 5.6) in UTC, as `1998-02-12T00:01:00.023Z`: the fraction without zeros at its end, and
-    /// none where it is zero. The text reads back as this moment.
+    /// The RFC 3339 text (section 5.6) in UTC, as `1998-02-12T00:01:00.023Z`: the fraction without
+    /// zeros at its end, and none where it is zero. The text reads back as this moment.
     ///
-    /// `CannotFormat` exactly outside the years 0000 to 9999; `OutOfMemory` only where a request was refused.
+    /// `CannotFormat` exactly outside the years 0000 to 9999; `OutOfMemory` only where a request
+    /// was refused.
     pub fn try_to_rfc3339_string(self, alloc: Global) -> Result<String>
         ensures ok { IfOk result (λ text. string_bytes text ≡ rfc self) }
         ensures fields { IfOk result (λ text. (c : Civil) → IsMoment self c → string_bytes text ≡ rfc_text c) }
@@ -160,16 +164,19 @@ impl DateTime {
         }
     }
 
-    /// Reads an RFC 3339 text (section 5.6): `YYYY-MM-DDThh:mm:ss`, a fraction where there is one, and `Z` or an offset.
+    /// Reads an RFC 3339 text (section 5.6): `YYYY-MM-DDThh:mm:ss`, a fraction where there is one,
+    /// and `Z` or an offset.
     ///
-    /// T and Z may be small letters. Of the fraction nine digits count, and the nanoseconds since 1970-01-01T00:00:00Z
-    /// are cut to milliseconds towards zero. `InvalidTimestamp` exactly for every other text, a second of 60 among them.
+    /// T and Z may be small letters. Of the fraction nine digits count, and the nanoseconds since
+    /// 1970-01-01T00:00:00Z are cut to milliseconds towards zero. `InvalidTimestamp` exactly for
+    /// every other text, a second of 60 among them.
     pub fn parse_rfc3339_str(text: &str) -> Result<DateTime>
         ensures ok { IfOk result (λ ms. Names text.now ms) }
         ensures refused { IfErr result (λ e. IsInvalidTimestamp e × ((ms : ℤ) → ¬ (Names text.now ms))) }
         ensures message { IfErr result (IsInvalidFor Message.NotRfc3339) }
 
-        // A text names one moment at most, and `named_moment`, which reads it from its front, gives that one.
+        // A text names one moment at most, and `named_moment`, which reads it from its front, gives
+        // that one.
         ensures one { (a b : ℤ) → Names text.now a → Names text.now b → a ≡ b }
         ensures grammar { (ms : ℤ) → (named_moment text.now ≡ Some ms) ↔ Names text.now ms }
 
@@ -191,7 +198,8 @@ const NOT_RFC3339: Error = Error::InvalidTimestamp {
     message: Message::NotRfc3339,
 };
 
-/// As `2023-01-23 20:11:47.316 +00:00:00`; outside the years -9999 to 9999 the milliseconds as a decimal number.
+/// As `2023-01-23 20:11:47.316 +00:00:00`; outside the years -9999 to 9999 the milliseconds as a
+/// decimal number.
 impl fmt::Display for DateTime {
     ghost use Rattle.std.specs.Prelude.{Some};
     ghost use Rattle.bson_datetime.specs.Displayed.{display_text};

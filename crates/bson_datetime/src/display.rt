@@ -1,7 +1,8 @@
 //! Writes the parts of a date and time, and the two together as `Display` has them.
 ghost use Rattle.std.specs.Prelude.{◌≡◌, ◌<◌, Some, ℤ};
 ghost use Rattle.bson_datetime.specs.JiffSteps.{fields_of};
-ghost use Rattle.bson_datetime.specs.Displayed.{two_digit_text, year_text, hour_text, thousandths_text, civil_text};
+ghost use Rattle.bson_datetime.specs.Displayed.{two_digit_text, year_text, hour_text};
+ghost use Rattle.bson_datetime.specs.Displayed.{thousandths_text, civil_text};
 ghost use Rattle.jiff.specs.Words.{IsWithin};
 
 use jiff::civil::DateTime;

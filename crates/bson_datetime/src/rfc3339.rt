@@ -1,5 +1,6 @@
 //! Reads RFC 3339 texts. Each function takes the front of a text, and gives the value and the rest.
-ghost use Rattle.std.specs.Prelude.{◌≡◌, ◌<◌, ◌≤◌, ℕ, pos, length, slice_index, IfSome, option_map, int_div, ◌^◌};
+ghost use Rattle.std.specs.Prelude.{◌≡◌, ◌<◌, ◌≤◌, ℕ, pos, length, slice_index, IfSome, option_map};
+ghost use Rattle.std.specs.Prelude.{int_div, ◌^◌};
 ghost use Rattle.std.specs.Char.{IsAsciiDigit, is_ascii_digit};
 ghost use Rattle.std.specs.List.{prefix_len};
 ghost use Rattle.jiff.specs.Words.{IsEpochDay, IsWithin, IsBetween};

@@ -80,7 +80,8 @@ record Prints (c e : ℕ) (body : List ℕ) : Type 0 where
   few : length (without_leading_zeros (whole ++ fraction_digits fraction)) ≤ 34
   at : e + (length (fraction_digits fraction) + written_down exponent) ≡ written_up exponent + 6176
 
-from-prints : (negative : Bool) (c e : ℕ) (body : List ℕ) → c < 10 ^ 34 → e < 12288 → Prints c e body → Parses (sign_text negative ++ body) (to_le_bytes w128 (first_form negative c e))
+from-prints : (negative : Bool) (c e : ℕ) (body : List ℕ) → c < 10 ^ 34 → e < 12288 → Prints c e body
+    → Parses (sign_text negative ++ body) (to_le_bytes w128 (first_form negative c e))
 from-prints negative c e body small within p =
     let n : Numeral = record { sign = sign_of negative; whole = p.whole; fraction = p.fraction; exponent = p.exponent } in
     let high = p.high in
@@ -269,7 +270,8 @@ module _ (c e : ℕ) (small : c < 10 ^ 34) (within : e < 12288) where
 at-most-zero : (e : ℕ) → int_le (exponent_at e) (pos 0) ≡ true → e ≤ 6176
 at-most-zero e h = grind (arith, ints, h)
 
-at-least-six : (ds : List ℕ) (e : ℕ) → int_le (neg_ℤ (pos 6)) (scientific_exponent ds (exponent_at e)) ≡ true → 6171 ≤ e + length ds
+at-least-six : (ds : List ℕ) (e : ℕ) → int_le (neg_ℤ (pos 6)) (scientific_exponent ds (exponent_at e)) ≡ true
+    → 6171 ≤ e + length ds
 at-least-six ds e h = grind (arith, ints, h)
 
 places : (e : ℕ) → e ≤ 6176 → unsigned_abs (exponent_at e) ≡ 6176 - e
@@ -341,6 +343,7 @@ display_text-same a b =
     (λ e. parses-one (display_text b) (normal_decimal a) (normal_decimal b) (rw e at (display_text-parses a)) (display_text-parses b), λ e. sym (display_text-canon a) ∙ ap display_text e ∙ display_text-canon b)
 
 -- so a printed text is answered by its canonical pattern
-pub reads-display_text : (text : List ℕ) (r : Result (List ℕ) ParseError) → ParsesTo text r → (b : List ℕ) → text ≡ display_text b → IsOkAnd r (λ d. d ≡ normal_decimal b)
+pub reads-display_text : (text : List ℕ) (r : Result (List ℕ) ParseError) → ParsesTo text r → (b : List ℕ)
+    → text ≡ display_text b → IsOkAnd r (λ d. d ≡ normal_decimal b)
 reads-display_text text (Ok d) h b e = sym (h.1 (normal_decimal b) (rw e (display_text-parses b)))
 reads-display_text text (Err k) h b e = absurd (h.0 (normal_decimal b) (rw e (display_text-parses b)))

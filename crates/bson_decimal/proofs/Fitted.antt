@@ -27,12 +27,14 @@ bind-cases P Q (Err e) f h = h
 
 -- the same where the first part has facts of its own
 pub bind-by : {A B : Type 0} (P : B → Type 0) (Q : ParseError → Type 0) (R : A → Type 0) (S : ParseError → Type 0) (r : Result A ParseError) (f : A → Result B ParseError)
-    → MatchResult r R S → ((a : A) → R a → MatchResult (f a) P Q) → ((e : ParseError) → S e → Q e) → MatchResult (bind r f) P Q
+    → MatchResult r R S → ((a : A) → R a → MatchResult (f a) P Q) → ((e : ParseError) → S e → Q e)
+    → MatchResult (bind r f) P Q
 bind-by P Q R S (Ok a) f h g k = g a h
 bind-by P Q R S (Err e) f h g k = k e h
 
 -- zeros behind the digits move the exponent
-pub fits-moved : (xs ds : List ℕ) (k up down c e : ℕ) → ds ≡ xs ++ replicate k 48 → FitsShifted (digits_value 10 ds) up down c e → FitsShifted (digits_value 10 xs) (up + k) down c e
+pub fits-moved : (xs ds : List ℕ) (k up down c e : ℕ) → ds ≡ xs ++ replicate k 48
+    → FitsShifted (digits_value 10 ds) up down c e → FitsShifted (digits_value 10 xs) (up + k) down c e
 fits-moved xs ds k up down c e is f =
     record { equal = (let e2 : up + k + 6176 ≡ up + 6176 + k = omega arith in rw e2 (f.equal ∙ sym (raised (digits_value 10 xs) k (digits_value 10 ds) (up + 6176) (ap (digits_value 10) is ∙ value-behind xs k)))); coefficient = f.coefficient; exponent = f.exponent }
 
@@ -41,7 +43,8 @@ digits-kept xs ds k is h = (AllDigits-parts xs (replicate k 48) (rw is at h)).0
 
 large-kept : (xs ds : List ℕ) (k : ℕ) → ds ≡ xs ++ replicate k 48 → IsLarge ds → IsLarge xs
 large-kept xs ds k is h some =
-    let long : length ds ≡ length xs + k = ap length is ∙ length-append xs (replicate k 48) ∙ rw (length-replicate {A = ℕ} k 48) refl in
+    let long : length ds ≡ length xs + k = ap length is ∙ length-append xs (replicate k 48)
+        ∙ rw (length-replicate {A = ℕ} k 48) refl in
     let value : digits_value 10 ds ≡ digits_value 10 xs * 10 ^ k = ap (digits_value 10) is ∙ value-behind xs k in
     let size : length ds - 1 ≡ length xs - 1 + k = omega arith in
     let whole = rw (value, size, pow-add 10 (length xs - 1) k) at (h (omega arith)) in
@@ -51,7 +54,8 @@ large-kept xs ds k is h some =
     ]
 
 -- the pair of zero
-nearest-zero : (up down e : ℕ) → e < 12288 → ((f : ℕ) → f < 12288 → distance_shifted up down e ≤ distance_shifted up down f) → IsNearestShifted 0 up down 0 e
+nearest-zero : (up down e : ℕ) → e < 12288
+    → ((f : ℕ) → f < 12288 → distance_shifted up down e ≤ distance_shifted up down f) → IsNearestShifted 0 up down 0 e
 nearest-zero up down e within least = record { fits = record { equal = omega arith; coefficient = omega arith; exponent = within }; least = λ d f g. least f g.exponent }
 
 -- the first digit is no zero
@@ -65,7 +69,8 @@ large-front (x ∷ xs) h first some =
 abbrev pub IsCoefficient : List ℕ → ℕ → Bool → ℕ → Type 0
 IsCoefficient ds z has_digit c = AllDigits 10 ds × (has_digit ≡ true) × (c ≡ digits_value 10 ds * 10 ^ z)
 
-coefficient-cases : (ds : List ℕ) (z : ℕ) (has_digit : Bool) → MatchResult (coefficient ds z has_digit) (IsCoefficient ds z has_digit) (λ _. AllDigits 10 ds → has_digit ≡ true → ⊥)
+coefficient-cases : (ds : List ℕ) (z : ℕ) (has_digit : Bool)
+    → MatchResult (coefficient ds z has_digit) (IsCoefficient ds z has_digit) (λ _. AllDigits 10 ds → has_digit ≡ true → ⊥)
 unfolding coefficient
 coefficient-cases ds z false = λ digits has. cc
 coefficient-cases ds z true =
@@ -88,7 +93,8 @@ module _ (ds ks : List ℕ) (k y up down : ℕ) (at : y + down ≡ up + k + 3276
   small = omega (arith, size, digits_value-lt 10 ks kept-digits, tens-le (length ks) 34 (omega (arith, size)))
 
   -- the exponent is in range
-  final-same : least_place ≤ y → y ≤ greatest_place → IsNearestShifted (digits_value 10 ds) up down (digits_value 10 ks * 10 ^ 0) (min y greatest_place - least_place)
+  final-same : least_place ≤ y → y ≤ greatest_place
+      → IsNearestShifted (digits_value 10 ds) up down (digits_value 10 ks * 10 ^ 0) (min y greatest_place - least_place)
   final-same low high =
       let c-is : digits_value 10 ks * 10 ^ 0 ≡ digits_value 10 ks = omega arith in
       let e-is : min y greatest_place - least_place ≡ y - least_place = omega arith in
@@ -104,7 +110,8 @@ module _ (ds ks : List ℕ) (k y up down : ℕ) (at : y + down ≡ up + k + 3276
       ])
 
   -- zeros were added
-  final-padded : (z : ℕ) → greatest_place < y → z ≡ y - greatest_place → length ks + z ≤ 34 → IsNearestShifted (digits_value 10 ds) up down (digits_value 10 ks * 10 ^ z) (min y greatest_place - least_place)
+  final-padded : (z : ℕ) → greatest_place < y → z ≡ y - greatest_place → length ks + z ≤ 34
+      → IsNearestShifted (digits_value 10 ds) up down (digits_value 10 ks * 10 ^ z) (min y greatest_place - least_place)
   final-padded z high z-is fits =
       let long = size in
       let zero-k : k ≡ 0 = omega arith in
@@ -113,19 +120,25 @@ module _ (ds ks : List ℕ) (k y up down : ℕ) (at : y + down ≡ up + k + 3276
       rw (whole, e-is) (nearest-highest (digits_value 10 ks) up down z (scaled-lt ks z kept-digits fits) (omega arith))
 
   -- zeros were dropped
-  final-raised : (qs : List ℕ) → y < least_place → ks ≡ qs ++ replicate (least_place - y) 48 → IsNearestShifted (digits_value 10 ds) up down (digits_value 10 qs * 10 ^ 0) 0
+  final-raised : (qs : List ℕ) → y < least_place → ks ≡ qs ++ replicate (least_place - y) 48
+      → IsNearestShifted (digits_value 10 ds) up down (digits_value 10 qs * 10 ^ 0) 0
   final-raised qs low to =
-      let inner : digits_value 10 ks ≡ digits_value 10 qs * 10 ^ (least_place - y) = ap (digits_value 10) to ∙ value-behind qs (least_place - y) in
+      let inner : digits_value 10 ks ≡ digits_value 10 qs * 10 ^ (least_place - y) = ap (digits_value 10) to
+          ∙ value-behind qs (least_place - y) in
       let j = least_place - y + k in
       let whole : digits_value 10 ds ≡ digits_value 10 qs * 10 ^ j = rw (value, inner, pow-add 10 (least_place - y) k) (omega arith) in
-      let shorter : length ks ≡ length qs + (least_place - y) = ap length to ∙ length-append qs (replicate (least_place - y) 48) ∙ rw (length-replicate {A = ℕ} (least_place - y) 48) refl in
+      let shorter : length ks ≡ length qs + (least_place - y) = ap length to
+          ∙ length-append qs (replicate (least_place - y) 48)
+          ∙ rw (length-replicate {A = ℕ} (least_place - y) 48) refl in
       let few = digits_value-lt 10 qs (digits-kept qs ks (least_place - y) to kept-digits) in
       let below : digits_value 10 qs < 10 ^ 34 = omega (arith, size, tens-le (length qs) 34 (omega (arith, size))) in
       let c-is : digits_value 10 qs * 10 ^ 0 ≡ digits_value 10 qs = omega arith in
       rw c-is (nearest-lowest (digits_value 10 ds) up down (digits_value 10 qs) j whole below (omega arith))
 
   -- zero
-  final-zero : (e : ℕ) → ks ≡ [] → e < 12288 → ((f : ℕ) → f < 12288 → distance_shifted up down e ≤ distance_shifted up down f) → IsNearestShifted (digits_value 10 ds) up down 0 e
+  final-zero : (e : ℕ) → ks ≡ [] → e < 12288
+      → ((f : ℕ) → f < 12288 → distance_shifted up down e ≤ distance_shifted up down f)
+      → IsNearestShifted (digits_value 10 ds) up down 0 e
   final-zero e none within least =
       let nothing : digits_value 10 ds ≡ 0 = value ∙ rw none (omega arith) in
       rw nothing (nearest-zero up down e within least)
@@ -152,7 +165,8 @@ raised-digits-back ks y b rai h =
     ]
 
 -- where nothing fits after a raise, nothing stored_pair before it
-raised-refuses : (ks : List ℕ) (y : ℕ) (b : Scaled) (e : ParseError) → IsRaised ks y b → Refuses b.0 b.1 e → Refuses ks y e
+raised-refuses : (ks : List ℕ) (y : ℕ) (b : Scaled) (e : ParseError) → IsRaised ks y b → Refuses b.0 b.1 e
+    → Refuses ks y e
 raised-refuses ks y b e rai refuse digits large up down at c f fits =
     elim (cases_lt y least_place) [
       | inr kept ↦
@@ -168,10 +182,13 @@ raised-refuses ks y b e rai refuse digits large up down at c f fits =
     ]
 
 -- the pair that the steps give
-nearest-given : (ds ks : List ℕ) (k y up down : ℕ) (b : Scaled) (z : ℕ) → y + down ≡ up + k + 32768 → k ≡ length ds - 34 → ds ≡ ks ++ replicate k 48 → AllDigits 10 ds → IsLarge ds
-    → IsRaised ks y b → IsPadded b.0 b.1 z → IsNearestShifted (digits_value 10 ds) up down (digits_value 10 b.0 * 10 ^ z) (min b.1 greatest_place - least_place)
+nearest-given : (ds ks : List ℕ) (k y up down : ℕ) (b : Scaled) (z : ℕ) → y + down ≡ up + k + 32768 → k ≡ length ds - 34
+    → ds ≡ ks ++ replicate k 48 → AllDigits 10 ds → IsLarge ds
+    → IsRaised ks y b → IsPadded b.0 b.1 z
+    → IsNearestShifted (digits_value 10 ds) up down (digits_value 10 b.0 * 10 ^ z) (min b.1 greatest_place - least_place)
 nearest-given ds ks k y up down b z at k-is is digits large rai pad =
-    let long : length ds ≡ length ks + k = ap length is ∙ length-append ks (replicate k 48) ∙ rw (length-replicate {A = ℕ} k 48) refl in
+    let long : length ds ≡ length ks + k = ap length is ∙ length-append ks (replicate k 48)
+        ∙ rw (length-replicate {A = ℕ} k 48) refl in
     let empty-k : ks ≡ [] → k ≡ 0 = λ none. omega (arith, ap length none) in
     elim (cases_lt y least_place) [
       | inr kept ↦
@@ -227,7 +244,8 @@ module _ (bs : List ℕ) (x : ℕ) where
   front-large h = large-front (without_leading_zeros bs) (front-digits h) (λ some. let e : get_or (without_leading_zeros bs) 0 0 ≡ get_or bs (prefix_len is_zero bs) 0 = get_or-drop (prefix_len is_zero bs) bs 0 0 ∙ ap (λ i. get_or bs i 0) (omega arith) in rw e (prefix_len_stops is_zero bs 0 (omega (arith, length-drop (prefix_len is_zero bs) bs))))
 
   -- a later step's refusal
-  cut-refuses : (a : Scaled) → IsCut (without_leading_zeros bs) x a → (e : ParseError) → Refuses a.0 a.1 e → AllDigits 10 bs → NoneFitsAt bs x
+  cut-refuses : (a : Scaled) → IsCut (without_leading_zeros bs) x a → (e : ParseError) → Refuses a.0 a.1 e
+      → AllDigits 10 bs → NoneFitsAt bs x
   cut-refuses a cut e refuse digits up down at c f fits =
       let ds = without_leading_zeros bs in
       let k = length ds - 34 in

@@ -37,7 +37,8 @@ pub Fails-append : (p : ℕ → Bool) (xs ys : List ℕ) → Fails p xs → Fail
 Fails-append p [] ys h g = g
 Fails-append p (x ∷ xs) ys h g = (h.0, Fails-append p xs ys h.1 g)
 
-pub first-here : (p : ℕ → Bool) (xs : List ℕ) (y : ℕ) (ys : List ℕ) → Fails p xs → p y ≡ true → position_or_len p (xs ++ y ∷ ys) ≡ length xs
+pub first-here : (p : ℕ → Bool) (xs : List ℕ) (y : ℕ) (ys : List ℕ) → Fails p xs → p y ≡ true
+    → position_or_len p (xs ++ y ∷ ys) ≡ length xs
 first-here p [] y ys h e = rw e refl
 first-here p (x ∷ xs) y ys h e = rw (h.0, one-add, first-here p xs y ys h.1 e) refl
 
@@ -60,7 +61,8 @@ digits-fail-point [] h = tt
 digits-fail-point (d ∷ ds) h = let r = digit_from_value d h.0 in (point-no-digit d r.0 r.1, digits-fail-point ds h.1)
 
 -- a sign is taken off
-pub sign-off : (s : Sign) (bs : List ℕ) → get_or bs 0 0 ≢ 43 → get_or bs 0 0 ≢ 45 → (without_leading_sign (sign_bytes s ++ bs) ≡ bs) × (starts_with_minus (sign_bytes s ++ bs) ≡ is_minus s)
+pub sign-off : (s : Sign) (bs : List ℕ) → get_or bs 0 0 ≢ 43 → get_or bs 0 0 ≢ 45
+    → (without_leading_sign (sign_bytes s ++ bs) ≡ bs) × (starts_with_minus (sign_bytes s ++ bs) ≡ is_minus s)
 sign-off none bs h g =
     let a : eqb (get_or bs 0 0) 45 ≡ false = grind (arith, nat_tests) in
     let b : eqb (get_or bs 0 0) 43 ≡ false = grind (arith, nat_tests) in
@@ -69,7 +71,8 @@ sign-off plus bs h g = (refl, refl)
 sign-off minus bs h g = (refl, refl)
 
 -- and is found
-pub sign-of : (bs : List ℕ) → (s : Sign) × (bs ≡ sign_bytes s ++ without_leading_sign bs) × (starts_with_minus bs ≡ is_minus s)
+pub sign-of : (bs : List ℕ)
+    → (s : Sign) × (bs ≡ sign_bytes s ++ without_leading_sign bs) × (starts_with_minus bs ≡ is_minus s)
 sign-of [] = (none, refl, refl)
 sign-of (c ∷ cs) =
     elim (cases_Bool (eqb c 45)) [
@@ -81,7 +84,8 @@ sign-of (c ∷ cs) =
     ]
 
 -- an exponent with 32768 added
-pub bias : (b : Bool) (v : ℕ) → leb v (cond b 32768 32767) ≡ true → (cond b (32768 - v) (32768 + v) + cond b v 0 ≡ 32768 + cond b 0 v) × (cond b 0 v ≤ 32767) × (cond b v 0 ≤ 32768)
+pub bias : (b : Bool) (v : ℕ) → leb v (cond b 32768 32767) ≡ true
+    → (cond b (32768 - v) (32768 + v) + cond b v 0 ≡ 32768 + cond b 0 v) × (cond b 0 v ≤ 32767) × (cond b v 0 ≤ 32768)
 bias true v e = let low = leb-true v 32768 e in (omega arith, omega arith, omega arith)
 bias false v e = let low = leb-true v 32767 e in (omega arith, omega arith, omega arith)
 
@@ -146,23 +150,27 @@ no-mark-fraction : (f : Option (List ℕ)) → AllDigits 10 (fraction_digits f) 
 no-mark-fraction None h = tt
 no-mark-fraction (Some ds) h = (refl, digits-fail-mark ds h)
 
-before-point : (whole : List ℕ) (f : Option (List ℕ)) → AllDigits 10 whole → before_first is_point (whole ++ fraction_bytes f) ≡ whole
+before-point : (whole : List ℕ) (f : Option (List ℕ)) → AllDigits 10 whole
+    → before_first is_point (whole ++ fraction_bytes f) ≡ whole
 before-point whole None h = rw (append-nil, first-none is_point whole (digits-fail-point whole h)) (take_all (length whole) whole (omega arith))
 before-point whole (Some ds) h = rw (first-here is_point whole 46 ds (digits-fail-point whole h) refl) (take_at whole (46 ∷ ds) (length whole) refl)
 
-after-point : (whole : List ℕ) (f : Option (List ℕ)) → AllDigits 10 whole → after_first is_point (whole ++ fraction_bytes f) ≡ fraction_digits f
+after-point : (whole : List ℕ) (f : Option (List ℕ)) → AllDigits 10 whole
+    → after_first is_point (whole ++ fraction_bytes f) ≡ fraction_digits f
 after-point whole None h = rw (append-nil, first-none is_point whole (digits-fail-point whole h)) (drop_all (length whole + 1) whole (omega arith))
 after-point whole (Some ds) h =
     rw (first-here is_point whole 46 ds (digits-fail-point whole h) refl) (past whole 46 ds)
 
-before-mark : (cs : List ℕ) (ex : Exponent) → Fails is_mark cs → IsExponent ex → before_first is_mark (cs ++ exponent_bytes ex) ≡ cs
+before-mark : (cs : List ℕ) (ex : Exponent) → Fails is_mark cs → IsExponent ex
+    → before_first is_mark (cs ++ exponent_bytes ex) ≡ cs
 before-mark cs unwritten h ok = rw (append-nil, first-none is_mark cs h) (take_all (length cs) cs (omega arith))
 before-mark cs (written m s ds) h ok = rw (first-here is_mark cs m (sign_bytes s ++ ds) h (is-mark m ok.0)) (take_at cs (m ∷ (sign_bytes s ++ ds)) (length cs) refl)
 
 digits-no-sign : (ds : List ℕ) → 0 < length ds → AllDigits 10 ds → (get_or ds 0 0 ≢ 43) × (get_or ds 0 0 ≢ 45)
 digits-no-sign ds some h = let r = digit_at ds 0 h some in let low = r.0 in (λ e. omega arith, λ e. omega arith)
 
-exponent-from-is : (b : Bool) (ds : List ℕ) (w : ℕ) → 0 < length ds → AllDigits 10 ds → cond b 0 (digits_value 10 ds) ≤ 32767 → cond b (digits_value 10 ds) 0 ≤ 32768
+exponent-from-is : (b : Bool) (ds : List ℕ) (w : ℕ) → 0 < length ds → AllDigits 10 ds
+    → cond b 0 (digits_value 10 ds) ≤ 32767 → cond b (digits_value 10 ds) 0 ≤ 32768
     → w + cond b (digits_value 10 ds) 0 ≡ 32768 + cond b 0 (digits_value 10 ds)
     → cond (ltb 0 (length ds) && (all_ascii_digits ds && leb (digits_value 10 ds) (cond b 32768 32767))) (Some (cond b (32768 - digits_value 10 ds) (32768 + digits_value 10 ds))) None ≡ Some w
 exponent-from-is true ds w some digits high low at =
@@ -179,8 +187,10 @@ exponent_from : Bool → List ℕ → Option ℕ
 exponent_from negative us =
     cond (ltb 0 (length us) && (all_ascii_digits us && leb (digits_value 10 us) (cond negative 32768 32767))) (Some (cond negative (32768 - digits_value 10 us) (32768 + digits_value 10 us))) None
 
-exponent-is : (s : Sign) (ds : List ℕ) (w : ℕ) → 0 < length ds → AllDigits 10 ds → cond (is_minus s) 0 (digits_value 10 ds) ≤ 32767 → cond (is_minus s) (digits_value 10 ds) 0 ≤ 32768
-    → w + cond (is_minus s) (digits_value 10 ds) 0 ≡ 32768 + cond (is_minus s) 0 (digits_value 10 ds) → exponent_value (sign_bytes s ++ ds) ≡ Some w
+exponent-is : (s : Sign) (ds : List ℕ) (w : ℕ) → 0 < length ds → AllDigits 10 ds
+    → cond (is_minus s) 0 (digits_value 10 ds) ≤ 32767 → cond (is_minus s) (digits_value 10 ds) 0 ≤ 32768
+    → w + cond (is_minus s) (digits_value 10 ds) 0 ≡ 32768 + cond (is_minus s) 0 (digits_value 10 ds)
+    → exponent_value (sign_bytes s ++ ds) ≡ Some w
 unfolding exponent_value exponent_from
 exponent-is s ds w some digits high low at =
     let no_sign = digits-no-sign ds some digits in
@@ -194,7 +204,9 @@ exponent-is s ds w some digits high low at =
 written_from : List ℕ → Bool → Result ℕ ParseError
 written_from tail marked = cond (not marked) (Ok 32768) (cond (eqb (length tail) 0) (Err EmptyExponent) (ok_or (exponent_value tail) InvalidExponent))
 
-written-is : (cs : List ℕ) (ex : Exponent) (w : ℕ) → Fails is_mark cs → IsExponent ex → written_up ex ≤ 32767 → written_down ex ≤ 32768 → w + written_down ex ≡ 32768 + written_up ex → written_exponent (cs ++ exponent_bytes ex) ≡ Ok w
+written-is : (cs : List ℕ) (ex : Exponent) (w : ℕ) → Fails is_mark cs → IsExponent ex → written_up ex ≤ 32767
+    → written_down ex ≤ 32768 → w + written_down ex ≡ 32768 + written_up ex
+    → written_exponent (cs ++ exponent_bytes ex) ≡ Ok w
 unfolding written_exponent written_from
 written-is cs unwritten w h ok high low at =
     let none : ltb (position_or_len is_mark cs) (length cs) ≡ false = rw (first-none is_mark cs h) (grind (arith, nat_tests)) in
@@ -227,7 +239,9 @@ module _ (whole : List ℕ) (f : Option (List ℕ)) (ex : Exponent) (digits : Al
   before-is : before_first is_mark ((whole ++ fraction_bytes f) ++ exponent_bytes ex) ≡ whole ++ fraction_bytes f
   before-is = before-mark (whole ++ fraction_bytes f) ex no-mark ok
 
-  pub finite-is : (w x : ℕ) → w + written_down ex ≡ 32768 + written_up ex → length (fraction_digits f) ≤ 32767 → w ≡ x + length (fraction_digits f) → finite ((whole ++ fraction_bytes f) ++ exponent_bytes ex) ≡ stored_pair (whole ++ fraction_digits f) x
+  pub finite-is : (w x : ℕ) → w + written_down ex ≡ 32768 + written_up ex → length (fraction_digits f) ≤ 32767
+      → w ≡ x + length (fraction_digits f)
+      → finite ((whole ++ fraction_bytes f) ++ exponent_bytes ex) ≡ stored_pair (whole ++ fraction_digits f) x
   unfolding finite scaled_exponent finite_from
   finite-is w x at short sum =
       let rest = (whole ++ fraction_bytes f) ++ exponent_bytes ex in

@@ -10,7 +10,8 @@ pub fits-above : (m up down c e k : ℕ) → 10 ^ (33 + k) ≤ m → FitsShifted
 fits-above m up down c e k from f = omega (arith, reach 34 (33 + k) c (e + down) m (up + 6176) f.coefficient from f.equal)
 
 -- k digits past the 34th were zeros and are dropped
-pub nearest-dropped : (m up down c e k : ℕ) → m ≡ c * 10 ^ k → c < 10 ^ 34 → 10 ^ (33 + k) ≤ m → e < 12288 → e + down ≡ up + 6176 + k → IsNearestShifted m up down c e
+pub nearest-dropped : (m up down c e k : ℕ) → m ≡ c * 10 ^ k → c < 10 ^ 34 → 10 ^ (33 + k) ≤ m → e < 12288
+    → e + down ≡ up + 6176 + k → IsNearestShifted m up down c e
 nearest-dropped m up down c e k is small from within at =
     record {
       fits = record { equal = rw at (raised c k m (up + 6176) is); coefficient = small; exponent = within };
@@ -26,7 +27,8 @@ nearest-same m up down e small within at =
     }
 
 -- j zeros are dropped, down to the least exponent
-pub nearest-lowest : (m up down c j : ℕ) → m ≡ c * 10 ^ j → c < 10 ^ 34 → down ≡ up + 6176 + j → IsNearestShifted m up down c 0
+pub nearest-lowest : (m up down c j : ℕ) → m ≡ c * 10 ^ j → c < 10 ^ 34 → down ≡ up + 6176 + j
+    → IsNearestShifted m up down c 0
 nearest-lowest m up down c j is small at =
     let low : 0 + down ≡ up + 6176 + j = omega arith in
     record {
@@ -35,7 +37,8 @@ nearest-lowest m up down c j is small at =
     }
 
 -- j zeros are added, up to the greatest exponent
-pub nearest-highest : (m up down j : ℕ) → m * 10 ^ j < 10 ^ 34 → up + 6176 ≡ 12287 + down + j → IsNearestShifted m up down (m * 10 ^ j) 12287
+pub nearest-highest : (m up down j : ℕ) → m * 10 ^ j < 10 ^ 34 → up + 6176 ≡ 12287 + down + j
+    → IsNearestShifted m up down (m * 10 ^ j) 12287
 nearest-highest m up down j small at =
     record {
       fits = record { equal = lowered m j (12287 + down) (up + 6176) at; coefficient = small; exponent = omega arith };
@@ -70,7 +73,8 @@ between m up down c d e f a b lt =
     let zero_off = a.least m g own.fits in
     omega arith
 
-pub nearest-one : (m up down c d e f : ℕ) → IsNearestShifted m up down c e → IsNearestShifted m up down d f → (c ≡ d) × (e ≡ f)
+pub nearest-one : (m up down c d e f : ℕ) → IsNearestShifted m up down c e → IsNearestShifted m up down d f
+    → (c ≡ d) × (e ≡ f)
 nearest-one m up down c d e f a b =
     elim (cases_lt e f) [
       | inl h ↦ absurd (between m up down c d e f a b h)

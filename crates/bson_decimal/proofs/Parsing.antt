@@ -46,7 +46,8 @@ scaled-cases w f =
 stored_pair-ok : (bs : List ℕ) (x : ℕ) → x ≤ last_place → MatchResult (stored_pair bs x) (IsFitted bs x) (λ _. ⊤)
 stored_pair-ok bs x low = weaker (stored_pair bs x) (stored_pair-cases bs x low)
   where
-    weaker : (r : Result (ℕ × ℕ) ParseError) → MatchResult r (IsFitted bs x) (FittedRefuses bs x) → MatchResult r (IsFitted bs x) (λ _. ⊤)
+    weaker : (r : Result (ℕ × ℕ) ParseError) → MatchResult r (IsFitted bs x) (FittedRefuses bs x)
+        → MatchResult r (IsFitted bs x) (λ _. ⊤)
     weaker (Ok a) h = h
     weaker (Err e) h = tt
 
@@ -65,20 +66,26 @@ reads-finite rest =
     (λ e h. tt))
     (λ e h. tt)
   where
-    ok-finite : (rest whole : List ℕ) (f : Option (List ℕ)) (ex : Exponent) (fraction : List ℕ) (w x : ℕ) → fraction_digits f ≡ fraction → rest ≡ (whole ++ fraction_bytes f) ++ exponent_bytes ex → IsExponent ex → written_up ex ≤ 32767 → written_down ex ≤ 32768
-        → w + written_down ex ≡ 32768 + written_up ex → x + length fraction ≡ w → length fraction ≤ 32767 → (r : Result (ℕ × ℕ) ParseError) → MatchResult r (IsFitted (whole ++ fraction) x) (λ _. ⊤) → MatchResult r (ReadsFinite rest) (λ _. ⊤)
+    ok-finite : (rest whole : List ℕ) (f : Option (List ℕ)) (ex : Exponent) (fraction : List ℕ) (w x : ℕ)
+        → fraction_digits f ≡ fraction → rest ≡ (whole ++ fraction_bytes f) ++ exponent_bytes ex → IsExponent ex
+        → written_up ex ≤ 32767 → written_down ex ≤ 32768
+        → w + written_down ex ≡ 32768 + written_up ex → x + length fraction ≡ w → length fraction ≤ 32767
+        → (r : Result (ℕ × ℕ) ParseError) → MatchResult r (IsFitted (whole ++ fraction) x) (λ _. ⊤)
+        → MatchResult r (ReadsFinite rest) (λ _. ⊤)
     ok-finite rest whole f ex fraction w x same is ok high low value sum short (Ok r) h =
         record { whole = whole; fraction = f; exponent = ex; is = is; ok = ok; high = high; low = low; short = rw same short; scaled = x; scaled_is = rw same (omega arith); fitted_is = rw same h }
     ok-finite rest whole f ex fraction w x same is ok high low value sum short (Err e) h = tt
 
 -- the first byte of a finite text without its sign
-front-no-sign : (whole : List ℕ) (f : Option (List ℕ)) (rest : List ℕ) → AllDigits 10 (whole ++ fraction_digits f) → 0 < length (whole ++ fraction_digits f)
+front-no-sign : (whole : List ℕ) (f : Option (List ℕ)) (rest : List ℕ) → AllDigits 10 (whole ++ fraction_digits f)
+    → 0 < length (whole ++ fraction_digits f)
     → (get_or (whole ++ (fraction_bytes f ++ rest)) 0 0 ≢ 43) × (get_or (whole ++ (fraction_bytes f ++ rest)) 0 0 ≢ 45)
 front-no-sign [] None rest digits some = absurd (omega arith)
 front-no-sign [] (Some ds) rest digits some = (λ e. omega arith, λ e. omega arith)
 front-no-sign (d ∷ ds) f rest digits some = let r = digit_at (d ∷ (ds ++ fraction_digits f)) 0 digits some in let low = r.0 in (λ e. omega arith, λ e. omega arith)
 
-front-low : (whole : List ℕ) (f : Option (List ℕ)) (rest : List ℕ) → AllDigits 10 (whole ++ fraction_digits f) → 0 < length (whole ++ fraction_digits f)
+front-low : (whole : List ℕ) (f : Option (List ℕ)) (rest : List ℕ) → AllDigits 10 (whole ++ fraction_digits f)
+    → 0 < length (whole ++ fraction_digits f)
     → get_or (whole ++ (fraction_bytes f ++ rest)) 0 0 < 65
 front-low [] None rest digits some = absurd (omega arith)
 front-low [] (Some ds) rest digits some = omega arith
@@ -112,7 +119,8 @@ steps-on text n t l =
     }
 
 -- a text that the steps refuse denotes nothing
-pub refused : (text : List ℕ) (k : ParseError) → finite (without_leading_sign text) ≡ Err k → (n : Numeral) (c e : ℕ) → IsFiniteText text n → IsWithin16Shifted n → FitsShifted (number n) (up n) (down n) c e → ⊥
+pub refused : (text : List ℕ) (k : ParseError) → finite (without_leading_sign text) ≡ Err k → (n : Numeral) (c e : ℕ)
+    → IsFiniteText text n → IsWithin16Shifted n → FitsShifted (number n) (up n) (down n) c e → ⊥
 refused text k is n c e t l fits =
     let s = steps-on text n t l in
     let at = s.at in
@@ -120,7 +128,8 @@ refused text k is n c e t l fits =
     rw (sym s.steps ∙ is) at (stored_pair-cases (digits_of n) s.x s.within) t.digits t.some l.cut (omega arith) (up n) (down n) s.at c e fits
 
 -- and what they give is the one pair
-pub only : (text : List ℕ) (r : ℕ × ℕ) → finite (without_leading_sign text) ≡ Ok r → (n : Numeral) (c e : ℕ) → IsFiniteText text n → IsWithin16Shifted n → IsNearestShifted (number n) (up n) (down n) c e
+pub only : (text : List ℕ) (r : ℕ × ℕ) → finite (without_leading_sign text) ≡ Ok r → (n : Numeral) (c e : ℕ)
+    → IsFiniteText text n → IsWithin16Shifted n → IsNearestShifted (number n) (up n) (down n) c e
     → (c ≡ r.0) × (e ≡ r.1)
 only text r is n c e t l near =
     let s = steps-on text n t l in
@@ -128,7 +137,8 @@ only text r is n c e t l near =
     nearest-one (number n) (up n) (down n) c r.0 e r.1 near given
 
 -- a text that the steps read
-pub read : (text : List ℕ) (r : ℕ × ℕ) → ReadsFinite (without_leading_sign text) r → Parses text (to_le_bytes w128 (first_form (starts_with_minus text) r.0 r.1))
+pub read : (text : List ℕ) (r : ℕ × ℕ) → ReadsFinite (without_leading_sign text) r
+    → Parses text (to_le_bytes w128 (first_form (starts_with_minus text) r.0 r.1))
 read text r h =
     let s = sign-of text in
     let n : Numeral = record { sign = s.0; whole = h.whole; fraction = h.fraction; exponent = h.exponent } in
@@ -186,11 +196,13 @@ special-one word m n (inf e) (infinity f) = refl
 special-one word m n (inf e) (inf f) = refl
 
 -- a word behind its sign
-pub word-off : (s : Sign) (word : List ℕ) (n : ℕ) → SpecialWord word n → (without_leading_sign (sign_bytes s ++ word) ≡ word) × (starts_with_minus (sign_bytes s ++ word) ≡ is_minus s)
+pub word-off : (s : Sign) (word : List ℕ) (n : ℕ) → SpecialWord word n
+    → (without_leading_sign (sign_bytes s ++ word) ≡ word) × (starts_with_minus (sign_bytes s ++ word) ≡ is_minus s)
 word-off s word n h = let first = special-letter word n h in sign-off s word (λ e. omega arith) (λ e. omega arith)
 
 -- a finite text is no word
-pub no-word : (text : List ℕ) (n : Numeral) (m : ℕ) → IsFiniteText text n → SpecialWord (without_leading_sign text) m → ⊥
+pub no-word : (text : List ℕ) (n : Numeral) (m : ℕ) → IsFiniteText text n → SpecialWord (without_leading_sign text) m
+    → ⊥
 no-word text n m t h =
     let first = front-no-sign n.whole n.fraction (exponent_bytes n.exponent) t.digits t.some in
     let off = sign-off n.sign (n.whole ++ (fraction_bytes n.fraction ++ exponent_bytes n.exponent)) first.0 first.1 in
@@ -214,7 +226,8 @@ special-parses text n h =
         b-is ∙ rw (same, sign) refl
     only-word b (finite_text k c e t l near b-is) = absurd (no-word text k n t h)
 
-pub finite-parses : (text : List ℕ) (r : ℕ × ℕ) → ((n : ℕ) → ¬ (SpecialWord (without_leading_sign text) n)) → finite (without_leading_sign text) ≡ Ok r
+pub finite-parses : (text : List ℕ) (r : ℕ × ℕ) → ((n : ℕ) → ¬ (SpecialWord (without_leading_sign text) n))
+    → finite (without_leading_sign text) ≡ Ok r
     → Parses text (to_le_bytes w128 (first_form (starts_with_minus text) r.0 r.1)) × ((b : List ℕ) → Parses text b → b ≡ to_le_bytes w128 (first_form (starts_with_minus text) r.0 r.1))
 finite-parses text r plain is = (read text r (rw is at (reads-finite (without_leading_sign text))), only-pair)
   where
@@ -226,7 +239,8 @@ finite-parses text r plain is = (read text r (rw is at (reads-finite (without_le
         let s = steps-on text n t limits in
         b-is ∙ rw (same.0, same.1, s.sign) refl
 
-pub refused-parses : (text : List ℕ) (k : ParseError) → ((n : ℕ) → ¬ (SpecialWord (without_leading_sign text) n)) → finite (without_leading_sign text) ≡ Err k → (b : List ℕ) → ¬ (Parses text b)
+pub refused-parses : (text : List ℕ) (k : ParseError) → ((n : ℕ) → ¬ (SpecialWord (without_leading_sign text) n))
+    → finite (without_leading_sign text) ≡ Err k → (b : List ℕ) → ¬ (Parses text b)
 refused-parses text k plain is b (special s word m w-is w b-is) = plain m (rw (ap without_leading_sign w-is ∙ (word-off s word m w).0) w)
 refused-parses text k plain is b (finite_text n c e t l near b-is) = refused text k is n c e t (within16-shifted n l) (nearest-shifted n c e near).fits
 

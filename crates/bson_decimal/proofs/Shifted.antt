@@ -121,10 +121,12 @@ within16 n l =
 split : (c a l : ℕ) → l ≤ a → c * 10 ^ (a - l) * 10 ^ l ≡ c * 10 ^ a
 split c a l h = let e : a ≡ a - l + l = omega arith in rw (ap (λ k. 10 ^ k) e, pow-add 10 (a - l) l) (omega arith)
 
-left : (up down e : ℕ) → nat_abs (exponent_at e -ℤ int_min (exponent_at e) (pos up -ℤ pos down)) ≡ e + down - min (e + down) (up + 6176)
+left : (up down e : ℕ)
+    → nat_abs (exponent_at e -ℤ int_min (exponent_at e) (pos up -ℤ pos down)) ≡ e + down - min (e + down) (up + 6176)
 left up down e = omega (arith, ints, clamps)
 
-right : (up down e : ℕ) → nat_abs ((pos up -ℤ pos down) -ℤ int_min (exponent_at e) (pos up -ℤ pos down)) ≡ up + 6176 - min (e + down) (up + 6176)
+right : (up down e : ℕ)
+    → nat_abs ((pos up -ℤ pos down) -ℤ int_min (exponent_at e) (pos up -ℤ pos down)) ≡ up + 6176 - min (e + down) (up + 6176)
 right up down e = omega (arith, ints, clamps)
 
 apart : (up down e : ℕ) → distance (pos up -ℤ pos down) (exponent_at e) ≡ distance_shifted up down e
@@ -164,15 +166,18 @@ nearest-at m up down c e h =
           subst (λ z. distance x (exponent_at e) ≤ distance x z) at (rw (apart up down e, apart up down stored) near);
     }
 
-nearest-at-shifted : (m up down c e : ℕ) → IsNearest m (pos up -ℤ pos down) c (exponent_at e) → IsNearestShifted m up down c e
+nearest-at-shifted : (m up down c e : ℕ) → IsNearest m (pos up -ℤ pos down) c (exponent_at e)
+    → IsNearestShifted m up down c e
 nearest-at-shifted m up down c e h =
     record {
       fits = fits-shifted m up down c e h.fits;
       least = λ d f g. rw (apart up down e, apart up down f) at (h.least d (exponent_at f) (fits m up down d f g));
     }
 
-pub nearest : (n : Numeral) (c e : ℕ) → IsNearestShifted (number n) (up n) (down n) c e → IsNearest (number n) (exponent n) c (exponent_at e)
+pub nearest : (n : Numeral) (c e : ℕ) → IsNearestShifted (number n) (up n) (down n) c e
+    → IsNearest (number n) (exponent n) c (exponent_at e)
 nearest n c e h = subst (λ x. IsNearest (number n) x c (exponent_at e)) (sym (exponent-is n)) (nearest-at (number n) (up n) (down n) c e h)
 
-pub nearest-shifted : (n : Numeral) (c e : ℕ) → IsNearest (number n) (exponent n) c (exponent_at e) → IsNearestShifted (number n) (up n) (down n) c e
+pub nearest-shifted : (n : Numeral) (c e : ℕ) → IsNearest (number n) (exponent n) c (exponent_at e)
+    → IsNearestShifted (number n) (up n) (down n) c e
 nearest-shifted n c e h = nearest-at-shifted (number n) (up n) (down n) c e (subst (λ x. IsNearest (number n) x c (exponent_at e)) (exponent-is n) h)

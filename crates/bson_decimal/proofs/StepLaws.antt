@@ -18,7 +18,8 @@ use Rattle.bson_decimal.proofs.Tens.{tens-pos, tens-le, reach}
 use Rattle.bson_decimal.proofs.Zeros.{value-append, zeros-are, zeros-not, AllDigits-parts}
 use Rattle.bson_decimal.proofs.NearestLaws.{fits-above, fits-exact}
 
-pub if-cases : {A E : Type 0} (P : A → Type 0) (Q : E → Type 0) (b : Bool) (r s : Result A E) → (b ≡ true → MatchResult r P Q) → (b ≡ false → MatchResult s P Q) → MatchResult (cond b r s) P Q
+pub if-cases : {A E : Type 0} (P : A → Type 0) (Q : E → Type 0) (b : Bool) (r s : Result A E)
+    → (b ≡ true → MatchResult r P Q) → (b ≡ false → MatchResult s P Q) → MatchResult (cond b r s) P Q
 if-cases P Q true r s f g = f refl
 if-cases P Q false r s f g = g refl
 
@@ -46,17 +47,21 @@ inside-no-digit ds i digits within e =
     omega arith
 
 -- the last digits are no zeros, and so the number is no multiple
-no-multiple : (ds : List ℕ) (n : ℕ) → AllDigits 10 ds → list_all is_zero (drop n ds) ≡ false → digits_value 10 ds % 10 ^ (length ds - n) ≡ 0 → ⊥
+no-multiple : (ds : List ℕ) (n : ℕ) → AllDigits 10 ds → list_all is_zero (drop n ds) ≡ false
+    → digits_value 10 ds % 10 ^ (length ds - n) ≡ 0 → ⊥
 no-multiple ds n digits other e =
     let joined = take-append-drop n ds in
     let behind = (AllDigits-parts (take n ds) (drop n ds) (rw joined digits)).1 in
     let some = zeros-not (drop n ds) behind other in
-    let parts : digits_value 10 ds ≡ digits_value 10 (take n ds) * 10 ^ (length ds - n) + digits_value 10 (drop n ds) = ap (digits_value 10) (sym joined) ∙ rw (value-append, length-drop) refl in
+    let parts : digits_value 10 ds ≡ digits_value 10 (take n ds) * 10 ^ (length ds - n) + digits_value 10 (drop n ds) = ap (digits_value 10) (sym joined)
+        ∙ rw (value-append, length-drop) refl in
     let below : digits_value 10 (drop n ds) < 10 ^ (length ds - n) = rw (← length-drop n ds) (digits_value-lt 10 (drop n ds) behind) in
     omega (arith, rw parts at e, mod-mul-add (digits_value 10 (take n ds)) (10 ^ (length ds - n)) (digits_value 10 (drop n ds)) below)
 
-zeros-dropped : (ds : List ℕ) (n : ℕ) → list_all is_zero (drop n ds) ≡ true → ds ≡ take n ds ++ replicate (length ds - n) 48
-zeros-dropped ds n e = sym (take-append-drop n ds) ∙ ap (λ ys. take n ds ++ ys) (zeros-are (drop n ds) e ∙ ap (λ k. replicate k 48) (length-drop n ds))
+zeros-dropped : (ds : List ℕ) (n : ℕ) → list_all is_zero (drop n ds) ≡ true
+    → ds ≡ take n ds ++ replicate (length ds - n) 48
+zeros-dropped ds n e = sym (take-append-drop n ds)
+    ∙ ap (λ ys. take n ds ++ ys) (zeros-are (drop n ds) e ∙ ap (λ k. replicate k 48) (length-drop n ds))
 
 -- nothing fits, whatever exponent up - down it is that x stands for
 abbrev pub NoneFitsAt : List ℕ → ℕ → Type 0
@@ -103,13 +108,15 @@ module _ (ds : List ℕ) (x : ℕ) where
   -- zeros dropped down to the least exponent
   pub record IsRaised (r : Scaled) : Type 0 where
     pub kept : least_place ≤ x → (r.0 ≡ ds) × (r.1 ≡ x)
-    pub raised : x < least_place → (r.1 ≡ least_place) × (((ds ≡ []) × (r.0 ≡ [])) ⊎ (ds ≡ r.0 ++ replicate (least_place - x) 48))
+    pub raised : x < least_place
+        → (r.1 ≡ least_place) × (((ds ≡ []) × (r.0 ≡ [])) ⊎ (ds ≡ r.0 ++ replicate (least_place - x) 48))
 
   abbrev pub Refuses : ParseError → Type 0
   Refuses k = AllDigits 10 ds → IsLarge ds → NoneFitsAt ds x
 
   -- where j digits would have to go, the number is a multiple of 10 ^ j
-  divides : (up down c e j : ℕ) → x + down ≡ up + 32768 → FitsShifted (digits_value 10 ds) up down c e → x + j ≡ least_place → digits_value 10 ds % 10 ^ j ≡ 0
+  divides : (up down c e j : ℕ) → x + down ≡ up + 32768 → FitsShifted (digits_value 10 ds) up down c e
+      → x + j ≡ least_place → digits_value 10 ds % 10 ^ j ≡ 0
   divides up down c e j at fits to = fits-exact (digits_value 10 ds) up down c e j (omega arith) fits
 
   pub raise_to_least-cases : MatchResult (raise_to_least ds x) IsRaised Refuses

@@ -27,13 +27,15 @@ pub position_or_len-le : (p : ℕ → Bool) (xs : List ℕ) → position_or_len 
 position_or_len-le p xs = prefix_len-le-length _ xs
 
 -- the place of the first such byte, where the place found or else the length is told
-pub first-place : (p : ℕ → Bool) (xs : List ℕ) (n : ℕ) → n ≡ unwrap_or (position p xs) (length xs) → (n ≡ position_or_len p xs) × (n ≤ length xs)
+pub first-place : (p : ℕ → Bool) (xs : List ℕ) (n : ℕ) → n ≡ unwrap_or (position p xs) (length xs)
+    → (n ≡ position_or_len p xs) × (n ≤ length xs)
 first-place p xs n is = let place = is ∙ position-or p xs in (place, rw place (position_or_len-le p xs))
 
 pub mark-ascii : (b : ℕ) → is_mark b ≡ true → b < 128
 mark-ascii b e = elim (or_cases (eqb b 101) (eqb b 69) e) [ inl t ↦ omega (arith, eqb-true b 101 t) | inr t ↦ omega (arith, eqb-true b 69 t) ]
 
-pub mark_at-ascii : (xs : List ℕ) → position_or_len is_mark xs < length xs → get_or xs (position_or_len is_mark xs) 0 < 128
+pub mark_at-ascii : (xs : List ℕ) → position_or_len is_mark xs < length xs
+    → get_or xs (position_or_len is_mark xs) 0 < 128
 mark_at-ascii xs h = mark-ascii _ (passes_at_first is_mark xs 0 h)
 
 -- what `parse` says of the text of an exponent, by its sign and the number of its digits
@@ -43,12 +45,15 @@ read-at true zero h = (refl, omega (arith, ints))
 read-at true (suc v) h = let low = h.sfits in (search (rules, tests), omega (arith, ints))
 read-at false v h = let low = h.sfits in (search (rules, tests), omega (arith, ints))
 
-unread-at : (negative : Bool) (v : ℕ) → leb v (cond negative 32768 32767) ≡ true → FitsSigned w16 (cond negative (neg_ℤ (pos v)) (pos v))
+unread-at : (negative : Bool) (v : ℕ) → leb v (cond negative 32768 32767) ≡ true
+    → FitsSigned w16 (cond negative (neg_ℤ (pos v)) (pos v))
 unread-at true zero h = record { sfits = omega arith }
 unread-at true (suc v) h = record { sfits = omega (arith, leb-true (suc v) 32768 h) }
 unread-at false v h = record { sfits = omega (arith, leb-true v 32767 h) }
 
-pub exponent-read : (bs : List ℕ) (x : ℤ) → IsNumeral 10 (without_leading_sign bs) × FitsSigned w16 (signed_digits_value 10 bs) → x ≡ signed_digits_value 10 bs
+pub exponent-read : (bs : List ℕ) (x : ℤ)
+    → IsNumeral 10 (without_leading_sign bs) × FitsSigned w16 (signed_digits_value 10 bs)
+    → x ≡ signed_digits_value 10 bs
     → Some (nat_abs (to_z w32 (of_z w32 (to_z w32 (of_z w32 x) +ℤ pos 32768)))) ≡ exponent_value bs
 unfolding exponent_value
 exponent-read bs x h e =
@@ -56,7 +61,8 @@ exponent-read bs x h e =
     let some : ltb 0 (length (without_leading_sign bs)) ≡ true = search (rules, tests, h.0.0) in
     rw (e, some, test-from_AllDigits _ h.0.1, r.0) (ap Some r.1)
 
-pub exponent-unread : (bs : List ℕ) → ¬ (IsNumeral 10 (without_leading_sign bs) × FitsSigned w16 (signed_digits_value 10 bs)) → None ≡ exponent_value bs
+pub exponent-unread : (bs : List ℕ)
+    → ¬ (IsNumeral 10 (without_leading_sign bs) × FitsSigned w16 (signed_digits_value 10 bs)) → None ≡ exponent_value bs
 unfolding exponent_value
 exponent-unread bs h =
     elim (cases_Bool (is_exponent bs)) [

@@ -22,11 +22,13 @@ value_after n (c ∷ cs) =
 pub value-cons : (c : ℕ) (cs : List ℕ) → digits_value 10 (c ∷ cs) ≡ digit_value c * 10 ^ length cs + digits_value 10 cs
 value-cons c cs = omega (arith, value_after (0 * 10 + digit_value c) cs)
 
-after-append : (n : ℕ) (xs ys : List ℕ) → digits_value_after 10 n (xs ++ ys) ≡ digits_value_after 10 (digits_value_after 10 n xs) ys
+after-append : (n : ℕ) (xs ys : List ℕ)
+    → digits_value_after 10 n (xs ++ ys) ≡ digits_value_after 10 (digits_value_after 10 n xs) ys
 after-append n [] ys = refl
 after-append n (x ∷ xs) ys = after-append (n * 10 + digit_value x) xs ys
 
-pub value-append : (xs ys : List ℕ) → digits_value 10 (xs ++ ys) ≡ digits_value 10 xs * 10 ^ length ys + digits_value 10 ys
+pub value-append : (xs ys : List ℕ)
+    → digits_value 10 (xs ++ ys) ≡ digits_value 10 xs * 10 ^ length ys + digits_value 10 ys
 value-append xs ys = after-append 0 xs ys ∙ value_after _ ys
 
 pub value-zeros : (k : ℕ) → digits_value 10 (replicate k 48) ≡ 0
@@ -86,7 +88,8 @@ zeros-front (x ∷ xs) =
     ]
 
 pub leading-zeros : (xs : List ℕ) → xs ≡ replicate (prefix_len is_zero xs) 48 ++ without_leading_zeros xs
-leading-zeros xs = sym (take-append-drop (prefix_len is_zero xs) xs) ∙ ap (λ ys. ys ++ without_leading_zeros xs) (zeros-front xs)
+leading-zeros xs = sym (take-append-drop (prefix_len is_zero xs) xs)
+    ∙ ap (λ ys. ys ++ without_leading_zeros xs) (zeros-front xs)
 
 -- a first digit that is no zero
 pub first-weight : (x : ℕ) (xs : List ℕ) → AllDigits 10 (x ∷ xs) → x ≢ 48 → 10 ^ length xs ≤ digits_value 10 (x ∷ xs)

@@ -1,5 +1,7 @@
--- How a decimal is printed: the scientific text of IEEE 754-2008, section 5.12, in the form of the BSON specification of decimal128.
-use Rattle.std.specs.Prelude.{ℕ, ◌-◌, ◌&&◌, ℤ, pos, neg_ℤ, ◌+ℤ◌, ◌-ℤ◌, int_lt, int_le, unsigned_abs, List, [], ◌++◌, length, take, drop, replicate, codes, nat_lt, ◌==◌, if◌then◌else◌}
+-- How a decimal is printed: the scientific text of IEEE 754-2008, section 5.12, in the form of the BSON specification
+-- of decimal128.
+use Rattle.std.specs.Prelude.{ℕ, ◌-◌, ◌&&◌, ℤ, pos, neg_ℤ, ◌+ℤ◌, ◌-ℤ◌, int_lt, int_le, unsigned_abs, List, [], ◌++◌}
+use Rattle.std.specs.Prelude.{length, take, drop, replicate, codes, nat_lt, ◌==◌, if◌then◌else◌}
 use Rattle.std.specs.Fmt.{decimal, signed_decimal, sign_text}
 use Rattle.bson_decimal.specs.declared.bits.Decoded.{Decoded}
 use Rattle.bson_decimal.specs.declared.bits.Decoded.TheVariants.{Nan, Infinity, Finite}
@@ -23,12 +25,14 @@ scientific_exponent ds exponent = exponent +ℤ pos (length ds) -ℤ pos 1
 
 -- the first digit, a point and the other digits if there are any, and the exponent of the first digit
 abbrev pub scientific_text : List ℕ → ℤ → List ℕ
-scientific_text ds first = take 1 ds ++ ((if length ds == 1 then [] else codes "." ++ drop 1 ds) ++ (codes "E" ++ power_text first))
+scientific_text ds first =
+    take 1 ds ++ ((if length ds == 1 then [] else codes "." ++ drop 1 ds) ++ (codes "E" ++ power_text first))
 
 -- plain where the exponent is at most 0 and that of the first digit at least -6
 abbrev pub finite_text : List ℕ → ℤ → List ℕ
 finite_text ds exponent =
-    if int_le exponent (pos 0) && int_le (neg_ℤ (pos 6)) (scientific_exponent ds exponent) then plain_text ds (unsigned_abs exponent)
+    if int_le exponent (pos 0) && int_le (neg_ℤ (pos 6)) (scientific_exponent ds exponent)
+    then plain_text ds (unsigned_abs exponent)
     else scientific_text ds (scientific_exponent ds exponent)
 
 -- a NaN has neither a sign nor a mark that it signals

@@ -1,5 +1,7 @@
--- What the 16 bytes of a decimal mean: IEEE 754-2008, section 3.5.2, decimal128 with its coefficient as one binary number. BSON 1.1 stores the 128 bits with their lowest byte first.
-use Rattle.std.specs.Prelude.{◌≡◌, ℕ, ◌+◌, ◌*◌, ◌/◌, ◌%◌, ◌^◌, ◌<◌, Bool, List, length, slice_index, nat_lt, ◌==◌, if◌then◌else◌}
+-- What the 16 bytes of a decimal mean: IEEE 754-2008, section 3.5.2, decimal128 with its coefficient as one binary
+-- number. BSON 1.1 stores the 128 bits with their lowest byte first.
+use Rattle.std.specs.Prelude.{◌≡◌, ℕ, ◌+◌, ◌*◌, ◌/◌, ◌%◌, ◌^◌, ◌<◌, Bool, List, length, slice_index, nat_lt, ◌==◌}
+use Rattle.std.specs.Prelude.{if◌then◌else◌}
 use Rattle.std.specs.Int.{w128, from_le_bytes, to_le_bytes}
 use Rattle.bson_decimal.specs.declared.bits.Decoded.{Decoded}
 use Rattle.bson_decimal.specs.declared.bits.Decoded.TheVariants.{Nan, Infinity, Finite}
@@ -19,8 +21,10 @@ is_set n k = field n k 1 == 1
 abbrev pub canonical_coefficient : ℕ → ℕ
 canonical_coefficient c = if nat_lt c (10 ^ 34) then c else 0
 
--- Bit 127 is the sign. Bits 126 to 122 are all one in a NaN, whose bit 121 says that it signals, and all but the last are one in an infinity.
--- Else, where bits 126 and 125 are both one, the pattern is in its second form, with the stored exponent in bits 124 to 111 and a coefficient above 10 ^ 34 - 1; else it is in its first form, with the stored exponent in bits 126 to 113 and the coefficient below them.
+-- Bit 127 is the sign. Bits 126 to 122 are all one in a NaN, whose bit 121 says that it signals, and all but the last
+-- are one in an infinity. Else, where bits 126 and 125 are both one, the pattern is in its second form, with the stored
+-- exponent in bits 124 to 111 and a coefficient above 10 ^ 34 - 1; else it is in its first form, with the stored
+-- exponent in bits 126 to 113 and the coefficient below them.
 abbrev pub number_meaning : ℕ → Decoded
 number_meaning n =
     if field n 122 5 == 31 then Nan (is_set n 127) (is_set n 121)
@@ -39,7 +43,8 @@ sign_weight negative = if negative then 2 ^ 127 else 0
 abbrev pub first_form : Bool → ℕ → ℕ → ℕ
 first_form negative c stored = sign_weight negative + stored * 2 ^ 113 + c
 
--- Of the patterns with one meaning this is the one that is written: of a NaN the positive quiet one with no payload, of an infinity the one of its sign with no other bit set, of a finite number its first form.
+-- Of the patterns with one meaning this is the one that is written: of a NaN the positive quiet one with no payload, of
+-- an infinity the one of its sign with no other bit set, of a finite number its first form.
 abbrev pub normal_number : Decoded → ℕ
 normal_number (Nan negative signalling) = 124 * 2 ^ 120
 normal_number (Infinity negative) = sign_weight negative + 120 * 2 ^ 120

@@ -1,12 +1,16 @@
--- Why a text is refused: the kind of the first of these steps that finds a fault. They are for `decimal_fault` and for the proofs; which texts denote a decimal, and which one, is said in Text, with no step.
--- An exponent is kept by its place among those of 16 bits, which is a natural number.
-use Rattle.std.specs.Prelude.{ℕ, ◌+◌, ◌-◌, ◌*◌, ◌^◌, Bool, not, ◌&&◌, ◌||◌, List, ◌++◌, length, take, drop, Option, Some, None, Result, Ok, Err, nat_lt, nat_le, ◌==◌, if◌then◌else◌, slice_index, min, ℤ, pos, ◌+ℤ◌, unsigned_abs}
+-- Why a text is refused: the kind of the first of these steps that finds a fault. They are for `decimal_fault` and for
+-- the proofs; which texts denote a decimal, and which one, is said in Text, with no step. An exponent is kept by its
+-- place among those of 16 bits, which is a natural number.
+use Rattle.std.specs.Prelude.{ℕ, ◌+◌, ◌-◌, ◌*◌, ◌^◌, Bool, not, ◌&&◌, ◌||◌, List, ◌++◌, length, take, drop, Option}
+use Rattle.std.specs.Prelude.{Some, None, Result, Ok, Err, nat_lt, nat_le, ◌==◌, if◌then◌else◌, slice_index, min, ℤ}
+use Rattle.std.specs.Prelude.{pos, ◌+ℤ◌, unsigned_abs}
 use Rattle.std.specs.Option.{ok_or}
 use Rattle.std.specs.List.{list_all, position_or_len, before_first, after_first}
 use Rattle.std.specs.Str.{all_ascii_digits}
 use Rattle.std.specs.Str.Parse.{digits_value, without_leading_sign, starts_with_minus}
 use Rattle.bson_decimal.specs.declared.ParseError.{ParseError}
-use Rattle.bson_decimal.specs.declared.ParseError.TheVariants.{EmptyExponent, InvalidExponent, InvalidCoefficient, Overflow, Underflow, InexactRounding, Unparseable}
+use Rattle.bson_decimal.specs.declared.ParseError.TheVariants.{EmptyExponent, InvalidExponent, InvalidCoefficient}
+use Rattle.bson_decimal.specs.declared.ParseError.TheVariants.{Overflow, Underflow, InexactRounding, Unparseable}
 use Rattle.bson_decimal.specs.Exponents.{least_exponent, greatest_exponent}
 use Rattle.bson_decimal.specs.Numeral.{is_zero, without_leading_zeros}
 
@@ -74,11 +78,14 @@ has p bs = nat_lt (position_or_len p bs) (length bs)
 
 -- a sign and digits, of a value from -32768 to 32767
 abbrev pub is_exponent : List ℕ → Bool
-is_exponent bs = nat_lt 0 (length (without_leading_sign bs)) && (all_ascii_digits (without_leading_sign bs) && nat_le (digits_value 10 (without_leading_sign bs)) (if starts_with_minus bs then 32768 else 32767))
+is_exponent bs = nat_lt 0 (length (without_leading_sign bs))
+    && (all_ascii_digits (without_leading_sign bs)
+    && nat_le (digits_value 10 (without_leading_sign bs)) (if starts_with_minus bs then 32768 else 32767))
 
 -- the place of that value
 abbrev pub written_place : List ℕ → ℕ
-written_place bs = if starts_with_minus bs then zero_place - digits_value 10 (without_leading_sign bs) else zero_place + digits_value 10 (without_leading_sign bs)
+written_place bs = if starts_with_minus bs then zero_place - digits_value 10 (without_leading_sign bs)
+    else zero_place + digits_value 10 (without_leading_sign bs)
 
 unfoldable pub exponent_value : List ℕ → Option ℕ
 exponent_value bs = if is_exponent bs then Some (written_place bs) else None

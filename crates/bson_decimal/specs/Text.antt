@@ -4,14 +4,16 @@ use Rattle.std.specs.Char.{to_ascii_lowercase}
 use Rattle.std.specs.Int.{w128, to_le_bytes}
 use Rattle.bson_decimal.specs.Exponents.{exponent_at}
 use Rattle.bson_decimal.specs.Pattern.{first_form, sign_weight}
-use Rattle.bson_decimal.specs.Numeral.{Sign, sign_bytes, is_minus, Numeral, fraction_digits, digits_of, IsFiniteText, number, written_exponent, exponent, without_leading_zeros}
+use Rattle.bson_decimal.specs.Numeral.{Sign, sign_bytes, is_minus, Numeral, fraction_digits, digits_of, IsFiniteText}
+use Rattle.bson_decimal.specs.Numeral.{number, written_exponent, exponent, without_leading_zeros}
 use Rattle.bson_decimal.specs.Nearest.{IsNearest}
 
 -- how many digits come after the 34th, leading zeros dropped
 abbrev pub excess : Numeral → ℕ
 excess n = length (without_leading_zeros (digits_of n)) - 34
 
--- The limits of 16 bits that a text keeps: on the exponent that is written, on the digits after the point, on the exponent that is denoted, and on the digits past the 34th, also where they move the exponent.
+-- The limits of 16 bits that a text keeps: on the exponent that is written, on the digits after the point, on the
+-- exponent that is denoted, and on the digits past the 34th, also where they move the exponent.
 pub record IsWithin16 (n : Numeral) : Type 0 where
   pub low : (neg_ℤ (pos 32768)) ≤ℤ written_exponent n.exponent
   pub high : written_exponent n.exponent ≤ℤ pos 32767
@@ -30,7 +32,11 @@ pub data SpecialWord (word : List ℕ) : ℕ → Type 0 where
   infinity : lowercase word ≡ codes "infinity" → SpecialWord word (120 * 2 ^ 120)
   inf : lowercase word ≡ codes "inf" → SpecialWord word (120 * 2 ^ 120)
 
--- The text denotes the decimal of the pattern b: a word with its sign, or a finite text within the limits, to the first form of the nearest pair. A text that has no such pair denotes nothing: no value is rounded.
+-- The text denotes the decimal of the pattern b: a word with its sign, or a finite text within the limits, to the first
+-- form of the nearest pair. A text that has no such pair denotes nothing: no value is rounded.
 pub data Parses (text b : List ℕ) : Type 0 where
-  special : (s : Sign) (word : List ℕ) (n : ℕ) → text ≡ sign_bytes s ++ word → SpecialWord word n → b ≡ to_le_bytes w128 (sign_weight (is_minus s) + n) → Parses text b
-  finite : (n : Numeral) (c stored : ℕ) → IsFiniteText text n → IsWithin16 n → IsNearest (number n) (exponent n) c (exponent_at stored) → b ≡ to_le_bytes w128 (first_form (is_minus n.sign) c stored) → Parses text b
+  special : (s : Sign) (word : List ℕ) (n : ℕ) → text ≡ sign_bytes s ++ word → SpecialWord word n
+      → b ≡ to_le_bytes w128 (sign_weight (is_minus s) + n) → Parses text b
+  finite : (n : Numeral) (c stored : ℕ) → IsFiniteText text n → IsWithin16 n
+      → IsNearest (number n) (exponent n) c (exponent_at stored)
+      → b ≡ to_le_bytes w128 (first_form (is_minus n.sign) c stored) → Parses text b

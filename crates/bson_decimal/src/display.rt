@@ -1,9 +1,11 @@
 //! The text of a decimal.
 
-ghost use Rattle.std.specs.Prelude.{◌≡◌, ◌+◌, ◌-◌, ◌*◌, ◌^◌, ◌<◌, ◌≤◌, ◌++◌, [], length, take, drop, replicate, Some, IsAscii};
+ghost use Rattle.std.specs.Prelude.{◌≡◌, ◌+◌, ◌-◌, ◌*◌, ◌^◌, ◌<◌, ◌≤◌, ◌++◌, [], length, take};
+ghost use Rattle.std.specs.Prelude.{drop, replicate, Some, IsAscii};
 ghost use Rattle.std.specs.Fmt.{decimal, sign_text, WritesOnOk};
 ghost use Rattle.bson_decimal.specs.Exponents.{exponent_at};
-ghost use Rattle.bson_decimal.specs.Displayed.{plain_text, power_text, scientific_exponent, scientific_text, finite_text, display_text};
+ghost use Rattle.bson_decimal.specs.Displayed.{plain_text, power_text, scientific_exponent};
+ghost use Rattle.bson_decimal.specs.Displayed.{scientific_text, finite_text, display_text};
 
 use crate::Decimal128;
 use crate::bits::{Decoded, exponent_at};

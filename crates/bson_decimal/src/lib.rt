@@ -85,12 +85,12 @@ pub enum ParseError {
     /// The coefficient is not digits with at most one point, or holds no digit.
     #[error("the coefficient is no number")]
     InvalidCoefficient,
-    /// The value is too large for 34 digits and an exponent of at most 6111; or more than 32767 zeros
-    /// stand past the 34th digit, or the exponent is above 32767 with them.
+    /// The value is too large for 34 digits and an exponent of at most 6111; or more than 32767
+    /// zeros stand past the 34th digit, or the exponent is above 32767 with them.
     #[error("the value is too large for a decimal128")]
     Overflow,
-    /// The value is too small for an exponent of at least -6176; or more than 32767 bytes stand after
-    /// the point, or the exponent less those is below -32768.
+    /// The value is too small for an exponent of at least -6176; or more than 32767 bytes stand
+    /// after the point, or the exponent less those is below -32768.
     #[error("the value is too small for a decimal128")]
     Underflow,
     /// Another character than `0` stands past the 34th digit, or below the least exponent.

@@ -1,12 +1,16 @@
 //! A text to a decimal.
 
-ghost use Rattle.std.specs.Prelude.{◌≡◌, ◌↔◌, ◌+◌, ◌*◌, ◌^◌, ◌<◌, ◌≤◌, List, ℕ, length, position, slice_index, IfOk, IfSome, IsOkAnd, MatchOption};
+ghost use Rattle.std.specs.Prelude.{◌≡◌, ◌↔◌, ◌+◌, ◌*◌, ◌^◌, ◌<◌, ◌≤◌, List, ℕ, length, position};
+ghost use Rattle.std.specs.Prelude.{slice_index, IfOk, IfSome, IsOkAnd, MatchOption};
 ghost use Rattle.std.specs.List.{position_or_len};
 ghost use Rattle.std.specs.Str.Parse.{starts_with_minus, without_leading_sign};
 ghost use Rattle.bson_decimal.specs.Pattern.{normal_decimal};
 ghost use Rattle.bson_decimal.specs.Displayed.{display_text};
 ghost use Rattle.bson_decimal.specs.Text.{SpecialWord};
-ghost use Rattle.bson_decimal.specs.Steps.{is_mark, is_point, is_inside, cut_at_34, raise_to_least, zeros_to_add, least_place, last_place, stored_pair, coefficient, written_exponent, scaled_exponent, exponent_value, finite};
+ghost use Rattle.bson_decimal.specs.Steps.{is_mark, is_point, is_inside, cut_at_34, raise_to_least};
+ghost use Rattle.bson_decimal.specs.Steps.{zeros_to_add, least_place, last_place, stored_pair};
+ghost use Rattle.bson_decimal.specs.Steps.{coefficient, written_exponent, scaled_exponent};
+ghost use Rattle.bson_decimal.specs.Steps.{exponent_value, finite};
 ghost use Rattle.bson_decimal.specs.FromStr.{ParsesTo};
 
 use crate::bits::{INFINITY, QUIET_NAN, SIGNALLING_NAN, first_form, sign_weight};
@@ -49,7 +53,8 @@ impl FromStr for Decimal128 {
         // exactly if their canonical patterns are one.
         ensures reads_displayed { (b : List ℕ) → text.now ≡ display_text b
             → IsOkAnd result (λ d. d ≡ normal_decimal b) }
-        ensures prints_apart { (a b : List ℕ) → (display_text a ≡ display_text b) ↔ (normal_decimal a ≡ normal_decimal b) }
+        ensures prints_apart { (a b : List ℕ) → (display_text a ≡ display_text b)
+            ↔ (normal_decimal a ≡ normal_decimal b) }
     {
         let negative = is_negative(text);
         let rest = without_sign(text);

@@ -1,7 +1,8 @@
 -- The element type of each kind that holds no other value (BSON 1.1): that of the kind's own name.
 use Rattle.bson_scalar.specs.declared.spec.ElementType.{ElementType}
 use Rattle.bson_scalar.specs.declared.spec.ElementType.TheVariants as element
-use Rattle.bson_wrapper.specs.Scalar.{Scalar, null, undefined, min_key, max_key, boolean, double, int32, int64, text, symbol, code, regex, timestamp, binary, object_id, date, decimal, db_pointer}
+use Rattle.bson_wrapper.specs.Scalar.{Scalar, null, undefined, min_key, max_key, boolean, double, int32, int64, text}
+use Rattle.bson_wrapper.specs.Scalar.{symbol, code, regex, timestamp, binary, object_id, date, decimal, db_pointer}
 
 abbrev pub scalar_type : Scalar → ElementType
 scalar_type null = element.Null

@@ -251,7 +251,8 @@ impl<'a> fmt::Debug for ScalarRef<'a> {
 
 // A double by its pattern of bits, in 16 hexadecimal digits.
 fn show_double<W: fmt::Write>(pattern: u64, f: &mut fmt::Formatter<W>) -> fmt::Result
-    ensures { WritesOnOk W.write_str_gives f.old result (codes "Double(0x" ++ sixteen_digits pattern ++ codes ")") f.new }
+    ensures { WritesOnOk W.write_str_gives f.old result (codes "Double(0x" ++ sixteen_digits pattern
+        ++ codes ")") f.new }
 {
     write!(f, "Double(0x{pattern:016x})")
 }

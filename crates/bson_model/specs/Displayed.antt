@@ -2,7 +2,8 @@
 use Rattle.std.specs.Prelude.{ℕ, List, [], ◌∷◌, ◌++◌, codes}
 use Rattle.std.specs.List.{join_by}
 use Rattle.bson_wrapper.specs.Displayed.{scalar_text}
-use Rattle.bson_model.specs.Value.{Value, scalar, code_scope, array, document, Values, no_values, value, Pairs, no_pairs, pair}
+use Rattle.bson_model.specs.Value.{Value, scalar, code_scope, array, document, Values, no_values, value, Pairs}
+use Rattle.bson_model.specs.Value.{no_pairs, pair}
 
 -- the texts with a separator between them and brackets around them; without texts, the empty brackets
 abbrev pub bracketed_text : List ℕ → List ℕ → List ℕ → List ℕ → List (List ℕ) → List ℕ

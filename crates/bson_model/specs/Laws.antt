@@ -7,7 +7,8 @@ use Rattle.bson_wrapper.specs.declared.form.Form.{Form}
 use Rattle.bson_model.specs.Value.{Value, document, Pairs}
 use Rattle.bson_model.specs.Means.{Means, MeansDocument}
 use Rattle.bson_model.specs.Same.{same}
-use Rattle.bson_model.specs.Normal.{normal_form, narrowed_form, as_read, plain, plain_values, InRange, writable, writable_pairs}
+use Rattle.bson_model.specs.Normal.{normal_form, narrowed_form, as_read, plain, plain_values, InRange, writable}
+use Rattle.bson_model.specs.Normal.{writable_pairs}
 use Rattle.bson_model.specs.Written.{Written}
 
 -- the tree of a plain value means one value, the same as its normal form, settled
@@ -20,7 +21,8 @@ ReadsBackAlone f v t w = plain v ≡ true → Means t w → same w (as_read f (n
 
 -- the tree t of v, and the tree u of w
 abbrev pub HasEqualTrees : Form → Value → Data → Value → Data → Type 0
-HasEqualTrees f v t w u = plain v ≡ true → plain w ≡ true → InRange w → Written f (normal_form w) u → ((t ≡ u) ↔ (same (as_read f (normal_form v)) (as_read f (normal_form w)) ≡ true))
+HasEqualTrees f v t w u = plain v ≡ true → plain w ≡ true → InRange w → Written f (normal_form w) u
+    → ((t ≡ u) ↔ (same (as_read f (normal_form v)) (as_read f (normal_form w)) ≡ true))
 
 -- a value that is the same has no other tree
 abbrev pub HasSameTree : Form → Value → Data → Value → Data → Type 0
@@ -28,7 +30,8 @@ HasSameTree f v t w u = same v w ≡ true → Written f (normal_form w) u → u 
 
 -- a document's own map, whose keys are not tested, means its own normal form, narrowed in the relaxed form
 abbrev pub OwnMapReadsBack : Form → Value → Data → Type 0
-OwnMapReadsBack f v t = (ps : Pairs) (ms : Members) → v ≡ document ps → t ≡ tree.object ms → plain_values ps ≡ true → (qs : Pairs) × MeansDocument ms qs × (same (document qs) (as_read f (normal_form v)) ≡ true)
+OwnMapReadsBack f v t = (ps : Pairs) (ms : Members) → v ≡ document ps → t ≡ tree.object ms → plain_values ps ≡ true
+    → (qs : Pairs) × MeansDocument ms qs × (same (document qs) (as_read f (normal_form v)) ≡ true)
 
 -- what the tree t of the value v in the form f is
 pub record IsTreeOf (f : Form) (v : Value) (t : Data) : Type 0 where
@@ -44,7 +47,8 @@ pub record IsTreeOf (f : Form) (v : Value) (t : Data) : Type 0 where
   pub equal : (w : Value) (u : Data) → HasEqualTrees f v t w u
   pub own_map : OwnMapReadsBack f v t
 
--- a normal form is its own, and so is a narrowed value; the normal form of a plain value is plain, that of a writable one writable, and of no other
+-- a normal form is its own, and so is a narrowed value; the normal form of a plain value is plain, that of a writable
+-- one writable, and of no other
 pub record FormsAreIdempotent (v : Value) : Type 0 where
   pub normal : normal_form (normal_form v) ≡ normal_form v
   pub narrow : narrowed_form (narrowed_form v) ≡ narrowed_form v

@@ -5,7 +5,8 @@ use Rattle.bson_wrapper.specs.Normal.{normal_scalar, scalar_as_read, writable_sc
 use Rattle.bson_wrapper.specs.Table.{wrapper_of}
 use Rattle.bson_wrapper.specs.declared.form.Form.{Form}
 use Rattle.bson_wrapper.specs.declared.form.Form.TheVariants.{Canonical, Relaxed}
-use Rattle.bson_model.specs.Value.{Value, scalar, code_scope, array, document, Values, no_values, value, Pairs, no_pairs, pair}
+use Rattle.bson_model.specs.Value.{Value, scalar, code_scope, array, document, Values, no_values, value, Pairs}
+use Rattle.bson_model.specs.Value.{no_pairs, pair}
 
 -- ---- the normal form
 

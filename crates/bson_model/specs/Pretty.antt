@@ -2,7 +2,8 @@
 use Rattle.std.specs.Prelude.{ℕ, ◌+◌, ◌-◌, ◌^◌, min, List, [], ◌∷◌, ◌++◌, replicate, codes}
 use Rattle.bson_wrapper.specs.Displayed.{scalar_text}
 use Rattle.bson_model.specs.Displayed.{bracketed_text, entry}
-use Rattle.bson_model.specs.Value.{Value, scalar, code_scope, array, document, Values, no_values, value, Pairs, no_pairs, pair}
+use Rattle.bson_model.specs.Value.{Value, scalar, code_scope, array, document, Values, no_values, value, Pairs}
+use Rattle.bson_model.specs.Value.{no_pairs, pair}
 
 abbrev pub blanks : ℕ → List ℕ
 blanks n = replicate n 32
@@ -21,7 +22,8 @@ abbrev mutual
   pretty i (scalar x) = scalar_text x
   pretty i (code_scope s ps) = s
   pretty i (array vs) = bracketed_text (codes "[]") (codes "[") (codes ", ") (closing i (codes "]")) (item_lines i vs)
-  pretty i (document ps) = bracketed_text (codes "{}") (codes "{\n") (codes ",\n") (closing i (codes "}")) (entry_lines i ps)
+  pretty i (document ps) =
+      bracketed_text (codes "{}") (codes "{\n") (codes ",\n") (closing i (codes "}")) (entry_lines i ps)
 
   pub item_lines : ℕ → Values → List (List ℕ)
   item_lines i no_values = []

@@ -18,7 +18,8 @@ padded (a ∷ []) = refl
 padded (a ∷ b ∷ []) = refl
 padded (a ∷ b ∷ c ∷ rest) =
     let digits = encode_symbols (engine_symbols standard) rest in
-    let end : digits ++ replicate (padding_len (length (a ∷ b ∷ c ∷ rest))) 61 ≡ padded_text rest = ap (λ n. digits ++ replicate n 61) (three_more (length rest)) ∙ padded rest in
+    let end : digits ++ replicate (padding_len (length (a ∷ b ∷ c ∷ rest))) 61 ≡ padded_text rest = ap (λ n. digits ++ replicate n 61) (three_more (length rest))
+        ∙ padded rest in
     ap (λ t. digit (a / 4) ∷ digit (a % 4 * 16 + b / 16) ∷ digit (b % 16 * 4 + c / 64) ∷ digit (c % 64) ∷ t) end
 
 -- what decodes in a text of bytes is what the text says
@@ -26,4 +27,5 @@ pub base64_from : (text bytes : List ℕ) → IsBytes text → decode_of standar
 base64_from text bytes chars h = (base64_bytes text bytes h, decode_of_strict standard text bytes (refl, refl) chars h ∙ padded bytes)
 
 pub base64_to : (text bytes : List ℕ) → IsBase64 text bytes → decode_of standard text ≡ Ok bytes
-base64_to text bytes is = ap (decode_of standard) (is.1 ∙ sym (padded bytes)) ∙ decode_of-encode_of standard bytes refl is.0
+base64_to text bytes is = ap (decode_of standard) (is.1 ∙ sym (padded bytes))
+    ∙ decode_of-encode_of standard bytes refl is.0

@@ -27,7 +27,8 @@ cleared_bytes-zero (b ∷ bs) padding =
     ap (λ n. n % 2 ^ padding) last ∙ mul-mod_left (last_byte bytes / 2 ^ padding) (2 ^ padding)
 
 -- bytes whose ignored bits are zero stay as they are
-pub cleared_bytes-same : (bytes : List ℕ) (padding : ℕ) → ignored_bits bytes padding ≡ 0 → cleared_bytes bytes padding ≡ bytes
+pub cleared_bytes-same : (bytes : List ℕ) (padding : ℕ) → ignored_bits bytes padding ≡ 0
+    → cleared_bytes bytes padding ≡ bytes
 cleared_bytes-same bytes padding zeros =
     let high : last_byte bytes / 2 ^ padding * 2 ^ padding ≡ last_byte bytes = omega (arith, shr_split (last_byte bytes) padding) in
     ap (set bytes (length bytes - 1)) high ∙ set-get_or bytes (length bytes - 1) 0
@@ -43,6 +44,7 @@ pub only_one-unchanged : (r : Result Vector Error) (bytes : List ℕ) → IfOk r
     → IfOk r (λ v. IsOnlyOne (cleared_vector bytes) (vector_view v))
 only_one-unchanged (Ok v) bytes is range =
     let same : data_bytes (vector_view v) ≡ bytes = same_bytes v ∙ is in
-    let unchanged : cleared_vector bytes ≡ bytes = ap cleared_vector (sym same) ∙ cleared_vector-same (vector_view v) range ∙ same in
+    let unchanged : cleared_vector bytes ≡ bytes = ap cleared_vector (sym same)
+        ∙ cleared_vector-same (vector_view v) range ∙ same in
     only_one v (cleared_vector bytes) range (is ∙ sym unchanged)
 only_one-unchanged (Err e) bytes is range = tt

@@ -10,13 +10,15 @@ use Rattle.bson_scalar.specs.Orders.{bytes_in_order}
 pub sixteen : (xs : List ℕ) → length xs ≡ 16 → bytes_in_order Standard xs ≡ xs
 sixteen xs h = sym (text_from_reads xs (bytes_in_order Standard xs) h (search rules))
 
-pub ordered_twice : (r : UuidRepresentation) (xs : List ℕ) → length xs ≡ 16 → bytes_in_order r (bytes_in_order r xs) ≡ xs
+pub ordered_twice : (r : UuidRepresentation) (xs : List ℕ) → length xs ≡ 16
+    → bytes_in_order r (bytes_in_order r xs) ≡ xs
 ordered_twice Standard xs h = sixteen xs h
 ordered_twice PythonLegacy xs h = sixteen xs h
 ordered_twice CSharpLegacy xs h = sixteen xs h
 ordered_twice JavaLegacy xs h = sixteen xs h
 
 -- a UUID that was read in the standard order is the bytes
-pub as_they_are : {E : Type 0} (r : Result (List ℕ) E) (xs : List ℕ) → (IsOk r → length xs ≡ 16) → IfOk r (λ id. id ≡ bytes_in_order Standard xs) → IfOk r (λ id. id ≡ xs)
+pub as_they_are : {E : Type 0} (r : Result (List ℕ) E) (xs : List ℕ) → (IsOk r → length xs ≡ 16)
+    → IfOk r (λ id. id ≡ bytes_in_order Standard xs) → IfOk r (λ id. id ≡ xs)
 as_they_are (Ok id) xs len h = h ∙ sixteen xs (len refl)
 as_they_are (Err e) xs len h = tt

@@ -40,9 +40,11 @@ count-insert_sorted c n (x ∷ xs) = elim (cases_Bool (nat_le n x)) [
 
 pub count-ascending_numbers : (c : ℕ) (xs : List ℕ) → count c (ascending_numbers xs) ≡ count c xs
 count-ascending_numbers c [] = refl
-count-ascending_numbers c (x ∷ xs) = count-insert_sorted c x (ascending_numbers xs) ∙ ap (λ n. tally c x + n) (count-ascending_numbers c xs)
+count-ascending_numbers c (x ∷ xs) = count-insert_sorted c x (ascending_numbers xs)
+    ∙ ap (λ n. tally c x + n) (count-ascending_numbers c xs)
 
-all-insert_sorted : (P : ℕ → Type 0) (n : ℕ) (xs : List ℕ) → P n → AllByRecursion P xs → AllByRecursion P (insert_sorted n xs)
+all-insert_sorted : (P : ℕ → Type 0) (n : ℕ) (xs : List ℕ) → P n → AllByRecursion P xs
+    → AllByRecursion P (insert_sorted n xs)
 all-insert_sorted P n [] h all = (h, tt)
 all-insert_sorted P n (x ∷ xs) h all = elim (nat_le n x) as (λ b. AllByRecursion P (cond b (n ∷ x ∷ xs) (x ∷ insert_sorted n xs))) [ true ↦ (h, all) | false ↦ (all.0, all-insert_sorted P n xs h all.1) ]
 
@@ -61,7 +63,8 @@ pub rises-ascending_numbers : (xs : List ℕ) → Rises (ascending_numbers xs)
 rises-ascending_numbers [] = tt
 rises-ascending_numbers (x ∷ xs) = rises-insert_sorted x (ascending_numbers xs) (rises-ascending_numbers xs)
 
-pub all-ascending_numbers : (P : ℕ → Type 0) (xs : List ℕ) → AllByRecursion P xs → AllByRecursion P (ascending_numbers xs)
+pub all-ascending_numbers : (P : ℕ → Type 0) (xs : List ℕ) → AllByRecursion P xs
+    → AllByRecursion P (ascending_numbers xs)
 all-ascending_numbers P [] all = tt
 all-ascending_numbers P (x ∷ xs) all = all-insert_sorted P x _ all.0 (all-ascending_numbers P xs all.1)
 

@@ -35,12 +35,14 @@ next_byte c d s i =
     let even : 2 * suc i ≡ suc (suc (2 * i)) = omega arith in
     rw (odd, even) refl
 
-bytes_in_turn : (c d : ℕ) (s : List ℕ) (n : ℕ) → by_index (suc n) (byte_of_digits (c ∷ d ∷ s)) ≡ (value_of c * 16 + value_of d) ∷ by_index n (byte_of_digits s)
+bytes_in_turn : (c d : ℕ) (s : List ℕ) (n : ℕ)
+    → by_index (suc n) (byte_of_digits (c ∷ d ∷ s)) ≡ (value_of c * 16 + value_of d) ∷ by_index n (byte_of_digits s)
 bytes_in_turn c d s n =
     by_front n (byte_of_digits (c ∷ d ∷ s))
     ∙ ap (λ bytes. (value_of c * 16 + value_of d) ∷ bytes) (by_index_cong n _ _ (λ i within. next_byte c d s i))
 
-text_from : (n : ℕ) (s : List ℕ) → length s ≡ 2 * n → list_all is_hex_digit s ≡ true → IsHexText s (by_index n (byte_of_digits s))
+text_from : (n : ℕ) (s : List ℕ) → length s ≡ 2 * n → list_all is_hex_digit s ≡ true
+    → IsHexText s (by_index n (byte_of_digits s))
 unfolding by_index
 text_from zero [] long h = nothing
 text_from zero (c ∷ s) long h = absurd (omega (arith, long))
@@ -53,7 +55,8 @@ text_from (suc n) (c ∷ d ∷ s) long h =
     subst (IsHexText (c ∷ d ∷ s)) (sym (bytes_in_turn c d s n))
     (pair (value_of c) (value_of d) c d s (by_index n (byte_of_digits s)) (digit_from c first.0) (digit_from d second.0) rest)
 
-text_to : {s bytes : List ℕ} → IsHexText s bytes → (list_all is_hex_digit s ≡ true) × (by_index (length bytes) (byte_of_digits s) ≡ bytes)
+text_to : {s bytes : List ℕ} → IsHexText s bytes
+    → (list_all is_hex_digit s ≡ true) × (by_index (length bytes) (byte_of_digits s) ≡ bytes)
 unfolding by_index
 text_to nothing = (refl, refl)
 text_to (pair high low c d s bytes first second rest) =
@@ -131,7 +134,8 @@ hyphenated_to s id is =
 
 -- ---- braces
 
-in_braces : (s : List ℕ) → length s ≡ 38 → slice_index s 0 ≡ 123 → slice_index s 37 ≡ 125 → s ≡ codes "{" ++ take 36 (drop 1 s) ++ codes "}"
+in_braces : (s : List ℕ) → length s ≡ 38 → slice_index s 0 ≡ 123 → slice_index s 37 ≡ 125
+    → s ≡ codes "{" ++ take 36 (drop 1 s) ++ codes "}"
 unfolding by_index
 in_braces s long first last =
     let places = by_places s 38 long in
@@ -148,7 +152,8 @@ braced_from s id h =
     let whole = in_braces s (eqb-true (length s) 38 q.0) (eqb-true (slice_index s 0) 123 q.1) (eqb-true (slice_index s 37) 125 p.1) in
     subst (λ t. IsUuidText t id) (sym whole) (braced (take 36 (drop 1 s)) id (hyphenated_from _ id g.1))
 
-at_38 : (s : List ℕ) → length s ≡ 38 → slice_index s 0 ≡ 123 → slice_index s 37 ≡ 125 → parsed s ≡ parsed_hyphenated (take 36 (drop 1 s))
+at_38 : (s : List ℕ) → length s ≡ 38 → slice_index s 0 ≡ 123 → slice_index s 37 ≡ 125
+    → parsed s ≡ parsed_hyphenated (take 36 (drop 1 s))
 at_38 s long first last = rw (long, first, last) refl
 
 braced_to : (t id : List ℕ) → IsHyphenatedText t id → parsed (codes "{" ++ t ++ codes "}") ≡ Some id
@@ -181,7 +186,9 @@ urn_to p t id prefix is =
 
 -- ---- all spellings
 
-spelling_from : (a b c d : Bool) (s id : List ℕ) → cond a (parsed_simple s) (cond b (parsed_hyphenated s) (cond c (parsed_braced s) (cond d (parsed_urn s) None))) ≡ Some id → IsUuidText s id
+spelling_from : (a b c d : Bool) (s id : List ℕ)
+    → cond a (parsed_simple s) (cond b (parsed_hyphenated s) (cond c (parsed_braced s) (cond d (parsed_urn s) None))) ≡ Some id
+    → IsUuidText s id
 spelling_from true b c d s id h = digits_alone s id (digits_from s id h)
 spelling_from false true c d s id h = hyphenated s id (hyphenated_from s id h)
 spelling_from false false true d s id h = braced_from s id h

@@ -82,7 +82,8 @@ same_bytes (Float32 v) = refl
 same_bytes (PackedBit v) = refl
 
 -- a vector in range is the only one of its bytes
-pub only_one : (v : Vector) (bytes : List ℕ) → IsInRange (vector_view v) → vector_bytes v ≡ bytes → IsOnlyOne bytes (vector_view v)
+pub only_one : (v : Vector) (bytes : List ℕ) → IsInRange (vector_view v) → vector_bytes v ≡ bytes
+    → IsOnlyOne bytes (vector_view v)
 only_one v bytes range is = λ w in_range same. one_vector w (vector_view v) in_range range (same ∙ sym is ∙ sym (same_bytes v))
 
 -- and so it is with one that was read
@@ -100,7 +101,8 @@ held_range : (ns : List ℕ) → IsBytes ns → AllByRecursion (FitsSigned w8) (
 held_range [] are = tt
 held_range (n ∷ ns) are = (sfits_to_z (fits_byte n (are 0)), held_range ns (λ i. are (suc i)))
 
-int8_held : (zs : List ℤ) → IsBytes (map (cast_unsigned w8) zs) → IsInRange (int8 (map (cast_signed w8) (map (cast_unsigned w8) zs)))
+int8_held : (zs : List ℤ) → IsBytes (map (cast_unsigned w8) zs)
+    → IsInRange (int8 (map (cast_signed w8) (map (cast_unsigned w8) zs)))
 int8_held zs are = held_range (map (cast_unsigned w8) zs) are
 
 pub int8_held_ok : {X Y : Type 0} (r : Result X Y) (zs : List ℤ) → OnOk r (IsBytes (map (cast_unsigned w8) zs))
@@ -124,7 +126,8 @@ same_held (Float32 v) are = refl
 same_held (PackedBit v) are = refl
 
 -- a vector is the only one of its bytes
-pub only_held : (v : Vector) (bytes : List ℕ) → IsBytes bytes → IsInRange (data_in_range v) → vector_bytes v ≡ bytes → IsOnlyOne bytes (data_in_range v)
+pub only_held : (v : Vector) (bytes : List ℕ) → IsBytes bytes → IsInRange (data_in_range v) → vector_bytes v ≡ bytes
+    → IsOnlyOne bytes (data_in_range v)
 only_held v bytes are range is =
     let back = same_held v (rw is are) in
     λ w in_range same. one_vector w (data_in_range v) in_range range (same ∙ sym is ∙ sym back)

@@ -6,4 +6,5 @@ use Rattle.bson_scalar.specs.Subtype.{subtype_byte}
 use Rattle.bson_scalar.specs.Base64.{padded_text}
 
 abbrev pub binary_text : Binary → List ℕ
-binary_text b = codes "Binary(0x" ++ digits 16 false (subtype_byte b.subtype) ++ codes ", " ++ padded_text b.bytes.items ++ codes ")"
+binary_text b = codes "Binary(0x" ++ digits 16 false (subtype_byte b.subtype) ++ codes ", " ++ padded_text b.bytes.items
+    ++ codes ")"

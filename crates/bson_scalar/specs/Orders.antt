@@ -5,7 +5,8 @@ use Rattle.bson_scalar.specs.declared.uuid_value.UuidRepresentation.TheVariants.
 use Rattle.bson_scalar.specs.declared.spec.BinarySubtype.{BinarySubtype}
 use Rattle.bson_scalar.specs.declared.spec.BinarySubtype.TheVariants.{UuidOld, Uuid}
 use Rattle.bson_scalar.specs.declared.uuid_value.Error.{Error}
-use Rattle.bson_scalar.specs.declared.uuid_value.Error.TheVariants.{InvalidUuidString, RepresentationMismatch, InvalidLength}
+use Rattle.bson_scalar.specs.declared.uuid_value.Error.TheVariants.{InvalidUuidString, RepresentationMismatch}
+use Rattle.bson_scalar.specs.declared.uuid_value.Error.TheVariants.{InvalidLength}
 pub use Rattle.uuid.specs.Text.{parsed_hyphenated}
 
 -- the place that each byte comes from: 0-3, 4-5 and 6-7 each reversed, or 0-7 and 8-15

@@ -1,6 +1,7 @@
-//! Binaries: bytes with a subtype (BSON 1.1, type 0x05), their base64 texts (RFC 4648 section 4), and
-//! the UUIDs and vectors that they hold.
-ghost use Rattle.std.specs.Prelude.{◌≡◌, ◌≢◌, ◌⊎◌, ◌↔◌, ◌≤◌, ℕ, List, Some, IfErr, IfOk, IsOk, OnOk, length, true, unwrap_or, vec_len};
+//! Binaries: bytes with a subtype (BSON 1.1, type 0x05), their base64 texts (RFC 4648 section 4),
+//! and the UUIDs and vectors that they hold.
+ghost use Rattle.std.specs.Prelude.{◌≡◌, ◌≢◌, ◌⊎◌, ◌↔◌, ◌≤◌, ℕ, List, Some, IfErr, IfOk, IsOk};
+ghost use Rattle.std.specs.Prelude.{OnOk, length, true, unwrap_or, vec_len};
 ghost use Rattle.base64.specs.Engines.{standard};
 ghost use Rattle.base64.specs.GeneralPurpose.{encode_of};
 ghost use Rattle.bson_scalar.specs.Base64.{IsBase64, padded_text};
@@ -73,15 +74,16 @@ pub struct Binary {
 }
 
 impl Binary {
-    /// Decodes a base64 text (RFC 4648 section 4): with its padding, with zeros in the bits that the last
-    /// digit leaves over, and nothing else in it, as blanks or line ends. Any other text is refused as
-    /// `DecodingError`. The subtype is Generic where none is given.
+    /// Decodes a base64 text (RFC 4648 section 4): with its padding, with zeros in the bits that
+    /// the last digit leaves over, and nothing else in it, as blanks or line ends. Any other text
+    /// is refused as `DecodingError`. The subtype is Generic where none is given.
     pub fn from_base64(alloc: Global, text: &str, subtype: Option<BinarySubtype>) -> Result<Binary>
         ensures subtype { IfOk result (λ b. b.subtype ≡ unwrap_or subtype BinarySubtype.Generic) }
         ensures ok { IfOk result (λ b. IsBase64 text.now b.bytes.items) }
 
         // No text that is base64 is refused.
-        ensures err { IfErr result (λ e. IsOutOfMemory e ⊎ (IsDecodingError e × ((bytes : List ℕ) → ¬ (IsBase64 text.now bytes)))) }
+        ensures err { IfErr result (λ e. IsOutOfMemory e
+            ⊎ (IsDecodingError e × ((bytes : List ℕ) → ¬ (IsBase64 text.now bytes)))) }
     {
         let input = text.as_bytes();
         are_bytes(input);
@@ -136,16 +138,19 @@ impl Binary {
         })
     }
 
-    /// The bytes of a vector, under the subtype Vector. `Vector::from_binary` gives the vector back.
+    /// The bytes of a vector, under the subtype Vector. `Vector::from_binary` gives the vector
+    /// back.
     pub fn from_vector(alloc: Global, vector: &Vector) -> Result<Binary, AllocError>
         ensures subtype { IfOk result (λ b. b.subtype ≡ BinarySubtype.Vector) }
         ensures bytes { IfOk result (λ b. b.bytes.items ≡ vector_bytes vector.now) }
 
         // What reading back asks for, and gives.
         ensures readable { IfOk result (λ b. is_vector b.bytes.items ≡ true) }
-        ensures only { IfOk result (λ b. IsInRange (vector_view vector.now) → IsOnlyOne b.bytes.items (vector_view vector.now)) }
+        ensures only { IfOk result (λ b. IsInRange (vector_view vector.now)
+            → IsOnlyOne b.bytes.items (vector_view vector.now)) }
 
-        // The same of any vector: `held` is `view` but for numbers of 8 bits that a clause has out of their range.
+        // The same of any vector: `held` is `view` but for numbers of 8 bits that a clause has out
+        // of their range.
         ensures ranged { OnOk result (IsInRange (data_in_range vector.now)) }
         ensures held { IfOk result (λ b. IsOnlyOne b.bytes.items (data_in_range vector.now)) }
     {
@@ -172,12 +177,15 @@ impl Binary {
 impl Binary {
     ghost use Rattle.bson_scalar.specs.Orders.{IsInvalidLength, IsMismatch};
 
-    /// The UUID of a binary in the standard representation, as `to_uuid_with_representation` reads it.
+    /// The UUID of a binary in the standard representation, as `to_uuid_with_representation` reads
+    /// it.
     pub fn to_uuid(&self) -> uuid_value::Result<Uuid>
         ensures ok { IfOk result (λ id. id ≡ self.now.bytes.items) }
         ensures succeeds { IsOk result ↔ ((self.now.subtype ≡ BinarySubtype.Uuid) × (vec_len self.now.bytes ≡ 16)) }
-        ensures mismatch { self.now.subtype ≢ BinarySubtype.Uuid → IfErr result (IsMismatch BinarySubtype.Uuid self.now.subtype UuidRepresentation.Standard) }
-        ensures length { self.now.subtype ≡ BinarySubtype.Uuid → IfErr result (IsInvalidLength (vec_len self.now.bytes)) }
+        ensures mismatch { self.now.subtype ≢ BinarySubtype.Uuid
+            → IfErr result (IsMismatch BinarySubtype.Uuid self.now.subtype UuidRepresentation.Standard) }
+        ensures length { self.now.subtype ≡ BinarySubtype.Uuid
+            → IfErr result (IsInvalidLength (vec_len self.now.bytes)) }
     {
         self.to_uuid_with_representation(UuidRepresentation::Standard)
     }
@@ -190,9 +198,12 @@ impl Binary {
         representation: UuidRepresentation,
     ) -> uuid_value::Result<Uuid>
         ensures ok { IfOk result (λ id. id ≡ bytes_in_order representation self.now.bytes.items) }
-        ensures succeeds { IsOk result ↔ ((self.now.subtype ≡ subtype_for representation) × (vec_len self.now.bytes ≡ 16)) }
-        ensures mismatch { self.now.subtype ≢ subtype_for representation → IfErr result (IsMismatch (subtype_for representation) self.now.subtype representation) }
-        ensures length { self.now.subtype ≡ subtype_for representation → IfErr result (IsInvalidLength (vec_len self.now.bytes)) }
+        ensures succeeds { IsOk result ↔ ((self.now.subtype ≡ subtype_for representation)
+            × (vec_len self.now.bytes ≡ 16)) }
+        ensures mismatch { self.now.subtype ≢ subtype_for representation
+            → IfErr result (IsMismatch (subtype_for representation) self.now.subtype representation) }
+        ensures length { self.now.subtype ≡ subtype_for representation
+            → IfErr result (IsInvalidLength (vec_len self.now.bytes)) }
     {
         let expected = subtype_of(representation);
         if self.subtype != expected {

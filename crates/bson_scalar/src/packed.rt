@@ -1,5 +1,6 @@
 //! Vectors of single bits, packed into bytes.
-ghost use Rattle.std.specs.Prelude.{◌≡◌, ◌<◌, ◌*◌, ◌/◌, ◌^◌, ◌↔◌, ◌⊎◌, [], vec_len, unwrap_or, IfOk, IfErr, IsErr};
+ghost use Rattle.std.specs.Prelude.{◌≡◌, ◌<◌, ◌*◌, ◌/◌, ◌^◌, ◌↔◌, ◌⊎◌, [], vec_len, unwrap_or};
+ghost use Rattle.std.specs.Prelude.{IfOk, IfErr, IsErr};
 ghost use Rattle.bson_scalar.specs.Fault.{IsVectorError};
 ghost use Rattle.bson_scalar.specs.IgnoredBits.{cleared_bytes, ignored_bits};
 
@@ -8,8 +9,8 @@ use std::alloc::{AllocError, Global};
 
 const WIDE: &str = "the padding of packed bits is above 7";
 
-/// Bits in bytes, from the highest bit of a byte down, of which the lowest `padding` bits of the last
-/// byte are ignored: 8 times the number of bytes, less the padding, bits.
+/// Bits in bytes, from the highest bit of a byte down, of which the lowest `padding` bits of the
+/// last byte are ignored: 8 times the number of bytes, less the padding, bits.
 ///
 /// The padding is below 8, and 0 where there are no bytes. The ignored bits are zero.
 ///
@@ -32,14 +33,15 @@ pub struct PackedBitVector {
 impl PackedBitVector {
     ghost use Rattle.bson_scalar.specs.Packed.{packed_bytes, packed_padding};
 
-    /// The vector of these bytes and this padding, 0 where none is given. A padding above 7, or of a
-    /// vector without bytes another than 0, is refused as `Vector`, and so are ignored bits that are
-    /// not zero.
+    /// The vector of these bytes and this padding, 0 where none is given. A padding above 7, or of
+    /// a vector without bytes another than 0, is refused as `Vector`, and so are ignored bits that
+    /// are not zero.
     pub fn new(bytes: Vec<u8>, padding: Option<u8>) -> Result<PackedBitVector>
         ensures bytes { IfOk result (λ v. packed_bytes v ≡ bytes.items) }
         ensures padding { IfOk result (λ v. packed_padding v ≡ unwrap_or padding 0) }
 
-        ensures refused { IsErr result ↔ ((7 < unwrap_or padding 0) ⊎ ((vec_len bytes ≡ 0) × (0 < unwrap_or padding 0)) ⊎ (0 < ignored_bits bytes.items (unwrap_or padding 0))) }
+        ensures refused { IsErr result ↔ ((7 < unwrap_or padding 0) ⊎ ((vec_len bytes ≡ 0) × (0 < unwrap_or padding 0))
+            ⊎ (0 < ignored_bits bytes.items (unwrap_or padding 0))) }
         ensures err { IfErr result IsVectorError }
     {
         let padding = padding.unwrap_or(0);

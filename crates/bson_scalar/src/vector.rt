@@ -1,13 +1,16 @@
 //! Vectors of numbers or bits, and their bytes (the MongoDB BSON binary vector format).
-ghost use Rattle.std.specs.Prelude.{◌≡◌, ◌≢◌, [], ◌∷◌, ◌⊎◌, ◌<◌, ◌^◌, ◌%◌, FitsSigned, IfErr, IfOk, OnOk, false, length, map, true};
+ghost use Rattle.std.specs.Prelude.{◌≡◌, ◌≢◌, [], ◌∷◌, ◌⊎◌, ◌<◌, ◌^◌, ◌%◌, FitsSigned, IfErr, IfOk};
+ghost use Rattle.std.specs.Prelude.{OnOk, false, length, map, true};
 ghost use Rattle.std.specs.Int.{cast_signed, cast_unsigned, w8};
 ghost use Rattle.std.specs.List.{AllByRecursion};
 ghost use Rattle.bson_scalar.specs.Oid.{IsBytes};
 ghost use Rattle.bson_scalar.specs.Fault.{IsOutOfMemory, IsVectorError};
 ghost use Rattle.bson_scalar.specs.Packed.{packed_bytes, packed_padding};
 ghost use Rattle.bson_scalar.specs.IgnoredBits.{cleared_bytes};
-ghost use Rattle.bson_scalar.specs.Vectors.{is_vector, is_vector_of_any_bits, le_bytes_of, vector_bytes, cleared_vector};
-ghost use Rattle.bson_scalar.specs.VectorData.{IsInRange, IsOnlyOne, packed, packed_view, data_in_range, vector_view};
+ghost use Rattle.bson_scalar.specs.Vectors.{is_vector, is_vector_of_any_bits, le_bytes_of};
+ghost use Rattle.bson_scalar.specs.Vectors.{vector_bytes, cleared_vector};
+ghost use Rattle.bson_scalar.specs.VectorData.{IsInRange, IsOnlyOne, packed, packed_view};
+ghost use Rattle.bson_scalar.specs.VectorData.{data_in_range, vector_view};
 
 use crate::binary::{Binary, Error, Result};
 use crate::packed::PackedBitVector;
@@ -42,13 +45,13 @@ pub enum Vector {
 }
 
 impl Vector {
-    /// Reads the bytes of a vector: its type, its padding and its data. Writing the vector gives the
-    /// same bytes again, and no other vector has them.
+    /// Reads the bytes of a vector: its type, its padding and its data. Writing the vector gives
+    /// the same bytes again, and no other vector has them.
     ///
-    /// Refused as `Vector` are fewer than 2 bytes, a type other than 0x03 (int8), 0x10 (packed bits)
-    /// and 0x27 (float32), a padding other than 0 of another type than packed bits, float32 data whose
-    /// length is no multiple of 4, and packed bits with a padding above 7, or without data and with a
-    /// padding, or with an ignored bit that is not zero.
+    /// Refused as `Vector` are fewer than 2 bytes, a type other than 0x03 (int8), 0x10 (packed
+    /// bits) and 0x27 (float32), a padding other than 0 of another type than packed bits, float32
+    /// data whose length is no multiple of 4, and packed bits with a padding above 7, or without
+    /// data and with a padding, or with an ignored bit that is not zero.
     pub fn from_bytes(alloc: Global, bytes: &[u8]) -> Result<Vector>
         ensures ok { IfOk result (λ v. vector_bytes v ≡ bytes.now) }
         ensures ranged { IfOk result (λ v. IsInRange (vector_view v)) }
@@ -66,8 +69,8 @@ impl Vector {
     }
 
     /// Reads the bytes of a vector as `from_bytes` does, whatever its ignored bits hold, and makes
-    /// these zero: the vector written again is the input with the ignored bits zero. Where `from_bytes`
-    /// accepts, the two answers are equal.
+    /// these zero: the vector written again is the input with the ignored bits zero. Where
+    /// `from_bytes` accepts, the two answers are equal.
     pub fn from_bytes_clearing(alloc: Global, bytes: &[u8]) -> Result<Vector>
         ensures ok { IfOk result (λ v. vector_bytes v ≡ cleared_vector bytes.now) }
         ensures ranged { IfOk result (λ v. IsInRange (vector_view v)) }
@@ -79,7 +82,8 @@ impl Vector {
 
         // Exactly the bytes of a vector are accepted, whatever its ignored bits.
         ensures accepted { OnOk result (is_vector_of_any_bits bytes.now ≡ true) }
-        ensures refused { IfErr result (λ e. IsOutOfMemory e ⊎ (IsVectorError e × (is_vector_of_any_bits bytes.now ≡ false))) }
+        ensures refused { IfErr result (λ e. IsOutOfMemory e
+            ⊎ (IsVectorError e × (is_vector_of_any_bits bytes.now ≡ false))) }
     {
         match bytes {
             [PACKED_BIT, padding, data @ ..] => cleared_bits(alloc, *padding, data),
@@ -88,8 +92,8 @@ impl Vector {
         }
     }
 
-    /// Reads the bytes of a binary of subtype Vector. Another subtype is refused as `Vector`, and the
-    /// bytes as `from_bytes` refuses them.
+    /// Reads the bytes of a binary of subtype Vector. Another subtype is refused as `Vector`, and
+    /// the bytes as `from_bytes` refuses them.
     pub fn from_binary(alloc: Global, binary: &Binary) -> Result<Vector>
         ensures subtype { OnOk result (binary.now.subtype ≡ BinarySubtype.Vector) }
         ensures ok { IfOk result (λ v. vector_bytes v ≡ binary.now.bytes.items) }
@@ -97,7 +101,9 @@ impl Vector {
         ensures only { IfOk result (λ v. IsOnlyOne binary.now.bytes.items (vector_view v)) }
 
         ensures accepted { OnOk result (is_vector binary.now.bytes.items ≡ true) }
-        ensures refused { IfErr result (λ e. IsOutOfMemory e ⊎ (IsVectorError e × ((binary.now.subtype ≢ BinarySubtype.Vector) ⊎ (is_vector binary.now.bytes.items ≡ false)))) }
+        ensures refused { IfErr result (λ e. IsOutOfMemory e
+            ⊎ (IsVectorError e
+            × ((binary.now.subtype ≢ BinarySubtype.Vector) ⊎ (is_vector binary.now.bytes.items ≡ false)))) }
     {
         if binary.subtype != BinarySubtype::Vector {
             return Err(Error::Vector {
@@ -136,7 +142,8 @@ fn packed_bits(alloc: Global, padding: u8, contents: &[u8]) -> Result<Vector>
     ensures ok { IfOk result (λ v. vector_view v ≡ packed contents.now padding) }
     ensures ranged { IfOk result (λ v. IsInRange (vector_view v)) }
     ensures accepted { OnOk result (is_vector (0x10 ∷ padding ∷ contents.now) ≡ true) }
-    ensures refused { IfErr result (λ e. IsOutOfMemory e ⊎ (IsVectorError e × (is_vector (0x10 ∷ padding ∷ contents.now) ≡ false))) }
+    ensures refused { IfErr result (λ e. IsOutOfMemory e
+        ⊎ (IsVectorError e × (is_vector (0x10 ∷ padding ∷ contents.now) ≡ false))) }
 {
     let Ok(bytes) = Vec::from_slice(alloc, contents) else {
         return Err(Error::OutOfMemory);
@@ -148,7 +155,8 @@ fn cleared_bits(alloc: Global, padding: u8, contents: &[u8]) -> Result<Vector>
     ensures ok { IfOk result (λ v. vector_view v ≡ packed (cleared_bytes contents.now padding) padding) }
     ensures ranged { IfOk result (λ v. IsInRange (vector_view v)) }
     ensures accepted { OnOk result (is_vector_of_any_bits (0x10 ∷ padding ∷ contents.now) ≡ true) }
-    ensures refused { IfErr result (λ e. IsOutOfMemory e ⊎ (IsVectorError e × (is_vector_of_any_bits (0x10 ∷ padding ∷ contents.now) ≡ false))) }
+    ensures refused { IfErr result (λ e. IsOutOfMemory e
+        ⊎ (IsVectorError e × (is_vector_of_any_bits (0x10 ∷ padding ∷ contents.now) ≡ false))) }
 {
     let Ok(bytes) = Vec::from_slice(alloc, contents) else {
         return Err(Error::OutOfMemory);
@@ -161,7 +169,8 @@ fn numbers(alloc: Global, kind: u8, padding: u8, contents: &[u8]) -> Result<Vect
     ensures ok { IfOk result (λ v. vector_bytes v ≡ kind ∷ padding ∷ contents.now) }
     ensures ranged { IfOk result (λ v. IsInRange (vector_view v)) }
     ensures accepted { OnOk result (is_vector (kind ∷ padding ∷ contents.now) ≡ true) }
-    ensures refused { IfErr result (λ e. IsOutOfMemory e ⊎ (IsVectorError e × (is_vector_of_any_bits (kind ∷ padding ∷ contents.now) ≡ false))) }
+    ensures refused { IfErr result (λ e. IsOutOfMemory e
+        ⊎ (IsVectorError e × (is_vector_of_any_bits (kind ∷ padding ∷ contents.now) ≡ false))) }
 {
     if padding != 0 {
         return Err(Error::Vector {

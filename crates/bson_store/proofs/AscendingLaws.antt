@@ -42,7 +42,8 @@ by_test true h = absurd (h refl)
 by_test false h = refl
 
 -- what a place is: there is none, or this one
-by_option : {A : Type 0} (P : Option A → Type 0) (r : Option A) → (r ≡ None → P None) → ((x : A) → r ≡ Some x → P (Some x)) → P r
+by_option : {A : Type 0} (P : Option A → Type 0) (r : Option A) → (r ≡ None → P None)
+    → ((x : A) → r ≡ Some x → P (Some x)) → P r
 by_option P None n s = n refl
 by_option P (Some x) n s = s x refl
 
@@ -53,12 +54,14 @@ ascend_none = tt
 module _ {V : Type 0} where
   -- ---- keys that ascend do so with one more behind them, and with one less
 
-  below-at : (k : List ℕ) (ps : List (List ℕ × V)) (i : ℕ) (l : List ℕ) → AllByRecursion (λ q. key_cmp k q ≡ Less) (keys ps) → slice_get (keys ps) i ≡ Some l → key_cmp k l ≡ Less
+  below-at : (k : List ℕ) (ps : List (List ℕ × V)) (i : ℕ) (l : List ℕ)
+      → AllByRecursion (λ q. key_cmp k q ≡ Less) (keys ps) → slice_get (keys ps) i ≡ Some l → key_cmp k l ≡ Less
   below-at k [] i l h e = cc
   below-at k (p ∷ ps) zero l h e = let same : p.0 ≡ l = cc in ap (key_cmp k) (sym same) ∙ h.0
   below-at k (p ∷ ps) (suc i) l h e = below-at k ps i l h.1 e
 
-  pub ascend-push : (ps : List (List ℕ × V)) (n : ℕ) (l k : List ℕ) (v : V) → KeysAscend ps → length ps ≡ suc n → slice_get (keys ps) n ≡ Some l → key_cmp l k ≡ Less → KeysAscend (ps ++ (k, v) ∷ [])
+  pub ascend-push : (ps : List (List ℕ × V)) (n : ℕ) (l k : List ℕ) (v : V) → KeysAscend ps → length ps ≡ suc n
+      → slice_get (keys ps) n ≡ Some l → key_cmp l k ≡ Less → KeysAscend (ps ++ (k, v) ∷ [])
   unfolding IsStrictlySortedBy
   ascend-push [] n l k v up len e below = cc
   ascend-push (p ∷ []) zero l k v up len e below = let same : p.0 ≡ l = cc in ((ap (λ x. key_cmp x k) same ∙ below, tt), (tt, tt))
@@ -89,18 +92,22 @@ module _ {V : Type 0} where
 
   -- ---- where a key lies
 
-  pub order-at : (ps : List (List ℕ × V)) (i j : ℕ) (k l : List ℕ) → KeysAscend ps → i < j → slice_get (keys ps) i ≡ Some k → slice_get (keys ps) j ≡ Some l → key_cmp k l ≡ Less
+  pub order-at : (ps : List (List ℕ × V)) (i j : ℕ) (k l : List ℕ) → KeysAscend ps → i < j
+      → slice_get (keys ps) i ≡ Some k → slice_get (keys ps) j ≡ Some l → key_cmp k l ≡ Less
   unfolding IsStrictlySortedBy
   order-at [] i j k l up less e f = cc
   order-at (p ∷ ps) i zero k l up less e f = absurd (omega (arith, less))
   order-at (p ∷ ps) zero (suc j) k l up less e f = let same : p.0 ≡ k = cc in ap (λ x. key_cmp x l) (sym same) ∙ below-at p.0 ps j l up.0 f
   order-at (p ∷ ps) (suc i) (suc j) k l up less e f = order-at ps i j k l up.1 (omega (arith, less)) e f
 
-  pub key-of : (ps : List (List ℕ × V)) (i : ℕ) (p : List ℕ × V) → slice_get ps i ≡ Some p → slice_get (keys ps) i ≡ Some p.0
+  pub key-of : (ps : List (List ℕ × V)) (i : ℕ) (p : List ℕ × V) → slice_get ps i ≡ Some p
+      → slice_get (keys ps) i ≡ Some p.0
   key-of ps i p e = slice_get-map (λ x. x.0) ps i ∙ ap (option_map (λ x. x.0)) e
 
   -- what a place's key is above, the keys behind it are above too
-  pub above-at : (last : List ℕ) (ps : List (List ℕ × V)) (m j : ℕ) (k l : List ℕ) → KeysAscend ps → m ≤ j → slice_get (keys ps) m ≡ Some k → slice_get (keys ps) j ≡ Some l → is_lt (key_cmp last k) ≡ true → is_lt (key_cmp last l) ≡ true
+  pub above-at : (last : List ℕ) (ps : List (List ℕ × V)) (m j : ℕ) (k l : List ℕ) → KeysAscend ps → m ≤ j
+      → slice_get (keys ps) m ≡ Some k → slice_get (keys ps) j ≡ Some l → is_lt (key_cmp last k) ≡ true
+      → is_lt (key_cmp last l) ≡ true
   unfolding IsStrictlySortedBy
   above-at last [] m j k l up le e f a = cc
   above-at last (p ∷ ps) zero zero k l up le e f a = let one : k ≡ l = cc in ap (λ x. is_lt (key_cmp last x)) (sym one) ∙ a
@@ -111,14 +118,17 @@ module _ {V : Type 0} where
   above-at last (p ∷ ps) (suc m) (suc j) k l up le e f a = above-at last ps m j k l up.1 (omega (arith, le)) e f a
 
   -- one step of the halves: from a key above the last one all are above it, and up to one that is not none is
-  pub above-from : (last : List ℕ) (ps : List (List ℕ × V)) (m : ℕ) (k : List ℕ) → KeysAscend ps → slice_get (keys ps) m ≡ Some k → is_lt (key_cmp last k) ≡ true → AllAbove (Some last) ps m
+  pub above-from : (last : List ℕ) (ps : List (List ℕ × V)) (m : ℕ) (k : List ℕ) → KeysAscend ps
+      → slice_get (keys ps) m ≡ Some k → is_lt (key_cmp last k) ≡ true → AllAbove (Some last) ps m
   above-from last ps m k up e a = λ j l le f. above-at last ps m j k l up le e f a
 
-  pub none-above-to : (last : List ℕ) (ps : List (List ℕ × V)) (m : ℕ) (k : List ℕ) → KeysAscend ps → slice_get (keys ps) m ≡ Some k → is_lt (key_cmp last k) ≡ false → NoneAbove (Some last) ps (m + 1)
+  pub none-above-to : (last : List ℕ) (ps : List (List ℕ × V)) (m : ℕ) (k : List ℕ) → KeysAscend ps
+      → slice_get (keys ps) m ≡ Some k → is_lt (key_cmp last k) ≡ false → NoneAbove (Some last) ps (m + 1)
   none-above-to last ps m k up e a = λ j l less f. by_test (is_lt (key_cmp last l)) (λ t. true≢false (sym (above-at last ps j m l k up (omega (arith, less)) f e t) ∙ a))
 
   -- a key that is not above the key at a place before it is that key
-  same-at : (ps : List (List ℕ × V)) (j n : ℕ) (k l : List ℕ) → KeysAscend ps → j ≤ n → slice_get (keys ps) j ≡ Some k → slice_get (keys ps) n ≡ Some l → is_lt (key_cmp k l) ≡ false → k ≡ l
+  same-at : (ps : List (List ℕ × V)) (j n : ℕ) (k l : List ℕ) → KeysAscend ps → j ≤ n → slice_get (keys ps) j ≡ Some k
+      → slice_get (keys ps) n ≡ Some l → is_lt (key_cmp k l) ≡ false → k ≡ l
   unfolding IsStrictlySortedBy
   same-at [] j n k l up le e f a = cc
   same-at (p ∷ ps) zero zero k l up le e f a = cc
@@ -136,7 +146,8 @@ module _ {V : Type 0} where
       (λ j e. absurd (true≢false (sym (all j k (omega arith) (key-place k ps j e)) ∙ not_below_itself k)))
 
   -- none, where the key before the first one above is another
-  pub absent-behind : (k : List ℕ) (ps : List (List ℕ × V)) (n : ℕ) (l : List ℕ) → KeysAscend ps → IsFirstAbove (Some k) ps (n + 1) → slice_get (keys ps) n ≡ Some l → (k ≡ l → ⊥) → position_of k ps ≡ None
+  pub absent-behind : (k : List ℕ) (ps : List (List ℕ × V)) (n : ℕ) (l : List ℕ) → KeysAscend ps
+      → IsFirstAbove (Some k) ps (n + 1) → slice_get (keys ps) n ≡ Some l → (k ≡ l → ⊥) → position_of k ps ≡ None
   absent-behind k ps n l up first e other = by_option (λ r. r ≡ None) (position_of k ps) (λ f. refl)
       (λ j f. absurd (split j (n + 1)
       (λ less. other (same-at ps j n k l up (omega (arith, less)) (key-place k ps j f) e (first.1 n l (omega arith) e)))
@@ -144,7 +155,8 @@ module _ {V : Type 0} where
 
   -- ---- the least key above the last one
 
-  pub least-first : (last : Option (List ℕ)) (ps : List (List ℕ × V)) (i : ℕ) → HasDistinctKeys ps → KeysAscend ps → IsFirstAbove last ps i → IsLeast last ps (slice_get ps i)
+  pub least-first : (last : Option (List ℕ)) (ps : List (List ℕ × V)) (i : ℕ) → HasDistinctKeys ps → KeysAscend ps
+      → IsFirstAbove last ps i → IsLeast last ps (slice_get ps i)
   least-first last ps i distinct up first = by_option (IsLeast last ps) (slice_get ps i)
       (λ none q a. lacks q ps (by_option (λ r. r ≡ None) (position_of q ps) (λ e. refl)
       (λ j e. absurd (split j i
@@ -159,13 +171,16 @@ module _ {V : Type 0} where
             (λ le. true≢false (sym (above-at q ps i j e.0 q up le (key-of ps i e there) (key-place q ps j f) (ap is_lt low)) ∙ not_below_itself q))))),
       ))
     where
-      nothing_from : (ps : List (List ℕ × V)) (i j : ℕ) → slice_get ps i ≡ None → i ≤ j → (q : List ℕ) → slice_get (keys ps) j ≡ Some q → ⊥
+      nothing_from : (ps : List (List ℕ × V)) (i j : ℕ) → slice_get ps i ≡ None → i ≤ j → (q : List ℕ)
+          → slice_get (keys ps) j ≡ Some q → ⊥
       nothing_from [] i j none le q e = cc
       nothing_from (p ∷ ps) zero j none le q e = cc
       nothing_from (p ∷ ps) (suc i) zero none le q e = omega (arith, le)
       nothing_from (p ∷ ps) (suc i) (suc j) none le q e = nothing_from ps i j none (omega (arith, le)) q e
 
-      value_at : (ps : List (List ℕ × V)) (i : ℕ) (e : List ℕ × V) → (v : V) × (slice_get ps i ≡ Some (e.0, v)) × (find key_cmp e.0 ps ≡ Some v) → slice_get ps i ≡ Some e → find key_cmp e.0 ps ≡ Some e.1
+      value_at : (ps : List (List ℕ × V)) (i : ℕ) (e : List ℕ × V)
+          → (v : V) × (slice_get ps i ≡ Some (e.0, v)) × (find key_cmp e.0 ps ≡ Some v) → slice_get ps i ≡ Some e
+          → find key_cmp e.0 ps ≡ Some e.1
       value_at ps i e is there = let one : is.0 ≡ e.1 = cc in is.2 ∙ ap Some one
 
   -- the first place of all

@@ -8,4 +8,5 @@ use Rattle.bson_store.specs.Small.{Places}
 -- a key above the last one is at place i, and the map has none between; or it has none above
 abbrev pub IsNext : Places → Option (List ℕ) → Option ℕ → Type 0
 IsNext m last None = (q : List ℕ) → is_above last q ≡ true → get_by_text m q ≡ None
-IsNext m last (Some i) = (k : List ℕ) × (is_above last k ≡ true) × (get_by_text m k ≡ Some i) × ((q : List ℕ) → is_above last q ≡ true → key_cmp q k ≡ Less → get_by_text m q ≡ None)
+IsNext m last (Some i) = (k : List ℕ) × (is_above last k ≡ true) × (get_by_text m k ≡ Some i)
+    × ((q : List ℕ) → is_above last q ≡ true → key_cmp q k ≡ Less → get_by_text m q ≡ None)

@@ -1,5 +1,7 @@
 //! Pairs that have no map since their keys ascend: a key is found by halves.
-ghost use Rattle.std.specs.Prelude.{◌≡◌, ◌<◌, ◌≤◌, [], ◌∷◌, ◌++◌, Some, None, length, take, slice_get, option_map, option_and_then, string_bytes, IfSome, IsTrue, false};
+ghost use Rattle.std.specs.Prelude.{◌≡◌, ◌<◌, ◌≤◌, [], ◌∷◌, ◌++◌, Some, None, length, take};
+ghost use Rattle.std.specs.Prelude.{slice_get, option_map, option_and_then, string_bytes, IfSome};
+ghost use Rattle.std.specs.Prelude.{IsTrue, false};
 ghost use Rattle.bson_store.specs.Ascending.{IsFirstAbove};
 ghost use Rattle.bson_store.specs.Order.{IsLeast};
 ghost use Rattle.bson_store.specs.Pairs.{position_of, HasDistinctKeys};
@@ -85,7 +87,8 @@ fn ascends<V>(pairs: &Vec<Pair<V>>) -> bool
     true
 }
 
-// Whether there need be no map with one more key behind the pairs: they are few, or their keys ascend.
+// Whether there need be no map with one more key behind the pairs: they are few, or their keys
+// ascend.
 pub(crate) fn needs_no_map<V>(pairs: &Vec<Pair<V>>, key: &str) -> bool
     requires { IsPlaced (stored_pairs pairs.now.items) None }
     ensures yes { IsTrue result → (v : V) → IsPlaced (stored_pairs pairs.now.items ++ (key.now, v) ∷ []) None }

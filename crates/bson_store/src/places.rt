@@ -1,5 +1,7 @@
-//! The places of the keys of a small store: how they are found, and how its map of them is made and kept.
-ghost use Rattle.std.specs.Prelude.{◌≡◌, ℕ, List, [], ◌∷◌, ◌++◌, Some, None, slice_get, remove, option_map, string_bytes, IfOk, OnOk, OnErr};
+//! The places of the keys of a small store: how they are found, and how its map of them is made and
+//! kept.
+ghost use Rattle.std.specs.Prelude.{◌≡◌, ℕ, List, [], ◌∷◌, ◌++◌, Some, None, slice_get, remove};
+ghost use Rattle.std.specs.Prelude.{option_map, string_bytes, IfOk, OnOk, OnErr};
 ghost use Rattle.std.specs.Str.{bytes_eq};
 ghost use Rattle.std.specs.Map.{update};
 ghost use Rattle.std.specs.BTreeMap.{get_by_text};
@@ -58,7 +60,8 @@ fn index_all<V>(
 ) -> Result<BTreeMap<String, usize>, AllocError>
     requires distinct { HasDistinctKeys (stored_pairs pairs.now.items) }
     requires absent { position_of (string_bytes key.now) (stored_pairs pairs.now.items) ≡ None }
-    ensures { IfOk result (λ m. (v : V) → HasPlaces m (stored_pairs pairs.now.items ++ (string_bytes key.now, v) ∷ [])) }
+    ensures { IfOk result (λ m. (v : V)
+        → HasPlaces m (stored_pairs pairs.now.items ++ (string_bytes key.now, v) ∷ [])) }
 {
     let mut places = BTreeMap::new(alloc);
     for i in 0..pairs.len() {
@@ -77,7 +80,8 @@ pub(crate) fn place_next<V>(
 ) -> Result<(), AllocError>
     requires indexed { IsIndexed (stored_pairs pairs.now.items) places.old }
     requires absent { position_of (string_bytes key.now) (stored_pairs pairs.now.items) ≡ None }
-    ensures ok { OnOk result ((v : V) → IsIndexed (stored_pairs pairs.now.items ++ (string_bytes key.now, v) ∷ []) places.new) }
+    ensures ok { OnOk result ((v : V)
+        → IsIndexed (stored_pairs pairs.now.items ++ (string_bytes key.now, v) ∷ []) places.new) }
     ensures err { OnErr result (IsIndexed (stored_pairs pairs.now.items) places.new) }
 {
     if let Some(map) = places {

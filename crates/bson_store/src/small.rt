@@ -1,5 +1,6 @@
 //! The store that indexes its keys only where there are many and they do not ascend.
-ghost use Rattle.std.specs.Prelude.{◌≡◌, ◌<◌, [], length, slice_get, option_map, option_and_then, string_bytes, IfOk, IfSome};
+ghost use Rattle.std.specs.Prelude.{◌≡◌, ◌<◌, [], length, slice_get, option_map, option_and_then};
+ghost use Rattle.std.specs.Prelude.{string_bytes, IfOk, IfSome};
 ghost use Rattle.bson_store.specs.Order.{IsLeast};
 ghost use Rattle.bson_store.specs.Pairs.{HasDistinctKeys};
 
@@ -22,13 +23,14 @@ pub(crate) struct Pair<V> {
     pub(crate) value: V,
 }
 
-/// A store whose pairs stand in one `Vec`, and, where more than eight have keys that don't ascend, beside an ordered map
-/// from each key to its place.
+/// A store whose pairs stand in one `Vec`, and, where more than eight have keys that don't ascend,
+/// beside an ordered map from each key to its place.
 ///
-/// Up to eight pairs, and any number whose keys were pushed in ascending order, take one block of memory. Among eight a
-/// key is found by a walk, and among more that ascend by halves. The first key that doesn't ascend makes the map, which
-/// holds a copy of each key, so that among n pairs a key is found in the order of log n comparisons, whatever the keys
-/// are. `push` takes as many, and n times as many where it makes the map, once until no more than eight pairs are left;
+/// Up to eight pairs, and any number whose keys were pushed in ascending order, take one block of
+/// memory. Among eight a key is found by a walk, and among more that ascend by halves. The first
+/// key that doesn't ascend makes the map, which holds a copy of each key, so that among n pairs a
+/// key is found in the order of log n comparisons, whatever the keys are. `push` takes as many, and
+/// n times as many where it makes the map, once until no more than eight pairs are left;
 /// `remove_at` takes as many for each pair behind the one it takes out, and no memory.
 ///
 /// ```
@@ -98,11 +100,11 @@ impl<V> SmallPairs<V> {
         IntoIter::new(pairs.into_iter())
     }
 
-    /// The place of the pair with the least key above `last`, by the keys' bytes, or of the least key of all where
-    /// `last` is None. None where no key is above it.
+    /// The place of the pair with the least key above `last`, by the keys' bytes, or of the least
+    /// key of all where `last` is None. None where no key is above it.
     ///
-    /// Called again with the key that it found, it walks all pairs by ascending key. Among n pairs, more than eight,
-    /// a call takes in the order of log n comparisons of keys; it takes no memory.
+    /// Called again with the key that it found, it walks all pairs by ascending key. Among n pairs,
+    /// more than eight, a call takes in the order of log n comparisons of keys; it takes no memory.
     pub fn next_above(&self, last: Option<&String>) -> Option<usize>
     where
         V: Drop,

@@ -36,7 +36,8 @@ upper_oid_read : Means (object_of_one (codes "$oid") (tree.string (codes "53E37D
 unfolding id decode_pairs
 upper_oid_read = row _ _ refl
 
-oid_written : (f : Form) → Written f (normal_form (model.scalar (kind.object_id id))) (object_of_one (codes "$oid") (tree.string (codes "53e37d08776f724e42000000")))
+oid_written : (f : Form)
+    → Written f (normal_form (model.scalar (kind.object_id id))) (object_of_one (codes "$oid") (tree.string (codes "53e37d08776f724e42000000")))
 unfolding id encode_with
 oid_written f = canon_from f (model.scalar (kind.object_id id)) _ refl
 
@@ -45,7 +46,8 @@ hello_read : Means (object_of_one (codes "$binary") (object_of_two (codes "base6
 unfolding groups_error groups_bytes scan_steps decode_pairs
 hello_read = row _ _ refl
 
-hello_written : (f : Form) → Written f (normal_form (model.scalar (kind.binary Generic (codes "hello")))) (object_of_one (codes "$binary") (object_of_two (codes "base64") (tree.string (codes "aGVsbG8=")) (codes "subType") (tree.string (codes "00"))))
+hello_written : (f : Form)
+    → Written f (normal_form (model.scalar (kind.binary Generic (codes "hello")))) (object_of_one (codes "$binary") (object_of_two (codes "base64") (tree.string (codes "aGVsbG8=")) (codes "subType") (tree.string (codes "00"))))
 unfolding encode_symbols encode_with
 hello_written f = canon_from f (model.scalar (kind.binary Generic (codes "hello"))) _ refl
 
@@ -69,7 +71,8 @@ decimal_read : Means (object_of_one (codes "$numberDecimal") (tree.string (codes
 unfolding decimal_of cut_at_34 raise_to_least zeros_to_add exponent_value written_exponent scaled_exponent coefficient stored_pair finite
 decimal_read = row _ _ refl
 
-decimal_written : (f : Form) → Written f (normal_form (model.scalar (kind.decimal (0x0F ∷ 0 ∷ 0 ∷ 0 ∷ 0 ∷ 0 ∷ 0 ∷ 0 ∷ 0 ∷ 0 ∷ 0 ∷ 0 ∷ 0 ∷ 0 ∷ 0x3E ∷ 0x30 ∷ [])))) (object_of_one (codes "$numberDecimal") (tree.string (codes "1.5")))
+decimal_written : (f : Form)
+    → Written f (normal_form (model.scalar (kind.decimal (0x0F ∷ 0 ∷ 0 ∷ 0 ∷ 0 ∷ 0 ∷ 0 ∷ 0 ∷ 0 ∷ 0 ∷ 0 ∷ 0 ∷ 0 ∷ 0 ∷ 0x3E ∷ 0x30 ∷ [])))) (object_of_one (codes "$numberDecimal") (tree.string (codes "1.5")))
 unfolding normal_decimal decimal_text digits
 decimal_written f = canon_from f (model.scalar (kind.decimal (0x0F ∷ 0 ∷ 0 ∷ 0 ∷ 0 ∷ 0 ∷ 0 ∷ 0 ∷ 0 ∷ 0 ∷ 0 ∷ 0 ∷ 0 ∷ 0 ∷ 0x3E ∷ 0x30 ∷ []))) _ refl
 

@@ -29,7 +29,8 @@ byte_is (Err e) n h = cc
 
 -- ---- base64
 
-decoded : {E : Type 0} (s : List ℕ) (r : Result (List ℕ) E) (bytes : List ℕ) → bytes_with s (result_ok r) ≡ Some bytes → (r ≡ Ok bytes) × (s ≡ padded_text bytes)
+decoded : {E : Type 0} (s : List ℕ) (r : Result (List ℕ) E) (bytes : List ℕ) → bytes_with s (result_ok r) ≡ Some bytes
+    → (r ≡ Ok bytes) × (s ≡ padded_text bytes)
 decoded s (Ok x) bytes h =
     let g = if_some _ x bytes h in
     (ap Ok g.1, key_is s (padded_text x) g.0 ∙ ap padded_text g.1)
@@ -46,16 +47,20 @@ bytes_to s bytes is =
     let compared : bytes_with s (Some bytes) ≡ Some bytes = rw same refl in
     ap (λ r. bytes_with s (result_ok r)) (base64_to s bytes is) ∙ compared
 
-no_bytes : (s : List ℕ) (o : Option (List ℕ)) → ((bytes : List ℕ) → o ≡ Some bytes → IsBase64 s bytes) → ((bytes : List ℕ) → ¬ (IsBase64 s bytes)) → or_wrong_shape o ≡ Err wrong_shape
+no_bytes : (s : List ℕ) (o : Option (List ℕ)) → ((bytes : List ℕ) → o ≡ Some bytes → IsBase64 s bytes)
+    → ((bytes : List ℕ) → ¬ (IsBase64 s bytes)) → or_wrong_shape o ≡ Err wrong_shape
 no_bytes s None is none = refl
 no_bytes s (Some bytes) is none = absurd (none bytes (is bytes refl))
 
-pub bytes_none : (s : List ℕ) → ((bytes : List ℕ) → ¬ (IsBase64 s bytes)) → or_wrong_shape (bytes_of s) ≡ Err wrong_shape
+pub bytes_none : (s : List ℕ) → ((bytes : List ℕ) → ¬ (IsBase64 s bytes))
+    → or_wrong_shape (bytes_of s) ≡ Err wrong_shape
 bytes_none s none = no_bytes s (bytes_of s) (λ bytes h. bytes_from s bytes h) none
 
 -- ---- subtypes
 
-subtype_at : (a b c d e f g h i j k : Bool) (n : ℕ) → nat_eq n 0 ≡ a → nat_eq n 1 ≡ b → nat_eq n 2 ≡ c → nat_eq n 3 ≡ d → nat_eq n 4 ≡ e → nat_eq n 5 ≡ f → nat_eq n 6 ≡ g → nat_eq n 7 ≡ h → nat_eq n 8 ≡ i → nat_eq n 9 ≡ j → nat_lt n 128 ≡ k
+subtype_at : (a b c d e f g h i j k : Bool) (n : ℕ) → nat_eq n 0 ≡ a → nat_eq n 1 ≡ b → nat_eq n 2 ≡ c → nat_eq n 3 ≡ d
+    → nat_eq n 4 ≡ e → nat_eq n 5 ≡ f → nat_eq n 6 ≡ g → nat_eq n 7 ≡ h → nat_eq n 8 ≡ i → nat_eq n 9 ≡ j
+    → nat_lt n 128 ≡ k
     → subtype_byte (subtype_of n) ≡ n
 subtype_at true b c d e f g h i j k n p0 p1 p2 p3 p4 p5 p6 p7 p8 p9 q = rw p0 (sym (eqb-true n _ p0))
 subtype_at false true c d e f g h i j k n p0 p1 p2 p3 p4 p5 p6 p7 p8 p9 q = rw (p0, p1) (sym (eqb-true n _ p1))

@@ -31,14 +31,17 @@ abbrev WordIs : List ℕ → Option ℕ → Type 0
 WordIs w None = (n : ℕ) → ¬ (SpecialWord w n)
 WordIs w (Some n) = SpecialWord w n
 
-no_word : (w : List ℕ) → bytes_eq (lowercase w) (codes "nan") ≡ false → bytes_eq (lowercase w) (codes "snan") ≡ false → bytes_eq (lowercase w) (codes "infinity") ≡ false → bytes_eq (lowercase w) (codes "inf") ≡ false
+no_word : (w : List ℕ) → bytes_eq (lowercase w) (codes "nan") ≡ false → bytes_eq (lowercase w) (codes "snan") ≡ false
+    → bytes_eq (lowercase w) (codes "infinity") ≡ false → bytes_eq (lowercase w) (codes "inf") ≡ false
     → (n : ℕ) → ¬ (SpecialWord w n)
 no_word w a b c d n (nan e) = let h = rw e at a in cc
 no_word w a b c d n (snan e) = let h = rw e at b in cc
 no_word w a b c d n (infinity e) = let h = rw e at c in cc
 no_word w a b c d n (inf e) = let h = rw e at d in cc
 
-word_is-at : (w : List ℕ) (a b c d : Bool) → bytes_eq (lowercase w) (codes "nan") ≡ a → bytes_eq (lowercase w) (codes "snan") ≡ b → bytes_eq (lowercase w) (codes "infinity") ≡ c → bytes_eq (lowercase w) (codes "inf") ≡ d
+word_is-at : (w : List ℕ) (a b c d : Bool) → bytes_eq (lowercase w) (codes "nan") ≡ a
+    → bytes_eq (lowercase w) (codes "snan") ≡ b → bytes_eq (lowercase w) (codes "infinity") ≡ c
+    → bytes_eq (lowercase w) (codes "inf") ≡ d
     → WordIs w (cond a (Some (124 * 2 ^ 120)) (cond b (Some (126 * 2 ^ 120)) (cond c (Some (120 * 2 ^ 120)) (cond d (Some (120 * 2 ^ 120)) None))))
 word_is-at w true b c d e f g h = nan (same _ _ e)
 word_is-at w false true c d e f g h = snan (same _ _ f)
@@ -54,7 +57,8 @@ abbrev Answers : List ℕ → Option (List ℕ) → Type 0
 Answers s None = (b : List ℕ) → ¬ (Parses s b)
 Answers s (Some d) = Parses s d × ((b : List ℕ) → Parses s b → b ≡ d)
 
-finite_answers : (s : List ℕ) → ((n : ℕ) → ¬ (SpecialWord (without_leading_sign s) n)) → (r : Result (ℕ × ℕ) ParseError) → finite (without_leading_sign s) ≡ r
+finite_answers : (s : List ℕ) → ((n : ℕ) → ¬ (SpecialWord (without_leading_sign s) n)) → (r : Result (ℕ × ℕ) ParseError)
+    → finite (without_leading_sign s) ≡ r
     → Answers s (option_map (λ p. to_le_bytes w128 (first_form (starts_with_minus s) p.0 p.1)) (result_ok r))
 finite_answers s plain (Ok r) is = finite-parses s r plain is
 finite_answers s plain (Err k) is = refused-parses s k plain is
@@ -96,7 +100,8 @@ decimal_of-display_text b = decimal_of-some (decimal_text b) (normal_decimal b) 
 pub canon-again : (b : List ℕ) → normal_decimal (normal_decimal b) ≡ normal_decimal b
 canon-again b = (display_text-same (normal_decimal b) b).0 (display_text-canon b)
 
-pub decimal_from : (d : Data) (x : Scalar) → decimal_read d ≡ Ok x → MeansScalar (object_of_one (codes "$numberDecimal") d) x
+pub decimal_from : (d : Data) (x : Scalar) → decimal_read d ≡ Ok x
+    → MeansScalar (object_of_one (codes "$numberDecimal") d) x
 decimal_from d x h =
     let t = text_then d _ x h in
     let b = some_then (decimal_of t.0) _ x t.2 in

@@ -22,7 +22,8 @@ oid_from d x h =
     let i = then_ok (id_of t.0) _ x t.2 in
     means_by (codes "$oid") d _ x _ t.1 (un_ok _ _ i.2) (oid t.0 i.0 (sized_from 12 t.0 i.0 (id_is t.0 i.0 _ i.1)))
 
-pub pointer_from : (d : Data) (x : Scalar) → pointer_read d ≡ Ok x → MeansScalar (object_of_one (codes "$dbPointer") d) x
+pub pointer_from : (d : Data) (x : Scalar) → pointer_read d ≡ Ok x
+    → MeansScalar (object_of_one (codes "$dbPointer") d) x
 pointer_from d x h =
     let a = two_then (codes "$id") (codes "$ref") d _ x h in
     let b = text_then a.1 _ x a.3 in

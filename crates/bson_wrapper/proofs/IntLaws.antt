@@ -31,7 +31,8 @@ int64_from d x h =
     let n = some_then (int_of 63 t.0) _ x t.2 in
     means_by (codes "$numberLong") d _ x _ t.1 (un_ok _ _ n.2) (number_long t.0 n.0 (int_of_from w64 t.0 n.0 n.1))
 
-number_at : (b : Bool) (n : Num) (z : ℤ) (x : Scalar) → as_i64 n ≡ Some z → fits_bits 31 z ≡ b → x ≡ cond b (int32 z) (int64 z) → MeansScalar (tree.number n) x
+number_at : (b : Bool) (n : Num) (z : ℤ) (x : Scalar) → as_i64 n ≡ Some z → fits_bits 31 z ≡ b
+    → x ≡ cond b (int32 z) (int64 z) → MeansScalar (tree.number n) x
 number_at true n z x is h e = rw e (narrow_number n z is (record { sfits = fits_from 31 z h }))
 number_at false n z x is h e = rw e (wide_number n z is (λ f. let t = fits_true 31 z f.sfits in cc))
 

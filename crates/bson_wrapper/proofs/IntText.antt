@@ -34,7 +34,8 @@ chosen true z h = absurd (h refl)
 chosen false z h = refl
 
 -- what `parse` answers at a signed type is what the definition says
-pub parsed_signed : {E : Type 0} (w : Width) (bs : List ℕ) (r : Result ℤ E) → ParsesSigned w 10 bs r → result_ok r ≡ int_of (hbits w) bs
+pub parsed_signed : {E : Type 0} (w : Width) (bs : List ℕ) (r : Result ℤ E) → ParsesSigned w 10 bs r
+    → result_ok r ≡ int_of (hbits w) bs
 unfolding int_of
 parsed_signed w bs (Ok x) h =
     let digits = numeral_true (without_leading_sign bs) h.0.0 in
@@ -65,7 +66,9 @@ abbrev as_result : Option ℤ → Result ℤ (Unit {0})
 as_result (Some z) = Ok z
 as_result None = Err tt
 
-parses_at : (w : Width) (b : Bool) (s : List ℕ) → (b ≡ true → IsNumeral 10 (without_leading_sign s) × FitsSigned w (signed_digits_value 10 s)) → (IsNumeral 10 (without_leading_sign s) × FitsSigned w (signed_digits_value 10 s) → b ≡ true)
+parses_at : (w : Width) (b : Bool) (s : List ℕ)
+    → (b ≡ true → IsNumeral 10 (without_leading_sign s) × FitsSigned w (signed_digits_value 10 s))
+    → (IsNumeral 10 (without_leading_sign s) × FitsSigned w (signed_digits_value 10 s) → b ≡ true)
     → ParsesSigned w 10 s (as_result (cond b (Some (signed_digits_value 10 s)) None))
 parses_at w true s to from = (to refl, refl)
 parses_at w false s to from = λ p. let e = from p in cc
@@ -75,7 +78,8 @@ back_to_some (Some y) z h = cc
 back_to_some None z h = cc
 
 -- what each parser of the text would give, the definition gives
-pub int_of_parsed : (w : Width) (s : List ℕ) (z : ℤ) → ((r : Result ℤ (Unit {0})) → ParsesSigned w 10 s r → r ≡ Ok z) → int_of (hbits w) s ≡ Some z
+pub int_of_parsed : (w : Width) (s : List ℕ) (z : ℤ) → ((r : Result ℤ (Unit {0})) → ParsesSigned w 10 s r → r ≡ Ok z)
+    → int_of (hbits w) s ≡ Some z
 unfolding int_of
 int_of_parsed w s z each =
     back_to_some _ z (each _ (parses_at w _ s

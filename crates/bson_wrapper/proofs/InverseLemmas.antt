@@ -18,7 +18,8 @@ un_ok x y h = cc
 pub un_some : {A : Type 0} (x y : A) → Some x ≡ Some y → x ≡ y
 un_some x y h = cc
 
-pub then_ok : {A B : Type 0} (r : Result A Fault) (f : A → Result B Fault) (y : B) → (r >>= f) ≡ Ok y → (x : A) × (r ≡ Ok x) × (f x ≡ Ok y)
+pub then_ok : {A B : Type 0} (r : Result A Fault) (f : A → Result B Fault) (y : B) → (r >>= f) ≡ Ok y
+    → (x : A) × (r ≡ Ok x) × (f x ≡ Ok y)
 then_ok (Ok x) f y h = (x, refl, h)
 then_ok (Err e) f y h = cc
 
@@ -26,7 +27,8 @@ pub or_bad_ok : {A : Type 0} (o : Option A) (x : A) → or_wrong_shape o ≡ Ok 
 or_bad_ok (Some y) x h = ap Some (sym (un_ok _ _ h))
 or_bad_ok None x h = cc
 
-pub some_then : {A B : Type 0} (o : Option A) (f : A → Result B Fault) (y : B) → (or_wrong_shape o >>= f) ≡ Ok y → (x : A) × (o ≡ Some x) × (f x ≡ Ok y)
+pub some_then : {A B : Type 0} (o : Option A) (f : A → Result B Fault) (y : B) → (or_wrong_shape o >>= f) ≡ Ok y
+    → (x : A) × (o ≡ Some x) × (f x ≡ Ok y)
 some_then (Some x) f y h = (x, refl, h)
 some_then None f y h = cc
 
@@ -69,18 +71,22 @@ two_are a b (tree.object (member k d (member l e no_members))) p h =
     rw (key_is k a keys.0, key_is l b keys.1) (ap (λ (q : Data × Data). object_of_two a q.0 b q.1) g.1)
 two_are a b (tree.object (member k d (member l e (member m f ms)))) p h = cc
 
-pub text_then : {X : Type 0} (d : Data) (f : List ℕ → Result X Fault) (x : X) → on_text d f ≡ Ok x → (s : List ℕ) × (d ≡ tree.string s) × (f s ≡ Ok x)
+pub text_then : {X : Type 0} (d : Data) (f : List ℕ → Result X Fault) (x : X) → on_text d f ≡ Ok x
+    → (s : List ℕ) × (d ≡ tree.string s) × (f s ≡ Ok x)
 text_then d f x h = let t = some_then (as_str d) f x h in (t.0, string_is d t.0 t.1, t.2)
 
-pub lone_then : {X : Type 0} (a : List ℕ) (d : Data) (f : Data → Result X Fault) (x : X) → on_lone a d f ≡ Ok x → (e : Data) × (d ≡ object_of_one a e) × (f e ≡ Ok x)
+pub lone_then : {X : Type 0} (a : List ℕ) (d : Data) (f : Data → Result X Fault) (x : X) → on_lone a d f ≡ Ok x
+    → (e : Data) × (d ≡ object_of_one a e) × (f e ≡ Ok x)
 lone_then a d f x h = let t = some_then (lone_member a d) f x h in (t.0, lone_is a d t.0 t.1, t.2)
 
-pub two_then : {X : Type 0} (a b : List ℕ) (d : Data) (f : Data → Data → Result X Fault) (x : X) → on_two a b d f ≡ Ok x → (e : Data) × (g : Data) × (d ≡ object_of_two a e b g) × (f e g ≡ Ok x)
+pub two_then : {X : Type 0} (a b : List ℕ) (d : Data) (f : Data → Data → Result X Fault) (x : X) → on_two a b d f ≡ Ok x
+    → (e : Data) × (g : Data) × (d ≡ object_of_two a e b g) × (f e g ≡ Ok x)
 two_then a b d f x h = let t = some_then (two_members a b d) (λ p. f p.0 p.1) x h in (t.0.0, t.0.1, two_are a b d t.0 t.1, t.2)
 
 pub two_same : (a b : List ℕ) {d e f g : Data} → d ≡ e → f ≡ g → object_of_two a d b f ≡ object_of_two a e b g
 two_same a b {d} {e} {f} {g} p q = ap (λ x. object_of_two a x b f) p ∙ ap (λ x. object_of_two a e b x) q
 
 -- what the tree is, and what the scalar is, in a production
-pub means_by : (k : List ℕ) (d e : Data) (x y : Scalar) → d ≡ e → x ≡ y → MeansScalar (object_of_one k e) y → MeansScalar (object_of_one k d) x
+pub means_by : (k : List ℕ) (d e : Data) (x y : Scalar) → d ≡ e → x ≡ y → MeansScalar (object_of_one k e) y
+    → MeansScalar (object_of_one k d) x
 means_by k d e x y p q m = subst (λ t. MeansScalar (object_of_one k t) x) (sym p) (subst (λ z. MeansScalar (object_of_one k e) z) (sym q) m)

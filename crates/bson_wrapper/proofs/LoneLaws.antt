@@ -12,7 +12,8 @@ use Rattle.bson_wrapper.specs.Scalar as kind
 use Rattle.bson_wrapper.specs.Shapes.{whole, object_of_one}
 use Rattle.bson_wrapper.proofs.InverseLemmas.{means_by, un_ok}
 
-if_ok : (b : Bool) (y x : Scalar) → ◌≡◌ {A = Result Scalar Fault} (cond b (Ok y) (Err wrong_shape)) (Ok x) → (b ≡ true) × (x ≡ y)
+if_ok : (b : Bool) (y x : Scalar) → ◌≡◌ {A = Result Scalar Fault} (cond b (Ok y) (Err wrong_shape)) (Ok x)
+    → (b ≡ true) × (x ≡ y)
 if_ok true y x h = (refl, un_ok _ _ h)
 if_ok false y x h = cc
 
@@ -21,13 +22,16 @@ one_is (Some (pos n)) h = ap (λ m. Some (pos m)) (eqb-true n 1 h)
 one_is (Some (negsuc n)) h = cc
 one_is None h = cc
 
-pub min_key_from : (d : Data) (x : Scalar) → one_read kind.min_key d ≡ Ok x → MeansScalar (object_of_one (codes "$minKey") d) x
+pub min_key_from : (d : Data) (x : Scalar) → one_read kind.min_key d ≡ Ok x
+    → MeansScalar (object_of_one (codes "$minKey") d) x
 min_key_from d x h = let t = if_ok _ kind.min_key x h in means_by (codes "$minKey") d d x _ refl t.1 (min_key d (one_is (whole d) t.0))
 
-pub max_key_from : (d : Data) (x : Scalar) → one_read kind.max_key d ≡ Ok x → MeansScalar (object_of_one (codes "$maxKey") d) x
+pub max_key_from : (d : Data) (x : Scalar) → one_read kind.max_key d ≡ Ok x
+    → MeansScalar (object_of_one (codes "$maxKey") d) x
 max_key_from d x h = let t = if_ok _ kind.max_key x h in means_by (codes "$maxKey") d d x _ refl t.1 (max_key d (one_is (whole d) t.0))
 
-pub undefined_from : (d : Data) (x : Scalar) → undefined_read d ≡ Ok x → MeansScalar (object_of_one (codes "$undefined") d) x
+pub undefined_from : (d : Data) (x : Scalar) → undefined_read d ≡ Ok x
+    → MeansScalar (object_of_one (codes "$undefined") d) x
 undefined_from tree.null x h = cc
 undefined_from (tree.boolean b) x h = let t = if_ok b kind.undefined x h in means_by (codes "$undefined") (tree.boolean b) (tree.boolean true) x _ (ap tree.boolean t.0) t.1 undefined
 undefined_from (tree.number n) x h = cc

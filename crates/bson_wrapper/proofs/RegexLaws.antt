@@ -8,7 +8,8 @@ use Rattle.bson_wrapper.specs.Scalar.{Scalar}
 use Rattle.bson_wrapper.specs.Shapes.{object_of_one}
 use Rattle.bson_wrapper.proofs.InverseLemmas.{means_by, un_ok, text_then, two_then, two_same}
 
-pub regex_from : (d : Data) (x : Scalar) → regex_read d ≡ Ok x → MeansScalar (object_of_one (codes "$regularExpression") d) x
+pub regex_from : (d : Data) (x : Scalar) → regex_read d ≡ Ok x
+    → MeansScalar (object_of_one (codes "$regularExpression") d) x
 regex_from d x h =
     let a = two_then (codes "options") (codes "pattern") d _ x h in
     let o = text_then a.0 _ x a.3 in

@@ -67,7 +67,8 @@ under DbPointer = pointer_from
 under Undefined = undefined_from
 
 -- the key of a wrapper that the table finds
-key_at : (k : List ℕ) (a : Wrapper) (b : Bool) (r : Option Wrapper) (w : Wrapper) → (b ≡ true → k ≡ key_of a) → (r ≡ Some w → k ≡ key_of w) → cond b (Some a) r ≡ Some w → k ≡ key_of w
+key_at : (k : List ℕ) (a : Wrapper) (b : Bool) (r : Option Wrapper) (w : Wrapper) → (b ≡ true → k ≡ key_of a)
+    → (r ≡ Some w → k ≡ key_of w) → cond b (Some a) r ≡ Some w → k ≡ key_of w
 key_at k a true r w this rest h = let same : a ≡ w = cc in this refl ∙ ap key_of same
 key_at k a false r w this rest h = rest h
 
@@ -82,15 +83,18 @@ key_from k w =
     (key_at k Timestamp _ _ w (is Timestamp) (key_at k Date _ _ w (is Date) (key_at k MinKey _ _ w (is MinKey)
     (key_at k MaxKey _ _ w (is MaxKey) (key_at k Undefined _ _ w (is Undefined) (λ h. cc))))))))))))))))
 
-single_from : (k : List ℕ) (d : Data) (o : Option Wrapper) (x : Scalar) → o ≡ wrapper_of k → single_at o d ≡ Ok x → MeansScalar (object_of_one k d) x
+single_from : (k : List ℕ) (d : Data) (o : Option Wrapper) (x : Scalar) → o ≡ wrapper_of k → single_at o d ≡ Ok x
+    → MeansScalar (object_of_one k d) x
 single_from k d (Some w) x is h = rw (key_from k w (sym is)) (under w d x h)
 single_from k d None x is h = cc
 
-guarded : (b : Bool) (r : Result Scalar Fault) (x : Scalar) → cond b r (Err wrong_shape) ≡ Ok x → (b ≡ true) × (r ≡ Ok x)
+guarded : (b : Bool) (r : Result Scalar Fault) (x : Scalar) → cond b r (Err wrong_shape) ≡ Ok x
+    → (b ≡ true) × (r ≡ Ok x)
 guarded true r x h = (refl, h)
 guarded false r x h = cc
 
-code_text : (e d : Data) (x : Scalar) → code_beside e d ≡ Ok x → MeansScalar (object_of_two (codes "$code") d (codes "$scope") e) x
+code_text : (e d : Data) (x : Scalar) → code_beside e d ≡ Ok x
+    → MeansScalar (object_of_two (codes "$code") d (codes "$scope") e) x
 code_text tree.null d x h =
     let t = inverse.text_then d _ x h in
     subst (λ e. MeansScalar (object_of_two (codes "$code") e (codes "$scope") tree.null) x) (sym t.1)
@@ -101,7 +105,9 @@ code_text (tree.string s) d x h = cc
 code_text (tree.array ds) d x h = cc
 code_text (tree.object ms) d x h = cc
 
-scope_from : (k l : List ℕ) (d e : Data) (x : Scalar) → cond (bytes_eq k (codes "$code") && bytes_eq l (codes "$scope")) (code_beside e d) (Err wrong_shape) ≡ Ok x → MeansScalar (object_of_two k d l e) x
+scope_from : (k l : List ℕ) (d e : Data) (x : Scalar)
+    → cond (bytes_eq k (codes "$code") && bytes_eq l (codes "$scope")) (code_beside e d) (Err wrong_shape) ≡ Ok x
+    → MeansScalar (object_of_two k d l e) x
 scope_from k l d e x h =
     let g = guarded _ _ x h in
     let keys = and_parts _ _ g.0 in
@@ -177,7 +183,8 @@ scalar_form means.undefined = (refl, refl)
 
 -- ---- what is written is the grammar's one tree
 
-bind_ok : {A B : Type 0} (r : Result A Refusal) (f : A → Result B Refusal) (y : B) → (r >>= f) ≡ Ok y → (x : A) × (r ≡ Ok x) × (f x ≡ Ok y)
+bind_ok : {A B : Type 0} (r : Result A Refusal) (f : A → Result B Refusal) (y : B) → (r >>= f) ≡ Ok y
+    → (x : A) × (r ≡ Ok x) × (f x ≡ Ok y)
 bind_ok (Ok x) f y h = (x, refl, h)
 bind_ok (Err e) f y h = cc
 
@@ -207,12 +214,14 @@ nf_again (decimal b) = ap decimal (canon-again b)
 nf_again x = refl
 
 -- of a scalar in normal form: the function and the relation
-written_at : (f : Form) (x : Scalar) (t : Data) → writes_scalar f (normal_scalar x) ≡ Ok t → WrittenScalar f (normal_scalar x) t
+written_at : (f : Form) (x : Scalar) (t : Data) → writes_scalar f (normal_scalar x) ≡ Ok t
+    → WrittenScalar f (normal_scalar x) t
 written_at f (double p) t h = let b = bind_ok (or_finite (double_text (normal_double p))) _ t h in (b.0, some_from _ _ b.1, un_ok _ _ b.2)
 written_at f (regex p o) t h = un_ok _ _ h ∙ ap (regex_tree p) (sorted_text-again o)
 written_at f x t h = un_ok _ _ h
 
-writes_at : (f : Form) (x : Scalar) (t : Data) → WrittenScalar f (normal_scalar x) t → writes_scalar f (normal_scalar x) ≡ Ok t
+writes_at : (f : Form) (x : Scalar) (t : Data) → WrittenScalar f (normal_scalar x) t
+    → writes_scalar f (normal_scalar x) ≡ Ok t
 writes_at f (double p) t h = rw h.1 (ap Ok (sym h.2))
 writes_at f (regex p o) t h = ap Ok (ap (regex_tree p) (sorted_text-again o) ∙ sym h)
 writes_at f x t h = ap Ok (sym h)
@@ -252,7 +261,8 @@ date_back : (f : Form) (z : ℤ) → FitsSigned w64 z → scalar_read (date_form
 date_back Canonical z r = rw (int64_again z r) refl
 date_back Relaxed z r = recent_back _ z refl r
 
-pub back : (f : Form) (x : Scalar) (t : Data) → writes_scalar f x ≡ Ok t → ScalarInRange x → scalar_read t ≡ Ok (scalar_as_read f (normal_scalar x))
+pub back : (f : Form) (x : Scalar) (t : Data) → writes_scalar f x ≡ Ok t → ScalarInRange x
+    → scalar_read t ≡ Ok (scalar_as_read f (normal_scalar x))
 back f null t h r = rw (un_ok _ _ h) refl
 back f undefined t h r = rw (un_ok _ _ h) refl
 back f min_key t h r = rw (un_ok _ _ h) refl
@@ -272,12 +282,14 @@ back f (date z) t h r = rw (un_ok _ _ h) (date_back f z r)
 back f (decimal b) t h r = rw (un_ok _ _ h) (rw (decimal_of-display_text b) refl)
 back f (db_pointer s id) t h r = rw (un_ok _ _ h) (rw (id_again id r.0 r.1) refl)
 
-pub reads_back : (f : Form) (x : Scalar) (t : Data) → writes_scalar f x ≡ Ok t → ScalarInRange x → MeansScalar t (scalar_as_read f (normal_scalar x))
+pub reads_back : (f : Form) (x : Scalar) (t : Data) → writes_scalar f x ≡ Ok t → ScalarInRange x
+    → MeansScalar t (scalar_as_read f (normal_scalar x))
 reads_back f x t h r = scalar_from t _ (back f x t h r)
 
 -- ---- what reads back is read so again
 
-narrow_at : (b : Bool) (z : ℤ) → fits_bits 31 z ≡ b → scalar_as_read Relaxed (cond b (int32 z) (int64 z)) ≡ cond b (int32 z) (int64 z)
+narrow_at : (b : Bool) (z : ℤ) → fits_bits 31 z ≡ b
+    → scalar_as_read Relaxed (cond b (int32 z) (int64 z)) ≡ cond b (int32 z) (int64 z)
 narrow_at true z e = refl
 narrow_at false z e = rw e refl
 
@@ -294,7 +306,8 @@ pub as_read_canonical : (x : Scalar) → scalar_as_read Canonical x ≡ x
 as_read_canonical (int64 z) = refl
 as_read_canonical x = refl
 
-narrow_number : (b : Bool) (z : ℤ) → writes_scalar Relaxed (cond b (int32 z) (int64 z)) ≡ Ok (tree.number (of_integer z))
+narrow_number : (b : Bool) (z : ℤ)
+    → writes_scalar Relaxed (cond b (int32 z) (int64 z)) ≡ Ok (tree.number (of_integer z))
 narrow_number true z = refl
 narrow_number false z = refl
 

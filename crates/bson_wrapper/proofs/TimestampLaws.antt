@@ -9,7 +9,8 @@ use Rattle.bson_wrapper.specs.Scalar.{Scalar}
 use Rattle.bson_wrapper.specs.Shapes.{u32_at, object_of_one, natural}
 use Rattle.bson_wrapper.proofs.InverseLemmas.{means_by, un_ok, some_then, two_then}
 
-pub timestamp_from : (d : Data) (x : Scalar) → timestamp_read d ≡ Ok x → MeansScalar (object_of_one (codes "$timestamp") d) x
+pub timestamp_from : (d : Data) (x : Scalar) → timestamp_read d ≡ Ok x
+    → MeansScalar (object_of_one (codes "$timestamp") d) x
 timestamp_from d x h =
     let a = two_then (codes "i") (codes "t") d _ x h in
     let i = some_then (u32_at a.0) _ x a.3 in

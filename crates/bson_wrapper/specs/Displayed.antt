@@ -6,7 +6,9 @@ use Rattle.bson_datetime.specs.Displayed.{display_text as date_text}
 use Rattle.bson_decimal.specs.Displayed.{display_text as decimal_text}
 use Rattle.bson_scalar.specs.Base64.{padded_text}
 use Rattle.bson_scalar.specs.Subtype.{subtype_byte}
-use Rattle.bson_wrapper.specs.Scalar.{Scalar, null, undefined, min_key, max_key, boolean, double, int32, int64, text, symbol, code, regex, timestamp, binary, object_id, date, decimal as decimal128, db_pointer}
+use Rattle.bson_wrapper.specs.Scalar.{Scalar, null, undefined, min_key, max_key, boolean, double, int32, int64, text}
+use Rattle.bson_wrapper.specs.Scalar.{symbol, code, regex, timestamp, binary, object_id, date, decimal as decimal128}
+use Rattle.bson_wrapper.specs.Scalar.{db_pointer}
 
 -- a pattern of 64 bits in 16 hexadecimal digits
 abbrev pub sixteen_digits : ℕ → List ℕ
@@ -30,7 +32,8 @@ scalar_text (symbol s) = codes "Symbol(\"" ++ s ++ codes "\")"
 scalar_text (code s) = s
 scalar_text (regex p o) = codes "/" ++ p ++ codes "/" ++ o
 scalar_text (timestamp t i) = codes "Timestamp(" ++ decimal t ++ codes ", " ++ decimal i ++ codes ")"
-scalar_text (binary k bytes) = codes "Binary(0x" ++ digits 16 false (subtype_byte k) ++ codes ", " ++ padded_text bytes ++ codes ")"
+scalar_text (binary k bytes) =
+    codes "Binary(0x" ++ digits 16 false (subtype_byte k) ++ codes ", " ++ padded_text bytes ++ codes ")"
 scalar_text (object_id id) = codes "ObjectId(\"" ++ encode_lower id ++ codes "\")"
 scalar_text (date ms) = codes "DateTime(\"" ++ date_text ms ++ codes "\")"
 scalar_text (decimal128 b) = decimal_text b

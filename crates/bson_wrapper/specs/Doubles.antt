@@ -1,6 +1,7 @@
 -- `$numberDouble` (MongoDB Extended JSON v2; `-NaN` is our own): six texts of zeros, infinities and NaNs.
 -- A double is its pattern of 64 bits (IEEE 754-2008 binary64). Read and written: {"$numberDouble": "-0.0"}.
-use Rattle.std.specs.Prelude.{◌&&◌, ◌||◌, ◌==◌, ◌/◌, ◌^◌, nat_lt, ℕ, List, Bool, codes, Option, Some, None, if◌then◌else◌}
+use Rattle.std.specs.Prelude.{◌&&◌, ◌||◌, ◌==◌, ◌/◌, ◌^◌, nat_lt, ℕ, List, Bool, codes, Option, Some, None}
+use Rattle.std.specs.Prelude.{if◌then◌else◌}
 use Rattle.std.specs.Str.{bytes_eq}
 use Rattle.serde_json.specs.Data.{Data}
 use Rattle.serde_json.specs.Data as tree

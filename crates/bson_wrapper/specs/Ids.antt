@@ -13,4 +13,5 @@ abbrev pub oid_tree : List ℕ → Data
 oid_tree id = object_of_one (key_of Oid) (tree.string (encode_lower id))
 
 abbrev pub pointer_tree : List ℕ → List ℕ → Data
-pointer_tree name id = object_of_one (key_of DbPointer) (object_of_two (codes "$id") (oid_tree id) (codes "$ref") (tree.string name))
+pointer_tree name id =
+    object_of_one (key_of DbPointer) (object_of_two (codes "$id") (oid_tree id) (codes "$ref") (tree.string name))

@@ -35,7 +35,8 @@ HasText = (p : ℕ) → is_some (double_text p) ≡ is_special p
 
 -- what is written means the normal form, narrowed in the relaxed form
 abbrev pub ReadsBack : Type 0
-ReadsBack = (f : Form) (x : Scalar) (t : Data) → writes_scalar f x ≡ Ok t → ScalarInRange x → MeansScalar t (scalar_as_read f (normal_scalar x))
+ReadsBack = (f : Form) (x : Scalar) (t : Data) → writes_scalar f x ≡ Ok t → ScalarInRange x
+    → MeansScalar t (scalar_as_read f (normal_scalar x))
 
 -- normal form and narrowing, done again, change nothing
 abbrev pub NormalAgain : Type 0

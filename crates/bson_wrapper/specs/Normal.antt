@@ -9,7 +9,8 @@ use Rattle.bson_wrapper.specs.Ints.{narrowest}
 use Rattle.bson_scalar.specs.Regex.{sorted_text}
 use Rattle.bson_wrapper.specs.declared.form.Form.{Form}
 use Rattle.bson_wrapper.specs.declared.form.Form.TheVariants.{Canonical, Relaxed}
-use Rattle.bson_wrapper.specs.Scalar.{Scalar, double, int32, int64, regex, timestamp, binary, object_id, date, decimal, db_pointer}
+use Rattle.bson_wrapper.specs.Scalar.{Scalar, double, int32, int64, regex, timestamp, binary, object_id, date, decimal}
+use Rattle.bson_wrapper.specs.Scalar.{db_pointer}
 
 -- the normal form: options sorted, the subtype that its byte reads as, a NaN as its text means it, a decimal as its
 -- canonical pattern; all else kept

@@ -1,5 +1,7 @@
--- What the tree of a scalar is read as, as functions: for the order of faults, and for the proofs. `Means` is the grammar.
-use Rattle.std.specs.Prelude.{◌+◌, ◌*◌, ◌^◌, ◌==◌, ◌&&◌, nat_lt, ℕ, ℤ, pos, List, [], ◌∷◌, length, codes, Bool, false, if◌then◌else◌, Option, Some, None, option_map, Result, Ok, Err}
+-- What the tree of a scalar is read as, as functions: for the order of faults, and for the proofs. `Means` is the
+-- grammar.
+use Rattle.std.specs.Prelude.{◌+◌, ◌*◌, ◌^◌, ◌==◌, ◌&&◌, nat_lt, ℕ, ℤ, pos, List, [], ◌∷◌, length, codes, Bool, false}
+use Rattle.std.specs.Prelude.{if◌then◌else◌, Option, Some, None, option_map, Result, Ok, Err}
 use Rattle.std.specs.Int.{w128, to_le_bytes}
 use Rattle.std.specs.Result.{result_ok}
 use Rattle.std.specs.Str.{bytes_eq, all_ascii_digits}
@@ -23,11 +25,15 @@ use Rattle.serde_json.specs.Find.{as_i64, as_str}
 use Rattle.bson_wrapper.specs.Doubles.{double_of}
 use Rattle.bson_wrapper.specs.Faults.{Fault, wrong_shape, wrong_id, ◌>>=◌, or_wrong_shape}
 use Rattle.bson_wrapper.specs.Ints.{fits_bits, narrowest}
-use Rattle.bson_wrapper.specs.Scalar.{Scalar, null, undefined, min_key, max_key, boolean, double, int32, int64, text, symbol, code, regex, timestamp, binary, object_id, date, decimal, db_pointer}
+use Rattle.bson_wrapper.specs.Scalar.{Scalar, null, undefined, min_key, max_key, boolean, double, int32, int64, text}
+use Rattle.bson_wrapper.specs.Scalar.{symbol, code, regex, timestamp, binary, object_id, date, decimal, db_pointer}
 use Rattle.bson_wrapper.specs.Shapes.{whole, u32_at}
 use Rattle.bson_wrapper.specs.Table.{wrapper_of}
 use Rattle.bson_wrapper.specs.declared.wrapper.Wrapper.{Wrapper}
-use Rattle.bson_wrapper.specs.declared.wrapper.Wrapper.TheVariants.{Oid, Symbol, RegularExpression, NumberInt, NumberLong, NumberDouble, NumberDecimal, Binary, Uuid, Code, Timestamp, Date, MinKey, MaxKey, DbPointer, Undefined}
+use Rattle.bson_wrapper.specs.declared.wrapper.Wrapper.TheVariants.{Oid, Symbol, RegularExpression, NumberInt}
+use Rattle.bson_wrapper.specs.declared.wrapper.Wrapper.TheVariants.{NumberLong, NumberDouble, NumberDecimal, Binary}
+use Rattle.bson_wrapper.specs.declared.wrapper.Wrapper.TheVariants.{Uuid, Code, Timestamp, Date, MinKey, MaxKey}
+use Rattle.bson_wrapper.specs.declared.wrapper.Wrapper.TheVariants.{DbPointer, Undefined}
 
 -- ---- shapes
 
@@ -38,7 +44,8 @@ lone_member a _ = None
 
 -- the values of a map that has just these two keys, of which a is the lesser
 abbrev pub two_members : List ℕ → List ℕ → Data → Option (Data × Data)
-two_members a b (tree.object (member k d (member l e no_members))) = if bytes_eq k a && bytes_eq l b then Some (d, e) else None
+two_members a b (tree.object (member k d (member l e no_members))) = if bytes_eq k a && bytes_eq l b then Some (d, e)
+    else None
 two_members a b _ = None
 
 -- what a text, the value of a lone key and those of two keys are read as; anything else is wrong
@@ -58,7 +65,8 @@ is_numeral ds = nat_lt 0 (length ds) && all_ascii_digits ds
 
 -- the number of an int text
 unfoldable pub int_of : ℕ → List ℕ → Option ℤ
-int_of h bs = if is_numeral (without_leading_sign bs) && fits_bits h (signed_digits_value 10 bs) then Some (signed_digits_value 10 bs) else None
+int_of h bs = if is_numeral (without_leading_sign bs) && fits_bits h (signed_digits_value 10 bs)
+    then Some (signed_digits_value 10 bs) else None
 
 abbrev pub number_read : Num → Result Scalar Fault
 number_read n = or_wrong_shape (as_i64 n) >>= λ z. Ok (narrowest z)
@@ -82,7 +90,9 @@ word_of w =
     else None
 
 abbrev pub finite_of : List ℕ → Option (List ℕ)
-finite_of s = option_map (λ r. to_le_bytes w128 (first_form (starts_with_minus s) r.0 r.1)) (result_ok (finite (without_leading_sign s)))
+finite_of s =
+    option_map (λ r. to_le_bytes w128 (first_form (starts_with_minus s) r.0 r.1))
+    (result_ok (finite (without_leading_sign s)))
 
 abbrev pub decimal_at : List ℕ → Option ℕ → Option (List ℕ)
 decimal_at s (Some n) = Some (to_le_bytes w128 (sign_weight (starts_with_minus s) + n))
@@ -104,7 +114,9 @@ abbrev pub code_read : Data → Result Scalar Fault
 code_read d = on_text d (λ s. Ok (code s))
 
 abbrev pub regex_read : Data → Result Scalar Fault
-regex_read d = on_two (codes "options") (codes "pattern") d (λ o p. on_text o (λ os. on_text p (λ ps. Ok (regex ps (sorted_text os)))))
+regex_read d =
+    on_two (codes "options") (codes "pattern") d (λ o p.
+    on_text o (λ os. on_text p (λ ps. Ok (regex ps (sorted_text os)))))
 
 -- ---- object ids
 
@@ -121,12 +133,16 @@ oid_read d = on_text d (λ s. id_of s >>= λ id. Ok (object_id id))
 
 -- the shape first, so that an object id's text is at fault only where it alone is wrong
 abbrev pub pointer_read : Data → Result Scalar Fault
-pointer_read d = on_two (codes "$id") (codes "$ref") d (λ i r. on_text r (λ name. on_lone (codes "$oid") i (λ t. on_text t (λ s. id_of s >>= λ id. Ok (db_pointer name id)))))
+pointer_read d =
+    on_two (codes "$id") (codes "$ref") d (λ i r.
+    on_text r (λ name. on_lone (codes "$oid") i (λ t. on_text t (λ s. id_of s >>= λ id. Ok (db_pointer name id)))))
 
 -- ---- moments
 
 abbrev pub timestamp_read : Data → Result Scalar Fault
-timestamp_read d = on_two (codes "i") (codes "t") d (λ i t. or_wrong_shape (u32_at i) >>= λ m. or_wrong_shape (u32_at t) >>= λ n. Ok (timestamp n m))
+timestamp_read d =
+    on_two (codes "i") (codes "t") d (λ i t. or_wrong_shape (u32_at i) >>= λ m. or_wrong_shape (u32_at t) >>= λ n.
+    Ok (timestamp n m))
 
 abbrev pub millis_of : Data → Result ℤ Fault
 millis_of (tree.string s) = or_wrong_shape (named_moment s)
@@ -155,7 +171,11 @@ abbrev pub bytes_of : List ℕ → Option (List ℕ)
 bytes_of s = bytes_with s (result_ok (decode_of standard s))
 
 abbrev pub binary_read : Data → Result Scalar Fault
-binary_read d = on_two (codes "base64") (codes "subType") d (λ b k. on_text b (λ s. on_text k (λ t. or_wrong_shape (bytes_of s) >>= λ bytes. or_wrong_shape (byte_of t) >>= λ n. Ok (binary (subtype_of n) bytes))))
+binary_read d =
+    on_two (codes "base64") (codes "subType") d (λ b k.
+    on_text b
+    (λ s. on_text k (λ t. or_wrong_shape (bytes_of s) >>= λ bytes. or_wrong_shape (byte_of t) >>= λ n.
+    Ok (binary (subtype_of n) bytes))))
 
 abbrev pub uuid_read : Data → Result Scalar Fault
 uuid_read d = on_text d (λ s. or_wrong_shape (parsed_hyphenated s) >>= λ id. Ok (binary subtype.Uuid id))
@@ -208,5 +228,6 @@ scalar_read (tree.boolean b) = Ok (boolean b)
 scalar_read (tree.number n) = number_read n
 scalar_read (tree.string s) = Ok (text s)
 scalar_read (tree.object (member k d no_members)) = single_at (wrapper_of k) d
-scalar_read (tree.object (member k d (member l e no_members))) = if bytes_eq k (codes "$code") && bytes_eq l (codes "$scope") then code_beside e d else Err wrong_shape
+scalar_read (tree.object (member k d (member l e no_members))) =
+    if bytes_eq k (codes "$code") && bytes_eq l (codes "$scope") then code_beside e d else Err wrong_shape
 scalar_read _ = Err wrong_shape

@@ -8,4 +8,6 @@ use Rattle.bson_wrapper.specs.Table.{key_of}
 use Rattle.bson_wrapper.specs.declared.wrapper.Wrapper.TheVariants.{RegularExpression}
 
 abbrev pub regex_tree : List ℕ → List ℕ → Data
-regex_tree p o = object_of_one (key_of RegularExpression) (object_of_two (codes "options") (tree.string o) (codes "pattern") (tree.string p))
+regex_tree p o =
+    object_of_one (key_of RegularExpression)
+    (object_of_two (codes "options") (tree.string o) (codes "pattern") (tree.string p))

@@ -1,5 +1,5 @@
--- A value that holds no other (BSON 1.1). A text is its bytes, a double its 64 bits as a number, a decimal and an object
--- id the list of their bytes, a date its milliseconds since 1970-01-01T00:00:00Z.
+-- A value that holds no other (BSON 1.1). A text is its bytes, a double its 64 bits as a number, a decimal and an
+-- object id the list of their bytes, a date its milliseconds since 1970-01-01T00:00:00Z.
 use Rattle.std.specs.Prelude.{ℕ, ℤ, List, Bool}
 use Rattle.bson_scalar.specs.declared.spec.BinarySubtype.{BinarySubtype}
 

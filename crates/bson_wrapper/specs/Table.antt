@@ -1,9 +1,13 @@
--- The sixteen wrapper keys (MongoDB Extended JSON v2). All other keys are ordinary, `$scope`, `$ref` and `$id` among them.
+-- The sixteen wrapper keys (MongoDB Extended JSON v2). All other keys are ordinary, `$scope`, `$ref` and `$id` among
+-- them.
 use Rattle.std.specs.Prelude.{ℕ, List, codes, Bool, ◌||◌, false, if◌then◌else◌, Option, Some, None, is_some}
 use Rattle.std.specs.Str.{bytes_eq}
 use Rattle.serde_json.specs.Data.{Members, no_members, member}
 use Rattle.bson_wrapper.specs.declared.wrapper.Wrapper.{Wrapper}
-use Rattle.bson_wrapper.specs.declared.wrapper.Wrapper.TheVariants.{Oid, Symbol, RegularExpression, NumberInt, NumberLong, NumberDouble, NumberDecimal, Binary, Uuid, Code, Timestamp, Date, MinKey, MaxKey, DbPointer, Undefined}
+use Rattle.bson_wrapper.specs.declared.wrapper.Wrapper.TheVariants.{Oid, Symbol, RegularExpression, NumberInt}
+use Rattle.bson_wrapper.specs.declared.wrapper.Wrapper.TheVariants.{NumberLong, NumberDouble, NumberDecimal, Binary}
+use Rattle.bson_wrapper.specs.declared.wrapper.Wrapper.TheVariants.{Uuid, Code, Timestamp, Date, MinKey, MaxKey}
+use Rattle.bson_wrapper.specs.declared.wrapper.Wrapper.TheVariants.{DbPointer, Undefined}
 
 abbrev pub key_of : Wrapper → List ℕ
 key_of Oid = codes "$oid"

@@ -27,6 +27,7 @@ Sends wrote (Ok t) (Ok d) = wrote d t
 Sends wrote (Ok t) (Err e) = ⊥
 Sends wrote (Err e) written = Stops e written
 
--- What a function returned is what writing gives, unless memory ran out: the tokens of the tree come after the old ones.
+-- What a function returned is what writing gives, unless memory ran out: the tokens of the tree come after the old
+-- ones.
 abbrev pub Puts : Result (Unit {0}) WriteError → Result Data Refusal → List Token → List Token → Type 0
 Puts r written old new = Sends (λ t done. new ≡ old ++ tokens_of t) r written

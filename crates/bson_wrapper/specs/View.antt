@@ -1,7 +1,8 @@
 -- The scalar that a `Scalar` stands for.
 use Rattle.std.specs.Prelude.{string_bytes}
 use Rattle.bson_scalar.specs.DbPointer.{namespace_of, id_of}
-use Rattle.bson_wrapper.specs.Scalar.{Scalar, null, undefined, min_key, max_key, boolean, double, int32, int64, text, symbol, code, regex, timestamp, binary, object_id, date, decimal, db_pointer}
+use Rattle.bson_wrapper.specs.Scalar.{Scalar, null, undefined, min_key, max_key, boolean, double, int32, int64, text}
+use Rattle.bson_wrapper.specs.Scalar.{symbol, code, regex, timestamp, binary, object_id, date, decimal, db_pointer}
 use Rattle.bson_wrapper.specs.declared.scalar.Scalar.{Scalar as Held}
 use Rattle.bson_wrapper.specs.declared.scalar.Scalar.TheVariants as variant
 

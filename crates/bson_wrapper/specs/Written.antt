@@ -14,7 +14,8 @@ use Rattle.bson_scalar.specs.Regex.{sorted_text}
 use Rattle.bson_wrapper.specs.Regexes.{regex_tree}
 use Rattle.bson_wrapper.specs.Texts.{symbol_tree, code_tree}
 use Rattle.bson_wrapper.specs.Timestamps.{timestamp_tree}
-use Rattle.bson_wrapper.specs.Scalar.{Scalar, null, undefined, min_key, max_key, boolean, double, int32, int64, text, symbol, code, regex, timestamp, binary, object_id, date, decimal, db_pointer}
+use Rattle.bson_wrapper.specs.Scalar.{Scalar, null, undefined, min_key, max_key, boolean, double, int32, int64, text}
+use Rattle.bson_wrapper.specs.Scalar.{symbol, code, regex, timestamp, binary, object_id, date, decimal, db_pointer}
 use Rattle.bson_wrapper.specs.declared.form.Form.{Form}
 use Rattle.bson_wrapper.specs.declared.form.Form.TheVariants.{Canonical, Relaxed}
 use Rattle.bson_wrapper.specs.declared.write_error.WriteError.{WriteError}

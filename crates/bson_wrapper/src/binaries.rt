@@ -1,6 +1,6 @@
-//! `$binary`: bytes and their subtype; and `$uuid`, the hyphenated text of a UUID. Read and written as
-//! `{"base64": "aGVsbG8=", "subType": "00"}` under `$binary` (RFC 4648 section 4, with padding; two
-//! hexadecimal digits, of which lower-case ones are written). `$uuid` is read alone, as
+//! `$binary`: bytes and their subtype; and `$uuid`, the hyphenated text of a UUID. Read and written
+//! as `{"base64": "aGVsbG8=", "subType": "00"}` under `$binary` (RFC 4648 section 4, with padding;
+//! two hexadecimal digits, of which lower-case ones are written). `$uuid` is read alone, as
 //! `{"$uuid": "00112233-4455-6677-8899-aabbccddeeff"}`, and means a binary of subtype 04.
 ghost use Rattle.std.specs.Prelude.{◌≡◌, ◌<◌, IfOk, OnOk, ◌∷◌, [], string_bytes};
 ghost use Rattle.serde_json.specs.View.{view};
@@ -10,7 +10,8 @@ ghost use Rattle.bson_scalar.specs.Orders.{parsed_hyphenated};
 ghost use Rattle.bson_scalar.specs.Subtype.{subtype_byte};
 ghost use Rattle.bson_wrapper.specs.Binaries.{binary_tree};
 ghost use Rattle.bson_wrapper.specs.Faults.{Gives, or_wrong_shape};
-ghost use Rattle.bson_wrapper.specs.Reading.{binary_read, uuid_read, byte_of as byte_at, bytes_of as bytes_at};
+ghost use Rattle.bson_wrapper.specs.Reading.{binary_read, uuid_read, byte_of as byte_at};
+ghost use Rattle.bson_wrapper.specs.Reading.{bytes_of as bytes_at};
 ghost use Rattle.bson_wrapper.specs.View.{scalar_view};
 
 use crate::error::Error;
@@ -83,9 +84,9 @@ fn uuid_of(text: &str) -> Option<Uuid>
     }
 }
 
-/// What `$uuid` holds, as a binary of the subtype of UUIDs: a text of 36 bytes, with `-` at places 8, 13,
-/// 18 and 23, counted from 0, and hexadecimal digits of either case elsewhere. The other spellings
-/// that `Uuid::parse_str` takes are refused.
+/// What `$uuid` holds, as a binary of the subtype of UUIDs: a text of 36 bytes, with `-` at places
+/// 8, 13, 18 and 23, counted from 0, and hexadecimal digits of either case elsewhere. The other
+/// spellings that `Uuid::parse_str` takes are refused.
 pub fn read_uuid(alloc: Global, value: Value) -> Result<Scalar, Error>
     ensures { Gives scalar_view result (uuid_read (view value)) }
 {

@@ -12,13 +12,13 @@ use std::alloc::{AllocError, AllocFailed};
 /// ```
 #[derive(Debug, Drop, thiserror::Error)]
 pub enum Error {
-    /// The text of an object id is wrong, under `$oid` or inside a `$dbPointer` that is right in all
-    /// else. The fault is never want of memory.
+    /// The text of an object id is wrong, under `$oid` or inside a `$dbPointer` that is right in
+    /// all else. The fault is never want of memory.
     #[error("{0}")]
     InvalidObjectId(oid::Error),
 
-    /// The tree has no meaning for another reason: an object with a wrapper key has not exactly that
-    /// wrapper's shape, or a number is no i64.
+    /// The tree has no meaning for another reason: an object with a wrapper key has not exactly
+    /// that wrapper's shape, or a number is no i64.
     #[error("{message}")]
     DeserializationError {
         /// What was expected there.

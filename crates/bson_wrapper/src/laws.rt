@@ -1,5 +1,6 @@
 //! The laws of scalars that the layer above builds on, each a fact of the definitions alone.
-ghost use Rattle.bson_wrapper.specs.Laws.{Meaning, OneMeaning, ReadForm, Tree, Writable, HasText, ReadsBack, NormalAgain, AsReadAgain};
+ghost use Rattle.bson_wrapper.specs.Laws.{Meaning, OneMeaning, ReadForm, Tree, Writable, HasText};
+ghost use Rattle.bson_wrapper.specs.Laws.{ReadsBack, NormalAgain, AsReadAgain};
 
 /// What reading a tree gives is its one meaning; what is read is writable.
 pub fn reading()
@@ -8,8 +9,8 @@ pub fn reading()
     ensures form { ReadForm }
 {}
 
-/// What writing a scalar gives is the grammar's tree of its normal form, exactly for a writable one;
-/// of doubles these are the zeros, infinities and NaNs.
+/// What writing a scalar gives is the grammar's tree of its normal form, exactly for a writable
+/// one; of doubles these are the zeros, infinities and NaNs.
 pub fn writing()
     ensures tree { Tree }
     ensures writable { Writable }

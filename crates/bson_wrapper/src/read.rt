@@ -23,8 +23,8 @@ use std::alloc::Global;
 
 /// What the value under this wrapper's key means.
 ///
-/// `InvalidObjectId` comes where the text of an object id alone is wrong, `DeserializationError` for
-/// every other tree that this wrapper does not hold.
+/// `InvalidObjectId` comes where the text of an object id alone is wrong, `DeserializationError`
+/// for every other tree that this wrapper does not hold.
 pub fn read_wrapper(alloc: Global, wrapper: Wrapper, value: Value) -> Result<Scalar, Error>
     ensures { Gives scalar_view result (single wrapper (view value)) }
 {

@@ -49,7 +49,8 @@ pub fn two_in(
     second: &str,
     message: &'static str,
 ) -> Result<(Value, Value), Error>
-    ensures { Gives (λ p. (view p.0, view p.1)) result (or_wrong_shape (two_members first.now second.now (view value))) }
+    ensures { Gives (λ p. (view p.0, view p.1)) result
+        (or_wrong_shape (two_members first.now second.now (view value))) }
 {
     match two_of(value, first, second) {
         Some(held) => Ok(held),
@@ -64,7 +65,8 @@ fn are_keys(key: &str, other: &str, first: &str, second: &str) -> bool
 }
 
 fn pair_of(mut members: Map<String, Value>, first: &str, second: &str) -> Option<(Value, Value)>
-    ensures { option_map (λ p. (view p.0, view p.1)) result ≡ two_members first.now second.now (object (members_view members.entries)) }
+    ensures { option_map (λ p. (view p.0, view p.1)) result
+        ≡ two_members first.now second.now (object (members_view members.entries)) }
 {
     let (key, value) = members.pop_first()?;
     let (other, more) = members.pop_first()?;

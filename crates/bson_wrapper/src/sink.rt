@@ -1,7 +1,8 @@
 //! Where trees are written to: into memory, or onto a text.
 ghost use Rattle.std.specs.Prelude.{◌≡◌, ℕ, List, IfOk, string_bytes};
 ghost use Rattle.std.specs.Fmt.{signed_decimal};
-ghost use Rattle.serde_json.specs.Data.{Data, null, boolean, number, string, object, unsigned, Members, no_members, put};
+ghost use Rattle.serde_json.specs.Data.{Data, null, boolean, number, string, object, unsigned};
+ghost use Rattle.serde_json.specs.Data.{Members, no_members, put};
 ghost use Rattle.serde_json.specs.Find.{of_integer};
 ghost use Rattle.bson_wrapper.specs.Tokens.{added};
 

@@ -1,6 +1,7 @@
 //! The sixteen wrapper keys of MongoDB Extended JSON v2, and whether an object has one.
 ghost use Rattle.std.specs.Prelude.{◌≡◌, IsTrue, None};
-ghost use Rattle.bson_wrapper.specs.Table.{wrapper_of, later_wrapper, number_wrapper, last_wrapper, key_of, has_wrapper};
+ghost use Rattle.bson_wrapper.specs.Table.{wrapper_of, later_wrapper, number_wrapper, last_wrapper};
+ghost use Rattle.bson_wrapper.specs.Table.{key_of, has_wrapper};
 ghost use Rattle.serde_json.specs.View.{members_view};
 
 use serde_json::{Map, Value};

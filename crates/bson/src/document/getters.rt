@@ -47,8 +47,10 @@ impl Document {
     ghost use Rattle.bson.specs.Rows.{double_row, int32_row, int64_row, object_id_row, string_row};
     ghost use Rattle.bson.specs.Rows.{timestamp_row};
     ghost use Rattle.bson.specs.Kinds.{held_at, ok_copied, ok_copied_mut};
-    ghost use Rattle.bson.specs.Kinds.{array_of, boolean_of, date_of, decimal_of, document_of, double_of};
-    ghost use Rattle.bson.specs.Kinds.{generic, generic_of, int32_of, int64_of, object_id_of, string_of};
+    ghost use Rattle.bson.specs.Kinds.{array_of, boolean_of, date_of, decimal_of, document_of};
+    ghost use Rattle.bson.specs.Kinds.{double_of};
+    ghost use Rattle.bson.specs.Kinds.{generic, generic_of, int32_of, int64_of, object_id_of};
+    ghost use Rattle.bson.specs.Kinds.{string_of};
     ghost use Rattle.bson.specs.Kinds.{bytes_of, timestamp_of};
 
     /// The pattern of the double at the key.

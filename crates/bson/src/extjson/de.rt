@@ -22,13 +22,16 @@ use serde_json::{Map, Value};
 use std::alloc::Global;
 
 impl Bson {
-    /// The value that the tree means by the full grammar of Extended JSON (MongoDB Extended JSON v2), in either form or mixed.
+    /// The value that the tree means by the full grammar of Extended JSON (MongoDB Extended JSON
+    /// v2), in either form or mixed.
     ///
-    /// An object with a wrapper key has exactly the shape of that wrapper, or is refused. A refusal tells the first fault:
-    /// of a list's elements in order, of a document's values by ascending key, of a wrapper as a whole.
-    /// It is `InvalidObjectId` where the text of an object id alone is wrong, else `DeserializationError`.
+    /// An object with a wrapper key has exactly the shape of that wrapper, or is refused. A refusal
+    /// tells the first fault: of a list's elements in order, of a document's values by ascending
+    /// key, of a wrapper as a whole. It is `InvalidObjectId` where the text of an object id alone
+    /// is wrong, else `DeserializationError`.
     ///
-    /// What is read comes back from the compact text of its tree in either form, unless that nests more than 127 deep.
+    /// What is read comes back from the compact text of its tree in either form, unless that nests
+    /// more than 127 deep.
     pub fn try_from_value(alloc: Global, value: Value) -> Result<Bson>
         ensures ok { IfOk result (λ v. HasMeaning (view value) (bson_view v)) }
         ensures accepts { (v : model.Value) → Means (view value) v → Gives bson_view result (Ok v) }
@@ -53,10 +56,11 @@ impl Bson {
 }
 
 impl Document {
-    /// The document of the map: its keys in ascending order of bytes, each with the meaning of its value.
+    /// The document of the map: its keys in ascending order of bytes, each with the meaning of its
+    /// value.
     ///
-    /// The map's own keys are not tested, so that it may have wrapper keys. A refusal tells the fault of the value at the
-    /// least key whose value has no meaning.
+    /// The map's own keys are not tested, so that it may have wrapper keys. A refusal tells the
+    /// fault of the value at the least key whose value has no meaning.
     pub fn try_from_map(alloc: Global, map: Map<String, Value>) -> Result<Document>
         ensures ok { IfOk result (λ v. HasDocumentMeaning (members_view map.entries) (document_view v)) }
         ensures accepts { (ps : Pairs) → MeansDocument (members_view map.entries) ps

@@ -5,7 +5,8 @@ ghost use Rattle.std.specs.Prelude.{◌≡◌, ◌&&◌, IfOk, codes, string_byt
 ghost use Rattle.std.specs.Str.{bytes_eq};
 ghost use Rattle.bson_model.specs.Value.{code_scope};
 ghost use Rattle.bson_wrapper.specs.Faults.{Gives};
-ghost use Rattle.bson_model.specs.Reading.{scalar_value, reads, reads_items, reads_members, reads_wrapper, reads_scope, scope_value, code_at};
+ghost use Rattle.bson_model.specs.Reading.{scalar_value, reads, reads_items, reads_members};
+ghost use Rattle.bson_model.specs.Reading.{reads_wrapper, reads_scope, scope_value, code_at};
 ghost use Rattle.bson_model.specs.Normal.{InRange, ItemsInRange, PairsInRange};
 ghost use Rattle.bson_wrapper.specs.Reading.{single_at};
 ghost use Rattle.bson_wrapper.specs.Table.{wrapper_of};

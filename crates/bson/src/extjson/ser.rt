@@ -20,9 +20,10 @@ use std::alloc::Global;
 impl Bson {
     /// The canonical tree of the value (MongoDB Extended JSON v2), which keeps every type.
     ///
-    /// It is the tree of the value's normal form: the options of a regular expression sorted, a NaN as its sign's one
-    /// pattern, a binary's subtype as its byte reads, a decimal in its canonical pattern.
-    /// A value that holds a finite double other than zero, at any depth, is refused as `FiniteDouble`.
+    /// It is the tree of the value's normal form: the options of a regular expression sorted, a NaN
+    /// as its sign's one pattern, a binary's subtype as its byte reads, a decimal in its canonical
+    /// pattern. A value that holds a finite double other than zero, at any depth, is refused as
+    /// `FiniteDouble`.
     pub fn into_canonical_extjson(self, alloc: Global) -> Result<Value, WriteError>
         ensures tree { IfOk result (λ t. IsTreeOf Canonical (bson_view self) (view t)) }
         ensures reads_again { IfOk result (λ t. ReadsAgain Canonical (bson_view self) (view t)) }
@@ -34,10 +35,12 @@ impl Bson {
         self.into_extjson(alloc, Form::Canonical)
     }
 
-    /// The relaxed tree of the value (MongoDB Extended JSON v2), with plain numbers and readable dates.
+    /// The relaxed tree of the value (MongoDB Extended JSON v2), with plain numbers and readable
+    /// dates.
     ///
-    /// Read again it gives the normal form in which each `Int64` that fits an i32 is the `Int32`.
-    /// A value that holds a finite double other than zero, at any depth, is refused as `FiniteDouble`.
+    /// Read again it gives the normal form in which each `Int64` that fits an i32 is the `Int32`. A
+    /// value that holds a finite double other than zero, at any depth, is refused as
+    /// `FiniteDouble`.
     pub fn into_relaxed_extjson(self, alloc: Global) -> Result<Value, WriteError>
         ensures tree { IfOk result (λ t. IsTreeOf Relaxed (bson_view self) (view t)) }
         ensures reads_again { IfOk result (λ t. ReadsAgain Relaxed (bson_view self) (view t)) }
@@ -61,11 +64,11 @@ impl Bson {
         write(alloc, form, self)
     }
 
-    /// The compact text of the canonical tree of the value, as [`Bson::into_canonical_extjson`] makes it and
-    /// `serde_json` writes it. It is written straight from the value, with no tree.
+    /// The compact text of the canonical tree of the value, as [`Bson::into_canonical_extjson`]
+    /// makes it and `serde_json` writes it. It is written straight from the value, with no tree.
     ///
-    /// A value that holds a finite double other than zero, at any depth, is refused as `FiniteDouble`, and want of
-    /// memory is `OutOfMemory`.
+    /// A value that holds a finite double other than zero, at any depth, is refused as
+    /// `FiniteDouble`, and want of memory is `OutOfMemory`.
     pub fn to_canonical_text(&self, alloc: Global) -> Result<String, WriteError>
         ensures text { IfOk result (λ s. IsTextIn Canonical (bson_view self.now) (string_bytes s)) }
         ensures ranged { OnOk result (InRange (bson_view self.now)) }
@@ -85,11 +88,11 @@ impl Bson {
         self.to_canonical_text(alloc)
     }
 
-    /// The compact text of the relaxed tree of the value, as [`Bson::into_relaxed_extjson`] makes it and
-    /// `serde_json` writes it. It is written straight from the value, with no tree.
+    /// The compact text of the relaxed tree of the value, as [`Bson::into_relaxed_extjson`] makes
+    /// it and `serde_json` writes it. It is written straight from the value, with no tree.
     ///
-    /// A value that holds a finite double other than zero, at any depth, is refused as `FiniteDouble`, and want of
-    /// memory is `OutOfMemory`.
+    /// A value that holds a finite double other than zero, at any depth, is refused as
+    /// `FiniteDouble`, and want of memory is `OutOfMemory`.
     pub fn to_relaxed_text(&self, alloc: Global) -> Result<String, WriteError>
         ensures text { IfOk result (λ s. IsTextIn Relaxed (bson_view self.now) (string_bytes s)) }
         ensures ranged { OnOk result (InRange (bson_view self.now)) }

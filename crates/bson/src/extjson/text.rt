@@ -53,7 +53,8 @@ fn print_items(
     values: &Vec<Bson>,
     out: &mut Writer,
 ) -> Result<(), WriteError>
-    ensures printed { Prints array result (writes_items form (values_view values.now.items)) out.old.tokens out.new.tokens }
+    ensures printed { Prints array result (writes_items form (values_view values.now.items)) out.old.tokens
+        out.new.tokens }
     ensures before { out.new.before ≡ out.old.before }
     ensures ranged { OnOk result (ItemsInRange (values_view values.now.items)) }
 {
@@ -88,7 +89,8 @@ fn print_document(
     document: &Document,
     out: &mut Writer,
 ) -> Result<(), WriteError>
-    ensures printed { Prints object result (writes_pairs form (pairs_view document.now.pairs)) out.old.tokens out.new.tokens }
+    ensures printed { Prints object result (writes_pairs form (pairs_view document.now.pairs)) out.old.tokens
+        out.new.tokens }
     ensures before { out.new.before ≡ out.old.before }
     ensures ranged { OnOk result (PairsInRange (pairs_view document.now.pairs)) }
 {
@@ -106,7 +108,8 @@ fn print_in_turn(
     document: &Document,
     out: &mut Writer,
 ) -> Result<(), WriteError>
-    ensures printed { Prints object result (writes_in_order form (pairs_view document.now.pairs)) out.old.tokens out.new.tokens }
+    ensures printed { Prints object result (writes_in_order form (pairs_view document.now.pairs)) out.old.tokens
+        out.new.tokens }
     ensures before { out.new.before ≡ out.old.before }
     ensures ranged { OnOk result (PairsInRange (pairs_view document.now.pairs)) }
 {
@@ -125,7 +128,8 @@ fn print_by_key(
     document: &Document,
     out: &mut Writer,
 ) -> Result<(), WriteError>
-    ensures printed { Prints object result (writes_in_order form (pairs_view (in_order document.now.pairs))) out.old.tokens out.new.tokens }
+    ensures printed { Prints object result (writes_in_order form (pairs_view (in_order document.now.pairs)))
+        out.old.tokens out.new.tokens }
     ensures before { out.new.before ≡ out.old.before }
     ensures ranged { OnOk result (PairsInRange (pairs_view (in_order document.now.pairs))) }
 {

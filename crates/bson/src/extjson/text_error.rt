@@ -10,12 +10,13 @@ use bson_wrapper::error::Error;
 /// ```
 #[derive(Debug, Drop, thiserror::Error)]
 pub enum TextError {
-    /// The bytes are not one JSON text: they are no UTF-8, nest deeper than 127, or break the grammar.
+    /// The bytes are not one JSON text: they are no UTF-8, nest deeper than 127, or break the
+    /// grammar.
     #[error("not JSON")]
     NotJson,
 
-    /// The JSON text has no meaning in MongoDB Extended JSON v2, for the first fault of its tree. It is never want of
-    /// memory.
+    /// The JSON text has no meaning in MongoDB Extended JSON v2, for the first fault of its tree.
+    /// It is never want of memory.
     #[error("{0}")]
     NotExtendedJson(Error),
 

@@ -1,8 +1,9 @@
 //! Values from texts, with no tree of the whole.
 //!
-//! In reading order: `straight` (values from the tokens of a text), `held` (trees of what a wrapper's key holds, and of
-//! an object that begins with `$scope`), `number` (the number of a token), `gathered` (the members of an object as they
-//! come, by ascending key), `unread` (why no value was read straight) and `fault` (why the tree of a text means nothing).
+//! In reading order: `straight` (values from the tokens of a text), `held` (trees of what a
+//! wrapper's key holds, and of an object that begins with `$scope`), `number` (the number of a
+//! token), `gathered` (the members of an object as they come, by ascending key), `unread` (why no
+//! value was read straight) and `fault` (why the tree of a text means nothing).
 ghost use Rattle.std.specs.Prelude.{◌≡◌, ℕ, List, None, IfOk, IfErr, IsTrue};
 ghost use Rattle.serde_json.specs.Data.{Data};
 ghost use Rattle.serde_json.specs.Read.{read};
@@ -42,16 +43,16 @@ impl Bson {
     /// It is Ok exactly where the bytes are UTF-8 and as a whole one JSON text (nested at most 127
     /// deep), and its tree has a meaning; only want of memory may come in its place. Of a key that
     /// stands twice in an object the last value counts, and a document has its keys in ascending
-    /// order of bytes. `NotJson` is answered where there is no such text, and `NotExtendedJson` with
-    /// the first fault of its tree where that has no meaning.
+    /// order of bytes. `NotJson` is answered where there is no such text, and `NotExtendedJson`
+    /// with the first fault of its tree where that has no meaning.
     ///
     /// What is read comes back: its text in either form is read as the same value again, unless it
     /// nests deeper than 127.
     ///
     /// What has a meaning is read straight, with no tree of the whole. A text that is refused so is
-    /// read again by its tree, which finds the fault. So is, and is then accepted, a text that has an
-    /// object in which a wrapper's key stands twice, or in which a value of no meaning gives way to a
-    /// later one of its key.
+    /// read again by its tree, which finds the fault. So is, and is then accepted, a text that has
+    /// an object in which a wrapper's key stands twice, or in which a value of no meaning gives way
+    /// to a later one of its key.
     ///
     /// ```
     /// let value = Bson::try_from_text(alloc, br#"{"n": {"$numberLong": "5"}}"#)?;
@@ -83,7 +84,8 @@ fn read_bytes(alloc: Global, bytes: &[u8]) -> Result<Bson, TextError>
     }
 }
 
-// The same of a text that seems to break the grammar of JSON: where its tokens do, it needs no tree.
+// The same of a text that seems to break the grammar of JSON: where its tokens do, it needs no
+// tree.
 fn by_tokens(alloc: Global, bytes: &[u8], text: &str) -> Result<Bson, TextError>
     requires { bytes.now ≡ text.now }
     ensures ok { IfOk result (λ v. HasTextMeaning bytes.now (bson_view v)) }
@@ -108,7 +110,8 @@ fn breaks_grammar(alloc: Global, text: &str) -> Result<bool, AllocError>
     }
 }
 
-// The same by the text's tree. Most such texts have a fault, which is looked for first: that makes no values.
+// The same by the text's tree. Most such texts have a fault, which is looked for first: that makes
+// no values.
 #[inline(never)]
 fn by_tree(alloc: Global, bytes: &[u8]) -> Result<Bson, TextError>
     ensures ok { IfOk result (λ v. HasTextMeaning bytes.now (bson_view v)) }

@@ -7,7 +7,8 @@ use crate::small::Pair;
 use std::marker::Model;
 use std::vec;
 
-/// An iterator over the pairs of a store, by value and in their order; `SmallPairs::into_pairs` makes it.
+/// An iterator over the pairs of a store, by value and in their order; `SmallPairs::into_pairs`
+/// makes it.
 ///
 /// Where `pairs` holds a 1 and b 2:
 ///

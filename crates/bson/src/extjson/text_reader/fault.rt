@@ -2,7 +2,8 @@
 ghost use Rattle.serde_json.specs.View.{view, items_view, members_view};
 ghost use Rattle.std.specs.Prelude.{IfErr};
 ghost use Rattle.bson_model.specs.Fault.{IsFaultOf};
-ghost use Rattle.bson_model.specs.Reading.{reads, reads_items, reads_members, reads_wrapper, reads_scope, scalar_value, code_at};
+ghost use Rattle.bson_model.specs.Reading.{reads, reads_items, reads_members, reads_wrapper};
+ghost use Rattle.bson_model.specs.Reading.{reads_scope, scalar_value, code_at};
 ghost use Rattle.bson_wrapper.specs.Reading.{single_at};
 ghost use Rattle.bson_wrapper.specs.Table.{wrapper_of};
 ghost use Rattle.bson.specs.Straight.{Finds};

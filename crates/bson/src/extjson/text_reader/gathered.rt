@@ -96,7 +96,8 @@ fn put_many(
     Ok(Gathered::Many(members))
 }
 
-// The place of the key, or that at which it would stand; by a walk from the end, since most keys ascend.
+// The place of the key, or that at which it would stand; by a walk from the end, since most keys
+// ascend.
 fn place_of(found: &Vec<(String, Bson)>, key: &str) -> Result<usize, usize>
     requires { KeysAscend (gathered_pairs found.now.items) }
     ensures { MatchResult result (λ at. StandsAt key.now found.now.items at) (λ at. FitsAt key.now found.now.items at) }
@@ -125,7 +126,8 @@ fn map_of(alloc: Global, members: Vec<(String, Bson)>) -> Result<BTreeMap<String
 }
 
 fn enter(map: &mut BTreeMap<String, Bson>, key: String, value: Bson) -> Result<(), Unread>
-    ensures { OnOk result (gathered_pairs map.new.entries ≡ put_pair (string_bytes key) (bson_view value) (gathered_pairs map.old.entries)) }
+    ensures { OnOk result (gathered_pairs map.new.entries
+        ≡ put_pair (string_bytes key) (bson_view value) (gathered_pairs map.old.entries)) }
 {
     drop(map.insert(key, value)?);
     Ok(())

@@ -1,4 +1,5 @@
-//! Trees of parts of a text: of what a wrapper's key holds, and of an object that begins with a scope.
+//! Trees of parts of a text: of what a wrapper's key holds, and of an object that begins with a
+//! scope.
 ghost use Rattle.std.specs.Prelude.{◌≡◌, ◌<◌, length, IfOk, OnOk, Some};
 ghost use Rattle.json.specs.Json.{value, items};
 ghost use Rattle.serde_json.specs.Data.{no_members};
@@ -50,7 +51,8 @@ pub(crate) fn read_tree(
 #[cycle(tree)]
 fn read_items(alloc: Global, reader: &mut Reader<'_>, depth: usize) -> Result<Vec<Value>, Unread>
     ensures ok { IfOk result
-        (λ v. converted of_items (items (value depth) (length reader.old) reader.old) ≡ Some (items_view v.items, reader.new)) }
+        (λ v. converted of_items (items (value depth) (length reader.old) reader.old)
+        ≡ Some (items_view v.items, reader.new)) }
     ensures shorter { OnOk result (length reader.new < length reader.old) }
 {
     let mut found = Vec::new(alloc);
@@ -90,7 +92,8 @@ fn read_member(
     mut found: Map<String, Value>,
 ) -> Result<Map<String, Value>, Unread>
     ensures ok { IfOk result
-        (λ now. IsEntered (converted of_json (value depth reader.old)) name.now (members_view found.entries) (members_view now.entries) reader.new) }
+        (λ now. IsEntered (converted of_json (value depth reader.old)) name.now (members_view found.entries)
+        (members_view now.entries) reader.new) }
     ensures shorter { OnOk result (length reader.new < length reader.old) }
 {
     let key = String::from_str(alloc, name)?;

@@ -1,7 +1,7 @@
 //! Values straight from the tokens of a text.
 //!
-//! What is read here has its meaning by the grammar. A refusal tells nothing of the text: it may have a fault, or a shape
-//! that is left to the reader over trees, which also finds the fault.
+//! What is read here has its meaning by the grammar. A refusal tells nothing of the text: it may
+//! have a fault, or a shape that is left to the reader over trees, which also finds the fault.
 ghost use Rattle.std.specs.Prelude.{◌≡◌, ◌<◌, length, option_map, string_bytes, IfOk, OnOk};
 ghost use Rattle.json.specs.Json.{value, items, members};
 ghost use Rattle.serde_json.specs.Data.{no_members};
@@ -11,7 +11,8 @@ ghost use Rattle.bson_model.specs.Reading.{code_value};
 ghost use Rattle.bson_model.specs.Sorted.{KeysAscend};
 ghost use Rattle.bson.specs.View.{bson_view, document_view, values_view};
 ghost use Rattle.bson.specs.Gathered.{gathered};
-ghost use Rattle.bson.specs.Straight.{TreeMeans, ItemsMean, IsJoined, ObjectMeans, PairsMean, ScopeMeans, WrapperMeans, CodeMeans};
+ghost use Rattle.bson.specs.Straight.{TreeMeans, ItemsMean, IsJoined, ObjectMeans, PairsMean};
+ghost use Rattle.bson.specs.Straight.{ScopeMeans, WrapperMeans, CodeMeans};
 
 use crate::bson::Bson;
 use crate::document::Document;
@@ -65,7 +66,8 @@ pub(crate) fn read_value(
 #[inline(never)]
 fn read_items(alloc: Global, reader: &mut Reader<'_>, depth: usize) -> Result<Vec<Bson>, Unread>
     ensures ok { IfOk result
-        (λ v. ItemsMean (converted of_items (items (value depth) (length reader.old) reader.old)) (values_view v.items) reader.new) }
+        (λ v. ItemsMean (converted of_items (items (value depth) (length reader.old) reader.old))
+        (values_view v.items) reader.new) }
     ensures shorter { OnOk result (length reader.new < length reader.old) }
 {
     let mut found = Vec::new(alloc);
@@ -82,7 +84,9 @@ fn read_items(alloc: Global, reader: &mut Reader<'_>, depth: usize) -> Result<Ve
 #[inline(never)]
 fn read_object(alloc: Global, reader: &mut Reader<'_>, depth: usize) -> Result<Bson, Unread>
     ensures ok { IfOk result
-        (λ v. ObjectMeans (converted (λ ms. of_members ms no_members) (members (value depth) (length reader.old) reader.old)) (bson_view v) reader.new) }
+        (λ v. ObjectMeans
+        (converted (λ ms. of_members ms no_members) (members (value depth) (length reader.old) reader.old))
+        (bson_view v) reader.new) }
     ensures shorter { OnOk result (length reader.new < length reader.old) }
 {
     let mut found = none(alloc);
@@ -102,8 +106,9 @@ fn read_object(alloc: Global, reader: &mut Reader<'_>, depth: usize) -> Result<B
     Ok(Bson::Document(document))
 }
 
-// What the object means whose first key, `$scope`, was read. It has a tree of its own, since only what follows tells
-// whether a scope stands there, whose keys are not tested, or a value like any other.
+// What the object means whose first key, `$scope`, was read. It has a tree of its own, since only
+// what follows tells whether a scope stands there, whose keys are not tested, or a value like any
+// other.
 #[inline(never)]
 fn read_scoped(
     alloc: Global,
@@ -131,7 +136,8 @@ fn read_member(
 ) -> Result<Gathered, Unread>
     requires { KeysAscend (gathered found) }
     ensures ok { IfOk result
-        (λ now. IsJoined (converted of_json (value depth reader.old)) name.now (gathered found) (gathered now) reader.new) }
+        (λ now. IsJoined (converted of_json (value depth reader.old)) name.now (gathered found)
+        (gathered now) reader.new) }
     ensures shorter { OnOk result (length reader.new < length reader.old) }
 {
     let key = String::from_str(alloc, name)?;
@@ -225,7 +231,9 @@ fn read_scope(
 #[cycle(straight)]
 fn read_pairs(alloc: Global, reader: &mut Reader<'_>, depth: usize) -> Result<Document, Unread>
     ensures ok { IfOk result
-        (λ v. PairsMean (converted (λ ms. of_members ms no_members) (members (value depth) (length reader.old) reader.old)) (document_view v) reader.new) }
+        (λ v. PairsMean
+        (converted (λ ms. of_members ms no_members) (members (value depth) (length reader.old) reader.old))
+        (document_view v) reader.new) }
     ensures shorter { OnOk result (length reader.new < length reader.old) }
 {
     let mut found = none(alloc);

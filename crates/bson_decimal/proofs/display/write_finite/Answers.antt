@@ -10,7 +10,8 @@ use Rattle.bson_decimal.proofs.display.write_finite.Goals.{else-exponent-le0-via
 exponent-fits : (stored : ℕ) → stored < 2 ^ 16 → FitsSigned w32 (exponent_at stored)
 exponent-fits stored small = omega (arith, ints)
 
-first-fits : (ds : List ℕ) (stored : ℕ) → stored < 2 ^ 16 → length ds ≤ 34 → FitsSigned w32 (scientific_exponent ds (exponent_at stored))
+first-fits : (ds : List ℕ) (stored : ℕ) → stored < 2 ^ 16 → length ds ≤ 34
+    → FitsSigned w32 (scientific_exponent ds (exponent_at stored))
 first-fits ds stored small short = omega (arith, ints)
 
 pub returns-then-first-geminus6 : goal.returns-then-first-geminus6
@@ -18,7 +19,8 @@ returns-then-first-geminus6 g c =
     let x = exponent_at c.args.stored_exponent in
     let low : int_le x (pos 0) ≡ true = grind (arith, ints) in
     let near : int_le (neg_ℤ (pos 6)) (scientific_exponent c.args.digits.now x) ≡ true = grind (arith, ints) in
-    let places : c.unsigned_abs.result ≡ unsigned_abs x = (rw c.exponent_at-exponent.ensures at c.unsigned_abs.ensures.value) ∙ ap unsigned_abs (to_z-of_z w32 x (exponent-fits c.args.stored_exponent c.ranges.stored_exponent.fits)) in
+    let places : c.unsigned_abs.result ≡ unsigned_abs x = (rw c.exponent_at-exponent.ensures at c.unsigned_abs.ensures.value)
+        ∙ ap unsigned_abs (to_z-of_z w32 x (exponent-fits c.args.stored_exponent c.ranges.stored_exponent.fits)) in
     rw (low, near, ← places) c.write_plain.ensures
 
 pub returns-else-exponent-le0 : goal.returns-else-exponent-le0

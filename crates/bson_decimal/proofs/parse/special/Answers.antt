@@ -16,7 +16,8 @@ returns-then-eq_ignore_ascii_case-3-clause-word c = infinity (c.if-eq_ignore_asc
 pub returns-then-eq_ignore_ascii_case-4-clause-word : goal.returns-then-eq_ignore_ascii_case-4-clause-word
 returns-then-eq_ignore_ascii_case-4-clause-word c = inf (c.if-eq_ignore_ascii_case-4.ensures.test.0 refl)
 
-none-of : (word : List ℕ) → ¬ (lowercase word ≡ codes "nan") → ¬ (lowercase word ≡ codes "snan") → ¬ (lowercase word ≡ codes "infinity") → ¬ (lowercase word ≡ codes "inf") → (n : ℕ) → ¬ (SpecialWord word n)
+none-of : (word : List ℕ) → ¬ (lowercase word ≡ codes "nan") → ¬ (lowercase word ≡ codes "snan")
+    → ¬ (lowercase word ≡ codes "infinity") → ¬ (lowercase word ≡ codes "inf") → (n : ℕ) → ¬ (SpecialWord word n)
 none-of word a b c d n (nan e) = a e
 none-of word a b c d n (snan e) = b e
 none-of word a b c d n (infinity e) = c e

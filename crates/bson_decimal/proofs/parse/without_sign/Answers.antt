@@ -4,7 +4,8 @@ use Rattle.std.proofs.lemmas.Bool.Decides.{nat_tests}
 use Rattle.std.proofs.lemmas.Str.{IsCharBoundary-after_ascii}
 use Rattle.bson_decimal.proofs.parse.without_sign.Goals as goal
 
-after_first : (s bs : List ℕ) (b : ℕ) → bs ≡ s → IsUtf8 s → false ≡ eqb (length bs) 0 → get_or bs 0 0 ≡ b → b < 128 → IsCharBoundary s 1
+after_first : (s bs : List ℕ) (b : ℕ) → bs ≡ s → IsUtf8 s → false ≡ eqb (length bs) 0 → get_or bs 0 0 ≡ b → b < 128
+    → IsCharBoundary s 1
 after_first s bs b same utf8 some first low =
     let other : 0 < length bs = grind (arith, nat_tests) in
     let small : get_or bs 0 0 < 128 = omega arith in

@@ -21,8 +21,10 @@ lower-requires-clause-raised g c = λ k.
     let old = subst (IsPlaced ps) c.in-Some.is c.requires.4.1 in
     let was = ap (λ m. get_by_text m k) c.deref_mut.ensures.value ∙ old.1 k in
     ap (λ m. get_by_text m k) c.deref_mut-in-Some.ensures.value
-    ∙ btree_map_updates_text key c.deref_mut.result.now c.remove.new.self None c.remove.ensures.updates k ∙ (λ j. cond (bytes_eq key k) None (was j))
-    ∙ place-removed ps c.args.at (key, c.requires.1) c.requires.4.0 c.requires.2 k ∙ ap (λ qs. option_map (index_before_removal c.args.at) (position_of k qs)) (sym c.requires.3)
+    ∙ btree_map_updates_text key c.deref_mut.result.now c.remove.new.self None c.remove.ensures.updates k
+    ∙ (λ j. cond (bytes_eq key k) None (was j))
+    ∙ place-removed ps c.args.at (key, c.requires.1) c.requires.4.0 c.requires.2 k
+    ∙ ap (λ qs. option_map (index_before_removal c.args.at) (position_of k qs)) (sym c.requires.3)
 
 pub returns-then-len-le-FEW : goal.returns-then-len-le-FEW
 returns-then-len-le-FEW g c = (

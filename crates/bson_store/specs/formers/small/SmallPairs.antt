@@ -52,12 +52,16 @@ the_items_listed X d = indexed.the_items_listed X d
 
 -- a pair, and the fields
 abbrev one : Former {0}
-one = via (pair (const (String Global)) this) Pair (λ X p. (p.key, p.value)) (λ X v. record { key = v.0; value = v.1 }) (λ X p. refl) (λ X v. refl)
+one = via (pair (const (String Global)) this) Pair (λ X p. (p.key, p.value)) (λ X v. record { key = v.0; value = v.1 })
+    (λ X p. refl) (λ X v. refl)
 
 abbrev fields : Former {0}
-fields = via (pair (vec.the_former one Global) (const Index)) Inside (λ X a. (a.pairs, a.places)) (λ X v. record { pairs = v.0; places = v.1 }) (λ X a. refl) (λ X v. refl)
+fields =
+    via (pair (vec.the_former one Global) (const Index)) Inside (λ X a. (a.pairs, a.places))
+    (λ X v. record { pairs = v.0; places = v.1 }) (λ X a. refl) (λ X v. refl)
 
-seen-map : {X Y : Type 0} (h : X → Y) (ps : List (Pair X)) → stored_pairs (map (one.map X Y h) ps) ≡ map (on_value h) (stored_pairs ps)
+seen-map : {X Y : Type 0} (h : X → Y) (ps : List (Pair X))
+    → stored_pairs (map (one.map X Y h) ps) ≡ map (on_value h) (stored_pairs ps)
 seen-map h [] = refl
 seen-map h (p ∷ ps) = ap (λ l. (string_bytes p.key, h p.value) ∷ l) (seen-map h ps)
 
@@ -70,7 +74,8 @@ keys-on : {X Y : Type 0} (h : X → Y) (ps : List (List ℕ × X)) → keys (map
 keys-on h [] = refl
 keys-on h (p ∷ ps) = ap (λ l. p.0 ∷ l) (keys-on h ps)
 
-place-on : {X Y : Type 0} (h : X → Y) (k : List ℕ) (ps : List (List ℕ × X)) → position_of k (map (on_value h) ps) ≡ position_of k ps
+place-on : {X Y : Type 0} (h : X → Y) (k : List ℕ) (ps : List (List ℕ × X))
+    → position_of k (map (on_value h) ps) ≡ position_of k ps
 place-on h k [] = refl
 place-on h k (p ∷ ps) = ap (λ r. cond (bytes_eq k p.0) (Some 0) (option_map suc r)) (place-on h k ps)
 
@@ -83,18 +88,29 @@ IsIndexed-prop ps o = ×_prop (IsDistinct-prop bytes_eq (keys ps)) (IsPlaced-pro
 
 module _ {X Y : Type 0} (h : X → Y) where
   placed-on : (ps : List (List ℕ × X)) (o : Index) → IsPlaced ps o → IsPlaced (map (on_value h) ps) o
-  placed-on ps None p = λ more. subst (IsStrictlySortedBy key_cmp) (sym (keys-on h ps)) (p (subst (λ n. 8 < n) (length-map ps (on_value h)) more))
-  placed-on ps (Some m) p = (subst (λ n. 8 < n) (sym (length-map ps (on_value h))) p.0, λ k. p.1 k ∙ sym (place-on h k ps))
+  placed-on ps None p =
+      λ more. subst (IsStrictlySortedBy key_cmp) (sym (keys-on h ps))
+      (p (subst (λ n. 8 < n) (length-map ps (on_value h)) more))
+  placed-on ps (Some m) p =
+      (subst (λ n. 8 < n) (sym (length-map ps (on_value h))) p.0, λ k. p.1 k ∙ sym (place-on h k ps))
 
   placed-back : (ps : List (List ℕ × X)) (o : Index) → IsPlaced (map (on_value h) ps) o → IsPlaced ps o
-  placed-back ps None p = λ more. subst (IsStrictlySortedBy key_cmp) (keys-on h ps) (p (subst (λ n. 8 < n) (sym (length-map ps (on_value h))) more))
+  placed-back ps None p =
+      λ more. subst (IsStrictlySortedBy key_cmp) (keys-on h ps)
+      (p (subst (λ n. 8 < n) (sym (length-map ps (on_value h))) more))
   placed-back ps (Some m) p = (subst (λ n. 8 < n) (length-map ps (on_value h)) p.0, λ k. p.1 k ∙ place-on h k ps)
 
-  indexed-on : (ps : List (Pair X)) (o : Index) → IsIndexed (stored_pairs ps) o → IsIndexed (stored_pairs (map (one.map X Y h) ps)) o
-  indexed-on ps o p = subst (λ qs. IsIndexed qs o) (sym (seen-map h ps)) (subst (λ ks. IsDistinct bytes_eq ks) (sym (keys-on h (stored_pairs ps))) p.0, placed-on (stored_pairs ps) o p.1)
+  indexed-on : (ps : List (Pair X)) (o : Index) → IsIndexed (stored_pairs ps) o
+      → IsIndexed (stored_pairs (map (one.map X Y h) ps)) o
+  indexed-on ps o p =
+      subst (λ qs. IsIndexed qs o) (sym (seen-map h ps))
+      (subst (λ ks. IsDistinct bytes_eq ks) (sym (keys-on h (stored_pairs ps))) p.0, placed-on (stored_pairs ps) o p.1)
 
-  indexed-back : (ps : List (Pair X)) (o : Index) → IsIndexed (stored_pairs (map (one.map X Y h) ps)) o → IsIndexed (stored_pairs ps) o
-  indexed-back ps o p = let q = subst (λ qs. IsIndexed qs o) (seen-map h ps) p in (subst (λ ks. IsDistinct bytes_eq ks) (keys-on h (stored_pairs ps)) q.0, placed-back (stored_pairs ps) o q.1)
+  indexed-back : (ps : List (Pair X)) (o : Index) → IsIndexed (stored_pairs (map (one.map X Y h) ps)) o
+      → IsIndexed (stored_pairs ps) o
+  indexed-back ps o p =
+      let q = subst (λ qs. IsIndexed qs o) (seen-map h ps) p in
+      (subst (λ ks. IsDistinct bytes_eq ks) (keys-on h (stored_pairs ps)) q.0, placed-back (stored_pairs ps) o q.1)
 
 module _ (R S : RattleType) (h : R.Denot → S.Denot) where
   pair_places : Alike R S h → Alike (P.the_row R) (P.the_row S) (one.map R.Denot S.Denot h)
@@ -102,13 +118,22 @@ module _ (R S : RattleType) (h : R.Denot → S.Denot) where
       ((refl, (λ n. refl, λ n. refl)), (laid _ _ _ a, tt))
 
   pub the_places : Alike R S h → Alike (C.the_row R) (C.the_row S) ((the_former this).map R.Denot S.Denot h)
-  the_places a = view_places fields (the_former this) view (λ X Y k u. seen-map k u.pairs.items) (λ X u. seen-held X u.pairs.items)
+  the_places a =
+      view_places fields (the_former this) view (λ X Y k u. seen-map k u.pairs.items) (λ X u. seen-held X u.pairs.items)
       R.Denot S.Denot h (C.the_row R).coded (C.the_row S).coded
-      (invariant R.Denot) (invariant S.Denot) (λ u. IsIndexed-prop (stored_pairs u.pairs.items) u.places) (λ u. IsIndexed-prop (stored_pairs u.pairs.items) u.places)
+      (invariant R.Denot) (invariant S.Denot) (λ u. IsIndexed-prop (stored_pairs u.pairs.items) u.places)
+      (λ u. IsIndexed-prop (stored_pairs u.pairs.items) u.places)
       (λ u. indexed-on h u.pairs.items u.places) (λ u. indexed-back h u.pairs.items u.places)
       (over (I.the_row R)) (over (I.the_row S))
-      (struct_places (I.the_type R) (I.the_type S) (vec.mapped (one.map R.Denot S.Denot h), (λ n. n, tt)) _ (λ d. refl) refl
-      (laid _ _ _ (vec.the_places heap.the_row ghosts (P.the_row R) (P.the_row S) (one.map R.Denot S.Denot h) (pair_places a)), ((refl, (λ n. refl, λ n. refl)), tt)))
+      (struct_places (I.the_type R) (I.the_type S) (vec.mapped (one.map R.Denot S.Denot h), (λ n. n, tt)) _
+      (λ d. refl) refl (
+        laid _ _ _
+            (vec.the_places heap.the_row ghosts (P.the_row R) (P.the_row S) (one.map R.Denot S.Denot h)
+            (pair_places a)),
+        ((refl, (λ n. refl, λ n. refl)), tt),
+      ))
 
   pub the_codes_placed : Recodes R S h → Recodes (C.the_row R) (C.the_row S) ((the_former this).map R.Denot S.Denot h)
-  the_codes_placed e es = sym (code_map (coded× (coded_list coded_ℕ) R.coded).code (coded× (coded_list coded_ℕ) S.coded).code (on_value h) (λ x i. gcons ((coded_list coded_ℕ).code x.0) (sym (e x.1) i)) es)
+  the_codes_placed e es =
+      sym (code_map (coded× (coded_list coded_ℕ) R.coded).code (coded× (coded_list coded_ℕ) S.coded).code (on_value h)
+      (λ x i. gcons ((coded_list coded_ℕ).code x.0) (sym (e x.1) i)) es)

@@ -5,10 +5,12 @@ use Rattle.bson_scalar.specs.Base64.{padded_text}
 use Rattle.bson_scalar.proofs.binary.Base64Display.fmt.Goals as goal
 
 -- a text is that of its first three bytes and that of the rest
-cut : (all front back : List ℕ) → all ≡ front ++ back → length front ≡ 3 → padded_text all ≡ padded_text front ++ padded_text back
+cut : (all front back : List ℕ) → all ≡ front ++ back → length front ≡ 3
+    → padded_text all ≡ padded_text front ++ padded_text back
 cut all front back e three = rw e (after-three front back three)
   where
-    after-three : (front back : List ℕ) → length front ≡ 3 → padded_text (front ++ back) ≡ padded_text front ++ padded_text back
+    after-three : (front back : List ℕ) → length front ≡ 3
+        → padded_text (front ++ back) ≡ padded_text front ++ padded_text back
     after-three [] back three = absurd cc
     after-three (a ∷ []) back three = absurd cc
     after-three (a ∷ b ∷ []) back three = absurd cc

@@ -34,7 +34,8 @@ decreases-read_items-items l = length l.reader
 -- what is read from here to the end is what is read from the start
 abbrev pub invariant-read_members-members : goal.invariant-read_members-members
 invariant-read_members-members l = record {
-  all : (ms : Members) (rest : List Token) → MembersAre l.depth (members_view l.found.entries) l.reader ms rest → MembersAre l.depth (members_view l.initial.found.entries) l.initial.reader ms rest;
+  all : (ms : Members) (rest : List Token) → MembersAre l.depth (members_view l.found.entries) l.reader ms rest
+      → MembersAre l.depth (members_view l.initial.found.entries) l.initial.reader ms rest;
   shorter : length l.reader ≤ length l.initial.reader;
 }
 
