@@ -44,7 +44,7 @@ digits-kept xs ds k is h = (AllDigits-parts xs (replicate k 48) (rw is at h)).0
 large-kept : (xs ds : List ℕ) (k : ℕ) → ds ≡ xs ++ replicate k 48 → IsLarge ds → IsLarge xs
 large-kept xs ds k is h some =
     let long : length ds ≡ length xs + k = ap length is ∙ length-append xs (replicate k 48)
-        ∙ rw (length-replicate {A = ℕ} k 48) refl in
+    ∙ rw (length-replicate {A = ℕ} k 48) refl in
     let value : digits_value 10 ds ≡ digits_value 10 xs * 10 ^ k = ap (digits_value 10) is ∙ value-behind xs k in
     let size : length ds - 1 ≡ length xs - 1 + k = omega arith in
     let whole = rw (value, size, pow-add 10 (length xs - 1) k) at (h (omega arith)) in
@@ -124,12 +124,12 @@ module _ (ds ks : List ℕ) (k y up down : ℕ) (at : y + down ≡ up + k + 3276
       → IsNearestShifted (digits_value 10 ds) up down (digits_value 10 qs * 10 ^ 0) 0
   final-raised qs low to =
       let inner : digits_value 10 ks ≡ digits_value 10 qs * 10 ^ (least_place - y) = ap (digits_value 10) to
-          ∙ value-behind qs (least_place - y) in
+      ∙ value-behind qs (least_place - y) in
       let j = least_place - y + k in
       let whole : digits_value 10 ds ≡ digits_value 10 qs * 10 ^ j = rw (value, inner, pow-add 10 (least_place - y) k) (omega arith) in
       let shorter : length ks ≡ length qs + (least_place - y) = ap length to
-          ∙ length-append qs (replicate (least_place - y) 48)
-          ∙ rw (length-replicate {A = ℕ} (least_place - y) 48) refl in
+      ∙ length-append qs (replicate (least_place - y) 48)
+      ∙ rw (length-replicate {A = ℕ} (least_place - y) 48) refl in
       let few = digits_value-lt 10 qs (digits-kept qs ks (least_place - y) to kept-digits) in
       let below : digits_value 10 qs < 10 ^ 34 = omega (arith, size, tens-le (length qs) 34 (omega (arith, size))) in
       let c-is : digits_value 10 qs * 10 ^ 0 ≡ digits_value 10 qs = omega arith in
@@ -188,7 +188,7 @@ nearest-given : (ds ks : List ℕ) (k y up down : ℕ) (b : Scaled) (z : ℕ) �
     → IsNearestShifted (digits_value 10 ds) up down (digits_value 10 b.0 * 10 ^ z) (min b.1 greatest_place - least_place)
 nearest-given ds ks k y up down b z at k-is is digits large rai pad =
     let long : length ds ≡ length ks + k = ap length is ∙ length-append ks (replicate k 48)
-        ∙ rw (length-replicate {A = ℕ} k 48) refl in
+    ∙ rw (length-replicate {A = ℕ} k 48) refl in
     let empty-k : ks ≡ [] → k ≡ 0 = λ none. omega (arith, ap length none) in
     elim (cases_lt y least_place) [
       | inr kept ↦

@@ -54,7 +54,7 @@ no-multiple ds n digits other e =
     let behind = (AllDigits-parts (take n ds) (drop n ds) (rw joined digits)).1 in
     let some = zeros-not (drop n ds) behind other in
     let parts : digits_value 10 ds ≡ digits_value 10 (take n ds) * 10 ^ (length ds - n) + digits_value 10 (drop n ds) = ap (digits_value 10) (sym joined)
-        ∙ rw (value-append, length-drop) refl in
+    ∙ rw (value-append, length-drop) refl in
     let below : digits_value 10 (drop n ds) < 10 ^ (length ds - n) = rw (← length-drop n ds) (digits_value-lt 10 (drop n ds) behind) in
     omega (arith, rw parts at e, mod-mul-add (digits_value 10 (take n ds)) (10 ^ (length ds - n)) (digits_value 10 (drop n ds)) below)
 

@@ -19,7 +19,7 @@ padded (a ∷ b ∷ []) = refl
 padded (a ∷ b ∷ c ∷ rest) =
     let digits = encode_symbols (engine_symbols standard) rest in
     let end : digits ++ replicate (padding_len (length (a ∷ b ∷ c ∷ rest))) 61 ≡ padded_text rest = ap (λ n. digits ++ replicate n 61) (three_more (length rest))
-        ∙ padded rest in
+    ∙ padded rest in
     ap (λ t. digit (a / 4) ∷ digit (a % 4 * 16 + b / 16) ∷ digit (b % 16 * 4 + c / 64) ∷ digit (c % 64) ∷ t) end
 
 -- what decodes in a text of bytes is what the text says

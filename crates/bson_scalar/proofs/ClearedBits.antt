@@ -45,6 +45,6 @@ pub only_one-unchanged : (r : Result Vector Error) (bytes : List ℕ) → IfOk r
 only_one-unchanged (Ok v) bytes is range =
     let same : data_bytes (vector_view v) ≡ bytes = same_bytes v ∙ is in
     let unchanged : cleared_vector bytes ≡ bytes = ap cleared_vector (sym same)
-        ∙ cleared_vector-same (vector_view v) range ∙ same in
+    ∙ cleared_vector-same (vector_view v) range ∙ same in
     only_one v (cleared_vector bytes) range (is ∙ sym unchanged)
 only_one-unchanged (Err e) bytes is range = tt

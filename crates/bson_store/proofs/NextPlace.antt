@@ -90,7 +90,7 @@ some_next m last e t is = (string_bytes e.0, above last e.0 is.1.0.0, is.1.1, λ
     go q a l (Some x) h =
         let k = text_key m q x h in
         let low : key_cmp (string_bytes k.0) (string_bytes e.0) ≡ Less = ap (λ y. key_cmp y (string_bytes e.0)) (sym k.1)
-            ∙ l in
+        ∙ l in
         let high : is_gt (key_cmp (string_bytes e.0) (string_bytes k.0)) ≡ true = ap is_gt (key_total.antisymm (string_bytes e.0) (string_bytes k.0) ∙ ap ordering_reverse low) in
         let no : is_gt (key_cmp (string_bytes e.0) (string_bytes k.0)) ≡ false =
         is.2 k.0 (inside last k.0 (subst (λ y. is_above (bytes_of last) y ≡ true) k.1 a), tt) (some_there _ x (ap (get_by_text m) (sym k.1) ∙ h)) in

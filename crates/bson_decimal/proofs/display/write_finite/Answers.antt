@@ -20,7 +20,7 @@ returns-then-first-geminus6 g c =
     let low : int_le x (pos 0) ≡ true = grind (arith, ints) in
     let near : int_le (neg_ℤ (pos 6)) (scientific_exponent c.args.digits.now x) ≡ true = grind (arith, ints) in
     let places : c.unsigned_abs.result ≡ unsigned_abs x = (rw c.exponent_at-exponent.ensures at c.unsigned_abs.ensures.value)
-        ∙ ap unsigned_abs (to_z-of_z w32 x (exponent-fits c.args.stored_exponent c.ranges.stored_exponent.fits)) in
+    ∙ ap unsigned_abs (to_z-of_z w32 x (exponent-fits c.args.stored_exponent c.ranges.stored_exponent.fits)) in
     rw (low, near, ← places) c.write_plain.ensures
 
 pub returns-else-exponent-le0 : goal.returns-else-exponent-le0

@@ -47,7 +47,7 @@ read_items-loop-item-preserved t c =
           omega arith;
       read =
           let pushed = ap (map bson_view) c.in_ok-push.ensures.items
-              ∙ map-snoc c.loop-item.values.items c.in_ok-read.field-0 in
+          ∙ map-snoc c.loop-item.values.items c.in_ok-read.field-0 in
           ap (λ xs. onto_values xs (reads_items (items_view (into_iter_items c.next.new.self)))) pushed
           ∙ values_step done (view c.in-Some.item) (bson_view c.in_ok-read.field-0) (items_view (into_iter_items c.next.new.self)) total c.in_ok-read.ensures.given now;
       ranged = rw c.in_ok-push.ensures.items (items-snoc c.loop-item.values.items c.in_ok-read.field-0 c.loop-item.invariant.ranged c.in_ok-read.ensures.ranged);

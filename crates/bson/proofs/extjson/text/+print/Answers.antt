@@ -35,7 +35,7 @@ print-returns-in_ok-string-in-String-clause-printed t c =
     let f = c.args.form in
     let seen : bson_view (bson_form.String c.in-String.text) ≡ scalar (text (string_bytes c.in-String.text)) = search (rules, bson_form.the_lemmas) in
     let written = ap (λ v. writes f (bson_view v)) c.in-String.is ∙ ap (writes f) seen
-        ∙ ap (λ r. Ok (string r)) (sym c.as_str.ensures.value) in
+    ∙ ap (λ r. Ok (string r)) (sym c.as_str.ensures.value) in
     (string c.as_str.result.now, written, c.in_ok-string-in-String.ensures.ok)
 
 pub print-returns-in_ok-put_binary-in-Binary-clause-printed : goal.print-returns-in_ok-put_binary-in-Binary-clause-printed

@@ -26,7 +26,7 @@ write_pairs-loop-key-init t c =
     let none : c.new-members.result.entries ≡ [] = c.new-members.ensures.empty in
     let all = c.args.document.pairs in
     let start : c.into_iter-key-iterator.result ≡ all = c.into_iter-key-iterator.ensures.into_iter_gives
-        ∙ c.into_pairs-key-items.ensures.pairs in
+    ∙ c.into_pairs-key-items.ensures.pairs in
     record {
       split = ([], sym start);
       written =
@@ -49,7 +49,7 @@ write_pairs-loop-key-preserved t c =
       split = (f.0 ++ x ∷ [], f.1 ∙ ap (λ r. f.0 ++ r) steps ∙ sym (append_assoc f.0 (x ∷ []) c.next.new.self));
       written =
           let put_there = ap members_view c.in_ok-insert.ensures.entries
-              ∙ members_view-insert_entry c.loop-key.members.entries c.in-Some.key c.in_ok-written.written in
+          ∙ members_view-insert_entry c.loop-key.members.entries c.in-Some.key c.in_ok-written.written in
           ap (onto_members c.args.form c.next.new.self) put_there ∙ members_step c.args.form c.next.new.self x (view c.in_ok-written.written) ms total c.in_ok-written.ensures.written now;
       ranged = λ h. c.loop-key.invariant.ranged (subst (λ (xs : List Entry). PairsInRange (pairs_view xs)) (sym steps) (c.in_ok-written.ensures.ranged, h));
     }
@@ -77,7 +77,7 @@ write_items-loop-value-preserved t c =
           omega arith;
       written =
           let pushed = ap (map view) c.in_ok-push.ensures.items
-              ∙ map-snoc c.loop-value.items.items c.in_ok-write.field-0 in
+          ∙ map-snoc c.loop-value.items.items c.in_ok-write.field-0 in
           ap (λ xs. onto_items xs (writes_items c.args.form (values_view (into_iter_items c.next.new.self)))) pushed
           ∙ items_step c.args.form done (bson_view c.in-Some.value) (view c.in_ok-write.field-0) (values_view (into_iter_items c.next.new.self)) total c.in_ok-write.ensures.written now;
       ranged = λ h. c.loop-value.invariant.ranged (subst (λ (xs : List Bson). ItemsInRange (values_view xs)) (sym steps) (c.in_ok-write.ensures.ranged, h));

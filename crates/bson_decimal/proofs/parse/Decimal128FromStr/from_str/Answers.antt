@@ -37,7 +37,7 @@ refused c =
     let text = c.args.text.now in
     let p = err_from_is_err_and c.from_residual.result c.from_residual.ensures.1 in
     let is : finite (without_leading_sign text) ≡ Err c.in_err-coefficient.field-0.0 = ap finite (sym c.without_sign-rest.ensures)
-        ∙ sym c.in_err-coefficient.ensures.value in
+    ∙ sym c.in_err-coefficient.ensures.value in
     let plain = rw c.without_sign-rest.ensures at c.in_default.ensures.word in
     rw (p.1, p.2) (refused-parses text _ plain is, ap fault_of (sym is))
 
@@ -60,7 +60,7 @@ pair : (c : goal.After-from_bytes-2) → Only c.args.text.now c.from_bytes-2.res
 pair c =
     let text = c.args.text.now in
     let is : finite (without_leading_sign text) ≡ Ok (c.in_ok-coefficient.coefficient, c.in_ok-coefficient.stored_exponent) = ap finite (sym c.without_sign-rest.ensures)
-        ∙ sym c.in_ok-coefficient.ensures.value in
+    ∙ sym c.in_ok-coefficient.ensures.value in
     let plain = rw c.without_sign-rest.ensures at c.in_default.ensures.word in
     let bytes : c.from_bytes-2.result ≡ to_le_bytes w128 (first_form (starts_with_minus text) c.in_ok-coefficient.coefficient c.in_ok-coefficient.stored_exponent) =
     c.from_bytes-2.ensures ∙ c.to_le_bytes-2.ensures ∙ ap (to_le_bytes w128) (c.first_form.ensures ∙ ap (λ b. first_form b c.in_ok-coefficient.coefficient c.in_ok-coefficient.stored_exponent) c.is_negative-negative.ensures) in

@@ -37,7 +37,7 @@ check_items-loop-item-preserved t c =
     let i = c.loop-item.item-index in
     let v = c.item-item.result in
     let here : drop i xs ≡ v ∷ drop (i + 1) xs = drop_more xs i v (omega arith)
-        ∙ ap (λ w. w ∷ drop (i + 1) xs) (sym c.item-item.is) in
+    ∙ ap (λ w. w ∷ drop (i + 1) xs) (sym c.item-item.is) in
     sym (first_read (reads (view v)) (reads_items (items_view (drop (i + 1) xs))) model.value c.in_ok-check_value.ensures)
     ∙ ap (λ vs. forgotten (reads_items (items_view vs))) (sym here)
     ∙ c.loop-item.invariant

@@ -24,7 +24,7 @@ members-preserved c =
     let x : Entry = (string_bytes c.in-Some.key, c.in-Some.value) in
     let rest = by_bytes (into_iter_items c.next.new.self) in
     let all : done ++ x ∷ rest ≡ by_bytes c.args.members.items = ap (λ ms. done ++ by_bytes ms) (sym steps)
-        ∙ at.invariant.all in
+    ∙ at.invariant.all in
     record {
       left =
           let before = at.invariant.left in

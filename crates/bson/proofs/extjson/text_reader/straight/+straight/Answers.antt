@@ -67,7 +67,7 @@ read_value-returns-in_ok-read_number-in-Some-clause-ok t c =
     let first : c.args.reader.now ≡ token_of c.in_ok-token.token ∷ c.next.new.self = grind arith in
     let is : c.args.reader.now ≡ Token.number c.in-Number.text.now ∷ c.next.new.self = grind (arith, first) in
     let read : converted of_json (value c.args.depth c.args.reader.now) ≡ Some (number (number_view c.in-Some.n), c.next.new.self) = ap (converted of_json) (ap (value c.args.depth) is ∙ value_is c.args.depth _)
-        ∙ rw c.in-Some.ensures refl in
+    ∙ rw c.in-Some.ensures refl in
     (number (number_view c.in-Some.n), read, c.in_ok-read_number-in-Some.ensures.given)
 
 pub read_value-returns-else-depth-eq0-2-clause-ok : goal.read_value-returns-else-depth-eq0-2-clause-ok
@@ -87,7 +87,7 @@ read_object-members-preserved t c =
     let named : read_key l.reader ≡ Some (Some k, s) = grind arith in
     let done = c.in_ok-found.ensures in
     let plain : is_some (wrapper_of k) ≡ false = ap is_some (sym c.named.ensures) ∙ sym c.is_some.ensures
-        ∙ c.if-is_some.false in (
+    ∙ c.if-is_some.false in (
       put k done.ok.0 l.invariant.0,
       one_gathered c.args.depth k c.args.reader.now l.reader s c.read_member.new.reader l.invariant.0 (gathered l.found) (gathered c.in_ok-found.found) l.invariant.1 named done.ok done.shorter,
       put_plain k done.ok.0 plain l.invariant.0 ∙ l.invariant.2,
