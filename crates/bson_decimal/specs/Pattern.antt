@@ -1,7 +1,7 @@
 -- What the 16 bytes of a decimal mean: IEEE 754-2008, section 3.5.2, decimal128 with its coefficient as one binary
 -- number. BSON 1.1 stores the 128 bits with their lowest byte first.
-use Rattle.std.specs.Prelude.{◌≡◌, ℕ, ◌+◌, ◌*◌, ◌/◌, ◌%◌, ◌^◌, ◌<◌, Bool, List, length, slice_index, nat_lt, ◌==◌}
-use Rattle.std.specs.Prelude.{if◌then◌else◌}
+use Rattle.std.specs.Prelude.{◌≡◌, ℕ, ◌+◌, ◌*◌, ◌/◌, ◌%◌, ◌^◌, ◌<◌, Bool, true, false, List, length, slice_index}
+use Rattle.std.specs.Prelude.{nat_lt, ◌==◌, if◌then◌else◌}
 use Rattle.std.specs.Int.{w128, from_le_bytes, to_le_bytes}
 use Rattle.bson_decimal.specs.declared.bits.Decoded.{Decoded}
 use Rattle.bson_decimal.specs.declared.bits.Decoded.TheVariants.{Nan, Infinity, Finite}
@@ -35,6 +35,12 @@ number_meaning n =
 -- what 16 bytes mean
 abbrev pub bytes_meaning : List ℕ → Decoded
 bytes_meaning b = number_meaning (from_le_bytes w128 b)
+
+-- a NaN, of either sign, quiet or signalling
+abbrev pub is_nan : Decoded → Bool
+is_nan (Nan negative signalling) = true
+is_nan (Infinity negative) = false
+is_nan (Finite negative c stored) = false
 
 abbrev pub sign_weight : Bool → ℕ
 sign_weight negative = if negative then 2 ^ 127 else 0

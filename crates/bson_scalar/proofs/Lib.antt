@@ -1,6 +1,7 @@
 pub mod ClearedBits
 pub mod OrderLemmas
 pub mod VectorLaws
+pub mod VectorMeaning
 pub mod IdOrder
 pub mod Sorting
 pub mod SortedText

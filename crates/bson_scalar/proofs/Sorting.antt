@@ -1,8 +1,8 @@
 -- Two ascending lists with the same elements are one, so a sort gives the ascending list.
-use Rattle.std.proofs.Common.{◌≡◌, ℕ, ◌+◌, ◌<◌, ◌≤◌, suc, true, false, cond, List, [], ◌∷◌, length, get_or, refl, sym, ap, ◌∙◌, arith, inl, inr, nat_eq, nat_le, nat_cmp, IsPermutation, IsSorted}
+use Rattle.std.proofs.Common.{◌≡◌, ℕ, ◌+◌, ◌<◌, ◌≤◌, zero, suc, true, false, cond, List, [], ◌∷◌, length, get_or, refl, sym, ap, ◌∙◌, arith, inl, inr, nat_eq, nat_le, nat_cmp, IsPermutation, IsSorted}
 use Rattle.std.proofs.lemmas.Bool.{cases_order, leb-true, leb-false, cases_Bool}
 use Rattle.std.proofs.lemmas.Bool.Decides.{nat_tests}
-use Rattle.std.proofs.lemmas.List.Sorted.{sum_by-IsPermutation, IsNonDecreasingBy-from_sort}
+use Rattle.std.proofs.lemmas.List.Sorted.{sum_by-IsPermutation, IsNonDecreasingBy-from_sort, IsPermutation-refl, IsPermutation-cons, IsPermutation-middle, IsPermutation-trans}
 use Rattle.std.proofs.lemmas.List.Sums.{sum_by-cons}
 use Rattle.std.specs.List.{sum_by, AllByRecursion}
 use Rattle.std.specs.List.Sorted.{IsNonDecreasing}
@@ -110,3 +110,34 @@ pub sorted-ascending_numbers : (xs ys : List ℕ) → IsPermutation xs ys → Is
 sorted-ascending_numbers xs ys same sorted =
     rises-one ys (ascending_numbers xs) (rises-from ys (IsNonDecreasingBy-from_sort (λ x. x) ys sorted)) (rises-ascending_numbers xs)
     (λ c. sym (count-sum c ys) ∙ sum_by-IsPermutation (tally c) xs ys same ∙ count-sum c xs ∙ sym (count-ascending_numbers c xs))
+
+-- ---- the ascending list rises, and has the same numbers
+
+none-below : (x : ℕ) (xs : List ℕ) (i d : ℕ) → AllByRecursion (λ y. x ≤ y) xs → i < length xs → x ≤ get_or xs i d
+none-below x [] i d all l = absurd (omega (arith, l))
+none-below x (y ∷ ys) zero d all l = all.0
+none-below x (y ∷ ys) (suc i) d all l = none-below x ys i d all.1 (omega (arith, l))
+
+rises-to : (xs : List ℕ) → Rises xs → IsNonDecreasing xs
+rises-to [] up i j d l m = absurd (omega (arith, m))
+rises-to (x ∷ xs) up zero zero d l m = omega arith
+rises-to (x ∷ xs) up zero (suc j) d l m = none-below x xs j d up.0 (omega (arith, m))
+rises-to (x ∷ xs) up (suc i) zero d l m = absurd (omega (arith, l))
+rises-to (x ∷ xs) up (suc i) (suc j) d l m = rises-to xs up.1 i j d (omega (arith, l)) (omega (arith, m))
+
+same-insert_sorted : (n : ℕ) (xs : List ℕ) → IsPermutation (n ∷ xs) (insert_sorted n xs)
+same-insert_sorted n [] = IsPermutation-refl (n ∷ [])
+same-insert_sorted n (x ∷ xs) = elim (nat_le n x) as (λ b. IsPermutation (n ∷ x ∷ xs) (cond b (n ∷ x ∷ xs) (x ∷ insert_sorted n xs))) [
+  | true ↦ IsPermutation-refl (n ∷ x ∷ xs)
+  | false ↦
+      let exchanged : IsPermutation (n ∷ x ∷ xs) (x ∷ n ∷ xs) = IsPermutation-middle (n ∷ []) x xs in
+      IsPermutation-trans _ _ _ exchanged (IsPermutation-cons x _ _ (same-insert_sorted n xs))
+]
+
+same-ascending_numbers : (xs : List ℕ) → IsPermutation xs (ascending_numbers xs)
+same-ascending_numbers [] = IsPermutation-refl []
+same-ascending_numbers (x ∷ xs) =
+    IsPermutation-trans _ _ _ (IsPermutation-cons x _ _ (same-ascending_numbers xs)) (same-insert_sorted x (ascending_numbers xs))
+
+pub ascending_meaning : (xs : List ℕ) → IsPermutation xs (ascending_numbers xs) × IsNonDecreasing (ascending_numbers xs)
+ascending_meaning xs = (same-ascending_numbers xs, rises-to (ascending_numbers xs) (rises-ascending_numbers xs))

@@ -25,7 +25,7 @@ signed_back [] h = refl
 signed_back (z ∷ zs) h = let first : cast_signed w8 (cast_unsigned w8 z) ≡ z = to_z-of_z w8 z h.0 in rw first (ap (λ ys. z ∷ ys) (signed_back zs h.1))
 
 -- words from their bytes
-abbrev words : List ℕ → List ℕ
+abbrev pub words : List ℕ → List ℕ
 words (a ∷ b ∷ c ∷ d ∷ rest) = from_le_bytes w32 (a ∷ b ∷ c ∷ d ∷ []) ∷ words rest
 words _ = []
 
@@ -97,7 +97,7 @@ fits_byte : (n : ℕ) → n < 256 → Fits w8 n
 fits_byte n small = record { fits = small }
 
 -- bytes and their signed forms
-held_range : (ns : List ℕ) → IsBytes ns → AllByRecursion (FitsSigned w8) (map (cast_signed w8) ns)
+pub held_range : (ns : List ℕ) → IsBytes ns → AllByRecursion (FitsSigned w8) (map (cast_signed w8) ns)
 held_range [] are = tt
 held_range (n ∷ ns) are = (sfits_to_z (fits_byte n (are 0)), held_range ns (λ i. are (suc i)))
 
@@ -110,7 +110,7 @@ pub int8_held_ok : {X Y : Type 0} (r : Result X Y) (zs : List ℤ) → OnOk r (I
 int8_held_ok (Ok x) zs are = int8_held zs are
 int8_held_ok (Err e) zs are = tt
 
-held_back : (ns : List ℕ) → IsBytes ns → map (cast_unsigned w8) (map (cast_signed w8) ns) ≡ ns
+pub held_back : (ns : List ℕ) → IsBytes ns → map (cast_unsigned w8) (map (cast_signed w8) ns) ≡ ns
 held_back [] are = refl
 held_back (n ∷ ns) are =
     let first : cast_unsigned w8 (cast_signed w8 n) ≡ n = of_z-to_z w8 n (fits_byte n (are 0)).fits in

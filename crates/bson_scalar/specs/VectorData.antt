@@ -44,6 +44,10 @@ IsInRange (int8 zs) = AllByRecursion (FitsSigned w8) zs
 IsInRange (float32 ns) = AllByRecursion (λ n. n < 2 ^ 32) ns
 IsInRange (packed bs k) = (k < 8) × (bs ≡ [] → k ≡ 0) × (ignored_bits bs k ≡ 0)
 
+-- bytes of a vector: some data in range has them
+abbrev pub IsVectorBytes : List ℕ → Type 0
+IsVectorBytes bytes = (v : VectorData) × IsInRange v × (data_bytes v ≡ bytes)
+
 -- bytes tell what the vector holds: whatever has these bytes is this
 abbrev pub IsOnlyOne : List ℕ → VectorData → Type 0
 IsOnlyOne bytes v = (w : VectorData) → IsInRange w → data_bytes w ≡ bytes → w ≡ v

@@ -1,5 +1,6 @@
 //! Regular expressions (BSON 1.1, type 0x0B).
-ghost use Rattle.std.specs.Prelude.{◌≡◌, IfOk, Some, string_bytes};
+ghost use Rattle.std.specs.Prelude.{◌≡◌, ℕ, IfOk, List, Some, string_bytes};
+ghost use Rattle.std.specs.List.Sorted.{IsNonDecreasing, IsPermutation};
 ghost use Rattle.std.specs.Str.{chars, encode_utf8_all};
 ghost use Rattle.bson_scalar.specs.Regex.{sorted_text, ascending_numbers};
 
@@ -26,6 +27,10 @@ impl Regex {
     pub fn new(alloc: Global, pattern: &str, options: &str) -> Result<Regex, AllocError>
         ensures pattern { IfOk result (λ r. string_bytes r.pattern ≡ pattern.now) }
         ensures options { IfOk result (λ r. string_bytes r.options ≡ sorted_text options.now) }
+
+        // What the options are sorted by: the same characters, none before a lower one.
+        ensures ascending {
+            (xs : List ℕ) → IsPermutation xs (ascending_numbers xs) × IsNonDecreasing (ascending_numbers xs) }
     {
         Ok(Regex {
             pattern: String::from_str(alloc, pattern)?,

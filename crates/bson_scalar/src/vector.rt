@@ -1,6 +1,6 @@
 //! Vectors of numbers or bits, and their bytes (the MongoDB BSON binary vector format).
-ghost use Rattle.std.specs.Prelude.{◌≡◌, ◌≢◌, [], ◌∷◌, ◌⊎◌, ◌<◌, ◌^◌, ◌%◌, FitsSigned, IfErr, IfOk};
-ghost use Rattle.std.specs.Prelude.{OnOk, false, length, map, true};
+ghost use Rattle.std.specs.Prelude.{◌≡◌, ◌≢◌, [], ◌∷◌, ◌⊎◌, ◌↔◌, ◌<◌, ◌^◌, ◌%◌, FitsSigned, IfErr};
+ghost use Rattle.std.specs.Prelude.{IfOk, OnOk, false, length, map, true};
 ghost use Rattle.std.specs.Int.{cast_signed, cast_unsigned, w8};
 ghost use Rattle.std.specs.List.{AllByRecursion};
 ghost use Rattle.bson_scalar.specs.Oid.{IsBytes};
@@ -9,7 +9,7 @@ ghost use Rattle.bson_scalar.specs.Packed.{packed_bytes, packed_padding};
 ghost use Rattle.bson_scalar.specs.IgnoredBits.{cleared_bytes};
 ghost use Rattle.bson_scalar.specs.Vectors.{is_vector, is_vector_of_any_bits, le_bytes_of};
 ghost use Rattle.bson_scalar.specs.Vectors.{vector_bytes, cleared_vector};
-ghost use Rattle.bson_scalar.specs.VectorData.{IsInRange, IsOnlyOne, packed, packed_view};
+ghost use Rattle.bson_scalar.specs.VectorData.{IsInRange, IsOnlyOne, IsVectorBytes, packed, packed_view};
 ghost use Rattle.bson_scalar.specs.VectorData.{data_in_range, vector_view};
 
 use crate::binary::{Binary, Error, Result};
@@ -57,9 +57,10 @@ impl Vector {
         ensures ranged { IfOk result (λ v. IsInRange (vector_view v)) }
         ensures only { IfOk result (λ v. IsOnlyOne bytes.now (vector_view v)) }
 
-        // Exactly the bytes of a vector are accepted.
+        // Exactly the bytes of a vector are accepted: those that some data in range has.
         ensures accepted { OnOk result (is_vector bytes.now ≡ true) }
         ensures refused { IfErr result (λ e. IsOutOfMemory e ⊎ (IsVectorError e × (is_vector bytes.now ≡ false))) }
+        ensures meaning { (is_vector bytes.now ≡ true) ↔ IsVectorBytes bytes.now }
     {
         match bytes {
             [PACKED_BIT, padding, data @ ..] => packed_bits(alloc, *padding, data),

@@ -88,3 +88,22 @@ least_exponent_read = row _ _ refl
 added_zero_read : Means (object_of_one (codes "$numberDecimal") (tree.string (codes "1E+6112"))) (model.scalar (kind.decimal (10 ∷ 0 ∷ 0 ∷ 0 ∷ 0 ∷ 0 ∷ 0 ∷ 0 ∷ 0 ∷ 0 ∷ 0 ∷ 0 ∷ 0 ∷ 0 ∷ 0xFE ∷ 0x5F ∷ [])))
 unfolding decimal_of cut_at_34 raise_to_least zeros_to_add exponent_value written_exponent scaled_exponent coefficient stored_pair finite
 added_zero_read = row _ _ refl
+
+-- the NaNs that no canonical pattern is: one with a sign, and one that signals; the normal form of both is NaN
+minus_nan_read : Means (object_of_one (codes "$numberDecimal") (tree.string (codes "-NaN"))) (model.scalar (kind.decimal (0 ∷ 0 ∷ 0 ∷ 0 ∷ 0 ∷ 0 ∷ 0 ∷ 0 ∷ 0 ∷ 0 ∷ 0 ∷ 0 ∷ 0 ∷ 0 ∷ 0 ∷ 0xFC ∷ [])))
+unfolding decimal_of cut_at_34 raise_to_least zeros_to_add exponent_value written_exponent scaled_exponent coefficient stored_pair finite
+minus_nan_read = row _ _ refl
+
+minus_nan_normal : normal_form (model.scalar (kind.decimal (0 ∷ 0 ∷ 0 ∷ 0 ∷ 0 ∷ 0 ∷ 0 ∷ 0 ∷ 0 ∷ 0 ∷ 0 ∷ 0 ∷ 0 ∷ 0 ∷ 0 ∷ 0xFC ∷ [])))
+    ≡ model.scalar (kind.decimal (0 ∷ 0 ∷ 0 ∷ 0 ∷ 0 ∷ 0 ∷ 0 ∷ 0 ∷ 0 ∷ 0 ∷ 0 ∷ 0 ∷ 0 ∷ 0 ∷ 0 ∷ 0x7C ∷ []))
+unfolding normal_decimal
+minus_nan_normal = refl
+
+signalling_nan_read : Means (object_of_one (codes "$numberDecimal") (tree.string (codes "sNaN"))) (model.scalar (kind.decimal (0 ∷ 0 ∷ 0 ∷ 0 ∷ 0 ∷ 0 ∷ 0 ∷ 0 ∷ 0 ∷ 0 ∷ 0 ∷ 0 ∷ 0 ∷ 0 ∷ 0 ∷ 0x7E ∷ [])))
+unfolding decimal_of cut_at_34 raise_to_least zeros_to_add exponent_value written_exponent scaled_exponent coefficient stored_pair finite
+signalling_nan_read = row _ _ refl
+
+signalling_nan_normal : normal_form (model.scalar (kind.decimal (0 ∷ 0 ∷ 0 ∷ 0 ∷ 0 ∷ 0 ∷ 0 ∷ 0 ∷ 0 ∷ 0 ∷ 0 ∷ 0 ∷ 0 ∷ 0 ∷ 0 ∷ 0x7E ∷ [])))
+    ≡ model.scalar (kind.decimal (0 ∷ 0 ∷ 0 ∷ 0 ∷ 0 ∷ 0 ∷ 0 ∷ 0 ∷ 0 ∷ 0 ∷ 0 ∷ 0 ∷ 0 ∷ 0 ∷ 0 ∷ 0x7C ∷ []))
+unfolding normal_decimal
+signalling_nan_normal = refl

@@ -12,7 +12,7 @@ use Rattle.bson_scalar.specs.Base64.{padded_text}
 use Rattle.bson_wrapper.specs.Shapes.{object_of_one, object_of_two}
 use Rattle.bson_scalar.specs.Subtype.{subtype_byte, subtype_of}
 use Rattle.bson_decimal.specs.Pattern.{normal_decimal}
-use Rattle.bson_decimal.proofs.Offered.{display_text-canon}
+use Rattle.bson_decimal.proofs.Offered.{display_text-canon, parses-form}
 use Rattle.bson_wrapper.specs.Dates.{is_recent, relaxed_date_tree}
 use lib.Signed.{mag}
 use Rattle.bson_wrapper.specs.Decimals.{decimal_tree}
@@ -154,12 +154,12 @@ scalar_to means.undefined = refl
 pub scalar_one : (t : Data) (x y : Scalar) → MeansScalar t x → MeansScalar t y → x ≡ y
 scalar_one t x y h g = inverse.un_ok _ _ (sym (scalar_to g) ∙ scalar_to h)
 
--- a scalar that is read is writable, and in normal form but for decimals
+-- a scalar that is read is writable, and in normal form, or a NaN of a decimal
 pub scalar_form : {t : Data} {x : Scalar} → MeansScalar t x → IsReadScalar x
 scalar_form (means.number_double s p is) = double_form s p is
 scalar_form (means.regular_expression p o) = (refl, ap (regex p) (sorted_text-again o))
 scalar_form (means.binary s k bytes n is at) = (refl, ap (λ m. binary (subtype_of m) bytes) (subtype_byte-of n))
-scalar_form (means.number_decimal s b is) = (refl, tt)
+scalar_form (means.number_decimal s b is) = (refl, parses-form s b is)
 scalar_form means.null = (refl, refl)
 scalar_form (means.boolean b) = (refl, refl)
 scalar_form (means.text s) = (refl, refl)

@@ -1,8 +1,8 @@
 -- Normal and narrowed forms, and what a scalar may be.
-use Rattle.std.specs.Prelude.{◌≡◌, ◌<◌, ◌^◌, ℤ, length, Bool, true, FitsSigned}
+use Rattle.std.specs.Prelude.{◌≡◌, ◌⊎◌, ◌<◌, ◌^◌, ℤ, length, Bool, true, FitsSigned}
 use Rattle.std.specs.Int.{w32, w64}
 use Rattle.bson_scalar.specs.Subtype.{subtype_byte, subtype_of}
-use Rattle.bson_decimal.specs.Pattern.{normal_decimal}
+use Rattle.bson_decimal.specs.Pattern.{normal_decimal, bytes_meaning, is_nan}
 use Rattle.hex.specs.Hex.{IsBytes}
 use Rattle.bson_wrapper.specs.Doubles.{normal_double, is_special}
 use Rattle.bson_wrapper.specs.Ints.{narrowest}
@@ -48,11 +48,11 @@ ScalarInRange (date z) = FitsSigned w64 z
 ScalarInRange (db_pointer s id) = (length id ≡ 12) × IsBytes id
 ScalarInRange x = Unit {0}
 
--- in normal form, or a decimal: a NaN's text can mean a pattern that is not canonical
-abbrev pub IsNormalOrDecimal : Scalar → Type 0
-IsNormalOrDecimal (decimal b) = Unit {0}
-IsNormalOrDecimal x = normal_scalar x ≡ x
+-- in normal form, or a NaN of a decimal: its text can have a sign, or say that it signals
+abbrev pub IsNormalOrNan : Scalar → Type 0
+IsNormalOrNan (decimal b) = (normal_decimal b ≡ b) ⊎ (is_nan (bytes_meaning b) ≡ true)
+IsNormalOrNan x = normal_scalar x ≡ x
 
 -- what is known of every scalar that is read
 abbrev pub IsReadScalar : Scalar → Type 0
-IsReadScalar x = (writable_scalar x ≡ true) × IsNormalOrDecimal x
+IsReadScalar x = (writable_scalar x ≡ true) × IsNormalOrNan x

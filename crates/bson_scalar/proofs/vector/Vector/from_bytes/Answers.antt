@@ -1,6 +1,7 @@
 use Rattle.std.proofs.Common.{◌&&◌, ap, inr}
 use Rattle.bson_scalar.specs.Vectors.{has_zero_bits}
 use Rattle.bson_scalar.proofs.VectorLaws.{only_one-read, parts, short}
+use Rattle.bson_scalar.proofs.VectorMeaning.{vector_meaning}
 use Rattle.bson_scalar.proofs.vector.Vector.from_bytes.Goals as goal
 
 pub returns-in_default-clause-refused : goal.returns-in_default-clause-refused
@@ -11,3 +12,6 @@ pub returns-in-len2-up-clause-only : goal.returns-in-len2-up-clause-only
 returns-in-len2-up-clause-only c =
     let whole = parts c.args.bytes.now c.in-len2-up.len_at_least in
     only_one-read c.numbers.result c.args.bytes.now (rw whole at c.numbers.ensures.ok) c.numbers.ensures.ranged
+
+pub returns-in-len2-up-clause-meaning : goal.returns-in-len2-up-clause-meaning
+returns-in-len2-up-clause-meaning c = vector_meaning c.args.bytes.now (λ i. (c.type_inv.bytes i).fits)
