@@ -17,7 +17,7 @@ Meaning = (t : Data) (x : Scalar) → (scalar_read t ≡ Ok x) ↔ MeansScalar t
 abbrev pub OneMeaning : Type 0
 OneMeaning = (t : Data) (x y : Scalar) → MeansScalar t x → MeansScalar t y → x ≡ y
 
--- what is read is writable, and in normal form but for decimals
+-- what is read is writable, and in normal form, or a decimal's NaN
 abbrev pub ReadForm : Type 0
 ReadForm = (t : Data) (x : Scalar) → MeansScalar t x → IsReadScalar x
 
