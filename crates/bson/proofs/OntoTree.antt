@@ -53,7 +53,7 @@ abbrev pub onto_members : Form → List Entry → Members → Result Members Ref
 onto_members f [] ms = Ok ms
 onto_members f (x ∷ xs) ms = writes f (bson_view x.1) >>= λ d. onto_members f xs (put x.0 d ms)
 
-bind_same : {A B : Type 0} (r : Result A Refusal) (f g : A → Result B Refusal) → ((x : A) → f x ≡ g x)
+pub bind_same : {A B : Type 0} (r : Result A Refusal) (f g : A → Result B Refusal) → ((x : A) → f x ≡ g x)
     → (r >>= f) ≡ (r >>= g)
 bind_same (Ok x) f g h = h x
 bind_same (Err e) f g h = refl

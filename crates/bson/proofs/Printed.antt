@@ -24,6 +24,7 @@ use Rattle.bson.specs.Texts.{tokens_of, code_tokens, writes_in_order, KeysAscend
 use Rattle.bson.specs.View.{bson_view, pairs_view}
 use Rattle.bson.specs.declared.bson.Bson.{Bson}
 use Rattle.bson.proofs.Onto.{Entry}
+use Rattle.bson.proofs.OntoTree.{bind_same}
 
 -- ---- lists
 
@@ -75,11 +76,6 @@ pub members_later : (f : Form) (e : WriteError) (k : List ℕ) (v : Value) (d : 
 members_later f OutOfMemory k v d ps g h = tt
 members_later f FiniteDouble k v d ps g h = ap (λ r. r >>= λ c. writes_in_order f ps >>= λ ms. Ok (member k c ms)) g
     ∙ ap (λ r. r >>= λ ms. Ok (member k d ms)) h
-
-bind_same : {A B : Type 0} (r : Result A Refusal) (f g : A → Result B Refusal) → ((x : A) → f x ≡ g x)
-    → (r >>= f) ≡ (r >>= g)
-bind_same (Ok x) f g h = h x
-bind_same (Err e) f g h = refl
 
 -- a key that is less than the first one is put first
 put_first : (k l : List ℕ) (d : Data) → key_cmp k l ≡ Less → (a : Result Data Refusal) (b : Result Members Refusal)

@@ -99,12 +99,3 @@ more_members depth k ts s r rest d old new named held less more =
 pub no_more_members : (depth : ℕ) (ts rest : List Token) (old : Members) → read_key ts ≡ Some (None, rest)
     → MembersAre depth old ts old rest
 no_more_members depth ts rest old ended = λ n enough. last_member (value depth) n old ts rest enough ended
-
--- what was read, under two functions in turn, and under none
-pub fused : {A B C : Type 0} (f : B → C) (g : A → B) (o : Option (A × List Token)) → parse_map f (parse_map g o) ≡ parse_map (λ a. f (g a)) o
-fused f g None = refl
-fused f g (Some p) = refl
-
-pub as_it_is : {A : Type 0} (o : Option (A × List Token)) → o ≡ parse_map (λ a. a) o
-as_it_is None = refl
-as_it_is (Some p) = refl
