@@ -5,22 +5,16 @@ use Rattle.std.specs.List.Sorted.{IsStrictlySortedBy}
 use Rattle.std.specs.Ordering.{is_lt}
 use Rattle.std.specs.Cmp.{tied_itself}
 use Rattle.std.specs.FinMap.{find}
-use Rattle.std.specs.declared.cmp.Ordering.{Ordering}
-use Rattle.std.specs.declared.cmp.Ordering.TheVariants.{Less, Equal, Greater}
+use Rattle.std.specs.declared.cmp.Ordering.TheVariants.{Less}
 use Rattle.std.proofs.lemmas.Option.{slice_get-map}
 use Rattle.bson_store.specs.Ascending.{NoneAbove, AllAbove, IsFirstAbove}
 use Rattle.bson_store.specs.Order.{key_cmp, IsLeast}
 use Rattle.bson_store.specs.Pairs.{keys, position_of, HasDistinctKeys}
 use Rattle.bson_store.specs.Small.{KeysAscend}
 use Rattle.bson_store.proofs.Found.{key-place}
-use Rattle.bson_store.proofs.Least.{key_total}
+use Rattle.bson_store.proofs.Least.{key_total, less_of}
 use Rattle.bson_store.proofs.NextPlace.{lacks, found}
 use Rattle.bson_store.proofs.Placed.{all-push, all-remove, place-at}
-
-pub less_of : (r : Ordering) → is_lt r ≡ true → r ≡ Less
-less_of Less e = refl
-less_of Equal e = cc
-less_of Greater e = cc
 
 -- a key is not below itself
 not_below_itself : (k : List ℕ) → is_lt (key_cmp k k) ≡ false

@@ -19,7 +19,7 @@ use Rattle.bson_store.specs.Pairs.{position_of}
 use Rattle.bson_store.specs.Small.{Places, HasPlaces}
 use Rattle.bson_store.proofs.Found.{none_at, place-within}
 use Rattle.bson_store.specs.Next.{IsNext}
-use Rattle.bson_store.proofs.Least.{key_total, same_key}
+use Rattle.bson_store.proofs.Least.{key_total, same_key, less_of}
 
 abbrev Text : Type 0
 Text = String Global
@@ -34,11 +34,6 @@ bytes_of last = option_map (λ s. string_bytes s.now) last
 
 abbrev bound_text : Option (Bor Text) → Bound Text
 bound_text last = bound_map (λ x. x.now) (start_for last)
-
-less_of : (r : Ordering) → is_lt r ≡ true → r ≡ Less
-less_of Less e = refl
-less_of Equal e = cc
-less_of Greater e = cc
 
 equal_of : (r : Ordering) → is_eq r ≡ true → r ≡ Equal
 equal_of Less e = cc

@@ -1,7 +1,8 @@
 use Rattle.std.proofs.Common.{◌≡◌, ◌-◌, ◌++◌, ◌∷◌, [], suc, Less, length-take-le, take, string_bytes, refl, sym, ap, subst, ◌∙◌, arith}
 use Rattle.bson_store.specs.Order.{key_cmp}
 use Rattle.bson_store.specs.Small.{stored_pairs, KeysAscend}
-use Rattle.bson_store.proofs.AscendingLaws.{ascend-one, ascend-push, at-take, key-of, less_of}
+use Rattle.bson_store.proofs.AscendingLaws.{ascend-one, ascend-push, at-take, key-of}
+use Rattle.bson_store.proofs.Least.{less_of}
 use Rattle.bson_store.proofs.Placed.{there}
 use Rattle.bson_store.proofs.ascending.is_above_first.Goals as goal
 

@@ -142,8 +142,8 @@ read_items-items-init t c = (
 pub read_items-items-preserved : goal.read_items-items-preserved
 read_items-items-preserved t c =
     let l = c.items in
-    let v = c.in_ok-item.item in
     let done = c.in_ok-item.ensures in
+    let v = c.in_ok-item.item in
     let d = done.ok.0 in
     let front = l.invariant.0 in
     let s = c.take_end_array.new.self in
