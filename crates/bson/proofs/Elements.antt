@@ -23,7 +23,8 @@ pub one_listed : (depth : ℕ) (start here s r : List Token) (front : Items → 
     → converted of_json (value depth s) ≡ Some (d, r) → length r < length s
     → Lists depth start r (λ ds. front (item d ds))
 one_listed depth start here s r front d l going same read less =
-    let first : converted of_json (value depth here) ≡ Some (d, r) = ap (λ t. converted of_json (value depth t)) (sym same) ∙ read in
+    let first : converted of_json (value depth here) ≡ Some (d, r) =
+    ap (λ t. converted of_json (value depth t)) (sym same) ∙ read in
     let fewer : length r < length here = rw (← same) less in
     record {
       all = λ ds rest are. l.all (item d ds) rest (λ n enough.

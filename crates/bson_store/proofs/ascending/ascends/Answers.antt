@@ -14,8 +14,10 @@ pairs-preserved g c =
     let ps = stored_pairs xs in
     let count = c.pairs.count in
     let p = c.index.result.now in
-    let within : count < length ps = omega (arith, c.pairs-test.true, c.len.ensures, c.args.pairs.now.ok.0, length-seen xs) in
+    let within : count < length ps =
+    omega (arith, c.pairs-test.true, c.len.ensures, c.args.pairs.now.ok.0, length-seen xs) in
     let next = take-next ps count (string_bytes p.key, p.value) (there xs ps count p refl within c.index.ensures) in (
       omega (arith, within, length-seen xs),
-      subst KeysAscend (ap (λ k. take count ps ++ (k, p.value) ∷ []) c.as_str.ensures.value ∙ sym next) (c.is_above_first.ensures c.if-is_above_first.true p.value),
+      subst KeysAscend (ap (λ k. take count ps ++ (k, p.value) ∷ []) c.as_str.ensures.value ∙ sym next)
+          (c.is_above_first.ensures c.if-is_above_first.true p.value),
     )

@@ -18,22 +18,26 @@ pub read_tree-returns-in_ok-from_str-in-String-clause-ok : goal.read_tree-return
 read_tree-returns-in_ok-from_str-in-String-clause-ok t c =
     let first : c.args.reader.now ≡ token_of c.in_ok-token.token ∷ c.next.new.self = grind arith in
     let is : c.args.reader.now ≡ Token.string c.in-String.text.now ∷ c.next.new.self = grind (arith, first) in
-    let seen : view (String c.in_ok-from_str-in-String.field-0) ≡ string c.in-String.text.now = search (rules, the_lemmas) in
-    ap (converted of_json) (ap (value c.args.depth) is ∙ value_is c.args.depth _) ∙ ap (λ d. Some (d, c.next.new.self)) (sym seen)
+    let seen : view (String c.in_ok-from_str-in-String.field-0) ≡ string c.in-String.text.now =
+    search (rules, the_lemmas) in
+    ap (converted of_json) (ap (value c.args.depth) is ∙ value_is c.args.depth _)
+    ∙ ap (λ d. Some (d, c.next.new.self)) (sym seen)
 
 pub read_tree-returns-in-Bool-clause-ok : goal.read_tree-returns-in-Bool-clause-ok
 read_tree-returns-in-Bool-clause-ok t c =
     let first : c.args.reader.now ≡ token_of c.in_ok-token.token ∷ c.next.new.self = grind arith in
     let is : c.args.reader.now ≡ Token.boolean c.in-Bool.b ∷ c.next.new.self = grind (arith, first) in
     let seen : view (Bool c.in-Bool.b) ≡ boolean c.in-Bool.b = search (rules, the_lemmas) in
-    ap (converted of_json) (ap (value c.args.depth) is ∙ value_is c.args.depth _) ∙ ap (λ d. Some (d, c.next.new.self)) (sym seen)
+    ap (converted of_json) (ap (value c.args.depth) is ∙ value_is c.args.depth _)
+    ∙ ap (λ d. Some (d, c.next.new.self)) (sym seen)
 
 pub read_tree-returns-in-Null-clause-ok : goal.read_tree-returns-in-Null-clause-ok
 read_tree-returns-in-Null-clause-ok t c =
     let first : c.args.reader.now ≡ token_of c.in_ok-token.token ∷ c.next.new.self = grind arith in
     let is : c.args.reader.now ≡ Token.null ∷ c.next.new.self = grind (arith, first) in
     let seen : view (Null) ≡ null = search (rules, the_lemmas) in
-    ap (converted of_json) (ap (value c.args.depth) is ∙ value_is c.args.depth _) ∙ ap (λ d. Some (d, c.next.new.self)) (sym seen)
+    ap (converted of_json) (ap (value c.args.depth) is ∙ value_is c.args.depth _)
+    ∙ ap (λ d. Some (d, c.next.new.self)) (sym seen)
 
 pub read_tree-returns-in-Some-clause-ok : goal.read_tree-returns-in-Some-clause-ok
 read_tree-returns-in-Some-clause-ok t c =
@@ -45,18 +49,27 @@ read_tree-returns-in-Some-clause-ok t c =
 pub read_tree-returns-in_ok-read_members-in-BeginObject-clause-ok : goal.read_tree-returns-in_ok-read_members-in-BeginObject-clause-ok
 read_tree-returns-in_ok-read_members-in-BeginObject-clause-ok t c =
     let first : c.args.reader.now ≡ token_of c.in_ok-token.token ∷ c.next.new.self = grind arith in
-    let opened = object_opened c.args.depth c.args.reader.now c.next.new.self (first ∙ ap (λ k. token_of k ∷ c.next.new.self) c.in-BeginObject.is) (omega arith) in
+    let opened =
+    object_opened c.args.depth c.args.reader.now c.next.new.self
+    (first ∙ ap (λ k. token_of k ∷ c.next.new.self) c.in-BeginObject.is) (omega arith) in
     let found = c.in_ok-read_members-in-BeginObject in
     let none : members_view c.new-none.result.entries ≡ no_members = ap members_view c.new-none.ensures.empty in
-    let read = subst (λ ms. MembersAre (c.args.depth - 1) ms c.next.new.self (members_view found.field-0.entries) c.read_members.new.reader) none found.ensures.ok (length c.next.new.self) (omega arith) in
-    opened ∙ ap (parse_map object) read ∙ ap (λ d. Some (d, c.read_members.new.reader)) (sym (view-Object found.field-0))
+    let read =
+    subst (λ ms. MembersAre (c.args.depth - 1) ms c.next.new.self
+    (members_view found.field-0.entries) c.read_members.new.reader) none found.ensures.ok (length c.next.new.self)
+    (omega arith) in
+    opened ∙ ap (parse_map object) read
+    ∙ ap (λ d. Some (d, c.read_members.new.reader)) (sym (view-Object found.field-0))
 
 pub read_tree-returns-in_ok-read_items-in-BeginArray-clause-ok : goal.read_tree-returns-in_ok-read_items-in-BeginArray-clause-ok
 read_tree-returns-in_ok-read_items-in-BeginArray-clause-ok t c =
     let first : c.args.reader.now ≡ token_of c.in_ok-token.token ∷ c.next.new.self = grind arith in
-    let opened = array_opened c.args.depth c.args.reader.now c.next.new.self (first ∙ ap (λ k. token_of k ∷ c.next.new.self) c.in-BeginArray.is) (omega arith) in
+    let opened =
+    array_opened c.args.depth c.args.reader.now c.next.new.self
+    (first ∙ ap (λ k. token_of k ∷ c.next.new.self) c.in-BeginArray.is) (omega arith) in
     let found = c.in_ok-read_items-in-BeginArray in
-    opened ∙ ap (parse_map array) found.ensures.ok ∙ ap (λ d. Some (d, c.read_items.new.reader)) (sym (view-Array found.field-0))
+    opened ∙ ap (parse_map array) found.ensures.ok
+    ∙ ap (λ d. Some (d, c.read_items.new.reader)) (sym (view-Array found.field-0))
 
 pub read_items-items-init : goal.read_items-items-init
 read_items-items-init t c = (
@@ -73,7 +86,8 @@ read_items-items-preserved t c =
     let r = c.read_tree.new.reader in
     let going : (after_end_array l.reader ≡ None) × (c.take_end_array.new.self ≡ l.reader) = grind arith in (
       λ ds. front (item (view v) ds),
-      one_listed c.args.depth c.args.reader.now l.reader c.take_end_array.new.self r front (view v) l.invariant.1 going.0 going.1 c.in_ok-item.ensures.ok c.in_ok-item.ensures.shorter,
+      one_listed c.args.depth c.args.reader.now l.reader c.take_end_array.new.self r front
+          (view v) l.invariant.1 going.0 going.1 c.in_ok-item.ensures.ok c.in_ok-item.ensures.shorter,
       λ ds. l.invariant.2 (item (view v) ds) ∙ items_onto-last l.found.items v ds
           ∙ ap (λ vs. items_onto vs ds) (sym c.in_ok-push.ensures.items),
     )
@@ -92,7 +106,8 @@ read_member-returns-clause-ok t c =
     let copied : string_bytes c.in_ok-key.key ≡ c.args.key.now = search rules in (
       view v,
       c.in_ok-member.ensures.ok,
-      ap members_view c.in_ok-insert.ensures.entries ∙ members_view-insert_entry c.args.found.entries c.in_ok-key.key v ∙ ap (λ k. put k (view v) old) copied,
+      ap members_view c.in_ok-insert.ensures.entries ∙ members_view-insert_entry c.args.found.entries c.in_ok-key.key v
+          ∙ ap (λ k. put k (view v) old) copied,
     )
 
 pub read_members-members-init : goal.read_members-members-init
@@ -109,7 +124,8 @@ read_members-members-preserved t c =
     let less = read_key-shorter l.reader (Some k) s named in
     let is = members_view l.found.entries in
     record {
-      all = λ ms rest more. l.invariant.all ms rest (more_members c.args.depth k l.reader s r rest done.ok.0 is ms named done.ok.1 done.shorter
+      all = λ ms rest more. l.invariant.all ms rest
+          (more_members c.args.depth k l.reader s r rest done.ok.0 is ms named done.ok.1 done.shorter
           (subst (λ now. MembersAre c.args.depth now r ms rest) done.ok.2 more));
       shorter = omega (arith, l.invariant.shorter, less, done.shorter);
     }

@@ -1,4 +1,5 @@
-use Rattle.std.proofs.Common.{Vec, Global, false, ◌≡◌, List, [], ◌∷◌, ◌++◌, map, Ok, Some, None, string_bytes, refl, sym, ap, ◌∙◌, arith, rules}
+use Rattle.std.proofs.Common.{Vec, Global, false, ◌≡◌, List, [], ◌∷◌, ◌++◌, map, Ok, Some, None, string_bytes, refl}
+use Rattle.std.proofs.Common.{sym, ap, ◌∙◌, arith, rules}
 use Rattle.std.specs.Prelude.{is_some}
 use Rattle.json.specs.Token.{Token}
 use Rattle.json.specs.Json.{parse_map, after_end_array, read_key, value}
@@ -39,8 +40,13 @@ bson_view-Array v = search (rules, the_lemmas)
 pub read_member-returns-clause-ok : goal.read_member-returns-clause-ok
 read_member-returns-clause-ok t c =
     let copied : string_bytes c.in_ok-key.key ≡ c.args.name.now = search rules in
-    let read = c.in_ok-member.ensures.ok in
-    (read.0, bson_view c.in_ok-member.member, read.1, read.2, c.in_ok-now.ensures ∙ ap (λ q. put_pair q (bson_view c.in_ok-member.member) (gathered c.args.found)) copied)
+    let read = c.in_ok-member.ensures.ok in (
+      read.0,
+      bson_view c.in_ok-member.member,
+      read.1,
+      read.2,
+      c.in_ok-now.ensures ∙ ap (λ q. put_pair q (bson_view c.in_ok-member.member) (gathered c.args.found)) copied,
+    )
 
 pub read_value-returns-in_ok-from_str-in-String-clause-ok : goal.read_value-returns-in_ok-from_str-in-String-clause-ok
 read_value-returns-in_ok-from_str-in-String-clause-ok t c =
@@ -149,16 +155,20 @@ read_items-items-preserved t c =
     let s = c.take_end_array.new.self in
     let ended : (after_end_array l.reader ≡ None) × (s ≡ l.reader) = grind arith in (
       λ ds. front (item d ds),
-      one_listed c.args.depth c.args.reader.now l.reader s c.read_value.new.reader front d l.invariant.1 ended.0 ended.1 done.ok.1 done.shorter,
-      λ ds. sym (values_step (map bson_view l.found.items) d (bson_view v) ds (reads_items (front (item d ds))) done.ok.2 (sym (l.invariant.2 (item d ds))))
-          ∙ ap (λ vs. onto_values vs (reads_items ds)) (sym (map-snoc l.found.items v) ∙ ap (map bson_view) (sym c.in_ok-push.ensures.items)),
+      one_listed c.args.depth c.args.reader.now l.reader s c.read_value.new.reader front d l.invariant.1 ended.0 ended.1
+          done.ok.1 done.shorter,
+      λ ds. sym (values_step (map bson_view l.found.items) d (bson_view v) ds
+          (reads_items (front (item d ds))) done.ok.2 (sym (l.invariant.2 (item d ds))))
+          ∙ ap (λ vs. onto_values vs (reads_items ds))
+          (sym (map-snoc l.found.items v) ∙ ap (map bson_view) (sym c.in_ok-push.ensures.items)),
     )
 
 pub read_items-returns-clause-ok : goal.read_items-returns-clause-ok
 read_items-returns-clause-ok t c =
     let l = c.items in (
       l.invariant.0 no_items,
-      all_listed c.args.depth c.args.reader.now l.reader c.take_end_array.new.self l.invariant.0 l.invariant.1 (grind arith),
+      all_listed c.args.depth c.args.reader.now l.reader c.take_end_array.new.self l.invariant.0 l.invariant.1
+          (grind arith),
       l.invariant.2 no_items ∙ onto_values-ok (map bson_view l.found.items)
           ∙ ap (λ vs. Ok (values_view vs)) (sym c.shrink_to_fit.ensures.items),
     )
@@ -210,7 +220,8 @@ read_wrapper-returns-in-Some-clause-ok t c =
     let held = c.in_ok-held.ensures in
     let named : read_key s ≡ Some (Some l, us) = grind arith in
     if_ok c.read_code.result c.read_code.ensures.ok (λ v code.
-    with_scope c.args.depth k l c.args.reader.now s us c.read_code.new.reader (view c.in_ok-held.held) (bson_view v) held.ok held.shorter named code)
+    with_scope c.args.depth k l c.args.reader.now s us c.read_code.new.reader (view c.in_ok-held.held)
+    (bson_view v) held.ok held.shorter named code)
 
 pub read_wrapper-returns-in_ok-read-in-None-clause-ok : goal.read_wrapper-returns-in_ok-read-in-None-clause-ok
 read_wrapper-returns-in_ok-read-in-None-clause-ok t c =
@@ -219,4 +230,5 @@ read_wrapper-returns-in_ok-read-in-None-clause-ok t c =
     let rest = c.next_key.new.self in
     let held = c.in_ok-held.ensures in
     let ended : read_key s ≡ Some (None, rest) = grind arith in
-    alone c.args.depth k c.args.reader.now s rest (view c.in_ok-held.held) (bson_view c.in_ok-read-in-None.read) held.ok held.shorter ended c.in_ok-read-in-None.ensures.given
+    alone c.args.depth k c.args.reader.now s rest (view c.in_ok-held.held)
+    (bson_view c.in_ok-read-in-None.read) held.ok held.shorter ended c.in_ok-read-in-None.ensures.given

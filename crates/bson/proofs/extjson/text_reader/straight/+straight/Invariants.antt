@@ -43,13 +43,16 @@ decreases-read_items-items l = length l.reader
 
 -- the map of the members so far has no wrapper's key, and is read as what was gathered
 abbrev pub invariant-read_object-members : goal.invariant-read_object-members
-invariant-read_object-members l = (so_far : Members) × Gathers l.depth l.initial.reader l.reader so_far (gathered l.found) × (has_wrapper so_far ≡ false)
+invariant-read_object-members l =
+    (so_far : Members) × Gathers l.depth l.initial.reader l.reader so_far (gathered l.found)
+    × (has_wrapper so_far ≡ false)
 
 abbrev pub decreases-read_object-members : goal.decreases-read_object-members
 decreases-read_object-members l = length l.reader
 
 abbrev pub invariant-read_pairs-members : goal.invariant-read_pairs-members
-invariant-read_pairs-members l = (so_far : Members) × Gathers l.depth l.initial.reader l.reader so_far (gathered l.found)
+invariant-read_pairs-members l =
+    (so_far : Members) × Gathers l.depth l.initial.reader l.reader so_far (gathered l.found)
 
 abbrev pub decreases-read_pairs-members : goal.decreases-read_pairs-members
 decreases-read_pairs-members l = length l.reader
