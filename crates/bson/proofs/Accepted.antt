@@ -18,16 +18,20 @@ tree_one bytes t u a b = same_Some t u (sym a.tree_read ∙ b.tree_read)
 memory_alone : (bytes : List ℕ) (t : Data) (v : Value) → IsTextOf bytes t → Means t v → (e : TextError)
     → IsTextFault bytes e → e ≡ OutOfMemory
 memory_alone bytes t v is m OutOfMemory f = refl
-memory_alone bytes t v is m NotJson f = let none : read bytes ≡ None = f is.utf8 in let some : read bytes ≡ Some t = is.tree_read in cc
+memory_alone bytes t v is m NotJson f =
+    let none : read bytes ≡ None = f is.utf8 in let some : read bytes ≡ Some t = is.tree_read in cc
 memory_alone bytes t v is m (NotExtendedJson tree_error.OutOfMemory) f = absurd f
-memory_alone bytes t v is m (NotExtendedJson (tree_error.DeserializationError message)) f = absurd (f.2.0 v (subst (λ u. Means u v) (tree_one bytes t f.0 is f.1) m))
-memory_alone bytes t v is m (NotExtendedJson (tree_error.InvalidObjectId e)) f = absurd (f.2.0 v (subst (λ u. Means u v) (tree_one bytes t f.0 is f.1) m))
+memory_alone bytes t v is m (NotExtendedJson (tree_error.DeserializationError message)) f =
+    absurd (f.2.0 v (subst (λ u. Means u v) (tree_one bytes t f.0 is f.1) m))
+memory_alone bytes t v is m (NotExtendedJson (tree_error.InvalidObjectId e)) f =
+    absurd (f.2.0 v (subst (λ u. Means u v) (tree_one bytes t f.0 is f.1) m))
 
 pub accepted : {X : Type 0} (bytes : List ℕ) (r : Result X TextError) → IfErr r (λ e. IsTextFault bytes e)
     → (t : Data) (v : Value) → IsTextOf bytes t → Means t v → IfErr r (λ e. e ≡ OutOfMemory)
 accepted bytes (Ok x) f t v is m = tt
 accepted bytes (Err e) f t v is m = memory_alone bytes t v is m e f
 
-pub came_back : {X E : Type 0} (see : X → Value) (bytes : List ℕ) (r : Result X E) → IfOk r (λ x. HasTextMeaning bytes (see x)) → IfOk r (λ x. ComesBack (see x))
+pub came_back : {X E : Type 0} (see : X → Value) (bytes : List ℕ) (r : Result X E)
+    → IfOk r (λ x. HasTextMeaning bytes (see x)) → IfOk r (λ x. ComesBack (see x))
 came_back see bytes (Ok x) h = read_comes_back h.tree (see x) (read_tree bytes h.tree h.text.tree_read) h.meaning.means
 came_back see bytes (Err e) h = tt

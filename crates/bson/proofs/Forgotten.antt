@@ -11,7 +11,8 @@ use Rattle.bson.specs.Straight.{forgotten, Finds}
 use Rattle.bson.specs.View.{bson_view}
 
 -- where the first is read, what is found of the others is found of all
-pub first_read : {A B C : Type 0} (r : Result A Fault) (s : Result B Fault) (f : A → B → C) → forgotten r ≡ Ok tt → forgotten (r >>= λ x. s >>= λ y. Ok (f x y)) ≡ forgotten s
+pub first_read : {A B C : Type 0} (r : Result A Fault) (s : Result B Fault) (f : A → B → C) → forgotten r ≡ Ok tt
+    → forgotten (r >>= λ x. s >>= λ y. Ok (f x y)) ≡ forgotten s
 first_read (Err e) s f h = cc
 first_read (Ok x) (Err e) f h = refl
 first_read (Ok x) (Ok y) f h = refl

@@ -13,7 +13,8 @@ abbrev pub onto_values : List Value → Result Values Fault → Result Values Fa
 onto_values [] r = r
 onto_values (x ∷ xs) r = onto_values xs r >>= λ vs. Ok (value x vs)
 
-pub onto_values-snoc : (xs : List Value) (x : Value) (r : Result Values Fault) → onto_values (xs ++ x ∷ []) r ≡ onto_values xs (r >>= λ vs. Ok (value x vs))
+pub onto_values-snoc : (xs : List Value) (x : Value) (r : Result Values Fault)
+    → onto_values (xs ++ x ∷ []) r ≡ onto_values xs (r >>= λ vs. Ok (value x vs))
 onto_values-snoc [] x r = refl
 onto_values-snoc (y ∷ xs) x r = ap (λ q. q >>= λ vs. Ok (value y vs)) (onto_values-snoc xs x r)
 
@@ -32,7 +33,8 @@ abbrev pub onto_pairs : List Entry → Result Pairs Fault → Result Pairs Fault
 onto_pairs [] r = r
 onto_pairs (x ∷ xs) r = onto_pairs xs r >>= λ ps. Ok (pair (x.0) (bson_view x.1) ps)
 
-pub onto_pairs-snoc : (xs : List Entry) (x : Entry) (r : Result Pairs Fault) → onto_pairs (xs ++ x ∷ []) r ≡ onto_pairs xs (r >>= λ ps. Ok (pair (x.0) (bson_view x.1) ps))
+pub onto_pairs-snoc : (xs : List Entry) (x : Entry) (r : Result Pairs Fault)
+    → onto_pairs (xs ++ x ∷ []) r ≡ onto_pairs xs (r >>= λ ps. Ok (pair (x.0) (bson_view x.1) ps))
 onto_pairs-snoc [] x r = refl
 onto_pairs-snoc (y ∷ xs) x r = ap (λ q. q >>= λ ps. Ok (pair (y.0) (bson_view y.1) ps)) (onto_pairs-snoc xs x r)
 
@@ -50,7 +52,12 @@ pub values_fault : (e : Error) (xs : List Value) (d : Data) (ds : Items) (total 
 values_fault OutOfMemory xs d ds total h is = tt
 values_fault (DeserializationError m) xs d ds total h is = sym is
     ∙ ap (λ r. onto_values xs (r >>= λ v. reads_items ds >>= λ vs. Ok (value v vs))) h ∙ onto_values-err xs _
-values_fault (InvalidObjectId f) xs d ds total h is = (h.0, sym is ∙ ap (λ r. onto_values xs (r >>= λ v. reads_items ds >>= λ vs. Ok (value v vs))) h.1 ∙ onto_values-err xs _, h.2)
+values_fault (InvalidObjectId f) xs d ds total h is = (
+  h.0,
+  sym is ∙ ap (λ r. onto_values xs (r >>= λ v. reads_items ds >>= λ vs. Ok (value v vs))) h.1
+      ∙ onto_values-err xs _,
+  h.2,
+)
 
 -- one more was read
 pub values_step : (xs : List Value) (d : Data) (v : Value) (ds : Items) (total : Result Values Fault) → reads d ≡ Ok v
@@ -63,7 +70,12 @@ pub pairs_fault : (e : Error) (xs : List Entry) (k : List ℕ) (d : Data) (ms : 
 pairs_fault OutOfMemory xs k d ms total h is = tt
 pairs_fault (DeserializationError m) xs k d ms total h is = sym is
     ∙ ap (λ r. onto_pairs xs (r >>= λ v. reads_members ms >>= λ ps. Ok (pair k v ps))) h ∙ onto_pairs-err xs _
-pairs_fault (InvalidObjectId f) xs k d ms total h is = (h.0, sym is ∙ ap (λ r. onto_pairs xs (r >>= λ v. reads_members ms >>= λ ps. Ok (pair k v ps))) h.1 ∙ onto_pairs-err xs _, h.2)
+pairs_fault (InvalidObjectId f) xs k d ms total h is = (
+  h.0,
+  sym is ∙ ap (λ r. onto_pairs xs (r >>= λ v. reads_members ms >>= λ ps. Ok (pair k v ps))) h.1
+      ∙ onto_pairs-err xs _,
+  h.2,
+)
 
 pub pairs_step : (xs : List Entry) (x : Entry) (d : Data) (ms : Members) (total : Result Pairs Fault)
     → reads d ≡ Ok (bson_view x.1) → onto_pairs xs (reads_members (member (x.0) d ms)) ≡ total

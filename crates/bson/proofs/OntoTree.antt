@@ -22,7 +22,8 @@ abbrev pub onto_items : List Data → Result Items Refusal → Result Items Refu
 onto_items [] r = r
 onto_items (x ∷ xs) r = onto_items xs r >>= λ ds. Ok (item x ds)
 
-onto_items-snoc : (xs : List Data) (x : Data) (r : Result Items Refusal) → onto_items (xs ++ x ∷ []) r ≡ onto_items xs (r >>= λ ds. Ok (item x ds))
+onto_items-snoc : (xs : List Data) (x : Data) (r : Result Items Refusal)
+    → onto_items (xs ++ x ∷ []) r ≡ onto_items xs (r >>= λ ds. Ok (item x ds))
 onto_items-snoc [] x r = refl
 onto_items-snoc (y ∷ xs) x r = ap (λ q. q >>= λ ds. Ok (item y ds)) (onto_items-snoc xs x r)
 
@@ -53,7 +54,7 @@ abbrev pub onto_members : Form → List Entry → Members → Result Members Ref
 onto_members f [] ms = Ok ms
 onto_members f (x ∷ xs) ms = writes f (bson_view x.1) >>= λ d. onto_members f xs (put x.0 d ms)
 
-bind_same : {A B : Type 0} (r : Result A Refusal) (f g : A → Result B Refusal) → ((x : A) → f x ≡ g x)
+pub bind_same : {A B : Type 0} (r : Result A Refusal) (f g : A → Result B Refusal) → ((x : A) → f x ≡ g x)
     → (r >>= f) ≡ (r >>= g)
 bind_same (Ok x) f g h = h x
 bind_same (Err e) f g h = refl
@@ -67,19 +68,26 @@ apart : (k l : List ℕ) → bytes_eq k l ≡ false → l ≡ k → ⊥
 apart k l h e = let t : bytes_eq k l ≡ true = (bytes_eq-Decides k l).1 (sym e) in cc
 
 -- a member whose key none of the pairs has may be put last
-put_last : (f : Form) (xs : List Entry) (k : List ℕ) (d : Data) (ms : Members) → AllByRecursion (λ y. bytes_eq k y ≡ false) (keys xs) → onto_members f xs (put k d ms) ≡ (onto_members f xs ms >>= λ ns. Ok (put k d ns))
+put_last : (f : Form) (xs : List Entry) (k : List ℕ) (d : Data) (ms : Members)
+    → AllByRecursion (λ y. bytes_eq k y ≡ false) (keys xs)
+    → onto_members f xs (put k d ms) ≡ (onto_members f xs ms >>= λ ns. Ok (put k d ns))
 put_last f [] k d ms h = refl
 put_last f (x ∷ xs) k d ms h =
-    bind_same (writes f (bson_view x.1)) _ _ (λ e. ap (onto_members f xs) (put_members_swap x.0 k e d ms (apart k x.0 h.0)) ∙ put_last f xs k d (put x.0 e ms) h.1)
+    bind_same (writes f (bson_view x.1)) _ _
+    (λ e. ap (onto_members f xs) (put_members_swap x.0 k e d ms (apart k x.0 h.0))
+    ∙ put_last f xs k d (put x.0 e ms) h.1)
     ∙ sym (bind_out (writes f (bson_view x.1)) (λ e. onto_members f xs (put x.0 e ms)) (λ ns. Ok (put k d ns)))
 
 pub onto_members-start : (f : Form) (xs : List Entry) → HasDistinctKeys xs
     → onto_members f xs no_members ≡ writes_pairs f (pairs_view xs)
 unfolding IsDistinct
 onto_members-start f [] h = refl
-onto_members-start f (x ∷ xs) h = bind_same (writes f (bson_view x.1)) _ _ (λ d. put_last f xs x.0 d no_members h.0 ∙ ap (λ r. r >>= λ ns. Ok (put x.0 d ns)) (onto_members-start f xs h.1))
+onto_members-start f (x ∷ xs) h =
+    bind_same (writes f (bson_view x.1)) _ _
+    (λ d. put_last f xs x.0 d no_members h.0 ∙ ap (λ r. r >>= λ ns. Ok (put x.0 d ns)) (onto_members-start f xs h.1))
 
-pub members_stop : (f : Form) (e : WriteError) (xs : List Entry) (x : Entry) (ms : Members) (total : Result Members Refusal)
+pub members_stop : (f : Form) (e : WriteError) (xs : List Entry) (x : Entry) (ms : Members)
+    (total : Result Members Refusal)
     → Stops e (writes f (bson_view x.1)) → onto_members f (x ∷ xs) ms ≡ total → Stops e total
 members_stop f OutOfMemory xs x ms total h is = tt
 members_stop f FiniteDouble xs x ms total h is = sym is ∙ ap (λ r. r >>= λ d. onto_members f xs (put x.0 d ms)) h

@@ -1,5 +1,6 @@
 -- What ends a list or a map of tokens well from where it was printed to ends it well from its start.
-use Rattle.std.proofs.Common.{◌≡◌, ℕ, None, cond, suc, ◌+◌, ◌-◌, ◌<◌, ◌≤◌, inl, inr, List, [], ◌∷◌, ◌++◌, Result, Ok, Err, Some, slice_get, refl, sym, ap, ◌∙◌, subst, arith}
+use Rattle.std.proofs.Common.{◌≡◌, ℕ, None, cond, suc, ◌+◌, ◌-◌, ◌<◌, ◌≤◌, inl, inr, List, [], ◌∷◌, ◌++◌, Result, Ok}
+use Rattle.std.proofs.Common.{Err, Some, slice_get, refl, sym, ap, ◌∙◌, subst, arith}
 use Rattle.std.proofs.Math.Nat.{eq-or-lt_of_le}
 use Rattle.std.specs.Ordering.{is_eq}
 use Rattle.std.specs.declared.cmp.Ordering.TheVariants.{Less, Equal, Greater}
@@ -24,6 +25,7 @@ use Rattle.bson.specs.Texts.{tokens_of, code_tokens, writes_in_order, KeysAscend
 use Rattle.bson.specs.View.{bson_view, pairs_view}
 use Rattle.bson.specs.declared.bson.Bson.{Bson}
 use Rattle.bson.proofs.Onto.{Entry}
+use Rattle.bson.proofs.OntoTree.{bind_same}
 
 -- ---- lists
 
@@ -61,8 +63,10 @@ pub members_more : (f : Form) (k : List ℕ) (v : Value) (ps : Pairs) (old near 
     → EndsMembers (writes_in_order f (pair k v ps)) old end
 members_more f k v ps old near new end n p q = (
   member k p.0 q.0,
-  ap (λ r. r >>= λ d. writes_in_order f ps >>= λ ms. Ok (member k d ms)) p.1 ∙ ap (λ r. r >>= λ ms. Ok (member k p.0 ms)) q.1,
-  in_turn old (key k ∷ []) near (tokens_of p.0 ++ members_tokens (members_outline q.0)) end n (in_turn near (tokens_of p.0) new (members_tokens (members_outline q.0)) end p.2 q.2),
+  ap (λ r. r >>= λ d. writes_in_order f ps >>= λ ms. Ok (member k d ms)) p.1
+      ∙ ap (λ r. r >>= λ ms. Ok (member k p.0 ms)) q.1,
+  in_turn old (key k ∷ []) near (tokens_of p.0 ++ members_tokens (members_outline q.0)) end n
+      (in_turn near (tokens_of p.0) new (members_tokens (members_outline q.0)) end p.2 q.2),
 )
 
 pub members_here : (f : Form) (e : WriteError) (k : List ℕ) (v : Value) (ps : Pairs) → Stops e (writes f v)
@@ -76,14 +80,10 @@ members_later f OutOfMemory k v d ps g h = tt
 members_later f FiniteDouble k v d ps g h = ap (λ r. r >>= λ c. writes_in_order f ps >>= λ ms. Ok (member k c ms)) g
     ∙ ap (λ r. r >>= λ ms. Ok (member k d ms)) h
 
-bind_same : {A B : Type 0} (r : Result A Refusal) (f g : A → Result B Refusal) → ((x : A) → f x ≡ g x)
-    → (r >>= f) ≡ (r >>= g)
-bind_same (Ok x) f g h = h x
-bind_same (Err e) f g h = refl
-
 -- a key that is less than the first one is put first
 put_first : (k l : List ℕ) (d : Data) → key_cmp k l ≡ Less → (a : Result Data Refusal) (b : Result Members Refusal)
-    → ((a >>= λ e. b >>= λ ms. Ok (member l e ms)) >>= λ ms. Ok (member k d ms)) ≡ ((a >>= λ e. b >>= λ ms. Ok (member l e ms)) >>= λ ms. Ok (put k d ms))
+    → ((a >>= λ e. b >>= λ ms. Ok (member l e ms)) >>= λ ms. Ok (member k d ms))
+    ≡ ((a >>= λ e. b >>= λ ms. Ok (member l e ms)) >>= λ ms. Ok (put k d ms))
 put_first k l d h (Ok e) (Ok ms) = rw h refl
 put_first k l d h (Ok e) (Err x) = refl
 put_first k l d h (Err x) b = refl
@@ -103,7 +103,8 @@ in_turn_is f (x ∷ y ∷ ys) h =
 
 -- a key that is above the first one goes behind it
 put_later : (k l : List ℕ) → key_cmp k l ≡ Greater → (a b : Result Data Refusal) (r : Result Members Refusal)
-    → (a >>= λ x. (b >>= λ d. r >>= λ ms. Ok (put k d ms)) >>= λ ms. Ok (member l x ms)) ≡ (b >>= λ d. (a >>= λ x. r >>= λ ms. Ok (member l x ms)) >>= λ ms. Ok (put k d ms))
+    → (a >>= λ x. (b >>= λ d. r >>= λ ms. Ok (put k d ms)) >>= λ ms. Ok (member l x ms))
+    ≡ (b >>= λ d. (a >>= λ x. r >>= λ ms. Ok (member l x ms)) >>= λ ms. Ok (put k d ms))
 put_later k l h (Ok x) (Ok d) (Ok ms) = rw h refl
 put_later k l h (Ok x) (Ok d) (Err e) = refl
 put_later k l h (Ok x) (Err e) r = refl
@@ -111,16 +112,19 @@ put_later k l h (Err finite) (Ok d) r = refl
 put_later k l h (Err finite) (Err finite) r = refl
 
 written_put : (f : Form) (k : List ℕ) (v : Bson) (es : List Entry) → find key_cmp k es ≡ None
-    → writes_in_order f (pairs_view (put_entry key_cmp k v es)) ≡ (writes f (bson_view v) >>= λ d. writes_in_order f (pairs_view es) >>= λ ms. Ok (put k d ms))
+    → writes_in_order f (pairs_view (put_entry key_cmp k v es))
+    ≡ (writes f (bson_view v) >>= λ d. writes_in_order f (pairs_view es) >>= λ ms. Ok (put k d ms))
 written_put f k v [] h = refl
 written_put f k v (e ∷ es) h =
     let a = writes f (bson_view e.1) in
     let r = writes_in_order f (pairs_view es) in
     elim (key_cmp k e.0) as (λ o. key_cmp k e.0 ≡ o → cond (is_eq o) (Some e.1) (find key_cmp k es) ≡ None
-    → writes_in_order f (pairs_view (by_order o ((k, v) ∷ e ∷ es) ((e.0, v) ∷ es) (e ∷ put_entry key_cmp k v es))) ≡ (writes f (bson_view v) >>= λ d. (a >>= λ x. r >>= λ ms. Ok (member e.0 x ms)) >>= λ ms. Ok (put k d ms))) [
+    → writes_in_order f (pairs_view (by_order o ((k, v) ∷ e ∷ es) ((e.0, v) ∷ es) (e ∷ put_entry key_cmp k v es)))
+    ≡ (writes f (bson_view v) >>= λ d. (a >>= λ x. r >>= λ ms. Ok (member e.0 x ms)) >>= λ ms. Ok (put k d ms))) [
       | Less ↦ λ o n. bind_same (writes f (bson_view v)) _ _ (λ d. put_first k e.0 d o a r)
       | Equal ↦ λ o n. cc
-      | Greater ↦ λ o n. bind_same a _ _ (λ x. ap (λ q. q >>= λ ms. Ok (member e.0 x ms)) (written_put f k v es n)) ∙ put_later k e.0 o a (writes f (bson_view v)) r
+      | Greater ↦ λ o n. bind_same a _ _ (λ x. ap (λ q. q >>= λ ms. Ok (member e.0 x ms)) (written_put f k v es n))
+          ∙ put_later k e.0 o a (writes f (bson_view v)) r
     ] refl h
 
 -- the map of a document has its members by ascending key
@@ -136,7 +140,9 @@ ranged_put : (k : List ℕ) (v : Bson) (es : List Entry) → find key_cmp k es �
     → PairsInRange (pairs_view (put_entry key_cmp k v es)) → InRange (bson_view v) × PairsInRange (pairs_view es)
 ranged_put k v [] h r = r
 ranged_put k v (e ∷ es) h r =
-    elim (key_cmp k e.0) as (λ o. cond (is_eq o) (Some e.1) (find key_cmp k es) ≡ None → PairsInRange (pairs_view (by_order o ((k, v) ∷ e ∷ es) ((e.0, v) ∷ es) (e ∷ put_entry key_cmp k v es))) → InRange (bson_view v) × (InRange (bson_view e.1) × PairsInRange (pairs_view es))) [
+    elim (key_cmp k e.0) as (λ o. cond (is_eq o) (Some e.1) (find key_cmp k es) ≡ None
+    → PairsInRange (pairs_view (by_order o ((k, v) ∷ e ∷ es) ((e.0, v) ∷ es) (e ∷ put_entry key_cmp k v es)))
+    → InRange (bson_view v) × (InRange (bson_view e.1) × PairsInRange (pairs_view es))) [
       | Less ↦ λ n r. r
       | Equal ↦ λ n r. cc
       | Greater ↦ λ n r. let rest = ranged_put k v es n r.1 in (rest.0, (r.0, rest.1))
@@ -157,15 +163,21 @@ module _ (left rest : List Entry) (k : List ℕ) (v : Bson) (here : left ≡ (k,
       → ((x : Data) × (writes f (bson_view v) ≡ Ok x) × (new ≡ near ++ tokens_of x))
       → EndsMembers (writes_in_order f (pairs_view rest)) new end
       → EndsMembers (writes_in_order f (pairs_view left)) old end
-  ends_more f old near new end n p h = subst (λ (xs : List Entry). EndsMembers (writes_in_order f (pairs_view xs)) old end) (sym here) (members_more f k (bson_view v) (pairs_view rest) old near new end n p h)
+  ends_more f old near new end n p h =
+      subst (λ (xs : List Entry). EndsMembers (writes_in_order f (pairs_view xs)) old end) (sym here)
+      (members_more f k (bson_view v) (pairs_view rest) old near new end n p h)
 
   pub stops_here : (f : Form) (e : WriteError) → Stops e (writes f (bson_view v))
       → Stops e (writes_in_order f (pairs_view left))
-  stops_here f e h = subst (λ (xs : List Entry). Stops e (writes_in_order f (pairs_view xs))) (sym here) (members_here f e k (bson_view v) (pairs_view rest) h)
+  stops_here f e h =
+      subst (λ (xs : List Entry). Stops e (writes_in_order f (pairs_view xs))) (sym here)
+      (members_here f e k (bson_view v) (pairs_view rest) h)
 
   pub stops_more : (f : Form) (e : WriteError) (d : Data) → writes f (bson_view v) ≡ Ok d
       → Stops e (writes_in_order f (pairs_view rest)) → Stops e (writes_in_order f (pairs_view left))
-  stops_more f e d p h = subst (λ (xs : List Entry). Stops e (writes_in_order f (pairs_view xs))) (sym here) (members_later f e k (bson_view v) d (pairs_view rest) p h)
+  stops_more f e d p h =
+      subst (λ (xs : List Entry). Stops e (writes_in_order f (pairs_view xs))) (sym here)
+      (members_later f e k (bson_view v) d (pairs_view rest) p h)
 
   pub ranged_more : InRange (bson_view v) → PairsInRange (pairs_view rest) → PairsInRange (pairs_view left)
   ranged_more r h = subst (λ (xs : List Entry). PairsInRange (pairs_view xs)) (sym here) (r, h)
@@ -179,14 +191,16 @@ pub scoped : (f : Form) (s : List ℕ) (ps : Pairs) (old mid near new : List Tok
 scoped f s ps old mid near new m p n = (
   _,
   ap (λ r. r >>= λ ms. Ok (with_scope s ms)) p.1,
-  in_turn old (code_tokens s) mid (tokens_of (object p.0) ++ end_object ∷ []) new m (in_turn mid (tokens_of (object p.0)) near (end_object ∷ []) new p.2 n),
+  in_turn old (code_tokens s) mid (tokens_of (object p.0) ++ end_object ∷ []) new m
+      (in_turn mid (tokens_of (object p.0)) near (end_object ∷ []) new p.2 n),
 )
 
 -- ---- keys that ascend
 
 -- each key before the place is less than the next
 abbrev pub AscendsTo : List (List ℕ) → ℕ → Type 0
-AscendsTo ks at = (i : ℕ) (k l : List ℕ) → suc i < at → slice_get ks i ≡ Some k → slice_get ks (suc i) ≡ Some l → key_cmp k l ≡ Less
+AscendsTo ks at =
+    (i : ℕ) (k l : List ℕ) → suc i < at → slice_get ks i ≡ Some k → slice_get ks (suc i) ≡ Some l → key_cmp k l ≡ Less
 
 next_at : (ks : List (List ℕ)) (i : ℕ) (a b k l : List ℕ) → Some a ≡ slice_get ks i → Some b ≡ slice_get ks (suc i)
     → key_cmp a b ≡ Less → slice_get ks i ≡ Some k → slice_get ks (suc i) ≡ Some l → key_cmp k l ≡ Less

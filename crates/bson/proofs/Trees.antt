@@ -1,7 +1,5 @@
 -- The elements of a list of trees, before others.
-use Rattle.std.proofs.Common.{◌≡◌, List, [], ◌∷◌, ◌++◌, Option, None, Some, refl, ap}
-use Rattle.json.specs.Json.{parse_map}
-use Rattle.json.specs.Token.{Token}
+use Rattle.std.proofs.Common.{◌≡◌, List, [], ◌∷◌, ◌++◌, refl, ap}
 use Rattle.serde_json.specs.Data.{Items, no_items, item}
 use Rattle.serde_json.specs.View.{view, items_view}
 use Rattle.serde_json.specs.declared.value.Value.{Value}
@@ -18,9 +16,3 @@ items_onto-last (w ∷ vs) v ds = ap (item (view w)) (items_onto-last vs v ds)
 pub items_onto-none : (vs : List Value) → items_onto vs no_items ≡ items_view vs
 items_onto-none [] = refl
 items_onto-none (v ∷ vs) = ap (item (view v)) (items_onto-none vs)
-
--- one more element stands after those before it
-pub one_more_item : (vs : List Value) (v : Value) (o : Option (Items × List Token))
-    → parse_map (items_onto vs) (parse_map (item (view v)) o) ≡ parse_map (items_onto (vs ++ v ∷ [])) o
-one_more_item vs v None = refl
-one_more_item vs v (Some p) = ap (λ ds. Some (ds, p.1)) (items_onto-last vs v p.0)

@@ -1,10 +1,12 @@
 -- A turn of the grammar's loops over tokens, where each part that is read becomes a part of the tree.
-use Rattle.std.proofs.Common.{◌≡◌, ℕ, ◌-◌, ◌<◌, ◌≤◌, List, length, Option, Some, None, Result, Ok, Err, IfOk, option_map, refl, ap, ◌∙◌, arith, ◌∷◌}
+use Rattle.std.proofs.Common.{◌≡◌, ℕ, ◌-◌, ◌<◌, ◌≤◌, List, length, Option, Some, None, Result, Ok, Err, IfOk}
+use Rattle.std.proofs.Common.{option_map, refl, ap, ◌∙◌, arith, ◌∷◌}
 use Rattle.std.proofs.lemmas.Option.{same_Some}
 use Rattle.json.specs.Token.{Token}
 use Rattle.json.specs.Json as json
 use Rattle.json.specs.Json.{Parse, parse_map, after_end_array, read_key, items, members, value}
-use Rattle.json.proofs.Grammar.{value-begin_array, value-begin_object, items_end, items_more, members_end, members_more, read_key-shorter}
+use Rattle.json.proofs.Grammar.{value-begin_array, value-begin_object, items_end, items_more, members_end, members_more}
+use Rattle.json.proofs.Grammar.{read_key-shorter}
 use Rattle.serde_json.specs.Data.{Data, array, object, no_items, item, Members, no_members, put}
 use Rattle.serde_json.specs.Read.{of_json, of_items, of_members, converted}
 use Rattle.bson.specs.Straight.{MembersAre}
@@ -15,9 +17,12 @@ if_ok (Ok x) h f = f x h
 if_ok (Err e) h f = tt
 
 -- what became a part of the tree, beside the tokens that are left
-beside : {B : Type 0} (x : Option B) (r s : List Token) (b : B) → option_map {U = B × List Token} (λ y. (y, r)) x ≡ Some (b, s) → (x ≡ Some b) × (r ≡ s)
+beside : {B : Type 0} (x : Option B) (r s : List Token) (b : B)
+    → option_map {U = B × List Token} (λ y. (y, r)) x ≡ Some (b, s) → (x ≡ Some b) × (r ≡ s)
 beside None r s b e = cc
-beside {B} (Some y) r s b e = let same : (y, r) ≡ (b, s) = same_Some {A = B × List Token} (y, r) (b, s) e in (ap (λ p. Some p.0) same, ap (λ p. p.1) same)
+beside {B} (Some y) r s b e =
+    let same : (y, r) ≡ (b, s) = same_Some {A = B × List Token} (y, r) (b, s) e in
+    (ap (λ p. Some p.0) same, ap (λ p. p.1) same)
 
 -- what became a part of the tree was read
 was_read : {A B : Type 0} (f : A → Option B) (o : Option (A × List Token)) (b : B) (r : List Token)
@@ -26,7 +31,8 @@ was_read f None b r e = cc
 was_read f (Some (a, s)) b r e = let h = beside (f a) s r b e in (a, ap (λ t. Some (a, t)) h.1, h.0)
 
 -- a function of the part, before or after the tokens that are left come to it
-under : {A B : Type 0} (g : A → B) (x : Option A) (r : List Token) → option_map (λ b. (b, r)) (option_map g x) ≡ parse_map g (option_map (λ a. (a, r)) x)
+under : {A B : Type 0} (g : A → B) (x : Option A) (r : List Token)
+    → option_map (λ b. (b, r)) (option_map g x) ≡ parse_map g (option_map (λ a. (a, r)) x)
 under g None r = refl
 under g (Some a) r = refl
 
@@ -47,7 +53,8 @@ array_opened depth ts r is left = ap (λ t. converted of_json (value depth t)) i
     ∙ ap (converted of_json) (value-begin_array depth r left) ∙ array_converted (items (value (depth - 1)) (length r) r)
 
 pub object_opened : (depth : ℕ) (ts r : List Token) → ts ≡ Token.begin_object ∷ r → 0 < depth
-    → converted of_json (value depth ts) ≡ parse_map object (converted (λ ms. of_members ms no_members) (members (value (depth - 1)) (length r) r))
+    → converted of_json (value depth ts)
+    ≡ parse_map object (converted (λ ms. of_members ms no_members) (members (value (depth - 1)) (length r) r))
 object_opened depth ts r is left = ap (λ t. converted of_json (value depth t)) is
     ∙ ap (converted of_json) (value-begin_object depth r left)
     ∙ object_converted (members (value (depth - 1)) (length r) r)
@@ -59,7 +66,8 @@ first_item j d (Some (js, r)) h = rw h (under (item d) (of_items js) r)
 
 first_member : (k : List ℕ) (j : json.Json) (d : Data) (old : Members) (o : Option (json.Members × List Token))
     → of_json j ≡ Some d
-    → converted (λ ms. of_members ms old) (parse_map (json.member k j) o) ≡ converted (λ ms. of_members ms (put k d old)) o
+    → converted (λ ms. of_members ms old) (parse_map (json.member k j) o)
+    ≡ converted (λ ms. of_members ms (put k d old)) o
 first_member k j d old None h = refl
 first_member k j d old (Some (js, r)) h = rw h refl
 
@@ -79,10 +87,12 @@ module _ (p : Parse json.Json) (n : ℕ) where
   -- one more member, and the end of the object
   pub one_member : (old : Members) (k : List ℕ) (ts s r : List Token) (d : Data) → 0 < n
       → read_key ts ≡ Some (Some k, s) → converted of_json (p s) ≡ Some (d, r)
-      → converted (λ ms. of_members ms old) (members p n ts) ≡ converted (λ ms. of_members ms (put k d old)) (members p (n - 1) r)
+      → converted (λ ms. of_members ms old) (members p n ts)
+      ≡ converted (λ ms. of_members ms (put k d old)) (members p (n - 1) r)
   one_member old k ts s r d left key e =
       let j = was_read of_json (p s) d r e in
-      ap (converted (λ ms. of_members ms old)) (members_more p n k ts s r j.0 left key j.1) ∙ first_member k j.0 d old _ j.2
+      ap (converted (λ ms. of_members ms old)) (members_more p n k ts s r j.0 left key j.1)
+      ∙ first_member k j.0 d old _ j.2
 
   pub last_member : (old : Members) (ts r : List Token) → length ts ≤ n → read_key ts ≡ Some (None, r)
       → converted (λ ms. of_members ms old) (members p n ts) ≡ Some (old, r)
@@ -94,17 +104,9 @@ pub more_members : (depth : ℕ) (k : List ℕ) (ts s r rest : List Token) (d : 
     → MembersAre depth (put k d old) r new rest → MembersAre depth old ts new rest
 more_members depth k ts s r rest d old new named held less more =
     let first = read_key-shorter ts (Some k) s named in
-    λ n enough. one_member (value depth) n old k ts s r d (omega (arith, enough, first)) named held ∙ more (n - 1) (omega (arith, enough, first, less))
+    λ n enough. one_member (value depth) n old k ts s r d (omega (arith, enough, first)) named held
+    ∙ more (n - 1) (omega (arith, enough, first, less))
 
 pub no_more_members : (depth : ℕ) (ts rest : List Token) (old : Members) → read_key ts ≡ Some (None, rest)
     → MembersAre depth old ts old rest
 no_more_members depth ts rest old ended = λ n enough. last_member (value depth) n old ts rest enough ended
-
--- what was read, under two functions in turn, and under none
-pub fused : {A B C : Type 0} (f : B → C) (g : A → B) (o : Option (A × List Token)) → parse_map f (parse_map g o) ≡ parse_map (λ a. f (g a)) o
-fused f g None = refl
-fused f g (Some p) = refl
-
-pub as_it_is : {A : Type 0} (o : Option (A × List Token)) → o ≡ parse_map (λ a. a) o
-as_it_is None = refl
-as_it_is (Some p) = refl

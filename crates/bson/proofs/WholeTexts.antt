@@ -10,8 +10,10 @@ use Rattle.bson_model.specs.Writing.{writes}
 use Rattle.bson_model.proofs.Offered.{has_text, tree_is, writable_from, writable_is}
 use Rattle.bson.specs.Texts.{GivesText, IsTextIn}
 
-pub text_is : (f : Form) (v : Value) (r : Result (String Global) WriteError) → GivesText r (writes f v) → OnOk r (InRange v) → IfOk r (λ s. IsTextIn f v (string_bytes s))
-text_is f v (Ok s) g r = record { tree = g.0; is_tree = tree_is f v g.0 g.1 r; reads_again = λ p. has_text f v g.0 g.1 p r; compact = g.2 }
+pub text_is : (f : Form) (v : Value) (r : Result (String Global) WriteError) → GivesText r (writes f v)
+    → OnOk r (InRange v) → IfOk r (λ s. IsTextIn f v (string_bytes s))
+text_is f v (Ok s) g r =
+    record { tree = g.0; is_tree = tree_is f v g.0 g.1 r; reads_again = λ p. has_text f v g.0 g.1 p r; compact = g.2 }
 text_is f v (Err e) g r = tt
 
 pub text_writable : (f : Form) (v : Value) (r : Result (String Global) WriteError) → GivesText r (writes f v)

@@ -23,7 +23,8 @@ pub alone : (depth : ℕ) (k : List ℕ) (ts s rest : List Token) (d : Data) (v 
     → scalar_value (single_at (wrapper_of k) d) ≡ Ok v → WrapperMeans depth k ts v rest
 alone depth k ts s rest d v held less ended h = (
   member k d no_members,
-  λ before named. more_members depth k before ts s rest d no_members (member k d no_members) named held less (no_more_members depth s rest (member k d no_members) ended),
+  λ before named. more_members depth k before ts s rest d no_members (member k d no_members) named held less
+      (no_more_members depth s rest (member k d no_members) ended),
   lone_read k d v (wrapper_there (wrapper_of k) d v h) h,
 )
 
@@ -40,10 +41,13 @@ with_scope depth k l ts s us rest d v held less named c =
     let ws = c.3 in
     let one = put k d no_members in
     let both = put l e one in
-    let h : code_at (codes "$code") d (codes "$scope") (reads_scope e) ≡ Ok v = subst (λ x. code_at x d (codes "$scope") (reads_scope e) ≡ Ok v) c.0 (subst (λ y. code_at k d y (reads_scope e) ≡ Ok v) c.1 c.7) in (
+    let h : code_at (codes "$code") d (codes "$scope") (reads_scope e) ≡ Ok v =
+    subst (λ x. code_at x d (codes "$scope") (reads_scope e) ≡ Ok v) c.0
+    (subst (λ y. code_at k d y (reads_scope e) ≡ Ok v) c.1 c.7) in (
       both,
       λ before first. more_members depth k before ts s rest d no_members both first held less
           (more_members depth l s us ws rest e one both named c.4 c.5 (no_more_members depth ws rest both c.6)),
       subst (λ x. reads (object (put l e (put x d no_members))) ≡ Ok v) (sym c.0)
-          (subst (λ y. reads (object (put y e (put (codes "$code") d no_members))) ≡ Ok v) (sym c.1) (two_read d e v h)),
+          (subst (λ y. reads (object (put y e (put (codes "$code") d no_members))) ≡ Ok v) (sym c.1)
+          (two_read d e v h)),
     )

@@ -108,12 +108,11 @@ fn same_lists(a: &Vec<Bson>, b: &Vec<Bson>) -> bool
     if a.len() != b.len() {
         return false;
     }
-    for i in 0..a.len() {
-        if !same_values(&a[i], &b[i]) {
-            return false;
-        }
+    let mut at = 0;
+    'items: while at < a.len() && same_values(&a[at], &b[at]) {
+        at += 1;
     }
-    true
+    at == a.len()
 }
 
 #[cycle(same)]

@@ -1,26 +1,21 @@
 -- Pairs whose keys ascend: they stay so, and where a key lies among them.
-use Rattle.std.proofs.Common.{◌≡◌, ℕ, zero, suc, ◌+◌, ◌<◌, ◌≤◌, Bool, true, false, List, [], ◌∷◌, ◌++◌, length, take, remove, Option, Some, None, slice_get, option_map, refl, sym, ap, ◌∙◌, true≢false, arith}
+use Rattle.std.proofs.Common.{◌≡◌, ℕ, zero, suc, ◌+◌, ◌<◌, ◌≤◌, Bool, true, false, List, [], ◌∷◌, ◌++◌, length, take}
+use Rattle.std.proofs.Common.{remove, Option, Some, None, slice_get, option_map, refl, sym, ap, ◌∙◌, true≢false, arith}
 use Rattle.std.specs.List.{AllByRecursion}
 use Rattle.std.specs.List.Sorted.{IsStrictlySortedBy}
 use Rattle.std.specs.Ordering.{is_lt}
 use Rattle.std.specs.Cmp.{tied_itself}
 use Rattle.std.specs.FinMap.{find}
-use Rattle.std.specs.declared.cmp.Ordering.{Ordering}
-use Rattle.std.specs.declared.cmp.Ordering.TheVariants.{Less, Equal, Greater}
+use Rattle.std.specs.declared.cmp.Ordering.TheVariants.{Less}
 use Rattle.std.proofs.lemmas.Option.{slice_get-map}
 use Rattle.bson_store.specs.Ascending.{NoneAbove, AllAbove, IsFirstAbove}
 use Rattle.bson_store.specs.Order.{key_cmp, IsLeast}
 use Rattle.bson_store.specs.Pairs.{keys, position_of, HasDistinctKeys}
 use Rattle.bson_store.specs.Small.{KeysAscend}
 use Rattle.bson_store.proofs.Found.{key-place}
-use Rattle.bson_store.proofs.Least.{key_total}
+use Rattle.bson_store.proofs.Least.{key_total, less_of}
 use Rattle.bson_store.proofs.NextPlace.{lacks, found}
 use Rattle.bson_store.proofs.Placed.{all-push, all-remove, place-at}
-
-pub less_of : (r : Ordering) → is_lt r ≡ true → r ≡ Less
-less_of Less e = refl
-less_of Equal e = cc
-less_of Greater e = cc
 
 -- a key is not below itself
 not_below_itself : (k : List ℕ) → is_lt (key_cmp k k) ≡ false
@@ -64,11 +59,13 @@ module _ {V : Type 0} where
       → slice_get (keys ps) n ≡ Some l → key_cmp l k ≡ Less → KeysAscend (ps ++ (k, v) ∷ [])
   unfolding IsStrictlySortedBy
   ascend-push [] n l k v up len e below = cc
-  ascend-push (p ∷ []) zero l k v up len e below = let same : p.0 ≡ l = cc in ((ap (λ x. key_cmp x k) same ∙ below, tt), (tt, tt))
+  ascend-push (p ∷ []) zero l k v up len e below =
+      let same : p.0 ≡ l = cc in ((ap (λ x. key_cmp x k) same ∙ below, tt), (tt, tt))
   ascend-push (p ∷ []) (suc n) l k v up len e below = cc
   ascend-push (p ∷ q ∷ ps) zero l k v up len e below = absurd (omega (arith, len))
   ascend-push (p ∷ q ∷ ps) (suc n) l k v up len e below = (
-    all-push (λ y. key_cmp p.0 y ≡ Less) (q ∷ ps) k v up.0 (key_total.trans p.0 l k (below-at p.0 (q ∷ ps) n l up.0 e) below),
+    all-push (λ y. key_cmp p.0 y ≡ Less) (q ∷ ps) k v up.0
+        (key_total.trans p.0 l k (below-at p.0 (q ∷ ps) n l up.0 e) below),
     ascend-push (q ∷ ps) n l k v up.1 (omega (arith, len)) e below,
   )
 
@@ -97,7 +94,8 @@ module _ {V : Type 0} where
   unfolding IsStrictlySortedBy
   order-at [] i j k l up less e f = cc
   order-at (p ∷ ps) i zero k l up less e f = absurd (omega (arith, less))
-  order-at (p ∷ ps) zero (suc j) k l up less e f = let same : p.0 ≡ k = cc in ap (λ x. key_cmp x l) (sym same) ∙ below-at p.0 ps j l up.0 f
+  order-at (p ∷ ps) zero (suc j) k l up less e f =
+      let same : p.0 ≡ k = cc in ap (λ x. key_cmp x l) (sym same) ∙ below-at p.0 ps j l up.0 f
   order-at (p ∷ ps) (suc i) (suc j) k l up less e f = order-at ps i j k l up.1 (omega (arith, less)) e f
 
   pub key-of : (ps : List (List ℕ × V)) (i : ℕ) (p : List ℕ × V) → slice_get ps i ≡ Some p
@@ -110,10 +108,12 @@ module _ {V : Type 0} where
       → is_lt (key_cmp last l) ≡ true
   unfolding IsStrictlySortedBy
   above-at last [] m j k l up le e f a = cc
-  above-at last (p ∷ ps) zero zero k l up le e f a = let one : k ≡ l = cc in ap (λ x. is_lt (key_cmp last x)) (sym one) ∙ a
+  above-at last (p ∷ ps) zero zero k l up le e f a =
+      let one : k ≡ l = cc in ap (λ x. is_lt (key_cmp last x)) (sym one) ∙ a
   above-at last (p ∷ ps) zero (suc j) k l up le e f a =
       let same : p.0 ≡ k = cc in
-      ap is_lt (key_total.trans last k l (less_of (key_cmp last k) a) (ap (λ x. key_cmp x l) (sym same) ∙ below-at p.0 ps j l up.0 f))
+      ap is_lt (key_total.trans last k l (less_of (key_cmp last k) a)
+      (ap (λ x. key_cmp x l) (sym same) ∙ below-at p.0 ps j l up.0 f))
   above-at last (p ∷ ps) (suc m) zero k l up le e f a = absurd (omega (arith, le))
   above-at last (p ∷ ps) (suc m) (suc j) k l up le e f a = above-at last ps m j k l up.1 (omega (arith, le)) e f a
 
@@ -124,7 +124,9 @@ module _ {V : Type 0} where
 
   pub none-above-to : (last : List ℕ) (ps : List (List ℕ × V)) (m : ℕ) (k : List ℕ) → KeysAscend ps
       → slice_get (keys ps) m ≡ Some k → is_lt (key_cmp last k) ≡ false → NoneAbove (Some last) ps (m + 1)
-  none-above-to last ps m k up e a = λ j l less f. by_test (is_lt (key_cmp last l)) (λ t. true≢false (sym (above-at last ps j m l k up (omega (arith, less)) f e t) ∙ a))
+  none-above-to last ps m k up e a =
+      λ j l less f. by_test (is_lt (key_cmp last l))
+      (λ t. true≢false (sym (above-at last ps j m l k up (omega (arith, less)) f e t) ∙ a))
 
   -- a key that is not above the key at a place before it is that key
   same-at : (ps : List (List ℕ × V)) (j n : ℕ) (k l : List ℕ) → KeysAscend ps → j ≤ n → slice_get (keys ps) j ≡ Some k
@@ -168,7 +170,8 @@ module _ {V : Type 0} where
         λ q a low. lacks q ps (by_option (λ r. r ≡ None) (position_of q ps) (λ f. refl)
             (λ j f. absurd (split j i
             (λ less. true≢false (sym a ∙ first.1 j q less (key-place q ps j f)))
-            (λ le. true≢false (sym (above-at q ps i j e.0 q up le (key-of ps i e there) (key-place q ps j f) (ap is_lt low)) ∙ not_below_itself q))))),
+            (λ le. true≢false (sym (above-at q ps i j e.0 q up le (key-of ps i e there) (key-place q ps j f)
+            (ap is_lt low)) ∙ not_below_itself q))))),
       ))
     where
       nothing_from : (ps : List (List ℕ × V)) (i j : ℕ) → slice_get ps i ≡ None → i ≤ j → (q : List ℕ)

@@ -1,5 +1,7 @@
 -- The least key above another, from a part of the map.
-use Rattle.std.proofs.Common.{◌≡◌, ℕ, suc, ◌<◌, length, Bool, true, false, cond, List, [], ◌∷◌, String, Global, Option, Some, None, IsSome, IfSome, option_map, option_and_then, slice_get, string_bytes, refl, sym, ap, subst, ◌∙◌, true≢false, Bor, rules}
+use Rattle.std.proofs.Common.{◌≡◌, ℕ, suc, ◌<◌, length, Bool, true, false, cond, List, [], ◌∷◌, String, Global, Option}
+use Rattle.std.proofs.Common.{Some, None, IsSome, IfSome, option_map, option_and_then, slice_get, string_bytes, refl}
+use Rattle.std.proofs.Common.{sym, ap, subst, ◌∙◌, true≢false, Bor, rules}
 use Rattle.std.specs.Ordering.{is_lt, is_eq, is_gt, eq_by_cmp, ordering_reverse}
 use Rattle.std.specs.FinMap.{find}
 use Rattle.std.specs.Str.{bytes_eq}
@@ -19,7 +21,7 @@ use Rattle.bson_store.specs.Pairs.{position_of}
 use Rattle.bson_store.specs.Small.{Places, HasPlaces}
 use Rattle.bson_store.proofs.Found.{none_at, place-within}
 use Rattle.bson_store.specs.Next.{IsNext}
-use Rattle.bson_store.proofs.Least.{key_total, same_key}
+use Rattle.bson_store.proofs.Least.{key_total, same_key, less_of}
 
 abbrev Text : Type 0
 Text = String Global
@@ -34,11 +36,6 @@ bytes_of last = option_map (λ s. string_bytes s.now) last
 
 abbrev bound_text : Option (Bor Text) → Bound Text
 bound_text last = bound_map (λ x. x.now) (start_for last)
-
-less_of : (r : Ordering) → is_lt r ≡ true → r ≡ Less
-less_of Less e = refl
-less_of Equal e = cc
-less_of Greater e = cc
 
 equal_of : (r : Ordering) → is_eq r ≡ true → r ≡ Equal
 equal_of Less e = cc
@@ -66,7 +63,9 @@ found_key test (e ∷ es) x h = key_or test e (lookup test es) x (test e.0) refl
 
 -- a key that the map has, as a text of its own
 text_key : (m : Places) (q : List ℕ) (x : ℕ) → get_by_text m q ≡ Some x → (k : Text) × (q ≡ string_bytes k)
-text_key m q x h = let f = found_key (λ k. is_eq (key_cmp q (string_bytes k))) m.entries x h in (f.0, same_key q (string_bytes f.0) (equal_of _ f.1))
+text_key m q x h =
+    let f = found_key (λ k. is_eq (key_cmp q (string_bytes k))) m.entries x h in
+    (f.0, same_key q (string_bytes f.0) (equal_of _ f.1))
 
 some_there : (o : Option ℕ) (x : ℕ) → o ≡ Some x → IsSome o
 some_there None x e = cc
@@ -78,7 +77,10 @@ none_next m last r is empty q a = go (get_by_text m q) refl
   where
     go : (o : Option ℕ) → get_by_text m q ≡ o → get_by_text m q ≡ None
     go None e = e
-    go (Some x) e = let k = text_key m q x e in ap (get_by_text m) k.1 ∙ is.5 empty k.0 (inside last k.0 (subst (λ y. is_above (bytes_of last) y ≡ true) k.1 a), tt)
+    go (Some x) e =
+        let k = text_key m q x e in
+        ap (get_by_text m) k.1 ∙ is.5 empty k.0
+        (inside last k.0 (subst (λ y. is_above (bytes_of last) y ≡ true) k.1 a), tt)
 
 pub some_next : (m : Places) (last : Option (Bor Text)) (e : Text × ℕ) (t : List (Text × ℕ))
     → IsRangeOf string_cmp (bound_text last) Unbounded m (e ∷ t) → IsNext m (bytes_of last) (Some e.1)
@@ -89,11 +91,14 @@ some_next m last e t is = (string_bytes e.0, above last e.0 is.1.0.0, is.1.1, λ
     go q a l None h = h
     go q a l (Some x) h =
         let k = text_key m q x h in
-        let low : key_cmp (string_bytes k.0) (string_bytes e.0) ≡ Less = ap (λ y. key_cmp y (string_bytes e.0)) (sym k.1)
+        let low : key_cmp (string_bytes k.0) (string_bytes e.0) ≡ Less =
+        ap (λ y. key_cmp y (string_bytes e.0)) (sym k.1)
         ∙ l in
-        let high : is_gt (key_cmp (string_bytes e.0) (string_bytes k.0)) ≡ true = ap is_gt (key_total.antisymm (string_bytes e.0) (string_bytes k.0) ∙ ap ordering_reverse low) in
+        let high : is_gt (key_cmp (string_bytes e.0) (string_bytes k.0)) ≡ true =
+        ap is_gt (key_total.antisymm (string_bytes e.0) (string_bytes k.0) ∙ ap ordering_reverse low) in
         let no : is_gt (key_cmp (string_bytes e.0) (string_bytes k.0)) ≡ false =
-        is.2 k.0 (inside last k.0 (subst (λ y. is_above (bytes_of last) y ≡ true) k.1 a), tt) (some_there _ x (ap (get_by_text m) (sym k.1) ∙ h)) in
+        is.2 k.0 (inside last k.0 (subst (λ y. is_above (bytes_of last) y ≡ true) k.1 a), tt)
+        (some_there _ x (ap (get_by_text m) (sym k.1) ∙ h)) in
         absurd (true≢false (sym high ∙ no))
 
 -- ---- in a list whose places the map has
@@ -104,7 +109,8 @@ same_test q k = is_eq-slice_cmp q k
 module _ {V : Type 0} where
   pub lacks : (q : List ℕ) (ps : List (List ℕ × V)) → position_of q ps ≡ None → find key_cmp q ps ≡ None
   lacks q [] e = refl
-  lacks q (p ∷ ps) e = let h = none_at _ _ e in ap (λ b. cond b (Some p.1) (find key_cmp q ps)) (same_test q p.0 ∙ h.0) ∙ lacks q ps h.1
+  lacks q (p ∷ ps) e =
+      let h = none_at _ _ e in ap (λ b. cond b (Some p.1) (find key_cmp q ps)) (same_test q p.0 ∙ h.0) ∙ lacks q ps h.1
 
   found_or : (k : List ℕ) (p : List ℕ × V) (ps : List (List ℕ × V)) (i : ℕ) (b : Bool) (r : Option ℕ)
       → bytes_eq k p.0 ≡ b → position_of k ps ≡ r → cond b (Some 0) (option_map suc r) ≡ Some i
@@ -112,8 +118,11 @@ module _ {V : Type 0} where
       → (v : V) × (slice_get (p ∷ ps) i ≡ Some (k, v)) × (find key_cmp k (p ∷ ps) ≡ Some v)
   found_or k p ps i true r t s e rest =
       let zero_is : i ≡ 0 = cc in
-      let key : p.0 ≡ k = sym ((bytes_eq-Decides k p.0).0 t) in
-      (p.1, rw zero_is (ap (λ x. Some (x, p.1)) key), ap (λ b. cond b (Some p.1) (find key_cmp k ps)) (same_test k p.0 ∙ t))
+      let key : p.0 ≡ k = sym ((bytes_eq-Decides k p.0).0 t) in (
+        p.1,
+        rw zero_is (ap (λ x. Some (x, p.1)) key),
+        ap (λ b. cond b (Some p.1) (find key_cmp k ps)) (same_test k p.0 ∙ t),
+      )
   found_or k p ps i false None t s e rest = cc
   found_or k p ps i false (Some j) t s e rest =
       let f = rest j s in

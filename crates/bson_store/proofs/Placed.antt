@@ -1,5 +1,7 @@
 -- The places of keys, as pairs come and go.
-use Rattle.std.proofs.Common.{◌≡◌, ℕ, zero, suc, ◌+◌, ◌<◌, ◌≤◌, Bool, true, false, cond, List, [], ◌∷◌, ◌++◌, take, remove, option_map, length, length-take-le, get_or, set, Result, Ok, Err, OnOk, Option, None, Some, slice_get, string_bytes, refl, sym, ap, subst, ◌∙◌, true≢false, arith}
+use Rattle.std.proofs.Common.{◌≡◌, ℕ, zero, suc, ◌+◌, ◌<◌, ◌≤◌, Bool, true, false, cond, List, [], ◌∷◌, ◌++◌, take}
+use Rattle.std.proofs.Common.{remove, option_map, length, length-take-le, get_or, set, Result, Ok, Err, OnOk, Option}
+use Rattle.std.proofs.Common.{None, Some, slice_get, string_bytes, refl, sym, ap, subst, ◌∙◌, true≢false, arith}
 use Rattle.std.specs.Cmp.Lexicographic.{nat_list_eq_equiv}
 use lib.ListN.{length-map}
 use Rattle.std.specs.List.{IsDistinct, AllByRecursion}
@@ -40,7 +42,8 @@ first_out false b r e h = ap (λ x. cond x None (option_map suc r)) e
 
 later_out : (c b : Bool) (i : ℕ) (r s : Option ℕ) → (c ≡ true → b ≡ false)
     → cond b None r ≡ option_map (index_before_removal i) s
-    → cond b None (cond c (Some 0) (option_map suc r)) ≡ option_map (index_before_removal (suc i)) (cond c (Some 0) (option_map suc s))
+    → cond b None (cond c (Some 0) (option_map suc r))
+    ≡ option_map (index_before_removal (suc i)) (cond c (Some 0) (option_map suc s))
 later_out true b i r s h e = ap (λ x. cond x None (Some 0)) (h refl)
 later_out false true i r None h e = refl
 later_out false true i r (Some j) h e = cc
@@ -53,7 +56,8 @@ module _ {V : Type 0} where
   place-push [] l v none k = ap (λ b. cond b (Some 0) None) (swapped k l)
   place-push (p ∷ ps) l v none k =
       let h = none_at _ _ none in
-      push_step (bytes_eq l k) (bytes_eq k p.0) (length ps) (position_of k ps) (position_of k (ps ++ (l, v) ∷ [])) (λ m. ap (λ x. bytes_eq x p.0) (sym (same_bytes l k m)) ∙ h.0) (place-push ps l v h.1 k)
+      push_step (bytes_eq l k) (bytes_eq k p.0) (length ps) (position_of k ps) (position_of k (ps ++ (l, v) ∷ []))
+      (λ m. ap (λ x. bytes_eq x p.0) (sym (same_bytes l k m)) ∙ h.0) (place-push ps l v h.1 k)
 
   pub all-push : (P : List ℕ → Type 0) (ps : List (List ℕ × V)) (l : List ℕ) (v : V) → AllByRecursion P (keys ps) → P l
       → AllByRecursion P (keys (ps ++ (l, v) ∷ []))
@@ -64,7 +68,9 @@ module _ {V : Type 0} where
       → HasDistinctKeys (ps ++ (l, v) ∷ [])
   unfolding IsDistinct
   distinct-push [] l v d none = (tt, tt)
-  distinct-push (p ∷ ps) l v d none = let h = none_at _ _ none in (all-push (λ y. bytes_eq p.0 y ≡ false) ps l v d.0 (swapped p.0 l ∙ h.0), distinct-push ps l v d.1 h.1)
+  distinct-push (p ∷ ps) l v d none =
+      let h = none_at _ _ none in
+      (all-push (λ y. bytes_eq p.0 y ≡ false) ps l v d.0 (swapped p.0 l ∙ h.0), distinct-push ps l v d.1 h.1)
 
   -- a pair taken out
   pub all-remove : (P : List ℕ → Type 0) (ps : List (List ℕ × V)) (i : ℕ) → AllByRecursion P (keys ps)
@@ -88,12 +94,14 @@ module _ {V : Type 0} where
 
   pub place-removed : (ps : List (List ℕ × V)) (i : ℕ) (p : List ℕ × V) → HasDistinctKeys ps → slice_get ps i ≡ Some p
       → (k : List ℕ)
-      → cond (bytes_eq p.0 k) None (position_of k ps) ≡ option_map (index_before_removal i) (position_of k (remove ps i))
+      → cond (bytes_eq p.0 k) None (position_of k ps)
+      ≡ option_map (index_before_removal i) (position_of k (remove ps i))
   unfolding IsDistinct
   place-removed [] i p d e k = cc
   place-removed (q ∷ ps) zero p d e k =
       let same : q ≡ p = cc in
-      first_out (bytes_eq k q.0) (bytes_eq p.0 k) (position_of k ps) (ap (λ x. bytes_eq x.0 k) (sym same) ∙ swapped q.0 k)
+      first_out (bytes_eq k q.0) (bytes_eq p.0 k) (position_of k ps)
+      (ap (λ x. bytes_eq x.0 k) (sym same) ∙ swapped q.0 k)
       (λ m. ap (λ x. position_of x ps) (same_bytes k q.0 m) ∙ missed q.0 ps d.0)
   place-removed (q ∷ ps) (suc i) p d e k =
       later_out (bytes_eq k q.0) (bytes_eq p.0 k) i (position_of k ps) (position_of k (remove ps i))
@@ -104,8 +112,12 @@ module _ {V : Type 0} where
       → position_of p.0 ps ≡ Some i
   unfolding IsDistinct
   place-at [] i p d e = cc
-  place-at (q ∷ ps) zero p d e = let same : q ≡ p = cc in ap (λ b. cond b (Some 0) (option_map suc (position_of p.0 ps))) (ap (λ x. bytes_eq p.0 x.0) same ∙ own p.0)
-  place-at (q ∷ ps) (suc i) p d e = ap (λ b. cond b (Some 0) (option_map suc (position_of p.0 ps))) (apart q.0 ps i p d.0 e) ∙ ap (option_map suc) (place-at ps i p d.1 e)
+  place-at (q ∷ ps) zero p d e =
+      let same : q ≡ p = cc in
+      ap (λ b. cond b (Some 0) (option_map suc (position_of p.0 ps))) (ap (λ x. bytes_eq p.0 x.0) same ∙ own p.0)
+  place-at (q ∷ ps) (suc i) p d e =
+      ap (λ b. cond b (Some 0) (option_map suc (position_of p.0 ps))) (apart q.0 ps i p d.0 e)
+      ∙ ap (option_map suc) (place-at ps i p d.1 e)
 
 removal_own : (i : ℕ) → index_before_removal (suc i) i ≡ i
 removal_own zero = refl
@@ -139,7 +151,8 @@ within_all n (Some j) h = ap Some (removal_below n j (h j refl))
 module _ {V : Type 0} where
   pub lower-one : (ps : List (List ℕ × V)) (i : ℕ) (p : List ℕ × V) → HasDistinctKeys ps → slice_get ps i ≡ Some p
       → (k : List ℕ)
-      → cond (bytes_eq p.0 k) (Some i) (option_map (index_before_removal i) (position_of k ps)) ≡ option_map (index_before_removal (suc i)) (position_of k ps)
+      → cond (bytes_eq p.0 k) (Some i) (option_map (index_before_removal i) (position_of k ps))
+      ≡ option_map (index_before_removal (suc i)) (position_of k ps)
   lower-one ps i p d e k = lower_step (bytes_eq p.0 k) i (position_of k ps)
       (λ m. ap (λ x. position_of x ps) (sym (same_bytes p.0 k m)) ∙ place-at ps i p d e)
       (λ f. let same : k ≡ p.0 = same_key ps i k p (key-place k ps i f) e in ap (bytes_eq p.0) same ∙ own p.0)
@@ -180,7 +193,8 @@ module _ {V : Type 0} where
       → position_of k (with_value ps i w) ≡ position_of k ps
   place-with_value [] i w k = refl
   place-with_value (p ∷ ps) zero w k = refl
-  place-with_value (p ∷ ps) (suc i) w k = ap (λ r. cond (bytes_eq k p.0) (Some 0) (option_map suc r)) (place-with_value ps i w k)
+  place-with_value (p ∷ ps) (suc i) w k =
+      ap (λ r. cond (bytes_eq k p.0) (Some 0) (option_map suc r)) (place-with_value ps i w k)
 
   length-with_value : (ps : List (List ℕ × V)) (i : ℕ) (w : V) → length (with_value ps i w) ≡ length ps
   length-with_value [] i w = refl
@@ -206,11 +220,15 @@ module _ {V : Type 0} where
       → stored_pairs (set ps i (record { key = p.key; value = w })) ≡ with_value (stored_pairs ps) i w
   seen-set [] i p w l h = refl
   seen-set (q ∷ ps) zero p w l h = ap (λ x. (string_bytes x.key, w) ∷ stored_pairs ps) h
-  seen-set (q ∷ ps) (suc i) p w l h = ap (λ r. (string_bytes q.key, q.value) ∷ r) (seen-set ps i p w (omega (arith, l)) h)
+  seen-set (q ∷ ps) (suc i) p w l h =
+      ap (λ r. (string_bytes q.key, q.value) ∷ r) (seen-set ps i p w (omega (arith, l)) h)
 
   placed-with : (ps : List (List ℕ × V)) (o : Index) (i : ℕ) (w : V) → IsPlaced ps o → IsPlaced (with_value ps i w) o
-  placed-with ps None i w h = λ more. subst (IsStrictlySortedBy key_cmp) (sym (keys-with_value ps i w)) (h (omega (arith, more, length-with_value ps i w)))
-  placed-with ps (Some m) i w h = (omega (arith, h.0, length-with_value ps i w), λ k. h.1 k ∙ sym (place-with_value ps i w k))
+  placed-with ps None i w h =
+      λ more. subst (IsStrictlySortedBy key_cmp) (sym (keys-with_value ps i w))
+      (h (omega (arith, more, length-with_value ps i w)))
+  placed-with ps (Some m) i w h =
+      (omega (arith, h.0, length-with_value ps i w), λ k. h.1 k ∙ sym (place-with_value ps i w k))
 
   indexed-with : (ps : List (List ℕ × V)) (o : Index) (i : ℕ) (w : V) → IsIndexed ps o → IsIndexed (with_value ps i w) o
   indexed-with ps o i w h = (subst (IsDistinct bytes_eq) (sym (keys-with_value ps i w)) h.0, placed-with ps o i w h.1)
@@ -219,26 +237,33 @@ module _ {V : Type 0} where
   pub written : (ps : List (Pair V)) (qs : List (List ℕ × V)) (i : ℕ) (p : Pair V) (w : V) → stored_pairs ps ≡ qs
       → i < length qs → p ≡ get_or ps i p
       → stored_pairs (set ps i (record { key = p.key; value = w })) ≡ with_value qs i w
-  written ps qs i p w e l h = seen-set ps i p w (omega (arith, l, ap length e, length-seen ps)) h ∙ ap (λ r. with_value r i w) e
+  written ps qs i p w e l h =
+      seen-set ps i p w (omega (arith, l, ap length e, length-seen ps)) h ∙ ap (λ r. with_value r i w) e
 
   pub indexed-written : (ps : List (Pair V)) (qs : List (List ℕ × V)) (o : Index) (i : ℕ) (p : Pair V) (w : V)
       → stored_pairs ps ≡ qs → i < length qs → p ≡ get_or ps i p → IsIndexed (stored_pairs ps) o
       → IsIndexed (stored_pairs (set ps i (record { key = p.key; value = w }))) o
-  indexed-written ps qs o i p w e l h is = subst (λ r. IsIndexed r o) (sym (written ps qs i p w e l h)) (indexed-with qs o i w (subst (λ r. IsIndexed r o) e is))
+  indexed-written ps qs o i p w e l h is =
+      subst (λ r. IsIndexed r o) (sym (written ps qs i p w e l h))
+      (indexed-with qs o i w (subst (λ r. IsIndexed r o) e is))
 
   -- a walk
   pub absent-next : (k : List ℕ) (ps : List (List ℕ × V)) (p : List ℕ × V) → position_of k ps ≡ None
       → bytes_eq k p.0 ≡ false → position_of k (ps ++ p ∷ []) ≡ None
   absent-next k [] p none h = ap (λ b. cond b (Some 0) None) h
-  absent-next k (q ∷ ps) p none h = let both = none_at _ _ none in (λ j. cond (both.0 j) (Some 0) (option_map suc (absent-next k ps p both.1 h j)))
+  absent-next k (q ∷ ps) p none h =
+      let both = none_at _ _ none in (λ j. cond (both.0 j) (Some 0) (option_map suc (absent-next k ps p both.1 h j)))
 
   pub found-first : (k : List ℕ) (ps : List (List ℕ × V)) (i : ℕ) (p : List ℕ × V) → position_of k (take i ps) ≡ None
       → slice_get ps i ≡ Some p → bytes_eq k p.0 ≡ true → position_of k ps ≡ Some i
   found-first k [] i p none e h = cc
-  found-first k (q ∷ ps) zero p none e h = let same : q ≡ p = cc in ap (λ b. cond b (Some 0) (option_map suc (position_of k ps))) (ap (λ x. bytes_eq k x.0) same ∙ h)
+  found-first k (q ∷ ps) zero p none e h =
+      let same : q ≡ p = cc in
+      ap (λ b. cond b (Some 0) (option_map suc (position_of k ps))) (ap (λ x. bytes_eq k x.0) same ∙ h)
   found-first k (q ∷ ps) (suc i) p none e h =
       let both = none_at _ _ none in
-      ap (λ b. cond b (Some 0) (option_map suc (position_of k ps))) both.0 ∙ ap (option_map suc) (found-first k ps i p both.1 e h)
+      ap (λ b. cond b (Some 0) (option_map suc (position_of k ps))) both.0
+      ∙ ap (option_map suc) (found-first k ps i p both.1 e h)
 
   -- one more key in the map
   pub indexed-next : (ps : List (List ℕ × V)) (i : ℕ) (p : List ℕ × V) (f : List ℕ → Option ℕ) → HasDistinctKeys ps
@@ -246,12 +271,15 @@ module _ {V : Type 0} where
       → (k : List ℕ) → update bytes_eq f p.0 (Some i) k ≡ position_of k (take (i + 1) ps)
   indexed-next ps i p f d l e h k =
       let n : length (take i ps) ≡ i = length-take-le i ps (omega (arith, l)) in
-      (λ j. cond (bytes_eq p.0 k) (Some (sym n j)) (h k j)) ∙ sym (place-push (take i ps) p.0 p.1 (absent-before ps i p d e) k) ∙ ap (position_of k) (sym (take-next ps i p e))
+      (λ j. cond (bytes_eq p.0 k) (Some (sym n j)) (h k j))
+      ∙ sym (place-push (take i ps) p.0 p.1 (absent-before ps i p d e) k)
+      ∙ ap (position_of k) (sym (take-next ps i p e))
 
   pub indexed-last : (ps : List (List ℕ × V)) (l : List ℕ) (v : V) (n : ℕ) (f g : List ℕ → Option ℕ)
       → position_of l ps ≡ None → n ≡ length ps → ((k : List ℕ) → f k ≡ position_of k ps)
       → ((k : List ℕ) → g k ≡ update bytes_eq f l (Some n) k) → (k : List ℕ) → g k ≡ position_of k (ps ++ (l, v) ∷ [])
-  indexed-last ps l v n f g none e h u k = u k ∙ (λ j. cond (bytes_eq l k) (Some (e j)) (h k j)) ∙ sym (place-push ps l v none k)
+  indexed-last ps l v n f g none e h u k =
+      u k ∙ (λ j. cond (bytes_eq l k) (Some (e j)) (h k j)) ∙ sym (place-push ps l v none k)
 
 pub on_ok : {A E : Type 0} (r : Result A E) {P Q : Type 0} → (P → Q) → OnOk r P → OnOk r Q
 on_ok (Ok x) f p = f p

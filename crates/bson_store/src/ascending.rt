@@ -79,12 +79,11 @@ fn is_above_first<V>(pairs: &Vec<Pair<V>>, count: usize, key: &str) -> bool
 fn ascends<V>(pairs: &Vec<Pair<V>>) -> bool
     ensures { IsTrue result → KeysAscend (stored_pairs pairs.now.items) }
 {
-    for i in 0..pairs.len() {
-        if !is_above_first(pairs, i, pairs[i].key.as_str()) {
-            return false;
-        }
+    let mut count = 0;
+    'pairs: while count < pairs.len() && is_above_first(pairs, count, pairs[count].key.as_str()) {
+        count += 1;
     }
-    true
+    count == pairs.len()
 }
 
 // Whether there need be no map with one more key behind the pairs: they are few, or their keys

@@ -1,8 +1,8 @@
 //! The store that indexes its keys only where there are many and they do not ascend.
 ghost use Rattle.std.specs.Prelude.{◌≡◌, ◌<◌, [], length, slice_get, option_map, option_and_then};
-ghost use Rattle.std.specs.Prelude.{string_bytes, IfOk, IfSome};
+ghost use Rattle.std.specs.Prelude.{string_bytes, refl, IfOk, IfSome};
 ghost use Rattle.bson_store.specs.Order.{IsLeast};
-ghost use Rattle.bson_store.specs.Pairs.{HasDistinctKeys};
+ghost use Rattle.bson_store.specs.Pairs.{HasDistinctKeys, with_value};
 
 mod into_iter;
 
@@ -76,10 +76,15 @@ impl<V> SmallPairs<V> {
         }
     }
 
+    /// The allocator that the store takes its memory from.
+    pub fn allocator(&self) -> Global {
+        *self.pairs.allocator()
+    }
+}
+
+impl<V: Drop> SmallPairs<V> {
     /// A store of no pairs, with room for so many. A map is made by the push that needs it.
     pub fn with_capacity(alloc: Global, pairs: usize) -> Result<SmallPairs<V>, AllocError>
-    where
-        V: Drop,
         ensures { IfOk result (λ store. store ≡ []) }
     {
         Ok(SmallPairs {
@@ -88,10 +93,8 @@ impl<V> SmallPairs<V> {
         })
     }
 
-    /// The pairs by value, in their order.
+    /// The pairs by value, in their order. The map is dropped.
     pub fn into_pairs(self) -> IntoIter<V>
-    where
-        V: Drop,
         ensures pairs { result ≡ self }
         ensures distinct { HasDistinctKeys self }
     {
@@ -106,8 +109,6 @@ impl<V> SmallPairs<V> {
     /// Called again with the key that it found, it walks all pairs by ascending key. Among n pairs,
     /// more than eight, a call takes in the order of log n comparisons of keys; it takes no memory.
     pub fn next_above(&self, last: Option<&String>) -> Option<usize>
-    where
-        V: Drop,
         ensures in_bounds { IfSome result (λ i. i < length self.now) }
         ensures least { IsLeast (option_map (λ s. string_bytes s.now) last.entry) self.now
             (option_and_then (slice_get self.now) result) }
@@ -117,11 +118,6 @@ impl<V> SmallPairs<V> {
             None if self.pairs.len() > FEW => next_ascending(&self.pairs, last),
             None => next_by_walk(self, last),
         }
-    }
-
-    /// The allocator that the store takes its memory from.
-    pub fn allocator(&self) -> Global {
-        *self.pairs.allocator()
     }
 }
 
@@ -138,14 +134,9 @@ fn next_by_walk<V: Drop>(store: &SmallPairs<V>, last: Option<&String>) -> Option
 }
 
 impl<V: Drop> PairStore<V> for SmallPairs<V> {
-    ghost use Rattle.std.proofs.Common.{refl};
-    ghost use Rattle.bson_store.specs.Pairs.{with_value};
-
     ghost pairs = { λ s. s };
 
     ghost with_value_at = { with_value };
-
-    ghost writes = { λ s i w. refl };
 
     fn len(&self) -> usize {
         self.pairs.len()
@@ -164,10 +155,6 @@ impl<V: Drop> PairStore<V> for SmallPairs<V> {
 
     fn value_at(&self, at: usize) -> &V {
         &self.pairs[at].value
-    }
-
-    fn value_at_mut(&mut self, at: usize) -> &mut V {
-        self.pair_at_mut(at).1
     }
 
     fn pair_at_mut(&mut self, at: usize) -> (&String, &mut V) {
@@ -200,4 +187,6 @@ impl<V: Drop> PairStore<V> for SmallPairs<V> {
         self.pairs.clear();
         self.places = None;
     }
+
+    ghost writes = { λ s i w. refl };
 }

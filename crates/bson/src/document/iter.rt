@@ -73,12 +73,11 @@ impl<'a> Iterator for Iter<'a> {
 
     fn next(&mut self) -> Option<(&'a String, &'a Bson)> {
         let at = self.at;
-        if at < self.pairs.len() {
-            self.at = at + 1;
-            Some((self.pairs.key_at(at), self.pairs.value_at(at)))
-        } else {
-            None
+        if at >= self.pairs.len() {
+            return None;
         }
+        self.at = at + 1;
+        Some((self.pairs.key_at(at), self.pairs.value_at(at)))
     }
 }
 

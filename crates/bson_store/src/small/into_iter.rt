@@ -1,6 +1,9 @@
 //! The pairs of a small store, by value.
-ghost use Rattle.std.specs.Prelude.{◌≡◌};
+ghost use Rattle.std.specs.Prelude.{◌≡◌, ℕ, List, length, string_bytes};
+ghost use Rattle.std.specs.Iterator.{at_most};
+ghost use Rattle.std.specs.Map.Iter.{TakesFirst};
 ghost use Rattle.std.specs.Vec.Iter.{into_iter_items};
+ghost use Rattle.bson_store.specs.Pairs.{pairs_code};
 ghost use Rattle.bson_store.specs.Small.{stored_pairs};
 
 use crate::small::Pair;
@@ -23,11 +26,6 @@ pub struct IntoIter<V> {
 
 // The pairs that are still to come.
 impl<V> Model for IntoIter<V> {
-    ghost use Rattle.std.specs.Prelude.{ℕ, List};
-    ghost use Rattle.std.specs.Vec.Iter.{into_iter_items};
-    ghost use Rattle.bson_store.specs.Pairs.{pairs_code};
-    ghost use Rattle.bson_store.specs.Small.{stored_pairs};
-
     ghost Value = { List (List ℕ × V) };
 
     ghost coded = { pairs_code V.code };
@@ -45,10 +43,6 @@ impl<V> IntoIter<V> {
 
 impl<V: Drop> Iterator for IntoIter<V> {
     type Item = (String, V);
-
-    ghost use Rattle.std.specs.Prelude.{length, string_bytes};
-    ghost use Rattle.std.specs.Iterator.{at_most};
-    ghost use Rattle.std.specs.Map.Iter.{TakesFirst};
 
     ghost next_gives = { TakesFirst (λ p. (string_bytes p.0, p.1)) };
 

@@ -1,7 +1,6 @@
-use Rattle.std.proofs.Common.{string_bytes, option_map, ◌≡◌, ◌∙◌, sym, ap, length, drop, fold, arith, Some, refl, List}
+use Rattle.std.proofs.Common.{string_bytes, option_map, ◌≡◌, ◌∙◌, sym, ap, length, drop, fold, arith, refl, List}
 use Rattle.std.proofs.Common.{[], ◌∷◌, ℕ, zero, suc, ◌≤◌}
-use Rattle.std.specs.FinMap.Entries.{where_key}
-use Rattle.bson_store.specs.Order.{in_order, key_cmp, is_above}
+use Rattle.bson_store.specs.Order.{in_order}
 use Rattle.bson_store.proofs.Offered.{least_none, pair_of, next_pair, where_key-all}
 use Rattle.bson_model.specs.Feed.{feed as words_of}
 use Rattle.bson_model.specs.Value.{document, array}

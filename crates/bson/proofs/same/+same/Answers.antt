@@ -1,4 +1,5 @@
 use Rattle.std.proofs.Common.{◌≡◌, ◌<◌, Some, None, length, string_bytes, sym, ap, ◌∙◌, arith, below_more}
+use Rattle.std.proofs.lemmas.Bool.{eq-eqb, ne_eqb}
 use Rattle.std.proofs.lemmas.Option.{slice_get-get_or}
 use Rattle.bson_store.specs.Pairs as store
 use Rattle.bson_store.proofs.Offered.{place-within, get-place, get-absent}
@@ -8,6 +9,7 @@ use Rattle.bson.proofs.Places.{IsSameAt-from, not_same, lengths_differ, lacking,
 use Rattle.bson.proofs.Places.{pair_of_key, get-bson_view, items_differ, items_differ_at, items_all}
 use Rattle.bson.proofs.Sizes.{value_smaller}
 use Rattle.bson.proofs.same.+same.Goals as goal
+use Rattle.bson.proofs.same.+same.Goals.{same_lists-then-items-test+else-same_values, same_lists-else-items-test}
 
 pub same_documents-returns-then-len : goal.same_documents-returns-then-len
 same_documents-returns-then-len t c =
@@ -71,21 +73,23 @@ same_lists-returns-then-len t c =
     λ e. c.if-len.true (omega (arith, e, c.args.a.now.ok.0, c.args.b.now.ok.0)) in
     not_same _ (items_differ c.args.a.now.items c.args.b.now.items n)
 
-pub same_lists-returns-then-not-same_values : goal.same_lists-returns-then-not-same_values
-same_lists-returns-then-not-same_values t c =
-    let xs = c.args.a.now.items in
-    let ys = c.args.b.now.items in
-    let v = c.index.result.now in
-    let w = c.index-in-loop-i.result.now in
-    let in_xs : c.loop-i.i < length xs = omega (arith, c.args.a.now.ok.0) in
-    let in_ys : c.loop-i.i < length ys = omega (arith, c.args.a.now.ok.0, c.args.b.now.ok.0) in
-    not_same _ (items_differ_at xs ys c.loop-i.i v w
-    (slice_get-get_or xs c.loop-i.i v in_xs ∙ ap Some (sym c.index.ensures))
-    (slice_get-get_or ys c.loop-i.i w in_ys ∙ ap Some (sym c.index-in-loop-i.ensures))
-    (sym c.if-not-same_values.ensures))
-
 pub same_lists-returns : goal.same_lists-returns
 same_lists-returns t c =
-    let n : length c.args.a.now.items ≡ length c.args.b.now.items =
-    omega (arith, c.args.a.now.ok.0, c.args.b.now.ok.0) in
-    sym (items_all c.args.a.now.items c.args.b.now.items n (λ i d l. c.loop-i.invariant i d (omega (arith, l))))
+    let xs = c.args.a.now.items in
+    let ys = c.args.b.now.items in
+    let at = c.items.at in
+    let n : length xs ≡ length ys = omega (arith, c.args.a.now.ok.0, c.args.b.now.ok.0) in
+    elim c.items-test.branch [
+      | same_lists-then-items-test+else-same_values w ↦
+          let in_xs : at < length xs = omega (arith, w.items-test.true, c.args.a.now.ok.0) in
+          let v = w.index.result.now in
+          let u = w.index-in-items.result.now in
+          ne_eqb at _ (λ e. omega (arith, e, w.items-test.true))
+          ∙ not_same _ (items_differ_at xs ys at v u
+          (slice_get-get_or xs at v in_xs ∙ ap Some (sym w.index.ensures))
+          (slice_get-get_or ys at u (omega (arith, in_xs, n)) ∙ ap Some (sym w.index-in-items.ensures))
+          (sym w.if-same_values.ensures))
+      | same_lists-else-items-test w ↦
+          eq-eqb at _ (omega (arith, w.items-test.false, c.items.invariant.0))
+          ∙ sym (items_all xs ys n (λ i d l. c.items.invariant.1 i d (omega (arith, l, w.items-test.false))))
+    ]

@@ -88,15 +88,15 @@ fn read_member(
     alloc: Global,
     reader: &mut Reader<'_>,
     depth: usize,
-    name: &str,
+    key: &str,
     mut found: Map<String, Value>,
 ) -> Result<Map<String, Value>, Unread>
     ensures ok { IfOk result
-        (λ now. IsEntered (converted of_json (value depth reader.old)) name.now (members_view found.entries)
+        (λ now. IsEntered (converted of_json (value depth reader.old)) key.now (members_view found.entries)
         (members_view now.entries) reader.new) }
     ensures shorter { OnOk result (length reader.new < length reader.old) }
 {
-    let key = String::from_str(alloc, name)?;
+    let key = String::from_str(alloc, key)?;
     let member = read_tree(alloc, reader, depth)?;
     drop(found.insert(key, member)?);
     Ok(found)

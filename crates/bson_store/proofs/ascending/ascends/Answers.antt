@@ -5,14 +5,19 @@ use Rattle.bson_store.proofs.Distinct.{take-next}
 use Rattle.bson_store.proofs.Placed.{there, length-seen}
 use Rattle.bson_store.proofs.ascending.ascends.Goals as goal
 
-pub loop-i-init : goal.loop-i-init
-loop-i-init g c = ascend_none
+pub pairs-init : goal.pairs-init
+pairs-init g c = (omega arith, ascend_none)
 
-pub loop-i-preserved : goal.loop-i-preserved
-loop-i-preserved g c =
-    let ps = stored_pairs c.args.pairs.now.items in
-    let i = c.loop-i.i in
+pub pairs-preserved : goal.pairs-preserved
+pairs-preserved g c =
+    let xs = c.args.pairs.now.items in
+    let ps = stored_pairs xs in
+    let count = c.pairs.count in
     let p = c.index.result.now in
-    let within : i < length ps = omega (arith, c.loop-i-test.true, c.len-i-end.ensures, c.args.pairs.now.ok.0, length-seen c.args.pairs.now.items) in
-    let next = take-next ps i (string_bytes p.key, p.value) (there c.args.pairs.now.items ps i p refl within c.index.ensures) in
-    subst KeysAscend (ap (λ k. take i ps ++ (k, p.value) ∷ []) c.as_str.ensures.value ∙ sym next) (c.is_above_first.ensures c.if-not-is_above_first.false p.value)
+    let within : count < length ps =
+    omega (arith, c.pairs-test.true, c.len.ensures, c.args.pairs.now.ok.0, length-seen xs) in
+    let next = take-next ps count (string_bytes p.key, p.value) (there xs ps count p refl within c.index.ensures) in (
+      omega (arith, within, length-seen xs),
+      subst KeysAscend (ap (λ k. take count ps ++ (k, p.value) ∷ []) c.as_str.ensures.value ∙ sym next)
+          (c.is_above_first.ensures c.if-is_above_first.true p.value),
+    )

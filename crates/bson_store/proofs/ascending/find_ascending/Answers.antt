@@ -1,4 +1,5 @@
-use Rattle.std.proofs.Common.{◌≡◌, ◌+◌, ◌-◌, ◌<◌, Some, length, string_bytes, refl, sym, ap, subst, ◌∙◌, true≢false, arith}
+use Rattle.std.proofs.Common.{◌≡◌, ◌+◌, ◌-◌, ◌<◌, Some, length, string_bytes, refl, sym, ap, subst, ◌∙◌, true≢false}
+use Rattle.std.proofs.Common.{arith}
 use Rattle.std.specs.Str.{bytes_eq}
 use Rattle.bson_store.specs.Ascending.{AllAbove, IsFirstAbove}
 use Rattle.bson_store.specs.Pairs.{position_of}
@@ -10,7 +11,8 @@ use Rattle.bson_store.proofs.ascending.find_ascending.Goals as goal
 pub returns-then-above-eq0 : goal.returns-then-above-eq0
 returns-then-above-eq0 g c =
     let ps = stored_pairs c.args.pairs.now.items in
-    sym (absent-first c.args.key.now ps (subst (AllAbove (Some c.args.key.now) ps) c.if-above-eq0.true c.first_above-above.ensures.2))
+    sym (absent-first c.args.key.now ps
+    (subst (AllAbove (Some c.args.key.now) ps) c.if-above-eq0.true c.first_above-above.ensures.2))
 
 pub returns-then-eq : goal.returns-then-eq
 returns-then-eq g c =
@@ -19,8 +21,11 @@ returns-then-eq g c =
     let p = c.index.result.now in
     let within : n < length ps = omega (arith, c.if-above-eq0.false, c.first_above-above.ensures.0) in
     let same : c.args.key.now ≡ string_bytes p.key =
-    same_bytes c.args.key.now (string_bytes p.key) (ap (bytes_eq c.args.key.now) (sym c.as_str.ensures.value) ∙ sym c.eq.ensures ∙ c.if-eq.true) in
-    sym (ap (λ k. position_of k ps) same ∙ place-at ps n (string_bytes p.key, p.value) c.requires.distinct (there c.args.pairs.now.items ps n p refl within c.index.ensures))
+    same_bytes c.args.key.now (string_bytes p.key)
+    (ap (bytes_eq c.args.key.now) (sym c.as_str.ensures.value) ∙ sym c.eq.ensures ∙ c.if-eq.true) in
+    sym (ap (λ k. position_of k ps) same
+    ∙ place-at ps n (string_bytes p.key, p.value) c.requires.distinct
+    (there c.args.pairs.now.items ps n p refl within c.index.ensures))
 
 pub returns : goal.returns
 returns g c =
@@ -30,6 +35,8 @@ returns g c =
     let p = c.index.result.now in
     let next : c.first_above-above.result ≡ n + 1 = omega (arith, c.if-above-eq0.false) in
     let within : n < length ps = omega (arith, next, c.first_above-above.ensures.0) in
-    sym (absent-behind k ps n (string_bytes p.key) c.requires.ascending (subst (IsFirstAbove (Some k) ps) next c.first_above-above.ensures)
+    sym (absent-behind k ps n (string_bytes p.key) c.requires.ascending
+    (subst (IsFirstAbove (Some k) ps) next c.first_above-above.ensures)
     (key-of ps n (string_bytes p.key, p.value) (there c.args.pairs.now.items ps n p refl within c.index.ensures))
-    (λ same. true≢false (sym (ap (bytes_eq k) (c.as_str.ensures.value ∙ sym same) ∙ own k) ∙ sym c.eq.ensures ∙ c.if-eq.false)))
+    (λ same. true≢false (sym (ap (bytes_eq k) (c.as_str.ensures.value ∙ sym same) ∙ own k) ∙ sym c.eq.ensures
+    ∙ c.if-eq.false)))

@@ -7,5 +7,7 @@ use Rattle.bson_store.proofs.ascending.needs_no_map.Goals as goal
 pub returns-clause-yes : goal.returns-clause-yes
 returns-clause-yes g c = λ t v more.
     let ps = stored_pairs c.args.pairs.now.items in
-    let n : c.len-3.result ≡ length ps = omega (arith, c.len-3.ensures, c.args.pairs.now.ok.0, length-seen c.args.pairs.now.items) in
-    subst (λ qs. KeysAscend (qs ++ (c.args.key.now, v) ∷ [])) (take_all c.len-3.result ps (omega (arith, n))) (c.is_above_first.ensures t v)
+    let n : c.len-3.result ≡ length ps =
+    omega (arith, c.len-3.ensures, c.args.pairs.now.ok.0, length-seen c.args.pairs.now.items) in
+    subst (λ qs. KeysAscend (qs ++ (c.args.key.now, v) ∷ [])) (take_all c.len-3.result ps (omega (arith, n)))
+    (c.is_above_first.ensures t v)

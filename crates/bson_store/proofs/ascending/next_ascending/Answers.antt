@@ -13,9 +13,11 @@ pub returns-then-at-len-clause-least : goal.returns-then-at-len-clause-least
 returns-then-at-len-clause-least g c =
     let ps = stored_pairs c.args.pairs.now.items in
     let first : IsFirstAbove (bytes_of c.args.last) ps c.match-last.at = elim c.match-last.branch [
-      | in-Some w ↦ subst (λ o. IsFirstAbove o ps c.match-last.at) (ap Some w.as_str.ensures.value ∙ sym (ap bytes_of w.in-Some.is))
+      | in-Some w ↦ subst (λ o. IsFirstAbove o ps c.match-last.at)
+          (ap Some w.as_str.ensures.value ∙ sym (ap bytes_of w.in-Some.is))
           (subst (IsFirstAbove (Some w.as_str.result.now) ps) (sym w.at-is) w.first_above-at.ensures)
-      | in-None w ↦ subst (λ o. IsFirstAbove o ps c.match-last.at) (sym (ap bytes_of w.in-None.is)) (subst (IsFirstAbove None ps) (sym w.at-is) (first-of-all ps))
+      | in-None w ↦ subst (λ o. IsFirstAbove o ps c.match-last.at) (sym (ap bytes_of w.in-None.is))
+          (subst (IsFirstAbove None ps) (sym w.at-is) (first-of-all ps))
     ] in
     least-first (bytes_of c.args.last) ps c.match-last.at c.requires.distinct c.requires.ascending first
 
@@ -23,9 +25,14 @@ pub returns-clause-least : goal.returns-clause-least
 returns-clause-least g c =
     let ps = stored_pairs c.args.pairs.now.items in
     let first : IsFirstAbove (bytes_of c.args.last) ps c.match-last.at = elim c.match-last.branch [
-      | in-Some w ↦ subst (λ o. IsFirstAbove o ps c.match-last.at) (ap Some w.as_str.ensures.value ∙ sym (ap bytes_of w.in-Some.is))
+      | in-Some w ↦ subst (λ o. IsFirstAbove o ps c.match-last.at)
+          (ap Some w.as_str.ensures.value ∙ sym (ap bytes_of w.in-Some.is))
           (subst (IsFirstAbove (Some w.as_str.result.now) ps) (sym w.at-is) w.first_above-at.ensures)
-      | in-None w ↦ subst (λ o. IsFirstAbove o ps c.match-last.at) (sym (ap bytes_of w.in-None.is)) (subst (IsFirstAbove None ps) (sym w.at-is) (first-of-all ps))
+      | in-None w ↦ subst (λ o. IsFirstAbove o ps c.match-last.at) (sym (ap bytes_of w.in-None.is))
+          (subst (IsFirstAbove None ps) (sym w.at-is) (first-of-all ps))
     ] in
-    let none = slice_get_past ps c.match-last.at (omega (arith, c.if-at-len.false, c.len.ensures, c.args.pairs.now.ok.0, length-seen c.args.pairs.now.items)) in
-    subst (IsLeast (bytes_of c.args.last) ps) none (least-first (bytes_of c.args.last) ps c.match-last.at c.requires.distinct c.requires.ascending first)
+    let none =
+    slice_get_past ps c.match-last.at
+    (omega (arith, c.if-at-len.false, c.len.ensures, c.args.pairs.now.ok.0, length-seen c.args.pairs.now.items)) in
+    subst (IsLeast (bytes_of c.args.last) ps) none
+    (least-first (bytes_of c.args.last) ps c.match-last.at c.requires.distinct c.requires.ascending first)

@@ -12,7 +12,8 @@ use Rattle.bson_store.proofs.AscendingLaws.{ascend-remove}
 use Rattle.bson_store.proofs.places.take_place.Goals as goal
 
 pub lower-requires-clause-distinct : goal.lower-requires-clause-distinct
-lower-requires-clause-distinct g c = subst HasDistinctKeys (sym c.requires.3) (distinct-remove c.requires.0 c.args.at c.requires.4.0)
+lower-requires-clause-distinct g c =
+    subst HasDistinctKeys (sym c.requires.3) (distinct-remove c.requires.0 c.args.at c.requires.4.0)
 
 pub lower-requires-clause-raised : goal.lower-requires-clause-raised
 lower-requires-clause-raised g c = λ k.
@@ -29,13 +30,23 @@ lower-requires-clause-raised g c = λ k.
 pub returns-then-len-le-FEW : goal.returns-then-len-le-FEW
 returns-then-len-le-FEW g c = (
   subst HasDistinctKeys (sym c.requires.3) (distinct-remove c.requires.0 c.args.at c.requires.4.0),
-  λ more. absurd (omega (arith, more, c.if-len-le-FEW.true, c.len.ensures, c.args.pairs.now.ok.0, length-seen c.args.pairs.now.items)),
+  λ more. absurd (omega (
+    arith,
+    more,
+    c.if-len-le-FEW.true,
+    c.len.ensures,
+    c.args.pairs.now.ok.0,
+    length-seen c.args.pairs.now.items,
+  )),
 )
 
 pub returns-in-Some : goal.returns-in-Some
 returns-in-Some g c = (
   subst HasDistinctKeys (sym c.requires.3) (distinct-remove c.requires.0 c.args.at c.requires.4.0),
-  (omega (arith, c.if-len-le-FEW.false, c.len.ensures, c.args.pairs.now.ok.0, length-seen c.args.pairs.now.items), c.lower.ensures),
+  (
+    omega (arith, c.if-len-le-FEW.false, c.len.ensures, c.args.pairs.now.ok.0, length-seen c.args.pairs.now.items),
+    c.lower.ensures,
+  ),
 )
 
 pub returns-in-None : goal.returns-in-None
@@ -43,6 +54,11 @@ returns-in-None g c =
     let ps = c.requires.0 in
     let qs = stored_pairs c.args.pairs.now.items in
     let was : 8 < length ps → KeysAscend ps = subst (IsPlaced ps) c.in-None.is c.requires.4.1 in
-    let shorter = length-remove ps c.args.at (slice_get_within ps c.args.at (c.args.key.now, c.requires.1) c.requires.2) in
-    let still : 8 < length qs → KeysAscend qs = λ more. subst KeysAscend (sym c.requires.3) (ascend-remove ps c.args.at (was (omega (arith, more, shorter, ap length c.requires.3)))) in
-    (subst HasDistinctKeys (sym c.requires.3) (distinct-remove ps c.args.at c.requires.4.0), subst (IsPlaced qs) (sym c.in-None.is) still)
+    let shorter =
+    length-remove ps c.args.at (slice_get_within ps c.args.at (c.args.key.now, c.requires.1) c.requires.2) in
+    let still : 8 < length qs → KeysAscend qs =
+    λ more. subst KeysAscend (sym c.requires.3)
+    (ascend-remove ps c.args.at (was (omega (arith, more, shorter, ap length c.requires.3)))) in (
+      subst HasDistinctKeys (sym c.requires.3) (distinct-remove ps c.args.at c.requires.4.0),
+      subst (IsPlaced qs) (sym c.in-None.is) still,
+    )

@@ -6,4 +6,6 @@ use Rattle.bson_model.specs.Fault.{IsFaultOf}
 use Rattle.bson.proofs.bson.Bson.try_from_map.Goals as goal
 
 pub returns-clause-fault : goal.returns-clause-fault
-returns-clause-fault c = subst (λ (t : Data). IfErr c.try_from_value.result (λ e. IsFaultOf t e)) (view-Object c.args.map) c.try_from_value.ensures.fault
+returns-clause-fault c =
+    subst (λ (t : Data). IfErr c.try_from_value.result (λ e. IsFaultOf t e))
+    (view-Object c.args.map) c.try_from_value.ensures.fault

@@ -9,6 +9,9 @@ returns-in-Ok-read_text-clause-ok c =
     let m = c.in-Ok-read_text.ensures.ok in
     record {
       tree = m.0;
-      text = record { utf8 = c.in-Ok.ensures.cases.1; tree_read = subst (λ s. read s ≡ Some m.0) c.in-Ok.ensures.cases.0 m.1 };
+      text = record {
+        utf8 = c.in-Ok.ensures.cases.1;
+        tree_read = subst (λ s. read s ≡ Some m.0) c.in-Ok.ensures.cases.0 m.1;
+      };
       meaning = (value_read (λ v. v) m.0 (Ok (bson_view c.in-Ok-read_text.value)) m.2).ok;
     }

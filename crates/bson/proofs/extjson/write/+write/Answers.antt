@@ -1,4 +1,5 @@
-use Rattle.std.proofs.Common.{◌≡◌, ◌∷◌, ◌++◌, [], List, map, length, refl, sym, ap, ◌∙◌, subst, string_bytes, arith, append_assoc}
+use Rattle.std.proofs.Common.{◌≡◌, ◌∷◌, ◌++◌, [], List, map, length, refl, sym, ap, ◌∙◌, subst, string_bytes, arith}
+use Rattle.std.proofs.Common.{append_assoc}
 use Rattle.std.specs.Vec.Iter.{into_iter_items}
 use Rattle.std.proofs.lemmas.Result.{err_from_is_err_and}
 use Rattle.serde_json.specs.View.{view, members_view}
@@ -9,7 +10,8 @@ use Rattle.bson_model.specs.Normal.{ItemsInRange, PairsInRange}
 use Rattle.bson_model.specs.Writing.{writes_items, writes_pairs}
 use Rattle.bson.specs.declared.bson.Bson.{Bson}
 use Rattle.bson.proofs.Onto.{Entry}
-use Rattle.bson.proofs.OntoTree.{onto_items, onto_members, onto_items-ok, items_stop, items_step, onto_members-start, members_step}
+use Rattle.bson.proofs.OntoTree.{onto_items, onto_members, onto_items-ok, items_stop, items_step, onto_members-start}
+use Rattle.bson.proofs.OntoTree.{members_step}
 use Rattle.bson.proofs.Seen.{document_view-pairs}
 use Rattle.bson.proofs.extjson.write.+write.Goals as goal
 
@@ -33,7 +35,9 @@ write_pairs-loop-key-init t c =
           (λ i. onto_members c.args.form (start i) (members_view (none i)))
           ∙ onto_members-start c.args.form all c.into_pairs-key-items.ensures.distinct
           ∙ ap (writes_pairs c.args.form) (sym (document_view-pairs c.args.document));
-      ranged = λ h. subst PairsInRange (sym (document_view-pairs c.args.document)) (subst (λ (xs : List Entry). PairsInRange (pairs_view xs)) start h);
+      ranged =
+          λ h. subst PairsInRange (sym (document_view-pairs c.args.document))
+          (subst (λ (xs : List Entry). PairsInRange (pairs_view xs)) start h);
     }
 
 pub write_pairs-loop-key-preserved : goal.write_pairs-loop-key-preserved
@@ -50,25 +54,36 @@ write_pairs-loop-key-preserved t c =
       written =
           let put_there = ap members_view c.in_ok-insert.ensures.entries
           ∙ members_view-insert_entry c.loop-key.members.entries c.in-Some.key c.in_ok-written.written in
-          ap (onto_members c.args.form c.next.new.self) put_there ∙ members_step c.args.form c.next.new.self x (view c.in_ok-written.written) ms total c.in_ok-written.ensures.written now;
-      ranged = λ h. c.loop-key.invariant.ranged (subst (λ (xs : List Entry). PairsInRange (pairs_view xs)) (sym steps) (c.in_ok-written.ensures.ranged, h));
+          ap (onto_members c.args.form c.next.new.self) put_there
+          ∙ members_step c.args.form c.next.new.self x
+          (view c.in_ok-written.written) ms total c.in_ok-written.ensures.written now;
+      ranged =
+          λ h. c.loop-key.invariant.ranged
+          (subst (λ (xs : List Entry). PairsInRange (pairs_view xs)) (sym steps) (c.in_ok-written.ensures.ranged, h));
     }
 
 pub write_items-returns-in_err-write-clause-written : goal.write_items-returns-in_err-write-clause-written
 write_items-returns-in_err-write-clause-written t c =
     let p = err_from_is_err_and c.from_residual-in_err-write.result c.from_residual-in_err-write.ensures.1 in
-    let steps : into_iter_items c.loop-value.value-iterator ≡ c.in-Some.value ∷ into_iter_items c.next.new.self = c.in-Some.ensures.steps.0 in
+    let steps : into_iter_items c.loop-value.value-iterator ≡ c.in-Some.value ∷ into_iter_items c.next.new.self =
+    c.in-Some.ensures.steps.0 in
     let total = writes_items c.args.form (values_view c.args.values.items) in
     let done = map view c.loop-value.items.items in
-    let now = subst (λ (xs : List Bson). onto_items done (writes_items c.args.form (values_view xs)) ≡ total) steps c.loop-value.invariant.written in
-    rw (p.1, p.2) (items_stop c.args.form _ done (bson_view c.in-Some.value) (values_view (into_iter_items c.next.new.self)) total c.in_err-write.ensures.written now)
+    let now =
+    subst (λ (xs : List Bson). onto_items done (writes_items c.args.form (values_view xs)) ≡ total) steps
+    c.loop-value.invariant.written in
+    rw (p.1, p.2) (items_stop c.args.form _ done (bson_view c.in-Some.value)
+    (values_view (into_iter_items c.next.new.self)) total c.in_err-write.ensures.written now)
 
 pub write_items-loop-value-preserved : goal.write_items-loop-value-preserved
 write_items-loop-value-preserved t c =
-    let steps : into_iter_items c.loop-value.value-iterator ≡ c.in-Some.value ∷ into_iter_items c.next.new.self = c.in-Some.ensures.steps.0 in
+    let steps : into_iter_items c.loop-value.value-iterator ≡ c.in-Some.value ∷ into_iter_items c.next.new.self =
+    c.in-Some.ensures.steps.0 in
     let total = writes_items c.args.form (values_view c.args.values.items) in
     let done = map view c.loop-value.items.items in
-    let now = subst (λ (xs : List Bson). onto_items done (writes_items c.args.form (values_view xs)) ≡ total) steps c.loop-value.invariant.written in
+    let now =
+    subst (λ (xs : List Bson). onto_items done (writes_items c.args.form (values_view xs)) ≡ total) steps
+    c.loop-value.invariant.written in
     record {
       left =
           let was = c.loop-value.invariant.left in
@@ -79,8 +94,11 @@ write_items-loop-value-preserved t c =
           let pushed = ap (map view) c.in_ok-push.ensures.items
           ∙ map-snoc c.loop-value.items.items c.in_ok-write.field-0 in
           ap (λ xs. onto_items xs (writes_items c.args.form (values_view (into_iter_items c.next.new.self)))) pushed
-          ∙ items_step c.args.form done (bson_view c.in-Some.value) (view c.in_ok-write.field-0) (values_view (into_iter_items c.next.new.self)) total c.in_ok-write.ensures.written now;
-      ranged = λ h. c.loop-value.invariant.ranged (subst (λ (xs : List Bson). ItemsInRange (values_view xs)) (sym steps) (c.in_ok-write.ensures.ranged, h));
+          ∙ items_step c.args.form done (bson_view c.in-Some.value) (view c.in_ok-write.field-0)
+          (values_view (into_iter_items c.next.new.self)) total c.in_ok-write.ensures.written now;
+      ranged =
+          λ h. c.loop-value.invariant.ranged
+          (subst (λ (xs : List Bson). ItemsInRange (values_view xs)) (sym steps) (c.in_ok-write.ensures.ranged, h));
     }
 
 pub write_items-returns-clause-written : goal.write_items-returns-clause-written
@@ -90,5 +108,7 @@ write_items-returns-clause-written t c =
     let empty : into_iter_items at.value-iterator ≡ [] = nothing_left _ (sym at.invariant.left ∙ none.0) in
     let total = writes_items c.args.form (values_view c.args.values.items) in
     let done = map view at.items.items in
-    let now = subst (λ (xs : List Bson). onto_items done (writes_items c.args.form (values_view xs)) ≡ total) empty at.invariant.written in
+    let now =
+    subst (λ (xs : List Bson). onto_items done (writes_items c.args.form (values_view xs)) ≡ total) empty
+    at.invariant.written in
     sym now ∙ onto_items-ok done

@@ -11,13 +11,16 @@ use Rattle.bson.proofs.extjson.write.+write.Given as goal
 abbrev pub invariant-write_items-loop-value : goal.invariant-write_items-loop-value
 invariant-write_items-loop-value l = record {
   left : into_iter_len l.value-iterator ≡ length (into_iter_items l.value-iterator);
-  written : onto_items (map view l.items.items) (writes_items l.fn.form (values_view (into_iter_items l.value-iterator))) ≡ writes_items l.fn.form (values_view l.fn.values.items);
+  written : onto_items (map view l.items.items)
+      (writes_items l.fn.form (values_view (into_iter_items l.value-iterator)))
+      ≡ writes_items l.fn.form (values_view l.fn.values.items);
   ranged : ItemsInRange (values_view (into_iter_items l.value-iterator)) → ItemsInRange (values_view l.fn.values.items);
 }
 
 abbrev pub invariant-write_pairs-loop-key : goal.invariant-write_pairs-loop-key
 invariant-write_pairs-loop-key l = record {
   split : (front : List Entry) × (l.fn.document.pairs ≡ front ++ l.key-iterator);
-  written : onto_members l.fn.form l.key-iterator (members_view l.members.entries) ≡ writes_pairs l.fn.form (document_view l.fn.document);
+  written : onto_members l.fn.form l.key-iterator (members_view l.members.entries)
+      ≡ writes_pairs l.fn.form (document_view l.fn.document);
   ranged : PairsInRange (pairs_view l.key-iterator) → PairsInRange (document_view l.fn.document);
 }

@@ -10,11 +10,13 @@ returns-in-Some-clause-in_bounds g c =
     let ps = stored_pairs c.self.inside.pairs.items in
     let placed = subst (IsPlaced ps) c.in-Some.is c.self.invariant.1 in
     subst (λ qs. IfSome c.next_place.result (λ i. i < length qs)) c.self.view_is
-    (within_from c.deref.result.now ps (bytes_of c.args.last) c.next_place.result (λ k. ap (λ m. get_by_text m k) c.deref.ensures ∙ placed.1 k) c.next_place.ensures)
+    (within_from c.deref.result.now ps (bytes_of c.args.last) c.next_place.result
+    (λ k. ap (λ m. get_by_text m k) c.deref.ensures ∙ placed.1 k) c.next_place.ensures)
 
 pub returns-in-Some-clause-least : goal.returns-in-Some-clause-least
 returns-in-Some-clause-least g c =
     let ps = stored_pairs c.self.inside.pairs.items in
     let placed = subst (IsPlaced ps) c.in-Some.is c.self.invariant.1 in
     subst (λ qs. IsLeast (bytes_of c.args.last) qs (option_and_then (slice_get qs) c.next_place.result)) c.self.view_is
-    (least_from c.deref.result.now ps (bytes_of c.args.last) c.next_place.result (λ k. ap (λ m. get_by_text m k) c.deref.ensures ∙ placed.1 k) c.next_place.ensures)
+    (least_from c.deref.result.now ps (bytes_of c.args.last) c.next_place.result
+    (λ k. ap (λ m. get_by_text m k) c.deref.ensures ∙ placed.1 k) c.next_place.ensures)

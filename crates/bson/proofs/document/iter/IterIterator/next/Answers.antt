@@ -3,8 +3,8 @@ use Rattle.bson_store.proofs.Offered.{drop-at}
 use Rattle.bson.proofs.Places.{pair_from}
 use Rattle.bson.proofs.document.iter.IterIterator.next.Goals as goal
 
-pub returns-then-at-len-clause-steps : goal.returns-then-at-len-clause-steps
-returns-then-at-len-clause-steps c =
+pub returns-clause-steps : goal.returns-clause-steps
+returns-clause-steps c =
     let ps = c.args.self.now.pairs.now in
     let i = c.args.self.now.at in
     drop-at ps i (string_bytes c.key_at.result.now, c.value_at.result.now)

@@ -1,9 +1,8 @@
-use Rattle.std.proofs.Common.{◌≡◌, ℕ, ◌+◌, ◌*◌, ◌≤◌, List, length}
-use Rattle.json.specs.Json.{items, value, parse_map}
+use Rattle.std.proofs.Common.{◌≡◌, ◌+◌, ◌*◌, ◌≤◌, List, length}
 use Rattle.json.specs.Token.{Token}
 use Rattle.serde_json.specs.Data.{Items, Members}
-use Rattle.serde_json.specs.Read.{of_items, converted}
 use Rattle.serde_json.specs.View.{members_view}
+use Rattle.bson.proofs.Elements.{Lists}
 use Rattle.bson.proofs.Trees.{items_onto}
 use Rattle.bson.specs.Straight.{MembersAre}
 use Rattle.bson.proofs.extjson.text_reader.held.+tree.Given as goal
@@ -20,13 +19,10 @@ decreases-read_member l = 3 * l.depth + 1
 abbrev pub decreases-read_members : goal.decreases-read_members
 decreases-read_members l = 3 * l.depth + 2
 
+-- what was read stands before what is left
 abbrev pub invariant-read_items-items : goal.invariant-read_items-items
-invariant-read_items-items l = record {
-  n : ℕ;
-  enough : length l.reader ≤ n;
-  all : converted of_items (items (value l.depth) (length l.initial.reader) l.initial.reader) ≡ parse_map (items_onto l.found.items) (converted of_items (items (value l.depth) n l.reader));
-  shorter : length l.reader ≤ length l.initial.reader;
-}
+invariant-read_items-items l = (front : Items → Items) × Lists l.depth l.initial.reader l.reader front
+    × ((ds : Items) → front ds ≡ items_onto l.found.items ds)
 
 abbrev pub decreases-read_items-items : goal.decreases-read_items-items
 decreases-read_items-items l = length l.reader

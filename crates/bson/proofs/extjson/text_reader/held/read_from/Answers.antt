@@ -15,5 +15,6 @@ returns-clause-ok c =
     let none : members_view c.new-none.result.entries ≡ no_members = ap members_view c.new-none.ensures.empty in
     let one : members_view c.in_ok-first.first.entries ≡ put k d no_members = first.ok.2 ∙ ap (put k d) none in
     if_ok c.read_members.result c.read_members.ensures.ok (λ m are before named.
-    more_members c.args.depth k before c.args.reader.now s rest d no_members (members_view m.entries) named first.ok.1 first.shorter
+    more_members c.args.depth k before c.args.reader.now s rest d no_members
+    (members_view m.entries) named first.ok.1 first.shorter
     (subst (λ ms. MembersAre c.args.depth ms s (members_view m.entries) rest) one are))

@@ -1,17 +1,18 @@
-use Rattle.std.proofs.Common.{Vec, Global, false, ◌≡◌, ◌-◌, ◌<◌, List, [], ◌∷◌, ◌++◌, length, map, Ok, Some, None, string_bytes, refl, sym, ap, ◌∙◌, subst, arith, rules}
+use Rattle.std.proofs.Common.{Vec, Global, false, ◌≡◌, List, [], ◌∷◌, ◌++◌, map, Ok, Some, None, string_bytes, refl}
+use Rattle.std.proofs.Common.{sym, ap, ◌∙◌, arith, rules}
 use Rattle.std.specs.Prelude.{is_some}
 use Rattle.json.specs.Token.{Token}
-use Rattle.json.specs.Json.{parse_map, after_end_array, read_key, items, members, value}
+use Rattle.json.specs.Json.{parse_map, after_end_array, read_key, value}
 use Rattle.json.specs.Reads.{token_of}
-use Rattle.json.proofs.Grammar.{value_is, value-begin_array, value-begin_object, read_key-shorter}
+use Rattle.json.proofs.Grammar.{value_is}
 use Rattle.serde_json.specs.Data.{null, boolean, number, string, array, object, item, no_items, no_members, put}
-use Rattle.serde_json.specs.Read.{of_json, of_items, of_members, converted}
+use Rattle.serde_json.specs.Read.{of_json, converted}
 use Rattle.serde_json.specs.View.{view, number_view}
 use Rattle.bson_wrapper.specs.Faults.{◌>>=◌}
 use Rattle.bson_wrapper.specs.Scalar as scalars
 use Rattle.bson_wrapper.specs.Table.{wrapper_of}
-use Rattle.bson_model.specs.Reading.{reads_items, scalar_value}
-use Rattle.bson_model.specs.Sorted.{KeysAscend, put_pair}
+use Rattle.bson_model.specs.Reading.{reads_items}
+use Rattle.bson_model.specs.Sorted.{put_pair}
 use Rattle.bson_model.specs.Value as model
 use Rattle.bson.specs.View.{bson_view, document_view, values_view}
 use Rattle.bson.specs.declared.bson.Bson.{Bson, the_lemmas}
@@ -19,9 +20,10 @@ use Rattle.bson.specs.declared.bson.Bson.TheVariants as bson
 use Rattle.bson.specs.declared.document.Document.{Document}
 use Rattle.bson.proofs.Onto.{onto_values, onto_values-ok, values_step}
 use Rattle.bson.specs.Gathered.{gathered}
-use Rattle.bson.proofs.PutReads.{put_reads, put_plain, put_ascends, nothing_read, object_read}
+use Rattle.bson.proofs.PutReads.{put_plain, object_read}
+use Rattle.bson.proofs.Elements.{none_listed, one_listed, all_listed}
 use Rattle.bson.proofs.Gathering.{none_yet, one_gathered, all_gathered, from_first}
-use Rattle.bson.proofs.Turns.{array_opened, object_opened, one_item, last_item, fused, as_it_is, if_ok}
+use Rattle.bson.proofs.Turns.{array_opened, object_opened, if_ok}
 use Rattle.bson.proofs.Wrapped.{alone, with_scope}
 use Rattle.bson.proofs.extjson.text_reader.straight.+straight.Goals as goal
 
@@ -38,8 +40,13 @@ bson_view-Array v = search (rules, the_lemmas)
 pub read_member-returns-clause-ok : goal.read_member-returns-clause-ok
 read_member-returns-clause-ok t c =
     let copied : string_bytes c.in_ok-key.key ≡ c.args.name.now = search rules in
-    let read = c.in_ok-member.ensures.ok in
-    (read.0, bson_view c.in_ok-member.member, read.1, read.2, c.in_ok-now.ensures ∙ ap (λ q. put_pair q (bson_view c.in_ok-member.member) (gathered c.args.found)) copied)
+    let read = c.in_ok-member.ensures.ok in (
+      read.0,
+      bson_view c.in_ok-member.member,
+      read.1,
+      read.2,
+      c.in_ok-now.ensures ∙ ap (λ q. put_pair q (bson_view c.in_ok-member.member) (gathered c.args.found)) copied,
+    )
 
 pub read_value-returns-in_ok-from_str-in-String-clause-ok : goal.read_value-returns-in_ok-from_str-in-String-clause-ok
 read_value-returns-in_ok-from_str-in-String-clause-ok t c =
@@ -132,49 +139,38 @@ read_value-returns-in_ok-read_items-in-BeginArray-clause-ok t c =
     (array read.0, opened ∙ ap (parse_map array) read.1, ap (λ r. r >>= λ vs. Ok (model.array vs)) read.2 ∙ ap Ok (sym (bson_view-Array found.field-0)))
 
 pub read_items-items-init : goal.read_items-items-init
-read_items-items-init t c =
-    let all = converted of_items (items (value c.args.depth) (length c.args.reader.now) c.args.reader.now) in
-    record {
-      n = length c.args.reader.now;
-      enough = omega arith;
-      front = λ r. r;
-      all = as_it_is all;
-      read = λ r. ap (λ vs. onto_values (map bson_view vs) (reads_items r)) (sym c.new-found.ensures.items);
-      shorter = omega arith;
-    }
+read_items-items-init t c = (
+  λ ds. ds,
+  none_listed c.args.depth c.args.reader.now,
+  λ ds. ap (λ vs. onto_values (map bson_view vs) (reads_items ds)) (sym c.new-found.ensures.items),
+)
 
 pub read_items-items-preserved : goal.read_items-items-preserved
 read_items-items-preserved t c =
-    let p = value c.args.depth in
     let l = c.items in
-    let n = l.invariant.n in
-    let going : (after_end_array l.reader ≡ None) × (c.take_end_array.new.self ≡ l.reader) = grind arith in
     let done = c.in_ok-item.ensures in
     let v = c.in_ok-item.item in
-    let r = c.read_value.new.reader in
     let d = done.ok.0 in
-    let less : length r < length l.reader = rw (← going.1) done.shorter in
-    let turn = one_item p n l.reader r d (omega (arith, l.invariant.enough, less)) going.0 (rw (← going.1) done.ok.1) in
-    record {
-      n = n - 1;
-      enough = omega (arith, l.invariant.enough, less);
-      front = λ ds. l.invariant.front (item d ds);
-      all = l.invariant.all ∙ ap (parse_map l.invariant.front) turn ∙ fused l.invariant.front (item d) _;
-      read = λ ds.
-          sym (values_step (map bson_view l.found.items) d (bson_view v) ds (reads_items (l.invariant.front (item d ds))) done.ok.2 (sym (l.invariant.read (item d ds))))
-          ∙ ap (λ vs. onto_values vs (reads_items ds)) (sym (map-snoc l.found.items v) ∙ ap (map bson_view) (sym c.in_ok-push.ensures.items));
-      shorter = omega (arith, l.invariant.shorter, less);
-    }
+    let front = l.invariant.0 in
+    let s = c.take_end_array.new.self in
+    let ended : (after_end_array l.reader ≡ None) × (s ≡ l.reader) = grind arith in (
+      λ ds. front (item d ds),
+      one_listed c.args.depth c.args.reader.now l.reader s c.read_value.new.reader front d l.invariant.1 ended.0 ended.1
+          done.ok.1 done.shorter,
+      λ ds. sym (values_step (map bson_view l.found.items) d (bson_view v) ds
+          (reads_items (front (item d ds))) done.ok.2 (sym (l.invariant.2 (item d ds))))
+          ∙ ap (λ vs. onto_values vs (reads_items ds))
+          (sym (map-snoc l.found.items v) ∙ ap (map bson_view) (sym c.in_ok-push.ensures.items)),
+    )
 
 pub read_items-returns-clause-ok : goal.read_items-returns-clause-ok
 read_items-returns-clause-ok t c =
-    let p = value c.args.depth in
-    let l = c.items in
-    let n = l.invariant.n in
-    let r = c.take_end_array.new.self in (
-      l.invariant.front no_items,
-      l.invariant.all ∙ ap (parse_map l.invariant.front) (last_item p n l.reader r l.invariant.enough (grind arith)),
-      l.invariant.read no_items ∙ onto_values-ok (map bson_view l.found.items) ∙ ap (λ vs. Ok (values_view vs)) (sym c.shrink_to_fit.ensures.items),
+    let l = c.items in (
+      l.invariant.0 no_items,
+      all_listed c.args.depth c.args.reader.now l.reader c.take_end_array.new.self l.invariant.0 l.invariant.1
+          (grind arith),
+      l.invariant.2 no_items ∙ onto_values-ok (map bson_view l.found.items)
+          ∙ ap (λ vs. Ok (values_view vs)) (sym c.shrink_to_fit.ensures.items),
     )
 
 pub read_pairs-members-init : goal.read_pairs-members-init
@@ -224,7 +220,8 @@ read_wrapper-returns-in-Some-clause-ok t c =
     let held = c.in_ok-held.ensures in
     let named : read_key s ≡ Some (Some l, us) = grind arith in
     if_ok c.read_code.result c.read_code.ensures.ok (λ v code.
-    with_scope c.args.depth k l c.args.reader.now s us c.read_code.new.reader (view c.in_ok-held.held) (bson_view v) held.ok held.shorter named code)
+    with_scope c.args.depth k l c.args.reader.now s us c.read_code.new.reader (view c.in_ok-held.held)
+    (bson_view v) held.ok held.shorter named code)
 
 pub read_wrapper-returns-in_ok-read-in-None-clause-ok : goal.read_wrapper-returns-in_ok-read-in-None-clause-ok
 read_wrapper-returns-in_ok-read-in-None-clause-ok t c =
@@ -233,4 +230,5 @@ read_wrapper-returns-in_ok-read-in-None-clause-ok t c =
     let rest = c.next_key.new.self in
     let held = c.in_ok-held.ensures in
     let ended : read_key s ≡ Some (None, rest) = grind arith in
-    alone c.args.depth k c.args.reader.now s rest (view c.in_ok-held.held) (bson_view c.in_ok-read-in-None.read) held.ok held.shorter ended c.in_ok-read-in-None.ensures.given
+    alone c.args.depth k c.args.reader.now s rest (view c.in_ok-held.held)
+    (bson_view c.in_ok-read-in-None.read) held.ok held.shorter ended c.in_ok-read-in-None.ensures.given

@@ -1,9 +1,8 @@
-use Rattle.std.proofs.Common.{◌≡◌, ℕ, ◌+◌, ◌*◌, ◌≤◌, length, map, false, Ok}
-use Rattle.json.specs.Json.{items, value, parse_map}
+use Rattle.std.proofs.Common.{◌≡◌, ◌+◌, ◌*◌, length, map, false}
 use Rattle.serde_json.specs.Data.{Items, Members}
-use Rattle.serde_json.specs.Read.{of_items, converted}
 use Rattle.bson_wrapper.specs.Table.{has_wrapper}
 use Rattle.bson_model.specs.Reading.{reads_items}
+use Rattle.bson.proofs.Elements.{Lists}
 use Rattle.bson.proofs.Gathering.{Gathers}
 use Rattle.bson.proofs.Onto.{onto_values}
 use Rattle.bson.specs.View.{bson_view}
@@ -36,27 +35,24 @@ decreases-read_object l = 8 * l.depth + 4
 
 -- what was read stands before what is left
 abbrev pub invariant-read_items-items : goal.invariant-read_items-items
-invariant-read_items-items l = record {
-  n : ℕ;
-  enough : length l.reader ≤ n;
-  front : Items → Items;
-  all : converted of_items (items (value l.depth) (length l.initial.reader) l.initial.reader) ≡ parse_map front (converted of_items (items (value l.depth) n l.reader));
-  read : (r : Items) → reads_items (front r) ≡ onto_values (map bson_view l.found.items) (reads_items r);
-  shorter : length l.reader ≤ length l.initial.reader;
-}
+invariant-read_items-items l = (front : Items → Items) × Lists l.depth l.initial.reader l.reader front
+    × ((ds : Items) → reads_items (front ds) ≡ onto_values (map bson_view l.found.items) (reads_items ds))
 
 abbrev pub decreases-read_items-items : goal.decreases-read_items-items
 decreases-read_items-items l = length l.reader
 
 -- the map of the members so far has no wrapper's key, and is read as what was gathered
 abbrev pub invariant-read_object-members : goal.invariant-read_object-members
-invariant-read_object-members l = (so_far : Members) × Gathers l.depth l.initial.reader l.reader so_far (gathered l.found) × (has_wrapper so_far ≡ false)
+invariant-read_object-members l =
+    (so_far : Members) × Gathers l.depth l.initial.reader l.reader so_far (gathered l.found)
+    × (has_wrapper so_far ≡ false)
 
 abbrev pub decreases-read_object-members : goal.decreases-read_object-members
 decreases-read_object-members l = length l.reader
 
 abbrev pub invariant-read_pairs-members : goal.invariant-read_pairs-members
-invariant-read_pairs-members l = (so_far : Members) × Gathers l.depth l.initial.reader l.reader so_far (gathered l.found)
+invariant-read_pairs-members l =
+    (so_far : Members) × Gathers l.depth l.initial.reader l.reader so_far (gathered l.found)
 
 abbrev pub decreases-read_pairs-members : goal.decreases-read_pairs-members
 decreases-read_pairs-members l = length l.reader
