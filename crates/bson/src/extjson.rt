@@ -1,4 +1,5 @@
 //! MongoDB Extended JSON v2.
+pub mod convert;
 pub mod de;
 mod read;
 pub(crate) mod scalars;
