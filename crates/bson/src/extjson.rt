@@ -9,4 +9,5 @@ mod text_error;
 mod text_reader;
 mod write;
 
+pub use bson_wrapper::form::Form;
 pub use bson_wrapper::write_error::WriteError;
