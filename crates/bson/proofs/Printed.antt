@@ -76,13 +76,13 @@ members_later f OutOfMemory k v d ps g h = tt
 members_later f FiniteDouble k v d ps g h = ap (λ r. r >>= λ c. writes_in_order f ps >>= λ ms. Ok (member k c ms)) g
     ∙ ap (λ r. r >>= λ ms. Ok (member k d ms)) h
 
-bind_same : {A B : Type 0} (r : Result A Refusal) (f g : A → Result B Refusal) → ((x : A) → f x ≡ g x)
+pub bind_same : {A B : Type 0} (r : Result A Refusal) (f g : A → Result B Refusal) → ((x : A) → f x ≡ g x)
     → (r >>= f) ≡ (r >>= g)
 bind_same (Ok x) f g h = h x
 bind_same (Err e) f g h = refl
 
 -- a key that is less than the first one is put first
-put_first : (k l : List ℕ) (d : Data) → key_cmp k l ≡ Less → (a : Result Data Refusal) (b : Result Members Refusal)
+pub put_first : (k l : List ℕ) (d : Data) → key_cmp k l ≡ Less → (a : Result Data Refusal) (b : Result Members Refusal)
     → ((a >>= λ e. b >>= λ ms. Ok (member l e ms)) >>= λ ms. Ok (member k d ms)) ≡ ((a >>= λ e. b >>= λ ms. Ok (member l e ms)) >>= λ ms. Ok (put k d ms))
 put_first k l d h (Ok e) (Ok ms) = rw h refl
 put_first k l d h (Ok e) (Err x) = refl

@@ -1,10 +1,13 @@
 -- What converting a text gives.
-use Rattle.std.specs.Prelude.{◌≡◌, ℕ, List, Option, string_bytes}
+use Rattle.std.specs.Prelude.{◌≡◌, ℕ, List, Option, None, Some, string_bytes}
+use Rattle.std.specs.Cmp.Lexicographic.{slice_cmp}
+use Rattle.std.specs.Ordering.{nat_cmp}
+use Rattle.std.specs.declared.cmp.Ordering.TheVariants.{Less}
 use Rattle.json.specs.Token.{Token}
 use Rattle.serde_json.specs.Data.{Data, Items, Members}
 use Rattle.bson_wrapper.specs.declared.form.Form.{Form}
 use Rattle.bson_model.specs.Value as model
-use Rattle.bson.specs.Straight.{TextMeans, TreeMeans, ItemsMean}
+use Rattle.bson.specs.Straight.{TextMeans, TreeMeans, ItemsMean, ObjectMeans}
 use Rattle.bson.specs.TextMeaning.{HasTextMeaning}
 use Rattle.bson.specs.Texts.{IsPrinted, IsTextIn}
 use Rattle.bson.specs.View.{bson_view}
@@ -30,3 +33,12 @@ TreeConverted f tree rest old new = (v : model.Value) × TreeMeans tree v rest �
 abbrev pub ItemsConverted : Form → Option (Items × List Token) → List Token → List Token → List Token → Type 0
 ItemsConverted f trees rest old new =
     (vs : model.Values) × ItemsMean trees vs rest × IsPrinted f (model.array vs) old new
+
+-- the same of the members of an object
+abbrev pub ObjectConverted : Form → Option (Members × List Token) → List Token → List Token → List Token → Type 0
+ObjectConverted f members rest old new = (v : model.Value) × ObjectMeans members v rest × IsPrinted f v old new
+
+-- the key is greater than the last one, by bytes
+abbrev pub Follows : Option (List ℕ) → List ℕ → Type 0
+Follows None k = Unit {0}
+Follows (Some l) k = slice_cmp nat_cmp l k ≡ Less

@@ -1,16 +1,16 @@
-use Rattle.std.proofs.Common.{◌≡◌, ◌∷◌, [], string_bytes, sym, ap, ◌∙◌, arith}
-use Rattle.json.specs.Lex.{tokens}
-use Rattle.json.specs.Reads.{token_of}
-use Rattle.json.specs.Token.{begin_array}
-use Rattle.bson.proofs.Converting.{list_converted, text_converted}
+use Rattle.std.proofs.Common.{◌≡◌, [], string_bytes, ap, subst, arith}
+use Rattle.json.specs.Json.{value}
+use Rattle.serde_json.specs.Read.{of_json, converted}
+use Rattle.bson.specs.Converted.{TreeConverted}
+use Rattle.bson.proofs.Converting.{text_converted}
 use Rattle.bson.proofs.extjson.convert.convert_parts.Goals as goal
 
 pub returns : goal.returns
 returns c =
     let f = c.args.form in
-    let text = c.args.text.now in
-    let r = c.next.new.self in
-    let first : tokens text ≡ begin_array ∷ r = grind arith in
-    let last : c.convert_items.new.reader ≡ [] = grind arith in
-    let done = list_converted f 127 (tokens text) r c.convert_items.new.reader c.new-out.result.tokens c.convert_items.new.out.tokens first (omega arith) c.in_ok-convert_items-in-Some-BeginArray.ensures.ok in
-    text_converted f text (string_bytes c.finished.result) c.convert_items.new.reader c.new-out.result.tokens c.convert_items.new.out.tokens done last c.new-out.ensures.tokens c.finished.ensures
+    let rest = c.convert_root.new.reader in
+    let old = c.new-out.result.tokens in
+    let new = c.convert_root.new.out.tokens in
+    let last : rest ≡ [] = grind arith in
+    let done = subst (λ ts. TreeConverted f (converted of_json (value 127 ts)) rest old new) c.in_ok-reader.ensures.ok c.in_ok-convert_root.ensures.ok in
+    text_converted f c.args.text.now (string_bytes c.finished.result) rest old new done last c.new-out.ensures.tokens c.finished.ensures
