@@ -81,7 +81,7 @@ members_later f FiniteDouble k v d ps g h = ap (λ r. r >>= λ c. writes_in_orde
     ∙ ap (λ r. r >>= λ ms. Ok (member k d ms)) h
 
 -- a key that is less than the first one is put first
-put_first : (k l : List ℕ) (d : Data) → key_cmp k l ≡ Less → (a : Result Data Refusal) (b : Result Members Refusal)
+pub put_first : (k l : List ℕ) (d : Data) → key_cmp k l ≡ Less → (a : Result Data Refusal) (b : Result Members Refusal)
     → ((a >>= λ e. b >>= λ ms. Ok (member l e ms)) >>= λ ms. Ok (member k d ms))
     ≡ ((a >>= λ e. b >>= λ ms. Ok (member l e ms)) >>= λ ms. Ok (put k d ms))
 put_first k l d h (Ok e) (Ok ms) = rw h refl

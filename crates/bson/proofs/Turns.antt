@@ -25,7 +25,7 @@ beside {B} (Some y) r s b e =
     (ap (λ p. Some p.0) same, ap (λ p. p.1) same)
 
 -- what became a part of the tree was read
-was_read : {A B : Type 0} (f : A → Option B) (o : Option (A × List Token)) (b : B) (r : List Token)
+pub was_read : {A B : Type 0} (f : A → Option B) (o : Option (A × List Token)) (b : B) (r : List Token)
     → converted f o ≡ Some (b, r) → (a : A) × (o ≡ Some (a, r)) × (f a ≡ Some b)
 was_read f None b r e = cc
 was_read f (Some (a, s)) b r e = let h = beside (f a) s r b e in (a, ap (λ t. Some (a, t)) h.1, h.0)

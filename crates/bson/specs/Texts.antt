@@ -14,6 +14,7 @@ use Rattle.bson_store.specs.Order.{key_cmp}
 use Rattle.bson_model.specs.Texts.{ReadsAgain}
 use Rattle.bson_model.specs.Value.{Value, Pairs, no_pairs, pair}
 use Rattle.bson_model.specs.Writing.{writes}
+use Rattle.bson_model.specs.Normal.{InRange}
 use Rattle.bson_model.specs.Laws.{IsTreeOf}
 
 -- the compact text of the value's tree in the form
@@ -49,3 +50,7 @@ writes_in_order f (pair k v ps) = writes f v >>= λ d. writes_in_order f ps >>= 
 -- each key is less than the next
 abbrev pub KeysAscend : List (List ℕ) → Type 0
 KeysAscend ks = (i : ℕ) (k l : List ℕ) → slice_get ks i ≡ Some k → slice_get ks (suc i) ≡ Some l → key_cmp k l ≡ Less
+
+-- the value was printed in the form: the tokens of its tree come after the old ones
+abbrev pub IsPrinted : Form → Value → List Token → List Token → Type 0
+IsPrinted f v old new = (t : Data) × (writes f v ≡ Ok t) × (new ≡ old ++ tokens_of t) × InRange v

@@ -1,4 +1,5 @@
 //! MongoDB Extended JSON v2.
+pub mod convert;
 pub mod de;
 mod read;
 pub(crate) mod scalars;
@@ -8,4 +9,5 @@ mod text_error;
 mod text_reader;
 mod write;
 
+pub use bson_wrapper::form::Form;
 pub use bson_wrapper::write_error::WriteError;

@@ -6,13 +6,18 @@ use Rattle.bson_wrapper.specs.declared.form.Form.{Form}
 use Rattle.bson_wrapper.specs.declared.form.Form.TheVariants as form
 use Rattle.bson_model.specs.Means.{Means}
 use Rattle.bson_model.specs.Value.{Value}
-use Rattle.bson_model.specs.Laws.{HasMeaning}
-use Rattle.bson_run.specs.Convert.{Converts, IsWritten, IsOutput, newline}
+use Rattle.bson_model.specs.Laws.{HasMeaning, IsReadForm}
+use Rattle.bson_run.specs.Convert.{Converts, IsWritten, IsOutput, IsTextFor, IsConverted, IsWritable, newline}
 use Rattle.bson_run.specs.declared.mode.Mode.{Mode}
 use Rattle.bson_run.specs.declared.mode.Mode.TheVariants.{Canonical, Relaxed, Show}
 use Rattle.bson_run.specs.declared.fault.Fault.{Fault}
-use Rattle.bson.specs.TextMeaning.{IsTextOf}
+use Rattle.bson.specs.TextMeaning.{IsTextOf, HasTextMeaning}
+use Rattle.bson.specs.Texts.{IsTextIn}
+use Rattle.bson.specs.declared.extjson.convert.Converted.{Converted}
+use Rattle.bson.specs.declared.extjson.convert.Converted.TheVariants.{Text}
+use Rattle.bson.specs.declared.extjson.convert.Converted.TheVariants as converted
 use Rattle.bson.proofs.Offered.{tree_one}
+use Rattle.bson_run.proofs.Again.{is_written}
 
 written_one : (f : Form) (v : Value) (a b : List ℕ) → IsWritten f v a → IsWritten f v b → b ≡ a
 written_one f v a b x y =
@@ -36,3 +41,24 @@ pub only_one : (mode : Mode) (bytes : List ℕ) (tree : Data) (value : Value) (r
 only_one mode bytes tree value (Ok o) text meaning h =
     λ other x. converts_one mode bytes tree value o.items other text meaning h x
 only_one mode bytes tree value (Err e) text meaning h = tt
+
+pub line_written : (f : Form) (v : Value) (text : List ℕ) (r : Result (Vec ℕ Global) Fault) → IsReadForm v
+    → IsTextIn f v text → IfOk r (λ o. o.items ≡ text ++ newline) → IfOk r (λ o. IsWritten f v o.items)
+line_written f v text (Ok o) p i h = is_written f v text o.items p i h
+line_written f v text (Err e) p i h = tt
+
+pub text_output : (mode : Mode) (v : Value) (text : List ℕ) (r : Result (Vec ℕ Global) Fault) → IsReadForm v
+    → IsTextFor mode v text → IfOk r (λ o. o.items ≡ text ++ newline) → IfOk r (λ o. IsOutput mode v o.items)
+text_output Canonical v text r p i h = line_written form.Canonical v text r p i h
+text_output Relaxed v text r p i h = line_written form.Relaxed v text r p i h
+text_output Show v text r p i h = absurd i
+
+-- what was converted can be written, and its output is that of the bytes
+pub writable : (mode : Mode) (v : Value) (read : Converted) → IsReadForm v → IsConverted mode v read → IsWritable read
+writable mode v (Text text) p i = tt
+writable mode v (converted.Value value) p i = subst IsReadForm (sym i) p
+
+pub converts : (mode : Mode) (bytes : List ℕ) (v : Value) (r : Result (Vec ℕ Global) Fault) → HasTextMeaning bytes v
+    → IfOk r (λ o. IsOutput mode v o.items) → IfOk r (λ o. Converts mode bytes o.items)
+converts mode bytes v (Ok o) m h = record { tree = m.tree; value = v; text = m.text; meaning = m.meaning; is_output = h }
+converts mode bytes v (Err e) m h = tt

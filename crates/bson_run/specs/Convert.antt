@@ -1,5 +1,5 @@
 -- What converting makes of bytes: the output of the one value that they mean as a text, or why they mean none.
-use Rattle.std.specs.Prelude.{◌≡◌, ◌≤◌, ℕ, List, [], ◌∷◌, ◌++◌, Some}
+use Rattle.std.specs.Prelude.{◌≡◌, ◌≤◌, ℕ, List, [], ◌∷◌, ◌++◌, Some, string_bytes}
 use Rattle.serde_json.specs.Data.{Data, depth}
 use Rattle.serde_json.specs.Read.{read, max_depth}
 use Rattle.serde_json.specs.Written.{compact_text}
@@ -12,8 +12,13 @@ use Rattle.bson_model.specs.Displayed.{display_text}
 use Rattle.bson_model.specs.Value.{Value}
 use Rattle.bson_model.specs.Normal.{normal_form}
 use Rattle.bson_model.specs.Written.{Written}
-use Rattle.bson_model.specs.Laws.{HasMeaning, IsTreeOf}
+use Rattle.bson_model.specs.Laws.{HasMeaning, IsTreeOf, IsReadForm}
 use Rattle.bson.specs.TextMeaning.{IsTextOf, IsNoText}
+use Rattle.bson.specs.Texts.{IsTextIn}
+use Rattle.bson.specs.View.{bson_view}
+use Rattle.bson.specs.declared.extjson.convert.Converted.{Converted}
+use Rattle.bson.specs.declared.extjson.convert.Converted.TheVariants.{Text}
+use Rattle.bson.specs.declared.extjson.convert.Converted.TheVariants as converted
 use Rattle.bson_run.specs.declared.mode.Mode.{Mode}
 use Rattle.bson_run.specs.declared.mode.Mode.TheVariants.{Canonical, Relaxed, Show}
 use Rattle.bson_run.specs.declared.fault.Fault.{Fault}
@@ -77,3 +82,21 @@ IsRefused NotExtendedJson bytes = HasNoMeaning IsBad bytes
 IsRefused OutOfMemory bytes = Unit {0}
 IsRefused CannotRead bytes = ⊥
 IsRefused CannotWrite bytes = ⊥
+
+-- ---- for private clauses
+
+-- a text of the value in the mode's form
+abbrev pub IsTextFor : Mode → Value → List ℕ → Type 0
+IsTextFor Canonical value text = IsTextIn form.Canonical value text
+IsTextFor Relaxed value text = IsTextIn form.Relaxed value text
+IsTextFor Show value text = ⊥
+
+-- such a text, or the value
+abbrev pub IsConverted : Mode → Value → Converted → Type 0
+IsConverted mode value (Text text) = IsTextFor mode value (string_bytes text)
+IsConverted mode value (converted.Value read) = bson_view read ≡ value
+
+-- a value can be written
+abbrev pub IsWritable : Converted → Type 0
+IsWritable (Text text) = Unit {0}
+IsWritable (converted.Value read) = IsReadForm (bson_view read)

@@ -6,13 +6,14 @@ ghost use Rattle.bson_model.specs.Displayed.{display_text};
 ghost use Rattle.bson_model.specs.Value as model;
 ghost use Rattle.bson_model.specs.Laws.{IsReadForm};
 ghost use Rattle.bson.specs.View.{bson_view};
-ghost use Rattle.bson_run.specs.Convert.{Converts, IsOutput, IsRefused, newline};
-ghost use Rattle.bson.specs.TextMeaning.{IsTextOf, HasTextMeaning};
+ghost use Rattle.bson_run.specs.Convert.{Converts, IsOutput, IsRefused, IsConverted, IsWritable, newline};
+ghost use Rattle.bson.specs.TextMeaning.{IsTextOf, HasTextMeaning, IsTextFault};
 
 use crate::fault::Fault;
 use crate::mode::Mode;
 use bson::Bson;
-use bson::extjson::WriteError;
+use bson::extjson::convert::Converted;
+use bson::extjson::{Form, WriteError};
 use bson::extjson::de::{Error, TextError};
 use std::alloc::Global;
 
@@ -36,19 +37,36 @@ pub fn convert(alloc: Global, mode: Mode, bytes: &[u8]) -> Result<Vec<u8>, Fault
         → IfErr result (λ fault. fault ≡ Fault.OutOfMemory) }
     ensures fault { IfErr result (λ fault. IsRefused fault bytes.now) }
 {
-    let value = meaning(alloc, bytes)?;
-    output(alloc, mode, value)
+    let read = converted(alloc, mode, bytes)?;
+    output(alloc, mode, read)
 }
 
-/// The same of bytes that are let go once their value is read, so that they take no memory beside
-/// the output.
+/// The same of bytes that are let go once they are read, so that they take no memory beside the
+/// output of a value.
 pub(crate) fn convert_whole(alloc: Global, mode: Mode, bytes: Vec<u8>) -> Result<Vec<u8>, Fault>
     ensures ok { IfOk result (λ output. Converts mode bytes.items output.items) }
     ensures fault { IfErr result (λ fault. IsRefused fault bytes.items) }
 {
-    let read = meaning(alloc, &bytes)?;
+    let read = converted(alloc, mode, &bytes)?;
     drop(bytes);
     output(alloc, mode, read)
+}
+
+/// The text in the mode's form of the value that the bytes mean, or that value.
+fn converted(alloc: Global, mode: Mode, bytes: &[u8]) -> Result<Converted, Fault>
+    ensures ok { IfOk result
+        (λ read. (value : model.Value) × HasTextMeaning bytes.now value × IsConverted mode value read) }
+    ensures fault { IfErr result (λ fault. IsRefused fault bytes.now) }
+{
+    let read = match mode {
+        Mode::Canonical => Bson::convert_text(alloc, Form::Canonical, bytes),
+        Mode::Relaxed => Bson::convert_text(alloc, Form::Relaxed, bytes),
+        Mode::Show => return Ok(Converted::Value(meaning(alloc, bytes)?)),
+    };
+    match read {
+        Ok(read) => Ok(read),
+        Err(error) => Err(refused(error)),
+    }
 }
 
 /// The value that the bytes mean as a text.
@@ -59,18 +77,38 @@ pub(crate) fn meaning(alloc: Global, bytes: &[u8]) -> Result<Bson, Fault>
 {
     match Bson::try_from_text(alloc, bytes) {
         Ok(value) => Ok(value),
-        Err(TextError::NotJson) => Err(Fault::NotJson),
-        Err(TextError::NotExtendedJson(Error::InvalidObjectId(_))) => Err(Fault::BadObjectId),
-        Err(TextError::NotExtendedJson(Error::DeserializationError { .. })) => {
-            Err(Fault::NotExtendedJson)
-        }
-        Err(TextError::NotExtendedJson(Error::OutOfMemory)) => Err(Fault::OutOfMemory),
-        Err(TextError::OutOfMemory) => Err(Fault::OutOfMemory),
+        Err(error) => Err(refused(error)),
+    }
+}
+
+/// The fault of bytes that are refused so.
+fn refused(error: TextError) -> Fault
+    ensures { (bytes : List ℕ) → IsTextFault bytes error → IsRefused result bytes }
+{
+    match error {
+        TextError::NotJson => Fault::NotJson,
+        TextError::NotExtendedJson(Error::InvalidObjectId(_)) => Fault::BadObjectId,
+        TextError::NotExtendedJson(Error::DeserializationError { .. }) => Fault::NotExtendedJson,
+        TextError::NotExtendedJson(Error::OutOfMemory) => Fault::OutOfMemory,
+        TextError::OutOfMemory => Fault::OutOfMemory,
+    }
+}
+
+/// The text or the value's output in the mode, and a newline.
+fn output(alloc: Global, mode: Mode, read: Converted) -> Result<Vec<u8>, Fault>
+    requires { IsWritable read }
+    ensures ok { (value : model.Value) → IsReadForm value → IsConverted mode value read
+        → IfOk result (λ output. IsOutput mode value output.items) }
+    ensures fault { IfErr result (λ fault. fault ≡ Fault.OutOfMemory) }
+{
+    match read {
+        Converted::Text(text) => line(text),
+        Converted::Value(value) => value_output(alloc, mode, value),
     }
 }
 
 /// The value's text in the mode, and a newline.
-fn output(alloc: Global, mode: Mode, value: Bson) -> Result<Vec<u8>, Fault>
+fn value_output(alloc: Global, mode: Mode, value: Bson) -> Result<Vec<u8>, Fault>
     requires { IsReadForm (bson_view value) }
     ensures ok { IfOk result (λ output. IsOutput mode (bson_view value) output.items) }
     ensures fault { IfErr result (λ fault. fault ≡ Fault.OutOfMemory) }

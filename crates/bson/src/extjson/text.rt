@@ -1,11 +1,13 @@
 //! The text of a value in both forms, written with no tree.
-ghost use Rattle.std.specs.Prelude.{◌≡◌, ◌++◌, OnOk, true};
+ghost use Rattle.std.specs.Prelude.{◌≡◌, ◌++◌, [], OnOk, true, string_bytes};
+ghost use Rattle.json.specs.Print.{print as print_tokens};
 ghost use Rattle.serde_json.specs.Data.{array, object};
-ghost use Rattle.bson_model.specs.Normal.{InRange, ItemsInRange, PairsInRange};
+ghost use Rattle.bson_model.specs.Normal.{InRange, ItemsInRange, PairsInRange, writable};
 ghost use Rattle.bson_model.specs.Writing.{writes, writes_items, writes_pairs};
 ghost use Rattle.bson_store.specs.Order.{in_order};
 ghost use Rattle.bson_store.specs.Pairs.{keys, HasDistinctKeys};
-ghost use Rattle.bson.specs.Texts.{Prints, GivesText, code_tokens, writes_in_order, KeysAscend};
+ghost use Rattle.bson.specs.Texts.{Prints, GivesText, IsPrinted, code_tokens};
+ghost use Rattle.bson.specs.Texts.{writes_in_order, KeysAscend};
 ghost use Rattle.bson.specs.View.{bson_view, scoped_view, values_view, pairs_view};
 
 use crate::bson::{Bson, JavaScriptCodeWithScope};
@@ -24,10 +26,36 @@ pub(crate) fn text_of(alloc: Global, form: Form, value: &Bson) -> Result<String,
 {
     let mut out = Writer::new(Vec::with_capacity(alloc, 128)?);
     print(alloc, form, value, &mut out)?;
+    Ok(finished(out))
+}
+
+// The text that was written.
+pub(crate) fn finished(out: Writer) -> String
+    requires { out.before ≡ [] }
+    ensures { string_bytes result ≡ print_tokens out.tokens }
+{
     let Ok(text) = String::from_utf8(out.into_inner()) else {
         unreachable!();
     };
-    Ok(text)
+    text
+}
+
+// Prints a value that was read, which holds no finite double but the zeros.
+pub(crate) fn print_read(
+    alloc: Global,
+    form: Form,
+    value: &Bson,
+    out: &mut Writer,
+) -> Result<(), AllocError>
+    requires { writable (bson_view value.now) ≡ true }
+    ensures ok { OnOk result (IsPrinted form (bson_view value.now) out.old.tokens out.new.tokens) }
+    ensures before { out.new.before ≡ out.old.before }
+{
+    match print(alloc, form, value, out) {
+        Ok(()) => Ok(()),
+        Err(WriteError::OutOfMemory) => Err(AllocError),
+        Err(WriteError::FiniteDouble) => unreachable!(),
+    }
 }
 
 #[cycle(print)]

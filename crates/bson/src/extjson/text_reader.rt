@@ -4,7 +4,7 @@
 //! wrapper's key holds, and of an object that begins with `$scope`), `number` (the number of a
 //! token), `gathered` (the members of an object as they come, by ascending key), `unread` (why no
 //! value was read straight) and `fault` (why the tree of a text means nothing).
-ghost use Rattle.std.specs.Prelude.{◌≡◌, ℕ, List, None, IfOk, IfErr, IsTrue};
+ghost use Rattle.std.specs.Prelude.{◌≡◌, ℕ, List, None, IfOk, IfErr, IsTrue, IsUtf8};
 ghost use Rattle.serde_json.specs.Data.{Data};
 ghost use Rattle.serde_json.specs.Read.{read};
 ghost use Rattle.bson_model.specs.Fault.{IsFaultOf};
@@ -20,8 +20,8 @@ mod fault;
 mod gathered;
 mod held;
 mod number;
-mod straight;
-mod unread;
+pub(crate) mod straight;
+pub(crate) mod unread;
 
 use crate::bson::Bson;
 use crate::extjson::text_error::TextError;
@@ -34,7 +34,7 @@ use serde_json::Value;
 use std::alloc::{AllocError, Global};
 
 /// How deep arrays and objects may nest.
-const MAX_DEPTH: usize = 127;
+pub(crate) const MAX_DEPTH: usize = 127;
 
 impl Bson {
     /// The value that the bytes mean, as one text of MongoDB Extended JSON v2, in either form or
@@ -76,11 +76,37 @@ fn read_bytes(alloc: Global, bytes: &[u8]) -> Result<Bson, TextError>
     let Ok(text) = simdutf8::compat::from_utf8(bytes) else {
         return Err(TextError::NotJson);
     };
+    read_utf8(alloc, bytes, text)
+}
+
+// The same of bytes that are seen to be a text.
+pub(crate) fn read_utf8(alloc: Global, bytes: &[u8], text: &str) -> Result<Bson, TextError>
+    requires same { bytes.now ≡ text.now }
+    requires utf8 { IsUtf8 bytes.now }
+    ensures ok { IfOk result (λ v. HasTextMeaning bytes.now (bson_view v)) }
+    ensures fault { IfErr result (λ e. IsTextFault bytes.now e) }
+{
     match read_text(alloc, text) {
         Ok(value) => Ok(value),
-        Err(Unread::OutOfMemory) => Err(TextError::OutOfMemory),
-        Err(Unread::LeftToTree) => by_tree(alloc, bytes),
-        Err(Unread::Broken) => by_tokens(alloc, bytes, text),
+        Err(unread) => read_refused(alloc, bytes, text, unread),
+    }
+}
+
+// The same of a text that was not read straight.
+pub(crate) fn read_refused(
+    alloc: Global,
+    bytes: &[u8],
+    text: &str,
+    unread: Unread,
+) -> Result<Bson, TextError>
+    requires { bytes.now ≡ text.now }
+    ensures ok { IfOk result (λ v. HasTextMeaning bytes.now (bson_view v)) }
+    ensures fault { IfErr result (λ e. IsTextFault bytes.now e) }
+{
+    match unread {
+        Unread::OutOfMemory => Err(TextError::OutOfMemory),
+        Unread::LeftToTree => by_tree(alloc, bytes),
+        Unread::Broken => by_tokens(alloc, bytes, text),
     }
 }
 

@@ -2,8 +2,9 @@
 //!
 //! What is read here has its meaning by the grammar. A refusal tells nothing of the text: it may
 //! have a fault, or a shape that is left to the reader over trees, which also finds the fault.
-ghost use Rattle.std.specs.Prelude.{◌≡◌, ◌<◌, length, option_map, string_bytes, IfOk, OnOk};
+ghost use Rattle.std.specs.Prelude.{◌≡◌, ◌<◌, ◌≤◌, ◌∷◌, length, option_map, string_bytes, IfOk, OnOk};
 ghost use Rattle.json.specs.Json.{value, items, members};
+ghost use Rattle.json.specs.Reads.{token_of};
 ghost use Rattle.serde_json.specs.Data.{no_members};
 ghost use Rattle.serde_json.specs.Read.{of_json, of_items, of_members, converted};
 ghost use Rattle.serde_json.specs.View.{view};
@@ -38,6 +39,22 @@ pub(crate) fn read_value(
     ensures shorter { OnOk result (length reader.new < length reader.old) }
 {
     let token = reader.next().ok_or(Unread::Broken)?;
+    read_begun(alloc, reader, depth, token)
+}
+
+// The value that begins with the token, which was taken.
+#[cycle(straight)]
+#[inline(always)]
+pub(crate) fn read_begun(
+    alloc: Global,
+    reader: &mut Reader<'_>,
+    depth: usize,
+    token: Token<'_>,
+) -> Result<Bson, Unread>
+    ensures ok { IfOk result
+        (λ v. TreeMeans (converted of_json (value depth (token_of token.entry ∷ reader.old))) (bson_view v) reader.new) }
+    ensures shorter { OnOk result (length reader.new ≤ length reader.old) }
+{
     match token {
         Token::String(text) => Ok(Bson::String(String::from_str(alloc, text)?)),
         Token::Number(text) => match number(text) {

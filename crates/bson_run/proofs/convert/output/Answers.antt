@@ -1,34 +1,9 @@
-use Rattle.std.proofs.Common.{◌≡◌, ◌++◌, List, ℕ, Result, Ok, Err, Vec, Global, IfOk, string_bytes, sym, ◌∙◌, subst}
-use Rattle.bson_wrapper.specs.declared.form.Form.{Form}
-use Rattle.bson_wrapper.specs.declared.form.Form.TheVariants as form
-use Rattle.bson_model.specs.Value.{Value}
-use Rattle.bson_model.specs.Laws.{IsReadForm}
-use Rattle.bson.specs.Texts.{IsTextIn}
-use Rattle.bson.specs.View.{bson_view}
-use Rattle.bson_run.specs.Convert.{IsWritten, newline}
-use Rattle.bson_run.specs.declared.fault.Fault.{Fault}
-use Rattle.bson_run.proofs.Again.{is_written}
+use Rattle.std.proofs.Common.{string_bytes, subst}
+use Rattle.bson_run.specs.Convert.{IsConverted}
+use Rattle.bson_run.proofs.Converting.{text_output}
 use Rattle.bson_run.proofs.convert.output.Goals as goal
-use Rattle.bson_run.proofs.convert.output.Goals.{in-Canonical, in-Relaxed}
 
-line_written : (f : Form) (v : Value) (text : List ℕ) (r : Result (Vec ℕ Global) Fault) → IsReadForm v
-    → IsTextIn f v text → IfOk r (λ o. o.items ≡ text ++ newline) → IfOk r (λ o. IsWritten f v o.items)
-line_written f v text (Ok o) p i h = is_written f v text o.items p i h
-line_written f v text (Err e) p i h = tt
-
-pub returns-in-Ok-clause-ok : goal.returns-in-Ok-clause-ok
-returns-in-Ok-clause-ok c =
-    let v = bson_view c.args.value in
-    let s = string_bytes c.in-Ok.text in
-    elim c.match-mode.branch [
-      | in-Canonical w ↦
-          let t : IsTextIn form.Canonical v s =
-          subst (λ r. IfOk r (λ x. IsTextIn form.Canonical v (string_bytes x))) (sym w.text-is
-          ∙ c.in-Ok.is) w.into_canonical_text-text.ensures.text in
-          rw w.in-Canonical.is (line_written form.Canonical v s c.line.result c.requires t c.line.ensures.ok)
-      | in-Relaxed w ↦
-          let t : IsTextIn form.Relaxed v s =
-          subst (λ r. IfOk r (λ x. IsTextIn form.Relaxed v (string_bytes x))) (sym w.text-is
-          ∙ c.in-Ok.is) w.into_relaxed_text-text.ensures.text in
-          rw w.in-Relaxed.is (line_written form.Relaxed v s c.line.result c.requires t c.line.ensures.ok)
-    ]
+pub returns-in-Text-clause-ok : goal.returns-in-Text-clause-ok
+returns-in-Text-clause-ok c = λ v p i.
+    text_output c.args.mode v (string_bytes c.in-Text.text) c.line.result p
+    (subst (IsConverted c.args.mode v) c.in-Text.is i) c.line.ensures.ok

@@ -10,28 +10,31 @@ use Rattle.bson.specs.Gathered.{gathered}
 use Rattle.bson.proofs.extjson.text_reader.straight.+straight.Given as goal
 
 abbrev pub decreases-read_value : goal.decreases-read_value
-decreases-read_value l = 8 * l.depth
+decreases-read_value l = 8 * l.depth + 1
+
+abbrev pub decreases-read_begun : goal.decreases-read_begun
+decreases-read_begun l = 8 * l.depth
 
 abbrev pub decreases-read_items : goal.decreases-read_items
-decreases-read_items l = 8 * l.depth + 1
+decreases-read_items l = 8 * l.depth + 2
 
 abbrev pub decreases-read_member : goal.decreases-read_member
-decreases-read_member l = 8 * l.depth + 1
+decreases-read_member l = 8 * l.depth + 2
 
 abbrev pub decreases-read_pairs : goal.decreases-read_pairs
-decreases-read_pairs l = 8 * l.depth + 2
+decreases-read_pairs l = 8 * l.depth + 3
 
 abbrev pub decreases-read_scope : goal.decreases-read_scope
-decreases-read_scope l = 8 * l.depth + 1
+decreases-read_scope l = 8 * l.depth + 2
 
 abbrev pub decreases-read_code : goal.decreases-read_code
-decreases-read_code l = 8 * l.depth + 2
+decreases-read_code l = 8 * l.depth + 3
 
 abbrev pub decreases-read_wrapper : goal.decreases-read_wrapper
-decreases-read_wrapper l = 8 * l.depth + 3
+decreases-read_wrapper l = 8 * l.depth + 4
 
 abbrev pub decreases-read_object : goal.decreases-read_object
-decreases-read_object l = 8 * l.depth + 4
+decreases-read_object l = 8 * l.depth + 5
 
 -- what was read stands before what is left
 abbrev pub invariant-read_items-items : goal.invariant-read_items-items

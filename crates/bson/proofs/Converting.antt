@@ -1,0 +1,133 @@
+-- What is read and printed part by part.
+use Rattle.std.proofs.Common.{◌≡◌, ℕ, ◌-◌, ◌<◌, ◌≤◌, List, [], ◌∷◌, ◌++◌, length, true, false, Option, Some, None, Ok, refl, sym, ap, ◌∙◌, subst, arith}
+use Rattle.json.specs.Json.{Json, if_last, parse_map, after_end_array, items, value}
+use Rattle.json.specs.Lex.{tokens}
+use Rattle.json.specs.Print.{print}
+use Rattle.json.specs.Token.{Token, begin_array, end_array}
+use Rattle.json.specs.Tree.{items_tokens}
+use Rattle.std.specs.Prelude.{is_ok, option_and_then}
+use Rattle.serde_json.specs.Data.{Data, Items, no_items, item, array}
+use Rattle.serde_json.specs.Read.{of_json, of_items, converted}
+use Rattle.serde_json.specs.Written.{items_outline}
+use Rattle.serde_json.proofs.Texts.{print-outline}
+use Rattle.bson_wrapper.specs.Faults.{◌>>=◌}
+use Rattle.bson_wrapper.specs.Written as writing
+use Rattle.bson_wrapper.specs.Written.{Stops}
+use Rattle.bson_wrapper.specs.declared.form.Form.{Form}
+use Rattle.bson_wrapper.specs.declared.write_error.WriteError.{WriteError}
+use Rattle.bson_wrapper.specs.declared.write_error.WriteError.TheVariants.{FiniteDouble}
+use Rattle.bson_wrapper.proofs.Offered.{in_turn}
+use Rattle.bson_model.specs.Normal.{ItemsInRange, writable}
+use Rattle.bson_model.specs.Reading.{reads, reads_items}
+use Rattle.bson_model.specs.Value as model
+use Rattle.bson_model.specs.Value.{Value, Values, no_values}
+use Rattle.bson_model.specs.Writing.{writes, writes_items}
+use Rattle.bson_model.proofs.Offered.{value_read, writable_is, tree_is, has_text}
+use Rattle.bson.specs.Converted.{ItemsConverted, TreeConverted, TextConverted}
+use Rattle.bson.specs.Straight.{TreeMeans}
+use Rattle.bson.specs.Texts.{IsPrinted, IsTextIn, tokens_of}
+use Rattle.bson.proofs.Printed.{EndsItems, items_more as printed_more}
+use Rattle.bson.proofs.Turns.{one_item, last_item, array_opened, was_read}
+
+-- what was read can be written
+pub read_writable : (d : Data) (v : Value) → reads d ≡ Ok v → writable v ≡ true
+read_writable d v h = (value_read (λ w. w) d (Ok v) h).ok.read_form.1
+
+-- the writer refuses a value that can't be written alone
+pub finite_refused : (f : Form) (v : Value) (e : WriteError) → Stops e (writes f v) → e ≡ FiniteDouble
+    → writable v ≡ false
+finite_refused f v e stops finite =
+    sym (writable_is f v) ∙ ap is_ok (subst (λ x. Stops x (writes f v)) finite stops)
+
+-- ---- lists
+
+-- the elements from here on are read to the end of their list, and printed with its end
+pub record ItemsPass (f : Form) (depth : ℕ) (ts rest old end : List Token) : Type 0 where
+  pub trees : Items
+  pub values : Values
+  pub all : (n : ℕ) → length ts ≤ n → converted of_items (items (value depth) n ts) ≡ Some (trees, rest)
+  pub read : reads_items trees ≡ Ok values
+  pub printed : EndsItems (writes_items f values) old end
+  pub ranged : ItemsInRange values
+
+pub one_passes : (f : Form) (depth : ℕ) (ts r rest old new end : List Token) (v : Value) → after_end_array ts ≡ None
+    → TreeMeans (converted of_json (value depth ts)) v r → length r < length ts → IsPrinted f v old new
+    → ItemsPass f depth r rest new end → ItemsPass f depth ts rest old end
+one_passes f depth ts r rest old new end v going m less p more = record {
+  trees = item m.0 more.trees;
+  values = model.value v more.values;
+  all = λ n enough. one_item (value depth) n ts r m.0 (omega (arith, enough, less)) going m.1
+      ∙ ap (parse_map (item m.0)) (more.all (n - 1) (omega (arith, enough, less)));
+  read = ap (λ q. q >>= λ w. reads_items more.trees >>= λ vs. Ok (model.value w vs)) m.2
+      ∙ ap (λ q. q >>= λ vs. Ok (model.value v vs)) more.read;
+  printed = printed_more f v more.values old new end (p.0, p.1, p.2) more.printed;
+  ranged = (p.3, more.ranged);
+}
+
+pub none_pass : (f : Form) (depth : ℕ) (ts rest old end : List Token) → after_end_array ts ≡ Some rest
+    → end ≡ old ++ end_array ∷ [] → ItemsPass f depth ts rest old end
+none_pass f depth ts rest old end ended e = record {
+  trees = no_items;
+  values = no_values;
+  all = λ n enough. last_item (value depth) n ts rest enough ended;
+  read = refl;
+  printed = (no_items, refl, e);
+  ranged = tt;
+}
+
+-- a whole list
+pub list_passes : (f : Form) (depth : ℕ) (ts rest old new end : List Token) → new ≡ old ++ begin_array ∷ []
+    → ItemsPass f depth ts rest new end
+    → ItemsConverted f (converted of_items (items (value depth) (length ts) ts)) rest old end
+list_passes f depth ts rest old new end opened p =
+    let printed = p.printed in (
+      p.values,
+      (p.trees, p.all (length ts) (omega arith), p.read),
+      (
+        array printed.0,
+        ap (λ r. writing.◌>>=◌ r (λ ds. Ok (array ds))) printed.1,
+        in_turn old (begin_array ∷ []) new (items_tokens (items_outline printed.0)) end opened printed.2,
+        p.ranged,
+      ),
+    )
+
+pub list_converted : (f : Form) (depth : ℕ) (ts r rest old end : List Token) → ts ≡ begin_array ∷ r → 0 < depth
+    → ItemsConverted f (converted of_items (items (value (depth - 1)) (length r) r)) rest old end
+    → TreeConverted f (converted of_json (value depth ts)) rest old end
+list_converted f depth ts r rest old end is left p =
+    let read = p.1 in (
+      model.array p.0,
+      (
+        array read.0,
+        array_opened depth ts r is left ∙ ap (parse_map array) read.1,
+        ap (λ q. q >>= λ vs. Ok (model.array vs)) read.2,
+      ),
+      p.2,
+    )
+
+-- ---- whole texts
+
+last_read : (o : Option (Json × List Token)) (d : Data) → converted of_json o ≡ Some (d, [])
+    → option_and_then of_json (option_and_then (λ p. if_last p.0 p.1) o) ≡ Some d
+last_read o d h =
+    let j = was_read of_json o d [] h in
+    ap (λ q. option_and_then of_json (option_and_then (λ p. if_last p.0 p.1) q)) j.1 ∙ j.2
+
+text_printed : (f : Form) (v : Value) (old new : List Token) (s : List ℕ) → old ≡ [] → IsPrinted f v old new
+    → s ≡ print new → IsTextIn f v s
+text_printed f v old new s none p is = record {
+  tree = p.0;
+  is_tree = tree_is f v p.0 p.1 p.3;
+  reads_again = λ plain. has_text f v p.0 p.1 plain p.3;
+  compact = is ∙ ap print (p.2 ∙ ap (λ l. l ++ tokens_of p.0) none) ∙ print-outline p.0;
+}
+
+pub text_converted : (f : Form) (text s : List ℕ) (rest old new : List Token)
+    → TreeConverted f (converted of_json (value 127 (tokens text))) rest old new → rest ≡ [] → old ≡ []
+    → s ≡ print new → TextConverted f text s
+text_converted f text s rest old new p last none is =
+    let m = p.1 in (
+      p.0,
+      (m.0, last_read (value 127 (tokens text)) m.0 (m.1 ∙ ap (λ l. Some (m.0, l)) last), m.2),
+      text_printed f p.0 old new s none p.2 is,
+    )

@@ -1,0 +1,236 @@
+//! A text to another of the same value, part by part.
+ghost use Rattle.std.specs.Prelude.{◌≡◌, ◌<◌, ◌≤◌, ◌∷◌, List, length, true, option_map, IfOk, IfErr};
+ghost use Rattle.std.specs.Prelude.{OnOk, IfSome, string_bytes};
+ghost use Rattle.json.specs.Json.{value, items, members};
+ghost use Rattle.json.specs.Reads.{token_of};
+ghost use Rattle.serde_json.specs.Data.{Data, no_members};
+ghost use Rattle.serde_json.specs.Read.{of_json, of_items, of_members, converted};
+ghost use Rattle.bson_model.specs.Means.{Means};
+ghost use Rattle.bson_model.specs.Value as model;
+ghost use Rattle.bson.specs.Converted.{IsConversion, TreeConverted, ItemsConverted};
+ghost use Rattle.bson.specs.Converted.{ObjectConverted, TextConverted, Follows};
+ghost use Rattle.bson.specs.TextMeaning.{IsTextOf, IsTextFault};
+ghost use Rattle.bson.specs.declared.extjson.text_error.TextError.TheVariants.{OutOfMemory};
+
+use crate::bson::Bson;
+use crate::extjson::text::{finished, print_read};
+use crate::extjson::text_error::TextError;
+use crate::extjson::text_reader::straight::{read_begun, read_value};
+use crate::extjson::text_reader::unread::Unread;
+use crate::extjson::text_reader::{MAX_DEPTH, read_refused, read_utf8};
+use bson_wrapper::form::Form;
+use bson_wrapper::wrapper::named;
+use json::{Reader, Scratch, Token, Writer};
+use std::alloc::Global;
+
+/// What [`Bson::convert_text`] gives.
+#[derive(Drop)]
+pub enum Converted {
+    /// The text of the value in the form.
+    Text(String),
+    /// The value, which was read whole.
+    Value(Bson),
+}
+
+// A text of fewer bytes is read whole.
+const LEAST_LENGTH: usize = 4096;
+
+impl Bson {
+    /// The text in the form of the value that the bytes mean, as [`Bson::try_from_text`] reads it;
+    /// or that value, where there is little to save or its parts do not stand in the order in which
+    /// they are written.
+    ///
+    /// A list is read and written an element at a time, and so is a list in an object whose keys
+    /// ascend by bytes; other members of such an object are read and written one at a time.
+    ///
+    /// It is Ok and refused as `try_from_text` is, with the same errors.
+    pub fn convert_text(
+        alloc: Global,
+        form: Form,
+        bytes: &[u8],
+    ) -> Result<Converted, TextError>
+        ensures ok { IfOk result (λ c. IsConversion form bytes.now c) }
+        ensures accepts { (t : Data) (v : model.Value) → IsTextOf bytes.now t → Means t v
+            → IfErr result (λ e. e ≡ OutOfMemory) }
+        ensures fault { IfErr result (λ e. IsTextFault bytes.now e) }
+    {
+        convert(alloc, form, bytes)
+    }
+}
+
+fn convert(alloc: Global, form: Form, bytes: &[u8]) -> Result<Converted, TextError>
+    ensures ok { IfOk result (λ c. IsConversion form bytes.now c) }
+    ensures fault { IfErr result (λ e. IsTextFault bytes.now e) }
+{
+    let Ok(text) = simdutf8::compat::from_utf8(bytes) else {
+        return Err(TextError::NotJson);
+    };
+    match convert_parts(alloc, form, text) {
+        Ok(Some(written)) => Ok(Converted::Text(written)),
+        Ok(None) => Ok(Converted::Value(read_utf8(alloc, bytes, text)?)),
+        Err(unread) => Ok(Converted::Value(read_refused(alloc, bytes, text, unread)?)),
+    }
+}
+
+// The text, written as its parts are read; none where it is to be read whole.
+fn convert_parts(alloc: Global, form: Form, text: &str) -> Result<Option<String>, Unread>
+    ensures { IfOk result (λ s. IfSome s (λ written. TextConverted form text.now (string_bytes written))) }
+{
+    if text.len() < LEAST_LENGTH || !has_parts(alloc, text)? {
+        return Ok(None);
+    }
+    let mut scratch = Scratch::new(alloc);
+    let mut reader = Reader::new(text, &mut scratch)?;
+    let mut out = Writer::new(Vec::with_capacity(alloc, text.len())?);
+    convert_root(alloc, form, &mut reader, &mut out)?;
+    if reader.next().is_some() {
+        return Err(Unread::Broken);
+    }
+    Ok(Some(finished(out)))
+}
+
+// Whether the text begins as a list, or is an object whose members can be written as they come.
+fn has_parts(alloc: Global, text: &str) -> Result<bool, Unread> {
+    let mut scratch = Scratch::new(alloc);
+    let mut reader = Reader::new(text, &mut scratch)?;
+    match reader.next() {
+        Some(Token::BeginArray) => Ok(true),
+        Some(Token::BeginObject) => keys_ascend(&mut reader),
+        _ => Ok(false),
+    }
+}
+
+// Whether the keys of the object ascend, and none is a wrapper's. It only saves a try: the keys are
+// looked at again as the members are written.
+fn keys_ascend(reader: &mut Reader<'_>) -> Result<bool, Unread> {
+    let mut last: Option<&str> = None;
+    'members: while let Some(name) = reader.next_key()? {
+        if named(name).is_some() || !follows(last, name) {
+            return Ok(false);
+        }
+        reader.skip_value(MAX_DEPTH - 1)?;
+        last = Some(name);
+    }
+    Ok(true)
+}
+
+// The key is greater than the last one, by bytes.
+fn follows(last: Option<&str>, key: &str) -> bool
+    ensures { result ≡ true → Follows (option_map (λ s. s.now) last.entry) key.now }
+{
+    match last {
+        Some(last) => last.cmp(key).is_lt(),
+        None => true,
+    }
+}
+
+fn convert_root(
+    alloc: Global,
+    form: Form,
+    reader: &mut Reader<'_>,
+    out: &mut Writer,
+) -> Result<(), Unread>
+    ensures ok { OnOk result
+        (TreeConverted form (converted of_json (value 127 reader.old)) reader.new out.old.tokens out.new.tokens) }
+    ensures before { out.new.before ≡ out.old.before }
+{
+    let token = reader.next().ok_or(Unread::Broken)?;
+    match token {
+        Token::BeginObject => convert_members(alloc, form, reader, MAX_DEPTH - 1, out),
+        token => convert_begun(alloc, form, reader, MAX_DEPTH, token, out),
+    }
+}
+
+// The value that begins with the token: a list an element at a time, and any other whole.
+fn convert_begun(
+    alloc: Global,
+    form: Form,
+    reader: &mut Reader<'_>,
+    depth: usize,
+    token: Token<'_>,
+    out: &mut Writer,
+) -> Result<(), Unread>
+    ensures ok { OnOk result
+        (TreeConverted form (converted of_json (value depth (token_of token.entry ∷ reader.old))) reader.new
+        out.old.tokens out.new.tokens) }
+    ensures before { out.new.before ≡ out.old.before }
+    ensures shorter { OnOk result (length reader.new ≤ length reader.old) }
+{
+    if let Token::BeginArray = token {
+        if depth == 0 {
+            return Err(Unread::LeftToTree);
+        }
+        return convert_items(alloc, form, reader, depth - 1, out);
+    }
+    let value = read_begun(alloc, reader, depth, token)?;
+    print_read(alloc, form, &value, out)?;
+    drop(value);
+    Ok(())
+}
+
+// An object whose brace was read, a member at a time.
+fn convert_members(
+    alloc: Global,
+    form: Form,
+    reader: &mut Reader<'_>,
+    depth: usize,
+    out: &mut Writer,
+) -> Result<(), Unread>
+    ensures ok { OnOk result
+        (ObjectConverted form
+        (converted (λ ms. of_members ms no_members) (members (value depth) (length reader.old) reader.old)) reader.new
+        out.old.tokens out.new.tokens) }
+    ensures before { out.new.before ≡ out.old.before }
+{
+    out.begin_object()?;
+    let mut last: Option<&str> = None;
+    'members: while let Some(name) = reader.next_key()? {
+        if named(name).is_some() || !follows(last, name) {
+            return Err(Unread::LeftToTree);
+        }
+        out.key(name)?;
+        convert_member(alloc, form, reader, depth, out)?;
+        last = Some(name);
+    }
+    Ok(out.end_object()?)
+}
+
+// The value of a member whose key was read.
+fn convert_member(
+    alloc: Global,
+    form: Form,
+    reader: &mut Reader<'_>,
+    depth: usize,
+    out: &mut Writer,
+) -> Result<(), Unread>
+    ensures ok { OnOk result
+        (TreeConverted form (converted of_json (value depth reader.old)) reader.new out.old.tokens out.new.tokens) }
+    ensures before { out.new.before ≡ out.old.before }
+    ensures shorter { OnOk result (length reader.new < length reader.old) }
+{
+    let token = reader.next().ok_or(Unread::Broken)?;
+    convert_begun(alloc, form, reader, depth, token, out)
+}
+
+// A list whose bracket was read, an element at a time.
+fn convert_items(
+    alloc: Global,
+    form: Form,
+    reader: &mut Reader<'_>,
+    depth: usize,
+    out: &mut Writer,
+) -> Result<(), Unread>
+    ensures ok { OnOk result
+        (ItemsConverted form (converted of_items (items (value depth) (length reader.old) reader.old)) reader.new
+        out.old.tokens out.new.tokens) }
+    ensures before { out.new.before ≡ out.old.before }
+    ensures shorter { OnOk result (length reader.new < length reader.old) }
+{
+    out.begin_array()?;
+    'items: while !reader.take_end_array() {
+        let item = read_value(alloc, reader, depth)?;
+        print_read(alloc, form, &item, out)?;
+        drop(item);
+    }
+    Ok(out.end_array()?)
+}

@@ -1,0 +1,29 @@
+use Rattle.std.proofs.Common.{◌≡◌, ◌++◌, List, ℕ, Result, Ok, Err, Vec, Global, IfOk, string_bytes, sym, ◌∙◌, subst}
+use Rattle.bson_wrapper.specs.declared.form.Form.{Form}
+use Rattle.bson_wrapper.specs.declared.form.Form.TheVariants as form
+use Rattle.bson_model.specs.Value.{Value}
+use Rattle.bson_model.specs.Laws.{IsReadForm}
+use Rattle.bson.specs.Texts.{IsTextIn}
+use Rattle.bson.specs.View.{bson_view}
+use Rattle.bson_run.specs.Convert.{IsWritten, newline}
+use Rattle.bson_run.specs.declared.fault.Fault.{Fault}
+use Rattle.bson_run.proofs.Converting.{line_written}
+use Rattle.bson_run.proofs.convert.value_output.Goals as goal
+use Rattle.bson_run.proofs.convert.value_output.Goals.{in-Canonical, in-Relaxed}
+
+pub returns-in-Ok-clause-ok : goal.returns-in-Ok-clause-ok
+returns-in-Ok-clause-ok c =
+    let v = bson_view c.args.value in
+    let s = string_bytes c.in-Ok.text in
+    elim c.match-mode.branch [
+      | in-Canonical w ↦
+          let t : IsTextIn form.Canonical v s =
+          subst (λ r. IfOk r (λ x. IsTextIn form.Canonical v (string_bytes x))) (sym w.text-is
+          ∙ c.in-Ok.is) w.into_canonical_text-text.ensures.text in
+          rw w.in-Canonical.is (line_written form.Canonical v s c.line.result c.requires t c.line.ensures.ok)
+      | in-Relaxed w ↦
+          let t : IsTextIn form.Relaxed v s =
+          subst (λ r. IfOk r (λ x. IsTextIn form.Relaxed v (string_bytes x))) (sym w.text-is
+          ∙ c.in-Ok.is) w.into_relaxed_text-text.ensures.text in
+          rw w.in-Relaxed.is (line_written form.Relaxed v s c.line.result c.requires t c.line.ensures.ok)
+    ]
