@@ -1,14 +1,13 @@
 -- Members in ascending order, by their places.
-use Rattle.std.proofs.Common.{◌≡◌, ℕ, zero, suc, ◌<◌, ◌≤◌, List, [], ◌∷◌, ◌++◌, length, get_or, set, String, Global, string_bytes, string_cmp, Ordering, Less, Equal, Greater, nat_cmp, refl, sym, ap, ◌∙◌, subst, arith}
+use Rattle.std.proofs.Common.{◌≡◌, ℕ, zero, suc, ◌+◌, ◌<◌, ◌≤◌, List, [], ◌∷◌, ◌++◌, length, get_or, set, String, Global, string_bytes, Less, Equal, Greater, nat_cmp, refl, sym, ap, ◌∙◌, subst, arith}
 use Rattle.std.specs.Cmp.Lexicographic.{slice_cmp}
 use Rattle.std.specs.List.{insert}
-use Rattle.std.specs.BTreeMap.{insert_entry}
-use Rattle.std.specs.Ordering.{is_eq, match_ordering}
+use Rattle.std.specs.Ordering.{is_eq}
 use Rattle.std.proofs.lemmas.Cmp.{nat_list_cmp_total}
 use Rattle.std.proofs.lemmas.Map.Text.{is_eq-slice_cmp}
 use Rattle.std.specs.Cmp.Lexicographic.{nat_list_eq_equiv}
 use Rattle.bson.proofs.Fresh.{AllApart, Fresh}
-use Rattle.bson.specs.View.{bson_view, pairs_view}
+use Rattle.bson.specs.View.{bson_view}
 use Rattle.bson.specs.declared.bson.Bson.{Bson}
 use Rattle.bson_model.specs.Sorted.{put_pair, IsLeast, KeysAscend}
 use Rattle.bson_model.specs.Value.{pair}
@@ -97,38 +96,16 @@ fits_within k [] (suc i) h = absurd h
 fits_within k (m ∷ ms) zero h = omega arith
 fits_within k (m ∷ ms) (suc i) h = omega (arith, fits_within k ms i h.1)
 
--- ---- in an ordered map
-
-seen-match_ordering : (o : Ordering) (a b c : List Member)
-    → gathered_pairs (match_ordering o a b c) ≡ match_ordering o (gathered_pairs a) (gathered_pairs b) (gathered_pairs c)
-seen-match_ordering Less a b c = refl
-seen-match_ordering Equal a b c = refl
-seen-match_ordering Greater a b c = refl
-
-pub seen_entered : (k : String Global) (v : Bson) (ms : List Member)
-    → gathered_pairs (insert_entry string_cmp ms k v) ≡ put_pair (string_bytes k) (bson_view v) (gathered_pairs ms)
-seen_entered k v [] = refl
-seen_entered k v (m ∷ ms) = seen-match_ordering (string_cmp k m.0) _ _ _ ∙ rw (seen_entered k v ms) refl
-
-abbrev pub Entry : Type 0
-Entry = List ℕ × Bson
-
-least_of : (k : List ℕ) (ps : List Entry) (x : Entry) (rest : List Entry) → IsLeast k (pairs_view (ps ++ x ∷ rest))
-    → slice_cmp nat_cmp k x.0 ≡ Less
-least_of k [] x rest h = h.0
-least_of k (p ∷ ps) x rest h = least_of k ps x rest h.1
-
--- a key that is above all others goes last
-pub put_last : (ps : List Entry) (x : Entry) (rest : List Entry) → KeysAscend (pairs_view (ps ++ x ∷ rest))
-    → put_pair x.0 (bson_view x.1) (pairs_view ps) ≡ pairs_view (ps ++ x ∷ [])
-put_last [] x rest up = refl
-put_last (p ∷ ps) x rest up = rw (flipped p.0 x.0 Less (least_of p.0 ps x rest up.0)) (ap (pair p.0 (bson_view p.1)) (put_last ps x rest up.1))
-
 -- ---- lists
 
 pub nothing_left : {X : Type 0} (xs : List X) → length xs ≡ 0 → xs ≡ []
 nothing_left [] h = refl
 nothing_left (x ∷ xs) h = absurd (omega arith)
+
+-- how many are left behind the next
+pub one_left : {X : Type 0} (xs ys : List X) (x : X) (n m : ℕ) → n ≡ length xs → xs ≡ x ∷ ys → m + 1 ≡ n
+    → m ≡ length ys
+one_left xs ys x n m all steps gone = let short = ap length steps in omega arith
 
 pub then_last : {X : Type 0} (xs : List X) (x : X) (ys : List X) → (xs ++ x ∷ []) ++ ys ≡ xs ++ x ∷ ys
 then_last [] x ys = refl

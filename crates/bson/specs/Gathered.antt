@@ -1,11 +1,16 @@
--- The members of an object by ascending key, and the place of one more. For private clauses.
-use Rattle.std.specs.Prelude.{◌≡◌, ℕ, zero, suc, List, [], ◌∷◌, map, String, string_bytes}
+-- The members of an object as they come and by ascending key, and the place of one more. For private clauses.
+use Rattle.std.specs.Prelude.{◌≡◌, ℕ, zero, suc, ◌*◌, ◌%◌, ◌^◌, Bool, List, [], ◌∷◌, map, slice_index_or, String}
+use Rattle.std.specs.Prelude.{string_bytes}
+use Rattle.std.specs.Int.Bits.{bit_or}
+use Rattle.std.specs.List.{filter}
+use Rattle.std.specs.Str.{bytes_eq}
 use Rattle.std.specs.Cmp.Lexicographic.{slice_cmp}
 use Rattle.std.specs.Ordering.{nat_cmp}
 use Rattle.std.specs.declared.alloc.Global.{Global}
 use Rattle.std.specs.declared.cmp.Ordering.TheVariants.{Less, Equal, Greater}
-use Rattle.bson_model.specs.Value.{Pairs}
-use Rattle.bson.specs.View.{pairs_view}
+use Rattle.bson_model.specs.Sorted.{put_pair}
+use Rattle.bson_model.specs.Value.{Pairs, no_pairs}
+use Rattle.bson.specs.View.{bson_view, pairs_view}
 use Rattle.bson.specs.declared.bson.Bson.{Bson}
 use Rattle.bson.specs.declared.extjson.text_reader.gathered.Gathered.{Gathered}
 use Rattle.bson.specs.declared.extjson.text_reader.gathered.Gathered.TheVariants.{Few, Many}
@@ -20,9 +25,14 @@ by_bytes ms = map (λ m. (string_bytes m.0, m.1)) ms
 abbrev pub gathered_pairs : List Member → Pairs
 gathered_pairs ms = pairs_view (by_bytes ms)
 
+-- the pairs after each member in turn is put to them
+abbrev pub put_all : List Member → Pairs → Pairs
+put_all [] ps = ps
+put_all (m ∷ ms) ps = put_all ms (put_pair (string_bytes m.0) (bson_view m.1) ps)
+
 abbrev pub gathered : Gathered → Pairs
 gathered (Few v) = gathered_pairs v.items
-gathered (Many m) = gathered_pairs m.entries
+gathered (Many v) = put_all v.items no_pairs
 
 -- the key stands at the place, and is above all before it
 abbrev pub StandsAt : List ℕ → List Member → ℕ → Type 0
@@ -36,3 +46,16 @@ FitsAt k [] zero = Unit {0}
 FitsAt k [] (suc i) = ⊥
 FitsAt k (m ∷ ms) zero = slice_cmp nat_cmp k (string_bytes m.0) ≡ Less
 FitsAt k (m ∷ ms) (suc i) = (slice_cmp nat_cmp k (string_bytes m.0) ≡ Greater) × FitsAt k ms i
+
+-- they have one key
+abbrev pub has_key_of : Member → Member → Bool
+has_key_of m n = bytes_eq (string_bytes m.0) (string_bytes n.0)
+
+-- the same members, in which those of each key stand in the order in which they stood
+abbrev pub KeepsTurns : List Member → List Member → Type 0
+KeepsTurns ms ns = (m : Member) → filter (has_key_of m) ns ≡ filter (has_key_of m) ms
+
+-- the first n bytes as a number
+abbrev pub prefix : List ℕ → ℕ → ℕ
+prefix bs zero = 0
+prefix bs (suc n) = bit_or (prefix bs n * 256 % 2 ^ 128) (slice_index_or bs n 0)

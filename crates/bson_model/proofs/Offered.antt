@@ -2,6 +2,7 @@
 pub use Rattle.bson_model.proofs.ComesBack.{has_text, read_back_ok, read_comes_back}
 pub use Rattle.bson_model.proofs.MeansLaws.{means_from, means_one, means_to}
 pub use Rattle.bson_model.proofs.Members.{Member, just_one, just_two, more_than_two}
+pub use Rattle.bson_model.proofs.PutLaws.{put_swap}
 pub use Rattle.bson_model.proofs.PutMembers.{put_members_swap}
 pub use Rattle.bson_model.proofs.PutSwap.{equal_keys, flipped}
 pub use Rattle.bson_model.proofs.ReadBack.{forms_idempotent, tree_is, writable_from, write_both, write_finite, write_ok}

@@ -1,9 +1,10 @@
-//! The members of an object as they come, kept by ascending key.
+//! The members of an object as they come, and the document of them by ascending key.
 ghost use Rattle.std.specs.Prelude.{◌≡◌, IfOk, OnOk, IsTrue, MatchResult, string_bytes};
 ghost use Rattle.bson_model.specs.Sorted.{put_pair, KeysAscend};
 ghost use Rattle.bson_model.specs.Value.{no_pairs};
 ghost use Rattle.bson.specs.View.{bson_view, document_view};
-ghost use Rattle.bson.specs.Gathered.{gathered_pairs, gathered, StandsAt, FitsAt};
+ghost use Rattle.bson.specs.Gathered.{gathered_pairs, gathered, put_all, StandsAt, FitsAt};
+ghost use Rattle.bson.specs.Gathered.{KeepsTurns, prefix};
 
 use crate::bson::Bson;
 use crate::document::Document;
@@ -11,18 +12,17 @@ use crate::extjson::text_reader::unread::Unread;
 use bson_store::{PairStore, SmallPairs};
 use std::alloc::Global;
 use std::cmp::Ordering;
-use std::collections::BTreeMap;
 
-/// A key that goes before the last of so many members makes an ordered map of them.
+/// Where a key goes before the last of so many members, they are put in order at the end.
 const MANY: usize = 32;
 
-/// The members of an object so far, by ascending key.
+/// The members of an object so far.
 #[derive(Drop)]
 pub(crate) enum Gathered {
-    /// In one list: they came in ascending order, or are few.
+    /// By ascending key, each once: they came so, or are few.
     Few(Vec<(String, Bson)>),
-    /// In an ordered map.
-    Many(BTreeMap<String, Bson>),
+    /// As they came. Of those of one key the last counts.
+    Many(Vec<(String, Bson)>),
 }
 
 /// No members.
@@ -43,56 +43,37 @@ pub(crate) fn is_none(found: &Gathered) -> bool
 }
 
 /// Puts the value at the key. One that is there with the key gives way.
-pub(crate) fn put(
-    alloc: Global,
-    found: Gathered,
-    key: String,
-    value: Bson,
-) -> Result<Gathered, Unread>
+pub(crate) fn put(found: Gathered, key: String, value: Bson) -> Result<Gathered, Unread>
     requires { KeysAscend (gathered found) }
     ensures { IfOk result
         (λ now. gathered now ≡ put_pair (string_bytes key) (bson_view value) (gathered found)) }
 {
     match found {
-        Gathered::Few(members) => put_few(alloc, members, key, value),
+        Gathered::Few(members) => put_few(members, key, value),
         Gathered::Many(members) => put_many(members, key, value),
     }
 }
 
-fn put_few(
-    alloc: Global,
-    mut members: Vec<(String, Bson)>,
-    key: String,
-    value: Bson,
-) -> Result<Gathered, Unread>
+fn put_few(mut members: Vec<(String, Bson)>, key: String, value: Bson) -> Result<Gathered, Unread>
     requires { KeysAscend (gathered_pairs members.items) }
     ensures { IfOk result
         (λ now. gathered now ≡ put_pair (string_bytes key) (bson_view value) (gathered_pairs members.items)) }
 {
-    match place_of(&members, key.as_str()) {
-        Ok(at) => {
-            members[at] = (key, value);
-            Ok(Gathered::Few(members))
-        }
-        Err(at) => {
-            if at < members.len() && members.len() >= MANY {
-                return put_many(map_of(alloc, members)?, key, value);
-            }
-            members.insert(at, (key, value))?;
+    let place = place_of(&members, key.as_str());
+    match place {
+        Err(at) if at < members.len() && members.len() >= MANY => put_many(members, key, value),
+        _ => {
+            enter(&mut members, place, key, value)?;
             Ok(Gathered::Few(members))
         }
     }
 }
 
-fn put_many(
-    mut members: BTreeMap<String, Bson>,
-    key: String,
-    value: Bson,
-) -> Result<Gathered, Unread>
+fn put_many(mut members: Vec<(String, Bson)>, key: String, value: Bson) -> Result<Gathered, Unread>
     ensures { IfOk result
-        (λ now. gathered now ≡ put_pair (string_bytes key) (bson_view value) (gathered_pairs members.entries)) }
+        (λ now. gathered now ≡ put_pair (string_bytes key) (bson_view value) (put_all members.items no_pairs)) }
 {
-    enter(&mut members, key, value)?;
+    members.push((key, value))?;
     Ok(Gathered::Many(members))
 }
 
@@ -113,23 +94,22 @@ fn place_of(found: &Vec<(String, Bson)>, key: &str) -> Result<usize, usize>
     Err(0)
 }
 
-// The same members in an ordered map.
-fn map_of(alloc: Global, members: Vec<(String, Bson)>) -> Result<BTreeMap<String, Bson>, Unread>
-    requires { KeysAscend (gathered_pairs members.items) }
-    ensures { IfOk result (λ map. gathered_pairs map.entries ≡ gathered_pairs members.items) }
+// Puts the value at the key, whose place is this.
+fn enter(
+    members: &mut Vec<(String, Bson)>,
+    place: Result<usize, usize>,
+    key: String,
+    value: Bson,
+) -> Result<(), Unread>
+    requires { MatchResult place (λ at. StandsAt (string_bytes key) members.old.items at)
+        (λ at. FitsAt (string_bytes key) members.old.items at) }
+    ensures { OnOk result (gathered_pairs members.new.items
+        ≡ put_pair (string_bytes key) (bson_view value) (gathered_pairs members.old.items)) }
 {
-    let mut map = BTreeMap::new(alloc);
-    'members: for (key, value) in members {
-        enter(&mut map, key, value)?;
+    match place {
+        Ok(at) => members[at] = (key, value),
+        Err(at) => members.insert(at, (key, value))?,
     }
-    Ok(map)
-}
-
-fn enter(map: &mut BTreeMap<String, Bson>, key: String, value: Bson) -> Result<(), Unread>
-    ensures { OnOk result (gathered_pairs map.new.entries
-        ≡ put_pair (string_bytes key) (bson_view value) (gathered_pairs map.old.entries)) }
-{
-    drop(map.insert(key, value)?);
     Ok(())
 }
 
@@ -140,7 +120,7 @@ pub(crate) fn document_of(alloc: Global, found: Gathered) -> Result<Document, Un
 {
     match found {
         Gathered::Few(members) => of_few(alloc, members),
-        Gathered::Many(members) => of_many(alloc, members),
+        Gathered::Many(members) => of_few(alloc, in_order(alloc, members)?),
     }
 }
 
@@ -158,16 +138,59 @@ fn of_few(alloc: Global, found: Vec<(String, Bson)>) -> Result<Document, Unread>
     Ok(Document { pairs })
 }
 
-fn of_many(alloc: Global, found: BTreeMap<String, Bson>) -> Result<Document, Unread>
-    requires { KeysAscend (gathered_pairs found.entries) }
-    ensures { IfOk result (λ document. document_view document ≡ gathered_pairs found.entries) }
+// The members by ascending key, each once. The first bytes of the keys put most of them in order.
+fn in_order(alloc: Global, mut members: Vec<(String, Bson)>) -> Result<Vec<(String, Bson)>, Unread>
+    ensures { IfOk result (λ found. gathered_pairs found.items ≡ put_all members.items no_pairs) }
 {
-    let mut pairs = SmallPairs::with_capacity(alloc, found.len())?;
-    'members: for (key, value) in found {
-        match pairs.push(key, value) {
-            Ok(()) => {}
-            Err(_) => return Err(Unread::OutOfMemory),
-        }
+    sort_by_prefix(&mut members)?;
+    if ascends(&members) {
+        return Ok(members);
     }
-    Ok(Document { pairs })
+    sort_by_key(&mut members)?;
+    last_of_each(alloc, members)
+}
+
+fn sort_by_prefix(members: &mut Vec<(String, Bson)>) -> Result<(), Unread>
+    ensures { OnOk result (KeepsTurns members.old.items members.new.items) }
+{
+    members.sort_by_cached_key(|member| prefix_of(member.0.as_bytes()))?;
+    Ok(())
+}
+
+// The first sixteen bytes as one number, with zeros for those that are missing.
+fn prefix_of(key: &[u8]) -> u128
+    ensures { result ≡ prefix key.now 16 }
+{
+    let mut prefix: u128 = 0;
+    'bytes: for at in 0..16 {
+        let byte = key.get(at).copied().unwrap_or(0);
+        prefix = prefix << 8 | byte as u128;
+    }
+    prefix
+}
+
+fn sort_by_key(members: &mut Vec<(String, Bson)>) -> Result<(), Unread>
+    ensures { OnOk result (KeepsTurns members.old.items members.new.items) }
+{
+    members.sort_by(|one, other| one.0.cmp(&other.0))?;
+    Ok(())
+}
+
+// Whether each key is above the one before it.
+fn ascends(members: &Vec<(String, Bson)>) -> bool
+    ensures { IsTrue result → KeysAscend (gathered_pairs members.now.items) }
+{
+    members.is_sorted_by(|one, next| one.0 < next.0)
+}
+
+// The last member of each key, by ascending key. It is quick where the keys do not descend.
+fn last_of_each(alloc: Global, members: Vec<(String, Bson)>) -> Result<Vec<(String, Bson)>, Unread>
+    ensures { IfOk result (λ found. gathered_pairs found.items ≡ put_all members.items no_pairs) }
+{
+    let mut found = Vec::with_capacity(alloc, members.len())?;
+    'members: for (key, value) in members {
+        let place = place_of(&found, key.as_str());
+        enter(&mut found, place, key, value)?;
+    }
+    Ok(found)
 }

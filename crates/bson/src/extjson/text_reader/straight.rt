@@ -159,7 +159,7 @@ fn read_member(
 {
     let key = String::from_str(alloc, name)?;
     let member = read_value(alloc, reader, depth)?;
-    let now = put(alloc, found, key, member)?;
+    let now = put(found, key, member)?;
     Ok(now)
 }
 

@@ -4,7 +4,7 @@ use Rattle.bson.proofs.Fresh.{Fresh, fresh_next}
 use Rattle.bson.proofs.Seen.{document_view-pairs}
 use Rattle.bson.specs.View.{pairs_view}
 use Rattle.bson.specs.Gathered.{by_bytes}
-use Rattle.bson.proofs.Members.{fresh, nothing_left, then_last, at_end}
+use Rattle.bson.proofs.Members.{fresh, nothing_left, one_left, then_last, at_end}
 use Rattle.bson.proofs.extjson.text_reader.gathered.of_few.Goals as goal
 
 pub members-init : goal.members-init
@@ -30,11 +30,7 @@ members-preserved c =
     let k = string_bytes c.in-Some.key in
     let put : c.push.new.self ≡ at.pairs ++ (k, c.in-Some.value) ∷ [] = c.in-Ok.ensures.ok in
     record {
-      left =
-          let before = at.invariant.left in
-          let gone = c.in-Some.ensures.steps.1 in
-          let short = ap length steps in
-          omega arith;
+      left = one_left _ (into_iter_items c.next.new.self) (c.in-Some.key, c.in-Some.value) _ _ at.invariant.left steps c.in-Some.ensures.steps.1;
       fresh = rw put (fresh_next at.pairs (c.in-Some.key, c.in-Some.value) c.in-Some.value (into_iter_items c.next.new.self) was);
       all =
           ap (λ ps. ps ++ by_bytes (into_iter_items c.next.new.self)) put
