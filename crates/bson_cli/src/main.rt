@@ -8,9 +8,8 @@
 
 use bson_run::fault::Fault;
 use bson_run::mode::{Mode, mode_of};
+use bson_run::program::{ended, words_given};
 use bson_run::run::run;
-use std::env;
-use std::io::ErrorKind;
 use std::process::ExitCode;
 
 const USAGE: &str = "usage: bson_cli canonical|relaxed|show";
@@ -29,23 +28,10 @@ fn main(rt: HostRuntime) -> ExitCode {
     }
 }
 
-/// The status, once the line was given to standard error. Where that takes nothing, the status
-/// alone tells.
-fn ended(rt: &HostRuntime, line: &str, status: u8) -> ExitCode {
-    let _ = rt.eprintln(line);
-    ExitCode::from(status)
-}
-
 /// The mode that the arguments ask for. One that is no UTF-8 asks for none.
 fn asked(rt: &HostRuntime) -> Result<Option<Mode>, Fault> {
-    let mut words = match env::args(rt) {
-        Ok(words) => words,
-        Err(error) if error.kind() == ErrorKind::InvalidData => return Ok(None),
-        Err(_) => return Err(Fault::OutOfMemory),
-    };
-    let _program = words.next();
-    match words.collect::<Vec<String>>(rt.alloc()) {
-        Ok(words) => Ok(mode_of(&words)),
-        Err(_) => Err(Fault::OutOfMemory),
+    match words_given(rt)? {
+        Some(words) => Ok(mode_of(&words)),
+        None => Ok(None),
     }
 }

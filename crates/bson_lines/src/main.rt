@@ -18,9 +18,8 @@ use crate::words::{HELP, OUT_OF_MEMORY, USAGE, VERSION};
 use bson_run::fault::Fault;
 use bson_run::line_fault::Refusal;
 use bson_run::lines::Counts;
+use bson_run::program::{ended, words_given};
 use std::alloc::{AllocError, Global};
-use std::env;
-use std::io::ErrorKind;
 use std::process::ExitCode;
 
 /// Status 0: done, and no line was refused. Status 1: a line was refused, or the run could not go
@@ -37,14 +36,8 @@ fn main(rt: HostRuntime) -> ExitCode {
 
 /// What the arguments ask for. One that is no UTF-8 asks for nothing.
 fn given(rt: &HostRuntime) -> Result<Asked, Fault> {
-    let mut words = match env::args(rt) {
-        Ok(words) => words,
-        Err(error) if error.kind() == ErrorKind::InvalidData => return Ok(Asked::Nothing),
-        Err(_) => return Err(Fault::OutOfMemory),
-    };
-    let _program = words.next();
-    let Ok(words) = words.collect::<Vec<String>>(rt.alloc()) else {
-        return Err(Fault::OutOfMemory);
+    let Some(words) = words_given(rt)? else {
+        return Ok(Asked::Nothing);
     };
     match asked_by(rt.alloc(), words) {
         Ok(asked) => Ok(asked),
@@ -103,13 +96,6 @@ fn told(rt: &HostRuntime, line: Result<String, AllocError>) -> ExitCode {
         Ok(line) => ended(rt, &line, 1),
         Err(_) => ended(rt, OUT_OF_MEMORY, 1),
     }
-}
-
-/// The status, once the line was given to standard error. Where that takes nothing, the status
-/// alone tells.
-fn ended(rt: &HostRuntime, line: &str, status: u8) -> ExitCode {
-    let _ = rt.eprintln(line);
-    ExitCode::from(status)
 }
 
 /// Writes what the program says of itself.

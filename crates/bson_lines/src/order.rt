@@ -1,5 +1,4 @@
 //! What the arguments ask for.
-use bson_run::mode::Mode;
 use bson_run::order::{OnRefusal, Task};
 use std::alloc::{AllocError, Global};
 
@@ -34,7 +33,7 @@ pub fn asked_by(alloc: Global, words: Vec<String>) -> Result<Asked, AllocError> 
     let [word, rest @ ..] = words.as_slice() else {
         return Ok(Asked::Nothing);
     };
-    let Some(task) = task_of(word.as_str()) else {
+    let Some(task) = Task::from_name(word.as_str()) else {
         return Ok(if rest.is_empty() {
             of_itself(word.as_str())
         } else {
@@ -53,17 +52,6 @@ fn of_itself(word: &str) -> Asked {
         "--help" | "-h" => Asked::Help,
         "--version" => Asked::Version,
         _ => Asked::Nothing,
-    }
-}
-
-/// The task of this name.
-fn task_of(word: &str) -> Option<Task> {
-    match word {
-        "canonical" => Some(Task::Write(Mode::Canonical)),
-        "relaxed" => Some(Task::Write(Mode::Relaxed)),
-        "show" => Some(Task::Write(Mode::Show)),
-        "check" => Some(Task::Check),
-        _ => None,
     }
 }
 

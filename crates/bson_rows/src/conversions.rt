@@ -27,12 +27,10 @@ fn put(value: Bson, out: &mut Answer) -> Outcome {
 
 fn put_made(made: Result<Bson, AllocError>, out: &mut Answer) -> Outcome {
     match made {
-        Ok(value) => put(value, out),
-        Err(error) => {
-            out.refuse(&error);
-            Ok(())
-        }
+        Ok(value) => return put(value, out),
+        Err(error) => out.refuse(&error),
     }
+    Ok(())
 }
 
 fn of_text(alloc: Global, name: &str, text: &str, out: &mut Answer) -> Outcome {

@@ -24,12 +24,10 @@ fn of_bytes(alloc: Global, name: &str, bytes: Vec<u8>, out: &mut Answer) -> Outc
         Vector::from_bytes(alloc, bytes.as_slice())
     };
     match vector {
-        Ok(vector) => of_vector(alloc, name, vector, out),
-        Err(error) => {
-            out.refuse(&error);
-            Ok(())
-        }
+        Ok(vector) => return of_vector(alloc, name, vector, out),
+        Err(error) => out.refuse(&error),
     }
+    Ok(())
 }
 
 fn of_vector(alloc: Global, name: &str, vector: Vector, out: &mut Answer) -> Outcome {

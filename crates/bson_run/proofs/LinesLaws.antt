@@ -9,12 +9,8 @@ use Rattle.bson_run.specs.Lines.{lines, onto_first, text_of, Tells, IsBlank, IsB
 use Rattle.bson_run.specs.Lines.{written, passed_over, IsStopped, IsStoppedAt}
 use Rattle.bson_run.specs.LinesSteps.{IsFirst, IsStoppedOver, IsOpen, IsJudged, IsTold, HaveSameOutcomes, TakesLine}
 use Rattle.bson_run.specs.LinesSteps.{Progress, Takes, Ends, Reached, Stopped, StopsWithin, StopsLast}
-use Rattle.bson_run.specs.declared.fault.Fault.{Fault}
-use Rattle.bson_run.specs.declared.fault.Fault.TheVariants.{CannotRead, NotJson, BadObjectId, NotExtendedJson}
-use Rattle.bson_run.specs.declared.fault.Fault.TheVariants.{OutOfMemory, CannotWrite}
-use Rattle.bson_run.specs.declared.gathered.Gathered.{Gathered}
-use Rattle.bson_run.specs.declared.order.OnRefusal.{OnRefusal}
-use Rattle.bson_run.specs.declared.order.Task.{Task}
+use Rattle.bson_run.specs.LinesSteps.{Fault, CannotRead, NotJson, BadObjectId, NotExtendedJson, OutOfMemory}
+use Rattle.bson_run.specs.LinesSteps.{CannotWrite, Gathered, OnRefusal, Task}
 
 -- a newline ends what stands before it
 lines_ended : (line more : List ℕ) → IsOpen line → lines (line ++ 10 ∷ more) ≡ line ∷ lines more

@@ -8,13 +8,9 @@ use Rattle.bson_run.specs.Lines.{lines, left_of, none, DoneLines, StopsAt, CutSh
 use Rattle.bson_run.specs.LinesSteps.{FailsOver, IsFirst, IsStoppedOver, IsOpen, IsStart, HasWritten, HaveSameOutcomes}
 use Rattle.bson_run.specs.LinesSteps.{Progress, Takes, Ends, Reached, Stopped, StopsWithin, StopsLast, Running}
 use Rattle.bson_run.specs.Run.{WritesBeginning}
-use Rattle.bson_run.specs.declared.fault.Fault.{Fault}
-use Rattle.bson_run.specs.declared.fault.Fault.TheVariants.{CannotRead, NotJson, BadObjectId, NotExtendedJson}
-use Rattle.bson_run.specs.declared.fault.Fault.TheVariants.{OutOfMemory, CannotWrite}
-use Rattle.bson_run.specs.declared.gathered.Gathered.{Gathered}
+use Rattle.bson_run.specs.LinesSteps.{Fault, CannotRead, NotJson, BadObjectId, NotExtendedJson, OutOfMemory}
+use Rattle.bson_run.specs.LinesSteps.{CannotWrite, Gathered, OnRefusal, Task}
 use Rattle.bson_run.specs.declared.line_fault.LineFault.{LineFault}
-use Rattle.bson_run.specs.declared.order.OnRefusal.{OnRefusal}
-use Rattle.bson_run.specs.declared.order.Task.{Task}
 use Rattle.bson_run.proofs.LinesLaws.{open_nil, reached}
 
 left_at_end : (after : Option (List ℕ)) → IsAtEnd after → left_of after ≡ []
@@ -222,16 +218,16 @@ module _ {task : Task} {on_refusal : OnRefusal} where
       (Appends-trans had mid holds p.output t.output.items p.written written)
       (Appends-trans told said tells p.verdicts t.told.items p.reported reported)
 
-  pub block_cut : {X : Type 0} (r : Result X LineFault) (fault : Fault) (number : ℕ) (block : List ℕ) (s t u : Gathered)
+  pub block_cut : {X : Type 0} (r : Result X LineFault) (e : LineFault) (block : List ℕ) (s t u : Gathered)
       → OnOk r (Takes task on_refusal block s t) → IfErr r (λ e. StopsWithin task on_refusal block e.fault e.line s t)
-      → fault ≡ CannotWrite → number ≡ t.lines + 1
+      → (e.fault ≡ CannotWrite) × (e.line ≡ t.lines + 1)
       → (before given after had mid holds told said tells : Option (List ℕ))
       → WritesBeginning mid holds t.output.items → WritesBeginning said tells t.told.items
       → Running task on_refusal before given had mid told said s → Consumes given after block
-      → FailsOver u fault task on_refusal before after had holds told tells number
-  block_cut r fault number block s t u ok err e n before given after had mid holds told said tells written reported p
-      c =
-      cuts fault number before after had mid holds told said tells (p.bytes ++ block) p.output p.verdicts t u e n
+      → FailsOver u e.fault task on_refusal before after had holds told tells e.line
+  block_cut r e block s t u ok err is before given after had mid holds told said tells written reported p c =
+      cuts e.fault e.line before after had mid holds told said tells (p.bytes ++ block) p.output p.verdicts t u
+      is.0 is.1
       (Consumes-trans before given after p.bytes block p.given c)
       (either r ok err) p.written written p.reported reported
     where
@@ -272,14 +268,15 @@ module _ {task : Task} {on_refusal : OnRefusal} where
       (Appends-trans had mid holds p.output t.output.items p.written written)
       (Appends-trans told said tells p.verdicts t.told.items p.reported reported)
 
-  pub end_cut : {X : Type 0} (r : Result X LineFault) (fault : Fault) (number : ℕ) (s t u : Gathered)
+  pub end_cut : {X : Type 0} (r : Result X LineFault) (e : LineFault) (s t u : Gathered)
       → OnOk r (Ends task on_refusal s t) → IfErr r (λ e. StopsLast task on_refusal e.fault e.line s t)
-      → fault ≡ CannotWrite → number ≡ t.lines + 1 → (before after had mid holds told said tells : Option (List ℕ))
+      → (e.fault ≡ CannotWrite) × (e.line ≡ t.lines + 1)
+      → (before after had mid holds told said tells : Option (List ℕ))
       → WritesBeginning mid holds t.output.items → WritesBeginning said tells t.told.items
       → Running task on_refusal before after had mid told said s → IsAtEnd after
-      → FailsOver u fault task on_refusal before after had holds told tells number
-  end_cut r fault number s t u ok err e n before after had mid holds told said tells written reported p at_end =
-      cuts fault number before after had mid holds told said tells p.bytes p.output p.verdicts t u e n p.given
+      → FailsOver u e.fault task on_refusal before after had holds told tells e.line
+  end_cut r e s t u ok err is before after had mid holds told said tells written reported p at_end =
+      cuts e.fault e.line before after had mid holds told said tells p.bytes p.output p.verdicts t u is.0 is.1 p.given
       (subst (λ l. Reached task on_refusal l p.output p.verdicts t) (whole after p.bytes at_end) (either r ok err))
       p.written written p.reported reported
     where

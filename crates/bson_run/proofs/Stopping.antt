@@ -3,12 +3,8 @@ use Rattle.std.proofs.Common.{◌≡◌, ◌⊎◌, inr, ℕ, List, [], ◌∷�
 use Rattle.bson_run.specs.Lines.{FailsAt, FailsFor, FailsWith, IsBadText, IsPlaceAt, IsStoppedAt, StopsAt, text_of}
 use Rattle.bson_run.specs.LinesSteps.{FailsOver, IsStoppedOver}
 use Rattle.bson_run.specs.Place.{IsOfNoText, IsWhere}
-use Rattle.bson_run.specs.declared.fault.Fault.{Fault}
-use Rattle.bson_run.specs.declared.fault.Fault.TheVariants.{CannotRead, NotJson, BadObjectId, NotExtendedJson}
-use Rattle.bson_run.specs.declared.fault.Fault.TheVariants.{OutOfMemory, CannotWrite}
-use Rattle.bson_run.specs.declared.gathered.Gathered.{Gathered}
-use Rattle.bson_run.specs.declared.order.OnRefusal.{OnRefusal}
-use Rattle.bson_run.specs.declared.order.Task.{Task}
+use Rattle.bson_run.specs.LinesSteps.{Fault, CannotRead, NotJson, BadObjectId, NotExtendedJson, OutOfMemory}
+use Rattle.bson_run.specs.LinesSteps.{CannotWrite, Gathered, OnRefusal, Task}
 
 nowhere : (fault : Fault) (place : List ℕ) (n : ℕ) (others : List (List ℕ)) → place ≡ []
     → IsPlaceAt place fault n others

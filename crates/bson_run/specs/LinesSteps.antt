@@ -2,12 +2,13 @@
 use Rattle.std.specs.Prelude.{◌≡◌, ◌≢◌, ◌<◌, ◌≤◌, ◌+◌, ◌-◌, ◌^◌, ℕ, List, [], ◌∷◌, ◌++◌, Option, length, All}
 use Rattle.std.specs.Io.KnownBytes.{Appends, Consumes}
 use Rattle.bson_run.specs.Lines.{lines, Outcomes, FailsFor, IsBadText, IsStoppedAt, Tells}
-use Rattle.bson_run.specs.declared.fault.Fault.{Fault}
-use Rattle.bson_run.specs.declared.fault.Fault.TheVariants.{CannotRead, NotJson, BadObjectId, NotExtendedJson}
-use Rattle.bson_run.specs.declared.fault.Fault.TheVariants.{OutOfMemory, CannotWrite}
-use Rattle.bson_run.specs.declared.gathered.Gathered.{Gathered}
-use Rattle.bson_run.specs.declared.order.OnRefusal.{OnRefusal}
-use Rattle.bson_run.specs.declared.order.Task.{Task}
+-- the types that the steps speak of, for the proofs too
+pub use Rattle.bson_run.specs.declared.fault.Fault.{Fault}
+pub use Rattle.bson_run.specs.declared.fault.Fault.TheVariants.{CannotRead, NotJson, BadObjectId, NotExtendedJson}
+pub use Rattle.bson_run.specs.declared.fault.Fault.TheVariants.{OutOfMemory, CannotWrite}
+pub use Rattle.bson_run.specs.declared.gathered.Gathered.{Gathered}
+pub use Rattle.bson_run.specs.declared.order.OnRefusal.{OnRefusal}
+pub use Rattle.bson_run.specs.declared.order.Task.{Task}
 
 -- no newline is in it
 abbrev pub IsOpen : List ℕ → Type 0

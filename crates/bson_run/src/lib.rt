@@ -5,7 +5,7 @@
 //! bytes) with `value` (bytes to a value), `stream` (all bytes of a reader and to a writer) and
 //! `run` (the whole way from a reader to a writer). Over lines: `order` and `line_fault` (what is
 //! asked, and what is refused), `gathered` (the line that is read, and what those before it gave)
-//! and `lines` (the whole way).
+//! and `lines` (the whole way). What the programs have in common stands in `program`.
 #![tactic(auto)]
 
 pub mod convert;
@@ -16,6 +16,7 @@ pub mod line_fault;
 pub mod lines;
 pub mod mode;
 pub mod order;
+pub mod program;
 pub mod run;
 mod stream;
 pub mod value;

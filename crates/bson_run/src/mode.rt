@@ -20,6 +20,21 @@ pub enum Mode {
     Show,
 }
 
+impl Mode {
+    /// The mode of this name: `canonical`, `relaxed` or `show`.
+    pub fn from_name(name: &str) -> Option<Mode>
+        ensures named { IfSome result (λ mode. name.now ≡ name_of mode) }
+        ensures other { result ≡ None → (mode : Mode) → name.now ≡ name_of mode → ⊥ }
+    {
+        match name {
+            "canonical" => Some(Mode::Canonical),
+            "relaxed" => Some(Mode::Relaxed),
+            "show" => Some(Mode::Show),
+            _ => None,
+        }
+    }
+}
+
 /// The mode that the words after the program's name ask for: its name, and no other word.
 pub fn mode_of(words: &[String]) -> Option<Mode>
     ensures named { IfSome result (λ mode. map string_bytes words.now ≡ name_of mode ∷ []) }
@@ -29,10 +44,5 @@ pub fn mode_of(words: &[String]) -> Option<Mode>
     if !rest.is_empty() {
         return None;
     }
-    match word.as_str() {
-        "canonical" => Some(Mode::Canonical),
-        "relaxed" => Some(Mode::Relaxed),
-        "show" => Some(Mode::Show),
-        _ => None,
-    }
+    Mode::from_name(word.as_str())
 }

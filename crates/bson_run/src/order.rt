@@ -1,4 +1,8 @@
 //! What is asked of a run over lines.
+ghost use Rattle.std.specs.Prelude.{◌≡◌, IfSome, None};
+ghost use Rattle.bson_run.specs.Words.{task_name};
+ghost use Rattle.bson_run.specs.declared.order.Task.{Task};
+
 use crate::mode::Mode;
 
 /// What is done with each line.
@@ -18,6 +22,19 @@ pub enum Task {
     Write(Mode),
     /// It is only judged, and nothing is written.
     Check,
+}
+
+impl Task {
+    /// The task of this name: that of a mode, whose output is written, or `check`.
+    pub fn from_name(name: &str) -> Option<Task>
+        ensures named { IfSome result (λ task. name.now ≡ task_name task) }
+        ensures other { result ≡ None → (task : Task) → name.now ≡ task_name task → ⊥ }
+    {
+        if name == "check" {
+            return Some(Task::Check);
+        }
+        Some(Task::Write(Mode::from_name(name)?))
+    }
 }
 
 /// What becomes of a run at a line that is refused.

@@ -45,32 +45,16 @@ pub(crate) fn order_of(line: &[u8]) -> Option<Order> {
 /// `MODE`, `convert:MODE`, or `lines:TASK:stop` or `lines:TASK:keep-going`.
 fn call_of(word: &str) -> Option<Call> {
     let Some((name, rest)) = word.split_once(':') else {
-        return Some(Call::Run(mode_of(word)?));
+        return Some(Call::Run(Mode::from_name(word)?));
     };
     if name == "convert" {
-        return Some(Call::Convert(mode_of(rest)?));
+        return Some(Call::Convert(Mode::from_name(rest)?));
     }
     if name != "lines" {
         return None;
     }
     let (task, on_refusal) = rest.split_once(':')?;
-    Some(Call::RunLines(task_of(task)?, on_refusal_of(on_refusal)?))
-}
-
-fn mode_of(word: &str) -> Option<Mode> {
-    match word {
-        "canonical" => Some(Mode::Canonical),
-        "relaxed" => Some(Mode::Relaxed),
-        "show" => Some(Mode::Show),
-        _ => None,
-    }
-}
-
-fn task_of(word: &str) -> Option<Task> {
-    if word == "check" {
-        return Some(Task::Check);
-    }
-    Some(Task::Write(mode_of(word)?))
+    Some(Call::RunLines(Task::from_name(task)?, on_refusal_of(on_refusal)?))
 }
 
 fn on_refusal_of(word: &str) -> Option<OnRefusal> {

@@ -14,15 +14,6 @@ pub(crate) fn print(rt: &impl Print, alloc: Global) -> anyhow::Result<()> {
     stopped(rt)
 }
 
-fn pair_store<S: PairStore<u32>>(rt: &impl Print, pairs: &S) -> anyhow::Result<()> {
-    for at in 0..pairs.len() {
-        println!(rt; "{} is {}", pairs.key_at(at), pairs.value_at(at))?;
-    }
-    // a is 1
-    // b is 2
-    Ok(())
-}
-
 fn small_pairs(rt: &impl Print, alloc: Global) -> anyhow::Result<()> {
     let mut pairs: SmallPairs<u32> = SmallPairs::new(alloc);
     println!(rt; "{:?}", put(&mut pairs, String::from_str(alloc, "a")?, 1))?; // Ok(None)
@@ -63,5 +54,14 @@ fn command(rt: &impl Print, alloc: Global) -> anyhow::Result<()> {
 
 fn stopped(rt: &impl Print) -> anyhow::Result<()> {
     println!(rt; "{}", Stopped { done: 3 })?; // out of memory after 3 commands
+    Ok(())
+}
+
+fn pair_store<S: PairStore<u32>>(rt: &impl Print, pairs: &S) -> anyhow::Result<()> {
+    for at in 0..pairs.len() {
+        println!(rt; "{} is {}", pairs.key_at(at), pairs.value_at(at))?;
+    }
+    // a is 1
+    // b is 2
     Ok(())
 }

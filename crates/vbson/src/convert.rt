@@ -44,12 +44,10 @@ pub extern "C" fn vbson_convert(
         return status::NO_MODE;
     };
     match convert(alloc, mode, text) {
-        Ok(line) => {
-            *out = text_of_line(line);
-            status::DONE
-        }
-        Err(fault) => status_of(fault),
+        Ok(line) => *out = text_of_line(line),
+        Err(fault) => return status_of(fault),
     }
+    status::DONE
 }
 
 /// The mode of a number.

@@ -5,11 +5,10 @@ use Rattle.bson_run.proofs.lines.end.Goals as goal
 pub returns-in_err-write_out-clause-fails : goal.returns-in_err-write_out-clause-fails
 returns-in_err-write_out-clause-fails g c =
     let p = err_from_is_err_and c.from_residual.result c.from_residual.ensures.1 in
-    let e = c.in_err-write_out.field-0.0 in
     let cut = c.in_err-write_out.ensures in
     rw (p.1, p.2) (λ before after had told running at_end.
-    end_cut c.take_last-step.result e.fault e.line c.args.gathered.now c.take_last-step.new.self
-    c.write_out.new.gathered c.take_last-step.ensures.ok c.take_last-step.ensures.fault cut.fault.0 cut.fault.1
+    end_cut c.take_last-step.result c.in_err-write_out.field-0.0 c.args.gathered.now c.take_last-step.new.self
+    c.write_out.new.gathered c.take_last-step.ensures.ok c.take_last-step.ensures.fault cut.fault
     before after had _ _ told _ _ cut.cut cut.cut_report running at_end)
 
 pub returns-in_err-step-clause-fails : goal.returns-in_err-step-clause-fails

@@ -6,11 +6,10 @@ use Rattle.bson_run.proofs.lines.pass_on.Goals as goal
 pub returns-in_err-write_out-clause-fails : goal.returns-in_err-write_out-clause-fails
 returns-in_err-write_out-clause-fails g c =
     let p = err_from_is_err_and c.from_residual.result c.from_residual.ensures.1 in
-    let e = c.in_err-write_out.field-0.0 in
     let cut = c.in_err-write_out.ensures in
     rw (p.1, p.2) (λ before given after had told running consumed.
-    block_cut c.take-step.result e.fault e.line c.args.block.now c.args.gathered.now c.take-step.new.self
-    c.write_out.new.gathered c.take-step.ensures.ok c.take-step.ensures.fault cut.fault.0 cut.fault.1
+    block_cut c.take-step.result c.in_err-write_out.field-0.0 c.args.block.now c.args.gathered.now
+    c.take-step.new.self c.write_out.new.gathered c.take-step.ensures.ok c.take-step.ensures.fault cut.fault
     before given after had _ _ told _ _ cut.cut cut.cut_report running consumed)
 
 pub returns-clause-ok : goal.returns-clause-ok

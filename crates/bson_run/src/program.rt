@@ -1,0 +1,33 @@
+//! What the programs have in common: the words that they are given, and how they end.
+ghost use Rattle.std.specs.Prelude.{◌≡◌, IfErr};
+ghost use Rattle.std.specs.Process.{exit_status};
+
+use crate::fault::Fault;
+use std::env::{self, Env};
+use std::io::ErrorKind;
+use std::process::ExitCode;
+
+/// The words behind the program's name. `None` where one of them is no UTF-8.
+pub fn words_given<R: Env + AllocGlobal>(rt: &R) -> Result<Option<Vec<String>>, Fault>
+    ensures { IfErr result (λ fault. fault ≡ Fault.OutOfMemory) }
+{
+    let mut words = match env::args(rt) {
+        Ok(words) => words,
+        Err(error) if error.kind() == ErrorKind::InvalidData => return Ok(None),
+        Err(_) => return Err(Fault::OutOfMemory),
+    };
+    let _program = words.next();
+    match words.collect::<Vec<String>>(rt.alloc()) {
+        Ok(words) => Ok(Some(words)),
+        Err(_) => Err(Fault::OutOfMemory),
+    }
+}
+
+/// The status, once the line was given to standard error. Where that takes nothing, the status
+/// alone tells.
+pub fn ended<R: Eprint>(rt: &R, line: &str, status: u8) -> ExitCode
+    ensures { exit_status result ≡ status }
+{
+    let _ = rt.eprintln(line);
+    ExitCode::from(status)
+}
