@@ -1,7 +1,8 @@
-use Rattle.std.proofs.Common.{◌≡◌, ◌∷◌, ◌++◌, [], List, map, length, refl, sym, ap, ◌∙◌, subst, string_bytes, Ok}
+use Rattle.std.proofs.Common.{◌≡◌, ◌∷◌, [], List, map, length, refl, sym, ap, ◌∙◌, subst, string_bytes, Ok}
 use Rattle.std.proofs.Common.{String, Global, arith}
 use Rattle.std.specs.Vec.Iter.{into_iter_items}
 use Rattle.std.proofs.lemmas.Bool.{false≢true}
+use Rattle.std.proofs.lemmas.List.{map-append, nil_from_length}
 use Rattle.std.proofs.lemmas.Result.{err_from_is_err_and}
 use Rattle.serde_json.specs.View.{view, items_view, members_view}
 use Rattle.serde_json.specs.declared.value.Value.{Value}
@@ -17,14 +18,6 @@ use Rattle.bson.proofs.Seen.{document_view-pairs}
 use Rattle.bson.proofs.Onto.{onto_values, onto_pairs, values_fault, values_step, pairs_fault, pairs_step}
 use Rattle.bson.proofs.Onto.{onto_values-ok, onto_pairs-ok, Entry}
 use Rattle.bson.proofs.extjson.read.+read.Goals as goal
-
-nothing_left : {X : Type 0} (l : List X) → length l ≡ 0 → l ≡ []
-nothing_left [] h = refl
-nothing_left (x ∷ xs) h = absurd (omega arith)
-
-map-snoc : (xs : List Bson) (x : Bson) → map bson_view (xs ++ x ∷ []) ≡ map bson_view xs ++ bson_view x ∷ []
-map-snoc [] x = refl
-map-snoc (y ∷ xs) x = ap (λ l. bson_view y ∷ l) (map-snoc xs x)
 
 pub read_items-returns-in_err-read-clause-given : goal.read_items-returns-in_err-read-clause-given
 read_items-returns-in_err-read-clause-given t c =
@@ -56,7 +49,7 @@ read_items-loop-item-preserved t c =
           omega arith;
       read =
           let pushed = ap (map bson_view) c.in_ok-push.ensures.items
-          ∙ map-snoc c.loop-item.values.items c.in_ok-read.field-0 in
+          ∙ map-append bson_view c.loop-item.values.items (c.in_ok-read.field-0 ∷ []) in
           ap (λ xs. onto_values xs (reads_items (items_view (into_iter_items c.next.new.self)))) pushed
           ∙ values_step done (view c.in-Some.item) (bson_view c.in_ok-read.field-0)
           (items_view (into_iter_items c.next.new.self)) total c.in_ok-read.ensures.given now;
@@ -70,7 +63,7 @@ pub read_items-returns-clause-given : goal.read_items-returns-clause-given
 read_items-returns-clause-given t c =
     let at = c.loop-item in
     let none = c.in-None.ensures.steps in
-    let empty : into_iter_items at.item-iterator ≡ [] = nothing_left _ (sym at.invariant.left ∙ none.0) in
+    let empty : into_iter_items at.item-iterator ≡ [] = nil_from_length _ (sym at.invariant.left ∙ none.0) in
     let total = reads_items (items_view c.args.items.items) in
     let done = map bson_view at.values.items in
     let now =

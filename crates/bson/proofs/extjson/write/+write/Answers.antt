@@ -1,9 +1,9 @@
-use Rattle.std.proofs.Common.{◌≡◌, ◌∷◌, ◌++◌, [], List, map, length, refl, sym, ap, ◌∙◌, subst, string_bytes, arith}
+use Rattle.std.proofs.Common.{◌≡◌, ◌∷◌, ◌++◌, [], List, map, length, sym, ap, ◌∙◌, subst, string_bytes, arith}
 use Rattle.std.proofs.Common.{append_assoc}
 use Rattle.std.specs.Vec.Iter.{into_iter_items}
+use Rattle.std.proofs.lemmas.List.{map-append, nil_from_length}
 use Rattle.std.proofs.lemmas.Result.{err_from_is_err_and}
 use Rattle.serde_json.specs.View.{view, members_view}
-use Rattle.serde_json.specs.declared.value.Value.{Value}
 use Rattle.serde_json.proofs.Views.{members_view-insert_entry}
 use Rattle.bson.specs.View.{bson_view, values_view, pairs_view, document_view}
 use Rattle.bson_model.specs.Normal.{ItemsInRange, PairsInRange}
@@ -14,14 +14,6 @@ use Rattle.bson.proofs.OntoTree.{onto_items, onto_members, onto_items-ok, items_
 use Rattle.bson.proofs.OntoTree.{members_step}
 use Rattle.bson.proofs.Seen.{document_view-pairs}
 use Rattle.bson.proofs.extjson.write.+write.Goals as goal
-
-nothing_left : {X : Type 0} (l : List X) → length l ≡ 0 → l ≡ []
-nothing_left [] h = refl
-nothing_left (x ∷ xs) h = absurd (omega arith)
-
-map-snoc : (xs : List Value) (x : Value) → map view (xs ++ x ∷ []) ≡ map view xs ++ view x ∷ []
-map-snoc [] x = refl
-map-snoc (y ∷ xs) x = ap (λ l. view y ∷ l) (map-snoc xs x)
 
 pub write_pairs-loop-key-init : goal.write_pairs-loop-key-init
 write_pairs-loop-key-init t c =
@@ -92,7 +84,7 @@ write_items-loop-value-preserved t c =
           omega arith;
       written =
           let pushed = ap (map view) c.in_ok-push.ensures.items
-          ∙ map-snoc c.loop-value.items.items c.in_ok-write.field-0 in
+          ∙ map-append view c.loop-value.items.items (c.in_ok-write.field-0 ∷ []) in
           ap (λ xs. onto_items xs (writes_items c.args.form (values_view (into_iter_items c.next.new.self)))) pushed
           ∙ items_step c.args.form done (bson_view c.in-Some.value) (view c.in_ok-write.field-0)
           (values_view (into_iter_items c.next.new.self)) total c.in_ok-write.ensures.written now;
@@ -105,7 +97,7 @@ pub write_items-returns-clause-written : goal.write_items-returns-clause-written
 write_items-returns-clause-written t c =
     let at = c.loop-value in
     let none = c.in-None.ensures.steps in
-    let empty : into_iter_items at.value-iterator ≡ [] = nothing_left _ (sym at.invariant.left ∙ none.0) in
+    let empty : into_iter_items at.value-iterator ≡ [] = nil_from_length _ (sym at.invariant.left ∙ none.0) in
     let total = writes_items c.args.form (values_view c.args.values.items) in
     let done = map view at.items.items in
     let now =

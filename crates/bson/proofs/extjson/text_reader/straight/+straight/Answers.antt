@@ -1,6 +1,7 @@
-use Rattle.std.proofs.Common.{Vec, Global, false, ◌≡◌, List, [], ◌∷◌, ◌++◌, map, Ok, Some, None, string_bytes, refl}
+use Rattle.std.proofs.Common.{Vec, Global, false, ◌≡◌, [], ◌∷◌, map, Ok, Some, None, string_bytes, refl}
 use Rattle.std.proofs.Common.{sym, ap, ◌∙◌, arith, rules}
 use Rattle.std.specs.Prelude.{is_some}
+use Rattle.std.proofs.lemmas.List.{map-append}
 use Rattle.json.specs.Token.{Token}
 use Rattle.json.specs.Json.{parse_map, after_end_array, read_key, value}
 use Rattle.json.specs.Reads.{token_of}
@@ -26,10 +27,6 @@ use Rattle.bson.proofs.Gathering.{none_yet, one_gathered, all_gathered, from_fir
 use Rattle.bson.proofs.Turns.{array_opened, object_opened, if_ok}
 use Rattle.bson.proofs.Wrapped.{alone, with_scope}
 use Rattle.bson.proofs.extjson.text_reader.straight.+straight.Goals as goal
-
-map-snoc : (xs : List Bson) (x : Bson) → map bson_view (xs ++ x ∷ []) ≡ map bson_view xs ++ bson_view x ∷ []
-map-snoc [] x = refl
-map-snoc (y ∷ xs) x = ap (λ l. bson_view y ∷ l) (map-snoc xs x)
 
 bson_view-Document : (d : Document) → bson_view (bson.Document d) ≡ model.document (document_view d)
 bson_view-Document d = search (rules, the_lemmas)
@@ -154,7 +151,7 @@ read_items-items-preserved t c =
       λ ds. sym (values_step (map bson_view l.found.items) d (bson_view v) ds
           (reads_items (front (item d ds))) done.ok.2 (sym (l.invariant.2 (item d ds))))
           ∙ ap (λ vs. onto_values vs (reads_items ds))
-          (sym (map-snoc l.found.items v) ∙ ap (map bson_view) (sym c.in_ok-push.ensures.items)),
+          (sym (map-append bson_view l.found.items (v ∷ [])) ∙ ap (map bson_view) (sym c.in_ok-push.ensures.items)),
     )
 
 pub read_items-returns-clause-ok : goal.read_items-returns-clause-ok
