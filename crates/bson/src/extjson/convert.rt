@@ -44,11 +44,7 @@ impl Bson {
     /// ascend by bytes; other members of such an object are read and written one at a time.
     ///
     /// It is Ok and refused as `try_from_text` is, with the same errors.
-    pub fn convert_text(
-        alloc: Global,
-        form: Form,
-        bytes: &[u8],
-    ) -> Result<Converted, TextError>
+    pub fn convert_text(alloc: Global, form: Form, bytes: &[u8]) -> Result<Converted, TextError>
         ensures ok { IfOk result (λ c. IsConversion form bytes.now c) }
         ensures accepts { (t : Data) (v : model.Value) → IsTextOf bytes.now t → Means t v
             → IfErr result (λ e. e ≡ OutOfMemory) }
