@@ -13,8 +13,8 @@ use crate::fault::Fault;
 use crate::mode::Mode;
 use bson::Bson;
 use bson::extjson::convert::Converted;
-use bson::extjson::{Form, WriteError};
 use bson::extjson::de::{Error, TextError};
+use bson::extjson::{Form, WriteError};
 use std::alloc::Global;
 
 /// The text that the mode asks for of the one value that the bytes mean, and a newline.

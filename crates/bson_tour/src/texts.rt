@@ -1,5 +1,7 @@
 //! Extended JSON, from trees and texts, and why they mean nothing.
 use bson::Bson;
+use bson::extjson::Form;
+use bson::extjson::convert::Converted;
 use bson_place::walk::place_of_fault;
 use serde_json::Value;
 use std::alloc::Global;
@@ -9,6 +11,7 @@ pub(crate) fn print(rt: &impl Print, alloc: Global) -> anyhow::Result<()> {
     write_error(rt, alloc)?;
     try_from_text_call(rt, alloc)?;
     text_error(rt, alloc)?;
+    converted(rt, alloc)?;
     place(rt, alloc)?;
     step(rt, alloc)
 }
@@ -39,6 +42,16 @@ fn text_error(rt: &impl Print, alloc: Global) -> anyhow::Result<()> {
     if let Err(error) = Bson::try_from_text(alloc, b"[1, 2") {
         println!(rt; "{error}")?; // not JSON
     }
+    Ok(())
+}
+
+fn converted(rt: &impl Print, alloc: Global) -> anyhow::Result<()> {
+    let bytes = br#"[{"$numberLong": "5"}]"#;
+    let text = match Bson::convert_text(alloc, Form::Relaxed, bytes)? {
+        Converted::Text(text) => text,
+        Converted::Value(value) => value.into_relaxed_text(alloc)?,
+    };
+    println!(rt; "{text}")?; // [5]
     Ok(())
 }
 

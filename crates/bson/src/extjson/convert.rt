@@ -17,13 +17,22 @@ use crate::extjson::text::{finished, print_read};
 use crate::extjson::text_error::TextError;
 use crate::extjson::text_reader::straight::{read_begun, read_value};
 use crate::extjson::text_reader::unread::Unread;
-use crate::extjson::text_reader::{MAX_DEPTH, read_refused, read_utf8};
+use crate::extjson::text_reader::{MAX_DEPTH, or_by_tree, read_text};
 use bson_wrapper::form::Form;
 use bson_wrapper::wrapper::named;
 use json::{Reader, Scratch, Token, Writer};
 use std::alloc::Global;
 
 /// What [`Bson::convert_text`] gives.
+///
+/// ```
+/// let bytes = br#"[{"$numberLong": "5"}]"#;
+/// let text = match Bson::convert_text(alloc, Form::Relaxed, bytes)? {
+///     Converted::Text(text) => text,
+///     Converted::Value(value) => value.into_relaxed_text(alloc)?,
+/// };
+/// println!(rt; "{text}")?; // [5]
+/// ```
 #[derive(Drop)]
 pub enum Converted {
     /// The text of the value in the form.
@@ -44,11 +53,7 @@ impl Bson {
     /// ascend by bytes; other members of such an object are read and written one at a time.
     ///
     /// It is Ok and refused as `try_from_text` is, with the same errors.
-    pub fn convert_text(
-        alloc: Global,
-        form: Form,
-        bytes: &[u8],
-    ) -> Result<Converted, TextError>
+    pub fn convert_text(alloc: Global, form: Form, bytes: &[u8]) -> Result<Converted, TextError>
         ensures ok { IfOk result (λ c. IsConversion form bytes.now c) }
         ensures accepts { (t : Data) (v : model.Value) → IsTextOf bytes.now t → Means t v
             → IfErr result (λ e. e ≡ OutOfMemory) }
@@ -65,22 +70,29 @@ fn convert(alloc: Global, form: Form, bytes: &[u8]) -> Result<Converted, TextErr
     let Ok(text) = simdutf8::compat::from_utf8(bytes) else {
         return Err(TextError::NotJson);
     };
-    match convert_parts(alloc, form, text) {
-        Ok(Some(written)) => Ok(Converted::Text(written)),
-        Ok(None) => Ok(Converted::Value(read_utf8(alloc, bytes, text)?)),
-        Err(unread) => Ok(Converted::Value(read_refused(alloc, bytes, text, unread)?)),
-    }
+    let mut scratch = Scratch::new(alloc);
+    let read = match convert_parts(alloc, form, text, &mut scratch) {
+        Ok(Some(written)) => return Ok(Converted::Text(written)),
+        Ok(None) => read_text(alloc, text, &mut scratch),
+        Err(unread) => Err(unread),
+    };
+    drop(scratch);
+    Ok(Converted::Value(or_by_tree(alloc, bytes, text, read)?))
 }
 
 // The text, written as its parts are read; none where it is to be read whole.
-fn convert_parts(alloc: Global, form: Form, text: &str) -> Result<Option<String>, Unread>
+fn convert_parts(
+    alloc: Global,
+    form: Form,
+    text: &str,
+    scratch: &mut Scratch,
+) -> Result<Option<String>, Unread>
     ensures { IfOk result (λ s. IfSome s (λ written. TextConverted form text.now (string_bytes written))) }
 {
-    if text.len() < LEAST_LENGTH || !has_parts(alloc, text)? {
+    if text.len() < LEAST_LENGTH || !has_parts(text, scratch)? {
         return Ok(None);
     }
-    let mut scratch = Scratch::new(alloc);
-    let mut reader = Reader::new(text, &mut scratch)?;
+    let mut reader = Reader::new(text, scratch)?;
     let mut out = Writer::new(Vec::with_capacity(alloc, text.len())?);
     convert_root(alloc, form, &mut reader, &mut out)?;
     if reader.next().is_some() {
@@ -90,9 +102,8 @@ fn convert_parts(alloc: Global, form: Form, text: &str) -> Result<Option<String>
 }
 
 // Whether the text begins as a list, or is an object whose members can be written as they come.
-fn has_parts(alloc: Global, text: &str) -> Result<bool, Unread> {
-    let mut scratch = Scratch::new(alloc);
-    let mut reader = Reader::new(text, &mut scratch)?;
+fn has_parts(text: &str, scratch: &mut Scratch) -> Result<bool, Unread> {
+    let mut reader = Reader::new(text, scratch)?;
     match reader.next() {
         Some(Token::BeginArray) => Ok(true),
         Some(Token::BeginObject) => keys_ascend(&mut reader),

@@ -76,37 +76,30 @@ fn read_bytes(alloc: Global, bytes: &[u8]) -> Result<Bson, TextError>
     let Ok(text) = simdutf8::compat::from_utf8(bytes) else {
         return Err(TextError::NotJson);
     };
-    read_utf8(alloc, bytes, text)
+    let mut scratch = Scratch::new(alloc);
+    let read = read_text(alloc, text, &mut scratch);
+    drop(scratch);
+    or_by_tree(alloc, bytes, text, read)
 }
 
-// The same of bytes that are seen to be a text.
-pub(crate) fn read_utf8(alloc: Global, bytes: &[u8], text: &str) -> Result<Bson, TextError>
-    requires same { bytes.now ≡ text.now }
-    requires utf8 { IsUtf8 bytes.now }
-    ensures ok { IfOk result (λ v. HasTextMeaning bytes.now (bson_view v)) }
-    ensures fault { IfErr result (λ e. IsTextFault bytes.now e) }
-{
-    match read_text(alloc, text) {
-        Ok(value) => Ok(value),
-        Err(unread) => read_refused(alloc, bytes, text, unread),
-    }
-}
-
-// The same of a text that was not read straight.
-pub(crate) fn read_refused(
+// What was read straight, or else what the text's tree means.
+pub(crate) fn or_by_tree(
     alloc: Global,
     bytes: &[u8],
     text: &str,
-    unread: Unread,
+    read: Result<Bson, Unread>,
 ) -> Result<Bson, TextError>
-    requires { bytes.now ≡ text.now }
+    requires same { bytes.now ≡ text.now }
+    requires utf8 { IsUtf8 bytes.now }
+    requires meant { IfOk read (λ v. TextMeans text.now (bson_view v)) }
     ensures ok { IfOk result (λ v. HasTextMeaning bytes.now (bson_view v)) }
     ensures fault { IfErr result (λ e. IsTextFault bytes.now e) }
 {
-    match unread {
-        Unread::OutOfMemory => Err(TextError::OutOfMemory),
-        Unread::LeftToTree => by_tree(alloc, bytes),
-        Unread::Broken => by_tokens(alloc, bytes, text),
+    match read {
+        Ok(value) => Ok(value),
+        Err(Unread::OutOfMemory) => Err(TextError::OutOfMemory),
+        Err(Unread::LeftToTree) => by_tree(alloc, bytes),
+        Err(Unread::Broken) => by_tokens(alloc, bytes, text),
     }
 }
 
@@ -172,11 +165,14 @@ fn refusal(fault: Error) -> TextError
 }
 
 // The same straight from the tokens of the text.
-fn read_text(alloc: Global, text: &str) -> Result<Bson, Unread>
+pub(crate) fn read_text(
+    alloc: Global,
+    text: &str,
+    scratch: &mut Scratch,
+) -> Result<Bson, Unread>
     ensures ok { IfOk result (λ v. TextMeans text.now (bson_view v)) }
 {
-    let mut scratch = Scratch::new(alloc);
-    let mut reader = Reader::new(text, &mut scratch)?;
+    let mut reader = Reader::new(text, scratch)?;
     let read = read_value(alloc, &mut reader, MAX_DEPTH)?;
     if reader.next().is_some() {
         return Err(Unread::Broken);

@@ -1,0 +1,119 @@
+"""Rows on texts of more than 4096 bytes, of which bson_cli writes a list or an object part by part as it reads them.
+
+The parts are the texts of the other rows that are accepted, so that what is written of the whole follows from their
+answers; or the whole is refused at its end, where all before it was written.
+"""
+from dataclasses import dataclass
+
+FORMS = ("canonical", "relaxed")
+# What more brackets open may nest too deep within a list.
+MOST_BRACKETS = 100
+LONG = b'"' + b"x" * 5000 + b'"'
+NOT_JSON = (1, b"", b"bson_cli: not JSON\n")
+BAD_ID = (1, b"", b"bson_cli: bad object id\n")
+NOT_EXTENDED = (1, b"", b"bson_cli: not Extended JSON\n")
+
+
+@dataclass
+class LongText:
+    """A text for bson_cli in a form, and its status, standard output and standard error."""
+
+    name: str
+    form: str
+    text: bytes
+    wanted: tuple
+
+
+def parts_of(found, form):
+    """The texts of the rows that are accepted in the form, each with what is written of it."""
+    cases = [row.on_cli() for row in found]
+    cases = [case for case in cases if case and case[0] == form and case[2][0] == 0]
+    return [(text, output.removesuffix(b"\n")) for _, text, (_, output, _) in cases
+            if text.count(b"[") + text.count(b"{") <= MOST_BRACKETS]
+
+
+def done(output):
+    return 0, output + b"\n", b""
+
+
+def listed(texts):
+    return b"[" + b",".join(texts) + b"]"
+
+
+def keyed(pairs):
+    return b"{" + b",".join(b'"%s":%s' % pair for pair in pairs) + b"}"
+
+
+def nested(levels):
+    return b"[" * levels + b"]" * levels
+
+
+def accepted(parts):
+    """A name, a text, and what is written of it."""
+    given, written = [text for text, _ in parts], [output for _, output in parts]
+    keys = [b"key%05d" % number for number in range(len(parts))]
+    pairs, outputs = list(zip(keys, given)), list(zip(keys, written))
+    spaced = b" [\n" + b" ,\r\n\t".join(given) + b" ]\n"
+    yield "a list", listed(given), listed(written)
+    yield "a list with blanks", spaced, listed(written)
+    yield "a list of lists", listed([listed(given)] * 3), listed([listed(written)] * 3)
+    yield "a list under a key", keyed([(b"a", listed(given))]), keyed([(b"a", listed(written))])
+    yield "keys ascend", keyed(pairs), keyed(outputs)
+    yield "keys descend", keyed(pairs[::-1]), keyed(outputs)
+    yield "a late key is the first again", keyed([*pairs, (keys[0], LONG)]), keyed([(keys[0], LONG), *outputs[1:]])
+    yield "the last key twice", keyed([*pairs, (keys[-1], b"true")]), keyed([*outputs[:-1], (keys[-1], b"true")])
+    yield ("a list, and then a lesser key", keyed([(b"b", listed(given)), (b"a", b"null")]),
+           keyed([(b"a", b"null"), (b"b", listed(written))]))
+    yield ("lists and objects under keys", keyed([(b"", keyed(pairs[::-1])), (b"a", listed(given)), (b"b", LONG)]),
+           keyed([(b"", keyed(outputs)), (b"a", listed(written)), (b"b", LONG)]))
+    yield "a first key $scope", keyed([(b"$scope", listed(given)), (b"a", LONG)]), keyed([(b"$scope", listed(written)), (b"a", LONG)])
+    yield "code with a scope", keyed([(b"$code", LONG), (b"$scope", keyed(pairs))]), keyed([(b"$code", LONG), (b"$scope", keyed(outputs))])
+    yield "an element that gives way", listed([LONG, b'{"a":{"$oid":1},"a":true}']), listed([LONG, b'{"a":true}'])
+    yield "a value that gives way", keyed([(b"a", b'{"$oid":1}'), (b"a", LONG)]), keyed([(b"a", LONG)])
+    yield "127 levels in a list", listed([LONG, nested(126)]), listed([LONG, nested(126)])
+    yield "127 levels under a key", keyed([(b"a", nested(126)), (b"b", LONG)]), keyed([(b"a", nested(126)), (b"b", LONG)])
+    yield "a string", LONG, LONG
+    yield "no element", b"[" + b" " * 5000 + b"]", b"[]"
+    yield "no member", b"{" + b" " * 5000 + b"}", b"{}"
+    for length in (4095, 4096, 4097):
+        text = b'["' + b"x" * (length - 4) + b'"]'
+        yield f"{length} bytes", text, text
+
+
+def refused(given):
+    """A name, a text, and the words for its fault."""
+    keys = [b"key%05d" % number for number in range(len(given))]
+    pairs = list(zip(keys, given))
+    whole, object = listed(given), keyed(pairs)
+    yield "a bad object id last", listed([*given, b'{"$oid":"zz"}']), BAD_ID
+    yield "no meaning last", listed([*given, b'{"$oid":1}']), NOT_EXTENDED
+    yield "a fraction last", listed([*given, b"0.5"]), NOT_EXTENDED
+    yield "a bad object id under the last key", keyed([*pairs, (b"z", b'{"$oid":"zz"}')]), BAD_ID
+    yield "no meaning in a list under the last key", keyed([*pairs, (b"z", b'[{"$oid":1}]')]), NOT_EXTENDED
+    yield "a wrapper's key late", keyed([(b"", whole), (b"$oid", b'"53e37d08776f724e42000000"')]), NOT_EXTENDED
+    yield "a wrapper's key first", keyed([(b"$oid", whole), (b"a", b"1")]), NOT_EXTENDED
+    yield "a comma before the end", whole[:-1] + b",]", NOT_JSON
+    yield "a comma before the end of an object", object[:-1] + b",}", NOT_JSON
+    yield "the other bracket", whole[:-1] + b"}", NOT_JSON
+    yield "the other brace", object[:-1] + b"]", NOT_JSON
+    yield "no bracket", whole[:-1], NOT_JSON
+    yield "no brace", object[:-1], NOT_JSON
+    yield "one bracket more", whole + b"]", NOT_JSON
+    yield "one brace more", object + b"}", NOT_JSON
+    yield "no UTF-8 at the end", listed([*given, b'"\xff"']), NOT_JSON
+    yield "128 levels in a list", listed([LONG, nested(127)]), NOT_JSON
+    yield "128 levels under a key", keyed([(b"a", nested(127)), (b"b", LONG)]), NOT_JSON
+
+
+def rows(found):
+    """The rows of both forms."""
+    made_rows = []
+    for form in FORMS:
+        parts = parts_of(found, form)
+        if len(listed(text for text, _ in parts)) <= 4096:
+            raise SystemExit(f"too few rows are accepted in the form {form}")
+        for name, text, output in accepted(parts):
+            made_rows.append(LongText(f"long text, {name}", form, text, done(output)))
+        for name, text, wanted in refused([text for text, _ in parts]):
+            made_rows.append(LongText(f"long text, {name}", form, text, wanted))
+    return made_rows
