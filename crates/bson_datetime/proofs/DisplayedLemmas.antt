@@ -58,7 +58,15 @@ milli_is t = omega arith
 pub civil_of-jiff : (ms : ℤ) (at : DateTime) → IsJiffMoment ms at → civil_of ms ≡ fields_of at
 unfolding civil_of
 civil_of-jiff ms at is =
-    rw (day_of-moment ms at is, time_of-moment ms at is, date_of-date at.date, hour_is at.time, minute_is at.time, second_is at.time, milli_is at.time) refl
+    rw (
+      day_of-moment ms at is,
+      time_of-moment ms at is,
+      date_of-date at.date,
+      hour_is at.time,
+      minute_is at.time,
+      second_is at.time,
+      milli_is at.time,
+    ) refl
 
 pub display_text-moment : (ms : ℤ) (at : DateTime) → IsJiffMoment ms at → display_text ms ≡ civil_text (fields_of at)
 unfolding display_text
@@ -66,8 +74,10 @@ display_text-moment ms at is = rw (in_range ms (moment-range ms at is), civil_of
 
 -- jiff's date and time has the fields of the moment
 moment-fields : (ms : ℤ) (at : DateTime) → IsJiffMoment ms at → IsMoment ms (fields_of at)
-moment-fields ms at is =
-    (((at.date.year_in, at.date.month_in, at.date.day_in), omega arith, omega arith, omega arith, omega arith), omega (arith, signed_arith, civil_nanos-parts at))
+moment-fields ms at is = (
+  ((at.date.year_in, at.date.month_in, at.date.day_in), omega arith, omega arith, omega arith, omega arith),
+  omega (arith, signed_arith, civil_nanos-parts at),
+)
 
 -- each moment of the years -9999 to 9999 has the fields that the function gives
 pub moment-civil_of : (ms : ℤ) → IsCivilMillis ms → IsMoment ms (civil_of ms)
@@ -78,8 +88,27 @@ moment-civil_of ms h =
 -- jiff's date and time with these fields
 jiff_of : (c : Civil) → IsCivil c → DateTime
 jiff_of c is =
-    let time : Time = record { hour = c.hour; minute = c.minute; second = c.second; subsec_nanosecond = c.millisecond * 1_000_000; hour_in = is.1; minute_in = is.2; second_in = is.3; subsec_in = omega arith } in
-    record { date = record { year = c.year; month = c.month; day = c.day; year_in = is.0.0; month_in = is.0.1; day_in = is.0.2 }; time = time }
+    let time : Time = record {
+      hour = c.hour;
+      minute = c.minute;
+      second = c.second;
+      subsec_nanosecond = c.millisecond * 1_000_000;
+      hour_in = is.1;
+      minute_in = is.2;
+      second_in = is.3;
+      subsec_in = omega arith;
+    } in
+    record {
+      date = record {
+        year = c.year;
+        month = c.month;
+        day = c.day;
+        year_in = is.0.0;
+        month_in = is.0.1;
+        day_in = is.0.2;
+      };
+      time = time;
+    }
 
 fields_of-jiff_of : (c : Civil) (is : IsCivil c) → fields_of (jiff_of c is) ≡ c
 unfolding jiff_of

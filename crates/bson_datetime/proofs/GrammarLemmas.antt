@@ -1,6 +1,8 @@
 -- What is read from the front of a text is what its parts name.
-use Rattle.std.proofs.Common.{◌≡◌, ℕ, ℤ, pos, neg_ℤ, ◌+◌, ◌-◌, ◌*◌, ◌/◌, ◌%◌, ◌<◌, ◌≤◌, ◌==◌, ◌&&◌, ◌||◌, nat_le, inl, inr, true, false, Bool, List, [], ◌∷◌, ◌++◌, length, take, drop, get_or, Option, Some, None, refl, sym, ap, ◌∙◌, arith, append-nil, get_or-take}
-use Rattle.std.specs.Prelude.{if◌then◌else◌, unwrap_or, option_map}
+use Rattle.std.proofs.Common.{◌≡◌, ℕ, ℤ, pos, neg_ℤ, ◌+◌, ◌-◌, ◌*◌, ◌/◌, ◌%◌, ◌<◌, ◌≤◌, ◌==◌, ◌&&◌, ◌||◌, nat_le, true}
+use Rattle.std.proofs.Common.{false, Bool, List, [], ◌∷◌, ◌++◌, length, take, drop, get_or, Option, Some, None, refl}
+use Rattle.std.proofs.Common.{sym, ap, ◌∙◌, arith, append-nil, get_or-take}
+use Rattle.std.specs.Prelude.{if◌then◌else◌, option_map}
 use Rattle.std.proofs.lemmas.Bool.{and_parts}
 use Rattle.std.proofs.lemmas.Bool.Decides.{nat_tests}
 use Rattle.std.proofs.lemmas.List.{take-append-drop}
@@ -11,120 +13,21 @@ use Rattle.std.specs.List.{All, prefix_len}
 use Rattle.jiff.specs.Words.{days_in_month}
 use Rattle.jiff.proofs.SpanFacts.{signed_arith}
 use Rattle.jiff_core.specs.Calendar.{IsCivilDate, days_from_civil}
-use Rattle.bson_datetime.specs.Grammar.{Offset, zulu, ahead, behind, offset_text, fraction_text, IsLetter, IsOffset, offset_seconds, Names}
-use Rattle.bson_datetime.specs.Rfc3339.{Read, ◌>>=◌, two_digits, four_digits, digits_below, after, after_letter, day_number, date_part, time_part, fraction_part, fraction_value, hours_minutes, offset_part, named_moment}
+use Rattle.bson_datetime.specs.Grammar.{Offset, zulu, ahead, behind, offset_text, fraction_text, IsOffset}
+use Rattle.bson_datetime.specs.Grammar.{offset_seconds, Names}
+use Rattle.bson_datetime.specs.Rfc3339.{two_digits, four_digits, digits_below, after, after_letter, day_number}
+use Rattle.bson_datetime.specs.Rfc3339.{date_part, time_part, fraction_part, fraction_value, hours_minutes, offset_part}
+use Rattle.bson_datetime.specs.Rfc3339.{named_moment}
 use Rattle.bson_datetime.specs.Displayed.{two_digit_text}
 use Rattle.bson_datetime.proofs.ReaderLemmas.{fraction_value-nil}
-
--- a value read from the front of a text, and the text after it
-abbrev found : {A : Type 0} → A → List ℕ → Read A
-found x rest = Some (x, rest)
-
-pub un_some : {A : Type 0} (x y : A) → Some x ≡ Some y → x ≡ y
-un_some x y h = ap (λ o. unwrap_or o x) h
-
-pub some_none : {A : Type 0} (x : A) → ¬ (Some x ≡ None)
-some_none x h = cc
-
--- the two steps of a reading that succeeds
-un_then : {A B : Type 0} (o : Option A) (f : A → Option B) (y : B) → o >>= f ≡ Some y → (x : A) × (o ≡ Some x) × (f x ≡ Some y)
-un_then None f y h = cc
-un_then (Some x) f y h = (x, refl, h)
-
-digit_of : (c : ℕ) → is_ascii_digit c ≡ true → IsAsciiDigit c
-digit_of c e =
-    let p = and_parts (nat_le 48 c) (nat_le c 57) e in
-    (grind (arith, nat_tests, p.0), grind (arith, nat_tests, p.1))
-
-pub digit_test : (c : ℕ) → IsAsciiDigit c → is_ascii_digit c ≡ true
-digit_test c is = grind (arith, nat_tests, is.0, is.1)
-
--- ---- from what was read to the text
-
-two_digits-test : (a b : ℕ) (s : List ℕ) (n : ℕ) (rest : List ℕ) (t : Bool) → (is_ascii_digit a && is_ascii_digit b) ≡ t
-    → (if t then found ((a - 48) * 10 + (b - 48)) s else None) ≡ Some (n, rest) → (n < 100) × (a ∷ b ∷ s ≡ two_digit_text n ++ rest)
-two_digits-test a b s n rest true e h =
-    let p = and_parts (is_ascii_digit a) (is_ascii_digit b) e in
-    let high = digit_of a p.0 in
-    let low = digit_of b p.1 in
-    let same = un_some _ _ h in
-    let value : (a - 48) * 10 + (b - 48) ≡ n = ap (λ r. r.0) same in
-    let first : 48 + n / 10 ≡ a = omega (arith, value, high.0, high.1, low.0, low.1) in
-    let second : 48 + n % 10 ≡ b = omega (arith, value, high.0, high.1, low.0, low.1) in
-    (omega (arith, value, high.0, high.1, low.0, low.1), rw (first, second) (ap (λ r. a ∷ b ∷ r.1) same))
-two_digits-test a b s n rest false e h = cc
-
-two_digits-read : (s : List ℕ) (r : ℕ × List ℕ) → two_digits s ≡ Some r → (r.0 < 100) × (s ≡ two_digit_text r.0 ++ r.1)
-unfolding two_digits
-two_digits-read [] r h = cc
-two_digits-read (a ∷ []) r h = cc
-two_digits-read (a ∷ b ∷ s) r h = two_digits-test a b s r.0 r.1 (is_ascii_digit a && is_ascii_digit b) refl h
-
--- two digits and then two more are four
-four_digits-text : (a b n : ℕ) (s t u rest : List ℕ) → a < 100 → b < 100 → s ≡ two_digit_text a ++ t → t ≡ two_digit_text b ++ u → a * 100 + b ≡ n → u ≡ rest
-    → (n < 10_000) × (s ≡ two_digit_text (n / 100) ++ two_digit_text (n % 100) ++ rest)
-four_digits-text a b n s t u rest ha hb first second value same =
-    let high : n / 100 ≡ a = omega arith in
-    let low : n % 100 ≡ b = omega arith in
-    (omega arith, rw (high, low) (first ∙ ap (λ q. two_digit_text a ++ q) (second ∙ ap (λ q. two_digit_text b ++ q) same)))
-
-four_digits-read : (s : List ℕ) (r : ℕ × List ℕ) → four_digits s ≡ Some r → (r.0 < 10_000) × (s ≡ two_digit_text (r.0 / 100) ++ two_digit_text (r.0 % 100) ++ r.1)
-unfolding four_digits
-four_digits-read s r h =
-    let century = un_then (two_digits s) _ r h in
-    let year = un_then (two_digits century.0.1) _ r century.2 in
-    let same = un_some _ _ year.2 in
-    let c = two_digits-read s century.0 century.1 in
-    let y = two_digits-read century.0.1 year.0 year.1 in
-    four_digits-text century.0.0 year.0.0 r.0 s century.0.1 year.0.1 r.1 c.0 y.0 c.1 y.1 (ap (λ q. q.0) same) (ap (λ q. q.1) same)
-
-digits_below-test : (bound : ℕ) (x r : ℕ × List ℕ) (t : Bool) → nat_le bound x.0 ≡ t → (if t then None else Some x) ≡ Some r → (r.0 < bound) × (x ≡ r)
-digits_below-test bound x r true e h = cc
-digits_below-test bound x r false e h =
-    let same = un_some x r h in
-    let below : x.0 < bound = grind (arith, nat_tests, e) in
-    (rw (← same) below, same)
-
-digits_below-read : (bound : ℕ) (s : List ℕ) (r : ℕ × List ℕ) → digits_below bound s ≡ Some r → (r.0 < bound) × (s ≡ two_digit_text r.0 ++ r.1)
-unfolding digits_below
-digits_below-read bound s r h =
-    let n = un_then (two_digits s) _ r h in
-    let below = digits_below-test bound n.0 r (nat_le bound n.0.0) refl n.2 in
-    (below.0, rw (← below.1) (two_digits-read s n.0 n.1).1)
-
-after-test : (byte c : ℕ) (s rest : List ℕ) (t : Bool) → (c == byte) ≡ t → (if t then Some s else None) ≡ Some rest → c ∷ s ≡ byte ∷ rest
-after-test byte c s rest true e h =
-    let same : c ≡ byte = grind (arith, nat_tests, e) in
-    rw same (ap (λ q. byte ∷ q) (un_some s rest h))
-after-test byte c s rest false e h = cc
-
-after-read : (byte : ℕ) (s rest : List ℕ) → after byte s ≡ Some rest → s ≡ byte ∷ rest
-unfolding after
-after-read byte [] rest h = cc
-after-read byte (c ∷ s) rest h = after-test byte c s rest (c == byte) refl h
-
-letter-test : (upper c : ℕ) (t : Bool) → (c == upper) ≡ t → (t || (c == upper + 32)) ≡ true → IsLetter upper c
-letter-test upper c true e h = inl (grind (arith, nat_tests, e))
-letter-test upper c false e h = inr (grind (arith, nat_tests, h))
-
-letter_of : (upper c : ℕ) → ((c == upper) || (c == upper + 32)) ≡ true → IsLetter upper c
-letter_of upper c e = letter-test upper c (c == upper) refl e
-
-after_letter-test : (upper c : ℕ) (s rest : List ℕ) (t : Bool) → ((c == upper) || (c == upper + 32)) ≡ t → (if t then Some s else None) ≡ Some rest
-    → IsLetter upper c × (s ≡ rest)
-after_letter-test upper c s rest true e h = (letter_of upper c e, un_some s rest h)
-after_letter-test upper c s rest false e h = cc
-
-after_letter-read : (upper : ℕ) (s rest : List ℕ) → after_letter upper s ≡ Some rest → (c : ℕ) × IsLetter upper c × (s ≡ c ∷ rest)
-unfolding after_letter
-after_letter-read upper [] rest h = cc
-after_letter-read upper (c ∷ s) rest h =
-    let read = after_letter-test upper c s rest ((c == upper) || (c == upper + 32)) refl h in
-    (c, read.0, ap (λ q. c ∷ q) read.1)
+use Rattle.bson_datetime.proofs.PartsRead.{found, un_some, un_then, digit_of, two_digits-read, four_digits-read}
+use Rattle.bson_datetime.proofs.PartsRead.{digits_below-read, after-read, after_letter-read, letter_of}
 
 -- a day that the calendar has
-day_number-test : (y m d : ℕ) (z : ℤ) (t : Bool) → (nat_le 1 m && nat_le m 12 && nat_le 1 d && nat_le d (days_in_month (pos y) m)) ≡ t
-    → (if t then Some (days_from_civil (pos y) m d) else None) ≡ Some z → y < 10_000 → IsCivilDate (pos y) m d × (days_from_civil (pos y) m d ≡ z)
+day_number-test : (y m d : ℕ) (z : ℤ) (t : Bool)
+    → (nat_le 1 m && nat_le m 12 && nat_le 1 d && nat_le d (days_in_month (pos y) m)) ≡ t
+    → (if t then Some (days_from_civil (pos y) m d) else None) ≡ Some z → y < 10_000
+    → IsCivilDate (pos y) m d × (days_from_civil (pos y) m d ≡ z)
 day_number-test y m d z true e h small =
     let a = and_parts (nat_le 1 m && nat_le m 12 && nat_le 1 d) (nat_le d (days_in_month (pos y) m)) e in
     let b = and_parts (nat_le 1 m && nat_le m 12) (nat_le 1 d) a.0 in
@@ -136,9 +39,11 @@ day_number-test y m d z true e h small =
     (((omega (arith, signed_arith), omega (arith, signed_arith)), (from_1, to_12), (first, last)), un_some _ _ h)
 day_number-test y m d z false e h small = cc
 
-day_number-read : (y m d : ℕ) (z : ℤ) → day_number y m d ≡ Some z → y < 10_000 → IsCivilDate (pos y) m d × (days_from_civil (pos y) m d ≡ z)
+day_number-read : (y m d : ℕ) (z : ℤ) → day_number y m d ≡ Some z → y < 10_000
+    → IsCivilDate (pos y) m d × (days_from_civil (pos y) m d ≡ z)
 unfolding day_number
-day_number-read y m d z h small = day_number-test y m d z (nat_le 1 m && nat_le m 12 && nat_le 1 d && nat_le d (days_in_month (pos y) m)) refl h small
+day_number-read y m d z h small =
+    day_number-test y m d z (nat_le 1 m && nat_le m 12 && nat_le 1 d && nat_le d (days_in_month (pos y) m)) refl h small
 
 record DateRead (s : List ℕ) (z : ℤ) (rest : List ℕ) : Type 0 where
   year : ℕ
@@ -147,7 +52,8 @@ record DateRead (s : List ℕ) (z : ℤ) (rest : List ℕ) : Type 0 where
   small : year < 10_000
   exists : IsCivilDate (pos year) month day
   value : days_from_civil (pos year) month day ≡ z
-  text : s ≡ two_digit_text (year / 100) ++ two_digit_text (year % 100) ++ 45 ∷ two_digit_text month ++ 45 ∷ two_digit_text day ++ rest
+  text : s ≡ two_digit_text (year / 100) ++ two_digit_text (year % 100) ++ 45 ∷ two_digit_text month
+      ++ 45 ∷ two_digit_text day ++ rest
 
 date_part-read : (s : List ℕ) (r : ℤ × List ℕ) → date_part s ≡ Some r → DateRead s r.0 r.1
 unfolding date_part
@@ -170,7 +76,8 @@ date_part-read s r h =
       small = year.0;
       exists = number.0;
       value = number.1 ∙ ap (λ q. q.0) same;
-      text = year.1 ∙ ap (λ t. two_digit_text (y.0.0 / 100) ++ two_digit_text (y.0.0 % 100) ++ t) (after-read 45 y.0.1 a.0 a.1
+      text = year.1 ∙ ap (λ t. two_digit_text (y.0.0 / 100) ++ two_digit_text (y.0.0 % 100) ++ t)
+          (after-read 45 y.0.1 a.0 a.1
           ∙ ap (λ t. 45 ∷ t) (month.1 ∙ ap (λ t. two_digit_text m.0.0 ++ t) (after-read 45 m.0.1 b.0 b.1
           ∙ ap (λ t. 45 ∷ t) (day.1 ∙ ap (λ t. two_digit_text d.0.0 ++ t) (ap (λ q. q.1) same)))));
     }
@@ -233,10 +140,16 @@ no_digits = λ k d before. absurd (omega (arith, before))
 fraction-none : (s : List ℕ) (r : ℕ × List ℕ) → found 0 s ≡ Some r → FractionRead s r.0 r.1
 fraction-none s r h =
     let same = un_some _ _ h in
-    record { digits = []; are = no_digits; value = fraction_value-nil 9 ∙ ap (λ q. q.0) same; text = ap (λ q. q.1) same }
+    record {
+      digits = [];
+      are = no_digits;
+      value = fraction_value-nil 9 ∙ ap (λ q. q.0) same;
+      text = ap (λ q. q.1) same;
+    }
 
 fraction-digits : (s : List ℕ) (r : ℕ × List ℕ) (t : Bool) → (prefix_len is_ascii_digit s == 0) ≡ t
-    → (if t then None else found (fraction_value 9 (take (prefix_len is_ascii_digit s) s)) (drop (prefix_len is_ascii_digit s) s)) ≡ Some r
+    → (if t then None else found (fraction_value 9 (take (prefix_len is_ascii_digit s) s))
+    (drop (prefix_len is_ascii_digit s) s)) ≡ Some r
     → FractionRead (46 ∷ s) r.0 r.1
 fraction-digits s r true e h = cc
 fraction-digits s r false e h =
@@ -248,11 +161,14 @@ fraction-digits s r false e h =
       digits = take len s;
       are = prefix-digits s;
       value = ap (λ q. q.0) same;
-      text = rw (fraction_text-some (take len s) long) (ap (λ t. 46 ∷ t) (sym (take-append-drop len s) ∙ ap (λ t. take len s ++ t) (ap (λ q. q.1) same)));
+      text = rw (fraction_text-some (take len s) long)
+          (ap (λ t. 46 ∷ t) (sym (take-append-drop len s) ∙ ap (λ t. take len s ++ t) (ap (λ q. q.1) same)));
     }
 
 fraction-test : (c : ℕ) (s : List ℕ) (r : ℕ × List ℕ) (t : Bool) → (c == 46) ≡ t
-    → (if t then (if prefix_len is_ascii_digit s == 0 then None else found (fraction_value 9 (take (prefix_len is_ascii_digit s) s)) (drop (prefix_len is_ascii_digit s) s)) else found 0 (c ∷ s)) ≡ Some r
+    → (if t then (if prefix_len is_ascii_digit s == 0 then None
+    else found (fraction_value 9 (take (prefix_len is_ascii_digit s) s)) (drop (prefix_len is_ascii_digit s) s))
+    else found 0 (c ∷ s)) ≡ Some r
     → FractionRead (c ∷ s) r.0 r.1
 fraction-test c s r true e h =
     let point : c ≡ 46 = grind (arith, nat_tests, e) in
@@ -265,7 +181,8 @@ fraction_part-read [] r h = fraction-none [] r h
 fraction_part-read (c ∷ s) r h = fraction-test c s r (c == 46) refl h
 
 hours_minutes-read : (s : List ℕ) (r : ℕ × List ℕ) → hours_minutes s ≡ Some r
-    → (h : ℕ) × (m : ℕ) × (h < 24) × (m < 60) × (h * 3600 + m * 60 ≡ r.0) × (s ≡ two_digit_text h ++ 58 ∷ two_digit_text m ++ r.1)
+    → (h : ℕ) × (m : ℕ) × (h < 24) × (m < 60) × (h * 3600 + m * 60 ≡ r.0)
+    × (s ≡ two_digit_text h ++ 58 ∷ two_digit_text m ++ r.1)
 unfolding hours_minutes
 hours_minutes-read s r h =
     let x = un_then (digits_below 24 s) _ r h in
@@ -279,10 +196,12 @@ hours_minutes-read s r h =
       hour.0,
       minute.0,
       ap (λ q. q.0) same,
-      hour.1 ∙ ap (λ t. two_digit_text x.0.0 ++ t) (after-read 58 x.0.1 a.0 a.1 ∙ ap (λ t. 58 ∷ t) (minute.1 ∙ ap (λ t. two_digit_text y.0.0 ++ t) (ap (λ q. q.1) same))),
+      hour.1 ∙ ap (λ t. two_digit_text x.0.0 ++ t) (after-read 58 x.0.1 a.0 a.1
+          ∙ ap (λ t. 58 ∷ t) (minute.1 ∙ ap (λ t. two_digit_text y.0.0 ++ t) (ap (λ q. q.1) same))),
     )
 
-un_map : {A B : Type 0} (f : A → B) (o : Option A) (y : B) → option_map f o ≡ Some y → (x : A) × (o ≡ Some x) × (f x ≡ y)
+un_map : {A B : Type 0} (f : A → B) (o : Option A) (y : B) → option_map f o ≡ Some y
+    → (x : A) × (o ≡ Some x) × (f x ≡ y)
 un_map f None y h = cc
 un_map f (Some x) y h = (x, refl, un_some _ _ h)
 
@@ -300,7 +219,8 @@ record OffsetRead (s : List ℕ) (z : ℤ) (rest : List ℕ) : Type 0 where
 signed-read : (sign : ℕ) (way : ℕ → ℕ → Offset) (count : ℕ → ℤ) → ((h m : ℕ) → h < 24 → m < 60 → IsOffset (way h m))
     → ((h m : ℕ) → offset_seconds (way h m) ≡ count (h * 3600 + m * 60))
     → ((h m : ℕ) (t : List ℕ) → sign ∷ two_digit_text h ++ 58 ∷ two_digit_text m ++ t ≡ offset_text (way h m) ++ t)
-    → (s : List ℕ) (r : ℤ × List ℕ) → option_map (counted count) (hours_minutes s) ≡ Some r → OffsetRead (sign ∷ s) r.0 r.1
+    → (s : List ℕ) (r : ℤ × List ℕ) → option_map (counted count) (hours_minutes s) ≡ Some r
+    → OffsetRead (sign ∷ s) r.0 r.1
 signed-read sign way count is seconds text s r h =
     let n = un_map (counted count) (hours_minutes s) r h in
     let p = hours_minutes-read s n.0 n.1 in
@@ -313,7 +233,8 @@ signed-read sign way count is seconds text s r h =
     }
 
 offset-behind : (c : ℕ) (s : List ℕ) (r : ℤ × List ℕ) (t : Bool) → (c == 45) ≡ t
-    → (if t then option_map (counted (λ k. neg_ℤ (pos k))) (hours_minutes s) else None) ≡ Some r → OffsetRead (c ∷ s) r.0 r.1
+    → (if t then option_map (counted (λ k. neg_ℤ (pos k))) (hours_minutes s) else None) ≡ Some r
+    → OffsetRead (c ∷ s) r.0 r.1
 offset-behind c s r true e h =
     let sign : c ≡ 45 = grind (arith, nat_tests, e) in
     rw sign (signed-read 45 behind (λ k. neg_ℤ (pos k)) (λ h m p q. (p, q)) (λ h m. refl) (λ h m t. refl) s r h)
@@ -342,7 +263,8 @@ unfolding offset_part
 offset_part-read [] r h = cc
 offset_part-read (c ∷ s) r h = offset-zulu c s r ((c == 90) || (c == 122)) refl h
 
-end-test : (s : List ℕ) (x z : ℤ) (t : Bool) → (length s == 0) ≡ t → (if t then Some x else None) ≡ Some z → (s ≡ []) × (x ≡ z)
+end-test : (s : List ℕ) (x z : ℤ) (t : Bool) → (length s == 0) ≡ t → (if t then Some x else None) ≡ Some z
+    → (s ≡ []) × (x ≡ z)
 end-test [] x z true e h = (refl, un_some x z h)
 end-test (c ∷ s) x z true e h =
     let none : length (c ∷ s) ≡ 0 = grind (arith, nat_tests, e) in
@@ -386,8 +308,13 @@ named_moment-names text ms h =
         fraction = fraction.are;
         offset = offset.is;
       };
-      written = date.text ∙ ap (λ t. two_digit_text (date.year / 100) ++ two_digit_text (date.year % 100) ++ 45 ∷ two_digit_text date.month ++ 45 ∷ two_digit_text date.day ++ t) (letter.2
-          ∙ ap (λ t. letter.0 ∷ t) (time.text ∙ ap (λ t. two_digit_text time.hour ++ 58 ∷ two_digit_text time.minute ++ 58 ∷ two_digit_text time.second ++ t) (fraction.text
-          ∙ ap (λ t. fraction_text fraction.digits ++ t) (offset.text ∙ ap (λ t. offset_text offset.offset ++ t) end.0 ∙ append-nil _))));
+      written = date.text ∙ ap
+          (λ t. two_digit_text (date.year / 100) ++ two_digit_text (date.year % 100) ++ 45 ∷ two_digit_text date.month
+          ++ 45 ∷ two_digit_text date.day ++ t) (letter.2
+          ∙ ap (λ t. letter.0 ∷ t)
+          (time.text ∙ ap (λ t. two_digit_text time.hour ++ 58 ∷ two_digit_text time.minute
+          ++ 58 ∷ two_digit_text time.second ++ t) (fraction.text
+          ∙ ap (λ t. fraction_text fraction.digits ++ t) (offset.text ∙ ap (λ t. offset_text offset.offset ++ t) end.0
+          ∙ append-nil _))));
       moment = rw (date.value, time.value, fraction.value, offset.value) (sym end.1);
     }

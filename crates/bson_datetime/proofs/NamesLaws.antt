@@ -1,27 +1,42 @@
 -- What the parts of a text name is read from its front; a text names at most one moment.
-use Rattle.std.proofs.Common.{◌≡◌, ◌↔◌, ℕ, ℤ, pos, suc, ◌+◌, ◌*◌, ◌/◌, ◌%◌, ◌<◌, ◌==◌, inl, inr, true, false, List, [], ◌∷◌, ◌++◌, length, Some, None, refl, sym, ap, ◌∙◌, arith, take_at, drop_at}
+use Rattle.std.proofs.Common.{◌≡◌, ◌↔◌, ℕ, ℤ, pos, suc, ◌+◌, ◌*◌, ◌/◌, ◌%◌, ◌<◌, ◌==◌, inl, inr, true, false, List, []}
+use Rattle.std.proofs.Common.{◌∷◌, ◌++◌, length, Some, None, refl, sym, ap, ◌∙◌, arith, take_at, drop_at}
 use Rattle.std.proofs.lemmas.Bool.Decides.{nat_tests}
 use Rattle.std.specs.Char.{IsAsciiDigit, is_ascii_digit}
 use Rattle.std.specs.List.{All, prefix_len}
 use Rattle.jiff.specs.Types.{Date, Time}
 use Rattle.jiff_core.specs.Calendar.{IsCivilDate, days_from_civil}
-use Rattle.bson_datetime.specs.Grammar.{Offset, zulu, ahead, behind, offset_text, fraction_text, IsLetter, IsOffset, offset_seconds, Names}
-use Rattle.bson_datetime.specs.Rfc3339.{after, after_letter, date_part, time_part, fraction_part, fraction_value, hours_minutes, offset_part, named_moment}
+use Rattle.bson_datetime.specs.Grammar.{Offset, zulu, ahead, behind, offset_text, fraction_text, IsLetter, IsOffset}
+use Rattle.bson_datetime.specs.Grammar.{offset_seconds, Names}
+use Rattle.bson_datetime.specs.Rfc3339.{after, after_letter, date_part, time_part, fraction_part, fraction_value}
+use Rattle.bson_datetime.specs.Rfc3339.{hours_minutes, offset_part, named_moment}
 use Rattle.bson_datetime.specs.Displayed.{two_digit_text}
 use Rattle.bson_datetime.proofs.ReaderLemmas.{fraction_value-nil}
 use Rattle.bson_datetime.proofs.RoundTrip.{digits_below-pad2, date_part-text, time_part-text}
-use Rattle.bson_datetime.proofs.GrammarLemmas.{un_some, some_none, digit_test, named_moment-names}
+use Rattle.bson_datetime.proofs.PartsRead.{un_some, some_none, digit_test}
+use Rattle.bson_datetime.proofs.GrammarLemmas.{named_moment-names}
 
 date-parts : (y m d : ℕ) (rest : List ℕ) → y < 10_000 → IsCivilDate (pos y) m d
-    → date_part (two_digit_text (y / 100) ++ two_digit_text (y % 100) ++ 45 ∷ two_digit_text m ++ 45 ∷ two_digit_text d ++ rest) ≡ Some (days_from_civil (pos y) m d, rest)
+    → date_part (two_digit_text (y / 100) ++ two_digit_text (y % 100) ++ 45 ∷ two_digit_text m ++ 45 ∷ two_digit_text d
+    ++ rest) ≡ Some (days_from_civil (pos y) m d, rest)
 date-parts y m d rest small is =
     let date : Date = record { year = pos y; month = m; day = d; year_in = is.0; month_in = is.1; day_in = is.2 } in
     date_part-text date y rest refl small
 
 time-parts : (h m s : ℕ) (rest : List ℕ) → h < 24 → m < 60 → s < 60
-    → time_part (two_digit_text h ++ 58 ∷ two_digit_text m ++ 58 ∷ two_digit_text s ++ rest) ≡ Some (h * 3600 + m * 60 + s, rest)
+    → time_part (two_digit_text h ++ 58 ∷ two_digit_text m ++ 58 ∷ two_digit_text s ++ rest)
+    ≡ Some (h * 3600 + m * 60 + s, rest)
 time-parts h m s rest hour minute second =
-    let time : Time = record { hour = h; minute = m; second = s; subsec_nanosecond = 0; hour_in = hour; minute_in = minute; second_in = second; subsec_in = omega arith } in
+    let time : Time = record {
+      hour = h;
+      minute = m;
+      second = s;
+      subsec_nanosecond = 0;
+      hour_in = hour;
+      minute_in = minute;
+      second_in = second;
+      subsec_in = omega arith;
+    } in
     time_part-text time rest
 
 letter-parts : (upper c : ℕ) (rest : List ℕ) → IsLetter upper c → after_letter upper (c ∷ rest) ≡ Some rest
@@ -51,7 +66,12 @@ fraction-some : (all : List ℕ) (c : ℕ) (rest : List ℕ) → 0 < length all 
 unfolding fraction_part
 fraction-some all c rest long are none =
     let some : (length all == 0) ≡ false = grind (arith, nat_tests) in
-    rw (prefix-all all c rest are none, some, take_at all (c ∷ rest) (length all) refl, drop_at all (c ∷ rest) (length all) refl) refl
+    rw (
+      prefix-all all c rest are none,
+      some,
+      take_at all (c ∷ rest) (length all) refl,
+      drop_at all (c ∷ rest) (length all) refl,
+    ) refl
 
 fraction-parts : (ds : List ℕ) (c : ℕ) (rest : List ℕ) → All IsAsciiDigit ds → is_ascii_digit c ≡ false
     → (c == 46) ≡ false
@@ -64,8 +84,12 @@ offset-parts : (o : Offset) → IsOffset o → offset_part (offset_text o) ≡ S
 unfolding offset_part hours_minutes after
 offset-parts (zulu c) (inl e) = rw e refl
 offset-parts (zulu c) (inr e) = rw e refl
-offset-parts (ahead h m) is = rw (digits_below-pad2 24 h (58 ∷ two_digit_text m) is.0 (omega arith), digits_below-pad2 60 m [] is.1 (omega arith)) refl
-offset-parts (behind h m) is = rw (digits_below-pad2 24 h (58 ∷ two_digit_text m) is.0 (omega arith), digits_below-pad2 60 m [] is.1 (omega arith)) refl
+offset-parts (ahead h m) is =
+    rw (digits_below-pad2 24 h (58 ∷ two_digit_text m) is.0 (omega arith), digits_below-pad2 60 m [] is.1 (omega arith))
+    refl
+offset-parts (behind h m) is =
+    rw (digits_below-pad2 24 h (58 ∷ two_digit_text m) is.0 (omega arith), digits_below-pad2 60 m [] is.1 (omega arith))
+    refl
 
 -- the fraction before an offset
 fraction-offset : (ds : List ℕ) (o : Offset) → All IsAsciiDigit ds → IsOffset o
@@ -81,7 +105,8 @@ names-named_moment text ms n =
     let p = n.parts in
     let r = n.in_ranges in
     let after_second = fraction_text p.fraction ++ offset_text p.offset in
-    let after_separator = two_digit_text p.hour ++ 58 ∷ two_digit_text p.minute ++ 58 ∷ two_digit_text p.second ++ after_second in
+    let after_separator = two_digit_text p.hour ++ 58 ∷ two_digit_text p.minute ++ 58 ∷ two_digit_text p.second
+    ++ after_second in
     rw (
       n.written,
       date-parts p.year p.month p.day (p.separator ∷ after_separator) r.year r.date,

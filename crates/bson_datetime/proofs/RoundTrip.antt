@@ -1,5 +1,7 @@
 -- What is written for a millisecond denotes it.
-use Rattle.std.proofs.Common.{◌≡◌, ℕ, ℤ, pos, negsuc, zero, suc, ◌+◌, ◌-◌, ◌*◌, ◌/◌, ◌%◌, ◌^◌, ◌<◌, ◌≤◌, ◌==◌, ◌&&◌, nat_le, take_at, drop_at, true, false, List, [], ◌∷◌, ◌++◌, Some, None, refl, ap, arith, ◌*ℤ◌, int_div}
+use Rattle.std.proofs.Common.{◌≡◌, ℕ, ℤ, pos, negsuc, zero, suc, ◌+◌, ◌-◌, ◌*◌, ◌/◌, ◌%◌, ◌^◌, ◌<◌, ◌≤◌, ◌==◌, ◌&&◌}
+use Rattle.std.proofs.Common.{nat_le, take_at, drop_at, true, false, List, [], ◌∷◌, ◌++◌, Some, None, refl, ap, arith}
+use Rattle.std.proofs.Common.{◌*ℤ◌, int_div}
 use Rattle.std.proofs.lemmas.Bool.Decides.{nat_tests}
 use Rattle.std.proofs.lemmas.List.{append_assoc}
 use Rattle.std.specs.Char.{is_ascii_digit}
@@ -9,13 +11,15 @@ use Rattle.jiff.specs.Types.{Date, Time, DateTime}
 use Rattle.jiff.specs.Words.{epoch_day, civil_nanos, days_in_month, iso_datetime_text}
 use Rattle.jiff.proofs.Family.{civil_nanos-parts}
 use Rattle.jiff.proofs.SpanFacts.{signed_arith}
-use Rattle.jiff_fmt.specs.Text.{pad2, pad4, places, fraction, fraction_part as fraction_text, significant, trailing_zeros}
+use Rattle.jiff_fmt.specs.Text.{pad2, pad4, places, fraction, fraction_part as fraction_text, significant}
+use Rattle.jiff_fmt.specs.Text.{trailing_zeros}
 use Rattle.jiff_fmt.specs.Reader.{fraction_value}
 use Rattle.jiff_fmt.proofs.TextLemmas.{places-read, trailing_zeros-le, trailing_zeros-mod, significant-not_zero}
 use Rattle.jiff_core.specs.Time.{time_seconds}
 use Rattle.jiff_core.proofs.CalendarLemmas.{days_in_month_bounds}
 use Rattle.bson_datetime.specs.JiffSteps.{IsJiffMoment}
-use Rattle.bson_datetime.specs.Rfc3339.{two_digits, four_digits, digits_below, after, after_letter, day_number, date_part, time_part, fraction_part, offset_part, named_moment, nanos_of}
+use Rattle.bson_datetime.specs.Rfc3339.{two_digits, four_digits, digits_below, after, after_letter, day_number}
+use Rattle.bson_datetime.specs.Rfc3339.{date_part, time_part, fraction_part, offset_part, named_moment, nanos_of}
 use Rattle.bson_datetime.specs.Moment.{IsRfcMillis}
 use Rattle.bson_datetime.specs.Displayed.{rfc}
 use Rattle.bson_datetime.proofs.MomentExists.{moment_at}
@@ -25,7 +29,8 @@ use Rattle.bson_datetime.proofs.MomentLemmas.{moment-not_negative}
 pub two_digits-pad2 : (n : ℕ) (rest : List ℕ) → n < 100 → two_digits (pad2 n ++ rest) ≡ Some (n, rest)
 unfolding two_digits
 two_digits-pad2 n rest h =
-    let digits : (is_in_range 48 57 (48 + n / 10) && is_in_range 48 57 (48 + n % 10)) ≡ true = grind (arith, nat_tests) in
+    let digits : (is_in_range 48 57 (48 + n / 10) && is_in_range 48 57 (48 + n % 10)) ≡ true =
+    grind (arith, nat_tests) in
     let value : (48 + n / 10 - 48) * 10 + (48 + n % 10 - 48) ≡ n = omega arith in
     rw (digits, value)
 
@@ -48,7 +53,9 @@ digits_below-pad2 bound n rest h k =
 day_number-date : (date : Date) (y : ℕ) → date.year ≡ pos y → day_number y date.month date.day ≡ Some (epoch_day date)
 unfolding day_number
 day_number-date date y year =
-    let in_month : nat_le 1 date.month && nat_le date.month 12 && nat_le 1 date.day && nat_le date.day (days_in_month date.year date.month) ≡ true = grind (arith, nat_tests, date.month_in, date.day_in) in
+    let in_month : nat_le 1 date.month && nat_le date.month 12 && nat_le 1 date.day
+    && nat_le date.day (days_in_month date.year date.month) ≡ true =
+    grind (arith, nat_tests, date.month_in, date.day_in) in
     let test = rw year at in_month in
     rw (test, year)
 
@@ -59,7 +66,12 @@ unfolding date_part after
 date_part-text date y rest year small =
     let month : date.month < 100 = omega (arith, date.month_in) in
     let day : date.day < 100 = omega (arith, date.day_in, days_in_month_bounds date.year date.month) in
-    rw (four_digits-pad4 y (45 ∷ pad2 date.month ++ 45 ∷ pad2 date.day ++ rest) small, two_digits-pad2 date.month (45 ∷ pad2 date.day ++ rest) month, two_digits-pad2 date.day rest day, day_number-date date y year)
+    rw (
+      four_digits-pad4 y (45 ∷ pad2 date.month ++ 45 ∷ pad2 date.day ++ rest) small,
+      two_digits-pad2 date.month (45 ∷ pad2 date.day ++ rest) month,
+      two_digits-pad2 date.day rest day,
+      day_number-date date y year,
+    )
 
 -- a time, and then rest
 pub time_part-text : (t : Time) (rest : List ℕ)
@@ -88,11 +100,19 @@ fraction_part-text (suc m) high =
     let count : prefix_len is_ascii_digit (places k 1_000_000_000 n ++ rest) ≡ k = omega (arith, facts.0) in
     let left : 9 - k ≡ t = omega arith in
     let multiple = trailing_zeros-mod 8 n in
-    let value : fraction_value 9 (places k 1_000_000_000 n) ≡ n = omega (arith, facts.2, ap (λ x. n % 10 ^ x) left, multiple) in
+    let value : fraction_value 9 (places k 1_000_000_000 n) ≡ n =
+    omega (arith, facts.2, ap (λ x. n % 10 ^ x) left, multiple) in
     let some : (k == 0) ≡ false = grind (arith, nat_tests) in
     let zero_test : (suc m == 0) ≡ false = grind (arith, nat_tests) in
     let part : fraction_text None (suc m) ≡ 46 ∷ fraction None (suc m) = rw zero_test in
-    rw (part, count, some, take_at (places k 1_000_000_000 n) rest k facts.1, drop_at (places k 1_000_000_000 n) rest k facts.1, value)
+    rw (
+      part,
+      count,
+      some,
+      take_at (places k 1_000_000_000 n) rest k facts.1,
+      drop_at (places k 1_000_000_000 n) rest k facts.1,
+      value,
+    )
 
 -- whole milliseconds are left as they are
 int_div-whole : (ms : ℤ) → int_div (ms *ℤ pos 1_000_000) (pos 1_000_000) ≡ ms
@@ -112,15 +132,24 @@ named_moment-parts at y ms year small is =
     let t = at.time in
     let after_second = fraction_text None t.subsec_nanosecond ++ 90 ∷ [] in
     let after_t = pad2 t.hour ++ 58 ∷ pad2 t.minute ++ 58 ∷ pad2 t.second ++ after_second in
-    let shape : iso_datetime_text at ++ 90 ∷ [] ≡ pad4 y ++ 45 ∷ pad2 d.month ++ 45 ∷ pad2 d.day ++ 84 ∷ after_t = rw year (simp append_assoc refl) in
-    let value : int_div (nanos_of (epoch_day d) (time_seconds t) t.subsec_nanosecond (pos 0)) (pos 1_000_000) ≡ ms = rw (nanos_of-moment at, is) (int_div-whole ms) in
-    rw (shape, date_part-text d y (84 ∷ after_t) year small, time_part-text t after_second, fraction_part-text t.subsec_nanosecond t.subsec_in, value)
+    let shape : iso_datetime_text at ++ 90 ∷ [] ≡ pad4 y ++ 45 ∷ pad2 d.month ++ 45 ∷ pad2 d.day ++ 84 ∷ after_t =
+    rw year (simp append_assoc refl) in
+    let value : int_div (nanos_of (epoch_day d) (time_seconds t) t.subsec_nanosecond (pos 0)) (pos 1_000_000) ≡ ms =
+    rw (nanos_of-moment at, is) (int_div-whole ms) in
+    rw (
+      shape,
+      date_part-text d y (84 ∷ after_t) year small,
+      time_part-text t after_second,
+      fraction_part-text t.subsec_nanosecond t.subsec_in,
+      value,
+    )
 
 -- the text of a millisecond of the years 0000 to 9999 denotes it, where jiff has its moment
 pub denoted_moment : (ms : ℤ) (at : DateTime) → IsJiffMoment ms at → IsRfcMillis ms → named_moment (rfc ms) ≡ Some ms
 denoted_moment ms at is h =
     let year = moment-not_negative ms at is h.0 in
-    rw (rfc-jiff ms at year.0 is year.1) (named_moment-parts at year.0 ms year.1 (omega (arith, signed_arith, at.date.year_in, year.1)) is)
+    rw (rfc-jiff ms at year.0 is year.1)
+    (named_moment-parts at year.0 ms year.1 (omega (arith, signed_arith, at.date.year_in, year.1)) is)
 
 -- every millisecond of the years 0000 to 9999 comes back from its text
 pub named_moment-rfc : (ms : ℤ) → IsRfcMillis ms → named_moment (rfc ms) ≡ Some ms

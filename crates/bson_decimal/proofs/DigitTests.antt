@@ -23,4 +23,9 @@ test-false ds h = elim (cases_Bool (all_ascii_digits ds)) [ inl e ↦ absurd (h 
 
 pub scaled-lt : (ds : List ℕ) (z : ℕ) → AllDigits 10 ds → length ds + z ≤ 34 → digits_value 10 ds * 10 ^ z < 10 ^ 34
 scaled-lt ds z digits fits =
-    omega (arith, mul-lt-mul_of_pos_right (digits_value-lt 10 ds digits) (tens-pos z), pow-add 10 (length ds) z, tens-le (length ds + z) 34 fits)
+    omega (
+      arith,
+      mul-lt-mul_of_pos_right (digits_value-lt 10 ds digits) (tens-pos z),
+      pow-add 10 (length ds) z,
+      tens-le (length ds + z) 34 fits,
+    )

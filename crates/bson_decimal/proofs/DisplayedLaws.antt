@@ -1,15 +1,16 @@
 -- A printed text parses to the canonical pattern.
-use Rattle.std.proofs.Common.{◌≡◌, ℕ, zero, suc, ◌+◌, ◌-◌, ◌*◌, ◌^◌, ◌<◌, ◌≤◌, inl, inr, Bool, true, false, cond, ◌&&◌, eqb, ltb, leb, List, [], ◌∷◌, ◌++◌, length, take, drop, replicate, ℤ, pos, neg_ℤ, ◌-ℤ◌, Option, Some, None, refl, sym, ap, subst, ◌∙◌, arith, length-append, length-drop}
-use Rattle.std.specs.Prelude.{⊤, codes, int_le, int_lt, unsigned_abs, Result, Ok, Err, ◌↔◌, IsOkAnd}
+use Rattle.std.proofs.Common.{◌≡◌, ℕ, zero, suc, ◌+◌, ◌-◌, ◌*◌, ◌^◌, ◌<◌, ◌≤◌, inl, inr, Bool, true, false, ◌&&◌}
+use Rattle.std.proofs.Common.{eqb, ltb, List, [], ◌∷◌, ◌++◌, length, take, drop, replicate, pos, neg_ℤ, ◌-ℤ◌}
+use Rattle.std.proofs.Common.{Option, Some, None, refl, sym, ap, subst, ◌∙◌, arith, length-append, length-drop}
+use Rattle.std.specs.Prelude.{codes, int_le, int_lt, unsigned_abs, Result, Ok, Err, ◌↔◌, IsOkAnd}
 use Rattle.bson_decimal.specs.FromStr.{ParsesTo}
-use Rattle.std.specs.Str.Parse.{without_leading_sign}
 use Rattle.bson_decimal.specs.declared.ParseError.{ParseError}
 use Rattle.bson_decimal.specs.Steps as Steps
 use Rattle.bson_decimal.proofs.Bytes.{from_le_bytes-to_le_bytes_16}
-use Rattle.bson_decimal.proofs.PatternLaws.{number_meaning-first_form, first_form-lt}
+use Rattle.bson_decimal.proofs.PatternLaws.{IsDecoded, number_meaning-within, number_meaning-first_form, first_form-lt}
 use Rattle.bson_decimal.proofs.Parsing.{word-off, no-word, special-parses, finite-parses, refused-parses}
-use Rattle.std.specs.Fmt.{decimal, signed_decimal, sign_text}
-use Rattle.std.proofs.lemmas.Bool.{cases_Bool, eqb-true, and_parts, leb-true, ltb-true, ltb-false}
+use Rattle.std.specs.Fmt.{decimal, sign_text}
+use Rattle.std.proofs.lemmas.Bool.{cases_Bool, eqb-true, and_parts, ltb-true, ltb-false}
 use Rattle.std.proofs.lemmas.Bool.Decides.{nat_tests}
 use Rattle.std.proofs.lemmas.Fmt.{decimal_digit, decimal_is_IsNumeral_wide, length-decimal-le_wide}
 use Rattle.std.proofs.lemmas.Int.{ints, clamps}
@@ -17,38 +18,21 @@ use Rattle.std.proofs.lemmas.List.{take-append-drop, length-replicate, append-ni
 use Rattle.std.proofs.Math.Numerals.{one-add}
 use Rattle.std.specs.Int.{w128, to_le_bytes, from_le_bytes}
 use Rattle.std.specs.List.{prefix_len}
-use Rattle.std.specs.Str.Parse.{AllDigits, digits_value}
+use Rattle.std.specs.Str.Parse.{AllDigits, digits_value, without_leading_sign}
 use Rattle.bson_decimal.specs.declared.bits.Decoded.{Decoded}
 use Rattle.bson_decimal.specs.declared.bits.Decoded.TheVariants.{Nan, Infinity, Finite}
 use Rattle.bson_decimal.specs.Exponents.{exponent_at}
-use Rattle.bson_decimal.specs.Pattern.{number_meaning, bytes_meaning, first_form, sign_weight, normal_decimal, normal_number, field, is_set, canonical_coefficient}
-use Rattle.bson_decimal.specs.Displayed.{meaning_text, display_text, finite_text, plain_text, scientific_text, scientific_exponent, power_text}
-use Rattle.bson_decimal.proofs.Shifted.{IsNearestShifted}
-use Rattle.bson_decimal.specs.Numeral.{Sign, none, plus, minus, sign_bytes, is_minus, Exponent, unwritten, written, exponent_bytes, fraction_bytes, fraction_digits, IsExponent, Numeral, is_zero, without_leading_zeros}
+use Rattle.bson_decimal.specs.Pattern.{number_meaning, bytes_meaning, first_form, sign_weight, normal_decimal}
+use Rattle.bson_decimal.specs.Pattern.{normal_number}
+use Rattle.bson_decimal.specs.Displayed.{meaning_text, display_text, finite_text, plain_text, scientific_text}
+use Rattle.bson_decimal.specs.Displayed.{scientific_exponent, power_text}
+use Rattle.bson_decimal.specs.Numeral.{Sign, none, plus, minus, sign_bytes, is_minus, Exponent, unwritten, written}
+use Rattle.bson_decimal.specs.Numeral.{exponent_bytes, fraction_bytes, fraction_digits, IsExponent, Numeral, is_zero}
+use Rattle.bson_decimal.specs.Numeral.{without_leading_zeros}
 use Rattle.bson_decimal.specs.Text.{Parses, special, nan, infinity, finite}
-use Rattle.bson_decimal.proofs.Shifted.{written_up, written_down, up, down, within16, nearest}
+use Rattle.bson_decimal.proofs.Shifted.{IsNearestShifted, written_up, written_down, up, down, within16, nearest}
 use Rattle.bson_decimal.proofs.NearestLaws.{nearest-same}
 use Rattle.bson_decimal.proofs.Zeros.{value-before, AllDigits-append, AllDigits-zeros}
-
-abbrev pub IsDecoded : Decoded → Type 0
-IsDecoded (Nan s q) = ⊤
-IsDecoded (Infinity s) = ⊤
-IsDecoded (Finite s c e) = (c < 10 ^ 34) × (e < 12288)
-
-choose : (b : Bool) (x y : Decoded) → (b ≡ true → IsDecoded x) → (b ≡ false → IsDecoded y) → IsDecoded (cond b x y)
-choose true x y f g = f refl
-choose false x y f g = g refl
-
-pub number_meaning-within : (n : ℕ) → IsDecoded (number_meaning n)
-number_meaning-within n =
-    let rest = Finite (is_set n 127) (canonical_coefficient (field n 0 113)) (field n 113 14) in
-    let second = Finite (is_set n 127) 0 (field n 111 14) in
-    let other : Decoded = cond (eqb (field n 125 2) 3) second rest in
-    choose (eqb (field n 122 5) 31) (Nan (is_set n 127) (is_set n 121)) (cond (eqb (field n 122 5) 30) (Infinity (is_set n 127)) other) (λ _. tt)
-    (λ a. choose (eqb (field n 122 5) 30) (Infinity (is_set n 127)) other (λ _. tt)
-    (λ b. choose (eqb (field n 125 2) 3) second rest
-    (λ c. (omega arith, grind (arith, nat_tests)))
-    (λ c. (grind (arith, nat_tests), grind (arith, nat_tests)))))
 
 sign_of : Bool → Sign
 sign_of true = minus
@@ -83,16 +67,34 @@ record Prints (c e : ℕ) (body : List ℕ) : Type 0 where
 from-prints : (negative : Bool) (c e : ℕ) (body : List ℕ) → c < 10 ^ 34 → e < 12288 → Prints c e body
     → Parses (sign_text negative ++ body) (to_le_bytes w128 (first_form negative c e))
 from-prints negative c e body small within p =
-    let n : Numeral = record { sign = sign_of negative; whole = p.whole; fraction = p.fraction; exponent = p.exponent } in
+    let n : Numeral = record {
+      sign = sign_of negative;
+      whole = p.whole;
+      fraction = p.fraction;
+      exponent = p.exponent;
+    } in
     let high = p.high in
     let low = p.low in
     let short = p.short in
     let few = p.few in
     let at = p.at in
     finite n c e
-    (record { is = ap (λ t. t ++ body) (sign_bytes-is negative) ∙ ap (λ t. sign_bytes (sign_of negative) ++ t) p.is; digits = p.digits; some = p.some; exponent = p.ok })
-    (within16 n (record { high = omega arith; low = omega arith; fraction = omega arith; least = omega arith; cut = omega arith; greatest = omega arith }))
-    (nearest n c e (subst (λ m. IsNearestShifted m (up n) (down n) c e) (sym p.value) (nearest-same c (up n) (down n) e small within p.at)))
+    (record {
+      is = ap (λ t. t ++ body) (sign_bytes-is negative) ∙ ap (λ t. sign_bytes (sign_of negative) ++ t) p.is;
+      digits = p.digits;
+      some = p.some;
+      exponent = p.ok;
+    })
+    (within16 n (record {
+      high = omega arith;
+      low = omega arith;
+      fraction = omega arith;
+      least = omega arith;
+      cut = omega arith;
+      greatest = omega arith;
+    }))
+    (nearest n c e (subst (λ m. IsNearestShifted m (up n) (down n) c e) (sym p.value)
+    (nearest-same c (up n) (down n) e small within p.at)))
     (ap (λ b. to_le_bytes w128 (first_form b c e)) (sym (is_minus-is negative)))
 
 stripped-le : (ds : List ℕ) → length ds ≤ 34 → length (without_leading_zeros ds) ≤ 34
@@ -136,15 +138,37 @@ prints-power k most =
           let d = writes (k - 6177) (omega arith) in
           let v = d.value in
           let x : pos k -ℤ pos 6177 ≡ pos (k - 6177) = omega (arith, ints) in
-          record { exponent = written 69 plus (decimal (k - 6177)); is = rw x (ap (λ t. 69 ∷ t) (power-above (k - 6177) (omega arith))); ok = (inr refl, d.some, d.digits); at = omega arith; high = omega arith; low = omega arith }
+          record {
+            exponent = written 69 plus (decimal (k - 6177));
+            is = rw x (ap (λ t. 69 ∷ t) (power-above (k - 6177) (omega arith)));
+            ok = (inr refl, d.some, d.digits);
+            at = omega arith;
+            high = omega arith;
+            low = omega arith;
+          }
       | inr a ↦ let below = ltb-false 6177 k a in elim (cases_Bool (eqb k 6177)) [
-        | inl b ↦ let is = eqb-true k 6177 b in record { exponent = written 69 none (48 ∷ []); is = rw is (ap (λ t. 69 ∷ t) (decimal_digit 0 (omega arith))); ok = (inr refl, omega arith, (omega arith, tt)); at = omega arith; high = omega arith; low = omega arith }
+        | inl b ↦ let is = eqb-true k 6177 b in
+            record {
+              exponent = written 69 none (48 ∷ []);
+              is = rw is (ap (λ t. 69 ∷ t) (decimal_digit 0 (omega arith)));
+              ok = (inr refl, omega arith, (omega arith, tt));
+              at = omega arith;
+              high = omega arith;
+              low = omega arith;
+            }
         | inr b ↦
             let d = writes (6177 - k) (omega arith) in
             let v = d.value in
             let other : k < 6177 = grind (arith, nat_tests) in
             let x : pos k -ℤ pos 6177 ≡ neg_ℤ (pos (6177 - k)) = omega (arith, ints) in
-            record { exponent = written 69 minus (decimal (6177 - k)); is = rw x (ap (λ t. 69 ∷ t) (power-below (6177 - k) (omega arith))); ok = (inr refl, d.some, d.digits); at = omega arith; high = omega arith; low = omega arith }
+            record {
+              exponent = written 69 minus (decimal (6177 - k));
+              is = rw x (ap (λ t. 69 ∷ t) (power-below (6177 - k) (omega arith)));
+              ok = (inr refl, d.some, d.digits);
+              at = omega arith;
+              high = omega arith;
+              low = omega arith;
+            }
       ]
     ]
 
@@ -179,12 +203,14 @@ module _ (c e : ℕ) (small : c < 10 ^ 34) (within : e < 12288) where
           | inl b ↦
               let inside = ltb-true (6176 - e) (length ds) b in
               let joined = take-append-drop (length ds - (6176 - e)) ds in
-              let size : length (drop (length ds - (6176 - e)) ds) ≡ 6176 - e = omega (arith, length-drop (length ds - (6176 - e)) ds) in
+              let size : length (drop (length ds - (6176 - e)) ds) ≡ 6176 - e =
+              omega (arith, length-drop (length ds - (6176 - e)) ds) in
               rw (a, b) (record {
                 whole = take (length ds - (6176 - e)) ds;
                 fraction = Some (drop (length ds - (6176 - e)) ds);
                 exponent = unwritten;
-                is = ap (λ t. take (length ds - (6176 - e)) ds ++ 46 ∷ t) (sym (append-nil (drop (length ds - (6176 - e)) ds)));
+                is = ap (λ t. take (length ds - (6176 - e)) ds ++ 46 ∷ t)
+                    (sym (append-nil (drop (length ds - (6176 - e)) ds)));
                 digits = rw joined d.digits;
                 some = rw joined d.some;
                 ok = tt;
@@ -198,7 +224,8 @@ module _ (c e : ℕ) (small : c < 10 ^ 34) (within : e < 12288) where
           | inr b ↦
               let outside = ltb-false (6176 - e) (length ds) b in
               let k = 6176 - e - length ds in
-              let size : length (replicate k 48 ++ ds) ≡ 6176 - e = omega (arith, length-append (replicate k 48) ds, length-replicate {A = ℕ} k 48) in
+              let size : length (replicate k 48 ++ ds) ≡ 6176 - e =
+              omega (arith, length-append (replicate k 48) ds, length-replicate {A = ℕ} k 48) in
               rw (a, b) (record {
                 whole = 48 ∷ [];
                 fraction = Some (replicate k 48 ++ ds);
@@ -295,9 +322,11 @@ finite-prints c e small within =
 meaning_text-parses : (d : Decoded) → IsDecoded d → Parses (meaning_text d) (to_le_bytes w128 (normal_number d))
 meaning_text-parses (Nan s q) h = special none (codes "NaN") (124 * 2 ^ 120) refl (nan refl) refl
 meaning_text-parses (Infinity s) h =
-    special (sign_of s) (codes "Infinity") (120 * 2 ^ 120) (ap (λ t. t ++ codes "Infinity") (sign_bytes-is s)) (infinity refl)
+    special (sign_of s) (codes "Infinity") (120 * 2 ^ 120) (ap (λ t. t ++ codes "Infinity") (sign_bytes-is s))
+    (infinity refl)
     (ap (λ b. to_le_bytes w128 (sign_weight b + 120 * 2 ^ 120)) (sym (is_minus-is s)))
-meaning_text-parses (Finite s c e) h = from-prints s c e (finite_text (decimal c) (exponent_at e)) h.0 h.1 (finite-prints c e h.0 h.1)
+meaning_text-parses (Finite s c e) h =
+    from-prints s c e (finite_text (decimal c) (exponent_at e)) h.0 h.1 (finite-prints c e h.0 h.1)
 
 -- a printed text parses to the canonical pattern
 pub display_text-parses : (b : List ℕ) → Parses (display_text b) (normal_decimal b)
@@ -335,12 +364,17 @@ pub display_text-canon : (b : List ℕ) → display_text (normal_decimal b) ≡ 
 unfolding display_text normal_decimal
 display_text-canon b =
     let h = number_meaning-within (from_le_bytes w128 b) in
-    ap (λ n. meaning_text (number_meaning n)) (from_le_bytes-to_le_bytes_16 (normal_number (bytes_meaning b)) (canon-lt (bytes_meaning b) h)) ∙ meaning_text-canon (bytes_meaning b) h
+    ap (λ n. meaning_text (number_meaning n))
+    (from_le_bytes-to_le_bytes_16 (normal_number (bytes_meaning b)) (canon-lt (bytes_meaning b) h))
+    ∙ meaning_text-canon (bytes_meaning b) h
 
 -- two patterns print alike exactly if their canonical patterns are one
 pub display_text-same : (a b : List ℕ) → (display_text a ≡ display_text b) ↔ (normal_decimal a ≡ normal_decimal b)
-display_text-same a b =
-    (λ e. parses-one (display_text b) (normal_decimal a) (normal_decimal b) (rw e at (display_text-parses a)) (display_text-parses b), λ e. sym (display_text-canon a) ∙ ap display_text e ∙ display_text-canon b)
+display_text-same a b = (
+  λ e. parses-one (display_text b) (normal_decimal a) (normal_decimal b) (rw e at (display_text-parses a))
+      (display_text-parses b),
+  λ e. sym (display_text-canon a) ∙ ap display_text e ∙ display_text-canon b,
+)
 
 -- so a printed text is answered by its canonical pattern
 pub reads-display_text : (text : List ℕ) (r : Result (List ℕ) ParseError) → ParsesTo text r → (b : List ℕ)

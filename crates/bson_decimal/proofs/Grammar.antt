@@ -1,5 +1,7 @@
 -- The parts of a text, put together and taken apart.
-use Rattle.std.proofs.Common.{◌≡◌, ◌≢◌, ℕ, ◌+◌, ◌-◌, ◌<◌, ◌≤◌, ◌⊎◌, inl, inr, Bool, true, false, cond, not, ◌&&◌, eqb, ltb, leb, List, [], ◌∷◌, ◌++◌, length, drop, get_or, Option, Some, None, refl, sym, ap, subst, ◌∙◌, rules, tests, arith, length-append}
+use Rattle.std.proofs.Common.{◌≡◌, ◌≢◌, ℕ, ◌+◌, ◌-◌, ◌<◌, ◌≤◌, ◌⊎◌, inl, inr, Bool, true, false, cond, not, ◌&&◌, eqb}
+use Rattle.std.proofs.Common.{ltb, leb, List, [], ◌∷◌, ◌++◌, length, drop, get_or, Option, Some, None, refl, sym, ap}
+use Rattle.std.proofs.Common.{subst, ◌∙◌, rules, tests, arith, length-append}
 use Rattle.std.specs.Prelude.{Result, Ok, Err, MatchResult, ⊤}
 use Rattle.std.proofs.lemmas.Bool.{cases_Bool, and_parts, or_cases, eqb-true, cases_lt, leb-true, ltb-true, ltb-false}
 use Rattle.std.proofs.lemmas.Bool.Decides.{nat_tests}
@@ -13,9 +15,11 @@ use Rattle.std.specs.Str.Parse.{AllDigits, digits_value, without_leading_sign, s
 use Rattle.bson_decimal.specs.declared.ParseError.{ParseError}
 use Rattle.std.specs.Option.{ok_or}
 use Rattle.bson_decimal.specs.declared.ParseError.TheVariants.{EmptyExponent, InvalidExponent}
-use Rattle.bson_decimal.specs.Numeral.{Sign, none, plus, minus, sign_bytes, is_minus, Exponent, unwritten, written, exponent_bytes, fraction_bytes, fraction_digits, IsExponent}
+use Rattle.bson_decimal.specs.Numeral.{Sign, none, plus, minus, sign_bytes, is_minus, Exponent, unwritten, written}
+use Rattle.bson_decimal.specs.Numeral.{exponent_bytes, fraction_bytes, fraction_digits, IsExponent}
 use Rattle.bson_decimal.proofs.Shifted.{written_up, written_down}
-use Rattle.bson_decimal.specs.Steps.{is_mark, is_point, has, is_exponent, written_place, exponent_value, written_exponent, scaled_exponent, stored_pair, finite, bind}
+use Rattle.bson_decimal.specs.Steps.{is_mark, is_point, has, is_exponent, written_place, exponent_value}
+use Rattle.bson_decimal.specs.Steps.{written_exponent, scaled_exponent, stored_pair, finite, bind}
 use Rattle.bson_decimal.proofs.StepLaws.{if-cases, not-true, not-false}
 use Rattle.bson_decimal.proofs.Zeros.{AllDigits-parts}
 use Rattle.bson_decimal.proofs.DigitTests.{AllDigits-from_test, test-from_AllDigits}
@@ -99,7 +103,10 @@ pub record ReadsExponent (rest : List ℕ) (w : ℕ) : Type 0 where
   pub low : written_down part ≤ 32768
 
 mark-cases : (b : ℕ) → is_mark b ≡ true → (b ≡ 101) ⊎ (b ≡ 69)
-mark-cases b e = elim (or_cases (eqb b 101) (eqb b 69) e) [ inl t ↦ inl (eqb-true b 101 t) | inr t ↦ inr (eqb-true b 69 t) ]
+mark-cases b e = elim (or_cases (eqb b 101) (eqb b 69) e) [
+  | inl t ↦ inl (eqb-true b 101 t)
+  | inr t ↦ inr (eqb-true b 69 t)
+]
 
 pub reads-exponent : (rest : List ℕ) → MatchResult (written_exponent rest) (ReadsExponent rest) (λ _. ⊤)
 unfolding written_exponent exponent_value
@@ -108,7 +115,14 @@ reads-exponent rest =
     let place = position_or_len is_mark rest in
     if-cases (ReadsExponent rest) (λ _. ⊤) (not (has is_mark rest)) _ _
     (λ e. let past = ltb-false place (length rest) (not-true _ e) in
-    record { part = unwritten; is = sym (append-nil _ ∙ take_all place rest past); ok = tt; value = refl; high = omega arith; low = omega arith })
+    record {
+      part = unwritten;
+      is = sym (append-nil _ ∙ take_all place rest past);
+      ok = tt;
+      value = refl;
+      high = omega arith;
+      low = omega arith;
+    })
     (λ e. let within = ltb-true place (length rest) (not-false _ e) in
     if-cases (ReadsExponent rest) (λ _. ⊤) (eqb (length tail) 0) _ _
     (λ _. tt)
@@ -122,7 +136,8 @@ reads-exponent rest =
           let fits = bias (starts_with_minus tail) v b.1 in
           rw f (record {
             part = written (get_or rest place 0) s.0 (without_leading_sign tail);
-            is = split_at_first is_mark rest 0 within ∙ ap (λ t. before_first is_mark rest ++ get_or rest place 0 ∷ t) s.1;
+            is = split_at_first is_mark rest 0 within
+                ∙ ap (λ t. before_first is_mark rest ++ get_or rest place 0 ∷ t) s.1;
             ok = (mark-cases _ (passes_at_first is_mark rest 0 within), ltb-true 0 _ a.0, AllDigits-from_test _ b.0);
             value = subst (λ (m : Bool). written_place tail + cond m v 0 ≡ 32768 + cond m 0 v) s.2 fits.0;
             high = subst (λ (m : Bool). cond m 0 v ≤ 32767) s.2 fits.1;
@@ -142,8 +157,17 @@ reads-point bs =
     elim (cases_lt place (length bs)) [
       | inl within ↦
           let dot : get_or bs place 0 ≡ 46 = eqb-true _ 46 (passes_at_first is_point bs 0 within) in
-          record { part = Some (after_first is_point bs); is = split_at_first is_point bs 0 within ∙ ap (λ d. before_first is_point bs ++ d ∷ after_first is_point bs) dot; digits = refl }
-      | inr past ↦ record { part = None; is = sym (append-nil _ ∙ take_all place bs past); digits = sym (drop_all (place + 1) bs (omega arith)) }
+          record {
+            part = Some (after_first is_point bs);
+            is = split_at_first is_point bs 0 within
+                ∙ ap (λ d. before_first is_point bs ++ d ∷ after_first is_point bs) dot;
+            digits = refl;
+          }
+      | inr past ↦ record {
+        part = None;
+        is = sym (append-nil _ ∙ take_all place bs past);
+        digits = sym (drop_all (place + 1) bs (omega arith));
+      }
     ]
 
 no-mark-fraction : (f : Option (List ℕ)) → AllDigits 10 (fraction_digits f) → Fails is_mark (fraction_bytes f)
@@ -152,19 +176,25 @@ no-mark-fraction (Some ds) h = (refl, digits-fail-mark ds h)
 
 before-point : (whole : List ℕ) (f : Option (List ℕ)) → AllDigits 10 whole
     → before_first is_point (whole ++ fraction_bytes f) ≡ whole
-before-point whole None h = rw (append-nil, first-none is_point whole (digits-fail-point whole h)) (take_all (length whole) whole (omega arith))
-before-point whole (Some ds) h = rw (first-here is_point whole 46 ds (digits-fail-point whole h) refl) (take_at whole (46 ∷ ds) (length whole) refl)
+before-point whole None h =
+    rw (append-nil, first-none is_point whole (digits-fail-point whole h)) (take_all (length whole) whole (omega arith))
+before-point whole (Some ds) h =
+    rw (first-here is_point whole 46 ds (digits-fail-point whole h) refl) (take_at whole (46 ∷ ds) (length whole) refl)
 
 after-point : (whole : List ℕ) (f : Option (List ℕ)) → AllDigits 10 whole
     → after_first is_point (whole ++ fraction_bytes f) ≡ fraction_digits f
-after-point whole None h = rw (append-nil, first-none is_point whole (digits-fail-point whole h)) (drop_all (length whole + 1) whole (omega arith))
+after-point whole None h =
+    rw (append-nil, first-none is_point whole (digits-fail-point whole h))
+    (drop_all (length whole + 1) whole (omega arith))
 after-point whole (Some ds) h =
     rw (first-here is_point whole 46 ds (digits-fail-point whole h) refl) (past whole 46 ds)
 
 before-mark : (cs : List ℕ) (ex : Exponent) → Fails is_mark cs → IsExponent ex
     → before_first is_mark (cs ++ exponent_bytes ex) ≡ cs
 before-mark cs unwritten h ok = rw (append-nil, first-none is_mark cs h) (take_all (length cs) cs (omega arith))
-before-mark cs (written m s ds) h ok = rw (first-here is_mark cs m (sign_bytes s ++ ds) h (is-mark m ok.0)) (take_at cs (m ∷ (sign_bytes s ++ ds)) (length cs) refl)
+before-mark cs (written m s ds) h ok =
+    rw (first-here is_mark cs m (sign_bytes s ++ ds) h (is-mark m ok.0))
+    (take_at cs (m ∷ (sign_bytes s ++ ds)) (length cs) refl)
 
 digits-no-sign : (ds : List ℕ) → 0 < length ds → AllDigits 10 ds → (get_or ds 0 0 ≢ 43) × (get_or ds 0 0 ≢ 45)
 digits-no-sign ds some h = let r = digit_at ds 0 h some in let low = r.0 in (λ e. omega arith, λ e. omega arith)
@@ -172,7 +202,8 @@ digits-no-sign ds some h = let r = digit_at ds 0 h some in let low = r.0 in (λ 
 exponent-from-is : (b : Bool) (ds : List ℕ) (w : ℕ) → 0 < length ds → AllDigits 10 ds
     → cond b 0 (digits_value 10 ds) ≤ 32767 → cond b (digits_value 10 ds) 0 ≤ 32768
     → w + cond b (digits_value 10 ds) 0 ≡ 32768 + cond b 0 (digits_value 10 ds)
-    → cond (ltb 0 (length ds) && (all_ascii_digits ds && leb (digits_value 10 ds) (cond b 32768 32767))) (Some (cond b (32768 - digits_value 10 ds) (32768 + digits_value 10 ds))) None ≡ Some w
+    → cond (ltb 0 (length ds) && (all_ascii_digits ds && leb (digits_value 10 ds) (cond b 32768 32767)))
+    (Some (cond b (32768 - digits_value 10 ds) (32768 + digits_value 10 ds))) None ≡ Some w
 exponent-from-is true ds w some digits high low at =
     let a : ltb 0 (length ds) ≡ true = search (rules, tests) in
     let b : leb (digits_value 10 ds) 32768 ≡ true = search (rules, tests) in
@@ -185,7 +216,8 @@ exponent-from-is false ds w some digits high low at =
 -- the value of an exponent, from its sign and digits
 exponent_from : Bool → List ℕ → Option ℕ
 exponent_from negative us =
-    cond (ltb 0 (length us) && (all_ascii_digits us && leb (digits_value 10 us) (cond negative 32768 32767))) (Some (cond negative (32768 - digits_value 10 us) (32768 + digits_value 10 us))) None
+    cond (ltb 0 (length us) && (all_ascii_digits us && leb (digits_value 10 us) (cond negative 32768 32767)))
+    (Some (cond negative (32768 - digits_value 10 us) (32768 + digits_value 10 us))) None
 
 exponent-is : (s : Sign) (ds : List ℕ) (w : ℕ) → 0 < length ds → AllDigits 10 ds
     → cond (is_minus s) 0 (digits_value 10 ds) ≤ 32767 → cond (is_minus s) (digits_value 10 ds) 0 ≤ 32768
@@ -195,29 +227,37 @@ unfolding exponent_value exponent_from
 exponent-is s ds w some digits high low at =
     let no_sign = digits-no-sign ds some digits in
     let off = sign-off s ds no_sign.0 no_sign.1 in
-    let first : exponent_value (sign_bytes s ++ ds) ≡ exponent_from (starts_with_minus (sign_bytes s ++ ds)) (without_leading_sign (sign_bytes s ++ ds)) = refl in
-    let second : exponent_from (starts_with_minus (sign_bytes s ++ ds)) (without_leading_sign (sign_bytes s ++ ds)) ≡ exponent_from (is_minus s) ds =
-    ap (λ b. exponent_from b (without_leading_sign (sign_bytes s ++ ds))) off.1 ∙ ap (λ us. exponent_from (is_minus s) us) off.0 in
+    let first : exponent_value (sign_bytes s ++ ds) ≡ exponent_from (starts_with_minus (sign_bytes s ++ ds))
+    (without_leading_sign (sign_bytes s ++ ds)) = refl in
+    let second : exponent_from (starts_with_minus (sign_bytes s ++ ds)) (without_leading_sign (sign_bytes s ++ ds))
+    ≡ exponent_from (is_minus s) ds =
+    ap (λ b. exponent_from b (without_leading_sign (sign_bytes s ++ ds))) off.1
+    ∙ ap (λ us. exponent_from (is_minus s) us) off.0 in
     first ∙ second ∙ exponent-from-is (is_minus s) ds w some digits high low at
 
 -- the step on an exponent, from the bytes after its mark
 written_from : List ℕ → Bool → Result ℕ ParseError
-written_from tail marked = cond (not marked) (Ok 32768) (cond (eqb (length tail) 0) (Err EmptyExponent) (ok_or (exponent_value tail) InvalidExponent))
+written_from tail marked =
+    cond (not marked) (Ok 32768)
+    (cond (eqb (length tail) 0) (Err EmptyExponent) (ok_or (exponent_value tail) InvalidExponent))
 
 written-is : (cs : List ℕ) (ex : Exponent) (w : ℕ) → Fails is_mark cs → IsExponent ex → written_up ex ≤ 32767
     → written_down ex ≤ 32768 → w + written_down ex ≡ 32768 + written_up ex
     → written_exponent (cs ++ exponent_bytes ex) ≡ Ok w
 unfolding written_exponent written_from
 written-is cs unwritten w h ok high low at =
-    let none : ltb (position_or_len is_mark cs) (length cs) ≡ false = rw (first-none is_mark cs h) (grind (arith, nat_tests)) in
+    let none : ltb (position_or_len is_mark cs) (length cs) ≡ false =
+    rw (first-none is_mark cs h) (grind (arith, nat_tests)) in
     let w-is : w ≡ 32768 = omega arith in
     rw (append-nil, none, w-is) refl
 written-is cs (written m s ds) w h ok high low at =
     let rest = cs ++ m ∷ (sign_bytes s ++ ds) in
     let place = first-here is_mark cs m (sign_bytes s ++ ds) h (is-mark m ok.0) in
     let tail : after_first is_mark rest ≡ sign_bytes s ++ ds = rw place (past cs m (sign_bytes s ++ ds)) in
-    let marked : has is_mark rest ≡ true = rw place (search (rules, tests, length-append cs (m ∷ (sign_bytes s ++ ds)))) in
-    let some : eqb (length (sign_bytes s ++ ds)) 0 ≡ false = grind (arith, nat_tests, length-append (sign_bytes s) ds, ok.1) in
+    let marked : has is_mark rest ≡ true =
+    rw place (search (rules, tests, length-append cs (m ∷ (sign_bytes s ++ ds)))) in
+    let some : eqb (length (sign_bytes s ++ ds)) 0 ≡ false =
+    grind (arith, nat_tests, length-append (sign_bytes s) ds, ok.1) in
     let first : written_exponent rest ≡ written_from (after_first is_mark rest) (has is_mark rest) = refl in
     first ∙ ap (λ t. written_from t (has is_mark rest)) tail ∙ ap (λ b. written_from (sign_bytes s ++ ds) b) marked
     ∙ rw (some, exponent-is s ds w ok.1 ok.2 high low at) refl
@@ -227,7 +267,8 @@ finite_from : Result ℕ ParseError → List ℕ → List ℕ → Result (ℕ ×
 finite_from w fraction whole = bind w (λ v. bind (scaled_exponent v fraction) (λ x. stored_pair (whole ++ fraction) x))
 
 -- the steps on a text that is put together of its parts
-module _ (whole : List ℕ) (f : Option (List ℕ)) (ex : Exponent) (digits : AllDigits 10 (whole ++ fraction_digits f)) (ok : IsExponent ex) (high : written_up ex ≤ 32767) (low : written_down ex ≤ 32768) where
+module _ (whole : List ℕ) (f : Option (List ℕ)) (ex : Exponent) (digits : AllDigits 10 (whole ++ fraction_digits f))
+    (ok : IsExponent ex) (high : written_up ex ≤ 32767) (low : written_down ex ≤ 32768) where
   coefficient_bytes : List ℕ
   coefficient_bytes = whole ++ fraction_bytes f
 
@@ -248,11 +289,14 @@ module _ (whole : List ℕ) (f : Option (List ℕ)) (ex : Exponent) (digits : Al
       let parts = AllDigits-parts whole (fraction_digits f) digits in
       let point = ap (after_first is_point) before-is ∙ after-point whole f parts.0 in
       let front = ap (before_first is_point) before-is ∙ before-point whole f parts.0 in
-      let first : finite rest ≡ finite_from (written_exponent rest) (after_first is_point (before_first is_mark rest)) (before_first is_point (before_first is_mark rest)) = refl in
+      let first : finite rest ≡ finite_from (written_exponent rest) (after_first is_point (before_first is_mark rest))
+      (before_first is_point (before_first is_mark rest)) = refl in
       let a : ltb 32767 (length (fraction_digits f)) ≡ false = grind (arith, nat_tests) in
       let b : ltb w (length (fraction_digits f)) ≡ false = grind (arith, nat_tests) in
       let c : w - length (fraction_digits f) ≡ x = omega arith in
-      first ∙ ap (λ t. finite_from t (after_first is_point (before_first is_mark rest)) (before_first is_point (before_first is_mark rest))) (written-is (whole ++ fraction_bytes f) ex w no-mark ok high low at)
+      first ∙ ap (λ t. finite_from t (after_first is_point (before_first is_mark rest))
+      (before_first is_point (before_first is_mark rest)))
+      (written-is (whole ++ fraction_bytes f) ex w no-mark ok high low at)
       ∙ ap (λ t. finite_from (Ok w) t (before_first is_point (before_first is_mark rest))) point
       ∙ ap (λ t. finite_from (Ok w) (fraction_digits f) t) front
       ∙ rw (a, b, c) refl

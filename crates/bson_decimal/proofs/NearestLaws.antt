@@ -7,7 +7,8 @@ use Rattle.bson_decimal.proofs.Tens.{tens-pos, tens-cancel, reach, raised, lower
 
 -- a coefficient of 34 + k digits moves every pair that fits up by k
 pub fits-above : (m up down c e k : ℕ) → 10 ^ (33 + k) ≤ m → FitsShifted m up down c e → up + 6176 + k ≤ e + down
-fits-above m up down c e k from f = omega (arith, reach 34 (33 + k) c (e + down) m (up + 6176) f.coefficient from f.equal)
+fits-above m up down c e k from f =
+    omega (arith, reach 34 (33 + k) c (e + down) m (up + 6176) f.coefficient from f.equal)
 
 -- k digits past the 34th were zeros and are dropped
 pub nearest-dropped : (m up down c e k : ℕ) → m ≡ c * 10 ^ k → c < 10 ^ 34 → 10 ^ (33 + k) ≤ m → e < 12288
@@ -64,7 +65,8 @@ between m up down c d e f a b lt =
     let high : up + 6176 < f + down = omega arith in
     let j = up + 6176 - (e + down) in
     let at : up + 6176 ≡ e + down + j = omega arith in
-    let c_is : c ≡ m * 10 ^ j = tens-cancel c (m * 10 ^ j) (e + down) (a.fits.equal ∙ sym (lowered m j (e + down) (up + 6176) at)) in
+    let c_is : c ≡ m * 10 ^ j =
+    tens-cancel c (m * 10 ^ j) (e + down) (a.fits.equal ∙ sym (lowered m j (e + down) (up + 6176) at)) in
     let up_to : m * 1 ≤ m * 10 ^ j = mul-le-mul_left m (tens-pos j) in
     let small = a.fits.coefficient in
     let within = b.fits.exponent in
@@ -80,6 +82,7 @@ nearest-one m up down c d e f a b =
       | inl h ↦ absurd (between m up down c d e f a b h)
       | inr h ↦ elim (cases_lt f e) [
         | inl g ↦ absurd (between m up down d c f e b a g)
-        | inr g ↦ let same : f ≡ e = omega arith in (coefficient-one m up down c d e a.fits (rw same at b.fits), sym same)
+        | inr g ↦ let same : f ≡ e = omega arith in
+            (coefficient-one m up down c d e a.fits (rw same at b.fits), sym same)
       ]
     ]

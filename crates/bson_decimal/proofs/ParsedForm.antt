@@ -1,7 +1,8 @@
 -- The pattern of a text is canonical, or a NaN.
 use Rattle.std.proofs.Common.{◌≡◌, ℕ, ◌+◌, ◌*◌, ◌^◌, ◌<◌, ◌⊎◌, inl, inr, Bool, true, false, List, ap, arith}
 use Rattle.std.specs.Int.{w128, to_le_bytes}
-use Rattle.bson_decimal.specs.Pattern.{number_meaning, bytes_meaning, first_form, sign_weight, is_nan, normal_decimal, normal_number}
+use Rattle.bson_decimal.specs.Pattern.{number_meaning, bytes_meaning, first_form, sign_weight, is_nan, normal_decimal}
+use Rattle.bson_decimal.specs.Pattern.{normal_number}
 use Rattle.bson_decimal.specs.Numeral.{is_minus}
 use Rattle.bson_decimal.specs.Text.{SpecialWord, nan, snan, infinity, inf, Parses, special, finite}
 use Rattle.bson_decimal.proofs.Bytes.{from_le_bytes-to_le_bytes_16}

@@ -1,5 +1,6 @@
 -- What the steps read, in the words of the grammar.
-use Rattle.std.proofs.Common.{◌≡◌, ◌≢◌, ℕ, ◌+◌, ◌-◌, ◌^◌, ◌<◌, ◌≤◌, ltb, List, [], ◌∷◌, ◌++◌, length, get_or, Option, Some, None, refl, sym, ap, ◌∙◌, arith}
+use Rattle.std.proofs.Common.{◌≡◌, ◌≢◌, ℕ, ◌+◌, ◌-◌, ◌^◌, ◌<◌, ◌≤◌, ltb, List, [], ◌∷◌, ◌++◌, length, get_or, Option}
+use Rattle.std.proofs.Common.{Some, None, refl, sym, ap, ◌∙◌, arith}
 use Rattle.std.specs.Prelude.{Result, Ok, Err, MatchResult, ⊤}
 use Rattle.std.proofs.lemmas.Bool.{ltb-false}
 use Rattle.std.proofs.lemmas.Bool.Decides.{nat_tests}
@@ -12,9 +13,12 @@ use Rattle.std.specs.Str.Parse.{AllDigits, without_leading_sign, starts_with_min
 use Rattle.bson_decimal.specs.declared.ParseError.{ParseError}
 use Rattle.bson_decimal.specs.Pattern.{first_form, sign_weight}
 use Rattle.bson_decimal.proofs.Shifted.{FitsShifted, IsNearestShifted}
-use Rattle.bson_decimal.specs.Numeral.{Sign, sign_bytes, is_minus, Exponent, exponent_bytes, fraction_bytes, fraction_digits, IsExponent, Numeral, digits_of, IsFiniteText, number}
-use Rattle.bson_decimal.specs.Text.{SpecialWord, nan, snan, infinity, inf, Parses, special, finite as finite_text, lowercase}
-use Rattle.bson_decimal.proofs.Shifted.{written_up, written_down, up, down, IsWithin16Shifted, within16, within16-shifted, nearest, nearest-shifted}
+use Rattle.bson_decimal.specs.Numeral.{Sign, sign_bytes, is_minus, Exponent, exponent_bytes, fraction_bytes}
+use Rattle.bson_decimal.specs.Numeral.{fraction_digits, IsExponent, Numeral, digits_of, IsFiniteText, number}
+use Rattle.bson_decimal.specs.Text.{SpecialWord, nan, snan, infinity, inf, Parses, special, finite as finite_text}
+use Rattle.bson_decimal.specs.Text.{lowercase}
+use Rattle.bson_decimal.proofs.Shifted.{written_up, written_down, up, down, IsWithin16Shifted, within16}
+use Rattle.bson_decimal.proofs.Shifted.{within16-shifted, nearest, nearest-shifted}
 use Rattle.bson_decimal.specs.Steps.{last_place, is_mark, is_point, scaled_exponent, stored_pair, finite}
 use Rattle.bson_decimal.proofs.StepLaws.{if-cases}
 use Rattle.bson_decimal.proofs.Fitted.{bind-by, IsFitted, FittedRefuses, stored_pair-cases}
@@ -35,7 +39,8 @@ pub record ReadsFinite (rest : List ℕ) (r : ℕ × ℕ) : Type 0 where
   pub scaled_is : scaled + length (fraction_digits fraction) + written_down exponent ≡ 32768 + written_up exponent
   pub fitted_is : IsFitted (whole ++ fraction_digits fraction) scaled r
 
-scaled-cases : (w : ℕ) (f : List ℕ) → MatchResult (scaled_exponent w f) (λ x. (x + length f ≡ w) × (length f ≤ 32767)) (λ _. ⊤)
+scaled-cases : (w : ℕ) (f : List ℕ)
+    → MatchResult (scaled_exponent w f) (λ x. (x + length f ≡ w) × (length f ≤ 32767)) (λ _. ⊤)
 unfolding scaled_exponent
 scaled-cases w f =
     if-cases (λ x. (x + length f ≡ w) × (length f ≤ 32767)) (λ _. ⊤) (ltb 32767 (length f)) _ _
@@ -60,9 +65,12 @@ reads-finite rest =
     let fraction = after_first is_point cs in
     bind-by (ReadsFinite rest) (λ _. ⊤) (ReadsExponent rest) (λ _. ⊤) _ _ (reads-exponent rest)
     (λ w ex.
-    bind-by (ReadsFinite rest) (λ _. ⊤) (λ x. (x + length fraction ≡ w) × (length fraction ≤ 32767)) (λ _. ⊤) (scaled_exponent w fraction) _ (scaled-cases w fraction)
-    (λ x sum. ok-finite rest whole p.part ex.part fraction w x p.digits (ex.is ∙ ap (λ t. t ++ exponent_bytes ex.part) p.is) ex.ok ex.high ex.low ex.value sum.0 sum.1
-    (stored_pair (whole ++ fraction) x) (stored_pair-ok (whole ++ fraction) x (let v = ex.value in let h = ex.high in let s = sum.0 in omega arith)))
+    bind-by (ReadsFinite rest) (λ _. ⊤) (λ x. (x + length fraction ≡ w) × (length fraction ≤ 32767))
+    (λ _. ⊤) (scaled_exponent w fraction) _ (scaled-cases w fraction)
+    (λ x sum. ok-finite rest whole p.part ex.part fraction w x p.digits
+    (ex.is ∙ ap (λ t. t ++ exponent_bytes ex.part) p.is) ex.ok ex.high ex.low ex.value sum.0 sum.1
+    (stored_pair (whole ++ fraction) x)
+    (stored_pair-ok (whole ++ fraction) x (let v = ex.value in let h = ex.high in let s = sum.0 in omega arith)))
     (λ e h. tt))
     (λ e h. tt)
   where
@@ -73,7 +81,19 @@ reads-finite rest =
         → (r : Result (ℕ × ℕ) ParseError) → MatchResult r (IsFitted (whole ++ fraction) x) (λ _. ⊤)
         → MatchResult r (ReadsFinite rest) (λ _. ⊤)
     ok-finite rest whole f ex fraction w x same is ok high low value sum short (Ok r) h =
-        record { whole = whole; fraction = f; exponent = ex; is = is; ok = ok; high = high; low = low; short = rw same short; scaled = x; scaled_is = rw same (omega arith); fitted_is = rw same h }
+        record {
+          whole = whole;
+          fraction = f;
+          exponent = ex;
+          is = is;
+          ok = ok;
+          high = high;
+          low = low;
+          short = rw same short;
+          scaled = x;
+          scaled_is = rw same (omega arith);
+          fitted_is = rw same h;
+        }
     ok-finite rest whole f ex fraction w x same is ok high low value sum short (Err e) h = tt
 
 -- the first byte of a finite text without its sign
@@ -82,14 +102,16 @@ front-no-sign : (whole : List ℕ) (f : Option (List ℕ)) (rest : List ℕ) →
     → (get_or (whole ++ (fraction_bytes f ++ rest)) 0 0 ≢ 43) × (get_or (whole ++ (fraction_bytes f ++ rest)) 0 0 ≢ 45)
 front-no-sign [] None rest digits some = absurd (omega arith)
 front-no-sign [] (Some ds) rest digits some = (λ e. omega arith, λ e. omega arith)
-front-no-sign (d ∷ ds) f rest digits some = let r = digit_at (d ∷ (ds ++ fraction_digits f)) 0 digits some in let low = r.0 in (λ e. omega arith, λ e. omega arith)
+front-no-sign (d ∷ ds) f rest digits some = let r = digit_at (d ∷ (ds ++ fraction_digits f)) 0 digits some in let low =
+    r.0 in (λ e. omega arith, λ e. omega arith)
 
 front-low : (whole : List ℕ) (f : Option (List ℕ)) (rest : List ℕ) → AllDigits 10 (whole ++ fraction_digits f)
     → 0 < length (whole ++ fraction_digits f)
     → get_or (whole ++ (fraction_bytes f ++ rest)) 0 0 < 65
 front-low [] None rest digits some = absurd (omega arith)
 front-low [] (Some ds) rest digits some = omega arith
-front-low (d ∷ ds) f rest digits some = let r = digit_at (d ∷ (ds ++ fraction_digits f)) 0 digits some in let high = r.1 in omega arith
+front-low (d ∷ ds) f rest digits some = let r = digit_at (d ∷ (ds ++ fraction_digits f)) 0 digits some in let high =
+    r.1 in omega arith
 
 -- the steps on a text of the grammar
 pub record StepsOn (text : List ℕ) (n : Numeral) : Type 0 where
@@ -113,8 +135,10 @@ steps-on text n t l =
       x = x;
       at = omega arith;
       within = omega arith;
-      steps = ap (λ bs. finite (without_leading_sign bs)) t.is ∙ ap finite (off.0 ∙ sym (append_assoc n.whole (fraction_bytes n.fraction) (exponent_bytes n.exponent)))
-          ∙ finite-is n.whole n.fraction n.exponent t.digits t.exponent l.high l.low w x (omega arith) l.fraction (omega arith);
+      steps = ap (λ bs. finite (without_leading_sign bs)) t.is
+          ∙ ap finite (off.0 ∙ sym (append_assoc n.whole (fraction_bytes n.fraction) (exponent_bytes n.exponent)))
+          ∙ finite-is n.whole n.fraction n.exponent t.digits t.exponent l.high l.low w x (omega arith) l.fraction
+          (omega arith);
       sign = ap starts_with_minus t.is ∙ off.1;
     }
 
@@ -125,7 +149,8 @@ refused text k is n c e t l fits =
     let s = steps-on text n t l in
     let at = s.at in
     let great = l.greatest in
-    rw (sym s.steps ∙ is) at (stored_pair-cases (digits_of n) s.x s.within) t.digits t.some l.cut (omega arith) (up n) (down n) s.at c e fits
+    rw (sym s.steps ∙ is) at (stored_pair-cases (digits_of n) s.x s.within) t.digits t.some l.cut (omega arith) (up n)
+    (down n) s.at c e fits
 
 -- and what they give is the one pair
 pub only : (text : List ℕ) (r : ℕ × ℕ) → finite (without_leading_sign text) ≡ Ok r → (n : Numeral) (c e : ℕ)
@@ -133,7 +158,8 @@ pub only : (text : List ℕ) (r : ℕ × ℕ) → finite (without_leading_sign t
     → (c ≡ r.0) × (e ≡ r.1)
 only text r is n c e t l near =
     let s = steps-on text n t l in
-    let given = (rw (sym s.steps ∙ is) at (stored_pair-cases (digits_of n) s.x s.within)).nearest (up n) (down n) s.at in
+    let given = (rw (sym s.steps ∙ is) at (stored_pair-cases (digits_of n) s.x s.within)).nearest (up n)
+    (down n) s.at in
     nearest-one (number n) (up n) (down n) c r.0 e r.1 near given
 
 -- a text that the steps read
@@ -148,12 +174,20 @@ read text r h =
     let most = stored_pair.high in
     finite_text n r.0 r.1
     (record {
-      is = s.1 ∙ ap (λ t. sign_bytes s.0 ++ t) (h.is ∙ append_assoc h.whole (fraction_bytes h.fraction) (exponent_bytes h.exponent));
+      is = s.1 ∙ ap (λ t. sign_bytes s.0 ++ t)
+          (h.is ∙ append_assoc h.whole (fraction_bytes h.fraction) (exponent_bytes h.exponent));
       digits = stored_pair.digits;
       some = stored_pair.some;
       exponent = h.ok;
     })
-    (within16 n (record { high = h.high; low = h.low; fraction = h.short; least = omega arith; cut = few; greatest = omega arith }))
+    (within16 n (record {
+      high = h.high;
+      low = h.low;
+      fraction = h.short;
+      least = omega arith;
+      cut = few;
+      greatest = omega arith;
+    }))
     (nearest n r.0 r.1 (stored_pair.nearest (up n) (down n) (omega arith)))
     (ap (λ b. to_le_bytes w128 (first_form b r.0 r.1)) s.2)
 
@@ -212,7 +246,8 @@ no-word text n m t h =
     omega arith
 
 pub special-parses : (text : List ℕ) (n : ℕ) → SpecialWord (without_leading_sign text) n
-    → Parses text (to_le_bytes w128 (sign_weight (starts_with_minus text) + n)) × ((b : List ℕ) → Parses text b → b ≡ to_le_bytes w128 (sign_weight (starts_with_minus text) + n))
+    → Parses text (to_le_bytes w128 (sign_weight (starts_with_minus text) + n))
+    × ((b : List ℕ) → Parses text b → b ≡ to_le_bytes w128 (sign_weight (starts_with_minus text) + n))
 special-parses text n h =
     let s = sign-of text in
     (special s.0 (without_leading_sign text) n s.1 h (ap (λ b. to_le_bytes w128 (sign_weight b + n)) s.2), only-word)
@@ -228,11 +263,13 @@ special-parses text n h =
 
 pub finite-parses : (text : List ℕ) (r : ℕ × ℕ) → ((n : ℕ) → ¬ (SpecialWord (without_leading_sign text) n))
     → finite (without_leading_sign text) ≡ Ok r
-    → Parses text (to_le_bytes w128 (first_form (starts_with_minus text) r.0 r.1)) × ((b : List ℕ) → Parses text b → b ≡ to_le_bytes w128 (first_form (starts_with_minus text) r.0 r.1))
+    → Parses text (to_le_bytes w128 (first_form (starts_with_minus text) r.0 r.1))
+    × ((b : List ℕ) → Parses text b → b ≡ to_le_bytes w128 (first_form (starts_with_minus text) r.0 r.1))
 finite-parses text r plain is = (read text r (rw is at (reads-finite (without_leading_sign text))), only-pair)
   where
     only-pair : (b : List ℕ) → Parses text b → b ≡ to_le_bytes w128 (first_form (starts_with_minus text) r.0 r.1)
-    only-pair b (special s word m w-is w b-is) = absurd (plain m (rw (ap without_leading_sign w-is ∙ (word-off s word m w).0) w))
+    only-pair b (special s word m w-is w b-is) =
+        absurd (plain m (rw (ap without_leading_sign w-is ∙ (word-off s word m w).0) w))
     only-pair b (finite_text n c e t l near b-is) =
         let limits = within16-shifted n l in
         let same = only text r is n c e t limits (nearest-shifted n c e near) in
@@ -241,8 +278,10 @@ finite-parses text r plain is = (read text r (rw is at (reads-finite (without_le
 
 pub refused-parses : (text : List ℕ) (k : ParseError) → ((n : ℕ) → ¬ (SpecialWord (without_leading_sign text) n))
     → finite (without_leading_sign text) ≡ Err k → (b : List ℕ) → ¬ (Parses text b)
-refused-parses text k plain is b (special s word m w-is w b-is) = plain m (rw (ap without_leading_sign w-is ∙ (word-off s word m w).0) w)
-refused-parses text k plain is b (finite_text n c e t l near b-is) = refused text k is n c e t (within16-shifted n l) (nearest-shifted n c e near).fits
+refused-parses text k plain is b (special s word m w-is w b-is) =
+    plain m (rw (ap without_leading_sign w-is ∙ (word-off s word m w).0) w)
+refused-parses text k plain is b (finite_text n c e t l near b-is) =
+    refused text k is n c e t (within16-shifted n l) (nearest-shifted n c e near).fits
 
 pub finite-within : (text : List ℕ) (r : ℕ × ℕ) → finite text ≡ Ok r → (r.0 < 10 ^ 34) × (r.1 < 12288)
 finite-within text r is =

@@ -1,12 +1,15 @@
--- The same words without negative numbers, for the proofs: an exponent x is up - down, and a stored exponent stands for itself less 6176.
-use Rattle.std.proofs.Common.{◌≡◌, ℕ, ◌+◌, ◌-◌, ◌*◌, ◌^◌, ◌<◌, ◌≤◌, ℤ, pos, ◌+ℤ◌, ◌-ℤ◌, ◌≤ℤ◌, neg_ℤ, Bool, true, false, cond, min, length, refl, sym, ap, subst, ◌∙◌, arith}
+-- The same words without negative numbers, for the proofs: an exponent x is up - down, and a stored exponent stands for
+-- itself less 6176.
+use Rattle.std.proofs.Common.{◌≡◌, ℕ, ◌+◌, ◌-◌, ◌*◌, ◌^◌, ◌<◌, ◌≤◌, ℤ, pos, ◌+ℤ◌, ◌-ℤ◌, ◌≤ℤ◌, neg_ℤ, Bool, true, false}
+use Rattle.std.proofs.Common.{cond, min, length, refl, sym, ap, subst, ◌∙◌, arith}
 use Rattle.std.specs.Int.{int_min}
 use lib.IntN.{nat_abs}
 use Rattle.std.proofs.lemmas.Int.{ints, clamps}
 use Rattle.std.proofs.lemmas.Nat.{pow-add}
 use Rattle.std.specs.Str.Parse.{digits_value}
 use Rattle.bson_decimal.specs.Exponents.{exponent_at}
-use Rattle.bson_decimal.specs.Numeral.{is_minus, Exponent, unwritten, written, Numeral, fraction_digits, written_exponent, exponent, number}
+use Rattle.bson_decimal.specs.Numeral.{is_minus, Exponent, unwritten, written, Numeral, fraction_digits}
+use Rattle.bson_decimal.specs.Numeral.{written_exponent, exponent, number}
 use Rattle.bson_decimal.specs.Nearest.{Fits, IsNearest, distance}
 use Rattle.bson_decimal.specs.Text.{excess, IsWithin16}
 use Rattle.bson_decimal.proofs.Tens.{tens-cancel}
@@ -126,7 +129,8 @@ left : (up down e : ℕ)
 left up down e = omega (arith, ints, clamps)
 
 right : (up down e : ℕ)
-    → nat_abs ((pos up -ℤ pos down) -ℤ int_min (exponent_at e) (pos up -ℤ pos down)) ≡ up + 6176 - min (e + down) (up + 6176)
+    → nat_abs ((pos up -ℤ pos down) -ℤ int_min (exponent_at e) (pos up -ℤ pos down))
+    ≡ up + 6176 - min (e + down) (up + 6176)
 right up down e = omega (arith, ints, clamps)
 
 apart : (up down e : ℕ) → distance (pos up -ℤ pos down) (exponent_at e) ≡ distance_shifted up down e
@@ -135,9 +139,15 @@ apart up down e = omega (arith, ints, clamps)
 pub fits : (m up down c e : ℕ) → FitsShifted m up down c e → Fits m (pos up -ℤ pos down) c (exponent_at e)
 fits m up down c e f =
     let l = min (e + down) (up + 6176) in
-    let equal = tens-cancel _ _ l (split c (e + down) l (omega arith) ∙ f.equal ∙ sym (split m (up + 6176) l (omega arith))) in
+    let equal = tens-cancel _ _ l (split c (e + down) l (omega arith) ∙ f.equal
+    ∙ sym (split m (up + 6176) l (omega arith))) in
     let within = f.exponent in
-    record { equal = rw (left up down e, right up down e) equal; coefficient = f.coefficient; low = omega (arith, ints); high = omega (arith, ints) }
+    record {
+      equal = rw (left up down e, right up down e) equal;
+      coefficient = f.coefficient;
+      low = omega (arith, ints);
+      high = omega (arith, ints);
+    }
 
 pub fits-shifted : (m up down c e : ℕ) → Fits m (pos up -ℤ pos down) c (exponent_at e) → FitsShifted m up down c e
 fits-shifted m up down c e f =
@@ -145,7 +155,8 @@ fits-shifted m up down c e f =
     let equal = rw (left up down e, right up down e) at f.equal in
     let high = f.high in
     record {
-      equal = sym (split c (e + down) l (omega arith)) ∙ ap (λ k. k * 10 ^ l) equal ∙ split m (up + 6176) l (omega arith);
+      equal = sym (split c (e + down) l (omega arith)) ∙ ap (λ k. k * 10 ^ l) equal
+          ∙ split m (up + 6176) l (omega arith);
       coefficient = f.coefficient;
       exponent = omega (arith, ints);
     }
@@ -176,8 +187,11 @@ nearest-at-shifted m up down c e h =
 
 pub nearest : (n : Numeral) (c e : ℕ) → IsNearestShifted (number n) (up n) (down n) c e
     → IsNearest (number n) (exponent n) c (exponent_at e)
-nearest n c e h = subst (λ x. IsNearest (number n) x c (exponent_at e)) (sym (exponent-is n)) (nearest-at (number n) (up n) (down n) c e h)
+nearest n c e h = subst (λ x. IsNearest (number n) x c (exponent_at e)) (sym (exponent-is n))
+    (nearest-at (number n) (up n) (down n) c e h)
 
 pub nearest-shifted : (n : Numeral) (c e : ℕ) → IsNearest (number n) (exponent n) c (exponent_at e)
     → IsNearestShifted (number n) (up n) (down n) c e
-nearest-shifted n c e h = nearest-at-shifted (number n) (up n) (down n) c e (subst (λ x. IsNearest (number n) x c (exponent_at e)) (exponent-is n) h)
+nearest-shifted n c e h =
+    nearest-at-shifted (number n) (up n) (down n) c e
+    (subst (λ x. IsNearest (number n) x c (exponent_at e)) (exponent-is n) h)

@@ -1,5 +1,7 @@
 -- What each step of a parse gives, and why it refuses.
-use Rattle.std.proofs.Common.{◌≡◌, ℕ, ◌+◌, ◌-◌, ◌*◌, ◌%◌, ◌^◌, ◌<◌, ◌≤◌, ◌⊎◌, inl, inr, Bool, true, false, cond, not, eqb, ltb, leb, List, [], ◌++◌, length, take, drop, replicate, get_or, refl, sym, ap, ◌∙◌, arith, length-drop}
+use Rattle.std.proofs.Common.{◌≡◌, ℕ, ◌+◌, ◌-◌, ◌*◌, ◌%◌, ◌^◌, ◌<◌, ◌≤◌, ◌⊎◌, inl, inr, Bool, true, false, cond, not}
+use Rattle.std.proofs.Common.{eqb, ltb, leb, List, [], ◌++◌, length, take, drop, replicate, get_or, refl, sym, ap, ◌∙◌}
+use Rattle.std.proofs.Common.{arith, length-drop}
 use Rattle.std.specs.Prelude.{Result, MatchResult}
 use Rattle.std.proofs.lemmas.Bool.{and_parts, eqb-true, leb-true, leb-false, ltb-true, ltb-false}
 use Rattle.std.proofs.lemmas.Bool.Decides.{nat_tests}
@@ -13,7 +15,8 @@ use Rattle.std.specs.Str.Parse.{AllDigits, digits_value}
 use Rattle.bson_decimal.specs.declared.ParseError.{ParseError}
 use Rattle.bson_decimal.proofs.Shifted.{FitsShifted}
 use Rattle.bson_decimal.specs.Numeral.{is_zero}
-use Rattle.bson_decimal.specs.Steps.{least_place, greatest_place, last_place, is_inside, cut_at_34, raise_to_least, zeros_to_add, Scaled}
+use Rattle.bson_decimal.specs.Steps.{least_place, greatest_place, last_place, is_inside, cut_at_34, raise_to_least}
+use Rattle.bson_decimal.specs.Steps.{zeros_to_add, Scaled}
 use Rattle.bson_decimal.proofs.Tens.{tens-pos, tens-le, reach}
 use Rattle.bson_decimal.proofs.Zeros.{value-append, zeros-are, zeros-not, AllDigits-parts}
 use Rattle.bson_decimal.proofs.NearestLaws.{fits-above, fits-exact}
@@ -53,10 +56,16 @@ no-multiple ds n digits other e =
     let joined = take-append-drop n ds in
     let behind = (AllDigits-parts (take n ds) (drop n ds) (rw joined digits)).1 in
     let some = zeros-not (drop n ds) behind other in
-    let parts : digits_value 10 ds ≡ digits_value 10 (take n ds) * 10 ^ (length ds - n) + digits_value 10 (drop n ds) = ap (digits_value 10) (sym joined)
+    let parts : digits_value 10 ds ≡ digits_value 10 (take n ds) * 10 ^ (length ds - n) + digits_value 10 (drop n ds) =
+    ap (digits_value 10) (sym joined)
     ∙ rw (value-append, length-drop) refl in
-    let below : digits_value 10 (drop n ds) < 10 ^ (length ds - n) = rw (← length-drop n ds) (digits_value-lt 10 (drop n ds) behind) in
-    omega (arith, rw parts at e, mod-mul-add (digits_value 10 (take n ds)) (10 ^ (length ds - n)) (digits_value 10 (drop n ds)) below)
+    let below : digits_value 10 (drop n ds) < 10 ^ (length ds - n) =
+    rw (← length-drop n ds) (digits_value-lt 10 (drop n ds) behind) in
+    omega (
+      arith,
+      rw parts at e,
+      mod-mul-add (digits_value 10 (take n ds)) (10 ^ (length ds - n)) (digits_value 10 (drop n ds)) below,
+    )
 
 zeros-dropped : (ds : List ℕ) (n : ℕ) → list_all is_zero (drop n ds) ≡ true
     → ds ≡ take n ds ++ replicate (length ds - n) 48
@@ -76,7 +85,8 @@ module _ (ds : List ℕ) (x : ℕ) where
     pub high : r.1 ≤ last_place
 
   abbrev pub CutRefuses : ParseError → Type 0
-  CutRefuses k = AllDigits 10 ds → IsLarge ds → length ds - 34 ≤ 32767 → x + (length ds - 34) ≤ last_place → NoneFitsAt ds x
+  CutRefuses k = AllDigits 10 ds → IsLarge ds → length ds - 34 ≤ 32767 → x + (length ds - 34) ≤ last_place
+      → NoneFitsAt ds x
 
   pub cut_at_34-cases : x ≤ last_place → MatchResult (cut_at_34 ds x) IsCut CutRefuses
   unfolding cut_at_34
@@ -123,7 +133,8 @@ module _ (ds : List ℕ) (x : ℕ) where
   unfolding raise_to_least
   raise_to_least-cases =
       if-cases IsRaised Refuses (leb least_place x) _ _
-      (λ e. let low = leb-true least_place x e in record { kept = λ _. (refl, refl); raised = λ h. absurd (omega arith) })
+      (λ e. let low = leb-true least_place x e in
+      record { kept = λ _. (refl, refl); raised = λ h. absurd (omega arith) })
       (λ e. let low = leb-false least_place x e in
       if-cases IsRaised Refuses (eqb (length ds) 0) _ _
       (λ e2. let none = nil_from_length ds (eqb-true (length ds) 0 e2) in
@@ -139,10 +150,12 @@ module _ (ds : List ℕ) (x : ℕ) where
       omega (arith, mod-eq_of_lt small, large some, tens-pos (length ds - 1)))
       (λ e3. let within = ltb-false (length ds) (least_place - x) e3 in
       if-cases IsRaised Refuses (is_inside (slice_index ds (length ds - (least_place - x)))) _ _
-      (λ e4 digits large up down at c f fits. inside-no-digit ds (length ds - (least_place - x)) digits (omega arith) e4)
+      (λ e4 digits large up down at c f fits. inside-no-digit ds (length ds - (least_place - x)) digits
+      (omega arith) e4)
       (λ e4. let size : length ds - (length ds - (least_place - x)) ≡ least_place - x = omega arith in
       if-cases IsRaised Refuses (not (list_all is_zero (drop (length ds - (least_place - x)) ds))) _ _
-      (λ e5 digits large up down at c f fits. no-multiple ds (length ds - (least_place - x)) digits (not-true _ e5) (rw size (divides up down c f (least_place - x) at fits (omega arith))))
+      (λ e5 digits large up down at c f fits. no-multiple ds (length ds - (least_place - x)) digits (not-true _ e5)
+      (rw size (divides up down c f (least_place - x) at fits (omega arith))))
       (λ e5. record {
         kept = λ h. absurd (omega arith);
         raised = λ _. (refl, inr (rw size at (zeros-dropped ds (length ds - (least_place - x)) (not-false _ e5))));
@@ -160,12 +173,17 @@ module _ (ds : List ℕ) (x : ℕ) where
       (λ e. let low = leb-true x greatest_place e in record { same = λ _. refl; padded = λ h. absurd (omega arith) })
       (λ e. let high = leb-false x greatest_place e in
       if-cases IsPadded Refuses (eqb (length ds) 0) _ _
-      (λ e2. let none = nil_from_length ds (eqb-true (length ds) 0 e2) in record { same = λ h. absurd (omega arith); padded = λ _. inl (none, refl) })
+      (λ e2. let none = nil_from_length ds (eqb-true (length ds) 0 e2) in
+      record { same = λ h. absurd (omega arith); padded = λ _. inl (none, refl) })
       (λ e2. if-cases IsPadded Refuses (ltb 34 (length ds + (x - greatest_place))) _ _
       (λ e3 digits large up down at c f fits.
       let some : 0 < length ds = grind (arith, nat_tests) in
       let long = ltb-true 34 (length ds + (x - greatest_place)) e3 in
       let within = fits.exponent in
-      omega (arith, reach 34 (length ds - 1) c (f + down) (digits_value 10 ds) (up + 6176) fits.coefficient (large some) fits.equal))
+      omega (
+        arith,
+        reach 34 (length ds - 1) c (f + down) (digits_value 10 ds) (up + 6176) fits.coefficient
+            (large some) fits.equal,
+      ))
       (λ e3. let short = ltb-false 34 (length ds + (x - greatest_place)) e3 in
       record { same = λ h. absurd (omega arith); padded = λ _. inr (refl, omega arith) })))

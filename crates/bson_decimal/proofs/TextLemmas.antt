@@ -1,5 +1,6 @@
 -- Where a text is cut.
-use Rattle.std.proofs.Common.{◌≡◌, ℕ, ◌+◌, ◌-◌, ◌<◌, ◌≤◌, Bool, true, false, cond, zero, suc, ltb, leb, eqb, List, length, get_or, ℤ, pos, neg_ℤ, ◌+ℤ◌, inl, inr, arith, refl, rules, tests, ap, ◌∙◌}
+use Rattle.std.proofs.Common.{◌≡◌, ℕ, ◌+◌, ◌-◌, ◌<◌, ◌≤◌, Bool, true, false, cond, zero, suc, ltb, leb, eqb, List}
+use Rattle.std.proofs.Common.{length, get_or, ℤ, pos, neg_ℤ, ◌+ℤ◌, inl, inr, arith, refl, rules, tests, ap, ◌∙◌}
 use Rattle.std.specs.Prelude.{position, Some, None}
 use Rattle.std.specs.Option.{unwrap_or}
 use Rattle.std.specs.Int.{w16, w32}
@@ -32,7 +33,10 @@ pub first-place : (p : ℕ → Bool) (xs : List ℕ) (n : ℕ) → n ≡ unwrap_
 first-place p xs n is = let place = is ∙ position-or p xs in (place, rw place (position_or_len-le p xs))
 
 pub mark-ascii : (b : ℕ) → is_mark b ≡ true → b < 128
-mark-ascii b e = elim (or_cases (eqb b 101) (eqb b 69) e) [ inl t ↦ omega (arith, eqb-true b 101 t) | inr t ↦ omega (arith, eqb-true b 69 t) ]
+mark-ascii b e = elim (or_cases (eqb b 101) (eqb b 69) e) [
+  | inl t ↦ omega (arith, eqb-true b 101 t)
+  | inr t ↦ omega (arith, eqb-true b 69 t)
+]
 
 pub mark_at-ascii : (xs : List ℕ) → position_or_len is_mark xs < length xs
     → get_or xs (position_or_len is_mark xs) 0 < 128
@@ -40,7 +44,9 @@ mark_at-ascii xs h = mark-ascii _ (passes_at_first is_mark xs 0 h)
 
 -- what `parse` says of the text of an exponent, by its sign and the number of its digits
 read-at : (negative : Bool) (v : ℕ) → FitsSigned w16 (cond negative (neg_ℤ (pos v)) (pos v))
-    → (leb v (cond negative 32768 32767) ≡ true) × (nat_abs (to_z w32 (of_z w32 (to_z w32 (of_z w32 (cond negative (neg_ℤ (pos v)) (pos v))) +ℤ pos 32768))) ≡ cond negative (32768 - v) (32768 + v))
+    → (leb v (cond negative 32768 32767) ≡ true)
+    × (nat_abs (to_z w32 (of_z w32 (to_z w32 (of_z w32 (cond negative (neg_ℤ (pos v)) (pos v))) +ℤ pos 32768)))
+    ≡ cond negative (32768 - v) (32768 + v))
 read-at true zero h = (refl, omega (arith, ints))
 read-at true (suc v) h = let low = h.sfits in (search (rules, tests), omega (arith, ints))
 read-at false v h = let low = h.sfits in (search (rules, tests), omega (arith, ints))

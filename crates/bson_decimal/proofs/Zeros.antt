@@ -1,5 +1,6 @@
 -- Zeros before and behind the digits of a number.
-use Rattle.std.proofs.Common.{◌≡◌, ◌≢◌, ℕ, zero, suc, ◌+◌, ◌*◌, ◌^◌, ◌<◌, ◌≤◌, inl, inr, true, false, eqb, List, [], ◌∷◌, ◌++◌, length, take, replicate, refl, sym, ap, ◌∙◌, arith}
+use Rattle.std.proofs.Common.{◌≡◌, ◌≢◌, ℕ, zero, suc, ◌+◌, ◌*◌, ◌^◌, ◌<◌, ◌≤◌, inl, inr, true, false, eqb, List, []}
+use Rattle.std.proofs.Common.{◌∷◌, ◌++◌, length, take, replicate, refl, sym, ap, ◌∙◌, arith, Bool, cond, ◌&&◌, ◌==◌}
 use Rattle.std.proofs.lemmas.Bool.{cases_Bool, and_parts, eqb-true}
 use Rattle.std.proofs.lemmas.Bool.Decides.{nat_tests}
 use Rattle.std.proofs.lemmas.List.{take-append-drop, length-replicate}
@@ -11,6 +12,18 @@ use Rattle.std.specs.List.{list_all, prefix_len}
 use Rattle.std.specs.Str.Parse.{AllDigits, digits_value, digits_value_after}
 use Rattle.bson_decimal.specs.Numeral.{is_zero, without_leading_zeros}
 use Rattle.bson_decimal.proofs.Tens.{tens-pos}
+
+same_next : (m n : ℕ) → (1 + m == suc n) ≡ (m == n)
+same_next m n = grind (arith, nat_tests)
+
+-- all bytes are zeros just if as many zeros stand at the front
+pub all_zeros : (xs : List ℕ) → (prefix_len is_zero xs == length xs) ≡ list_all is_zero xs
+all_zeros [] = refl
+all_zeros (x ∷ xs) = at (is_zero x) (all_zeros xs) where
+  at : (b : Bool) → (prefix_len is_zero xs == length xs) ≡ list_all is_zero xs
+      → (cond b (1 + prefix_len is_zero xs) 0 == length (x ∷ xs)) ≡ (b && list_all is_zero xs)
+  at true rest = same_next (prefix_len is_zero xs) (length xs) ∙ rest
+  at false rest = grind (arith, nat_tests)
 
 pub value_after : (n : ℕ) (ds : List ℕ) → digits_value_after 10 n ds ≡ n * 10 ^ length ds + digits_value 10 ds
 value_after n [] = omega arith

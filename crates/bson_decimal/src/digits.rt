@@ -80,35 +80,33 @@ impl<'a> Digits<'a> {
         }
     }
 
-    fn leading_zeros(&self) -> usize
-        ensures value { result ≡ prefix_len is_zero self.now }
-        ensures within { result ≤ length self.now }
+    // How many zeros stand behind the first `n` bytes, up to the first byte that is none.
+    fn zeros_after(&self, n: usize) -> usize
+        requires { n ≤ length self.now }
+        ensures value { result ≡ prefix_len is_zero (drop n self.now) }
+        ensures within { n + result ≤ length self.now }
     {
         let len = self.len();
-        for i in 0..len {
+        for i in n..len {
             if self.byte(i) != b'0' {
-                return i;
+                return i - n;
             }
         }
-        len
+        len - n
     }
 
     pub(crate) fn without_leading_zeros(self) -> Digits<'a>
         ensures { result ≡ without_leading_zeros self.entry }
     {
-        let zeros = self.leading_zeros();
+        let zeros = self.zeros_after(0);
         self.after(zeros)
     }
 
     pub(crate) fn has_only_zeros_after(&self, n: usize) -> bool
+        requires { n ≤ length self.now }
         ensures { result ≡ list_all is_zero (drop n self.now) }
     {
-        for i in n..self.len() {
-            if self.byte(i) != b'0' {
-                return false;
-            }
-        }
-        true
+        self.zeros_after(n) == self.len() - n
     }
 
     // The number that the bytes write, if all are digits.

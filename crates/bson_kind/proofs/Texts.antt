@@ -7,4 +7,5 @@ use Rattle.bson_wrapper.specs.Displayed.{sixteen_digits}
 pub sixteen : (p : ℕ)
     → padded_integral (format_spec 32 0 4 16 (2 ^ 64 - 1)) false [] (digits 16 false p) ≡ sixteen_digits p
 unfolding padded_integral char_count
-sixteen p = let none : 16 - length (digits 16 false p) - 0 - 0 ≡ 16 - length (digits 16 false p) = omega arith in rw (none, append-nil (digits 16 false p)) refl
+sixteen p = let none : 16 - length (digits 16 false p) - 0 - 0 ≡ 16 - length (digits 16 false p) = omega arith in
+    rw (none, append-nil (digits 16 false p)) refl

@@ -19,44 +19,27 @@ use std::alloc::{AllocError, Global};
 use std::fmt;
 use std::hash::{Hash, Hasher};
 
-/// A value that holds no other, by reference.
+/// A value that holds no other, by reference: each kind of `Scalar`, with its texts and larger parts
+/// borrowed.
 #[derive(Clone, Copy, Drop)]
 pub enum ScalarRef<'a> {
-    /// The null value.
     Null,
-    /// The undefined value (deprecated).
     Undefined,
-    /// Less than every other value.
     MinKey,
-    /// Greater than every other value.
     MaxKey,
-    /// A truth value.
     Boolean(bool),
-    /// A double, as its pattern of 64 bits (IEEE 754-2008 binary64).
     Double(u64),
-    /// A whole number of 32 bits.
     Int32(i32),
-    /// A whole number of 64 bits.
     Int64(i64),
-    /// A text.
     String(&'a str),
-    /// A symbol (deprecated).
     Symbol(&'a str),
-    /// JavaScript code without a scope.
     JavaScriptCode(&'a str),
-    /// A regular expression.
     RegularExpression(&'a Regex),
-    /// A timestamp of MongoDB's own use.
     Timestamp(Timestamp),
-    /// Bytes and their subtype.
     Binary(&'a Binary),
-    /// An object id.
     ObjectId(ObjectId),
-    /// A moment, in milliseconds since 1970-01-01T00:00:00Z.
     DateTime(DateTime),
-    /// A decimal of 128 bits.
     Decimal128(Decimal128),
-    /// A pointer into another collection (deprecated).
     DbPointer(&'a DbPointer),
 }
 

@@ -1,5 +1,6 @@
 -- Bytes with their ignored bits zero.
-use Rattle.std.proofs.Common.{◌≡◌, ◌-◌, ◌*◌, ◌/◌, ◌%◌, ◌^◌, ℕ, List, [], ◌∷◌, length, length-set, set, get_or, refl, sym, ap, ◌∙◌, arith}
+use Rattle.std.proofs.Common.{◌≡◌, ◌-◌, ◌*◌, ◌/◌, ◌%◌, ◌^◌, ℕ, List, [], ◌∷◌, length, length-set, set, get_or, refl}
+use Rattle.std.proofs.Common.{sym, ap, ◌∙◌, arith}
 use Rattle.std.proofs.Math.Nat.{mul-mod_left, zero-mod}
 use Rattle.std.proofs.lemmas.List.{get_or-set_same, set-get_or}
 use Rattle.std.proofs.lemmas.Nat.{shr_split}
@@ -8,7 +9,8 @@ use Rattle.std.specs.Prelude.{Result, Ok, Err, IfOk}
 use Rattle.bson_scalar.specs.declared.binary.Error.{Error}
 use Rattle.bson_scalar.specs.declared.vector.Vector.{Vector}
 use Rattle.bson_scalar.specs.Vectors.{vector_bytes, cleared_vector}
-use Rattle.bson_scalar.specs.VectorData.{VectorData, IsInRange, IsOnlyOne, data_bytes, int8, float32, packed, vector_view}
+use Rattle.bson_scalar.specs.VectorData.{VectorData, IsInRange, IsOnlyOne, data_bytes, int8, float32, packed}
+use Rattle.bson_scalar.specs.VectorData.{vector_view}
 use Rattle.bson_scalar.proofs.VectorLaws.{only_one, same_bytes}
 
 -- as many bytes
@@ -30,17 +32,20 @@ cleared_bytes-zero (b ∷ bs) padding =
 pub cleared_bytes-same : (bytes : List ℕ) (padding : ℕ) → ignored_bits bytes padding ≡ 0
     → cleared_bytes bytes padding ≡ bytes
 cleared_bytes-same bytes padding zeros =
-    let high : last_byte bytes / 2 ^ padding * 2 ^ padding ≡ last_byte bytes = omega (arith, shr_split (last_byte bytes) padding) in
+    let high : last_byte bytes / 2 ^ padding * 2 ^ padding ≡ last_byte bytes =
+    omega (arith, shr_split (last_byte bytes) padding) in
     ap (set bytes (length bytes - 1)) high ∙ set-get_or bytes (length bytes - 1) 0
 
 -- and so do those of each vector
 cleared_vector-same : (v : VectorData) → IsInRange v → cleared_vector (data_bytes v) ≡ data_bytes v
 cleared_vector-same (int8 zs) range = refl
 cleared_vector-same (float32 ns) range = refl
-cleared_vector-same (packed bytes padding) range = ap (λ bs. 16 ∷ padding ∷ bs) (cleared_bytes-same bytes padding range.2)
+cleared_vector-same (packed bytes padding) range =
+    ap (λ bs. 16 ∷ padding ∷ bs) (cleared_bytes-same bytes padding range.2)
 
 -- a vector that was read in bytes is the only one of the cleared_bytes bytes, since these are the same
-pub only_one-unchanged : (r : Result Vector Error) (bytes : List ℕ) → IfOk r (λ v. vector_bytes v ≡ bytes) → IfOk r (λ v. IsInRange (vector_view v))
+pub only_one-unchanged : (r : Result Vector Error) (bytes : List ℕ) → IfOk r (λ v. vector_bytes v ≡ bytes)
+    → IfOk r (λ v. IsInRange (vector_view v))
     → IfOk r (λ v. IsOnlyOne (cleared_vector bytes) (vector_view v))
 only_one-unchanged (Ok v) bytes is range =
     let same : data_bytes (vector_view v) ≡ bytes = same_bytes v ∙ is in

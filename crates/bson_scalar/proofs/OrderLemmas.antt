@@ -3,7 +3,8 @@ use Rattle.std.proofs.Common.{◌≡◌, ℕ, List, length, refl, sym, ◌∙◌
 use Rattle.std.specs.Prelude.{Result, Ok, Err, IsOk, IfOk}
 use Rattle.std.proofs.lemmas.Slice.Eq.{text_from_reads}
 use Rattle.bson_scalar.specs.declared.uuid_value.UuidRepresentation.{UuidRepresentation}
-use Rattle.bson_scalar.specs.declared.uuid_value.UuidRepresentation.TheVariants.{Standard, CSharpLegacy, JavaLegacy, PythonLegacy}
+use Rattle.bson_scalar.specs.declared.uuid_value.UuidRepresentation.TheVariants.{Standard, CSharpLegacy, JavaLegacy}
+use Rattle.bson_scalar.specs.declared.uuid_value.UuidRepresentation.TheVariants.{PythonLegacy}
 use Rattle.bson_scalar.specs.Orders.{bytes_in_order}
 
 -- sixteen numbers are their reads

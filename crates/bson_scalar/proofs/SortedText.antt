@@ -28,7 +28,9 @@ sorted_at false s e = rw e (rw e refl)
 sorted_at true s e =
     let text = IsUtf8-from_is_utf8 s e in
     let characters = still_characters (chars s) (scalars-chars s text) in
-    let again : is_utf8 (encode_utf8_all (ascending_numbers (chars s))) ≡ true = is_utf8-from_IsUtf8 (encode_utf8_all (ascending_numbers (chars s))) (ascending_numbers (chars s), (characters, refl)) in
+    let again : is_utf8 (encode_utf8_all (ascending_numbers (chars s))) ≡ true =
+    is_utf8-from_IsUtf8 (encode_utf8_all (ascending_numbers (chars s)))
+    (ascending_numbers (chars s), (characters, refl)) in
     let spelled = chars-encodes (ascending_numbers (chars s)) characters in
     rw e (rw (again, spelled, ascending_numbers-again (chars s)) refl)
 

@@ -1,8 +1,10 @@
 -- Two ascending lists with the same elements are one, so a sort gives the ascending list.
-use Rattle.std.proofs.Common.{◌≡◌, ℕ, ◌+◌, ◌<◌, ◌≤◌, zero, suc, true, false, cond, List, [], ◌∷◌, length, get_or, refl, sym, ap, ◌∙◌, arith, inl, inr, nat_eq, nat_le, nat_cmp, IsPermutation, IsSorted}
+use Rattle.std.proofs.Common.{◌≡◌, ℕ, ◌+◌, ◌<◌, ◌≤◌, zero, suc, true, false, cond, List, [], ◌∷◌, length, get_or, refl}
+use Rattle.std.proofs.Common.{sym, ap, ◌∙◌, arith, inl, inr, nat_eq, nat_le, nat_cmp, IsPermutation, IsSorted}
 use Rattle.std.proofs.lemmas.Bool.{cases_order, leb-true, leb-false, cases_Bool}
 use Rattle.std.proofs.lemmas.Bool.Decides.{nat_tests}
-use Rattle.std.proofs.lemmas.List.Sorted.{sum_by-IsPermutation, IsNonDecreasingBy-from_sort, IsPermutation-refl, IsPermutation-cons, IsPermutation-middle, IsPermutation-trans}
+use Rattle.std.proofs.lemmas.List.Sorted.{sum_by-IsPermutation, IsNonDecreasingBy-from_sort, IsPermutation-refl}
+use Rattle.std.proofs.lemmas.List.Sorted.{IsPermutation-cons, IsPermutation-middle, IsPermutation-trans}
 use Rattle.std.proofs.lemmas.List.Sums.{sum_by-cons}
 use Rattle.std.specs.List.{sum_by, AllByRecursion}
 use Rattle.std.specs.List.Sorted.{IsNonDecreasing}
@@ -46,7 +48,11 @@ count-ascending_numbers c (x ∷ xs) = count-insert_sorted c x (ascending_number
 all-insert_sorted : (P : ℕ → Type 0) (n : ℕ) (xs : List ℕ) → P n → AllByRecursion P xs
     → AllByRecursion P (insert_sorted n xs)
 all-insert_sorted P n [] h all = (h, tt)
-all-insert_sorted P n (x ∷ xs) h all = elim (nat_le n x) as (λ b. AllByRecursion P (cond b (n ∷ x ∷ xs) (x ∷ insert_sorted n xs))) [ true ↦ (h, all) | false ↦ (all.0, all-insert_sorted P n xs h all.1) ]
+all-insert_sorted P n (x ∷ xs) h all =
+    elim (nat_le n x) as (λ b. AllByRecursion P (cond b (n ∷ x ∷ xs) (x ∷ insert_sorted n xs))) [
+      | true ↦ (h, all)
+      | false ↦ (all.0, all-insert_sorted P n xs h all.1)
+    ]
 
 all-weaker : (P Q : ℕ → Type 0) → ((y : ℕ) → P y → Q y) → (xs : List ℕ) → AllByRecursion P xs → AllByRecursion Q xs
 all-weaker P Q f [] all = tt
@@ -55,8 +61,10 @@ all-weaker P Q f (x ∷ xs) all = (f x all.0, all-weaker P Q f xs all.1)
 rises-insert_sorted : (n : ℕ) (xs : List ℕ) → Rises xs → Rises (insert_sorted n xs)
 rises-insert_sorted n [] up = (tt, tt)
 rises-insert_sorted n (x ∷ xs) up = elim (cases_Bool (nat_le n x)) [
-  | inl e ↦ let le = leb-true n x e in rw e ((le, all-weaker (λ y. x ≤ y) (λ y. n ≤ y) (λ y h. omega arith) xs up.0), up)
-  | inr e ↦ let gt = leb-false n x e in rw e (all-insert_sorted (λ y. x ≤ y) n xs (omega arith) up.0, rises-insert_sorted n xs up.1)
+  | inl e ↦ let le = leb-true n x e in
+      rw e ((le, all-weaker (λ y. x ≤ y) (λ y. n ≤ y) (λ y h. omega arith) xs up.0), up)
+  | inr e ↦ let gt = leb-false n x e in
+      rw e (all-insert_sorted (λ y. x ≤ y) n xs (omega arith) up.0, rises-insert_sorted n xs up.1)
 ]
 
 pub rises-ascending_numbers : (xs : List ℕ) → Rises (ascending_numbers xs)
@@ -95,7 +103,9 @@ rises-one (x ∷ xs) (y ∷ ys) up vp same = elim (cases_order x y) [
 ]
 
 pub ascending_numbers-again : (xs : List ℕ) → ascending_numbers (ascending_numbers xs) ≡ ascending_numbers xs
-ascending_numbers-again xs = rises-one _ _ (rises-ascending_numbers (ascending_numbers xs)) (rises-ascending_numbers xs) (λ c. count-ascending_numbers c (ascending_numbers xs))
+ascending_numbers-again xs =
+    rises-one _ _ (rises-ascending_numbers (ascending_numbers xs)) (rises-ascending_numbers xs)
+    (λ c. count-ascending_numbers c (ascending_numbers xs))
 
 all-from-reads : (x : ℕ) (xs : List ℕ) → ((i : ℕ) → i < length xs → x ≤ get_or xs i 0) → AllByRecursion (λ y. x ≤ y) xs
 all-from-reads x [] h = tt
@@ -103,13 +113,18 @@ all-from-reads x (y ∷ xs) h = (h 0 (omega arith), all-from-reads x xs (λ i l.
 
 rises-from : (xs : List ℕ) → IsNonDecreasing xs → Rises xs
 rises-from [] up = tt
-rises-from (x ∷ xs) up = (all-from-reads x xs (λ i l. up 0 (suc i) 0 (omega arith) (omega arith)), rises-from xs (λ i j d l m. up (suc i) (suc j) d (omega arith) (omega arith)))
+rises-from (x ∷ xs) up = (
+  all-from-reads x xs (λ i l. up 0 (suc i) 0 (omega arith) (omega arith)),
+  rises-from xs (λ i j d l m. up (suc i) (suc j) d (omega arith) (omega arith)),
+)
 
 -- what a sort leaves is the ascending list
 pub sorted-ascending_numbers : (xs ys : List ℕ) → IsPermutation xs ys → IsSorted nat_cmp ys → ys ≡ ascending_numbers xs
 sorted-ascending_numbers xs ys same sorted =
-    rises-one ys (ascending_numbers xs) (rises-from ys (IsNonDecreasingBy-from_sort (λ x. x) ys sorted)) (rises-ascending_numbers xs)
-    (λ c. sym (count-sum c ys) ∙ sum_by-IsPermutation (tally c) xs ys same ∙ count-sum c xs ∙ sym (count-ascending_numbers c xs))
+    rises-one ys (ascending_numbers xs) (rises-from ys (IsNonDecreasingBy-from_sort (λ x. x) ys sorted))
+    (rises-ascending_numbers xs)
+    (λ c. sym (count-sum c ys) ∙ sum_by-IsPermutation (tally c) xs ys same ∙ count-sum c xs
+    ∙ sym (count-ascending_numbers c xs))
 
 -- ---- the ascending list rises, and has the same numbers
 
@@ -127,17 +142,19 @@ rises-to (x ∷ xs) up (suc i) (suc j) d l m = rises-to xs up.1 i j d (omega (ar
 
 same-insert_sorted : (n : ℕ) (xs : List ℕ) → IsPermutation (n ∷ xs) (insert_sorted n xs)
 same-insert_sorted n [] = IsPermutation-refl (n ∷ [])
-same-insert_sorted n (x ∷ xs) = elim (nat_le n x) as (λ b. IsPermutation (n ∷ x ∷ xs) (cond b (n ∷ x ∷ xs) (x ∷ insert_sorted n xs))) [
-  | true ↦ IsPermutation-refl (n ∷ x ∷ xs)
-  | false ↦
-      let exchanged : IsPermutation (n ∷ x ∷ xs) (x ∷ n ∷ xs) = IsPermutation-middle (n ∷ []) x xs in
-      IsPermutation-trans _ _ _ exchanged (IsPermutation-cons x _ _ (same-insert_sorted n xs))
-]
+same-insert_sorted n (x ∷ xs) =
+    elim (nat_le n x) as (λ b. IsPermutation (n ∷ x ∷ xs) (cond b (n ∷ x ∷ xs) (x ∷ insert_sorted n xs))) [
+      | true ↦ IsPermutation-refl (n ∷ x ∷ xs)
+      | false ↦
+          let exchanged : IsPermutation (n ∷ x ∷ xs) (x ∷ n ∷ xs) = IsPermutation-middle (n ∷ []) x xs in
+          IsPermutation-trans _ _ _ exchanged (IsPermutation-cons x _ _ (same-insert_sorted n xs))
+    ]
 
 same-ascending_numbers : (xs : List ℕ) → IsPermutation xs (ascending_numbers xs)
 same-ascending_numbers [] = IsPermutation-refl []
 same-ascending_numbers (x ∷ xs) =
-    IsPermutation-trans _ _ _ (IsPermutation-cons x _ _ (same-ascending_numbers xs)) (same-insert_sorted x (ascending_numbers xs))
+    IsPermutation-trans _ _ _ (IsPermutation-cons x _ _ (same-ascending_numbers xs))
+    (same-insert_sorted x (ascending_numbers xs))
 
 pub ascending_meaning : (xs : List ℕ) → IsPermutation xs (ascending_numbers xs) × IsNonDecreasing (ascending_numbers xs)
 ascending_meaning xs = (same-ascending_numbers xs, rises-to (ascending_numbers xs) (rises-ascending_numbers xs))

@@ -1,5 +1,7 @@
 -- What the `uuid` crate reads in a text is what the text spells.
-use Rattle.std.proofs.Common.{◌≡◌, ◌+◌, ◌*◌, ℕ, zero, suc, List, [], ◌∷◌, ◌++◌, length, length-append, take, drop, slice_index, Bool, true, false, cond, Option, Some, None, inl, inr, refl, sym, ap, ◌∙◌, subst, arith}
+use Rattle.std.proofs.Common.{◌≡◌, ◌+◌, ◌*◌, ℕ, zero, suc, List, [], ◌∷◌, ◌++◌, length, length-append, take, drop}
+use Rattle.std.proofs.Common.{slice_index, Bool, true, false, cond, Option, Some, None, inl, inr, refl, sym, ap, ◌∙◌}
+use Rattle.std.proofs.Common.{subst, arith}
 use Rattle.std.specs.Prelude.{codes}
 use Rattle.std.specs.List.{list_all}
 use Rattle.std.specs.Str.{str_to_ascii_lowercase}
@@ -7,10 +9,12 @@ use Rattle.std.proofs.lemmas.Bool.{and_parts, eqb-true}
 use Rattle.std.proofs.lemmas.Bool.Decides.{nat_tests}
 use Rattle.std.proofs.lemmas.List.{get_or_default, get_or_push, length-map, take_at, drop_at, take-append-drop}
 use Rattle.std.proofs.lemmas.Slice.Eq.{bytes_eq-Decides}
-use Rattle.uuid.specs.Text.{by_index, byte_of_digits, digits_of, has_hyphens, has_urn_prefix, is_hex_digit, parsed, parsed_braced, parsed_hyphenated, parsed_simple, parsed_urn, value_of}
+use Rattle.uuid.specs.Text.{by_index, byte_of_digits, digits_of, has_hyphens, has_urn_prefix, is_hex_digit, parsed}
+use Rattle.uuid.specs.Text.{parsed_braced, parsed_hyphenated, parsed_simple, parsed_urn, value_of}
 use Rattle.uuid.proofs.TextLemmas.{by_index_cong, by_index_length, by_index_same}
 use Rattle.bson_scalar.specs.HexText.{IsDigitOf, IsHexText, nothing, pair}
-use Rattle.bson_scalar.specs.Uuid.{AreUuidDigits, IsHyphenatedText, IsUuidText, IsUrnPrefix, in_groups, digits_alone, hyphenated, braced, urn}
+use Rattle.bson_scalar.specs.Uuid.{AreUuidDigits, IsHyphenatedText, IsUuidText, IsUrnPrefix, in_groups, digits_alone}
+use Rattle.bson_scalar.specs.Uuid.{hyphenated, braced, urn}
 use Rattle.bson_scalar.proofs.HexLaws.{twice}
 
 -- ---- digits
@@ -20,8 +24,10 @@ digit_from c h = grind (arith, nat_tests, h)
 
 digit_to : (v c : ℕ) → IsDigitOf v c → (is_hex_digit c ≡ true) × (value_of c ≡ v)
 digit_to v c (inl is) = (grind (arith, nat_tests, is.0, is.1), grind (arith, nat_tests, is.0, is.1))
-digit_to v c (inr (least, most, inl is)) = (grind (arith, nat_tests, least, most, is), grind (arith, nat_tests, least, most, is))
-digit_to v c (inr (least, most, inr is)) = (grind (arith, nat_tests, least, most, is), grind (arith, nat_tests, least, most, is))
+digit_to v c (inr (least, most, inl is)) =
+    (grind (arith, nat_tests, least, most, is), grind (arith, nat_tests, least, most, is))
+digit_to v c (inr (least, most, inr is)) =
+    (grind (arith, nat_tests, least, most, is), grind (arith, nat_tests, least, most, is))
 
 pub by_front : (n : ℕ) (f : ℕ → ℕ) → by_index (suc n) f ≡ f 0 ∷ by_index n (λ i. f (suc i))
 unfolding by_index
@@ -53,7 +59,8 @@ text_from (suc n) (c ∷ d ∷ s) long h =
     let second = and_parts (is_hex_digit d) (list_all is_hex_digit s) first.1 in
     let rest = text_from n s (omega (arith, long)) second.1 in
     subst (IsHexText (c ∷ d ∷ s)) (sym (bytes_in_turn c d s n))
-    (pair (value_of c) (value_of d) c d s (by_index n (byte_of_digits s)) (digit_from c first.0) (digit_from d second.0) rest)
+    (pair (value_of c) (value_of d) c d s (by_index n (byte_of_digits s)) (digit_from c first.0)
+    (digit_from d second.0) rest)
 
 text_to : {s bytes : List ℕ} → IsHexText s bytes
     → (list_all is_hex_digit s ≡ true) × (by_index (length bytes) (byte_of_digits s) ≡ bytes)
@@ -92,7 +99,8 @@ digits_to s id is =
 -- ---- hyphens
 
 by_places : (s : List ℕ) (n : ℕ) → length s ≡ n → s ≡ by_index n (slice_index s)
-by_places s n long = by_index_same s n (slice_index s) long (λ k d within. get_or_default s k d 0 (omega (arith, long, within)))
+by_places s n long = by_index_same s n (slice_index s) long
+    (λ k d within. get_or_default s k d 0 (omega (arith, long, within)))
 
 grouped : (s : List ℕ) → length s ≡ 36 → has_hyphens s ≡ true → s ≡ in_groups (digits_of s)
 unfolding by_index
@@ -108,7 +116,8 @@ grouped s long h =
     places ∙ rw (at_8, at_13, at_18, at_23) refl
 
 abbrev IsSpelled : List ℕ → Type 0
-IsSpelled digits = (length (in_groups digits) ≡ 36) × (has_hyphens (in_groups digits) ≡ true) × (digits_of (in_groups digits) ≡ digits)
+IsSpelled digits = (length (in_groups digits) ≡ 36) × (has_hyphens (in_groups digits) ≡ true)
+    × (digits_of (in_groups digits) ≡ digits)
 
 each_spelled : (f : ℕ → ℕ) → IsSpelled (by_index 32 f)
 unfolding by_index
@@ -139,9 +148,11 @@ in_braces : (s : List ℕ) → length s ≡ 38 → slice_index s 0 ≡ 123 → s
 unfolding by_index
 in_braces s long first last =
     let places = by_places s 38 long in
-    let inner : codes "{" ++ take 36 (drop 1 (by_index 38 (slice_index s))) ++ codes "}" ≡ codes "{" ++ take 36 (drop 1 s) ++ codes "}" =
+    let inner : codes "{" ++ take 36 (drop 1 (by_index 38 (slice_index s))) ++ codes "}" ≡ codes "{"
+    ++ take 36 (drop 1 s) ++ codes "}" =
     ap (λ t. codes "{" ++ take 36 (drop 1 t) ++ codes "}") (sym places) in
-    let outer : by_index 38 (slice_index s) ≡ codes "{" ++ take 36 (drop 1 (by_index 38 (slice_index s))) ++ codes "}" = rw (first, last) refl in
+    let outer : by_index 38 (slice_index s) ≡ codes "{" ++ take 36 (drop 1 (by_index 38 (slice_index s))) ++ codes "}" =
+    rw (first, last) refl in
     places ∙ outer ∙ inner
 
 braced_from : (s id : List ℕ) → parsed_braced s ≡ Some id → IsUuidText s id
@@ -149,7 +160,8 @@ braced_from s id h =
     let g = guarded _ _ id h in
     let p = and_parts _ _ g.0 in
     let q = and_parts _ _ p.0 in
-    let whole = in_braces s (eqb-true (length s) 38 q.0) (eqb-true (slice_index s 0) 123 q.1) (eqb-true (slice_index s 37) 125 p.1) in
+    let whole = in_braces s (eqb-true (length s) 38 q.0) (eqb-true (slice_index s 0) 123 q.1)
+    (eqb-true (slice_index s 37) 125 p.1) in
     subst (λ t. IsUuidText t id) (sym whole) (braced (take 36 (drop 1 s)) id (hyphenated_from _ id g.1))
 
 at_38 : (s : List ℕ) → length s ≡ 38 → slice_index s 0 ≡ 123 → slice_index s 37 ≡ 125
@@ -171,8 +183,10 @@ urn_from : (s id : List ℕ) → parsed_urn s ≡ Some id → IsUuidText s id
 urn_from s id h =
     let g = guarded _ _ id h in
     let p = and_parts _ _ g.0 in
-    let prefix : IsUrnPrefix (take 9 s) = (bytes_eq-Decides (str_to_ascii_lowercase (take 9 s)) (codes "urn:uuid:")).0 p.1 in
-    subst (λ t. IsUuidText t id) (take-append-drop 9 s) (urn (take 9 s) (drop 9 s) id prefix (hyphenated_from (drop 9 s) id g.1))
+    let prefix : IsUrnPrefix (take 9 s) =
+    (bytes_eq-Decides (str_to_ascii_lowercase (take 9 s)) (codes "urn:uuid:")).0 p.1 in
+    subst (λ t. IsUuidText t id) (take-append-drop 9 s)
+    (urn (take 9 s) (drop 9 s) id prefix (hyphenated_from (drop 9 s) id g.1))
 
 at_45 : (s : List ℕ) → length s ≡ 45 → has_urn_prefix s ≡ true → parsed s ≡ parsed_hyphenated (drop 9 s)
 at_45 s long prefix = rw (long, prefix) refl
@@ -181,13 +195,15 @@ urn_to : (p t id : List ℕ) → IsUrnPrefix p → IsHyphenatedText t id → par
 urn_to p t id prefix is =
     let nine : length p ≡ 9 = sym (length-map p _) ∙ ap length prefix in
     let long : length (p ++ t) ≡ 45 = omega (arith, length-append p t, hyphenated_long t id is, nine) in
-    let opens : has_urn_prefix (p ++ t) ≡ true = rw (take_at p t 9 nine) ((bytes_eq-Decides (str_to_ascii_lowercase p) (codes "urn:uuid:")).1 prefix) in
+    let opens : has_urn_prefix (p ++ t) ≡ true =
+    rw (take_at p t 9 nine) ((bytes_eq-Decides (str_to_ascii_lowercase p) (codes "urn:uuid:")).1 prefix) in
     at_45 (p ++ t) long opens ∙ ap parsed_hyphenated (drop_at p t 9 nine) ∙ hyphenated_to t id is
 
 -- ---- all spellings
 
 spelling_from : (a b c d : Bool) (s id : List ℕ)
-    → cond a (parsed_simple s) (cond b (parsed_hyphenated s) (cond c (parsed_braced s) (cond d (parsed_urn s) None))) ≡ Some id
+    → cond a (parsed_simple s) (cond b (parsed_hyphenated s) (cond c (parsed_braced s) (cond d (parsed_urn s) None)))
+    ≡ Some id
     → IsUuidText s id
 spelling_from true b c d s id h = digits_alone s id (digits_from s id h)
 spelling_from false true c d s id h = hyphenated s id (hyphenated_from s id h)

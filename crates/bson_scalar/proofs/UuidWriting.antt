@@ -1,5 +1,6 @@
 -- The text that the `uuid` crate writes is the one of the digits in their groups.
-use Rattle.std.proofs.Common.{◌≡◌, ◌+◌, ◌*◌, ◌/◌, ◌%◌, ◌<◌, ℕ, zero, suc, List, [], ◌∷◌, length, slice_index, inl, refl, sym, ap, subst, ◌∙◌, arith}
+use Rattle.std.proofs.Common.{◌≡◌, ◌+◌, ◌*◌, ◌/◌, ◌%◌, ◌<◌, ℕ, zero, suc, List, [], ◌∷◌, length, slice_index, inl, refl}
+use Rattle.std.proofs.Common.{sym, ap, subst, ◌∙◌, arith}
 use Rattle.hex.specs.Hex.{IsBytes, encode_lower, encode_with, lower_digits}
 use Rattle.uuid.specs.Text.{by_index, hex_digit, hyphenated_text as kit_text, lower, nibble}
 use Rattle.uuid.proofs.TextLemmas.{by_index_cong, table_at}
@@ -37,9 +38,16 @@ unfolding by_index encode_with digit_at
 digits_in_turn [] are = refl
 digits_in_turn (b ∷ id) are =
     let n = double (length id) in
-    let rest = by_index_cong n (λ k. digit_at (b ∷ id) (suc (suc k))) (digit_at id) (λ k within. ap (hex_digit lower) (next_byte b id k)) in
+    let rest = by_index_cong n (λ k. digit_at (b ∷ id) (suc (suc k))) (digit_at id)
+    (λ k within. ap (hex_digit lower) (next_byte b id k)) in
     by_front (suc n) (digit_at (b ∷ id))
-    ∙ rw (by_front n (λ k. digit_at (b ∷ id) (suc k)), rest, digits_in_turn id (λ i. are (suc i)), high_digit b id (are 0), low_digit b id) refl
+    ∙ rw (
+      by_front n (λ k. digit_at (b ∷ id) (suc k)),
+      rest,
+      digits_in_turn id (λ i. are (suc i)),
+      high_digit b id (are 0),
+      low_digit b id,
+    ) refl
 
 -- the four hyphens stand between the groups
 grouped : (id : List ℕ) → kit_text lower id ≡ in_groups (by_index 32 (digit_at id))
@@ -48,5 +56,6 @@ grouped id = refl
 
 pub written_text : (id : List ℕ) → IsUuid id → kit_text lower id ≡ hyphenated_text id
 written_text id is =
-    let digits : by_index (double 16) (digit_at id) ≡ encode_lower id = subst (λ n. by_index (double n) (digit_at id) ≡ encode_lower id) is.0 (digits_in_turn id is.1) in
+    let digits : by_index (double 16) (digit_at id) ≡ encode_lower id =
+    subst (λ n. by_index (double n) (digit_at id) ≡ encode_lower id) is.0 (digits_in_turn id is.1) in
     grouped id ∙ ap in_groups digits

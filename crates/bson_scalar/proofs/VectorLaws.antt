@@ -1,5 +1,6 @@
 -- A vector's bytes tell what it holds.
-use Rattle.std.proofs.Common.{◌≡◌, ◌<◌, ◌≤◌, ◌^◌, ◌%◌, ◌-◌, ℕ, ℤ, List, [], ◌∷◌, length, map, get_or, take, drop, false, refl, sym, ap, ap₂, ◌∙◌, arith, w8, w32, Fits, FitsSigned, suc}
+use Rattle.std.proofs.Common.{◌≡◌, ◌<◌, ◌≤◌, ◌^◌, ◌%◌, ◌-◌, ℕ, ℤ, List, [], ◌∷◌, length, map, get_or, take, drop, false}
+use Rattle.std.proofs.Common.{refl, sym, ap, ap₂, ◌∙◌, arith, w8, w32, Fits, FitsSigned, suc}
 use Rattle.std.specs.Int.{cast_signed, cast_unsigned, from_le_bytes}
 use Rattle.std.specs.List.{AllByRecursion}
 use Rattle.std.proofs.lemmas.Int.{to_z-of_z, of_z-to_z}
@@ -12,7 +13,8 @@ use Rattle.bson_scalar.specs.declared.vector.Vector.{Vector}
 use Rattle.bson_scalar.specs.declared.vector.Vector.TheVariants.{Int8, Float32, PackedBit}
 use Rattle.bson_scalar.specs.Oid.{IsBytes}
 use Rattle.bson_scalar.specs.Vectors.{is_vector_of_any_bits, le_bytes_of, vector_bytes}
-use Rattle.bson_scalar.specs.VectorData.{VectorData, IsInRange, IsOnlyOne, data_bytes, data_in_range, vector_view, int8, float32, packed}
+use Rattle.bson_scalar.specs.VectorData.{VectorData, IsInRange, IsOnlyOne, data_bytes, data_in_range, vector_view, int8}
+use Rattle.bson_scalar.specs.VectorData.{float32, packed}
 
 head_is : {X : Type 0} (x y : X) (xs ys : List X) → x ∷ xs ≡ y ∷ ys → x ≡ y
 head_is x y xs ys h = cc
@@ -22,7 +24,8 @@ tail_is x y xs ys h = cc
 
 signed_back : (zs : List ℤ) → AllByRecursion (FitsSigned w8) zs → map (cast_signed w8) (map (cast_unsigned w8) zs) ≡ zs
 signed_back [] h = refl
-signed_back (z ∷ zs) h = let first : cast_signed w8 (cast_unsigned w8 z) ≡ z = to_z-of_z w8 z h.0 in rw first (ap (λ ys. z ∷ ys) (signed_back zs h.1))
+signed_back (z ∷ zs) h = let first : cast_signed w8 (cast_unsigned w8 z) ≡ z = to_z-of_z w8 z h.0 in
+    rw first (ap (λ ys. z ∷ ys) (signed_back zs h.1))
 
 -- words from their bytes
 abbrev pub words : List ℕ → List ℕ
@@ -84,10 +87,12 @@ same_bytes (PackedBit v) = refl
 -- a vector in range is the only one of its bytes
 pub only_one : (v : Vector) (bytes : List ℕ) → IsInRange (vector_view v) → vector_bytes v ≡ bytes
     → IsOnlyOne bytes (vector_view v)
-only_one v bytes range is = λ w in_range same. one_vector w (vector_view v) in_range range (same ∙ sym is ∙ sym (same_bytes v))
+only_one v bytes range is =
+    λ w in_range same. one_vector w (vector_view v) in_range range (same ∙ sym is ∙ sym (same_bytes v))
 
 -- and so it is with one that was read
-pub only_one-read : (r : Result Vector Error) (bytes : List ℕ) → IfOk r (λ v. vector_bytes v ≡ bytes) → IfOk r (λ v. IsInRange (vector_view v)) → IfOk r (λ v. IsOnlyOne bytes (vector_view v))
+pub only_one-read : (r : Result Vector Error) (bytes : List ℕ) → IfOk r (λ v. vector_bytes v ≡ bytes)
+    → IfOk r (λ v. IsInRange (vector_view v)) → IfOk r (λ v. IsOnlyOne bytes (vector_view v))
 only_one-read (Ok v) bytes is range = only_one v bytes range is
 only_one-read (Err e) bytes is range = tt
 

@@ -1,8 +1,10 @@
 -- Bytes are those of a vector exactly if some data in range has them.
-use Rattle.std.proofs.Common.{◌≡◌, ◌<◌, ◌^◌, ◌%◌, ◌==◌, ◌&&◌, ◌||◌, ◌↔◌, ℕ, zero, suc, List, [], ◌∷◌, ◌++◌, length, map, not, nat_lt, true, false, refl, ap, ap₂, inl, inr, arith, w8, w32}
+use Rattle.std.proofs.Common.{◌≡◌, ◌<◌, ◌^◌, ◌%◌, ◌==◌, ◌&&◌, ◌||◌, ◌↔◌, ℕ, zero, suc, List, [], ◌∷◌, ◌++◌, length, map}
+use Rattle.std.proofs.Common.{not, nat_lt, true, false, refl, ap, ap₂, inl, inr, arith, w8, w32}
 use Rattle.std.specs.Int.{cast_signed, from_le_bytes, to_le_bytes}
 use Rattle.std.specs.List.{AllByRecursion}
-use Rattle.std.proofs.lemmas.Bool.{and_from, and_parts, cases_eq, eq-eqb, eqb-true, lt-ltb, ltb-true, ne_eqb, not_from_false, or_cases, or_left}
+use Rattle.std.proofs.lemmas.Bool.{and_from, and_parts, cases_eq, eq-eqb, eqb-true, lt-ltb, ltb-true, ne_eqb}
+use Rattle.std.proofs.lemmas.Bool.{not_from_false, or_cases, or_left}
 use Rattle.std.proofs.lemmas.Nat.{le_bytes_4}
 use Rattle.bson_scalar.specs.IgnoredBits.{ignored_bits}
 use Rattle.bson_scalar.specs.Oid.{IsBytes}
@@ -22,7 +24,8 @@ accepted : (v : VectorData) → IsInRange v → is_vector (data_bytes v) ≡ tru
 accepted (int8 zs) range = refl
 accepted (float32 ns) range = rw (le_bytes_of-whole ns) refl
 accepted (packed bs k) range =
-    and_from _ _ (and_from _ _ (lt-ltb k 8 range.0) (no_bytes_no_padding bs k range.1)) (eq-eqb (ignored_bits bs k) 0 range.2)
+    and_from _ _ (and_from _ _ (lt-ltb k 8 range.0) (no_bytes_no_padding bs k range.1))
+    (eq-eqb (ignored_bits bs k) 0 range.2)
 
 -- ---- bytes of a vector have such data
 
@@ -50,7 +53,8 @@ words_range (a ∷ b ∷ c ∷ []) are = tt
 words_of : (bs : List ℕ) → IsBytes bs → length bs % 4 ≡ 0 → le_bytes_of (words bs) ≡ bs
 words_of (a ∷ b ∷ c ∷ d ∷ rest) are whole =
     let four = a ∷ b ∷ c ∷ d ∷ [] in
-    let first : to_le_bytes w32 (from_le_bytes w32 four) ≡ four = le_bytes_4 four _ refl (four_bytes a b c d rest are) refl in
+    let first : to_le_bytes w32 (from_le_bytes w32 four) ≡ four =
+    le_bytes_4 four _ refl (four_bytes a b c d rest are) refl in
     let more : le_bytes_of (words rest) ≡ rest = words_of rest (four_less a b c d rest are) (omega (arith, whole)) in
     ap₂ (λ xs ys. xs ++ ys) first more
 words_of [] are whole = refl

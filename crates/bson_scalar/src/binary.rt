@@ -9,6 +9,7 @@ ghost use Rattle.bson_scalar.specs.Fault.{IsDecodingError, IsOutOfMemory};
 ghost use Rattle.bson_scalar.specs.Orders.{bytes_in_order, subtype_for};
 ghost use Rattle.bson_scalar.specs.VectorData.{IsInRange, IsOnlyOne, data_in_range, vector_view};
 ghost use Rattle.bson_scalar.specs.Vectors.{is_vector, vector_bytes};
+ghost use Rattle.bson_scalar.specs.declared.binary.Error.TheVariants as binary_error;
 
 pub use crate::packed::PackedBitVector;
 use crate::spec::BinarySubtype;
@@ -40,20 +41,9 @@ pub enum Error {
         /// What is wrong, in words.
         message: &'static str,
     },
-    /// A request for memory was refused.
+    /// No memory was found for the bytes or the text.
     #[error("out of memory")]
     OutOfMemory,
-}
-
-impl From<AllocError> for Error {
-    ghost use Rattle.bson_scalar.specs.declared.binary.Error.TheVariants.{OutOfMemory};
-    ghost use Rattle.std.specs.Prelude.{◌≡◌};
-
-    ghost from_gives = { λ _ e. e ≡ OutOfMemory };
-
-    fn from(_refused: AllocError) -> Error {
-        Error::OutOfMemory
-    }
 }
 
 /// What a call on binaries and vectors answers.
@@ -304,5 +294,13 @@ fn group_bytes<'o>(bytes: &[u8], out: &'o mut [u8; 4]) -> &'o [u8]
     match STANDARD.encode_slice(bytes, out) {
         Ok(len) => &out[..len],
         Err(_) => unreachable!(),
+    }
+}
+
+impl From<AllocError> for Error {
+    ghost from_gives = { λ _ e. e ≡ binary_error.OutOfMemory };
+
+    fn from(_refused: AllocError) -> Error {
+        Error::OutOfMemory
     }
 }

@@ -8,6 +8,7 @@ ghost use Rattle.std.proofs.Common.{refl};
 ghost use Rattle.bson_scalar.specs.Oid.{IsObjectId, IsOidText, BadLength, bad_place, encode_lower};
 ghost use Rattle.bson_scalar.specs.Oid.{fault_at, is_hex_digit, oid_fault, oid_millis};
 ghost use Rattle.bson_scalar.specs.OidFault.{IsOidError};
+ghost use Rattle.bson_scalar.specs.declared.oid.Error.TheVariants as oid_error;
 
 use bson_datetime::DateTime;
 use hex::FromHex;
@@ -49,17 +50,6 @@ pub enum Error {
     OutOfMemory,
 }
 
-impl From<AllocError> for Error {
-    ghost use Rattle.bson_scalar.specs.declared.oid.Error.TheVariants.{OutOfMemory};
-    ghost use Rattle.std.specs.Prelude.{◌≡◌};
-
-    ghost from_gives = { λ _ e. e ≡ OutOfMemory };
-
-    fn from(_refused: AllocError) -> Error {
-        Error::OutOfMemory
-    }
-}
-
 /// What a call on object ids answers.
 pub type Result<T, E = Error> = std::result::Result<T, E>;
 
@@ -80,7 +70,7 @@ pub struct ObjectId {
 impl Model for ObjectId {
     ghost Value = { List ℕ };
 
-    ghost view = { λ a. a.bytes };
+    ghost view = { λ id. id.bytes };
 
     ghost inverse = { λ xs. record { bytes = xs } };
 }
@@ -272,5 +262,13 @@ fn digits_of(id: &ObjectId) -> [u8; 24]
     match hex::encode_to_slice(bytes.as_slice(), &mut digits) {
         Ok(()) => digits,
         Err(_) => unreachable!(),
+    }
+}
+
+impl From<AllocError> for Error {
+    ghost from_gives = { λ _ e. e ≡ oid_error.OutOfMemory };
+
+    fn from(_refused: AllocError) -> Error {
+        Error::OutOfMemory
     }
 }

@@ -29,8 +29,7 @@ impl Regex {
         ensures options { IfOk result (λ r. string_bytes r.options ≡ sorted_text options.now) }
 
         // What the options are sorted by: the same characters, none before a lower one.
-        ensures ascending {
-            (xs : List ℕ) → IsPermutation xs (ascending_numbers xs) × IsNonDecreasing (ascending_numbers xs) }
+        ensures ascending { (xs : List ℕ) → let ys = ascending_numbers xs in IsPermutation xs ys × IsNonDecreasing ys }
     {
         Ok(Regex {
             pattern: String::from_str(alloc, pattern)?,

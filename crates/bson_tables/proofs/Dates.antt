@@ -2,7 +2,8 @@
 use Rattle.std.proofs.Common.{ℤ, pos, refl, subst, rules}
 use Rattle.std.specs.Prelude.{codes, ℕ, List}
 use Rattle.jiff_core.specs.Calendar.{days_of_years, days_of_months, day_count, days_from_civil}
-use Rattle.bson_datetime.specs.Rfc3339.{named_moment, date_part, time_part, fraction_part, offset_part, hours_minutes, digits_below, after, after_letter, day_number, two_digits, four_digits}
+use Rattle.bson_datetime.specs.Rfc3339.{named_moment, date_part, time_part, fraction_part, offset_part, hours_minutes}
+use Rattle.bson_datetime.specs.Rfc3339.{digits_below, after, after_letter, day_number, two_digits, four_digits}
 use Rattle.jiff_fmt.specs.Reader.{fraction_value}
 use Rattle.bson_datetime.specs.Moment.{Civil, IsCivil, IsMoment}
 use Rattle.bson_datetime.proofs.Offered.{rfc-fields}
@@ -17,17 +18,22 @@ use Rattle.bson_model.proofs.Offered.{canon_from}
 use Rattle.serde_json.specs.Data as tree
 use Rattle.bson_tables.proofs.Shapes.{row}
 
-millis_read : Means (object_of_one (codes "$date") (tree.string (codes "1970-01-01T00:00:00.005Z"))) (model.scalar (kind.date (pos 5)))
-unfolding named_moment date_part time_part fraction_part offset_part hours_minutes digits_below after after_letter day_number two_digits four_digits fraction_value days_of_years days_of_months day_count days_from_civil
+millis_read : Means (object_of_one (codes "$date") (tree.string (codes "1970-01-01T00:00:00.005Z")))
+    (model.scalar (kind.date (pos 5)))
+unfolding named_moment date_part time_part fraction_part offset_part hours_minutes digits_below after after_letter
+    day_number two_digits four_digits fraction_value days_of_years days_of_months day_count days_from_civil
 millis_read = row _ _ refl
 
-offset_read : Means (object_of_one (codes "$date") (tree.string (codes "1970-01-01T01:00:00+01:00"))) (model.scalar (kind.date (pos 0)))
-unfolding named_moment date_part time_part fraction_part offset_part hours_minutes digits_below after after_letter day_number two_digits four_digits fraction_value days_of_years days_of_months day_count days_from_civil
+offset_read : Means (object_of_one (codes "$date") (tree.string (codes "1970-01-01T01:00:00+01:00")))
+    (model.scalar (kind.date (pos 0)))
+unfolding named_moment date_part time_part fraction_part offset_part hours_minutes digits_below after after_letter
+    day_number two_digits four_digits fraction_value days_of_years days_of_months day_count days_from_civil
 offset_read = row _ _ refl
 
 -- the relaxed form has this text
 abbrev HasText : ℤ → List ℕ → Type 0
-HasText ms s = Written Relaxed (normal_form (model.scalar (kind.date ms))) (object_of_one (codes "$date") (tree.string s))
+HasText ms s = Written Relaxed (normal_form (model.scalar (kind.date ms)))
+    (object_of_one (codes "$date") (tree.string s))
 
 first : Civil
 first = record { year = pos 1970; month = 1; day = 1; hour = 0; minute = 0; second = 0; millisecond = 0 }
@@ -38,7 +44,8 @@ first_is = search rules
 
 first_written : HasText (pos 0) (codes "1970-01-01T00:00:00Z")
 unfolding first
-first_written = subst (HasText (pos 0)) (rfc-fields (pos 0) first first_is) (canon_from Relaxed (model.scalar (kind.date (pos 0))) _ refl)
+first_written = subst (HasText (pos 0)) (rfc-fields (pos 0) first first_is)
+    (canon_from Relaxed (model.scalar (kind.date (pos 0))) _ refl)
 
 last : Civil
 last = record { year = pos 9999; month = 12; day = 31; hour = 23; minute = 59; second = 59; millisecond = 999 }
@@ -53,4 +60,5 @@ last_is = (last_exists, refl)
 
 last_written : HasText (pos 253_402_300_799_999) (codes "9999-12-31T23:59:59.999Z")
 unfolding last
-last_written = subst (HasText (pos 253_402_300_799_999)) (rfc-fields _ last last_is) (canon_from Relaxed (model.scalar (kind.date (pos 253_402_300_799_999))) _ refl)
+last_written = subst (HasText (pos 253_402_300_799_999)) (rfc-fields _ last last_is)
+    (canon_from Relaxed (model.scalar (kind.date (pos 253_402_300_799_999))) _ refl)

@@ -45,7 +45,9 @@ code_displayed = refl
 list_displayed : display_text list_of_true ≡ codes "[true]"
 list_displayed = refl
 
-two_items_displayed : display_text (model.array (model.value (model.scalar kind.null) (model.value (model.scalar kind.null) model.no_values))) ≡ codes "[null, null]"
+two_items_displayed : display_text
+    (model.array (model.value (model.scalar kind.null) (model.value (model.scalar kind.null) model.no_values)))
+    ≡ codes "[null, null]"
 two_items_displayed = refl
 
 no_list_displayed : display_text (model.array model.no_values) ≡ codes "[]"
@@ -87,15 +89,19 @@ zero_displayed : display_text (model.scalar (kind.double 0)) ≡ codes "Double(0
 unfolding digits
 zero_displayed = refl
 
-binary_displayed : display_text (model.scalar (kind.binary (UserDefined 128) (codes "hello"))) ≡ codes "Binary(0x80, aGVsbG8=)"
+binary_displayed : display_text (model.scalar (kind.binary (UserDefined 128) (codes "hello")))
+    ≡ codes "Binary(0x80, aGVsbG8=)"
 unfolding digits
 binary_displayed = refl
 
-object_id_displayed : display_text (model.scalar (kind.object_id (replicate 12 0xab))) ≡ codes "ObjectId(\"abababababababababababab\")"
+object_id_displayed : display_text (model.scalar (kind.object_id (replicate 12 0xab)))
+    ≡ codes "ObjectId(\"abababababababababababab\")"
 unfolding encode_with
 object_id_displayed = refl
 
 -- the greatest exponent, in scientific form
-greatest_exponent_displayed : display_text (model.scalar (kind.decimal (1 ∷ 0 ∷ 0 ∷ 0 ∷ 0 ∷ 0 ∷ 0 ∷ 0 ∷ 0 ∷ 0 ∷ 0 ∷ 0 ∷ 0 ∷ 0 ∷ 0xFE ∷ 0x5F ∷ []))) ≡ codes "1E+6111"
+greatest_exponent_displayed : display_text
+    (model.scalar (kind.decimal (1 ∷ 0 ∷ 0 ∷ 0 ∷ 0 ∷ 0 ∷ 0 ∷ 0 ∷ 0 ∷ 0 ∷ 0 ∷ 0 ∷ 0 ∷ 0 ∷ 0xFE ∷ 0x5F ∷ [])))
+    ≡ codes "1E+6111"
 unfolding decimal_text digits
 greatest_exponent_displayed = refl

@@ -5,16 +5,10 @@ use Rattle.serde_json.specs.Data.{Data, negative}
 use Rattle.serde_json.specs.Data as tree
 use Rattle.bson_wrapper.specs.Scalar as kind
 use Rattle.bson_wrapper.specs.Shapes.{object_of_one, object_of_two}
-use Rattle.bson_scalar.specs.Base64.{IsBase64}
-use Rattle.bson_scalar.specs.Oid.{IsOidText}
-use Rattle.bson_scalar.specs.Regex.{sorted_text}
-use Rattle.bson_scalar.specs.Subtype.{subtype_of}
-use Rattle.bson_scalar.specs.Uuid.{IsHyphenatedText}
-use Rattle.bson_scalar.specs.declared.spec.BinarySubtype.TheVariants.{Uuid}
-use Rattle.bson_datetime.specs.Grammar.{Names}
-use Rattle.bson_decimal.specs.Text.{Parses}
-use Rattle.bson_wrapper.specs.Binaries.{IsByteText}
 use Rattle.bson_wrapper.specs.Means as means
+use Rattle.bson_wrapper.specs.Means.{IsBase64, IsOidText, sorted_text, subtype_of, IsHyphenatedText, Uuid, Names}
+use Rattle.bson_wrapper.specs.Means.{Parses}
+use Rattle.bson_wrapper.specs.Means.{IsByteText}
 use Rattle.bson_model.specs.Means.{Means, scalar}
 use Rattle.bson_model.specs.Value as model
 use Rattle.bson_tables.proofs.Shapes.{whole, list_of_two, row}

@@ -7,7 +7,8 @@ use Rattle.base64.specs.Decode.{groups_error, groups_bytes, scan_steps}
 use Rattle.base64.specs.Rfc4648.{encode_symbols}
 use Rattle.hex.specs.Hex.{encode_with, decode_pairs}
 use Rattle.uuid.specs.Text.{by_index}
-use Rattle.bson_decimal.specs.Steps.{cut_at_34, raise_to_least, zeros_to_add, exponent_value, written_exponent, scaled_exponent, coefficient, stored_pair, finite}
+use Rattle.bson_decimal.specs.Steps.{cut_at_34, raise_to_least, zeros_to_add, exponent_value, written_exponent}
+use Rattle.bson_decimal.specs.Steps.{scaled_exponent, coefficient, stored_pair, finite}
 use Rattle.bson_decimal.specs.Pattern.{normal_decimal}
 use Rattle.bson_decimal.specs.Displayed.{display_text as decimal_text}
 use Rattle.bson_wrapper.specs.Reading.{decimal_of}
@@ -19,7 +20,9 @@ use Rattle.bson_model.specs.Value as model
 use Rattle.bson_model.specs.Normal.{normal_form}
 use Rattle.bson_model.specs.Written.{Written}
 use Rattle.bson_model.proofs.Offered.{canon_from}
-use Rattle.bson_scalar.specs.declared.spec.BinarySubtype.TheVariants.{Generic, Function, BinaryOld, UuidOld, Uuid, Md5, Encrypted, Column, Sensitive, Vector, Reserved, UserDefined}
+use Rattle.bson_scalar.specs.declared.spec.BinarySubtype.TheVariants.{Generic, Function, BinaryOld, UuidOld, Uuid, Md5}
+use Rattle.bson_scalar.specs.declared.spec.BinarySubtype.TheVariants.{Encrypted, Column, Sensitive, Vector, Reserved}
+use Rattle.bson_scalar.specs.declared.spec.BinarySubtype.TheVariants.{UserDefined}
 use Rattle.bson_scalar.specs.Subtype.{subtype_byte, subtype_of}
 use Rattle.serde_json.specs.Data as tree
 use Rattle.bson_tables.proofs.Shapes.{row}
@@ -28,82 +31,118 @@ use Rattle.bson_tables.proofs.Shapes.{row}
 id : List ℕ
 id = 0x53 ∷ 0xe3 ∷ 0x7d ∷ 0x08 ∷ 0x77 ∷ 0x6f ∷ 0x72 ∷ 0x4e ∷ 0x42 ∷ 0 ∷ 0 ∷ 0 ∷ []
 
-oid_read : Means (object_of_one (codes "$oid") (tree.string (codes "53e37d08776f724e42000000"))) (model.scalar (kind.object_id id))
+oid_read : Means (object_of_one (codes "$oid") (tree.string (codes "53e37d08776f724e42000000")))
+    (model.scalar (kind.object_id id))
 unfolding id decode_pairs
 oid_read = row _ _ refl
 
-upper_oid_read : Means (object_of_one (codes "$oid") (tree.string (codes "53E37D08776F724E42000000"))) (model.scalar (kind.object_id id))
+upper_oid_read : Means (object_of_one (codes "$oid") (tree.string (codes "53E37D08776F724E42000000")))
+    (model.scalar (kind.object_id id))
 unfolding id decode_pairs
 upper_oid_read = row _ _ refl
 
 oid_written : (f : Form)
-    → Written f (normal_form (model.scalar (kind.object_id id))) (object_of_one (codes "$oid") (tree.string (codes "53e37d08776f724e42000000")))
+    → Written f (normal_form (model.scalar (kind.object_id id)))
+    (object_of_one (codes "$oid") (tree.string (codes "53e37d08776f724e42000000")))
 unfolding id encode_with
 oid_written f = canon_from f (model.scalar (kind.object_id id)) _ refl
 
 -- the bytes of the word hello, which take one padding symbol
-hello_read : Means (object_of_one (codes "$binary") (object_of_two (codes "base64") (tree.string (codes "aGVsbG8=")) (codes "subType") (tree.string (codes "00")))) (model.scalar (kind.binary Generic (codes "hello")))
+hello_read : Means (object_of_one (codes "$binary")
+    (object_of_two (codes "base64") (tree.string (codes "aGVsbG8=")) (codes "subType") (tree.string (codes "00"))))
+    (model.scalar (kind.binary Generic (codes "hello")))
 unfolding groups_error groups_bytes scan_steps decode_pairs
 hello_read = row _ _ refl
 
 hello_written : (f : Form)
-    → Written f (normal_form (model.scalar (kind.binary Generic (codes "hello")))) (object_of_one (codes "$binary") (object_of_two (codes "base64") (tree.string (codes "aGVsbG8=")) (codes "subType") (tree.string (codes "00"))))
+    → Written f (normal_form (model.scalar (kind.binary Generic (codes "hello"))))
+    (object_of_one (codes "$binary")
+    (object_of_two (codes "base64") (tree.string (codes "aGVsbG8=")) (codes "subType") (tree.string (codes "00"))))
 unfolding encode_symbols encode_with
 hello_written f = canon_from f (model.scalar (kind.binary Generic (codes "hello"))) _ refl
 
 -- the bytes of the subtypes (BSON 1.1), both ways
-bytes_of_subtypes : (subtype_byte Generic ≡ 0x00) × (subtype_byte Function ≡ 0x01) × (subtype_byte BinaryOld ≡ 0x02) × (subtype_byte UuidOld ≡ 0x03) × (subtype_byte Uuid ≡ 0x04) × (subtype_byte Md5 ≡ 0x05) × (subtype_byte Encrypted ≡ 0x06) × (subtype_byte Column ≡ 0x07) × (subtype_byte Sensitive ≡ 0x08) × (subtype_byte Vector ≡ 0x09)
+bytes_of_subtypes : (subtype_byte Generic ≡ 0x00) × (subtype_byte Function ≡ 0x01) × (subtype_byte BinaryOld ≡ 0x02)
+    × (subtype_byte UuidOld ≡ 0x03) × (subtype_byte Uuid ≡ 0x04) × (subtype_byte Md5 ≡ 0x05)
+    × (subtype_byte Encrypted ≡ 0x06) × (subtype_byte Column ≡ 0x07) × (subtype_byte Sensitive ≡ 0x08)
+    × (subtype_byte Vector ≡ 0x09)
 bytes_of_subtypes = (refl, refl, refl, refl, refl, refl, refl, refl, refl, refl)
 
-subtypes_of_bytes : (subtype_of 0x00 ≡ Generic) × (subtype_of 0x01 ≡ Function) × (subtype_of 0x02 ≡ BinaryOld) × (subtype_of 0x03 ≡ UuidOld) × (subtype_of 0x04 ≡ Uuid) × (subtype_of 0x05 ≡ Md5) × (subtype_of 0x06 ≡ Encrypted) × (subtype_of 0x07 ≡ Column) × (subtype_of 0x08 ≡ Sensitive) × (subtype_of 0x09 ≡ Vector) × (subtype_of 0x0A ≡ Reserved 0x0A) × (subtype_of 0x7F ≡ Reserved 0x7F) × (subtype_of 0x80 ≡ UserDefined 0x80) × (subtype_of 0xFF ≡ UserDefined 0xFF)
+subtypes_of_bytes : (subtype_of 0x00 ≡ Generic) × (subtype_of 0x01 ≡ Function) × (subtype_of 0x02 ≡ BinaryOld)
+    × (subtype_of 0x03 ≡ UuidOld) × (subtype_of 0x04 ≡ Uuid) × (subtype_of 0x05 ≡ Md5) × (subtype_of 0x06 ≡ Encrypted)
+    × (subtype_of 0x07 ≡ Column) × (subtype_of 0x08 ≡ Sensitive) × (subtype_of 0x09 ≡ Vector)
+    × (subtype_of 0x0A ≡ Reserved 0x0A) × (subtype_of 0x7F ≡ Reserved 0x7F) × (subtype_of 0x80 ≡ UserDefined 0x80)
+    × (subtype_of 0xFF ≡ UserDefined 0xFF)
 subtypes_of_bytes = (refl, refl, refl, refl, refl, refl, refl, refl, refl, refl, refl, refl, refl, refl)
 
-user_read : Means (object_of_one (codes "$binary") (object_of_two (codes "base64") (tree.string (codes "")) (codes "subType") (tree.string (codes "80")))) (model.scalar (kind.binary (UserDefined 0x80) []))
+user_read : Means (object_of_one (codes "$binary")
+    (object_of_two (codes "base64") (tree.string (codes "")) (codes "subType") (tree.string (codes "80"))))
+    (model.scalar (kind.binary (UserDefined 0x80) []))
 unfolding groups_error groups_bytes scan_steps decode_pairs
 user_read = row _ _ refl
 
-uuid_read : Means (object_of_one (codes "$uuid") (tree.string (codes "00112233-4455-6677-8899-aabbccddeeff"))) (model.scalar (kind.binary Uuid (0x00 ∷ 0x11 ∷ 0x22 ∷ 0x33 ∷ 0x44 ∷ 0x55 ∷ 0x66 ∷ 0x77 ∷ 0x88 ∷ 0x99 ∷ 0xaa ∷ 0xbb ∷ 0xcc ∷ 0xdd ∷ 0xee ∷ 0xff ∷ [])))
+uuid_read : Means (object_of_one (codes "$uuid") (tree.string (codes "00112233-4455-6677-8899-aabbccddeeff")))
+    (model.scalar (kind.binary Uuid
+    (0x00 ∷ 0x11 ∷ 0x22 ∷ 0x33 ∷ 0x44 ∷ 0x55 ∷ 0x66 ∷ 0x77 ∷ 0x88 ∷ 0x99 ∷ 0xaa ∷ 0xbb ∷ 0xcc ∷ 0xdd ∷ 0xee ∷ 0xff
+    ∷ [])))
 unfolding by_index
 uuid_read = row _ _ refl
 
 -- 15 at the exponent -1, little-endian
-decimal_read : Means (object_of_one (codes "$numberDecimal") (tree.string (codes "1.5"))) (model.scalar (kind.decimal (0x0F ∷ 0 ∷ 0 ∷ 0 ∷ 0 ∷ 0 ∷ 0 ∷ 0 ∷ 0 ∷ 0 ∷ 0 ∷ 0 ∷ 0 ∷ 0 ∷ 0x3E ∷ 0x30 ∷ [])))
-unfolding decimal_of cut_at_34 raise_to_least zeros_to_add exponent_value written_exponent scaled_exponent coefficient stored_pair finite
+decimal_read : Means (object_of_one (codes "$numberDecimal") (tree.string (codes "1.5")))
+    (model.scalar (kind.decimal (0x0F ∷ 0 ∷ 0 ∷ 0 ∷ 0 ∷ 0 ∷ 0 ∷ 0 ∷ 0 ∷ 0 ∷ 0 ∷ 0 ∷ 0 ∷ 0 ∷ 0x3E ∷ 0x30 ∷ [])))
+unfolding decimal_of cut_at_34 raise_to_least zeros_to_add exponent_value written_exponent scaled_exponent coefficient
+    stored_pair finite
 decimal_read = row _ _ refl
 
 decimal_written : (f : Form)
-    → Written f (normal_form (model.scalar (kind.decimal (0x0F ∷ 0 ∷ 0 ∷ 0 ∷ 0 ∷ 0 ∷ 0 ∷ 0 ∷ 0 ∷ 0 ∷ 0 ∷ 0 ∷ 0 ∷ 0 ∷ 0x3E ∷ 0x30 ∷ [])))) (object_of_one (codes "$numberDecimal") (tree.string (codes "1.5")))
+    → Written f (normal_form
+    (model.scalar (kind.decimal (0x0F ∷ 0 ∷ 0 ∷ 0 ∷ 0 ∷ 0 ∷ 0 ∷ 0 ∷ 0 ∷ 0 ∷ 0 ∷ 0 ∷ 0 ∷ 0 ∷ 0x3E ∷ 0x30 ∷ []))))
+    (object_of_one (codes "$numberDecimal") (tree.string (codes "1.5")))
 unfolding normal_decimal decimal_text digits
-decimal_written f = canon_from f (model.scalar (kind.decimal (0x0F ∷ 0 ∷ 0 ∷ 0 ∷ 0 ∷ 0 ∷ 0 ∷ 0 ∷ 0 ∷ 0 ∷ 0 ∷ 0 ∷ 0 ∷ 0 ∷ 0x3E ∷ 0x30 ∷ []))) _ refl
+decimal_written f = canon_from f
+    (model.scalar (kind.decimal (0x0F ∷ 0 ∷ 0 ∷ 0 ∷ 0 ∷ 0 ∷ 0 ∷ 0 ∷ 0 ∷ 0 ∷ 0 ∷ 0 ∷ 0 ∷ 0 ∷ 0x3E ∷ 0x30 ∷ []))) _ refl
 
 -- the greatest exponent and the least one
-greatest_exponent_read : Means (object_of_one (codes "$numberDecimal") (tree.string (codes "1E+6111"))) (model.scalar (kind.decimal (1 ∷ 0 ∷ 0 ∷ 0 ∷ 0 ∷ 0 ∷ 0 ∷ 0 ∷ 0 ∷ 0 ∷ 0 ∷ 0 ∷ 0 ∷ 0 ∷ 0xFE ∷ 0x5F ∷ [])))
-unfolding decimal_of cut_at_34 raise_to_least zeros_to_add exponent_value written_exponent scaled_exponent coefficient stored_pair finite
+greatest_exponent_read : Means (object_of_one (codes "$numberDecimal") (tree.string (codes "1E+6111")))
+    (model.scalar (kind.decimal (1 ∷ 0 ∷ 0 ∷ 0 ∷ 0 ∷ 0 ∷ 0 ∷ 0 ∷ 0 ∷ 0 ∷ 0 ∷ 0 ∷ 0 ∷ 0 ∷ 0xFE ∷ 0x5F ∷ [])))
+unfolding decimal_of cut_at_34 raise_to_least zeros_to_add exponent_value written_exponent scaled_exponent coefficient
+    stored_pair finite
 greatest_exponent_read = row _ _ refl
 
-least_exponent_read : Means (object_of_one (codes "$numberDecimal") (tree.string (codes "1E-6176"))) (model.scalar (kind.decimal (1 ∷ 0 ∷ 0 ∷ 0 ∷ 0 ∷ 0 ∷ 0 ∷ 0 ∷ 0 ∷ 0 ∷ 0 ∷ 0 ∷ 0 ∷ 0 ∷ 0 ∷ 0 ∷ [])))
-unfolding decimal_of cut_at_34 raise_to_least zeros_to_add exponent_value written_exponent scaled_exponent coefficient stored_pair finite
+least_exponent_read : Means (object_of_one (codes "$numberDecimal") (tree.string (codes "1E-6176")))
+    (model.scalar (kind.decimal (1 ∷ 0 ∷ 0 ∷ 0 ∷ 0 ∷ 0 ∷ 0 ∷ 0 ∷ 0 ∷ 0 ∷ 0 ∷ 0 ∷ 0 ∷ 0 ∷ 0 ∷ 0 ∷ [])))
+unfolding decimal_of cut_at_34 raise_to_least zeros_to_add exponent_value written_exponent scaled_exponent coefficient
+    stored_pair finite
 least_exponent_read = row _ _ refl
 
-added_zero_read : Means (object_of_one (codes "$numberDecimal") (tree.string (codes "1E+6112"))) (model.scalar (kind.decimal (10 ∷ 0 ∷ 0 ∷ 0 ∷ 0 ∷ 0 ∷ 0 ∷ 0 ∷ 0 ∷ 0 ∷ 0 ∷ 0 ∷ 0 ∷ 0 ∷ 0xFE ∷ 0x5F ∷ [])))
-unfolding decimal_of cut_at_34 raise_to_least zeros_to_add exponent_value written_exponent scaled_exponent coefficient stored_pair finite
+added_zero_read : Means (object_of_one (codes "$numberDecimal") (tree.string (codes "1E+6112")))
+    (model.scalar (kind.decimal (10 ∷ 0 ∷ 0 ∷ 0 ∷ 0 ∷ 0 ∷ 0 ∷ 0 ∷ 0 ∷ 0 ∷ 0 ∷ 0 ∷ 0 ∷ 0 ∷ 0xFE ∷ 0x5F ∷ [])))
+unfolding decimal_of cut_at_34 raise_to_least zeros_to_add exponent_value written_exponent scaled_exponent coefficient
+    stored_pair finite
 added_zero_read = row _ _ refl
 
 -- the NaNs that no canonical pattern is: one with a sign, and one that signals; the normal form of both is NaN
-minus_nan_read : Means (object_of_one (codes "$numberDecimal") (tree.string (codes "-NaN"))) (model.scalar (kind.decimal (0 ∷ 0 ∷ 0 ∷ 0 ∷ 0 ∷ 0 ∷ 0 ∷ 0 ∷ 0 ∷ 0 ∷ 0 ∷ 0 ∷ 0 ∷ 0 ∷ 0 ∷ 0xFC ∷ [])))
-unfolding decimal_of cut_at_34 raise_to_least zeros_to_add exponent_value written_exponent scaled_exponent coefficient stored_pair finite
+minus_nan_read : Means (object_of_one (codes "$numberDecimal") (tree.string (codes "-NaN")))
+    (model.scalar (kind.decimal (0 ∷ 0 ∷ 0 ∷ 0 ∷ 0 ∷ 0 ∷ 0 ∷ 0 ∷ 0 ∷ 0 ∷ 0 ∷ 0 ∷ 0 ∷ 0 ∷ 0 ∷ 0xFC ∷ [])))
+unfolding decimal_of cut_at_34 raise_to_least zeros_to_add exponent_value written_exponent scaled_exponent coefficient
+    stored_pair finite
 minus_nan_read = row _ _ refl
 
-minus_nan_normal : normal_form (model.scalar (kind.decimal (0 ∷ 0 ∷ 0 ∷ 0 ∷ 0 ∷ 0 ∷ 0 ∷ 0 ∷ 0 ∷ 0 ∷ 0 ∷ 0 ∷ 0 ∷ 0 ∷ 0 ∷ 0xFC ∷ [])))
+minus_nan_normal : normal_form
+    (model.scalar (kind.decimal (0 ∷ 0 ∷ 0 ∷ 0 ∷ 0 ∷ 0 ∷ 0 ∷ 0 ∷ 0 ∷ 0 ∷ 0 ∷ 0 ∷ 0 ∷ 0 ∷ 0 ∷ 0xFC ∷ [])))
     ≡ model.scalar (kind.decimal (0 ∷ 0 ∷ 0 ∷ 0 ∷ 0 ∷ 0 ∷ 0 ∷ 0 ∷ 0 ∷ 0 ∷ 0 ∷ 0 ∷ 0 ∷ 0 ∷ 0 ∷ 0x7C ∷ []))
 unfolding normal_decimal
 minus_nan_normal = refl
 
-signalling_nan_read : Means (object_of_one (codes "$numberDecimal") (tree.string (codes "sNaN"))) (model.scalar (kind.decimal (0 ∷ 0 ∷ 0 ∷ 0 ∷ 0 ∷ 0 ∷ 0 ∷ 0 ∷ 0 ∷ 0 ∷ 0 ∷ 0 ∷ 0 ∷ 0 ∷ 0 ∷ 0x7E ∷ [])))
-unfolding decimal_of cut_at_34 raise_to_least zeros_to_add exponent_value written_exponent scaled_exponent coefficient stored_pair finite
+signalling_nan_read : Means (object_of_one (codes "$numberDecimal") (tree.string (codes "sNaN")))
+    (model.scalar (kind.decimal (0 ∷ 0 ∷ 0 ∷ 0 ∷ 0 ∷ 0 ∷ 0 ∷ 0 ∷ 0 ∷ 0 ∷ 0 ∷ 0 ∷ 0 ∷ 0 ∷ 0 ∷ 0x7E ∷ [])))
+unfolding decimal_of cut_at_34 raise_to_least zeros_to_add exponent_value written_exponent scaled_exponent coefficient
+    stored_pair finite
 signalling_nan_read = row _ _ refl
 
-signalling_nan_normal : normal_form (model.scalar (kind.decimal (0 ∷ 0 ∷ 0 ∷ 0 ∷ 0 ∷ 0 ∷ 0 ∷ 0 ∷ 0 ∷ 0 ∷ 0 ∷ 0 ∷ 0 ∷ 0 ∷ 0 ∷ 0x7E ∷ [])))
+signalling_nan_normal : normal_form
+    (model.scalar (kind.decimal (0 ∷ 0 ∷ 0 ∷ 0 ∷ 0 ∷ 0 ∷ 0 ∷ 0 ∷ 0 ∷ 0 ∷ 0 ∷ 0 ∷ 0 ∷ 0 ∷ 0 ∷ 0x7E ∷ [])))
     ≡ model.scalar (kind.decimal (0 ∷ 0 ∷ 0 ∷ 0 ∷ 0 ∷ 0 ∷ 0 ∷ 0 ∷ 0 ∷ 0 ∷ 0 ∷ 0 ∷ 0 ∷ 0 ∷ 0 ∷ 0x7C ∷ []))
 unfolding normal_decimal
 signalling_nan_normal = refl

@@ -29,13 +29,16 @@ boolean_tree f = canon_from f (model.scalar (kind.boolean true)) _ refl
 string_tree : (f : Form) → Written f (normal_form (model.scalar (kind.text (codes "a")))) (tree.string (codes "a"))
 string_tree f = canon_from f (model.scalar (kind.text (codes "a"))) _ refl
 
-undefined_tree : (f : Form) → Written f (normal_form (model.scalar kind.undefined)) (object_of_one (codes "$undefined") (tree.boolean true))
+undefined_tree : (f : Form)
+    → Written f (normal_form (model.scalar kind.undefined)) (object_of_one (codes "$undefined") (tree.boolean true))
 undefined_tree f = canon_from f (model.scalar kind.undefined) _ refl
 
-min_key_tree : (f : Form) → Written f (normal_form (model.scalar kind.min_key)) (object_of_one (codes "$minKey") (whole 1))
+min_key_tree : (f : Form)
+    → Written f (normal_form (model.scalar kind.min_key)) (object_of_one (codes "$minKey") (whole 1))
 min_key_tree f = canon_from f (model.scalar kind.min_key) _ refl
 
-max_key_tree : (f : Form) → Written f (normal_form (model.scalar kind.max_key)) (object_of_one (codes "$maxKey") (whole 1))
+max_key_tree : (f : Form)
+    → Written f (normal_form (model.scalar kind.max_key)) (object_of_one (codes "$maxKey") (whole 1))
 max_key_tree f = canon_from f (model.scalar kind.max_key) _ refl
 
 int32_relaxed : Written Relaxed (normal_form (model.scalar (kind.int32 (pos 7)))) (whole 7)
@@ -44,77 +47,136 @@ int32_relaxed = canon_from Relaxed (model.scalar (kind.int32 (pos 7))) _ refl
 int64_relaxed : Written Relaxed (normal_form (model.scalar (kind.int64 (negsuc 6)))) (tree.number (negative (negsuc 6)))
 int64_relaxed = canon_from Relaxed (model.scalar (kind.int64 (negsuc 6))) _ refl
 
-double_zero : (f : Form) → Written f (normal_form (model.scalar (kind.double 0))) (object_of_one (codes "$numberDouble") (tree.string (codes "0.0")))
+double_zero : (f : Form)
+    → Written f (normal_form (model.scalar (kind.double 0)))
+    (object_of_one (codes "$numberDouble") (tree.string (codes "0.0")))
 double_zero f = canon_from f (model.scalar (kind.double 0)) _ refl
 
-double_minus_zero : (f : Form) → Written f (normal_form (model.scalar (kind.double 0x8000000000000000))) (object_of_one (codes "$numberDouble") (tree.string (codes "-0.0")))
+double_minus_zero : (f : Form)
+    → Written f (normal_form (model.scalar (kind.double 0x8000000000000000)))
+    (object_of_one (codes "$numberDouble") (tree.string (codes "-0.0")))
 double_minus_zero f = canon_from f (model.scalar (kind.double 0x8000000000000000)) _ refl
 
-double_infinity : (f : Form) → Written f (normal_form (model.scalar (kind.double 0x7FF0000000000000))) (object_of_one (codes "$numberDouble") (tree.string (codes "Infinity")))
+double_infinity : (f : Form)
+    → Written f (normal_form (model.scalar (kind.double 0x7FF0000000000000)))
+    (object_of_one (codes "$numberDouble") (tree.string (codes "Infinity")))
 double_infinity f = canon_from f (model.scalar (kind.double 0x7FF0000000000000)) _ refl
 
-double_nan : (f : Form) → Written f (normal_form (model.scalar (kind.double 0x7FF8000000000001))) (object_of_one (codes "$numberDouble") (tree.string (codes "NaN")))
+double_nan : (f : Form) → Written f (normal_form (model.scalar (kind.double 0x7FF8000000000001)))
+    (object_of_one (codes "$numberDouble") (tree.string (codes "NaN")))
 double_nan f = canon_from f (model.scalar (kind.double 0x7FF8000000000001)) _ refl
 
-double_minus_nan : (f : Form) → Written f (normal_form (model.scalar (kind.double 0xFFF0000000000001))) (object_of_one (codes "$numberDouble") (tree.string (codes "-NaN")))
+double_minus_nan : (f : Form)
+    → Written f (normal_form (model.scalar (kind.double 0xFFF0000000000001)))
+    (object_of_one (codes "$numberDouble") (tree.string (codes "-NaN")))
 double_minus_nan f = canon_from f (model.scalar (kind.double 0xFFF0000000000001)) _ refl
 
-symbol_tree : (f : Form) → Written f (normal_form (model.scalar (kind.symbol (codes "s")))) (object_of_one (codes "$symbol") (tree.string (codes "s")))
+symbol_tree : (f : Form)
+    → Written f (normal_form (model.scalar (kind.symbol (codes "s"))))
+    (object_of_one (codes "$symbol") (tree.string (codes "s")))
 symbol_tree f = canon_from f (model.scalar (kind.symbol (codes "s"))) _ refl
 
-code_tree : (f : Form) → Written f (normal_form (model.scalar (kind.code (codes "s")))) (object_of_one (codes "$code") (tree.string (codes "s")))
+code_tree : (f : Form) → Written f (normal_form (model.scalar (kind.code (codes "s"))))
+    (object_of_one (codes "$code") (tree.string (codes "s")))
 code_tree f = canon_from f (model.scalar (kind.code (codes "s"))) _ refl
 
-timestamp_tree : (f : Form) → Written f (normal_form (model.scalar (kind.timestamp 1 2))) (object_of_one (codes "$timestamp") (object_of_two (codes "i") (whole 2) (codes "t") (whole 1)))
+timestamp_tree : (f : Form)
+    → Written f (normal_form (model.scalar (kind.timestamp 1 2)))
+    (object_of_one (codes "$timestamp") (object_of_two (codes "i") (whole 2) (codes "t") (whole 1)))
 timestamp_tree f = canon_from f (model.scalar (kind.timestamp 1 2)) _ refl
 
-code_scope_tree : (f : Form) → Written f (normal_form (model.code_scope (codes "s") model.no_pairs)) (object_of_two (codes "$code") (tree.string (codes "s")) (codes "$scope") (tree.object tree.no_members))
+code_scope_tree : (f : Form)
+    → Written f (normal_form (model.code_scope (codes "s") model.no_pairs))
+    (object_of_two (codes "$code") (tree.string (codes "s")) (codes "$scope") (tree.object tree.no_members))
 code_scope_tree f = canon_from f (model.code_scope (codes "s") model.no_pairs) _ refl
 
-document_tree : (f : Form) → Written f (normal_form (model.document (model.pair (codes "b") (model.scalar kind.null) (model.pair (codes "a") (model.scalar (kind.boolean true)) model.no_pairs)))) (object_of_two (codes "a") (tree.boolean true) (codes "b") tree.null)
-document_tree f = canon_from f (model.document (model.pair (codes "b") (model.scalar kind.null) (model.pair (codes "a") (model.scalar (kind.boolean true)) model.no_pairs))) _ refl
+document_tree : (f : Form)
+    → Written f (normal_form
+    (model.document (model.pair (codes "b") (model.scalar kind.null)
+    (model.pair (codes "a") (model.scalar (kind.boolean true)) model.no_pairs))))
+    (object_of_two (codes "a") (tree.boolean true) (codes "b") tree.null)
+document_tree f = canon_from f
+    (model.document (model.pair (codes "b") (model.scalar kind.null)
+    (model.pair (codes "a") (model.scalar (kind.boolean true)) model.no_pairs))) _ refl
 
 -- the keys ascend by their bytes, not by their lengths
-bytes_of_keys_tree : (f : Form) → Written f (normal_form (model.document (model.pair (codes "b") (model.scalar kind.null) (model.pair (codes "aa") (model.scalar (kind.boolean true)) model.no_pairs)))) (object_of_two (codes "aa") (tree.boolean true) (codes "b") tree.null)
-bytes_of_keys_tree f = canon_from f (model.document (model.pair (codes "b") (model.scalar kind.null) (model.pair (codes "aa") (model.scalar (kind.boolean true)) model.no_pairs))) _ refl
+bytes_of_keys_tree : (f : Form)
+    → Written f (normal_form
+    (model.document (model.pair (codes "b") (model.scalar kind.null)
+    (model.pair (codes "aa") (model.scalar (kind.boolean true)) model.no_pairs))))
+    (object_of_two (codes "aa") (tree.boolean true) (codes "b") tree.null)
+bytes_of_keys_tree f = canon_from f
+    (model.document (model.pair (codes "b") (model.scalar kind.null)
+    (model.pair (codes "aa") (model.scalar (kind.boolean true)) model.no_pairs))) _ refl
 
-array_tree : (f : Form) → Written f (normal_form (model.array (model.value (model.scalar kind.null) (model.value (model.scalar (kind.boolean true)) model.no_values)))) (list_of_two tree.null (tree.boolean true))
-array_tree f = canon_from f (model.array (model.value (model.scalar kind.null) (model.value (model.scalar (kind.boolean true)) model.no_values))) _ refl
+array_tree : (f : Form) → Written f
+    (normal_form (model.array
+    (model.value (model.scalar kind.null) (model.value (model.scalar (kind.boolean true)) model.no_values))))
+    (list_of_two tree.null (tree.boolean true))
+array_tree f = canon_from f
+    (model.array (model.value (model.scalar kind.null)
+    (model.value (model.scalar (kind.boolean true)) model.no_values))) _ refl
 
 -- the rows of texts that other standards say
 
-int32_canonical : (z : ℤ) → Written Canonical (normal_form (model.scalar (kind.int32 z))) (object_of_one (codes "$numberInt") (tree.string (signed_decimal z)))
+int32_canonical : (z : ℤ)
+    → Written Canonical (normal_form (model.scalar (kind.int32 z)))
+    (object_of_one (codes "$numberInt") (tree.string (signed_decimal z)))
 int32_canonical z = canon_from Canonical (model.scalar (kind.int32 z)) _ refl
 
-int64_canonical : (z : ℤ) → Written Canonical (normal_form (model.scalar (kind.int64 z))) (object_of_one (codes "$numberLong") (tree.string (signed_decimal z)))
+int64_canonical : (z : ℤ)
+    → Written Canonical (normal_form (model.scalar (kind.int64 z)))
+    (object_of_one (codes "$numberLong") (tree.string (signed_decimal z)))
 int64_canonical z = canon_from Canonical (model.scalar (kind.int64 z)) _ refl
 
-oid_tree : (f : Form) (id : List ℕ) → Written f (normal_form (model.scalar (kind.object_id id))) (object_of_one (codes "$oid") (tree.string (encode_lower id)))
+oid_tree : (f : Form) (id : List ℕ)
+    → Written f (normal_form (model.scalar (kind.object_id id)))
+    (object_of_one (codes "$oid") (tree.string (encode_lower id)))
 oid_tree f id = canon_from f (model.scalar (kind.object_id id)) _ refl
 
-db_pointer_tree : (f : Form) (n id : List ℕ) → Written f (normal_form (model.scalar (kind.db_pointer n id))) (object_of_one (codes "$dbPointer") (object_of_two (codes "$id") (object_of_one (codes "$oid") (tree.string (encode_lower id))) (codes "$ref") (tree.string n)))
+db_pointer_tree : (f : Form) (n id : List ℕ)
+    → Written f (normal_form (model.scalar (kind.db_pointer n id)))
+    (object_of_one (codes "$dbPointer")
+    (object_of_two (codes "$id") (object_of_one (codes "$oid") (tree.string (encode_lower id))) (codes "$ref")
+    (tree.string n)))
 db_pointer_tree f n id = canon_from f (model.scalar (kind.db_pointer n id)) _ refl
 
-regex_tree : (f : Form) (p o : List ℕ) → Written f (normal_form (model.scalar (kind.regex p o))) (object_of_one (codes "$regularExpression") (object_of_two (codes "options") (tree.string (sorted_text o)) (codes "pattern") (tree.string p)))
+regex_tree : (f : Form) (p o : List ℕ)
+    → Written f (normal_form (model.scalar (kind.regex p o)))
+    (object_of_one (codes "$regularExpression")
+    (object_of_two (codes "options") (tree.string (sorted_text o)) (codes "pattern") (tree.string p)))
 regex_tree f p o = canon_from f (model.scalar (kind.regex p o)) _ refl
 
-binary_tree : (f : Form) (bytes : List ℕ) → Written f (normal_form (model.scalar (kind.binary Generic bytes))) (object_of_one (codes "$binary") (object_of_two (codes "base64") (tree.string (padded_text bytes)) (codes "subType") (tree.string (encode_lower (0 ∷ [])))))
+binary_tree : (f : Form) (bytes : List ℕ)
+    → Written f (normal_form (model.scalar (kind.binary Generic bytes)))
+    (object_of_one (codes "$binary")
+    (object_of_two (codes "base64") (tree.string (padded_text bytes)) (codes "subType")
+    (tree.string (encode_lower (0 ∷ [])))))
 binary_tree f bytes = canon_from f (model.scalar (kind.binary Generic bytes)) _ refl
 
-decimal_tree : (f : Form) (b : List ℕ) → Written f (normal_form (model.scalar (kind.decimal b))) (object_of_one (codes "$numberDecimal") (tree.string (decimal_text b)))
+decimal_tree : (f : Form) (b : List ℕ)
+    → Written f (normal_form (model.scalar (kind.decimal b)))
+    (object_of_one (codes "$numberDecimal") (tree.string (decimal_text b)))
 decimal_tree f b = canon_from f (model.scalar (kind.decimal b)) _ refl
 
-date_canonical : (z : ℤ) → Written Canonical (normal_form (model.scalar (kind.date z))) (object_of_one (codes "$date") (object_of_one (codes "$numberLong") (tree.string (signed_decimal z))))
+date_canonical : (z : ℤ)
+    → Written Canonical (normal_form (model.scalar (kind.date z)))
+    (object_of_one (codes "$date") (object_of_one (codes "$numberLong") (tree.string (signed_decimal z))))
 date_canonical z = canon_from Canonical (model.scalar (kind.date z)) _ refl
 
-first_date_relaxed : Written Relaxed (normal_form (model.scalar (kind.date (pos 0)))) (object_of_one (codes "$date") (tree.string (rfc (pos 0))))
+first_date_relaxed : Written Relaxed (normal_form (model.scalar (kind.date (pos 0))))
+    (object_of_one (codes "$date") (tree.string (rfc (pos 0))))
 first_date_relaxed = canon_from Relaxed (model.scalar (kind.date (pos 0))) _ refl
 
-last_date_relaxed : Written Relaxed (normal_form (model.scalar (kind.date (pos 253_402_300_799_999)))) (object_of_one (codes "$date") (tree.string (rfc (pos 253_402_300_799_999))))
+last_date_relaxed : Written Relaxed (normal_form (model.scalar (kind.date (pos 253_402_300_799_999))))
+    (object_of_one (codes "$date") (tree.string (rfc (pos 253_402_300_799_999))))
 last_date_relaxed = canon_from Relaxed (model.scalar (kind.date (pos 253_402_300_799_999))) _ refl
 
-later_date_relaxed : Written Relaxed (normal_form (model.scalar (kind.date (pos 253_402_300_800_000)))) (object_of_one (codes "$date") (object_of_one (codes "$numberLong") (tree.string (signed_decimal (pos 253_402_300_800_000)))))
+later_date_relaxed : Written Relaxed (normal_form (model.scalar (kind.date (pos 253_402_300_800_000))))
+    (object_of_one (codes "$date")
+    (object_of_one (codes "$numberLong") (tree.string (signed_decimal (pos 253_402_300_800_000)))))
 later_date_relaxed = canon_from Relaxed (model.scalar (kind.date (pos 253_402_300_800_000))) _ refl
 
-earlier_date_relaxed : Written Relaxed (normal_form (model.scalar (kind.date (negsuc 0)))) (object_of_one (codes "$date") (object_of_one (codes "$numberLong") (tree.string (signed_decimal (negsuc 0)))))
+earlier_date_relaxed : Written Relaxed (normal_form (model.scalar (kind.date (negsuc 0))))
+    (object_of_one (codes "$date") (object_of_one (codes "$numberLong") (tree.string (signed_decimal (negsuc 0)))))
 earlier_date_relaxed = canon_from Relaxed (model.scalar (kind.date (negsuc 0))) _ refl

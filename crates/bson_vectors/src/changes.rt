@@ -1,18 +1,11 @@
 //! Values that are written in their place: what a closure makes of them, and that a call which
 //! finds nothing to write leaves the whole document as it was.
+use crate::given::{filled, put};
 use bson::document::ValueAccessError;
 use bson::{Bson, Document};
 use std::alloc::{AllocError, Global};
 use std::process::Abort;
 use std::test::Fail;
-
-/// Puts the value, and lets the pair go where there is no memory for it.
-fn put(document: &mut Document, alloc: Global, key: &str, value: Bson) -> Result<(), AllocError> {
-    match document.insert(String::from_str(alloc, key)?, value) {
-        Ok(_) => Ok(()),
-        Err(_) => Err(AllocError),
-    }
-}
 
 /// Each key of one letter in the text, with 1, 2 and so on.
 fn lettered(alloc: Global, keys: &str) -> Result<Document, AllocError> {
@@ -22,20 +15,17 @@ fn lettered(alloc: Global, keys: &str) -> Result<Document, AllocError> {
         number = number.wrapping_add(1);
         let mut key = String::new(alloc);
         key.push(letter)?;
-        if document.insert(key, Bson::Int32(number)).is_err() {
-            return Err(AllocError);
-        }
+        put(&mut document, key, Bson::Int32(number))?;
     }
     Ok(document)
 }
 
 /// `b` with 1, `inner` with the lettered document of `keys`, and `a` with 3.
 fn nested(alloc: Global, keys: &str) -> Result<Document, AllocError> {
-    let mut document = Document::new(alloc);
-    put(&mut document, alloc, "b", Bson::Int32(1))?;
+    let mut document = filled(alloc, &[("b", 1)])?;
     let inner = Bson::Document(lettered(alloc, keys)?);
-    put(&mut document, alloc, "inner", inner)?;
-    put(&mut document, alloc, "a", Bson::Int32(3))?;
+    put(&mut document, String::from_str(alloc, "inner")?, inner)?;
+    put(&mut document, String::from_str(alloc, "a")?, Bson::Int32(3))?;
     Ok(document)
 }
 

@@ -1,6 +1,7 @@
 //! Documents from call to call, and what a refused request for memory leaves of them.
 ghost use Rattle.std.specs.Prelude.{◌<◌, length, IfSome};
 
+use crate::given::{filled, put};
 use bson::document::Refused;
 use bson::{Bson, Document, JavaScriptCodeWithScope};
 use std::alloc::{AllocError, Global};
@@ -43,22 +44,6 @@ fn follows(document: &Document, value: i32, others: &[(String, i32)]) -> bool {
         }
     }
     left.next().is_none() && document.len() == others.len() + 1
-}
-
-/// Puts a number, and lets the pair go where there is no memory for it.
-fn put(document: &mut Document, key: String, value: i32) -> Result<(), AllocError> {
-    match document.insert(key, Bson::Int32(value)) {
-        Ok(_) => Ok(()),
-        Err(_) => Err(AllocError),
-    }
-}
-
-fn filled(alloc: Global, pairs: &[(&str, i32)]) -> Result<Document, AllocError> {
-    let mut document = Document::new(alloc);
-    for &(key, value) in pairs {
-        put(&mut document, String::from_str(alloc, key)?, value)?;
-    }
-    Ok(document)
 }
 
 /// k1 to k40 with their numbers.
@@ -340,7 +325,7 @@ fn what_a_getter_lends_is_written(rt: HostRuntime) -> Result<(), Fail> {
     let inner = Bson::Document(Document::new(alloc));
     let _ = document.insert(String::from_str(alloc, "b")?, inner);
     if let Ok(inner) = document.get_document_mut("b") {
-        put(inner, String::from_str(alloc, "c")?, 3)?;
+        put(inner, String::from_str(alloc, "c")?, Bson::Int32(3))?;
     }
     if let Ok(number) = document.get_i32_mut("a") {
         *number = 2;

@@ -14,6 +14,8 @@ mod chosen_keys;
 #[cfg(test)]
 mod documents;
 #[cfg(test)]
+mod given;
+#[cfg(test)]
 mod stores;
 #[cfg(test)]
 mod values;

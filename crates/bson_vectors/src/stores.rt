@@ -22,19 +22,13 @@ const PAIRS: [(&str, u32); 12] = [
 
 /// Whether the store holds exactly these pairs in this order, and finds each key at its place.
 fn holds<S: PairStore<u32>>(store: &S, pairs: &[(&str, u32)]) -> bool {
-    if store.len() != pairs.len() {
-        return false;
-    }
-    for i in 0..store.len() {
+    let mut same = store.len() == pairs.len();
+    for i in 0..store.len().min(pairs.len()) {
         let (key, value) = pairs[i];
-        if store.key_at(i).as_str() != key || *store.value_at(i) != value {
-            return false;
-        }
-        if store.find(key) != Some(i) {
-            return false;
-        }
+        same = same && store.key_at(i).as_str() == key && *store.value_at(i) == value;
+        same = same && store.find(key) == Some(i);
     }
-    true
+    same
 }
 
 fn fill<S: PairStore<u32>>(

@@ -1,4 +1,5 @@
 //! Equality and hashing by a real hasher, whatever the order of keys.
+use crate::given::filled;
 use bson::{Bson, Document};
 use std::alloc::{AllocError, Global};
 use std::collections::HashMap;
@@ -13,21 +14,11 @@ fn hashed(value: &Bson) -> u64 {
 
 /// {x: 1, y: 2}, or with its keys turned.
 fn numbers(alloc: Global, turned: bool) -> Result<Document, AllocError> {
-    let pairs = if turned {
-        [("y", 2), ("x", 1)]
+    if turned {
+        filled(alloc, &[("y", 2), ("x", 1)])
     } else {
-        [("x", 1), ("y", 2)]
-    };
-    let mut document = Document::new(alloc);
-    for (key, value) in pairs {
-        if document
-            .insert(String::from_str(alloc, key)?, Bson::Int32(value))
-            .is_err()
-        {
-            return Err(AllocError);
-        }
+        filled(alloc, &[("x", 1), ("y", 2)])
     }
-    Ok(document)
 }
 
 /// [{x: 1, y: 2}], or with its keys turned.

@@ -1,5 +1,6 @@
 -- `$binary` and `$uuid`.
-use Rattle.std.proofs.Common.{◌≡◌, ◌<◌, ℕ, List, [], ◌∷◌, zero, suc, Bool, true, false, nat_eq, nat_lt, Option, Some, None, Result, Ok, Err, refl, sym, ap, ◌∙◌, arith}
+use Rattle.std.proofs.Common.{◌≡◌, ◌<◌, ℕ, List, [], ◌∷◌, zero, suc, Bool, true, false, nat_eq, nat_lt, Option, Some}
+use Rattle.std.proofs.Common.{None, Result, Ok, Err, refl, sym, ap, ◌∙◌, arith}
 use Rattle.std.proofs.lemmas.Bool.{eqb-true}
 use Rattle.std.proofs.lemmas.Slice.Eq.{bytes_eq-Decides}
 use Rattle.std.specs.Prelude.{codes}
@@ -19,7 +20,8 @@ use Rattle.bson_wrapper.specs.Means.{MeansScalar, binary, uuid}
 use Rattle.bson_wrapper.specs.Reading.{binary_read, uuid_read, byte_of, bytes_of, bytes_with, only_byte}
 use Rattle.bson_wrapper.specs.Scalar.{Scalar}
 use Rattle.bson_wrapper.specs.Shapes.{object_of_one}
-use Rattle.bson_wrapper.proofs.InverseLemmas.{if_some, key_is, means_by, un_ok, un_some, some_then, text_then, two_then, two_same}
+use Rattle.bson_wrapper.proofs.InverseLemmas.{if_some, key_is, means_by, un_ok, un_some, some_then, text_then, two_then}
+use Rattle.bson_wrapper.proofs.InverseLemmas.{two_same}
 
 byte_is : (r : Result (List ℕ) FromHexError) (n : ℕ) → only_byte r ≡ Some n → r ≡ Ok (n ∷ [])
 byte_is (Ok []) n h = cc
@@ -65,15 +67,24 @@ subtype_at : (a b c d e f g h i j k : Bool) (n : ℕ) → nat_eq n 0 ≡ a → n
 subtype_at true b c d e f g h i j k n p0 p1 p2 p3 p4 p5 p6 p7 p8 p9 q = rw p0 (sym (eqb-true n _ p0))
 subtype_at false true c d e f g h i j k n p0 p1 p2 p3 p4 p5 p6 p7 p8 p9 q = rw (p0, p1) (sym (eqb-true n _ p1))
 subtype_at false false true d e f g h i j k n p0 p1 p2 p3 p4 p5 p6 p7 p8 p9 q = rw (p0, p1, p2) (sym (eqb-true n _ p2))
-subtype_at false false false true e f g h i j k n p0 p1 p2 p3 p4 p5 p6 p7 p8 p9 q = rw (p0, p1, p2, p3) (sym (eqb-true n _ p3))
-subtype_at false false false false true f g h i j k n p0 p1 p2 p3 p4 p5 p6 p7 p8 p9 q = rw (p0, p1, p2, p3, p4) (sym (eqb-true n _ p4))
-subtype_at false false false false false true g h i j k n p0 p1 p2 p3 p4 p5 p6 p7 p8 p9 q = rw (p0, p1, p2, p3, p4, p5) (sym (eqb-true n _ p5))
-subtype_at false false false false false false true h i j k n p0 p1 p2 p3 p4 p5 p6 p7 p8 p9 q = rw (p0, p1, p2, p3, p4, p5, p6) (sym (eqb-true n _ p6))
-subtype_at false false false false false false false true i j k n p0 p1 p2 p3 p4 p5 p6 p7 p8 p9 q = rw (p0, p1, p2, p3, p4, p5, p6, p7) (sym (eqb-true n _ p7))
-subtype_at false false false false false false false false true j k n p0 p1 p2 p3 p4 p5 p6 p7 p8 p9 q = rw (p0, p1, p2, p3, p4, p5, p6, p7, p8) (sym (eqb-true n _ p8))
-subtype_at false false false false false false false false false true k n p0 p1 p2 p3 p4 p5 p6 p7 p8 p9 q = rw (p0, p1, p2, p3, p4, p5, p6, p7, p8, p9) (sym (eqb-true n _ p9))
-subtype_at false false false false false false false false false false true n p0 p1 p2 p3 p4 p5 p6 p7 p8 p9 q = rw (p0, p1, p2, p3, p4, p5, p6, p7, p8, p9, q) refl
-subtype_at false false false false false false false false false false false n p0 p1 p2 p3 p4 p5 p6 p7 p8 p9 q = rw (p0, p1, p2, p3, p4, p5, p6, p7, p8, p9, q) refl
+subtype_at false false false true e f g h i j k n p0 p1 p2 p3 p4 p5 p6 p7 p8 p9 q =
+    rw (p0, p1, p2, p3) (sym (eqb-true n _ p3))
+subtype_at false false false false true f g h i j k n p0 p1 p2 p3 p4 p5 p6 p7 p8 p9 q =
+    rw (p0, p1, p2, p3, p4) (sym (eqb-true n _ p4))
+subtype_at false false false false false true g h i j k n p0 p1 p2 p3 p4 p5 p6 p7 p8 p9 q =
+    rw (p0, p1, p2, p3, p4, p5) (sym (eqb-true n _ p5))
+subtype_at false false false false false false true h i j k n p0 p1 p2 p3 p4 p5 p6 p7 p8 p9 q =
+    rw (p0, p1, p2, p3, p4, p5, p6) (sym (eqb-true n _ p6))
+subtype_at false false false false false false false true i j k n p0 p1 p2 p3 p4 p5 p6 p7 p8 p9 q =
+    rw (p0, p1, p2, p3, p4, p5, p6, p7) (sym (eqb-true n _ p7))
+subtype_at false false false false false false false false true j k n p0 p1 p2 p3 p4 p5 p6 p7 p8 p9 q =
+    rw (p0, p1, p2, p3, p4, p5, p6, p7, p8) (sym (eqb-true n _ p8))
+subtype_at false false false false false false false false false true k n p0 p1 p2 p3 p4 p5 p6 p7 p8 p9 q =
+    rw (p0, p1, p2, p3, p4, p5, p6, p7, p8, p9) (sym (eqb-true n _ p9))
+subtype_at false false false false false false false false false false true n p0 p1 p2 p3 p4 p5 p6 p7 p8 p9 q =
+    rw (p0, p1, p2, p3, p4, p5, p6, p7, p8, p9, q) refl
+subtype_at false false false false false false false false false false false n p0 p1 p2 p3 p4 p5 p6 p7 p8 p9 q =
+    rw (p0, p1, p2, p3, p4, p5, p6, p7, p8, p9, q) refl
 
 -- byte to subtype to byte changes nothing
 pub subtype_byte-of : (n : ℕ) → subtype_byte (subtype_of n) ≡ n

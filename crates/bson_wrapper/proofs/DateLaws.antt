@@ -26,13 +26,17 @@ millis_from (tree.array ds) z h = cc
 millis_from (tree.object ms) z h =
     let a = lone_then (codes "$numberLong") (tree.object ms) _ z h in
     let t = text_then a.0 _ z a.2 in
-    means_by (codes "$date") (tree.object ms) _ (date z) _ (a.1 ∙ ap (λ e. object_of_one (codes "$numberLong") e) t.1) refl (date_of_millis t.0 z (int_of_from w64 t.0 z (or_bad_ok _ z t.2)))
+    means_by (codes "$date") (tree.object ms) _ (date z) _
+    (a.1 ∙ ap (λ e. object_of_one (codes "$numberLong") e) t.1) refl
+    (date_of_millis t.0 z (int_of_from w64 t.0 z (or_bad_ok _ z t.2)))
 
 pub date_from : (d : Data) (x : Scalar) → date_read d ≡ Ok x → MeansScalar (object_of_one (codes "$date") d) x
-date_from d x h = let t = then_ok (millis_of d) _ x h in means_by (codes "$date") d d x _ refl (un_ok _ _ t.2) (millis_from d t.0 t.1)
+date_from d x h = let t = then_ok (millis_of d) _ x h in
+    means_by (codes "$date") d d x _ refl (un_ok _ _ t.2) (millis_from d t.0 t.1)
 
 recent_in_years : (z : ℤ) → is_recent z ≡ true → IsRfcMillis z
-recent_in_years z h = let p = and_parts (int_le (pos 0) z) (int_le z (pos 253_402_300_799_999)) h in grind (arith, signed_arith, nat_tests, p.0, p.1)
+recent_in_years z h = let p = and_parts (int_le (pos 0) z) (int_le z (pos 253_402_300_799_999)) h in
+    grind (arith, signed_arith, nat_tests, p.0, p.1)
 
 pub recent_denoted : (z : ℤ) → is_recent z ≡ true → named_moment (rfc z) ≡ Some z
 recent_denoted z h = named_moment-rfc z (recent_in_years z h)

@@ -1,5 +1,6 @@
 -- The decimal of a text, as a function.
-use Rattle.std.proofs.Common.{◌≡◌, ℕ, ◌*◌, ◌^◌, List, Bool, true, false, cond, Option, Some, None, Result, Ok, Err, refl, sym, ap, subst}
+use Rattle.std.proofs.Common.{◌≡◌, ℕ, ◌*◌, ◌^◌, List, Bool, true, false, cond, Option, Some, None, Result, Ok, Err}
+use Rattle.std.proofs.Common.{refl, sym, ap, subst}
 use Rattle.std.specs.Prelude.{option_map, codes}
 use Rattle.std.specs.Result.{result_ok}
 use Rattle.std.specs.Int.{w128, to_le_bytes}
@@ -12,7 +13,8 @@ use Rattle.bson_decimal.specs.Pattern.{first_form, normal_decimal}
 use Rattle.bson_decimal.specs.Displayed.{display_text as decimal_text}
 use Rattle.bson_decimal.specs.Steps.{finite}
 use Rattle.bson_decimal.specs.Text.{Parses, SpecialWord, nan, snan, infinity, inf, lowercase}
-use Rattle.bson_decimal.proofs.Offered.{special-parses, finite-parses, refused-parses, display_text-parses, display_text-same, display_text-canon}
+use Rattle.bson_decimal.proofs.Offered.{special-parses, finite-parses, refused-parses, display_text-parses}
+use Rattle.bson_decimal.proofs.Offered.{display_text-same, display_text-canon}
 use Rattle.serde_json.specs.Data.{Data}
 use Rattle.bson_wrapper.specs.Means.{MeansScalar, number_decimal}
 use Rattle.bson_wrapper.specs.Reading.{word_of, decimal_at, decimal_of, decimal_read}
@@ -42,7 +44,8 @@ no_word w a b c d n (inf e) = let h = rw e at d in cc
 word_is-at : (w : List ℕ) (a b c d : Bool) → bytes_eq (lowercase w) (codes "nan") ≡ a
     → bytes_eq (lowercase w) (codes "snan") ≡ b → bytes_eq (lowercase w) (codes "infinity") ≡ c
     → bytes_eq (lowercase w) (codes "inf") ≡ d
-    → WordIs w (cond a (Some (124 * 2 ^ 120)) (cond b (Some (126 * 2 ^ 120)) (cond c (Some (120 * 2 ^ 120)) (cond d (Some (120 * 2 ^ 120)) None))))
+    → WordIs w (cond a (Some (124 * 2 ^ 120))
+    (cond b (Some (126 * 2 ^ 120)) (cond c (Some (120 * 2 ^ 120)) (cond d (Some (120 * 2 ^ 120)) None))))
 word_is-at w true b c d e f g h = nan (same _ _ e)
 word_is-at w false true c d e f g h = snan (same _ _ f)
 word_is-at w false false true d e f g h = infinity (same _ _ g)

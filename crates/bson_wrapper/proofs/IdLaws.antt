@@ -31,7 +31,8 @@ pointer_from d x h =
     let e = text_then c.0 _ x c.2 in
     let i = then_ok (id_of e.0) _ x e.2 in
     let inner = c.1 ∙ ap (λ t. object_of_one (codes "$oid") t) e.1 in
-    means_by (codes "$dbPointer") d _ x _ (a.2 ∙ two_same (codes "$id") (codes "$ref") inner b.1) (un_ok _ _ i.2) (db_pointer b.0 e.0 i.0 (sized_from 12 e.0 i.0 (id_is e.0 i.0 _ i.1)))
+    means_by (codes "$dbPointer") d _ x _ (a.2 ∙ two_same (codes "$id") (codes "$ref") inner b.1) (un_ok _ _ i.2)
+    (db_pointer b.0 e.0 i.0 (sized_from 12 e.0 i.0 (id_is e.0 i.0 _ i.1)))
 
 pub id_again : (id : List ℕ) → length id ≡ 12 → IsBytes id → id_of (encode_lower id) ≡ Ok id
 id_again id twelve bytes = ap (id_or (encode_lower id)) (decode_sized-encode_lower id 12 twelve bytes)

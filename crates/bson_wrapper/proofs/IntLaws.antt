@@ -51,7 +51,8 @@ wide_read n z is never = rw is (rw (wide _ z refl never) refl)
 
 -- a written number is read again
 pub int_again : (w : Width) (z : ℤ) → FitsSigned w z → mag z < 2 ^ 63 → int_of (hbits w) (signed_decimal z) ≡ Some z
-int_again w z fits small = int_of_parsed w (signed_decimal z) z (λ r h. parse-signed_decimal w z (signed_decimal z) r fits small refl h)
+int_again w z fits small =
+    int_of_parsed w (signed_decimal z) z (λ r h. parse-signed_decimal w z (signed_decimal z) r fits small refl h)
 
 pub int32_again : (z : ℤ) → FitsSigned w32 z → int_of 31 (signed_decimal z) ≡ Some z
 int32_again z fits = int_again w32 z fits (let small : mag z < 2 ^ 31 = fits.sfits in omega arith)

@@ -1,5 +1,6 @@
 -- An int text, and what std's `parse` says of it.
-use Rattle.std.proofs.Common.{◌≡◌, ℕ, ◌<◌, ◌^◌, List, length, Bool, true, false, cond, ℤ, pos, negsuc, Option, Some, None, Result, Ok, Err, refl, sym, ap, subst}
+use Rattle.std.proofs.Common.{◌≡◌, ℕ, ◌<◌, ◌^◌, List, length, Bool, true, false, cond, ℤ, pos, negsuc, Option, Some}
+use Rattle.std.proofs.Common.{None, Result, Ok, Err, refl, sym, ap, subst}
 use Rattle.std.proofs.lemmas.Bool.{ltb-true, lt-ltb, and_parts}
 use Rattle.std.proofs.lemmas.Str.Parse.{IsNumeralModel, numerals_by_value, tells_all_ascii_digits}
 use Rattle.std.specs.Prelude.{FitsSigned}
@@ -42,7 +43,8 @@ parsed_signed w bs (Ok x) h =
     let fits = fits_true (hbits w) (signed_digits_value 10 bs) h.0.1.sfits in
     rw (digits, fits) (ap Some h.1)
 parsed_signed w bs (Err e) h =
-    sym (chosen _ _ (λ b. let p = and_parts _ _ b in h (numeral_from _ p.0, record { sfits = fits_from (hbits w) _ p.1 })))
+    sym (chosen _ _ (λ b. let p = and_parts _ _ b in
+    h (numeral_from _ p.0, record { sfits = fits_from (hbits w) _ p.1 })))
 
 guarded : (b : Bool) (y z : ℤ) → cond b (Some y) None ≡ Some z → (b ≡ true) × (z ≡ y)
 guarded true y z h = (refl, cc)
@@ -60,7 +62,8 @@ pub int_of_some : (w : Width) (s : List ℕ) (z : ℤ) → IsIntText w s z → i
 unfolding int_of
 int_of_some w s z h =
     let fits : FitsSigned w (signed_digits_value 10 s) = subst (FitsSigned w) h.1 h.2 in
-    rw (numeral_true (without_leading_sign s) h.0, fits_true (hbits w) (signed_digits_value 10 s) fits.sfits) (ap Some (sym h.1))
+    rw (numeral_true (without_leading_sign s) h.0, fits_true (hbits w) (signed_digits_value 10 s) fits.sfits)
+    (ap Some (sym h.1))
 
 abbrev as_result : Option ℤ → Result ℤ (Unit {0})
 as_result (Some z) = Ok z
@@ -84,4 +87,5 @@ unfolding int_of
 int_of_parsed w s z each =
     back_to_some _ z (each _ (parses_at w _ s
     (λ b. let p = and_parts _ _ b in (numeral_from _ p.0, record { sfits = fits_from (hbits w) _ p.1 }))
-    (λ p. rw (numeral_true (without_leading_sign s) p.0, fits_true (hbits w) (signed_digits_value 10 s) p.1.sfits) refl)))
+    (λ p. rw (numeral_true (without_leading_sign s) p.0, fits_true (hbits w) (signed_digits_value 10 s) p.1.sfits)
+    refl)))

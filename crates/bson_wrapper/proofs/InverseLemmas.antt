@@ -1,5 +1,6 @@
 -- What is known of a tree from which something was read.
-use Rattle.std.proofs.Common.{◌≡◌, ℕ, List, Bool, true, false, cond, Option, Some, None, Result, Ok, Err, refl, sym, ap, ◌∙◌, subst}
+use Rattle.std.proofs.Common.{◌≡◌, ℕ, List, Bool, true, false, cond, Option, Some, None, Result, Ok, Err, refl, sym, ap}
+use Rattle.std.proofs.Common.{◌∙◌, subst}
 use Rattle.std.proofs.lemmas.Bool.{and_parts}
 use Rattle.std.proofs.lemmas.Slice.Eq.{bytes_eq-Decides}
 use Rattle.std.specs.Str.{bytes_eq}
@@ -54,7 +55,8 @@ lone_is a (tree.number n) e h = cc
 lone_is a (tree.string t) e h = cc
 lone_is a (tree.array ds) e h = cc
 lone_is a (tree.object no_members) e h = cc
-lone_is a (tree.object (member k d no_members)) e h = let g = if_some _ d e h in rw (key_is k a g.0) (ap (λ x. object_of_one a x) g.1)
+lone_is a (tree.object (member k d no_members)) e h = let g = if_some _ d e h in
+    rw (key_is k a g.0) (ap (λ x. object_of_one a x) g.1)
 lone_is a (tree.object (member k d (member l f ms))) e h = cc
 
 pub two_are : (a b : List ℕ) (d : Data) (p : Data × Data) → two_members a b d ≡ Some p → d ≡ object_of_two a p.0 b p.1
@@ -81,7 +83,8 @@ lone_then a d f x h = let t = some_then (lone_member a d) f x h in (t.0, lone_is
 
 pub two_then : {X : Type 0} (a b : List ℕ) (d : Data) (f : Data → Data → Result X Fault) (x : X) → on_two a b d f ≡ Ok x
     → (e : Data) × (g : Data) × (d ≡ object_of_two a e b g) × (f e g ≡ Ok x)
-two_then a b d f x h = let t = some_then (two_members a b d) (λ p. f p.0 p.1) x h in (t.0.0, t.0.1, two_are a b d t.0 t.1, t.2)
+two_then a b d f x h = let t = some_then (two_members a b d) (λ p. f p.0 p.1) x h in
+    (t.0.0, t.0.1, two_are a b d t.0 t.1, t.2)
 
 pub two_same : (a b : List ℕ) {d e f g : Data} → d ≡ e → f ≡ g → object_of_two a d b f ≡ object_of_two a e b g
 two_same a b {d} {e} {f} {g} p q = ap (λ x. object_of_two a x b f) p ∙ ap (λ x. object_of_two a e b x) q
@@ -89,4 +92,5 @@ two_same a b {d} {e} {f} {g} p q = ap (λ x. object_of_two a x b f) p ∙ ap (λ
 -- what the tree is, and what the scalar is, in a production
 pub means_by : (k : List ℕ) (d e : Data) (x y : Scalar) → d ≡ e → x ≡ y → MeansScalar (object_of_one k e) y
     → MeansScalar (object_of_one k d) x
-means_by k d e x y p q m = subst (λ t. MeansScalar (object_of_one k t) x) (sym p) (subst (λ z. MeansScalar (object_of_one k e) z) (sym q) m)
+means_by k d e x y p q m =
+    subst (λ t. MeansScalar (object_of_one k t) x) (sym p) (subst (λ z. MeansScalar (object_of_one k e) z) (sym q) m)

@@ -2,4 +2,6 @@
 pub use Rattle.bson_wrapper.proofs.BinaryLaws.{subtype_byte-of}
 pub use Rattle.bson_wrapper.proofs.InTurn.{in_turn, on_ok}
 pub use Rattle.bson_wrapper.proofs.InverseLemmas.{text_then}
-pub use Rattle.bson_wrapper.proofs.ScalarLaws.{back, nf_again, nf_written, scalar_form, scalar_from, scalar_no_float, scalar_to, as_read_again, as_read_canonical, as_read_written, writable_is, written_from, written_to}
+pub use Rattle.bson_wrapper.proofs.ScalarLaws.{back, nf_again, nf_written, scalar_form, scalar_from, scalar_no_float}
+pub use Rattle.bson_wrapper.proofs.ScalarLaws.{scalar_to, as_read_again, as_read_canonical, as_read_written}
+pub use Rattle.bson_wrapper.proofs.ScalarLaws.{writable_is, written_from, written_to}

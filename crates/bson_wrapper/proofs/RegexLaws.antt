@@ -14,4 +14,5 @@ regex_from d x h =
     let a = two_then (codes "options") (codes "pattern") d _ x h in
     let o = text_then a.0 _ x a.3 in
     let p = text_then a.1 _ x o.2 in
-    means_by (codes "$regularExpression") d _ x _ (a.2 ∙ two_same (codes "options") (codes "pattern") o.1 p.1) (un_ok _ _ p.2) (regular_expression p.0 o.0)
+    means_by (codes "$regularExpression") d _ x _ (a.2 ∙ two_same (codes "options") (codes "pattern") o.1 p.1)
+    (un_ok _ _ p.2) (regular_expression p.0 o.0)

@@ -1,5 +1,6 @@
 -- One lemma a law, for all scalars.
-use Rattle.std.proofs.Common.{◌≡◌, ◌<◌, ◌^◌, ℕ, ℤ, pos, negsuc, List, [], ◌∷◌, Bool, true, false, ◌&&◌, cond, Option, Some, None, Result, Ok, Err, refl, sym, ap, ◌∙◌, subst, w32, w64, arith}
+use Rattle.std.proofs.Common.{◌≡◌, ◌<◌, ◌^◌, ℕ, ℤ, pos, negsuc, List, [], ◌∷◌, Bool, true, false, ◌&&◌, cond, Option}
+use Rattle.std.proofs.Common.{Some, None, Result, Ok, Err, refl, sym, ap, ◌∙◌, subst, w32, w64, arith}
 use Rattle.std.specs.Prelude.{FitsSigned, is_ok, is_some, codes}
 use Rattle.std.specs.Str.{bytes_eq}
 use Rattle.std.proofs.lemmas.Bool.{and_parts}
@@ -21,16 +22,22 @@ use Rattle.bson_wrapper.specs.Faults.{Fault, wrong_shape}
 use Rattle.bson_wrapper.specs.Ints.{fits_bits}
 use Rattle.bson_wrapper.specs.Means.{MeansScalar}
 use Rattle.bson_wrapper.specs.Means as means
-use Rattle.bson_wrapper.specs.Normal.{normal_scalar, scalar_as_read, int64_as_read, writable_scalar, ScalarInRange, IsReadScalar}
+use Rattle.bson_wrapper.specs.Normal.{normal_scalar, scalar_as_read, int64_as_read, writable_scalar, ScalarInRange}
+use Rattle.bson_wrapper.specs.Normal.{IsReadScalar}
 use Rattle.bson_wrapper.specs.Reading.{code_beside, single, single_at, scalar_read}
 use Rattle.bson_wrapper.specs.Regexes.{regex_tree}
-use Rattle.bson_wrapper.specs.Scalar.{Scalar, null, undefined, min_key, max_key, boolean, double, int32, int64, text, symbol, code, regex, timestamp, binary, object_id, date, decimal, db_pointer}
+use Rattle.bson_wrapper.specs.Scalar.{Scalar, null, undefined, min_key, max_key, boolean, double, int32, int64, text}
+use Rattle.bson_wrapper.specs.Scalar.{symbol, code, regex, timestamp, binary, object_id, date, decimal, db_pointer}
 use Rattle.bson_wrapper.specs.Table.{key_of, wrapper_of}
-use Rattle.bson_wrapper.specs.Written.{WrittenScalar, Refusal, ◌>>=◌, or_finite, writes_scalar, int32_form, int64_form, date_form}
+use Rattle.bson_wrapper.specs.Written.{WrittenScalar, Refusal, ◌>>=◌, or_finite, writes_scalar, int32_form, int64_form}
+use Rattle.bson_wrapper.specs.Written.{date_form}
 use Rattle.bson_wrapper.specs.declared.form.Form.{Form}
 use Rattle.bson_wrapper.specs.declared.form.Form.TheVariants.{Canonical, Relaxed}
 use Rattle.bson_wrapper.specs.declared.wrapper.Wrapper.{Wrapper}
-use Rattle.bson_wrapper.specs.declared.wrapper.Wrapper.TheVariants.{Oid, Symbol, RegularExpression, NumberInt, NumberLong, NumberDouble, NumberDecimal, Binary, Uuid, Code, Timestamp, Date, MinKey, MaxKey, DbPointer, Undefined}
+use Rattle.bson_wrapper.specs.declared.wrapper.Wrapper.TheVariants.{Oid, Symbol, RegularExpression, NumberInt}
+use Rattle.bson_wrapper.specs.declared.wrapper.Wrapper.TheVariants.{NumberLong, NumberDouble, NumberDecimal, Binary}
+use Rattle.bson_wrapper.specs.declared.wrapper.Wrapper.TheVariants.{Uuid, Code, Timestamp, Date, MinKey, MaxKey}
+use Rattle.bson_wrapper.specs.declared.wrapper.Wrapper.TheVariants.{DbPointer, Undefined}
 use Rattle.bson_wrapper.proofs.InverseLemmas as inverse
 use Rattle.bson_wrapper.proofs.IntText.{fits_true, int_of_some}
 use Rattle.bson_wrapper.proofs.BinaryLaws.{binary_from, uuid_from, bytes_to, bytes_again, byte_again, subtype_byte-of}
@@ -38,9 +45,11 @@ use Rattle.bson_datetime.proofs.Offered.{denotes-names}
 use Rattle.bson_scalar.proofs.Offered.{hyphenated_to, sized_to, sorted_text-again}
 use Rattle.bson_wrapper.proofs.DateLaws.{date_from, recent_denoted}
 use Rattle.bson_wrapper.proofs.DecimalLaws.{decimal_from, decimal_of-some, decimal_of-display_text, canon-again}
-use Rattle.bson_wrapper.proofs.DoubleLaws.{double_from, double_form, double_text-form, double_again, nan_form-again, special_is}
+use Rattle.bson_wrapper.proofs.DoubleLaws.{double_from, double_form, double_text-form, double_again, nan_form-again}
+use Rattle.bson_wrapper.proofs.DoubleLaws.{special_is}
 use Rattle.bson_wrapper.proofs.IdLaws.{oid_from, pointer_from, id_again}
-use Rattle.bson_wrapper.proofs.IntLaws.{int32_from, int64_from, number_from, narrow_read, wide_read, int32_again, int64_again, number_again}
+use Rattle.bson_wrapper.proofs.IntLaws.{int32_from, int64_from, number_from, narrow_read, wide_read, int32_again}
+use Rattle.bson_wrapper.proofs.IntLaws.{int64_again, number_again}
 use Rattle.bson_wrapper.proofs.LoneLaws.{min_key_from, max_key_from, undefined_from}
 use Rattle.bson_wrapper.proofs.RegexLaws.{regex_from}
 use Rattle.bson_wrapper.proofs.TextLaws.{symbol_from, code_from}
@@ -98,7 +107,8 @@ code_text : (e d : Data) (x : Scalar) → code_beside e d ≡ Ok x
 code_text tree.null d x h =
     let t = inverse.text_then d _ x h in
     subst (λ e. MeansScalar (object_of_two (codes "$code") e (codes "$scope") tree.null) x) (sym t.1)
-    (subst (λ y. MeansScalar (object_of_two (codes "$code") (tree.string t.0) (codes "$scope") tree.null) y) (sym (inverse.un_ok _ _ t.2)) (means.code_without_scope t.0))
+    (subst (λ y. MeansScalar (object_of_two (codes "$code") (tree.string t.0) (codes "$scope") tree.null) y)
+    (sym (inverse.un_ok _ _ t.2)) (means.code_without_scope t.0))
 code_text (tree.boolean b) d x h = cc
 code_text (tree.number n) d x h = cc
 code_text (tree.string s) d x h = cc
@@ -112,7 +122,8 @@ scope_from k l d e x h =
     let g = guarded _ _ x h in
     let keys = and_parts _ _ g.0 in
     subst (λ a. MeansScalar (object_of_two a d l e) x) (sym (inverse.key_is k _ keys.0))
-    (subst (λ a. MeansScalar (object_of_two (codes "$code") d a e) x) (sym (inverse.key_is l _ keys.1)) (code_text e d x g.1))
+    (subst (λ a. MeansScalar (object_of_two (codes "$code") d a e) x) (sym (inverse.key_is l _ keys.1))
+    (code_text e d x g.1))
 
 pub scalar_from : (t : Data) (x : Scalar) → scalar_read t ≡ Ok x → MeansScalar t x
 scalar_from tree.null x h = rw (inverse.un_ok _ _ h) means.null
@@ -202,7 +213,10 @@ decimal_same b = ap (λ s. object_of_one (codes "$numberDecimal") (tree.string s
 pub nf_written : (f : Form) (x : Scalar) → writes_scalar f (normal_scalar x) ≡ writes_scalar f x
 nf_written f (double p) = ap (λ o. or_finite o >>= λ s. Ok (double_tree s)) (double_text-form p)
 nf_written f (regex p o) = ap (λ s. Ok (regex_tree p s)) (sorted_text-again o)
-nf_written f (binary k bytes) = ap (λ n. Ok (object_of_one (codes "$binary") (object_of_two (codes "base64") (tree.string (padded_text bytes)) (codes "subType") (tree.string (encode_lower (n ∷ [])))))) (subtype_byte-of (subtype_byte k))
+nf_written f (binary k bytes) =
+    ap (λ n. Ok (object_of_one (codes "$binary")
+    (object_of_two (codes "base64") (tree.string (padded_text bytes)) (codes "subType")
+    (tree.string (encode_lower (n ∷ [])))))) (subtype_byte-of (subtype_byte k))
 nf_written f (decimal b) = ap Ok (decimal_same b)
 nf_written f x = refl
 
@@ -216,7 +230,8 @@ nf_again x = refl
 -- of a scalar in normal form: the function and the relation
 written_at : (f : Form) (x : Scalar) (t : Data) → writes_scalar f (normal_scalar x) ≡ Ok t
     → WrittenScalar f (normal_scalar x) t
-written_at f (double p) t h = let b = bind_ok (or_finite (double_text (normal_double p))) _ t h in (b.0, some_from _ _ b.1, un_ok _ _ b.2)
+written_at f (double p) t h = let b = bind_ok (or_finite (double_text (normal_double p))) _ t h in
+    (b.0, some_from _ _ b.1, un_ok _ _ b.2)
 written_at f (regex p o) t h = un_ok _ _ h ∙ ap (regex_tree p) (sorted_text-again o)
 written_at f x t h = un_ok _ _ h
 
@@ -268,7 +283,8 @@ back f undefined t h r = rw (un_ok _ _ h) refl
 back f min_key t h r = rw (un_ok _ _ h) refl
 back f max_key t h r = rw (un_ok _ _ h) refl
 back f (boolean b) t h r = rw (un_ok _ _ h) refl
-back f (double p) t h r = let b = bind_ok (or_finite (double_text p)) _ t h in rw (un_ok _ _ b.2) (rw (double_again p b.0 (some_from _ _ b.1)) refl)
+back f (double p) t h r = let b = bind_ok (or_finite (double_text p)) _ t h in
+    rw (un_ok _ _ b.2) (rw (double_again p b.0 (some_from _ _ b.1)) refl)
 back f (int32 z) t h r = rw (un_ok _ _ h) (int32_back f z r)
 back f (int64 z) t h r = rw (un_ok _ _ h) (int64_back f z r)
 back f (text s) t h r = rw (un_ok _ _ h) refl

@@ -5,15 +5,16 @@ use Rattle.std.specs.Int.{w32, w64}
 use Rattle.serde_json.specs.Data.{Data, Num}
 use Rattle.serde_json.specs.Data as tree
 use Rattle.serde_json.specs.Find.{as_i64}
-use Rattle.bson_scalar.specs.Base64.{IsBase64}
-use Rattle.bson_scalar.specs.Oid.{IsOidText}
-use Rattle.bson_scalar.specs.Regex.{sorted_text}
-use Rattle.bson_scalar.specs.Subtype.{subtype_of}
-use Rattle.bson_scalar.specs.Uuid.{IsHyphenatedText}
-use Rattle.bson_scalar.specs.declared.spec.BinarySubtype.TheVariants.{Uuid}
-use Rattle.bson_datetime.specs.Grammar.{Names}
-use Rattle.bson_decimal.specs.Text.{Parses}
-use Rattle.bson_wrapper.specs.Binaries.{IsByteText}
+-- what the texts in a tree mean, each in the words of its own standard
+pub use Rattle.bson_scalar.specs.Base64.{IsBase64}
+pub use Rattle.bson_scalar.specs.Oid.{IsOidText}
+pub use Rattle.bson_scalar.specs.Regex.{sorted_text}
+pub use Rattle.bson_scalar.specs.Subtype.{subtype_of}
+pub use Rattle.bson_scalar.specs.Uuid.{IsHyphenatedText}
+pub use Rattle.bson_scalar.specs.declared.spec.BinarySubtype.TheVariants.{Uuid}
+pub use Rattle.bson_datetime.specs.Grammar.{Names}
+pub use Rattle.bson_decimal.specs.Text.{Parses}
+pub use Rattle.bson_wrapper.specs.Binaries.{IsByteText}
 use Rattle.bson_wrapper.specs.Doubles.{double_of}
 use Rattle.bson_wrapper.specs.Ints.{IsIntText}
 use Rattle.bson_wrapper.specs.Scalar.{Scalar}

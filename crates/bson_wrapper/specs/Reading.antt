@@ -28,12 +28,9 @@ use Rattle.bson_wrapper.specs.Ints.{fits_bits, narrowest}
 use Rattle.bson_wrapper.specs.Scalar.{Scalar, null, undefined, min_key, max_key, boolean, double, int32, int64, text}
 use Rattle.bson_wrapper.specs.Scalar.{symbol, code, regex, timestamp, binary, object_id, date, decimal, db_pointer}
 use Rattle.bson_wrapper.specs.Shapes.{whole, u32_at}
-use Rattle.bson_wrapper.specs.Table.{wrapper_of}
-use Rattle.bson_wrapper.specs.declared.wrapper.Wrapper.{Wrapper}
-use Rattle.bson_wrapper.specs.declared.wrapper.Wrapper.TheVariants.{Oid, Symbol, RegularExpression, NumberInt}
-use Rattle.bson_wrapper.specs.declared.wrapper.Wrapper.TheVariants.{NumberLong, NumberDouble, NumberDecimal, Binary}
-use Rattle.bson_wrapper.specs.declared.wrapper.Wrapper.TheVariants.{Uuid, Code, Timestamp, Date, MinKey, MaxKey}
-use Rattle.bson_wrapper.specs.declared.wrapper.Wrapper.TheVariants.{DbPointer, Undefined}
+use Rattle.bson_wrapper.specs.Table.{wrapper_of, Wrapper, Oid, Symbol, RegularExpression, NumberInt, NumberLong}
+use Rattle.bson_wrapper.specs.Table.{NumberDouble, NumberDecimal, Binary, Uuid, Code, Timestamp, Date, MinKey, MaxKey}
+use Rattle.bson_wrapper.specs.Table.{DbPointer, Undefined}
 
 -- ---- shapes
 

@@ -3,11 +3,11 @@
 use Rattle.std.specs.Prelude.{ℕ, List, codes, Bool, ◌||◌, false, if◌then◌else◌, Option, Some, None, is_some}
 use Rattle.std.specs.Str.{bytes_eq}
 use Rattle.serde_json.specs.Data.{Members, no_members, member}
-use Rattle.bson_wrapper.specs.declared.wrapper.Wrapper.{Wrapper}
-use Rattle.bson_wrapper.specs.declared.wrapper.Wrapper.TheVariants.{Oid, Symbol, RegularExpression, NumberInt}
-use Rattle.bson_wrapper.specs.declared.wrapper.Wrapper.TheVariants.{NumberLong, NumberDouble, NumberDecimal, Binary}
-use Rattle.bson_wrapper.specs.declared.wrapper.Wrapper.TheVariants.{Uuid, Code, Timestamp, Date, MinKey, MaxKey}
-use Rattle.bson_wrapper.specs.declared.wrapper.Wrapper.TheVariants.{DbPointer, Undefined}
+pub use Rattle.bson_wrapper.specs.declared.wrapper.Wrapper.{Wrapper}
+pub use Rattle.bson_wrapper.specs.declared.wrapper.Wrapper.TheVariants.{Oid, Symbol, RegularExpression, NumberInt}
+pub use Rattle.bson_wrapper.specs.declared.wrapper.Wrapper.TheVariants.{NumberLong, NumberDouble, NumberDecimal, Binary}
+pub use Rattle.bson_wrapper.specs.declared.wrapper.Wrapper.TheVariants.{Uuid, Code, Timestamp, Date, MinKey, MaxKey}
+pub use Rattle.bson_wrapper.specs.declared.wrapper.Wrapper.TheVariants.{DbPointer, Undefined}
 
 abbrev pub key_of : Wrapper → List ℕ
 key_of Oid = codes "$oid"

@@ -1,4 +1,7 @@
 //! Why a tree of Extended JSON was not read: the error of `extjson::de`.
+ghost use Rattle.std.specs.Prelude.{◌≡◌};
+ghost use Rattle.bson_wrapper.specs.declared.error.Error.TheVariants as read_error;
+
 use bson_scalar::oid;
 use std::alloc::{AllocError, AllocFailed};
 
@@ -34,10 +37,7 @@ pub enum Error {
 pub type Result<T, E = Error> = std::result::Result<T, E>;
 
 impl From<AllocError> for Error {
-    ghost use Rattle.bson_wrapper.specs.declared.error.Error.TheVariants.{OutOfMemory};
-    ghost use Rattle.std.specs.Prelude.{◌≡◌};
-
-    ghost from_gives = { λ _ e. e ≡ OutOfMemory };
+    ghost from_gives = { λ _ e. e ≡ read_error.OutOfMemory };
 
     fn from(_refused: AllocError) -> Error {
         Error::OutOfMemory
@@ -45,10 +45,7 @@ impl From<AllocError> for Error {
 }
 
 impl<T: Drop> From<AllocFailed<T>> for Error {
-    ghost use Rattle.bson_wrapper.specs.declared.error.Error.TheVariants.{OutOfMemory};
-    ghost use Rattle.std.specs.Prelude.{◌≡◌};
-
-    ghost from_gives = { λ _ e. e ≡ OutOfMemory };
+    ghost from_gives = { λ _ e. e ≡ read_error.OutOfMemory };
 
     fn from(_refused: AllocFailed<T>) -> Error {
         Error::OutOfMemory

@@ -1,4 +1,7 @@
 //! Why a value was not written.
+ghost use Rattle.std.specs.Prelude.{◌≡◌};
+ghost use Rattle.bson_wrapper.specs.declared.write_error.WriteError.TheVariants as write_error;
+
 use std::alloc::{AllocError, AllocFailed};
 
 /// Why a value was not written as Extended JSON.
@@ -14,17 +17,13 @@ pub enum WriteError {
     /// A double in the value is finite and no zero, and so has no text here.
     #[error("a finite double has no text")]
     FiniteDouble,
-
     /// A request for memory was refused.
     #[error("out of memory")]
     OutOfMemory,
 }
 
 impl From<AllocError> for WriteError {
-    ghost use Rattle.bson_wrapper.specs.declared.write_error.WriteError.TheVariants.{OutOfMemory};
-    ghost use Rattle.std.specs.Prelude.{◌≡◌};
-
-    ghost from_gives = { λ _ e. e ≡ OutOfMemory };
+    ghost from_gives = { λ _ e. e ≡ write_error.OutOfMemory };
 
     fn from(_refused: AllocError) -> WriteError {
         WriteError::OutOfMemory
@@ -32,10 +31,7 @@ impl From<AllocError> for WriteError {
 }
 
 impl<T: Drop> From<AllocFailed<T>> for WriteError {
-    ghost use Rattle.bson_wrapper.specs.declared.write_error.WriteError.TheVariants.{OutOfMemory};
-    ghost use Rattle.std.specs.Prelude.{◌≡◌};
-
-    ghost from_gives = { λ _ e. e ≡ OutOfMemory };
+    ghost from_gives = { λ _ e. e ≡ write_error.OutOfMemory };
 
     fn from(_refused: AllocFailed<T>) -> WriteError {
         WriteError::OutOfMemory

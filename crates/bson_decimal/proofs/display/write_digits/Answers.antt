@@ -19,7 +19,9 @@ loop-left-preserved c =
       omega arith,
       omega (arith, length-set l.buffer l.at (48 + l.left % 10)),
       rw e (omega (arith, pow-add 10 l.at 1)),
-      rw (e, drop-set l.buffer l.at (48 + l.left % 10) (omega arith)) (rw (decimal_step_wide l.left (omega arith) (omega (arith, l.auto.left-fits.fits)), append_assoc) at l.invariant.3),
+      rw (e, drop-set l.buffer l.at (48 + l.left % 10) (omega arith))
+          (rw (decimal_step_wide l.left (omega arith) (omega (arith, l.auto.left-fits.fits)), append_assoc) at
+          l.invariant.3),
     )
 
 pub returns-clause-written : goal.returns-clause-written

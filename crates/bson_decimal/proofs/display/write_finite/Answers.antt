@@ -1,11 +1,13 @@
-use Rattle.std.proofs.Common.{◌≡◌, ◌∙◌, ap, ℕ, ◌<◌, ◌≤◌, List, length, ◌^◌, ℤ, true, false, ◌&&◌, pos, neg_ℤ, inl, inr, FitsSigned, to_z, of_z, arith}
+use Rattle.std.proofs.Common.{◌≡◌, ◌∙◌, ap, ℕ, ◌<◌, ◌≤◌, List, length, ◌^◌, ℤ, true, false, ◌&&◌, pos, neg_ℤ, inl, inr}
+use Rattle.std.proofs.Common.{FitsSigned, to_z, of_z, arith}
 use Rattle.std.specs.Int.{w32}
 use Rattle.std.specs.Prelude.{int_le, unsigned_abs}
 use Rattle.std.proofs.lemmas.Int.{ints, to_z-of_z}
 use Rattle.bson_decimal.specs.Exponents.{exponent_at}
 use Rattle.bson_decimal.specs.Displayed.{scientific_exponent}
 use Rattle.bson_decimal.proofs.display.write_finite.Goals as goal
-use Rattle.bson_decimal.proofs.display.write_finite.Goals.{else-exponent-le0-via-then-exponent-le0+else-first-geminus6, else-exponent-le0-via-else-exponent-le0}
+use Rattle.bson_decimal.proofs.display.write_finite.Goals.{else-exponent-le0-via-then-exponent-le0+else-first-geminus6}
+use Rattle.bson_decimal.proofs.display.write_finite.Goals.{else-exponent-le0-via-else-exponent-le0}
 
 exponent-fits : (stored : ℕ) → stored < 2 ^ 16 → FitsSigned w32 (exponent_at stored)
 exponent-fits stored small = omega (arith, ints)
@@ -19,7 +21,8 @@ returns-then-first-geminus6 g c =
     let x = exponent_at c.args.stored_exponent in
     let low : int_le x (pos 0) ≡ true = grind (arith, ints) in
     let near : int_le (neg_ℤ (pos 6)) (scientific_exponent c.args.digits.now x) ≡ true = grind (arith, ints) in
-    let places : c.unsigned_abs.result ≡ unsigned_abs x = (rw c.exponent_at-exponent.ensures at c.unsigned_abs.ensures.value)
+    let places : c.unsigned_abs.result ≡ unsigned_abs x =
+    (rw c.exponent_at-exponent.ensures at c.unsigned_abs.ensures.value)
     ∙ ap unsigned_abs (to_z-of_z w32 x (exponent-fits c.args.stored_exponent c.ranges.stored_exponent.fits)) in
     rw (low, near, ← places) c.write_plain.ensures
 
@@ -27,6 +30,16 @@ pub returns-else-exponent-le0 : goal.returns-else-exponent-le0
 returns-else-exponent-le0 g c =
     let x = exponent_at c.args.stored_exponent in
     let tests = int_le x (pos 0) && int_le (neg_ℤ (pos 6)) (scientific_exponent c.args.digits.now x) in
-    let other : tests ≡ false = elim c.else-exponent-le0.branch [ else-exponent-le0-via-then-exponent-le0+else-first-geminus6 w ↦ grind (arith, ints) | else-exponent-le0-via-else-exponent-le0 w ↦ grind (arith, ints) ] in
+    let other : tests ≡ false =
+    elim c.else-exponent-le0.branch [
+      | else-exponent-le0-via-then-exponent-le0+else-first-geminus6 w ↦ grind (arith, ints)
+      | else-exponent-le0-via-else-exponent-le0 w ↦ grind (arith, ints)
+    ] in
     let first = c.scientific_exponent-first.ensures in
-    rw (other, ← to_z-of_z w32 _ (first-fits c.args.digits.now c.args.stored_exponent c.ranges.stored_exponent.fits c.requires.short), ← first) c.write_scientific.ensures
+    rw (
+      other,
+      ← to_z-of_z w32 _
+          (first-fits c.args.digits.now c.args.stored_exponent c.ranges.stored_exponent.fits c.requires.short),
+      ← first,
+    )
+    c.write_scientific.ensures

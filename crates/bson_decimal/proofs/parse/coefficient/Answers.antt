@@ -18,4 +18,5 @@ overflow_mul-result c =
 
 pub returns : goal.returns
 unfolding coefficient
-returns c = let e = test-from_AllDigits c.args.digits.now c.in-Some.ensures.0 in rw (e, c.pow.ensures, c.in-Some.ensures.1) (search rules)
+returns c = let e = test-from_AllDigits c.args.digits.now c.in-Some.ensures.0 in
+    rw (e, c.pow.ensures, c.in-Some.ensures.1) (search rules)

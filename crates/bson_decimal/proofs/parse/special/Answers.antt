@@ -25,5 +25,7 @@ none-of word a b c d n (inf e) = d e
 
 pub returns-clause-word : goal.returns-clause-word
 returns-clause-word c =
-    none-of c.args.rest.now (λ e. false≢true (c.if-eq_ignore_ascii_case.ensures.test.1 e)) (λ e. false≢true (c.if-eq_ignore_ascii_case-2.ensures.test.1 e))
-    (λ e. false≢true (c.if-eq_ignore_ascii_case-3.ensures.test.1 e)) (λ e. false≢true (c.if-eq_ignore_ascii_case-4.ensures.test.1 e))
+    none-of c.args.rest.now (λ e. false≢true (c.if-eq_ignore_ascii_case.ensures.test.1 e))
+    (λ e. false≢true (c.if-eq_ignore_ascii_case-2.ensures.test.1 e))
+    (λ e. false≢true (c.if-eq_ignore_ascii_case-3.ensures.test.1 e))
+    (λ e. false≢true (c.if-eq_ignore_ascii_case-4.ensures.test.1 e))

@@ -12,7 +12,10 @@ after_first s bs b same utf8 some first low =
     IsCharBoundary-after_ascii s 0 utf8 (rw same at other) (rw same at small)
 
 pub range_from-requires : goal.range_from-requires
-range_from-requires c = λ _. after_first c.args.text.now c.as_bytes-bytes.result.now 45 c.as_bytes-bytes.ensures.value c.utf8.text c.if-is_empty.ensures c.if-bytes-eq45.true (omega arith)
+range_from-requires c = λ _. after_first c.args.text.now c.as_bytes-bytes.result.now 45 c.as_bytes-bytes.ensures.value
+    c.utf8.text c.if-is_empty.ensures c.if-bytes-eq45.true (omega arith)
 
 pub range_from-requires-then-bytes-eq43 : goal.range_from-requires-then-bytes-eq43
-range_from-requires-then-bytes-eq43 c = λ _. after_first c.args.text.now c.as_bytes-bytes.result.now 43 c.as_bytes-bytes.ensures.value c.utf8.text c.if-is_empty.ensures c.if-bytes-eq43.true (omega arith)
+range_from-requires-then-bytes-eq43 c =
+    λ _. after_first c.args.text.now c.as_bytes-bytes.result.now 43 c.as_bytes-bytes.ensures.value c.utf8.text
+    c.if-is_empty.ensures c.if-bytes-eq43.true (omega arith)

@@ -6,7 +6,9 @@ use Rattle.bson_scalar.proofs.Base64Laws.{padded}
 use Rattle.bson_scalar.proofs.binary.group_text.Goals as goal
 
 pub unreachable-requires : goal.unreachable-requires
-unreachable-requires c = c.in-Err.ensures.cases.0 (rw c.group_bytes.ensures (IsUtf8-from_ascii _ (IsAscii-encode_of standard c.args.bytes.now)))
+unreachable-requires c =
+    c.in-Err.ensures.cases.0
+    (rw c.group_bytes.ensures (IsUtf8-from_ascii _ (IsAscii-encode_of standard c.args.bytes.now)))
 
 pub returns : goal.returns
 returns c = c.in-Ok.ensures.cases.0 ∙ c.group_bytes.ensures ∙ padded c.args.bytes.now

@@ -16,4 +16,5 @@ returns-in-Ok c =
 pub returns-in-Err : goal.returns-in-Err
 returns-in-Err c =
     let text = c.args.text.now in
-    none (parsed_hyphenated text) (λ id read. cc (c.in-Err.ensures.valid id (hyphenated text id (hyphenated_from text id read))))
+    none (parsed_hyphenated text)
+    (λ id read. cc (c.in-Err.ensures.valid id (hyphenated text id (hyphenated_from text id read))))

@@ -6,4 +6,6 @@ use Rattle.bson_wrapper.proofs.doubles.write_double.Goals as goal
 
 pub returns-in_ok-wrapped_text-in-Some-clause-written : goal.returns-in_ok-wrapped_text-in-Some-clause-written
 returns-in_ok-wrapped_text-in-Some-clause-written g c =
-    subst (λ o. Sends (λ d t. g.S.Sink.wrote c.args.out.now d t c.wrapped_text.new.out) (Ok c.in_ok-wrapped_text-in-Some.field-0) (or_finite o >>= λ s. Ok (double_tree s))) c.in-Some.ensures c.in_ok-wrapped_text-in-Some.ensures.written
+    subst (λ o. Sends (λ d t. g.S.Sink.wrote c.args.out.now d t c.wrapped_text.new.out)
+    (Ok c.in_ok-wrapped_text-in-Some.field-0) (or_finite o >>= λ s. Ok (double_tree s))) c.in-Some.ensures
+    c.in_ok-wrapped_text-in-Some.ensures.written

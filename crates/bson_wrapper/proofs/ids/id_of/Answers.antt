@@ -16,5 +16,6 @@ returns-in-Ok c =
 
 pub returns-in-Err : goal.returns-in-Err
 returns-in-Err c =
-    let none = no_id c.args.text.now _ (λ id read. cc (c.in-Err.ensures.valid id (sized_from 12 c.args.text.now id read))) in
+    let none = no_id c.args.text.now _
+    (λ id read. cc (c.in-Err.ensures.valid id (sized_from 12 c.args.text.now id read))) in
     (c.args.text.now, none, search rules)

@@ -12,5 +12,8 @@ pub returns-clause-written : goal.returns-clause-written
 returns-clause-written g c =
     let regex = c.args.regex in
     let ordered : string_bytes c.in_ok-ordered.ordered ≡ sorted_text (string_bytes regex.options) = search rules in
-    let texts = object_of_two (codes "options") (string (sorted_text (string_bytes regex.options))) (codes "pattern") (string (string_bytes regex.pattern)) in
-    if_ok c.end_one.result c.end_one.ensures.written (λ t ends. ends c.args.out.now c.begin.new.out (codes "$regularExpression") texts c.in_ok-key.ensures.written (rw ordered at c.in_ok-texts.ensures.written))
+    let texts = object_of_two (codes "options") (string (sorted_text (string_bytes regex.options))) (codes "pattern")
+    (string (string_bytes regex.pattern)) in
+    if_ok c.end_one.result c.end_one.ensures.written
+    (λ t ends. ends c.args.out.now c.begin.new.out (codes "$regularExpression") texts c.in_ok-key.ensures.written
+    (rw ordered at c.in_ok-texts.ensures.written))

@@ -4,4 +4,7 @@ use Rattle.bson_wrapper.proofs.Appending.{if_ok}
 use Rattle.bson_wrapper.proofs.wrapped.end_one.Goals as goal
 
 pub returns-clause-written : goal.returns-clause-written
-returns-clause-written g c = if_ok c.end_map.result c.end_map.ensures.written (λ t ends start mid k d begun held. ends start _ (c.in_ok-map.ensures.written start mid no_members k d begun held refl))
+returns-clause-written g c =
+    if_ok c.end_map.result c.end_map.ensures.written
+    (λ t ends start mid k d begun held. ends start _
+    (c.in_ok-map.ensures.written start mid no_members k d begun held refl))

@@ -7,5 +7,8 @@ pub returns-clause-written : goal.returns-clause-written
 returns-clause-written g c =
     let one = string (string_bytes c.args.text) in
     let two = string (string_bytes c.args.next_text) in
-    let next = c.in_ok-begun-2.ensures.written c.args.out.now c.begin.new.out c.args.key.now one c.in_ok-begun.ensures.written c.in_ok-text.ensures.written in
-    if_ok c.end_two.result c.end_two.ensures.written (λ t ends. ends c.args.out.now c.second.new.out c.args.key.now c.args.next_key.now one two next c.in_ok-text-2.ensures.written (c.requires one two))
+    let next = c.in_ok-begun-2.ensures.written c.args.out.now c.begin.new.out c.args.key.now one
+    c.in_ok-begun.ensures.written c.in_ok-text.ensures.written in
+    if_ok c.end_two.result c.end_two.ensures.written
+    (λ t ends. ends c.args.out.now c.second.new.out c.args.key.now c.args.next_key.now one two next
+    c.in_ok-text-2.ensures.written (c.requires one two))

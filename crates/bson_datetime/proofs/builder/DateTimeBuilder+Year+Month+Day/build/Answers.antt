@@ -29,7 +29,8 @@ moment c =
     let fy : FitsSigned w32 c.args.self.year.value = search rules in
     let day = rw (to_z-of_z fy) at c.in_ok-day.ensures.value in
     let time =
-    (c.unwrap_or-hour.result * 3600 + c.unwrap_or-minute.result * 60 + c.unwrap_or-second.result) * 1000 + c.unwrap_or-millisecond.result in
+    (c.unwrap_or-hour.result * 3600 + c.unwrap_or-minute.result * 60 + c.unwrap_or-second.result) * 1000
+    + c.unwrap_or-millisecond.result in
     let sum = exact c.in_ok-day.day time c.in_ok-day.ensures.bound (omega arith) in (
       (told_exists c).0 refl,
       rw (

@@ -10,9 +10,15 @@ use Rattle.bson_decimal.proofs.digits.Digits.value.Goals as goal
 digit-value : (b : ℕ) → 48 ≤ b → b ≤ 57 → digit_value b ≡ b - 48
 digit-value b low high = grind (arith, nat_tests)
 
-module _ (xs : List ℕ) (i : ℕ) (digits : AllDigits 10 (take i xs)) (within : i < length xs) (short : length xs ≤ 34) where
+module _ (xs : List ℕ) (i : ℕ) (digits : AllDigits 10 (take i xs)) (within : i < length xs)
+    (short : length xs ≤ 34) where
   bound : digits_value 10 (take i xs) < 10 ^ 33
-  bound = omega (arith, digits_value-lt 10 (take i xs) digits, length-take i xs, tens-le (length (take i xs)) 33 (omega (arith, length-take i xs)))
+  bound = omega (
+    arith,
+    digits_value-lt 10 (take i xs) digits,
+    length-take i xs,
+    tens-le (length (take i xs)) 33 (omega (arith, length-take i xs)),
+  )
 
 pub returns-then-not-is_ascii_digit : goal.returns-then-not-is_ascii_digit
 returns-then-not-is_ascii_digit c = λ all.
@@ -34,7 +40,8 @@ loop-i-preserved c =
     let i = c.loop-i.i in
     let b : c.byte-b.result ≡ get_or xs i 0 = c.byte-b.ensures in
     let range = c.if-not-is_ascii_digit.ensures.cases in
-    let v : digit_value (get_or xs i 0) ≡ get_or xs i 0 - 48 = digit-value (get_or xs i 0) (omega arith) (omega arith) in
+    let v : digit_value (get_or xs i 0) ≡ get_or xs i 0 - 48 =
+    digit-value (get_or xs i 0) (omega arith) (omega arith) in
     let inv = c.loop-i.invariant in
     let low : digit_value (get_or xs i 0) < 10 = omega arith in
     (digits_more 10 xs i (omega arith) inv.0 low, omega (arith, digits_value_more 10 xs i (omega arith)))

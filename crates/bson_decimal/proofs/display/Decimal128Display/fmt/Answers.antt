@@ -21,13 +21,18 @@ returns-in-Ok-clause-writes g c =
     let text : c.in-Ok.digits.now ≡ decimal c.in-Finite.coefficient = c.in-Ok.ensures.cases.0
     ∙ take_all _ (drop w.result w.new.buffer) (omega (arith, length-drop w.result w.new.buffer))
     ∙ w.ensures.written in
-    let is : sign_text c.in-Finite.negative ++ finite_text (decimal c.in-Finite.coefficient) (exponent_at c.in-Finite.stored_exponent) ≡ display_text c.args.self.now = ap meaning_text c.in-Finite.ensures in
-    λ plain ok. subst (λ (t : List ℕ). HasWritten g.W.Write.write_str_gives c.args.f.now t c.write_signed.new.f) is (rw text at (c.write_signed.ensures plain ok))
+    let is : sign_text c.in-Finite.negative ++ finite_text (decimal c.in-Finite.coefficient)
+    (exponent_at c.in-Finite.stored_exponent) ≡ display_text c.args.self.now =
+    ap meaning_text c.in-Finite.ensures in
+    λ plain ok. subst (λ (t : List ℕ). HasWritten g.W.Write.write_str_gives c.args.f.now t c.write_signed.new.f) is
+    (rw text at (c.write_signed.ensures plain ok))
 
 pub unreachable-requires : goal.unreachable-requires
 unreachable-requires g c =
     let w = c.write_digits-start in
     let all = drop w.result w.new.buffer in
-    let text : take (34 - w.result) all ≡ decimal c.in-Finite.coefficient = take_all (34 - w.result) all (omega (arith, length-drop w.result w.new.buffer))
+    let text : take (34 - w.result) all ≡ decimal c.in-Finite.coefficient =
+    take_all (34 - w.result) all (omega (arith, length-drop w.result w.new.buffer))
     ∙ w.ensures.written in
-    c.in-Err.ensures.cases.0 (rw text (IsUtf8-from_ascii _ (IsAscii-decimal_wide c.in-Finite.coefficient (omega arith))))
+    c.in-Err.ensures.cases.0
+    (rw text (IsUtf8-from_ascii _ (IsAscii-decimal_wide c.in-Finite.coefficient (omega arith))))

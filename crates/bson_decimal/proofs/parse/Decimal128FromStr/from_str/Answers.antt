@@ -19,7 +19,9 @@ some c =
     let text = c.args.text.now in
     let word = rw c.without_sign-rest.ensures at c.in-Some.ensures.word in
     let bytes : c.from_bytes.result ≡ to_le_bytes w128 (sign_weight (starts_with_minus text) + c.in-Some.number) =
-    c.from_bytes.ensures ∙ c.to_le_bytes.ensures ∙ ap (λ n. to_le_bytes w128 (n + c.in-Some.number)) (c.sign_weight.ensures.value ∙ ap sign_weight c.is_negative-negative.ensures) in
+    c.from_bytes.ensures ∙ c.to_le_bytes.ensures
+    ∙ ap (λ n. to_le_bytes w128 (n + c.in-Some.number))
+    (c.sign_weight.ensures.value ∙ ap sign_weight c.is_negative-negative.ensures) in
     subst (Only text) (sym bytes) (special-parses text c.in-Some.number word)
 
 pub returns-in-Some-clause-answer : goal.returns-in-Some-clause-answer
@@ -36,7 +38,8 @@ unfolding decimal_fault
 refused c =
     let text = c.args.text.now in
     let p = err_from_is_err_and c.from_residual.result c.from_residual.ensures.1 in
-    let is : finite (without_leading_sign text) ≡ Err c.in_err-coefficient.field-0.0 = ap finite (sym c.without_sign-rest.ensures)
+    let is : finite (without_leading_sign text) ≡ Err c.in_err-coefficient.field-0.0 =
+    ap finite (sym c.without_sign-rest.ensures)
     ∙ sym c.in_err-coefficient.ensures.value in
     let plain = rw c.without_sign-rest.ensures at c.in_default.ensures.word in
     rw (p.1, p.2) (refused-parses text _ plain is, ap fault_of (sym is))
@@ -45,7 +48,8 @@ pub returns-in_err-coefficient-clause-answer : goal.returns-in_err-coefficient-c
 returns-in_err-coefficient-clause-answer c = refused c
 
 pub returns-in_err-coefficient-clause-reads_displayed : goal.returns-in_err-coefficient-clause-reads_displayed
-returns-in_err-coefficient-clause-reads_displayed c = reads-display_text c.args.text.now c.from_residual.result (refused c)
+returns-in_err-coefficient-clause-reads_displayed c =
+    reads-display_text c.args.text.now c.from_residual.result (refused c)
 
 pub returns-in_err-coefficient-clause-prints_apart : goal.returns-in_err-coefficient-clause-prints_apart
 returns-in_err-coefficient-clause-prints_apart c = display_text-same
@@ -59,11 +63,18 @@ first_form-requires-clause-exponent c = (finite-within _ _ (sym c.in_ok-coeffici
 pair : (c : goal.After-from_bytes-2) → Only c.args.text.now c.from_bytes-2.result
 pair c =
     let text = c.args.text.now in
-    let is : finite (without_leading_sign text) ≡ Ok (c.in_ok-coefficient.coefficient, c.in_ok-coefficient.stored_exponent) = ap finite (sym c.without_sign-rest.ensures)
+    let is : finite (without_leading_sign text)
+    ≡ Ok (c.in_ok-coefficient.coefficient, c.in_ok-coefficient.stored_exponent) =
+    ap finite (sym c.without_sign-rest.ensures)
     ∙ sym c.in_ok-coefficient.ensures.value in
     let plain = rw c.without_sign-rest.ensures at c.in_default.ensures.word in
-    let bytes : c.from_bytes-2.result ≡ to_le_bytes w128 (first_form (starts_with_minus text) c.in_ok-coefficient.coefficient c.in_ok-coefficient.stored_exponent) =
-    c.from_bytes-2.ensures ∙ c.to_le_bytes-2.ensures ∙ ap (to_le_bytes w128) (c.first_form.ensures ∙ ap (λ b. first_form b c.in_ok-coefficient.coefficient c.in_ok-coefficient.stored_exponent) c.is_negative-negative.ensures) in
+    let bytes : c.from_bytes-2.result ≡ to_le_bytes w128
+    (first_form (starts_with_minus text) c.in_ok-coefficient.coefficient c.in_ok-coefficient.stored_exponent) =
+    c.from_bytes-2.ensures ∙ c.to_le_bytes-2.ensures
+    ∙ ap (to_le_bytes w128)
+    (c.first_form.ensures
+    ∙ ap (λ b. first_form b c.in_ok-coefficient.coefficient c.in_ok-coefficient.stored_exponent)
+    c.is_negative-negative.ensures) in
     subst (Only text) (sym bytes) (finite-parses text _ plain is)
 
 pub returns-clause-answer : goal.returns-clause-answer

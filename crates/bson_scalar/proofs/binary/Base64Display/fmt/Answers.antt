@@ -21,10 +21,15 @@ pub groups-preserved : goal.groups-preserved
 groups-preserved g c = λ p.
     let inv = c.groups.invariant p in
     let wrote = c.in_ok-write_str.ensures.writes inv.1.plain refl in
-    let whole : c.groups.rest.now ≡ c.split_at.result.0.now ++ c.split_at.result.1.now = rw (c.split_at.ensures.front, c.split_at.ensures.back) (sym (take-append-drop 3 c.groups.rest.now)) in
-    let parts = cut c.groups.rest.now c.split_at.result.0.now c.split_at.result.1.now whole c.split_at.ensures.front_len in
-    let text = rw (parts, ← c.group_text.ensures) at inv.2 in
-    (inv.0 ++ c.group_text.result.now, has_written_append _ _ _ _ _ _ inv.1 wrote, append_assoc inv.0 c.group_text.result.now (padded_text c.split_at.result.1.now) ∙ text)
+    let whole : c.groups.rest.now ≡ c.split_at.result.0.now ++ c.split_at.result.1.now =
+    rw (c.split_at.ensures.front, c.split_at.ensures.back) (sym (take-append-drop 3 c.groups.rest.now)) in
+    let parts = cut c.groups.rest.now c.split_at.result.0.now c.split_at.result.1.now whole
+    c.split_at.ensures.front_len in
+    let text = rw (parts, ← c.group_text.ensures) at inv.2 in (
+      inv.0 ++ c.group_text.result.now,
+      has_written_append _ _ _ _ _ _ inv.1 wrote,
+      append_assoc inv.0 c.group_text.result.now (padded_text c.split_at.result.1.now) ∙ text,
+    )
 
 pub returns-clause-writes : goal.returns-clause-writes
 returns-clause-writes g c = λ p ok.

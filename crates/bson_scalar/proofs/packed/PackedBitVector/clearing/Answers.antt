@@ -5,8 +5,10 @@ use Rattle.bson_scalar.proofs.packed.PackedBitVector.clearing.Goals as goal
 
 -- the third cause falls away where the ignored bits are zero, and the second speaks of as many bytes
 two_left : (P : Type 0) (padding len len_before bits : ℕ) → len ≡ len_before → bits ≡ 0
-    → (P → (7 < padding) ⊎ ((len ≡ 0) × (0 < padding)) ⊎ (0 < bits)) × ((7 < padding) ⊎ ((len ≡ 0) × (0 < padding)) ⊎ (0 < bits) → P)
-    → (P → (7 < padding) ⊎ ((len_before ≡ 0) × (0 < padding))) × ((7 < padding) ⊎ ((len_before ≡ 0) × (0 < padding)) → P)
+    → (P → (7 < padding) ⊎ ((len ≡ 0) × (0 < padding)) ⊎ (0 < bits))
+    × ((7 < padding) ⊎ ((len ≡ 0) × (0 < padding)) ⊎ (0 < bits) → P)
+    → (P → (7 < padding) ⊎ ((len_before ≡ 0) × (0 < padding)))
+    × ((7 < padding) ⊎ ((len_before ≡ 0) × (0 < padding)) → P)
 two_left P padding len len_before bits same zero h = (
   λ p. elim (h.0 p) [
     | inl wide ↦ inl wide
@@ -23,5 +25,6 @@ pub returns-clause-refused : goal.returns-clause-refused
 returns-clause-refused c =
     let bits = c.with_zero_bits in
     let zero : ignored_bits bits.result.items c.args.padding ≡ 0 =
-    ap (λ bytes. ignored_bits bytes c.args.padding) bits.ensures.items ∙ cleared_bytes-zero c.args.bytes.items c.args.padding in
+    ap (λ bytes. ignored_bits bytes c.args.padding) bits.ensures.items
+    ∙ cleared_bytes-zero c.args.bytes.items c.args.padding in
     two_left _ c.args.padding _ _ _ bits.ensures.len zero c.new.ensures.refused

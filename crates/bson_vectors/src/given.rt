@@ -1,0 +1,24 @@
+//! Documents that the tests start from.
+use bson::{Bson, Document};
+use std::alloc::{AllocError, Global};
+
+/// Puts the value, and lets the pair go where there is no memory for it.
+pub(crate) fn put(document: &mut Document, key: String, value: Bson) -> Result<(), AllocError> {
+    match document.insert(key, value) {
+        Ok(_) => Ok(()),
+        Err(_) => Err(AllocError),
+    }
+}
+
+/// The pairs in their order.
+pub(crate) fn filled(alloc: Global, pairs: &[(&str, i32)]) -> Result<Document, AllocError> {
+    let mut document = Document::new(alloc);
+    for &(key, value) in pairs {
+        put(
+            &mut document,
+            String::from_str(alloc, key)?,
+            Bson::Int32(value),
+        )?;
+    }
+    Ok(document)
+}
