@@ -12,10 +12,10 @@ use Rattle.bson.specs.declared.bson.Bson.{Bson}
 use Rattle.bson_model.specs.Sorted.{put_pair, IsLeast, KeysAscend}
 use Rattle.bson_model.specs.Value.{pair}
 use Rattle.bson_model.proofs.Offered.{flipped, equal_keys}
-use Rattle.bson.specs.Gathered.{Member, gathered_pairs, StandsAt, FitsAt}
+use Rattle.bson.specs.Gathered.{Member, member, gathered_pairs, StandsAt, FitsAt}
 
 abbrev pub key_at : List Member → ℕ → Member → List ℕ
-key_at ms i d = string_bytes (get_or ms i d).0
+key_at ms i d = string_bytes (get_or ms i d).key
 
 -- the keys behind a place are above the one there
 above_first : (k : List ℕ) (ms : List Member) (i : ℕ) (d : Member) → IsLeast k (gathered_pairs ms) → i < length ms
@@ -26,16 +26,16 @@ above_first k (m ∷ ms) (suc i) d a l = above_first k ms i d a.1 (omega arith)
 
 -- what is above a member is above all before it
 after_first : (k : List ℕ) (m : Member) (ms : List Member) (i : ℕ) (d : Member)
-    → IsLeast (string_bytes m.0) (gathered_pairs ms) → i < length ms → slice_cmp nat_cmp k (key_at ms i d) ≡ Greater
-    → slice_cmp nat_cmp k (string_bytes m.0) ≡ Greater
+    → IsLeast (string_bytes m.key) (gathered_pairs ms) → i < length ms → slice_cmp nat_cmp k (key_at ms i d) ≡ Greater
+    → slice_cmp nat_cmp k (string_bytes m.key) ≡ Greater
 after_first k m ms i d least l h =
-    flipped (string_bytes m.0) k Less (nat_list_cmp_total.trans (string_bytes m.0) (key_at ms i d) k (above_first (string_bytes m.0) ms i d least l) (flipped k (key_at ms i d) Greater h))
+    flipped (string_bytes m.key) k Less (nat_list_cmp_total.trans (string_bytes m.key) (key_at ms i d) k (above_first (string_bytes m.key) ms i d least l) (flipped k (key_at ms i d) Greater h))
 
 at_first : (k : List ℕ) (m : Member) (ms : List Member) (i : ℕ) (d : Member)
-    → IsLeast (string_bytes m.0) (gathered_pairs ms) → i < length ms → slice_cmp nat_cmp k (key_at ms i d) ≡ Equal
-    → slice_cmp nat_cmp k (string_bytes m.0) ≡ Greater
+    → IsLeast (string_bytes m.key) (gathered_pairs ms) → i < length ms → slice_cmp nat_cmp k (key_at ms i d) ≡ Equal
+    → slice_cmp nat_cmp k (string_bytes m.key) ≡ Greater
 at_first k m ms i d least l h =
-    flipped (string_bytes m.0) k Less (subst (λ x. slice_cmp nat_cmp (string_bytes m.0) x ≡ Less) (sym (equal_keys k (key_at ms i d) h)) (above_first (string_bytes m.0) ms i d least l))
+    flipped (string_bytes m.key) k Less (subst (λ x. slice_cmp nat_cmp (string_bytes m.key) x ≡ Less) (sym (equal_keys k (key_at ms i d) h)) (above_first (string_bytes m.key) ms i d least l))
 
 pub stands : (k : List ℕ) (ms : List Member) (i : ℕ) (d : Member) → KeysAscend (gathered_pairs ms) → i < length ms
     → slice_cmp nat_cmp k (key_at ms i d) ≡ Equal → StandsAt k ms i
@@ -60,28 +60,17 @@ fits k (m ∷ ms) (suc i) d up l h below = (after_first k m ms i d up.0 (omega a
 -- ---- what an edit at the place does
 
 pub seen_set : (k : String Global) (v : Bson) (ms : List Member) (i : ℕ) → StandsAt (string_bytes k) ms i
-    → gathered_pairs (set ms i (k, v)) ≡ put_pair (string_bytes k) (bson_view v) (gathered_pairs ms)
+    → gathered_pairs (set ms i (member k v)) ≡ put_pair (string_bytes k) (bson_view v) (gathered_pairs ms)
 seen_set k v [] i h = absurd h
-seen_set k v (m ∷ ms) zero h = rw h (ap (λ x. pair x (bson_view v) (gathered_pairs ms)) (equal_keys (string_bytes k) (string_bytes m.0) h))
-seen_set k v (m ∷ ms) (suc i) h = rw h.0 (ap (pair (string_bytes m.0) (bson_view m.1)) (seen_set k v ms i h.1))
+seen_set k v (m ∷ ms) zero h = rw h (ap (λ x. pair x (bson_view v) (gathered_pairs ms)) (equal_keys (string_bytes k) (string_bytes m.key) h))
+seen_set k v (m ∷ ms) (suc i) h = rw h.0 (ap (pair (string_bytes m.key) (bson_view m.value)) (seen_set k v ms i h.1))
 
 pub seen_insert : (k : String Global) (v : Bson) (ms : List Member) (i : ℕ) → FitsAt (string_bytes k) ms i
-    → gathered_pairs (insert ms i (k, v)) ≡ put_pair (string_bytes k) (bson_view v) (gathered_pairs ms)
+    → gathered_pairs (insert ms i (member k v)) ≡ put_pair (string_bytes k) (bson_view v) (gathered_pairs ms)
 seen_insert k v [] zero h = refl
 seen_insert k v [] (suc i) h = absurd h
 seen_insert k v (m ∷ ms) zero h = rw h refl
-seen_insert k v (m ∷ ms) (suc i) h = rw h.0 (ap (pair (string_bytes m.0) (bson_view m.1)) (seen_insert k v ms i h.1))
-
--- ---- keys that ascend are apart
-
-apart : (k : String Global) (ms : List Member) → IsLeast (string_bytes k) (gathered_pairs ms)
-    → AllApart (string_bytes k) ms
-apart k [] h = tt
-apart k (m ∷ ms) h = (nat_list_eq_equiv.symm (string_bytes m.0) (string_bytes k) ∙ sym (is_eq-slice_cmp (string_bytes k) (string_bytes m.0)) ∙ ap is_eq h.0, apart k ms h.1)
-
-pub fresh : (ms : List Member) → KeysAscend (gathered_pairs ms) → Fresh {V = Bson} [] ms
-fresh [] up = tt
-fresh (m ∷ ms) up = (refl, apart m.0 ms up.0, fresh ms up.1)
+seen_insert k v (m ∷ ms) (suc i) h = rw h.0 (ap (pair (string_bytes m.key) (bson_view m.value)) (seen_insert k v ms i h.1))
 
 -- ---- places are within the list
 

@@ -1,41 +1,43 @@
 -- Members may be put in any order in which those of each key keep their turns.
-use Rattle.std.proofs.Common.{◌≡◌, ℕ, suc, ◌<◌, List, [], ◌∷◌, ◌++◌, length, Bool, true, false, cond, Ordering, Less, nat_cmp, string_bytes, refl, sym, ap, ◌∙◌, subst, arith}
+use Rattle.std.proofs.Common.{◌≡◌, ℕ, List, [], ◌∷◌, ◌++◌, Bool, true, false, cond, Ordering, Less, string_bytes, refl, sym, ap, ◌∙◌, subst}
 use Rattle.std.proofs.lemmas.Cmp.{tied_itself}
 use Rattle.std.proofs.lemmas.Slice.Eq.{bytes_eq-Decides}
 use Rattle.std.specs.Cmp.{IsTotalOrder}
-use Rattle.std.specs.Cmp.Lexicographic.{slice_cmp}
-use Rattle.std.specs.List.{filter}
-use Rattle.std.specs.List.Sorted.{IsStableBy, ties}
+use Rattle.std.specs.List.{filter, AllByRecursion}
+use Rattle.std.specs.List.Sorted.{IsStableBy, IsStrictlySortedBy, ties}
 use Rattle.std.specs.Ordering.{is_lt}
 use Rattle.std.specs.Str.{bytes_eq}
+use Rattle.bson_store.specs.Order.{key_cmp}
+use Rattle.bson_store.specs.Pairs.{keys}
+use Rattle.bson_store.specs.Small as store
+use Rattle.bson_store.specs.Small.{stored_pairs}
 use Rattle.bson.specs.View.{bson_view}
 use Rattle.bson.specs.Gathered.{Member, gathered_pairs, has_key_of, put_all, KeepsTurns}
-use Rattle.bson.proofs.Members.{key_at}
-use Rattle.bson.proofs.PutReads.{less_than_least}
+use Rattle.bson.proofs.PutReads.{put_ascends}
 use Rattle.bson_model.specs.Value.{Value, Pairs, no_pairs, pair}
 use Rattle.bson_model.specs.Sorted.{put_pair, IsLeast, KeysAscend}
 use Rattle.bson_model.proofs.Offered.{flipped, put_swap}
 
 abbrev put_member : Member → Pairs → Pairs
-put_member m ps = put_pair (string_bytes m.0) (bson_view m.1) ps
+put_member m ps = put_pair (string_bytes m.key) (bson_view m.value) ps
 
 -- ---- members of one key
 
-pub same_key : (m n : Member) → has_key_of m n ≡ true → string_bytes m.0 ≡ string_bytes n.0
-same_key m n h = (bytes_eq-Decides (string_bytes m.0) (string_bytes n.0)).0 h
+pub same_key : (m n : Member) → has_key_of m n ≡ true → string_bytes m.key ≡ string_bytes n.key
+same_key m n h = (bytes_eq-Decides (string_bytes m.key) (string_bytes n.key)).0 h
 
 has_own : (m : Member) → has_key_of m m ≡ true
-has_own m = (bytes_eq-Decides (string_bytes m.0) (string_bytes m.0)).1 refl
+has_own m = (bytes_eq-Decides (string_bytes m.key) (string_bytes m.key)).1 refl
 
-told_apart : (m n : Member) → has_key_of m n ≡ false → string_bytes m.0 ≡ string_bytes n.0 → ⊥
-told_apart m n h e = let is = (bytes_eq-Decides (string_bytes m.0) (string_bytes n.0)).1 e in cc
+told_apart : (m n : Member) → has_key_of m n ≡ false → string_bytes m.key ≡ string_bytes n.key → ⊥
+told_apart m n h e = let is = (bytes_eq-Decides (string_bytes m.key) (string_bytes n.key)).1 e in cc
 
 -- of two of one key both have the key of a third, or neither
 alike : (o m n : Member) → has_key_of m n ≡ true → has_key_of o m ≡ has_key_of o n
-alike o m n h = ap (bytes_eq (string_bytes o.0)) (same_key m n h)
+alike o m n h = ap (bytes_eq (string_bytes o.key)) (same_key m n h)
 
 as_alike : (o m n : Member) → has_key_of o m ≡ true → has_key_of o n ≡ has_key_of m n
-as_alike o m n h = ap (λ k. bytes_eq k (string_bytes n.0)) (same_key o m h)
+as_alike o m n h = ap (λ k. bytes_eq k (string_bytes n.key)) (same_key o m h)
 
 -- ---- the members without the first that has a key
 
@@ -90,7 +92,7 @@ first_at true m n ns ms ps e h is =
 first_at false m n ns ms ps e h is =
     let later = subst (λ b. cond b (n ∷ filter (has_key_of m) ns) (filter (has_key_of m) ns) ≡ m ∷ ms) e h in
     rw e (is (put_member n ps) later
-    ∙ ap (put_all (without m ns)) (put_swap (string_bytes m.0) (string_bytes n.0) (bson_view m.1) (bson_view n.1) ps (told_apart m n e)))
+    ∙ ap (put_all (without m ns)) (put_swap (string_bytes m.key) (string_bytes n.key) (bson_view m.value) (bson_view n.value) ps (told_apart m n e)))
 
 put_first : (m : Member) (ns ms : List Member) (ps : Pairs) → filter (has_key_of m) ns ≡ m ∷ ms
     → put_all ns ps ≡ put_all (without m ns) (put_member m ps)
@@ -132,11 +134,11 @@ filter_within p q (x ∷ xs) passes = within_at _ _ p q x xs refl refl (passes x
 
 -- a stable sort by what the key alone tells
 pub sorted_by : {K : Type 0} {R : K → K → Ordering} (o : IsTotalOrder R) (f : List ℕ → K) (ms ns : List Member)
-    → IsStableBy (λ m n. is_lt (R (f (string_bytes m.0)) (f (string_bytes n.0)))) ms ns → KeepsTurns ms ns
+    → IsStableBy (λ m n. is_lt (R (f (string_bytes m.key)) (f (string_bytes n.key)))) ms ns → KeepsTurns ms ns
 sorted_by {K} {R} o f ms ns stable m =
-    let lt = λ (a b : Member). is_lt (R (f (string_bytes a.0)) (f (string_bytes b.0))) in
+    let lt = λ (a b : Member). is_lt (R (f (string_bytes a.key)) (f (string_bytes b.key))) in
     let tied : (n : Member) → has_key_of m n ≡ true → ties lt m n ≡ true =
-    λ n h. let e = same_key m n h in let s = tied_itself o (f (string_bytes n.0)) in rw (e, s) refl in
+    λ n h. let e = same_key m n h in let s = tied_itself o (f (string_bytes n.key)) in rw (e, s) refl in
     sym (filter_within (has_key_of m) (ties lt m) ns tied) ∙ ap (filter (has_key_of m)) (stable m)
     ∙ filter_within (has_key_of m) (ties lt m) ms tied
 
@@ -149,21 +151,36 @@ put_last (n ∷ ms) m ps = put_last ms m (put_member n ps)
 above : (k : List ℕ) (v : Value) (ms : List Member) (ps : Pairs) → IsLeast k (gathered_pairs ms)
     → put_all ms (pair k v ps) ≡ pair k v (put_all ms ps)
 above k v [] ps least = refl
-above k v (m ∷ ms) ps least = rw (flipped k (string_bytes m.0) Less least.0) (above k v ms (put_member m ps) least.1)
+above k v (m ∷ ms) ps least = rw (flipped k (string_bytes m.key) Less least.0) (above k v ms (put_member m ps) least.1)
 
 -- members that ascend are put as they stand
 pub put_ascending : (ms : List Member) → KeysAscend (gathered_pairs ms) → put_all ms no_pairs ≡ gathered_pairs ms
 put_ascending [] up = refl
-put_ascending (m ∷ ms) up = above (string_bytes m.0) (bson_view m.1) ms no_pairs up.0
-    ∙ ap (pair (string_bytes m.0) (bson_view m.1)) (put_ascending ms up.1)
+put_ascending (m ∷ ms) up = above (string_bytes m.key) (bson_view m.value) ms no_pairs up.0
+    ∙ ap (pair (string_bytes m.key) (bson_view m.value)) (put_ascending ms up.1)
 
--- keys ascend where each is above the one before it
-pub ascend_from : (ms : List Member)
-    → ((i : ℕ) (d : Member) → suc i < length ms → slice_cmp nat_cmp (key_at ms i d) (key_at ms (suc i) d) ≡ Less)
-    → KeysAscend (gathered_pairs ms)
-ascend_from [] next = tt
-ascend_from (m ∷ []) next = (tt, tt)
-ascend_from (m ∷ n ∷ ms) next =
-    let up = ascend_from (n ∷ ms) (λ i d l. next (suc i) d (omega arith)) in
-    let first = next 0 m (omega arith) in
-    ((first, less_than_least (string_bytes m.0) (string_bytes n.0) (gathered_pairs ms) first up.0), up)
+pub all_ascend : (ms : List Member) (ps : Pairs) → KeysAscend ps → KeysAscend (put_all ms ps)
+all_ascend [] ps up = up
+all_ascend (m ∷ ms) ps up = all_ascend ms (put_member m ps) (put_ascends (string_bytes m.key) (bson_view m.value) ps up)
+
+-- ---- keys that ascend in a store
+
+below_all : (k : List ℕ) (ms : List Member) → IsLeast k (gathered_pairs ms)
+    → AllByRecursion (λ q. key_cmp k q ≡ Less) (keys (stored_pairs ms))
+below_all k [] h = tt
+below_all k (m ∷ ms) h = (h.0, below_all k ms h.1)
+
+pub to_store : (ms : List Member) → KeysAscend (gathered_pairs ms) → store.KeysAscend (stored_pairs ms)
+unfolding IsStrictlySortedBy
+to_store [] up = tt
+to_store (m ∷ ms) up = (below_all (string_bytes m.key) ms up.0, to_store ms up.1)
+
+least_of : (k : List ℕ) (ms : List Member) → AllByRecursion (λ q. key_cmp k q ≡ Less) (keys (stored_pairs ms))
+    → IsLeast k (gathered_pairs ms)
+least_of k [] h = tt
+least_of k (m ∷ ms) h = (h.0, least_of k ms h.1)
+
+pub from_store : (ms : List Member) → store.KeysAscend (stored_pairs ms) → KeysAscend (gathered_pairs ms)
+unfolding IsStrictlySortedBy
+from_store [] up = tt
+from_store (m ∷ ms) up = (least_of (string_bytes m.key) ms up.0, from_store ms up.1)

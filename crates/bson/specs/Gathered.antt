@@ -1,5 +1,5 @@
 -- The members of an object as they come and by ascending key, and the place of one more. For private clauses.
-use Rattle.std.specs.Prelude.{◌≡◌, ℕ, zero, suc, ◌*◌, ◌%◌, ◌^◌, Bool, List, [], ◌∷◌, map, slice_index_or, String}
+use Rattle.std.specs.Prelude.{◌≡◌, ℕ, zero, suc, ◌*◌, ◌%◌, ◌^◌, Bool, List, [], ◌∷◌, slice_index_or, String}
 use Rattle.std.specs.Prelude.{string_bytes}
 use Rattle.std.specs.Int.Bits.{bit_or}
 use Rattle.std.specs.List.{filter}
@@ -10,25 +10,26 @@ use Rattle.std.specs.declared.alloc.Global.{Global}
 use Rattle.std.specs.declared.cmp.Ordering.TheVariants.{Less, Equal, Greater}
 use Rattle.bson_model.specs.Sorted.{put_pair}
 use Rattle.bson_model.specs.Value.{Pairs, no_pairs}
+use Rattle.bson_store.specs.Small.{stored_pairs}
+use Rattle.bson_store.specs.declared.small.Pair.{Pair}
 use Rattle.bson.specs.View.{bson_view, pairs_view}
 use Rattle.bson.specs.declared.bson.Bson.{Bson}
 use Rattle.bson.specs.declared.extjson.text_reader.gathered.Gathered.{Gathered}
 use Rattle.bson.specs.declared.extjson.text_reader.gathered.Gathered.TheVariants.{Few, Many}
 
 abbrev pub Member : Type 0
-Member = String Global × Bson
+Member = Pair Bson
 
--- keys by their bytes
-abbrev pub by_bytes : List Member → List (List ℕ × Bson)
-by_bytes ms = map (λ m. (string_bytes m.0, m.1)) ms
+abbrev pub member : String Global → Bson → Member
+member k v = record { key = k; value = v }
 
 abbrev pub gathered_pairs : List Member → Pairs
-gathered_pairs ms = pairs_view (by_bytes ms)
+gathered_pairs ms = pairs_view (stored_pairs ms)
 
 -- the pairs after each member in turn is put to them
 abbrev pub put_all : List Member → Pairs → Pairs
 put_all [] ps = ps
-put_all (m ∷ ms) ps = put_all ms (put_pair (string_bytes m.0) (bson_view m.1) ps)
+put_all (m ∷ ms) ps = put_all ms (put_pair (string_bytes m.key) (bson_view m.value) ps)
 
 abbrev pub gathered : Gathered → Pairs
 gathered (Few v) = gathered_pairs v.items
@@ -37,19 +38,19 @@ gathered (Many v) = put_all v.items no_pairs
 -- the key stands at the place, and is above all before it
 abbrev pub StandsAt : List ℕ → List Member → ℕ → Type 0
 StandsAt k [] i = ⊥
-StandsAt k (m ∷ ms) zero = slice_cmp nat_cmp k (string_bytes m.0) ≡ Equal
-StandsAt k (m ∷ ms) (suc i) = (slice_cmp nat_cmp k (string_bytes m.0) ≡ Greater) × StandsAt k ms i
+StandsAt k (m ∷ ms) zero = slice_cmp nat_cmp k (string_bytes m.key) ≡ Equal
+StandsAt k (m ∷ ms) (suc i) = (slice_cmp nat_cmp k (string_bytes m.key) ≡ Greater) × StandsAt k ms i
 
 -- the key is above all before the place, and below the member there
 abbrev pub FitsAt : List ℕ → List Member → ℕ → Type 0
 FitsAt k [] zero = Unit {0}
 FitsAt k [] (suc i) = ⊥
-FitsAt k (m ∷ ms) zero = slice_cmp nat_cmp k (string_bytes m.0) ≡ Less
-FitsAt k (m ∷ ms) (suc i) = (slice_cmp nat_cmp k (string_bytes m.0) ≡ Greater) × FitsAt k ms i
+FitsAt k (m ∷ ms) zero = slice_cmp nat_cmp k (string_bytes m.key) ≡ Less
+FitsAt k (m ∷ ms) (suc i) = (slice_cmp nat_cmp k (string_bytes m.key) ≡ Greater) × FitsAt k ms i
 
 -- they have one key
 abbrev pub has_key_of : Member → Member → Bool
-has_key_of m n = bytes_eq (string_bytes m.0) (string_bytes n.0)
+has_key_of m n = bytes_eq (string_bytes m.key) (string_bytes n.key)
 
 -- the same members, in which those of each key stand in the order in which they stood
 abbrev pub KeepsTurns : List Member → List Member → Type 0

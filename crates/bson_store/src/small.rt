@@ -4,6 +4,7 @@ ghost use Rattle.std.specs.Prelude.{string_bytes, refl, IfOk, IfSome};
 ghost use Rattle.bson_store.specs.Order.{IsLeast};
 ghost use Rattle.bson_store.specs.Pairs.{HasDistinctKeys, with_value};
 
+mod from_ascending;
 mod into_iter;
 
 use crate::ascending::next_ascending;
@@ -16,11 +17,22 @@ use std::alloc::{AllocError, Global};
 use std::collections::BTreeMap;
 use std::marker::Model;
 
-// A key and its value.
+/// A key and its value. Where the keys of a list of pairs ascend, it becomes a store as it stands.
+///
+/// ```
+/// let mut pairs = Vec::new(alloc);
+/// pairs.push(Pair {
+///     key: String::from_str(alloc, "a")?,
+///     value: 1,
+/// })?;
+/// println!(rt; "{}", SmallPairs::try_from_ascending(pairs).is_ok())?; // true
+/// ```
 #[derive(Drop)]
-pub(crate) struct Pair<V> {
-    pub(crate) key: String,
-    pub(crate) value: V,
+pub struct Pair<V> {
+    /// The key.
+    pub key: String,
+    /// The value.
+    pub value: V,
 }
 
 /// A store whose pairs stand in one `Vec`, and, where more than eight have keys that don't ascend,

@@ -1,17 +1,28 @@
 //! The stores that documents can stand on, and commands to them.
 use crate::given;
-use bson::store::{Command, IndexedPairs, PairStore, SmallPairs, Stopped, replay};
+use bson::store::{Command, IndexedPairs, Pair, PairStore, SmallPairs, Stopped, replay};
 use bson_store::by_key::{put, take};
 use std::alloc::Global;
 
 pub(crate) fn print(rt: &impl Print, alloc: Global) -> anyhow::Result<()> {
     pair_store(rt, &given::pairs(alloc)?)?;
+    pair(rt, alloc)?;
     small_pairs(rt, alloc)?;
     small_into_iter(rt, given::pairs(alloc)?)?;
     indexed_pairs(rt, alloc)?;
     indexed_into_iter(rt, given::indexed_pairs(alloc)?)?;
     command(rt, alloc)?;
     stopped(rt)
+}
+
+fn pair(rt: &impl Print, alloc: Global) -> anyhow::Result<()> {
+    let mut pairs = Vec::new(alloc);
+    pairs.push(Pair {
+        key: String::from_str(alloc, "a")?,
+        value: 1,
+    })?;
+    println!(rt; "{}", SmallPairs::try_from_ascending(pairs).is_ok())?; // true
+    Ok(())
 }
 
 fn small_pairs(rt: &impl Print, alloc: Global) -> anyhow::Result<()> {

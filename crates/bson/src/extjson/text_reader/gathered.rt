@@ -9,7 +9,7 @@ ghost use Rattle.bson.specs.Gathered.{KeepsTurns, prefix};
 use crate::bson::Bson;
 use crate::document::Document;
 use crate::extjson::text_reader::unread::Unread;
-use bson_store::{PairStore, SmallPairs};
+use bson_store::{Pair, SmallPairs};
 use std::alloc::Global;
 use std::cmp::Ordering;
 
@@ -20,9 +20,9 @@ const MANY: usize = 32;
 #[derive(Drop)]
 pub(crate) enum Gathered {
     /// By ascending key, each once: they came so, or are few.
-    Few(Vec<(String, Bson)>),
+    Few(Vec<Pair<Bson>>),
     /// As they came. Of those of one key the last counts.
-    Many(Vec<(String, Bson)>),
+    Many(Vec<Pair<Bson>>),
 }
 
 /// No members.
@@ -54,7 +54,7 @@ pub(crate) fn put(found: Gathered, key: String, value: Bson) -> Result<Gathered,
     }
 }
 
-fn put_few(mut members: Vec<(String, Bson)>, key: String, value: Bson) -> Result<Gathered, Unread>
+fn put_few(mut members: Vec<Pair<Bson>>, key: String, value: Bson) -> Result<Gathered, Unread>
     requires { KeysAscend (gathered_pairs members.items) }
     ensures { IfOk result
         (λ now. gathered now ≡ put_pair (string_bytes key) (bson_view value) (gathered_pairs members.items)) }
@@ -69,23 +69,23 @@ fn put_few(mut members: Vec<(String, Bson)>, key: String, value: Bson) -> Result
     }
 }
 
-fn put_many(mut members: Vec<(String, Bson)>, key: String, value: Bson) -> Result<Gathered, Unread>
+fn put_many(mut members: Vec<Pair<Bson>>, key: String, value: Bson) -> Result<Gathered, Unread>
     ensures { IfOk result
         (λ now. gathered now ≡ put_pair (string_bytes key) (bson_view value) (put_all members.items no_pairs)) }
 {
-    members.push((key, value))?;
+    members.push(Pair { key, value })?;
     Ok(Gathered::Many(members))
 }
 
 // The place of the key, or that at which it would stand; by a walk from the end, since most keys
 // ascend.
-fn place_of(found: &Vec<(String, Bson)>, key: &str) -> Result<usize, usize>
+fn place_of(found: &Vec<Pair<Bson>>, key: &str) -> Result<usize, usize>
     requires { KeysAscend (gathered_pairs found.now.items) }
     ensures { MatchResult result (λ at. StandsAt key.now found.now.items at) (λ at. FitsAt key.now found.now.items at) }
 {
     let mut at = found.len();
     'walk: while at > 0 {
-        match key.cmp(found[at - 1].0.as_str()) {
+        match key.cmp(found[at - 1].key.as_str()) {
             Ordering::Less => at -= 1,
             Ordering::Equal => return Ok(at - 1),
             Ordering::Greater => return Err(at),
@@ -96,7 +96,7 @@ fn place_of(found: &Vec<(String, Bson)>, key: &str) -> Result<usize, usize>
 
 // Puts the value at the key, whose place is this.
 fn enter(
-    members: &mut Vec<(String, Bson)>,
+    members: &mut Vec<Pair<Bson>>,
     place: Result<usize, usize>,
     key: String,
     value: Bson,
@@ -107,8 +107,8 @@ fn enter(
         ≡ put_pair (string_bytes key) (bson_view value) (gathered_pairs members.old.items)) }
 {
     match place {
-        Ok(at) => members[at] = (key, value),
-        Err(at) => members.insert(at, (key, value))?,
+        Ok(at) => members[at] = Pair { key, value },
+        Err(at) => members.insert(at, Pair { key, value })?,
     }
     Ok(())
 }
@@ -119,41 +119,45 @@ pub(crate) fn document_of(alloc: Global, found: Gathered) -> Result<Document, Un
     ensures { IfOk result (λ document. document_view document ≡ gathered found) }
 {
     match found {
-        Gathered::Few(members) => of_few(alloc, members),
-        Gathered::Many(members) => of_few(alloc, in_order(alloc, members)?),
+        Gathered::Few(members) => Ok(of_ascending(members)),
+        Gathered::Many(members) => of_many(alloc, members),
     }
 }
 
-fn of_few(alloc: Global, found: Vec<(String, Bson)>) -> Result<Document, Unread>
-    requires { KeysAscend (gathered_pairs found.items) }
-    ensures { IfOk result (λ document. document_view document ≡ gathered_pairs found.items) }
+fn of_ascending(members: Vec<Pair<Bson>>) -> Document
+    requires { KeysAscend (gathered_pairs members.items) }
+    ensures { document_view result ≡ gathered_pairs members.items }
 {
-    let mut pairs = SmallPairs::with_capacity(alloc, found.len())?;
-    'members: for (key, value) in found {
-        match pairs.push(key, value) {
-            Ok(()) => {}
-            Err(_) => return Err(Unread::OutOfMemory),
-        }
+    match SmallPairs::try_from_ascending(members) {
+        Ok(pairs) => Document { pairs },
+        Err(_) => unreachable!(),
     }
-    Ok(Document { pairs })
 }
 
-// The members by ascending key, each once. The first bytes of the keys put most of them in order.
-fn in_order(alloc: Global, mut members: Vec<(String, Bson)>) -> Result<Vec<(String, Bson)>, Unread>
-    ensures { IfOk result (λ found. gathered_pairs found.items ≡ put_all members.items no_pairs) }
+// The first bytes of the keys tell most of them apart.
+fn of_many(alloc: Global, mut members: Vec<Pair<Bson>>) -> Result<Document, Unread>
+    ensures { IfOk result (λ document. document_view document ≡ put_all members.items no_pairs) }
 {
     sort_by_prefix(&mut members)?;
-    if ascends(&members) {
-        return Ok(members);
+    match SmallPairs::try_from_ascending(members) {
+        Ok(pairs) => Ok(Document { pairs }),
+        Err(members) => of_unsorted(alloc, members),
     }
-    sort_by_key(&mut members)?;
-    last_of_each(alloc, members)
 }
 
-fn sort_by_prefix(members: &mut Vec<(String, Bson)>) -> Result<(), Unread>
+// Of members whose first bytes are alike, or whose keys stand twice.
+fn of_unsorted(alloc: Global, mut members: Vec<Pair<Bson>>) -> Result<Document, Unread>
+    ensures { IfOk result (λ document. document_view document ≡ put_all members.items no_pairs) }
+{
+    sort_by_key(&mut members)?;
+    let found = last_of_each(alloc, members)?;
+    Ok(of_ascending(found))
+}
+
+fn sort_by_prefix(members: &mut Vec<Pair<Bson>>) -> Result<(), Unread>
     ensures { OnOk result (KeepsTurns members.old.items members.new.items) }
 {
-    members.sort_by_cached_key(|member| prefix_of(member.0.as_bytes()))?;
+    members.sort_by_cached_key(|member| prefix_of(member.key.as_bytes()))?;
     Ok(())
 }
 
@@ -169,26 +173,19 @@ fn prefix_of(key: &[u8]) -> u128
     prefix
 }
 
-fn sort_by_key(members: &mut Vec<(String, Bson)>) -> Result<(), Unread>
+fn sort_by_key(members: &mut Vec<Pair<Bson>>) -> Result<(), Unread>
     ensures { OnOk result (KeepsTurns members.old.items members.new.items) }
 {
-    members.sort_by(|one, other| one.0.cmp(&other.0))?;
+    members.sort_by(|one, other| one.key.cmp(&other.key))?;
     Ok(())
 }
 
-// Whether each key is above the one before it.
-fn ascends(members: &Vec<(String, Bson)>) -> bool
-    ensures { IsTrue result → KeysAscend (gathered_pairs members.now.items) }
-{
-    members.is_sorted_by(|one, next| one.0 < next.0)
-}
-
 // The last member of each key, by ascending key. It is quick where the keys do not descend.
-fn last_of_each(alloc: Global, members: Vec<(String, Bson)>) -> Result<Vec<(String, Bson)>, Unread>
+fn last_of_each(alloc: Global, members: Vec<Pair<Bson>>) -> Result<Vec<Pair<Bson>>, Unread>
     ensures { IfOk result (λ found. gathered_pairs found.items ≡ put_all members.items no_pairs) }
 {
     let mut found = Vec::with_capacity(alloc, members.len())?;
-    'members: for (key, value) in members {
+    'members: for Pair { key, value } in members {
         let place = place_of(&found, key.as_str());
         enter(&mut found, place, key, value)?;
     }

@@ -11,10 +11,10 @@ pub members-preserved : goal.members-preserved
 members-preserved c =
     let at = c.members in
     let later = into_iter_items c.next.new.self in
-    let steps : into_iter_items at.key-iterator ≡ (c.in-Some.key, c.in-Some.value) ∷ later = c.in-Some.ensures.steps.0 in
+    let steps : into_iter_items at.key-iterator ≡ c.in-Some.field-0 ∷ later = c.in-Some.ensures.steps.0 in
     let ps = gathered_pairs at.found.items in
     record {
-      left = one_left _ later (c.in-Some.key, c.in-Some.value) _ _ at.invariant.left steps c.in-Some.ensures.steps.1;
-      ascends = subst KeysAscend (sym c.in_ok-enter.ensures) (put_ascends (string_bytes c.in-Some.key) (bson_view c.in-Some.value) ps at.invariant.ascends);
+      left = one_left _ later c.in-Some.field-0 _ _ at.invariant.left steps c.in-Some.ensures.steps.1;
+      ascends = subst KeysAscend (sym c.in_ok-enter.ensures) (put_ascends (string_bytes c.in-Some.field-0.key) (bson_view c.in-Some.field-0.value) ps at.invariant.ascends);
       all = ap (put_all later) c.in_ok-enter.ensures ∙ ap (λ ms. put_all ms ps) (sym steps) ∙ at.invariant.all;
     }

@@ -1,0 +1,26 @@
+//! Pairs that come in ascending order become a store as they stand.
+ghost use Rattle.std.specs.Prelude.{◌≡◌, IsOk, IfOk, IfErr};
+ghost use Rattle.bson_store.specs.Small.{stored_pairs, KeysAscend};
+
+use crate::small::{Pair, SmallPairs};
+
+impl<V: Drop> SmallPairs<V> {
+    /// The store of the pairs, in the block of memory that they stand in, which keeps no unused
+    /// room. Where a key isn't above the one before it, by their bytes, the pairs come back as they
+    /// were.
+    pub fn try_from_ascending(mut pairs: Vec<Pair<V>>) -> Result<SmallPairs<V>, Vec<Pair<V>>>
+        ensures ok { IfOk result (λ store. store ≡ stored_pairs pairs.items) }
+        ensures ascending { IfOk result (λ _. KeysAscend (stored_pairs pairs.items)) }
+        ensures taken { KeysAscend (stored_pairs pairs.items) → IsOk result }
+        ensures refused { IfErr result (λ back. back ≡ pairs) }
+    {
+        if !pairs.is_sorted_by(|one, next| one.key < next.key) {
+            return Err(pairs);
+        }
+        pairs.shrink_to_fit();
+        Ok(SmallPairs {
+            pairs,
+            places: None,
+        })
+    }
+}
