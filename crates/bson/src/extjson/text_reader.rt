@@ -165,11 +165,7 @@ fn refusal(fault: Error) -> TextError
 }
 
 // The same straight from the tokens of the text.
-pub(crate) fn read_text(
-    alloc: Global,
-    text: &str,
-    scratch: &mut Scratch,
-) -> Result<Bson, Unread>
+pub(crate) fn read_text(alloc: Global, text: &str, scratch: &mut Scratch) -> Result<Bson, Unread>
     ensures ok { IfOk result (λ v. TextMeans text.now (bson_view v)) }
 {
     let mut reader = Reader::new(text, scratch)?;

@@ -1,12 +1,7 @@
-use Rattle.std.proofs.Common.{◌≡◌, ◌++◌, List, ℕ, Result, Ok, Err, Vec, Global, IfOk, string_bytes, sym, ◌∙◌, subst}
-use Rattle.bson_wrapper.specs.declared.form.Form.{Form}
+use Rattle.std.proofs.Common.{IfOk, string_bytes, sym, ◌∙◌, subst}
 use Rattle.bson_wrapper.specs.declared.form.Form.TheVariants as form
-use Rattle.bson_model.specs.Value.{Value}
-use Rattle.bson_model.specs.Laws.{IsReadForm}
 use Rattle.bson.specs.Texts.{IsTextIn}
 use Rattle.bson.specs.View.{bson_view}
-use Rattle.bson_run.specs.Convert.{IsWritten, newline}
-use Rattle.bson_run.specs.declared.fault.Fault.{Fault}
 use Rattle.bson_run.proofs.Converting.{line_written}
 use Rattle.bson_run.proofs.convert.value_output.Goals as goal
 use Rattle.bson_run.proofs.convert.value_output.Goals.{in-Canonical, in-Relaxed}

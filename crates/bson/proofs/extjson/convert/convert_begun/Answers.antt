@@ -1,4 +1,4 @@
-use Rattle.std.proofs.Common.{◌≡◌, ◌∷◌, ap, arith}
+use Rattle.std.proofs.Common.{◌∷◌, ap, arith}
 use Rattle.json.specs.Reads.{token_of}
 use Rattle.bson_wrapper.proofs.Offered.{on_ok}
 use Rattle.bson.specs.View.{bson_view}

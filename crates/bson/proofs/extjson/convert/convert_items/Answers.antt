@@ -1,4 +1,4 @@
-use Rattle.std.proofs.Common.{◌≡◌, ◌<◌, length, None, ◌∙◌, refl, arith}
+use Rattle.std.proofs.Common.{◌≡◌, ◌<◌, length, None, ◌∙◌, arith}
 use Rattle.json.specs.Json.{after_end_array}
 use Rattle.bson.specs.View.{bson_view}
 use Rattle.bson.proofs.Converting.{read_writable, one_passes, none_pass, list_passes}

@@ -1,7 +1,6 @@
-use Rattle.std.proofs.Common.{◌≡◌, ◌++◌, ◌∷◌, [], Some, None, false, option_map, refl, sym, ap, ◌∙◌, arith}
+use Rattle.std.proofs.Common.{◌≡◌, Some, None, false, option_map, refl, sym, ap, ◌∙◌, arith}
 use Rattle.std.specs.Prelude.{is_some}
 use Rattle.json.specs.Json.{read_key}
-use Rattle.json.specs.Token.{key}
 use Rattle.bson_wrapper.specs.Table.{wrapper_of}
 use Rattle.bson.proofs.ConvertingMembers.{none_passed, one_passed, object_passed}
 use Rattle.bson.proofs.extjson.convert.convert_members.Goals as goal

@@ -1,4 +1,4 @@
-use Rattle.std.proofs.Common.{◌≡◌, [], string_bytes, ap, subst, arith}
+use Rattle.std.proofs.Common.{◌≡◌, [], string_bytes, subst, arith}
 use Rattle.json.specs.Json.{value}
 use Rattle.serde_json.specs.Read.{of_json, converted}
 use Rattle.bson.specs.Converted.{TreeConverted}
