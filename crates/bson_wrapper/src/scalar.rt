@@ -1,8 +1,8 @@
 //! A value that holds no other.
+use bson_decimal::Decimal128;
 use bson_scalar::binary::Binary;
 use bson_scalar::datetime::DateTime;
 use bson_scalar::db_pointer::DbPointer;
-use bson_scalar::decimal128::Decimal128;
 use bson_scalar::oid::ObjectId;
 use bson_scalar::regex::Regex;
 use bson_scalar::timestamp::Timestamp;
