@@ -11,7 +11,8 @@ use Rattle.bson_store.specs.Order.{key_cmp}
 use Rattle.bson_store.specs.Pairs.{keys, HasDistinctKeys}
 use Rattle.bson_store.specs.Small.{stored_pairs, KeysAscend}
 use Rattle.bson_store.specs.declared.small.Pair.{Pair}
-use Rattle.bson_store.proofs.AscendingLaws.{less_of, ascend_none}
+use Rattle.bson_store.proofs.AscendingLaws.{ascend_none}
+use Rattle.bson_store.proofs.Least.{less_of}
 use Rattle.bson_store.proofs.Least.{key_total}
 
 apart : (k : List ℕ) (ks : List (List ℕ)) → AllByRecursion (λ q. key_cmp k q ≡ Less) ks
