@@ -66,12 +66,15 @@ def accepted(parts):
            keyed([(b"a", b"null"), (b"b", listed(written))]))
     yield ("lists and objects under keys", keyed([(b"", keyed(pairs[::-1])), (b"a", listed(given)), (b"b", LONG)]),
            keyed([(b"", keyed(outputs)), (b"a", listed(written)), (b"b", LONG)]))
-    yield "a first key $scope", keyed([(b"$scope", listed(given)), (b"a", LONG)]), keyed([(b"$scope", listed(written)), (b"a", LONG)])
-    yield "code with a scope", keyed([(b"$code", LONG), (b"$scope", keyed(pairs))]), keyed([(b"$code", LONG), (b"$scope", keyed(outputs))])
+    yield ("a first key $scope", keyed([(b"$scope", listed(given)), (b"a", LONG)]),
+           keyed([(b"$scope", listed(written)), (b"a", LONG)]))
+    yield ("code with a scope", keyed([(b"$code", LONG), (b"$scope", keyed(pairs))]),
+           keyed([(b"$code", LONG), (b"$scope", keyed(outputs))]))
     yield "an element that gives way", listed([LONG, b'{"a":{"$oid":1},"a":true}']), listed([LONG, b'{"a":true}'])
     yield "a value that gives way", keyed([(b"a", b'{"$oid":1}'), (b"a", LONG)]), keyed([(b"a", LONG)])
     yield "127 levels in a list", listed([LONG, nested(126)]), listed([LONG, nested(126)])
-    yield "127 levels under a key", keyed([(b"a", nested(126)), (b"b", LONG)]), keyed([(b"a", nested(126)), (b"b", LONG)])
+    deep = keyed([(b"a", nested(126)), (b"b", LONG)])
+    yield "127 levels under a key", deep, deep
     yield "a string", LONG, LONG
     yield "no element", b"[" + b" " * 5000 + b"]", b"[]"
     yield "no member", b"{" + b" " * 5000 + b"}", b"{}"
@@ -84,7 +87,7 @@ def refused(given):
     """A name, a text, and the words for its fault."""
     keys = [b"key%05d" % number for number in range(len(given))]
     pairs = list(zip(keys, given))
-    whole, object = listed(given), keyed(pairs)
+    whole, map_of_all = listed(given), keyed(pairs)
     yield "a bad object id last", listed([*given, b'{"$oid":"zz"}']), BAD_ID
     yield "no meaning last", listed([*given, b'{"$oid":1}']), NOT_EXTENDED
     yield "a fraction last", listed([*given, b"0.5"]), NOT_EXTENDED
@@ -93,13 +96,13 @@ def refused(given):
     yield "a wrapper's key late", keyed([(b"", whole), (b"$oid", b'"53e37d08776f724e42000000"')]), NOT_EXTENDED
     yield "a wrapper's key first", keyed([(b"$oid", whole), (b"a", b"1")]), NOT_EXTENDED
     yield "a comma before the end", whole[:-1] + b",]", NOT_JSON
-    yield "a comma before the end of an object", object[:-1] + b",}", NOT_JSON
+    yield "a comma before the end of an object", map_of_all[:-1] + b",}", NOT_JSON
     yield "the other bracket", whole[:-1] + b"}", NOT_JSON
-    yield "the other brace", object[:-1] + b"]", NOT_JSON
+    yield "the other brace", map_of_all[:-1] + b"]", NOT_JSON
     yield "no bracket", whole[:-1], NOT_JSON
-    yield "no brace", object[:-1], NOT_JSON
+    yield "no brace", map_of_all[:-1], NOT_JSON
     yield "one bracket more", whole + b"]", NOT_JSON
-    yield "one brace more", object + b"}", NOT_JSON
+    yield "one brace more", map_of_all + b"}", NOT_JSON
     yield "no UTF-8 at the end", listed([*given, b'"\xff"']), NOT_JSON
     yield "128 levels in a list", listed([LONG, nested(127)]), NOT_JSON
     yield "128 levels under a key", keyed([(b"a", nested(127)), (b"b", LONG)]), NOT_JSON

@@ -52,7 +52,8 @@ pub(crate) fn read_begun(
     token: Token<'_>,
 ) -> Result<Bson, Unread>
     ensures ok { IfOk result
-        (λ v. TreeMeans (converted of_json (value depth (token_of token.entry ∷ reader.old))) (bson_view v) reader.new) }
+        (λ v. TreeMeans (converted of_json (value depth (token_of token.entry ∷ reader.old))) (bson_view v)
+        reader.new) }
     ensures shorter { OnOk result (length reader.new ≤ length reader.old) }
 {
     match token {
