@@ -1,5 +1,6 @@
 -- Members that are read and printed in turn, by ascending key.
-use Rattle.std.proofs.Common.{◌≡◌, ℕ, ◌-◌, ◌<◌, List, [], ◌∷◌, ◌++◌, length, false, Option, Some, None, Ok, Less, nat_cmp, refl, sym, ap, ◌∙◌, subst}
+use Rattle.std.proofs.Common.{◌≡◌, ℕ, ◌-◌, ◌<◌, List, [], ◌∷◌, ◌++◌, length, false, Option, Some, None, Ok, Less}
+use Rattle.std.proofs.Common.{nat_cmp, refl, sym, ap, ◌∙◌, subst}
 use Rattle.std.specs.Prelude.{is_some}
 use Rattle.std.specs.Cmp.Lexicographic.{slice_cmp}
 use Rattle.std.proofs.lemmas.Cmp.{nat_list_cmp_total}
@@ -115,9 +116,11 @@ one_passed f depth k start here s r old mid near new last g named plain follows 
     record {
       trees = put k m.0 g.trees;
       pairs = put_pair k v g.pairs;
-      gathers = one_gathered depth k start here s r g.trees g.pairs (put_pair k v g.pairs) g.gathers named (m.0, v, m.1, m.2, refl) less;
+      gathers = one_gathered depth k start here s r g.trees g.pairs (put_pair k v g.pairs) g.gathers named
+          (m.0, v, m.1, m.2, refl) less;
       plain = put_plain k m.0 plain g.trees ∙ g.plain;
-      below = λ j next. subst (AllBelow j) (sym last_put) (below_more j k v g.pairs (still_below j k g.pairs below next) next);
+      below = λ j next. subst (AllBelow j) (sym last_put)
+          (below_more j k v g.pairs (still_below j k g.pairs below next) next);
       ends = λ more end h.
           subst (λ ps. EndsMembers (writes_in_order f (then_pairs ps more)) old end) (sym last_put)
           (subst (λ ps. EndsMembers (writes_in_order f ps) old end) (sym (then_one g.pairs k v more))
@@ -130,9 +133,11 @@ one_passed f depth k start here s r old mid near new last g named plain follows 
 pub object_passed : (f : Form) (depth : ℕ) (start here rest old opened new end : List Token) (last : Option (List ℕ))
     → opened ≡ old ++ begin_object ∷ [] → MembersPass f depth start here opened new last
     → read_key here ≡ Some (None, rest) → end ≡ new ++ end_object ∷ []
-    → ObjectConverted f (converted (λ js. of_members js no_members) (members (value depth) (length start) start)) rest old end
+    → ObjectConverted f (converted (λ js. of_members js no_members) (members (value depth) (length start) start)) rest
+        old end
 object_passed f depth start here rest old opened new end last opening g ended closed =
-    let all = subst (λ ps. EndsMembers (writes_in_order f ps) opened end) (then_none g.pairs) (g.ends no_pairs end (no_members, refl, closed)) in (
+    let all = subst (λ ps. EndsMembers (writes_in_order f ps) opened end) (then_none g.pairs)
+        (g.ends no_pairs end (no_members, refl, closed)) in (
       document g.pairs,
       (
         g.trees,
@@ -148,7 +153,8 @@ object_passed f depth start here rest old opened new end last opening g ended cl
     )
 
 pub object_converted : (f : Form) (depth : ℕ) (ts r rest old end : List Token) → ts ≡ begin_object ∷ r → 0 < depth
-    → ObjectConverted f (converted (λ js. of_members js no_members) (members (value (depth - 1)) (length r) r)) rest old end
+    → ObjectConverted f (converted (λ js. of_members js no_members) (members (value (depth - 1)) (length r) r)) rest old
+        end
     → TreeConverted f (converted of_json (value depth ts)) rest old end
 object_converted f depth ts r rest old end is left p =
     let read = p.1 in

@@ -1,5 +1,6 @@
 -- Members in ascending order, by their places.
-use Rattle.std.proofs.Common.{◌≡◌, ℕ, zero, suc, ◌+◌, ◌<◌, ◌≤◌, List, [], ◌∷◌, ◌++◌, length, get_or, set, String, Global, string_bytes, Less, Equal, Greater, nat_cmp, refl, sym, ap, ◌∙◌, subst, arith}
+use Rattle.std.proofs.Common.{◌≡◌, ℕ, zero, suc, ◌+◌, ◌<◌, ◌≤◌, List, [], ◌∷◌, ◌++◌, length, get_or, set, String}
+use Rattle.std.proofs.Common.{Global, string_bytes, Less, Equal, Greater, nat_cmp, refl, sym, ap, ◌∙◌, subst, arith}
 use Rattle.std.specs.Cmp.Lexicographic.{slice_cmp}
 use Rattle.std.specs.List.{insert}
 use Rattle.std.specs.Ordering.{is_eq}
@@ -29,13 +30,17 @@ after_first : (k : List ℕ) (m : Member) (ms : List Member) (i : ℕ) (d : Memb
     → IsLeast (string_bytes m.key) (gathered_pairs ms) → i < length ms → slice_cmp nat_cmp k (key_at ms i d) ≡ Greater
     → slice_cmp nat_cmp k (string_bytes m.key) ≡ Greater
 after_first k m ms i d least l h =
-    flipped (string_bytes m.key) k Less (nat_list_cmp_total.trans (string_bytes m.key) (key_at ms i d) k (above_first (string_bytes m.key) ms i d least l) (flipped k (key_at ms i d) Greater h))
+    flipped (string_bytes m.key) k Less
+        (nat_list_cmp_total.trans (string_bytes m.key) (key_at ms i d) k
+            (above_first (string_bytes m.key) ms i d least l) (flipped k (key_at ms i d) Greater h))
 
 at_first : (k : List ℕ) (m : Member) (ms : List Member) (i : ℕ) (d : Member)
     → IsLeast (string_bytes m.key) (gathered_pairs ms) → i < length ms → slice_cmp nat_cmp k (key_at ms i d) ≡ Equal
     → slice_cmp nat_cmp k (string_bytes m.key) ≡ Greater
 at_first k m ms i d least l h =
-    flipped (string_bytes m.key) k Less (subst (λ x. slice_cmp nat_cmp (string_bytes m.key) x ≡ Less) (sym (equal_keys k (key_at ms i d) h)) (above_first (string_bytes m.key) ms i d least l))
+    flipped (string_bytes m.key) k Less
+        (subst (λ x. slice_cmp nat_cmp (string_bytes m.key) x ≡ Less) (sym (equal_keys k (key_at ms i d) h))
+            (above_first (string_bytes m.key) ms i d least l))
 
 pub stands : (k : List ℕ) (ms : List Member) (i : ℕ) (d : Member) → KeysAscend (gathered_pairs ms) → i < length ms
     → slice_cmp nat_cmp k (key_at ms i d) ≡ Equal → StandsAt k ms i
@@ -55,14 +60,16 @@ pub fits : (k : List ℕ) (ms : List Member) (i : ℕ) (d : Member) → KeysAsce
     → slice_cmp nat_cmp k (key_at ms i d) ≡ Greater → IsBelowAt k ms (suc i) → FitsAt k ms (suc i)
 fits k [] i d up l h below = absurd (omega arith)
 fits k (m ∷ ms) zero d up l h below = (h, fits_first k ms (λ e n. below e (omega arith)))
-fits k (m ∷ ms) (suc i) d up l h below = (after_first k m ms i d up.0 (omega arith) h, fits k ms i d up.1 (omega arith) h (λ e n. below e (omega arith)))
+fits k (m ∷ ms) (suc i) d up l h below =
+    (after_first k m ms i d up.0 (omega arith) h, fits k ms i d up.1 (omega arith) h (λ e n. below e (omega arith)))
 
 -- ---- what an edit at the place does
 
 pub seen_set : (k : String Global) (v : Bson) (ms : List Member) (i : ℕ) → StandsAt (string_bytes k) ms i
     → gathered_pairs (set ms i (member k v)) ≡ put_pair (string_bytes k) (bson_view v) (gathered_pairs ms)
 seen_set k v [] i h = absurd h
-seen_set k v (m ∷ ms) zero h = rw h (ap (λ x. pair x (bson_view v) (gathered_pairs ms)) (equal_keys (string_bytes k) (string_bytes m.key) h))
+seen_set k v (m ∷ ms) zero h =
+    rw h (ap (λ x. pair x (bson_view v) (gathered_pairs ms)) (equal_keys (string_bytes k) (string_bytes m.key) h))
 seen_set k v (m ∷ ms) (suc i) h = rw h.0 (ap (pair (string_bytes m.key) (bson_view m.value)) (seen_set k v ms i h.1))
 
 pub seen_insert : (k : String Global) (v : Bson) (ms : List Member) (i : ℕ) → FitsAt (string_bytes k) ms i
@@ -70,7 +77,8 @@ pub seen_insert : (k : String Global) (v : Bson) (ms : List Member) (i : ℕ) �
 seen_insert k v [] zero h = refl
 seen_insert k v [] (suc i) h = absurd h
 seen_insert k v (m ∷ ms) zero h = rw h refl
-seen_insert k v (m ∷ ms) (suc i) h = rw h.0 (ap (pair (string_bytes m.key) (bson_view m.value)) (seen_insert k v ms i h.1))
+seen_insert k v (m ∷ ms) (suc i) h =
+    rw h.0 (ap (pair (string_bytes m.key) (bson_view m.value)) (seen_insert k v ms i h.1))
 
 -- ---- places are within the list
 

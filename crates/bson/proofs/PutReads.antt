@@ -1,5 +1,6 @@
 -- One more member of a map, and one more pair of what the map is read as.
-use Rattle.std.proofs.Common.{◌≡◌, ℕ, List, true, false, Result, Ok, Err, Ordering, Less, Equal, Greater, nat_cmp, refl, sym, ap, ◌||◌}
+use Rattle.std.proofs.Common.{◌≡◌, ℕ, List, true, false, Result, Ok, Err, Ordering, Less, Equal, Greater, nat_cmp, refl}
+use Rattle.std.proofs.Common.{sym, ap, ◌||◌}
 use Rattle.std.specs.Prelude.{is_some}
 use Rattle.std.specs.Cmp.Lexicographic.{slice_cmp}
 use Rattle.std.specs.Ordering.{match_ordering}
@@ -16,7 +17,8 @@ use Rattle.bson_model.proofs.Offered.{flipped}
 -- ---- what the map is read as
 
 -- the first pair and the others
-parts : (k : List ℕ) (r : Result Value Fault) (s : Result Pairs Fault) (ps : Pairs) → (r >>= λ v. s >>= λ qs. Ok (pair k v qs)) ≡ Ok ps
+parts : (k : List ℕ) (r : Result Value Fault) (s : Result Pairs Fault) (ps : Pairs)
+    → (r >>= λ v. s >>= λ qs. Ok (pair k v qs)) ≡ Ok ps
     → (v : Value) × (qs : Pairs) × (r ≡ Ok v) × (s ≡ Ok qs) × (ps ≡ pair k v qs)
 parts k (Err e) s ps h = cc
 parts k (Ok v) (Err e) ps h = cc
@@ -24,7 +26,8 @@ parts k (Ok v) (Ok qs) ps h = (v, qs, refl, refl, cc)
 
 put_at : (o : Ordering) (k l : List ℕ) (d e : Data) (v w : Value) (ms : Members) (qs : Pairs) → reads d ≡ Ok v
     → reads e ≡ Ok w → reads_members ms ≡ Ok qs → reads_members (put k d ms) ≡ Ok (put_pair k v qs)
-    → reads_members (match_ordering o (member k d (member l e ms)) (member l d ms) (member l e (put k d ms))) ≡ Ok (match_ordering o (pair k v (pair l w qs)) (pair l v qs) (pair l w (put_pair k v qs)))
+    → reads_members (match_ordering o (member k d (member l e ms)) (member l d ms) (member l e (put k d ms)))
+        ≡ Ok (match_ordering o (pair k v (pair l w qs)) (pair l v qs) (pair l w (put_pair k v qs)))
 put_at Less k l d e v w ms qs h i j is = rw (h, i, j) refl
 put_at Equal k l d e v w ms qs h i j is = rw (h, j) refl
 put_at Greater k l d e v w ms qs h i j is = rw (i, is) refl
@@ -45,7 +48,8 @@ nothing_read (member k d ms) h = let p = parts k (reads d) (reads_members ms) no
 
 plain_at : (o : Ordering) (k l : List ℕ) (d e : Data) (ms : Members) → is_some (wrapper_of k) ≡ false
     → has_wrapper (put k d ms) ≡ has_wrapper ms
-    → has_wrapper (match_ordering o (member k d (member l e ms)) (member l d ms) (member l e (put k d ms))) ≡ (is_some (wrapper_of l) || has_wrapper ms)
+    → has_wrapper (match_ordering o (member k d (member l e ms)) (member l d ms) (member l e (put k d ms)))
+        ≡ (is_some (wrapper_of l) || has_wrapper ms)
 plain_at Less k l d e ms plain is = rw plain refl
 plain_at Equal k l d e ms plain is = refl
 plain_at Greater k l d e ms plain is = ap (λ b. is_some (wrapper_of l) || b) is
@@ -66,7 +70,8 @@ least_at Greater q k l v w ps a b more is = (b, is)
 still_least : (q k : List ℕ) (v : Value) (ps : Pairs) → slice_cmp nat_cmp q k ≡ Less → IsLeast q ps
     → IsLeast q (put_pair k v ps)
 still_least q k v no_pairs a h = (a, tt)
-still_least q k v (pair l w ps) a h = least_at (slice_cmp nat_cmp k l) q k l v w ps a h.0 h.1 (still_least q k v ps a h.1)
+still_least q k v (pair l w ps) a h = least_at (slice_cmp nat_cmp k l) q k l v w ps a h.0 h.1
+    (still_least q k v ps a h.1)
 
 pub less_than_least : (q k : List ℕ) (ps : Pairs) → slice_cmp nat_cmp q k ≡ Less → IsLeast k ps → IsLeast q ps
 less_than_least q k no_pairs a h = tt

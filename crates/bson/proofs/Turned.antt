@@ -1,5 +1,6 @@
 -- Members may be put in any order in which those of each key keep their turns.
-use Rattle.std.proofs.Common.{◌≡◌, ℕ, List, [], ◌∷◌, ◌++◌, Bool, true, false, cond, Ordering, Less, string_bytes, refl, sym, ap, ◌∙◌, subst}
+use Rattle.std.proofs.Common.{◌≡◌, ℕ, List, [], ◌∷◌, ◌++◌, Bool, true, false, cond, Ordering, Less, string_bytes, refl}
+use Rattle.std.proofs.Common.{sym, ap, ◌∙◌, subst}
 use Rattle.std.proofs.lemmas.Cmp.{tied_itself}
 use Rattle.std.proofs.lemmas.Slice.Eq.{bytes_eq-Decides}
 use Rattle.std.specs.Cmp.{IsTotalOrder}
@@ -92,7 +93,9 @@ first_at true m n ns ms ps e h is =
 first_at false m n ns ms ps e h is =
     let later = subst (λ b. cond b (n ∷ filter (has_key_of m) ns) (filter (has_key_of m) ns) ≡ m ∷ ms) e h in
     rw e (is (put_member n ps) later
-    ∙ ap (put_all (without m ns)) (put_swap (string_bytes m.key) (string_bytes n.key) (bson_view m.value) (bson_view n.value) ps (told_apart m n e)))
+    ∙ ap (put_all (without m ns))
+        (put_swap (string_bytes m.key) (string_bytes n.key) (bson_view m.value) (bson_view n.value) ps
+            (told_apart m n e)))
 
 put_first : (m : Member) (ns ms : List Member) (ps : Pairs) → filter (has_key_of m) ns ≡ m ∷ ms
     → put_all ns ps ≡ put_all (without m ns) (put_member m ps)

@@ -19,8 +19,8 @@ use std::alloc::{AllocError, Global};
 use std::fmt;
 use std::hash::{Hash, Hasher};
 
-/// A value that holds no other, by reference: each kind of `Scalar`, with its texts and larger parts
-/// borrowed.
+/// A value that holds no other, by reference: each kind of `Scalar`, with its texts and larger
+/// parts borrowed.
 #[derive(Clone, Copy, Drop)]
 pub enum ScalarRef<'a> {
     Null,

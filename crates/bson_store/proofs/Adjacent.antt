@@ -1,5 +1,6 @@
 -- Keys ascend where each is above the one before it.
-use Rattle.std.proofs.Common.{◌≡◌, ℕ, zero, suc, ◌+◌, ◌<◌, List, [], ◌∷◌, length, get_or, Bool, true, false, string_bytes, refl, sym, ap, ◌∙◌, arith}
+use Rattle.std.proofs.Common.{◌≡◌, ℕ, zero, suc, ◌+◌, ◌<◌, List, [], ◌∷◌, length, get_or, Bool, true, false}
+use Rattle.std.proofs.Common.{string_bytes, refl, sym, ap, ◌∙◌, arith}
 use Rattle.std.proofs.lemmas.Map.Keys.{sorted_from_all_adjacent, Less-from_sorted}
 use Rattle.std.proofs.lemmas.Map.Text.{is_eq-slice_cmp}
 use Rattle.std.specs.List.{AllAdjacentBelow, AllByRecursion, IsDistinct}
@@ -54,7 +55,8 @@ module _ {V : Type 0} where
   ascend_from [] next = ascend_none
   ascend_from (p ∷ ps) next =
       sorted_from_all_adjacent key_total (keys_of (p ∷ ps)) (string_bytes p.key)
-      (λ i l. rw (key-at (p ∷ ps) i p, key-at (p ∷ ps) (i + 1) p) (less_of _ (sym (next i p (omega (arith, length-keys (p ∷ ps), l))))))
+      (λ i l. rw (key-at (p ∷ ps) i p, key-at (p ∷ ps) (i + 1) p)
+              (less_of _ (sym (next i p (omega (arith, length-keys (p ∷ ps), l))))))
 
   pub not_ascending : (ps : List (Pair V))
       → (i : ℕ) × (i + 1 < length ps) × ((d : Pair V) → false ≡ is_below (get_or ps i d) (get_or ps (i + 1) d))
@@ -65,6 +67,7 @@ module _ {V : Type 0} where
       let i = stop.0 in
       let less = Less-from_sorted key_cmp (keys_of (p ∷ ps)) i (i + 1) (string_bytes p.key) up (omega arith)
       (omega (arith, length-keys (p ∷ ps), stop.1)) in
-      let below : key_cmp (string_bytes (get_or (p ∷ ps) i p).key) (string_bytes (get_or (p ∷ ps) (i + 1) p).key) ≡ Less =
+      let below : key_cmp (string_bytes (get_or (p ∷ ps) i p).key) (string_bytes (get_or (p ∷ ps) (i + 1) p).key)
+          ≡ Less =
       rw (sym (key-at (p ∷ ps) i p), sym (key-at (p ∷ ps) (i + 1) p)) less in
       stop.2 p ∙ ap is_lt below

@@ -47,4 +47,5 @@ invariant-print_by_key-loop-i l =
     }
 
 abbrev pub decreases-print_by_key-loop-i : goal.decreases-print_by_key-loop-i
-decreases-print_by_key-loop-i l = length (where_key key_cmp (is_above (option_map (λ s. string_bytes s.now) l.last)) (in_order l.document.pairs))
+decreases-print_by_key-loop-i l =
+    length (where_key key_cmp (is_above (option_map (λ s. string_bytes s.now) l.last)) (in_order l.document.pairs))

@@ -15,6 +15,8 @@ members-preserved c =
     let ps = gathered_pairs at.found.items in
     record {
       left = one_left _ later c.in-Some.field-0 _ _ at.invariant.left steps c.in-Some.ensures.steps.1;
-      ascends = subst KeysAscend (sym c.in_ok-enter.ensures) (put_ascends (string_bytes c.in-Some.field-0.key) (bson_view c.in-Some.field-0.value) ps at.invariant.ascends);
+      ascends = subst KeysAscend (sym c.in_ok-enter.ensures)
+          (put_ascends (string_bytes c.in-Some.field-0.key) (bson_view c.in-Some.field-0.value) ps
+              at.invariant.ascends);
       all = ap (put_all later) c.in_ok-enter.ensures ∙ ap (λ ms. put_all ms ps) (sym steps) ∙ at.invariant.all;
     }

@@ -5,4 +5,5 @@ use Rattle.bson.proofs.Turned.{put_last}
 use Rattle.bson.proofs.extjson.text_reader.gathered.put_many.Goals as goal
 
 pub returns : goal.returns
-returns c = ap (λ ms. put_all ms no_pairs) c.in_ok-push.ensures.items ∙ put_last c.args.members.items (member c.args.key c.args.value) no_pairs
+returns c = ap (λ ms. put_all ms no_pairs) c.in_ok-push.ensures.items
+    ∙ put_last c.args.members.items (member c.args.key c.args.value) no_pairs

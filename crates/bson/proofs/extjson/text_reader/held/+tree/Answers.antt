@@ -46,7 +46,8 @@ read_tree-returns-in-Some-clause-ok t c =
     let seen : view (Number c.in-Some.n) ≡ number (number_view c.in-Some.n) = search (rules, the_lemmas) in
     ap (converted of_json) (ap (value c.args.depth) is ∙ value_is c.args.depth _) ∙ rw (c.in-Some.ensures, seen)
 
-pub read_tree-returns-in_ok-read_members-in-BeginObject-clause-ok : goal.read_tree-returns-in_ok-read_members-in-BeginObject-clause-ok
+pub read_tree-returns-in_ok-read_members-in-BeginObject-clause-ok :
+    goal.read_tree-returns-in_ok-read_members-in-BeginObject-clause-ok
 read_tree-returns-in_ok-read_members-in-BeginObject-clause-ok t c =
     let first : c.args.reader.now ≡ token_of c.in_ok-token.token ∷ c.next.new.self = grind arith in
     let opened =
@@ -61,7 +62,8 @@ read_tree-returns-in_ok-read_members-in-BeginObject-clause-ok t c =
     opened ∙ ap (parse_map object) read
     ∙ ap (λ d. Some (d, c.read_members.new.reader)) (sym (view-Object found.field-0))
 
-pub read_tree-returns-in_ok-read_items-in-BeginArray-clause-ok : goal.read_tree-returns-in_ok-read_items-in-BeginArray-clause-ok
+pub read_tree-returns-in_ok-read_items-in-BeginArray-clause-ok :
+    goal.read_tree-returns-in_ok-read_items-in-BeginArray-clause-ok
 read_tree-returns-in_ok-read_items-in-BeginArray-clause-ok t c =
     let first : c.args.reader.now ≡ token_of c.in_ok-token.token ∷ c.next.new.self = grind arith in
     let opened =

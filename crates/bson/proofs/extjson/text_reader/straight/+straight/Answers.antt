@@ -47,36 +47,49 @@ read_member-returns-clause-ok t c =
 
 pub read_begun-returns-in_ok-from_str-in-String-clause-ok : goal.read_begun-returns-in_ok-from_str-in-String-clause-ok
 read_begun-returns-in_ok-from_str-in-String-clause-ok t c =
-    let is : token_of c.args.token ∷ c.args.reader.now ≡ Token.string c.in-String.text.now ∷ c.args.reader.now = ap (λ k. token_of k ∷ c.args.reader.now) c.in-String.is in
-    let seen : bson_view (bson.String c.in_ok-from_str-in-String.field-0) ≡ model.scalar (scalars.text c.in-String.text.now) = search (rules, the_lemmas) in
-    (string c.in-String.text.now, ap (converted of_json) (ap (value c.args.depth) is ∙ value_is c.args.depth _), ap Ok (sym seen))
+    let is : token_of c.args.token ∷ c.args.reader.now ≡ Token.string c.in-String.text.now ∷ c.args.reader.now =
+        ap (λ k. token_of k ∷ c.args.reader.now) c.in-String.is in
+    let seen : bson_view (bson.String c.in_ok-from_str-in-String.field-0)
+        ≡ model.scalar (scalars.text c.in-String.text.now) = search (rules, the_lemmas) in
+    (string c.in-String.text.now, ap (converted of_json) (ap (value c.args.depth) is ∙ value_is c.args.depth _),
+            ap Ok (sym seen))
 
 pub read_begun-returns-in-Bool-clause-ok : goal.read_begun-returns-in-Bool-clause-ok
 read_begun-returns-in-Bool-clause-ok t c =
-    let is : token_of c.args.token ∷ c.args.reader.now ≡ Token.boolean c.in-Bool.b ∷ c.args.reader.now = ap (λ k. token_of k ∷ c.args.reader.now) c.in-Bool.is in
-    let seen : bson_view (bson.Boolean c.in-Bool.b) ≡ model.scalar (scalars.boolean c.in-Bool.b) = search (rules, the_lemmas) in
-    (boolean c.in-Bool.b, ap (converted of_json) (ap (value c.args.depth) is ∙ value_is c.args.depth _), ap Ok (sym seen))
+    let is : token_of c.args.token ∷ c.args.reader.now ≡ Token.boolean c.in-Bool.b ∷ c.args.reader.now =
+        ap (λ k. token_of k ∷ c.args.reader.now) c.in-Bool.is in
+    let seen : bson_view (bson.Boolean c.in-Bool.b) ≡ model.scalar (scalars.boolean c.in-Bool.b) =
+        search (rules, the_lemmas) in
+    (boolean c.in-Bool.b, ap (converted of_json) (ap (value c.args.depth) is ∙ value_is c.args.depth _),
+            ap Ok (sym seen))
 
 pub read_begun-returns-in-Null-clause-ok : goal.read_begun-returns-in-Null-clause-ok
 read_begun-returns-in-Null-clause-ok t c =
-    let is : token_of c.args.token ∷ c.args.reader.now ≡ Token.null ∷ c.args.reader.now = ap (λ k. token_of k ∷ c.args.reader.now) c.in-Null.is in
+    let is : token_of c.args.token ∷ c.args.reader.now ≡ Token.null ∷ c.args.reader.now =
+        ap (λ k. token_of k ∷ c.args.reader.now) c.in-Null.is in
     let seen : bson_view bson.Null ≡ model.scalar scalars.null = search (rules, the_lemmas) in
     (null, ap (converted of_json) (ap (value c.args.depth) is ∙ value_is c.args.depth _), ap Ok (sym seen))
 
 pub read_begun-returns-in_ok-read_number-in-Some-clause-ok : goal.read_begun-returns-in_ok-read_number-in-Some-clause-ok
 read_begun-returns-in_ok-read_number-in-Some-clause-ok t c =
-    let is : token_of c.args.token ∷ c.args.reader.now ≡ Token.number c.in-Number.text.now ∷ c.args.reader.now = ap (λ k. token_of k ∷ c.args.reader.now) c.in-Number.is in
-    let read : converted of_json (value c.args.depth (token_of c.args.token ∷ c.args.reader.now)) ≡ Some (number (number_view c.in-Some.n), c.args.reader.now) = ap (converted of_json) (ap (value c.args.depth) is ∙ value_is c.args.depth _)
+    let is : token_of c.args.token ∷ c.args.reader.now ≡ Token.number c.in-Number.text.now ∷ c.args.reader.now =
+        ap (λ k. token_of k ∷ c.args.reader.now) c.in-Number.is in
+    let read : converted of_json (value c.args.depth (token_of c.args.token ∷ c.args.reader.now))
+        ≡ Some (number (number_view c.in-Some.n), c.args.reader.now) =
+        ap (converted of_json) (ap (value c.args.depth) is ∙ value_is c.args.depth _)
     ∙ rw c.in-Some.ensures refl in
     (number (number_view c.in-Some.n), read, c.in_ok-read_number-in-Some.ensures.given)
 
 pub read_begun-returns-else-depth-eq0-2-clause-ok : goal.read_begun-returns-else-depth-eq0-2-clause-ok
 read_begun-returns-else-depth-eq0-2-clause-ok t c =
-    let opened = object_opened c.args.depth (token_of c.args.token ∷ c.args.reader.now) c.args.reader.now (ap (λ k. token_of k ∷ c.args.reader.now) c.in-BeginObject.is) (omega arith) in
-    if_ok c.read_object.result c.read_object.ensures.ok (λ v read. (object read.0, opened ∙ ap (parse_map object) read.1, read.2))
+    let opened = object_opened c.args.depth (token_of c.args.token ∷ c.args.reader.now) c.args.reader.now
+        (ap (λ k. token_of k ∷ c.args.reader.now) c.in-BeginObject.is) (omega arith) in
+    if_ok c.read_object.result c.read_object.ensures.ok
+        (λ v read. (object read.0, opened ∙ ap (parse_map object) read.1, read.2))
 
 pub read_object-members-init : goal.read_object-members-init
-read_object-members-init t c = (no_members, none_yet c.args.depth c.args.reader.now (gathered c.none-found.result) c.none-found.ensures, refl)
+read_object-members-init t c =
+    (no_members, none_yet c.args.depth c.args.reader.now (gathered c.none-found.result) c.none-found.ensures, refl)
 
 pub read_object-members-preserved : goal.read_object-members-preserved
 read_object-members-preserved t c =
@@ -88,7 +101,8 @@ read_object-members-preserved t c =
     let plain : is_some (wrapper_of k) ≡ false = ap is_some (sym c.named.ensures) ∙ sym c.is_some.ensures
     ∙ c.if-is_some.false in (
       put k done.ok.0 l.invariant.0,
-      one_gathered c.args.depth k c.args.reader.now l.reader s c.read_member.new.reader l.invariant.0 (gathered l.found) (gathered c.in_ok-found.found) l.invariant.1 named done.ok done.shorter,
+      one_gathered c.args.depth k c.args.reader.now l.reader s c.read_member.new.reader l.invariant.0 (gathered l.found)
+          (gathered c.in_ok-found.found) l.invariant.1 named done.ok done.shorter,
       put_plain k done.ok.0 plain l.invariant.0 ∙ l.invariant.2,
     )
 
@@ -99,7 +113,8 @@ read_object-returns-then-is_none-clause-ok t c =
     let s = c.next_key.new.self in
     let named : read_key l.reader ≡ Some (Some k, s) = grind arith in
     if_ok c.read_wrapper.result c.read_wrapper.ensures.ok (λ v m.
-    from_first c.args.depth k c.args.reader.now l.reader s c.read_wrapper.new.reader l.invariant.0 (gathered l.found) (bson_view v) l.invariant.1 (c.is_none.ensures c.if-is_none.true) named m)
+    from_first c.args.depth k c.args.reader.now l.reader s c.read_wrapper.new.reader l.invariant.0 (gathered l.found)
+        (bson_view v) l.invariant.1 (c.is_none.ensures c.if-is_none.true) named m)
 
 pub read_object-returns-then-is_none-2-clause-ok : goal.read_object-returns-then-is_none-2-clause-ok
 read_object-returns-then-is_none-2-clause-ok t c =
@@ -108,7 +123,8 @@ read_object-returns-then-is_none-2-clause-ok t c =
     let s = c.next_key.new.self in
     let named : read_key l.reader ≡ Some (Some k, s) = grind arith in
     if_ok c.read_scoped.result c.read_scoped.ensures.ok (λ v m.
-    from_first c.args.depth k c.args.reader.now l.reader s c.read_scoped.new.reader l.invariant.0 (gathered l.found) (bson_view v) l.invariant.1 (c.is_none-then-eq.ensures c.if-is_none-2.true) named m)
+    from_first c.args.depth k c.args.reader.now l.reader s c.read_scoped.new.reader l.invariant.0 (gathered l.found)
+        (bson_view v) l.invariant.1 (c.is_none-then-eq.ensures c.if-is_none-2.true) named m)
 
 pub read_object-returns-clause-ok : goal.read_object-returns-clause-ok
 read_object-returns-clause-ok t c =
@@ -122,12 +138,15 @@ read_object-returns-clause-ok t c =
           ∙ ap Ok (sym (bson_view-Document c.in_ok-document.document ∙ ap model.document c.in_ok-document.ensures)),
     )
 
-pub read_begun-returns-in_ok-read_items-in-BeginArray-clause-ok : goal.read_begun-returns-in_ok-read_items-in-BeginArray-clause-ok
+pub read_begun-returns-in_ok-read_items-in-BeginArray-clause-ok :
+    goal.read_begun-returns-in_ok-read_items-in-BeginArray-clause-ok
 read_begun-returns-in_ok-read_items-in-BeginArray-clause-ok t c =
-    let opened = array_opened c.args.depth (token_of c.args.token ∷ c.args.reader.now) c.args.reader.now (ap (λ k. token_of k ∷ c.args.reader.now) c.in-BeginArray.is) (omega arith) in
+    let opened = array_opened c.args.depth (token_of c.args.token ∷ c.args.reader.now) c.args.reader.now
+        (ap (λ k. token_of k ∷ c.args.reader.now) c.in-BeginArray.is) (omega arith) in
     let found = c.in_ok-read_items-in-BeginArray in
     let read = found.ensures.ok in
-    (array read.0, opened ∙ ap (parse_map array) read.1, ap (λ r. r >>= λ vs. Ok (model.array vs)) read.2 ∙ ap Ok (sym (bson_view-Array found.field-0)))
+    (array read.0, opened ∙ ap (parse_map array) read.1, ap (λ r. r >>= λ vs. Ok (model.array vs)) read.2
+            ∙ ap Ok (sym (bson_view-Array found.field-0)))
 
 pub read_items-items-init : goal.read_items-items-init
 read_items-items-init t c = (
@@ -165,7 +184,8 @@ read_items-returns-clause-ok t c =
     )
 
 pub read_pairs-members-init : goal.read_pairs-members-init
-read_pairs-members-init t c = (no_members, none_yet c.args.depth c.args.reader.now (gathered c.none-found.result) c.none-found.ensures)
+read_pairs-members-init t c =
+    (no_members, none_yet c.args.depth c.args.reader.now (gathered c.none-found.result) c.none-found.ensures)
 
 pub read_pairs-members-preserved : goal.read_pairs-members-preserved
 read_pairs-members-preserved t c =
@@ -175,7 +195,8 @@ read_pairs-members-preserved t c =
     let named : read_key l.reader ≡ Some (Some k, s) = grind arith in
     let done = c.in_ok-found.ensures in (
       put k done.ok.0 l.invariant.0,
-      one_gathered c.args.depth k c.args.reader.now l.reader s c.read_member.new.reader l.invariant.0 (gathered l.found) (gathered c.in_ok-found.found) l.invariant.1 named done.ok done.shorter,
+      one_gathered c.args.depth k c.args.reader.now l.reader s c.read_member.new.reader l.invariant.0 (gathered l.found)
+          (gathered c.in_ok-found.found) l.invariant.1 named done.ok done.shorter,
     )
 
 pub read_pairs-returns-clause-ok : goal.read_pairs-returns-clause-ok
@@ -185,7 +206,8 @@ read_pairs-returns-clause-ok t c =
     let ended : read_key l.reader ≡ Some (None, c.next_key.new.self) = grind arith in
     if_ok c.document_of.result c.document_of.ensures (λ v e. (
       so_far,
-      all_gathered c.args.depth c.args.reader.now l.reader c.next_key.new.self so_far (gathered l.found) l.invariant.1 ended,
+      all_gathered c.args.depth c.args.reader.now l.reader c.next_key.new.self so_far (gathered l.found) l.invariant.1
+          ended,
       l.invariant.1.read ∙ ap Ok (sym e),
     ))
 
@@ -195,10 +217,12 @@ read_scope-returns-in-Null-clause-ok t c =
     let is : c.args.reader.now ≡ Token.null ∷ c.next.new.self = grind (arith, first) in
     (null, ap (converted of_json) (ap (value c.args.depth) is ∙ value_is c.args.depth _), refl)
 
-pub read_scope-returns-in_ok-read_pairs-in-BeginObject-clause-ok : goal.read_scope-returns-in_ok-read_pairs-in-BeginObject-clause-ok
+pub read_scope-returns-in_ok-read_pairs-in-BeginObject-clause-ok :
+    goal.read_scope-returns-in_ok-read_pairs-in-BeginObject-clause-ok
 read_scope-returns-in_ok-read_pairs-in-BeginObject-clause-ok t c =
     let first : c.args.reader.now ≡ token_of c.in_ok-token.token ∷ c.next.new.self = grind arith in
-    let opened = object_opened c.args.depth c.args.reader.now c.next.new.self (first ∙ ap (λ k. token_of k ∷ c.next.new.self) c.in-BeginObject.is) (omega arith) in
+    let opened = object_opened c.args.depth c.args.reader.now c.next.new.self
+        (first ∙ ap (λ k. token_of k ∷ c.next.new.self) c.in-BeginObject.is) (omega arith) in
     let read = c.in_ok-read_pairs-in-BeginObject.ensures.ok in
     (object read.0, opened ∙ ap (parse_map object) read.1, ap (λ r. r >>= λ ps. Ok (Some ps)) read.2)
 
