@@ -134,10 +134,10 @@ pub object_passed : (f : Form) (depth : ℕ) (start here rest old opened new end
     → opened ≡ old ++ begin_object ∷ [] → MembersPass f depth start here opened new last
     → read_key here ≡ Some (None, rest) → end ≡ new ++ end_object ∷ []
     → ObjectConverted f (converted (λ js. of_members js no_members) (members (value depth) (length start) start)) rest
-        old end
+    old end
 object_passed f depth start here rest old opened new end last opening g ended closed =
     let all = subst (λ ps. EndsMembers (writes_in_order f ps) opened end) (then_none g.pairs)
-        (g.ends no_pairs end (no_members, refl, closed)) in (
+    (g.ends no_pairs end (no_members, refl, closed)) in (
       document g.pairs,
       (
         g.trees,
@@ -154,7 +154,7 @@ object_passed f depth start here rest old opened new end last opening g ended cl
 
 pub object_converted : (f : Form) (depth : ℕ) (ts r rest old end : List Token) → ts ≡ begin_object ∷ r → 0 < depth
     → ObjectConverted f (converted (λ js. of_members js no_members) (members (value (depth - 1)) (length r) r)) rest old
-        end
+    end
     → TreeConverted f (converted of_json (value depth ts)) rest old end
 object_converted f depth ts r rest old end is left p =
     let read = p.1 in

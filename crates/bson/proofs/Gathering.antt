@@ -22,10 +22,10 @@ pub record Gathers (depth : ℕ) (start here : List Token) (so_far : Members) (f
 
 pub none_yet : (depth : ℕ) (ts : List Token) (found : Pairs) → found ≡ no_pairs → Gathers depth ts ts no_members found
 none_yet depth ts found none = record {
-    all = λ ms rest are. are;
-    read = ap Ok (sym none);
-    ascends = subst KeysAscend (sym none) tt;
-    shorter = omega arith;
+  all = λ ms rest are. are;
+  read = ap Ok (sym none);
+  ascends = subst KeysAscend (sym none) tt;
+  shorter = omega arith;
 }
 
 pub one_gathered : (depth : ℕ) (k : List ℕ) (start here s r : List Token) (so_far : Members) (old new : Pairs)
@@ -56,6 +56,9 @@ pub from_first : (depth : ℕ) (k : List ℕ) (start here s rest : List Token) (
     → WrapperMeans depth k s v rest
     → ObjectMeans (converted (λ js. of_members js no_members) (members (value depth) (length start) start)) v rest
 from_first depth k start here s rest so_far found v g none named m =
-    let first : so_far ≡ no_members = nothing_read so_far (g.read ∙ ap Ok none) in
-    (m.0, g.all m.0 rest (subst (λ ms. MembersAre depth ms here m.0 rest) (sym first) (m.1 here named)) (length start)
-            (omega arith), m.2)
+    let first : so_far ≡ no_members = nothing_read so_far (g.read ∙ ap Ok none) in (
+      m.0,
+      g.all m.0 rest (subst (λ ms. MembersAre depth ms here m.0 rest) (sym first) (m.1 here named)) (length start)
+          (omega arith),
+      m.2,
+    )

@@ -31,16 +31,16 @@ after_first : (k : List ℕ) (m : Member) (ms : List Member) (i : ℕ) (d : Memb
     → slice_cmp nat_cmp k (string_bytes m.key) ≡ Greater
 after_first k m ms i d least l h =
     flipped (string_bytes m.key) k Less
-        (nat_list_cmp_total.trans (string_bytes m.key) (key_at ms i d) k
-            (above_first (string_bytes m.key) ms i d least l) (flipped k (key_at ms i d) Greater h))
+    (nat_list_cmp_total.trans (string_bytes m.key) (key_at ms i d) k
+    (above_first (string_bytes m.key) ms i d least l) (flipped k (key_at ms i d) Greater h))
 
 at_first : (k : List ℕ) (m : Member) (ms : List Member) (i : ℕ) (d : Member)
     → IsLeast (string_bytes m.key) (gathered_pairs ms) → i < length ms → slice_cmp nat_cmp k (key_at ms i d) ≡ Equal
     → slice_cmp nat_cmp k (string_bytes m.key) ≡ Greater
 at_first k m ms i d least l h =
     flipped (string_bytes m.key) k Less
-        (subst (λ x. slice_cmp nat_cmp (string_bytes m.key) x ≡ Less) (sym (equal_keys k (key_at ms i d) h))
-            (above_first (string_bytes m.key) ms i d least l))
+    (subst (λ x. slice_cmp nat_cmp (string_bytes m.key) x ≡ Less) (sym (equal_keys k (key_at ms i d) h))
+    (above_first (string_bytes m.key) ms i d least l))
 
 pub stands : (k : List ℕ) (ms : List Member) (i : ℕ) (d : Member) → KeysAscend (gathered_pairs ms) → i < length ms
     → slice_cmp nat_cmp k (key_at ms i d) ≡ Equal → StandsAt k ms i

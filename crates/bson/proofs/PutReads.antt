@@ -27,7 +27,7 @@ parts k (Ok v) (Ok qs) ps h = (v, qs, refl, refl, cc)
 put_at : (o : Ordering) (k l : List ℕ) (d e : Data) (v w : Value) (ms : Members) (qs : Pairs) → reads d ≡ Ok v
     → reads e ≡ Ok w → reads_members ms ≡ Ok qs → reads_members (put k d ms) ≡ Ok (put_pair k v qs)
     → reads_members (match_ordering o (member k d (member l e ms)) (member l d ms) (member l e (put k d ms)))
-        ≡ Ok (match_ordering o (pair k v (pair l w qs)) (pair l v qs) (pair l w (put_pair k v qs)))
+    ≡ Ok (match_ordering o (pair k v (pair l w qs)) (pair l v qs) (pair l w (put_pair k v qs)))
 put_at Less k l d e v w ms qs h i j is = rw (h, i, j) refl
 put_at Equal k l d e v w ms qs h i j is = rw (h, j) refl
 put_at Greater k l d e v w ms qs h i j is = rw (i, is) refl
@@ -49,7 +49,7 @@ nothing_read (member k d ms) h = let p = parts k (reads d) (reads_members ms) no
 plain_at : (o : Ordering) (k l : List ℕ) (d e : Data) (ms : Members) → is_some (wrapper_of k) ≡ false
     → has_wrapper (put k d ms) ≡ has_wrapper ms
     → has_wrapper (match_ordering o (member k d (member l e ms)) (member l d ms) (member l e (put k d ms)))
-        ≡ (is_some (wrapper_of l) || has_wrapper ms)
+    ≡ (is_some (wrapper_of l) || has_wrapper ms)
 plain_at Less k l d e ms plain is = rw plain refl
 plain_at Equal k l d e ms plain is = refl
 plain_at Greater k l d e ms plain is = ap (λ b. is_some (wrapper_of l) || b) is

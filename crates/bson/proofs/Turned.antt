@@ -94,8 +94,8 @@ first_at false m n ns ms ps e h is =
     let later = subst (λ b. cond b (n ∷ filter (has_key_of m) ns) (filter (has_key_of m) ns) ≡ m ∷ ms) e h in
     rw e (is (put_member n ps) later
     ∙ ap (put_all (without m ns))
-        (put_swap (string_bytes m.key) (string_bytes n.key) (bson_view m.value) (bson_view n.value) ps
-            (told_apart m n e)))
+    (put_swap (string_bytes m.key) (string_bytes n.key) (bson_view m.value) (bson_view n.value) ps
+    (told_apart m n e)))
 
 put_first : (m : Member) (ns ms : List Member) (ps : Pairs) → filter (has_key_of m) ns ≡ m ∷ ms
     → put_all ns ps ≡ put_all (without m ns) (put_member m ps)

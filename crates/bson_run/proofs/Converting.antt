@@ -61,10 +61,10 @@ writable mode v (converted.Value value) p i = subst IsReadForm (sym i) p
 pub converts : (mode : Mode) (bytes : List ℕ) (v : Value) (r : Result (Vec ℕ Global) Fault) → HasTextMeaning bytes v
     → IfOk r (λ o. IsOutput mode v o.items) → IfOk r (λ o. Converts mode bytes o.items)
 converts mode bytes v (Ok o) m h = record {
-    tree = m.tree;
-    value = v;
-    text = m.text;
-    meaning = m.meaning;
-    is_output = h;
+  tree = m.tree;
+  value = v;
+  text = m.text;
+  meaning = m.meaning;
+  is_output = h;
 }
 converts mode bytes v (Err e) m h = tt

@@ -56,7 +56,7 @@ module _ {V : Type 0} where
   ascend_from (p ∷ ps) next =
       sorted_from_all_adjacent key_total (keys_of (p ∷ ps)) (string_bytes p.key)
       (λ i l. rw (key-at (p ∷ ps) i p, key-at (p ∷ ps) (i + 1) p)
-              (less_of _ (sym (next i p (omega (arith, length-keys (p ∷ ps), l))))))
+      (less_of _ (sym (next i p (omega (arith, length-keys (p ∷ ps), l))))))
 
   pub not_ascending : (ps : List (Pair V))
       → (i : ℕ) × (i + 1 < length ps) × ((d : Pair V) → false ≡ is_below (get_or ps i d) (get_or ps (i + 1) d))
@@ -68,6 +68,6 @@ module _ {V : Type 0} where
       let less = Less-from_sorted key_cmp (keys_of (p ∷ ps)) i (i + 1) (string_bytes p.key) up (omega arith)
       (omega (arith, length-keys (p ∷ ps), stop.1)) in
       let below : key_cmp (string_bytes (get_or (p ∷ ps) i p).key) (string_bytes (get_or (p ∷ ps) (i + 1) p).key)
-          ≡ Less =
+      ≡ Less =
       rw (sym (key-at (p ∷ ps) i p), sym (key-at (p ∷ ps) (i + 1) p)) less in
       stop.2 p ∙ ap is_lt below

@@ -8,7 +8,7 @@ use Rattle.bson.proofs.extjson.convert.convert.Goals as goal
 pub returns-in-Ok-Some-clause-ok : goal.returns-in-Ok-Some-clause-ok
 returns-in-Ok-Some-clause-ok c =
     let done = subst (λ o. IfSome o (λ written. TextConverted c.args.form c.in-Ok.text.now (string_bytes written)))
-        c.in-Ok-Some.field-0-is c.in-Ok-Some.ensures in
+    c.in-Ok-Some.field-0-is c.in-Ok-Some.ensures in
     let m = done.1 in
     let same = c.in-Ok.ensures.cases in (
       done.0,

@@ -10,8 +10,8 @@ returns-in-BeginArray-clause-ok c =
     let ts = c.args.reader.now in
     on_ok c.convert_items.result
     (list_converted c.args.form c.args.depth (token_of c.args.token ∷ ts) ts c.convert_items.new.reader
-            c.args.out.now.tokens c.convert_items.new.out.tokens (ap (λ k. token_of k ∷ ts) c.in-BeginArray.is)
-            (omega arith))
+    c.args.out.now.tokens c.convert_items.new.out.tokens (ap (λ k. token_of k ∷ ts) c.in-BeginArray.is)
+    (omega arith))
     c.convert_items.ensures.ok
 
 pub print_read-requires : goal.print_read-requires

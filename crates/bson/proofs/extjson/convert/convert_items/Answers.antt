@@ -21,7 +21,7 @@ items-preserved c =
     record {
       more = λ rest end p. l.invariant.more rest end
           (turn rest l.out.tokens c.print_read.new.out.tokens end v going.0 (rw (← going.1) done.ok) less
-                  c.in_ok-print_read.ensures.ok p);
+          c.in_ok-print_read.ensures.ok p);
       before = c.in_ok-print_read.ensures.before ∙ l.invariant.before;
       shorter = omega (arith, l.invariant.shorter, less);
     }
@@ -32,6 +32,6 @@ returns-clause-ok c =
     let end = c.end_array.new.self.tokens in
     let r = c.take_end_array.new.self in
     let last = none_pass c.args.form c.args.depth l.reader r l.out.tokens end (grind arith)
-        c.in_ok-end_array.ensures.ok in
+    c.in_ok-end_array.ensures.ok in
     list_passes c.args.form c.args.depth c.args.reader.now r c.args.out.now.tokens c.begin_array.new.self.tokens end
-        c.in_ok-begin_array.ensures.ok (l.invariant.more r end last)
+    c.in_ok-begin_array.ensures.ok (l.invariant.more r end last)

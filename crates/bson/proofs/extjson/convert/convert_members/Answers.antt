@@ -18,7 +18,7 @@ members-preserved c =
     let s = c.next_key.new.self in
     let named : read_key l.reader ≡ Some (Some k, s) = grind arith in
     let plain : is_some (wrapper_of k) ≡ false =
-        ap is_some (sym c.named.ensures) ∙ sym c.is_some.ensures ∙ c.if-is_some.false in
+    ap is_some (sym c.named.ensures) ∙ sym c.is_some.ensures ∙ c.if-is_some.false in
     let done = c.in_ok-convert_member.ensures in
     record {
       passed = one_passed c.args.form c.args.depth k c.args.reader.now l.reader s c.convert_member.new.reader
@@ -34,5 +34,5 @@ returns-clause-ok c =
     let rest = c.next_key.new.self in
     let ended : read_key l.reader ≡ Some (None, rest) = grind arith in
     object_passed c.args.form c.args.depth c.args.reader.now l.reader rest c.args.out.now.tokens
-        c.begin_object.new.self.tokens l.out.tokens c.end_object.new.self.tokens (option_map (λ s. s.now) l.last)
-        c.in_ok-begin_object.ensures.ok l.invariant.passed ended c.in_ok-end_object.ensures.ok
+    c.begin_object.new.self.tokens l.out.tokens c.end_object.new.self.tokens (option_map (λ s. s.now) l.last)
+    c.in_ok-begin_object.ensures.ok l.invariant.passed ended c.in_ok-end_object.ensures.ok

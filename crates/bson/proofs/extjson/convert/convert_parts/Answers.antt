@@ -13,6 +13,6 @@ returns c =
     let new = c.convert_root.new.out.tokens in
     let last : rest ≡ [] = grind arith in
     let done = subst (λ ts. TreeConverted f (converted of_json (value 127 ts)) rest old new) c.in_ok-reader.ensures.ok
-        c.in_ok-convert_root.ensures.ok in
+    c.in_ok-convert_root.ensures.ok in
     text_converted f c.args.text.now (string_bytes c.finished.result) rest old new done last c.new-out.ensures.tokens
-        c.finished.ensures
+    c.finished.ensures

@@ -36,7 +36,7 @@ pub print-returns-in_ok-string-in-String-clause-printed : goal.print-returns-in_
 print-returns-in_ok-string-in-String-clause-printed t c =
     let f = c.args.form in
     let seen : bson_view (bson_form.String c.in-String.text) ≡ scalar (text (string_bytes c.in-String.text)) =
-        search (rules, bson_form.the_lemmas) in
+    search (rules, bson_form.the_lemmas) in
     let written = ap (λ v. writes f (bson_view v)) c.in-String.is ∙ ap (writes f) seen
     ∙ ap (λ r. Ok (string r)) (sym c.as_str.ensures.value) in
     (string c.as_str.result.now, written, c.in_ok-string-in-String.ensures.ok)
@@ -47,9 +47,12 @@ print-returns-in_ok-put_binary-in-Binary-clause-printed t c =
     let f = c.args.form in
     let b = c.in-Binary.binary in
     let seen : bson_view (bson_form.Binary b) ≡ scalar (binary b.subtype b.bytes.items) =
-        search (rules, bson_form.the_lemmas) in
-    (binary_tree b.subtype b.bytes.items, ap (λ v. writes f (bson_view v)) c.in-Binary.is
-            ∙ ap (writes f) seen, c.in_ok-put_binary-in-Binary.ensures.put)
+    search (rules, bson_form.the_lemmas) in (
+      binary_tree b.subtype b.bytes.items,
+      ap (λ v. writes f (bson_view v)) c.in-Binary.is
+          ∙ ap (writes f) seen,
+      c.in_ok-put_binary-in-Binary.ensures.put,
+    )
 
 pub print_items-returns-clause-printed : goal.print_items-returns-clause-printed
 print_items-returns-clause-printed t c =
@@ -60,12 +63,15 @@ print_items-returns-clause-printed t c =
     let empty : drop at.item-index c.deref-item-items.result.now ≡ [] = nothing_left _ _ c.loop-item-test.false in
     let end = c.end_array.new.self.tokens in
     let done =
-        at.invariant.ends end
-        (subst (λ (xs : List Bson). EndsItems (writes_items f (values_view xs)) at.out.tokens end) (sym empty)
-            (no_items, refl, c.in_ok-end_array.ensures.ok)) in
-    (done.0, ap (λ (xs : List Bson). writes_items f (values_view xs)) (sym value)
-            ∙ done.1, in_turn c.args.out.now.tokens (begin_array ∷ []) c.begin_array.new.self.tokens
-            (items_tokens (items_outline done.0)) end c.in_ok-begin_array.ensures.ok done.2)
+    at.invariant.ends end
+    (subst (λ (xs : List Bson). EndsItems (writes_items f (values_view xs)) at.out.tokens end) (sym empty)
+    (no_items, refl, c.in_ok-end_array.ensures.ok)) in (
+      done.0,
+      ap (λ (xs : List Bson). writes_items f (values_view xs)) (sym value)
+          ∙ done.1,
+      in_turn c.args.out.now.tokens (begin_array ∷ []) c.begin_array.new.self.tokens
+          (items_tokens (items_outline done.0)) end c.in_ok-begin_array.ensures.ok done.2,
+    )
 
 pub print_scoped-returns-clause-printed : goal.print_scoped-returns-clause-printed
 print_scoped-returns-clause-printed t c =
@@ -75,9 +81,9 @@ print_scoped-returns-clause-printed t c =
     let old = c.args.out.now.tokens in
     let seen : code_scope s (pairs_view it.scope.pairs) ≡ scoped_view it = search (rules, the_lemmas) in
     let opened = subst (λ z. c.put_code.new.out.tokens ≡ old ++ code_tokens z) c.as_str.ensures.value
-        c.in_ok-put_code.ensures.put in
+    c.in_ok-put_code.ensures.put in
     let done = scoped f s (pairs_view it.scope.pairs) old c.put_code.new.out.tokens c.print_document.new.out.tokens
-        c.end_object.new.self.tokens opened c.in_ok-print_document.ensures.printed c.in_ok-end_object.ensures.ok in
+    c.end_object.new.self.tokens opened c.in_ok-print_document.ensures.printed c.in_ok-end_object.ensures.ok in
     (done.0, ap (writes f) (sym seen) ∙ done.1, done.2)
 
 -- ---- documents
@@ -86,18 +92,18 @@ pub print_document-returns-then-ascends-clause-printed : goal.print_document-ret
 print_document-returns-then-ascends-clause-printed t c =
     let same = in_turn_is c.args.form c.args.document.now.pairs (c.ascends.ensures.ascends c.if-ascends.true) in
     subst (λ w. Prints object c.print_in_turn.result w c.args.out.now.tokens c.print_in_turn.new.out.tokens) same
-        c.print_in_turn.ensures.printed
+    c.print_in_turn.ensures.printed
 
 pub print_document-returns-else-ascends-clause-printed : goal.print_document-returns-else-ascends-clause-printed
 print_document-returns-else-ascends-clause-printed t c =
     let same = by_key_is c.args.form c.args.document.now.pairs c.ascends.ensures.distinct in
     subst (λ w. Prints object c.print_by_key.result w c.args.out.now.tokens c.print_by_key.new.out.tokens) same
-        c.print_by_key.ensures.printed
+    c.print_by_key.ensures.printed
 
 pub print_document-returns-else-ascends-clause-ranged : goal.print_document-returns-else-ascends-clause-ranged
 print_document-returns-else-ascends-clause-ranged t c =
     on_ok c.print_by_key.result (ranged_by_key c.args.document.now.pairs c.ascends.ensures.distinct)
-        c.print_by_key.ensures.ranged
+    c.print_by_key.ensures.ranged
 
 -- ---- in the document's order
 
@@ -110,7 +116,7 @@ print_in_turn-returns-in_err-print-clause-printed t c =
     let here = drop-at ps at.i (k, v) (pair_of ps at.i k v c.key_at.ensures c.value_at.ensures) in
     let p = err_from_is_err_and c.from_residual-in_err-print.result c.from_residual-in_err-print.ensures.1 in
     rw (p.1, p.2)
-        (at.invariant.stops _ (stops_here _ (drop (at.i + 1) ps) k v here c.args.form _ c.in_err-print.ensures.printed))
+    (at.invariant.stops _ (stops_here _ (drop (at.i + 1) ps) k v here c.args.form _ c.in_err-print.ensures.printed))
 
 pub print_in_turn-loop-i-preserved : goal.print_in_turn-loop-i-preserved
 print_in_turn-loop-i-preserved t c =
@@ -123,8 +129,8 @@ print_in_turn-loop-i-preserved t c =
     let here = drop-at ps at.i (k, v) (pair_of ps at.i k v c.key_at.ensures c.value_at.ensures) in
     let p = c.in_ok-print.ensures.printed in
     let near : c.key.new.self.tokens ≡ at.out.tokens ++ key k ∷ [] =
-        subst (λ z. c.key.new.self.tokens ≡ at.out.tokens ++ key z ∷ []) c.as_str.ensures.value
-        c.in_ok-key.ensures.ok in
+    subst (λ z. c.key.new.self.tokens ≡ at.out.tokens ++ key z ∷ []) c.as_str.ensures.value
+    c.in_ok-key.ensures.ok in
     record {
       before = c.in_ok-print.ensures.before ∙ c.in_ok-key.ensures.room.0 ∙ at.invariant.before;
       ends =
@@ -140,13 +146,16 @@ print_in_turn-returns-clause-printed t c =
     let at = c.loop-i in
     let end = c.end_object.new.self.tokens in
     let empty : drop at.i ps ≡ [] = nothing_left ps at.i
-        (omega (arith, c.loop-i-test.false, c.len-i-end.ensures.len)) in
+    (omega (arith, c.loop-i-test.false, c.len-i-end.ensures.len)) in
     let done =
-        at.invariant.ends end
-        (subst (λ (xs : List Entry). EndsMembers (writes_in_order c.args.form (pairs_view xs)) at.out.tokens end)
-            (sym empty) (no_members, refl, c.in_ok-end_object.ensures.ok)) in
-    (done.0, done.1, in_turn c.args.out.now.tokens (begin_object ∷ []) c.begin_object.new.self.tokens
-            (members_tokens (members_outline done.0)) end c.in_ok-begin_object.ensures.ok done.2)
+    at.invariant.ends end
+    (subst (λ (xs : List Entry). EndsMembers (writes_in_order c.args.form (pairs_view xs)) at.out.tokens end)
+    (sym empty) (no_members, refl, c.in_ok-end_object.ensures.ok)) in (
+      done.0,
+      done.1,
+      in_turn c.args.out.now.tokens (begin_object ∷ []) c.begin_object.new.self.tokens
+          (members_tokens (members_outline done.0)) end c.in_ok-begin_object.ensures.ok done.2,
+    )
 
 -- ---- by ascending key
 
@@ -176,9 +185,9 @@ print_by_key-loop-i-smaller t c =
     let v = c.value_at.result.now in
     let here = pair_of ps c.in-Some.i k v c.key_at-key.ensures c.value_at.ensures in
     let next =
-        ap length
-        (next_pair ps (option_map (λ s. string_bytes s.now) c.loop-i.last) c.in-Some.i (k, v) here
-            c.in-Some.ensures.least) in
+    ap length
+    (next_pair ps (option_map (λ s. string_bytes s.now) c.loop-i.last) c.in-Some.i (k, v) here
+    c.in-Some.ensures.least) in
     omega (arith, next)
 
 pub print_by_key-returns-in_err-print-clause-printed : goal.print_by_key-returns-in_err-print-clause-printed
@@ -188,12 +197,12 @@ print_by_key-returns-in_err-print-clause-printed t c =
     let k = string_bytes c.key_at-key.result.now in
     let v = c.value_at.result.now in
     let here = next_pair ps (option_map (λ s. string_bytes s.now) at.last) c.in-Some.i (k, v)
-        (pair_of ps c.in-Some.i k v c.key_at-key.ensures c.value_at.ensures) c.in-Some.ensures.least in
+    (pair_of ps c.in-Some.i k v c.key_at-key.ensures c.value_at.ensures) c.in-Some.ensures.least in
     let p = err_from_is_err_and c.from_residual-in_err-print.result c.from_residual-in_err-print.ensures.1 in
     rw (p.1, p.2)
-        (at.invariant.stops _
-            (stops_here _ (where_key key_cmp (is_above (Some k)) (in_order ps)) k v here c.args.form _
-                c.in_err-print.ensures.printed))
+    (at.invariant.stops _
+    (stops_here _ (where_key key_cmp (is_above (Some k)) (in_order ps)) k v here c.args.form _
+    c.in_err-print.ensures.printed))
 
 pub print_by_key-loop-i-preserved : goal.print_by_key-loop-i-preserved
 print_by_key-loop-i-preserved t c =
@@ -204,11 +213,11 @@ print_by_key-loop-i-preserved t c =
     let v = c.value_at.result.now in
     let rest = where_key key_cmp (is_above (Some k)) (in_order ps) in
     let here = next_pair ps (option_map (λ s. string_bytes s.now) at.last) c.in-Some.i (k, v)
-        (pair_of ps c.in-Some.i k v c.key_at-key.ensures c.value_at.ensures) c.in-Some.ensures.least in
+    (pair_of ps c.in-Some.i k v c.key_at-key.ensures c.value_at.ensures) c.in-Some.ensures.least in
     let p = c.in_ok-print.ensures.printed in
     let near : c.key.new.self.tokens ≡ at.out.tokens ++ key k ∷ [] =
-        subst (λ z. c.key.new.self.tokens ≡ at.out.tokens ++ key z ∷ []) c.as_str.ensures.value
-        c.in_ok-key.ensures.ok in
+    subst (λ z. c.key.new.self.tokens ≡ at.out.tokens ++ key z ∷ []) c.as_str.ensures.value
+    c.in_ok-key.ensures.ok in
     record {
       before = c.in_ok-print.ensures.before ∙ c.in_ok-key.ensures.room.0 ∙ at.invariant.before;
       ends =
@@ -223,16 +232,19 @@ print_by_key-returns-clause-printed t c =
     let at = c.loop-i in
     let end = c.end_object.new.self.tokens in
     let empty = least_none (option_map (λ s. string_bytes s.now) at.last) c.args.document.now.pairs
-        c.in_default.ensures.least in
+    c.in_default.ensures.least in
     let done =
-        at.invariant.ends end
-        (subst (λ (xs : List Entry). EndsMembers (writes_in_order c.args.form (pairs_view xs)) at.out.tokens end)
-            (sym empty) (no_members, refl, c.in_ok-end_object.ensures.ok)) in
-    (done.0, done.1, in_turn c.args.out.now.tokens (begin_object ∷ []) c.begin_object.new.self.tokens
-            (members_tokens (members_outline done.0)) end c.in_ok-begin_object.ensures.ok done.2)
+    at.invariant.ends end
+    (subst (λ (xs : List Entry). EndsMembers (writes_in_order c.args.form (pairs_view xs)) at.out.tokens end)
+    (sym empty) (no_members, refl, c.in_ok-end_object.ensures.ok)) in (
+      done.0,
+      done.1,
+      in_turn c.args.out.now.tokens (begin_object ∷ []) c.begin_object.new.self.tokens
+          (members_tokens (members_outline done.0)) end c.in_ok-begin_object.ensures.ok done.2,
+    )
 
 pub print_by_key-returns-clause-ranged : goal.print_by_key-returns-clause-ranged
 print_by_key-returns-clause-ranged t c =
     let empty = least_none (option_map (λ s. string_bytes s.now) c.loop-i.last) c.args.document.now.pairs
-        c.in_default.ensures.least in
+    c.in_default.ensures.least in
     c.loop-i.invariant.ranged (subst (λ (xs : List Entry). PairsInRange (pairs_view xs)) (sym empty) tt)

@@ -10,7 +10,7 @@ returns-then-not-is_sorted_by-clause-taken g c =
     let tested = c.is_sorted_by.ensures.cases is_below (answers_always _ _ _ (λ f a r h q. search rules)) in
     let stop = MatchBool-at_false _ _ c.if-not-is_sorted_by.true tested in
     subst (λ ps. KeysAscend (stored_pairs ps) → false ≡ true) c.deref.ensures.value
-        (not_ascending c.deref.result.now stop)
+    (not_ascending c.deref.result.now stop)
 
 pub returns-clause-ascending : goal.returns-clause-ascending
 returns-clause-ascending g c =

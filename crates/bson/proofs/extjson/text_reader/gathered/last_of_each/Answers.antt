@@ -17,6 +17,6 @@ members-preserved c =
       left = one_left _ later c.in-Some.field-0 _ _ at.invariant.left steps c.in-Some.ensures.steps.1;
       ascends = subst KeysAscend (sym c.in_ok-enter.ensures)
           (put_ascends (string_bytes c.in-Some.field-0.key) (bson_view c.in-Some.field-0.value) ps
-              at.invariant.ascends);
+          at.invariant.ascends);
       all = ap (put_all later) c.in_ok-enter.ensures ∙ ap (λ ms. put_all ms ps) (sym steps) ∙ at.invariant.all;
     }

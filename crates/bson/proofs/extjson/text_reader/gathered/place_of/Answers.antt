@@ -11,7 +11,7 @@ returns-in-Equal c =
     let m = c.index.result.now in
     let equal : slice_cmp nat_cmp k (key_at ms (c.walk.at - 1) m) ≡ Equal =
     ap (λ x. slice_cmp nat_cmp k (string_bytes x.key)) (sym c.index.ensures)
-        ∙ ap (slice_cmp nat_cmp k) (sym c.as_str.ensures.value) ∙ sym c.cmp.ensures ∙ c.in-Equal.is in
+    ∙ ap (slice_cmp nat_cmp k) (sym c.as_str.ensures.value) ∙ sym c.cmp.ensures ∙ c.in-Equal.is in
     stands k ms (c.walk.at - 1) m c.requires (omega (arith, c.walk.invariant.0, c.walk-test.true)) equal
 
 pub returns-in-Greater : goal.returns-in-Greater
@@ -23,10 +23,10 @@ returns-in-Greater c =
     let next : c.walk.at ≡ suc i = omega (arith, c.walk-test.true) in
     let above : slice_cmp nat_cmp k (key_at ms i m) ≡ Greater =
     ap (λ x. slice_cmp nat_cmp k (string_bytes x.key)) (sym c.index.ensures)
-        ∙ ap (slice_cmp nat_cmp k) (sym c.as_str.ensures.value) ∙ sym c.cmp.ensures ∙ c.in-Greater.is in
+    ∙ ap (slice_cmp nat_cmp k) (sym c.as_str.ensures.value) ∙ sym c.cmp.ensures ∙ c.in-Greater.is in
     subst (FitsAt k ms) (sym next)
-        (fits k ms i m c.requires (omega (arith, c.walk.invariant.0, c.walk-test.true)) above
-            (subst (IsBelowAt k ms) next c.walk.invariant.1))
+    (fits k ms i m c.requires (omega (arith, c.walk.invariant.0, c.walk-test.true)) above
+    (subst (IsBelowAt k ms) next c.walk.invariant.1))
 
 pub returns : goal.returns
 returns c =

@@ -8,6 +8,6 @@ use Rattle.bson.proofs.extjson.text_reader.gathered.put_few.Goals as goal
 pub returns-in-Err : goal.returns-in-Err
 returns-in-Err c =
     subst
-        (λ ps. IfOk c.put_many.result (λ now. gathered now
-                ≡ put_pair (string_bytes c.args.key) (bson_view c.args.value) ps))
-        (put_ascending c.args.members.items c.requires) c.put_many.ensures
+    (λ ps. IfOk c.put_many.result (λ now. gathered now
+    ≡ put_pair (string_bytes c.args.key) (bson_view c.args.value) ps))
+    (put_ascending c.args.members.items c.requires) c.put_many.ensures

@@ -8,5 +8,5 @@ use Rattle.bson.proofs.extjson.text_reader.gathered.sort_by_key.Goals as goal
 pub returns : goal.returns
 returns c =
     sorted_by nat_list_cmp_total (λ k. k) c.args.members.now.items c.sort_by.new.self.items
-        (c.in_ok-sort_by.ensures.stable _ (ranks_by nat_list_cmp_total (λ m. string_bytes m.key))
-            (answers_always _ _ _ (λ g a r h q. search rules)))
+    (c.in_ok-sort_by.ensures.stable _ (ranks_by nat_list_cmp_total (λ m. string_bytes m.key))
+    (answers_always _ _ _ (λ g a r h q. search rules)))

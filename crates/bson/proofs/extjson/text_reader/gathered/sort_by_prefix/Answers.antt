@@ -9,5 +9,5 @@ pub returns : goal.returns
 returns c =
     let f = λ (k : List ℕ). prefix k 16 in
     sorted_by nat_cmp_total f c.args.members.now.items c.sort_by_cached_key.new.self.items
-        (c.in_ok-sort_by_cached_key.ensures.stable (λ m. f (string_bytes m.key))
-            (answers_always _ _ _ (λ g a r h q. search rules)))
+    (c.in_ok-sort_by_cached_key.ensures.stable (λ m. f (string_bytes m.key))
+    (answers_always _ _ _ (λ g a r h q. search rules)))

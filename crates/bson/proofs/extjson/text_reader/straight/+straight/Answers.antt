@@ -48,44 +48,48 @@ read_member-returns-clause-ok t c =
 pub read_begun-returns-in_ok-from_str-in-String-clause-ok : goal.read_begun-returns-in_ok-from_str-in-String-clause-ok
 read_begun-returns-in_ok-from_str-in-String-clause-ok t c =
     let is : token_of c.args.token ∷ c.args.reader.now ≡ Token.string c.in-String.text.now ∷ c.args.reader.now =
-        ap (λ k. token_of k ∷ c.args.reader.now) c.in-String.is in
+    ap (λ k. token_of k ∷ c.args.reader.now) c.in-String.is in
     let seen : bson_view (bson.String c.in_ok-from_str-in-String.field-0)
-        ≡ model.scalar (scalars.text c.in-String.text.now) = search (rules, the_lemmas) in
-    (string c.in-String.text.now, ap (converted of_json) (ap (value c.args.depth) is ∙ value_is c.args.depth _),
-            ap Ok (sym seen))
+    ≡ model.scalar (scalars.text c.in-String.text.now) = search (rules, the_lemmas) in (
+      string c.in-String.text.now,
+      ap (converted of_json) (ap (value c.args.depth) is ∙ value_is c.args.depth _),
+      ap Ok (sym seen),
+    )
 
 pub read_begun-returns-in-Bool-clause-ok : goal.read_begun-returns-in-Bool-clause-ok
 read_begun-returns-in-Bool-clause-ok t c =
     let is : token_of c.args.token ∷ c.args.reader.now ≡ Token.boolean c.in-Bool.b ∷ c.args.reader.now =
-        ap (λ k. token_of k ∷ c.args.reader.now) c.in-Bool.is in
+    ap (λ k. token_of k ∷ c.args.reader.now) c.in-Bool.is in
     let seen : bson_view (bson.Boolean c.in-Bool.b) ≡ model.scalar (scalars.boolean c.in-Bool.b) =
-        search (rules, the_lemmas) in
-    (boolean c.in-Bool.b, ap (converted of_json) (ap (value c.args.depth) is ∙ value_is c.args.depth _),
-            ap Ok (sym seen))
+    search (rules, the_lemmas) in (
+      boolean c.in-Bool.b,
+      ap (converted of_json) (ap (value c.args.depth) is ∙ value_is c.args.depth _),
+      ap Ok (sym seen),
+    )
 
 pub read_begun-returns-in-Null-clause-ok : goal.read_begun-returns-in-Null-clause-ok
 read_begun-returns-in-Null-clause-ok t c =
     let is : token_of c.args.token ∷ c.args.reader.now ≡ Token.null ∷ c.args.reader.now =
-        ap (λ k. token_of k ∷ c.args.reader.now) c.in-Null.is in
+    ap (λ k. token_of k ∷ c.args.reader.now) c.in-Null.is in
     let seen : bson_view bson.Null ≡ model.scalar scalars.null = search (rules, the_lemmas) in
     (null, ap (converted of_json) (ap (value c.args.depth) is ∙ value_is c.args.depth _), ap Ok (sym seen))
 
 pub read_begun-returns-in_ok-read_number-in-Some-clause-ok : goal.read_begun-returns-in_ok-read_number-in-Some-clause-ok
 read_begun-returns-in_ok-read_number-in-Some-clause-ok t c =
     let is : token_of c.args.token ∷ c.args.reader.now ≡ Token.number c.in-Number.text.now ∷ c.args.reader.now =
-        ap (λ k. token_of k ∷ c.args.reader.now) c.in-Number.is in
+    ap (λ k. token_of k ∷ c.args.reader.now) c.in-Number.is in
     let read : converted of_json (value c.args.depth (token_of c.args.token ∷ c.args.reader.now))
-        ≡ Some (number (number_view c.in-Some.n), c.args.reader.now) =
-        ap (converted of_json) (ap (value c.args.depth) is ∙ value_is c.args.depth _)
+    ≡ Some (number (number_view c.in-Some.n), c.args.reader.now) =
+    ap (converted of_json) (ap (value c.args.depth) is ∙ value_is c.args.depth _)
     ∙ rw c.in-Some.ensures refl in
     (number (number_view c.in-Some.n), read, c.in_ok-read_number-in-Some.ensures.given)
 
 pub read_begun-returns-else-depth-eq0-2-clause-ok : goal.read_begun-returns-else-depth-eq0-2-clause-ok
 read_begun-returns-else-depth-eq0-2-clause-ok t c =
     let opened = object_opened c.args.depth (token_of c.args.token ∷ c.args.reader.now) c.args.reader.now
-        (ap (λ k. token_of k ∷ c.args.reader.now) c.in-BeginObject.is) (omega arith) in
+    (ap (λ k. token_of k ∷ c.args.reader.now) c.in-BeginObject.is) (omega arith) in
     if_ok c.read_object.result c.read_object.ensures.ok
-        (λ v read. (object read.0, opened ∙ ap (parse_map object) read.1, read.2))
+    (λ v read. (object read.0, opened ∙ ap (parse_map object) read.1, read.2))
 
 pub read_object-members-init : goal.read_object-members-init
 read_object-members-init t c =
@@ -114,7 +118,7 @@ read_object-returns-then-is_none-clause-ok t c =
     let named : read_key l.reader ≡ Some (Some k, s) = grind arith in
     if_ok c.read_wrapper.result c.read_wrapper.ensures.ok (λ v m.
     from_first c.args.depth k c.args.reader.now l.reader s c.read_wrapper.new.reader l.invariant.0 (gathered l.found)
-        (bson_view v) l.invariant.1 (c.is_none.ensures c.if-is_none.true) named m)
+    (bson_view v) l.invariant.1 (c.is_none.ensures c.if-is_none.true) named m)
 
 pub read_object-returns-then-is_none-2-clause-ok : goal.read_object-returns-then-is_none-2-clause-ok
 read_object-returns-then-is_none-2-clause-ok t c =
@@ -124,7 +128,7 @@ read_object-returns-then-is_none-2-clause-ok t c =
     let named : read_key l.reader ≡ Some (Some k, s) = grind arith in
     if_ok c.read_scoped.result c.read_scoped.ensures.ok (λ v m.
     from_first c.args.depth k c.args.reader.now l.reader s c.read_scoped.new.reader l.invariant.0 (gathered l.found)
-        (bson_view v) l.invariant.1 (c.is_none-then-eq.ensures c.if-is_none-2.true) named m)
+    (bson_view v) l.invariant.1 (c.is_none-then-eq.ensures c.if-is_none-2.true) named m)
 
 pub read_object-returns-clause-ok : goal.read_object-returns-clause-ok
 read_object-returns-clause-ok t c =
@@ -142,11 +146,14 @@ pub read_begun-returns-in_ok-read_items-in-BeginArray-clause-ok :
     goal.read_begun-returns-in_ok-read_items-in-BeginArray-clause-ok
 read_begun-returns-in_ok-read_items-in-BeginArray-clause-ok t c =
     let opened = array_opened c.args.depth (token_of c.args.token ∷ c.args.reader.now) c.args.reader.now
-        (ap (λ k. token_of k ∷ c.args.reader.now) c.in-BeginArray.is) (omega arith) in
+    (ap (λ k. token_of k ∷ c.args.reader.now) c.in-BeginArray.is) (omega arith) in
     let found = c.in_ok-read_items-in-BeginArray in
-    let read = found.ensures.ok in
-    (array read.0, opened ∙ ap (parse_map array) read.1, ap (λ r. r >>= λ vs. Ok (model.array vs)) read.2
-            ∙ ap Ok (sym (bson_view-Array found.field-0)))
+    let read = found.ensures.ok in (
+      array read.0,
+      opened ∙ ap (parse_map array) read.1,
+      ap (λ r. r >>= λ vs. Ok (model.array vs)) read.2
+          ∙ ap Ok (sym (bson_view-Array found.field-0)),
+    )
 
 pub read_items-items-init : goal.read_items-items-init
 read_items-items-init t c = (
@@ -222,7 +229,7 @@ pub read_scope-returns-in_ok-read_pairs-in-BeginObject-clause-ok :
 read_scope-returns-in_ok-read_pairs-in-BeginObject-clause-ok t c =
     let first : c.args.reader.now ≡ token_of c.in_ok-token.token ∷ c.next.new.self = grind arith in
     let opened = object_opened c.args.depth c.args.reader.now c.next.new.self
-        (first ∙ ap (λ k. token_of k ∷ c.next.new.self) c.in-BeginObject.is) (omega arith) in
+    (first ∙ ap (λ k. token_of k ∷ c.next.new.self) c.in-BeginObject.is) (omega arith) in
     let read = c.in_ok-read_pairs-in-BeginObject.ensures.ok in
     (object read.0, opened ∙ ap (parse_map object) read.1, ap (λ r. r >>= λ ps. Ok (Some ps)) read.2)
 
