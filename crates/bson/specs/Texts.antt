@@ -3,10 +3,10 @@ use Rattle.std.specs.Prelude.{◌≡◌, ℕ, suc, [], ◌∷◌, ◌++◌, code
 use Rattle.std.specs.Prelude.{slice_get}
 use Rattle.std.specs.declared.alloc.Global.{Global}
 use Rattle.std.specs.declared.cmp.Ordering.TheVariants.{Less}
-use Rattle.json.specs.Token.{Token, begin_object, key, string}
+use Rattle.json.specs.Token.{Token, key}
 use Rattle.serde_json.specs.Data.{Data, Members, no_members, member}
 use Rattle.serde_json.specs.Written.{compact_text}
-pub use Rattle.bson_wrapper.specs.Tokens.{tokens_of}
+pub use Rattle.bson_wrapper.specs.Tokens.{tokens_of, code_tokens}
 use Rattle.bson_wrapper.specs.Written.{Refusal, Stops, ◌>>=◌}
 use Rattle.bson_wrapper.specs.declared.form.Form.{Form}
 use Rattle.bson_wrapper.specs.declared.write_error.WriteError.{WriteError}
@@ -25,10 +25,6 @@ pub record IsTextIn (f : Form) (v : Value) (text : List ℕ) : Type 0 where
   pub compact : text ≡ compact_text tree
 
 -- ---- for private clauses
-
--- what stands before the scope of a code
-abbrev pub code_tokens : List ℕ → List Token
-code_tokens s = begin_object ∷ key (codes "$code") ∷ string s ∷ key (codes "$scope") ∷ []
 
 -- What a function returned is what writing gives, unless memory ran out: the tokens of the tree come after the old
 -- ones.

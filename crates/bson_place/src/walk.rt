@@ -1,7 +1,6 @@
 //! How the place of a fault is found.
 ghost use Rattle.std.specs.Prelude.{◌≡◌, ◌∷◌, [], ◌++◌, ◌&&◌, ℕ, List, true, IfOk, MatchBool};
 ghost use Rattle.std.specs.Prelude.{MatchOption, Ok, codes, string_bytes};
-ghost use Rattle.std.specs.Str.{bytes_eq};
 ghost use Rattle.serde_json.specs.View.{view, number_view, items_view, members_view};
 ghost use Rattle.serde_json.specs.Data.{number, string, object, member, no_members};
 ghost use Rattle.bson_wrapper.specs.Table.{has_wrapper};
@@ -14,6 +13,7 @@ ghost use Rattle.bson_place.specs.Place.{IsErrorOf, IsPlace, IsScopeFault, key a
 ghost use Rattle.bson_place.specs.Place.{turn_of};
 
 use crate::place::{Place, Step};
+use bson_wrapper::code::is_code_with_scope;
 use bson_wrapper::error::Error;
 use bson_wrapper::read::read_single;
 use bson_wrapper::wrapper::any_wrapper;
@@ -204,12 +204,6 @@ fn is_text(value: &Value) -> bool
         → ⊥) }
 {
     matches!(value, Value::String(_))
-}
-
-fn is_code_with_scope(key: &str, other: &str) -> bool
-    ensures { result ≡ (bytes_eq key.now (codes "$code") && bytes_eq other.now (codes "$scope")) }
-{
-    key == "$code" && other == "$scope"
 }
 
 /// Of what stands as a scope at this key, beside code that is a text.

@@ -6,10 +6,12 @@
 //! wrapper keys), `error` and `write_error`; `shapes` (a text, an object of one key or two), `sink`
 //! (where a tree is written to: into memory, or onto a text) and `wrapped` (the shapes, written); a
 //! module for the wrappers of each subject, `ints`, `doubles`, `decimals`, `texts`, `regexes`,
-//! `ids`, `timestamps`, `dates`, `binaries`, `lone`; `read` and `write` over all of them; `laws`.
+//! `ids`, `timestamps`, `dates`, `binaries`, `lone`; `read` and `write` over all of them; `code` (the
+//! keys of code with its scope); `laws`.
 #![tactic(auto)]
 
 pub mod binaries;
+pub mod code;
 pub mod dates;
 pub mod decimals;
 pub mod doubles;

@@ -1,8 +1,7 @@
 //! The reader.
 ghost use Rattle.serde_json.specs.View.{view, number_view, items_view, members_view};
 ghost use Rattle.serde_json.specs.Data.{object};
-ghost use Rattle.std.specs.Prelude.{◌≡◌, ◌&&◌, IfOk, codes, string_bytes};
-ghost use Rattle.std.specs.Str.{bytes_eq};
+ghost use Rattle.std.specs.Prelude.{◌≡◌, IfOk, string_bytes};
 ghost use Rattle.bson_model.specs.Value.{code_scope};
 ghost use Rattle.bson_wrapper.specs.Faults.{Gives};
 ghost use Rattle.bson_model.specs.Reading.{scalar_value, reads, reads_items, reads_members};
@@ -16,17 +15,18 @@ use crate::bson::{Bson, JavaScriptCodeWithScope};
 use crate::document::Document;
 use crate::extjson::scalars::{of_scalar, read_number};
 use bson_store::{PairStore, SmallPairs};
+use bson_wrapper::code::is_code_with_scope;
 use bson_wrapper::error::Error;
-use bson_wrapper::read::read_single as read_scalar;
+use bson_wrapper::read::read_single;
 use bson_wrapper::wrapper::any_wrapper;
 use serde_json::{Map, Value};
 use std::alloc::Global;
 
-pub(crate) fn read_single(alloc: Global, key: &str, value: Value) -> Result<Bson, Error>
+pub(crate) fn single_value(alloc: Global, key: &str, value: Value) -> Result<Bson, Error>
     ensures given { Gives bson_view result (scalar_value (single_at (wrapper_of key.now) (view value))) }
     ensures ranged { IfOk result (λ v. InRange (bson_view v)) }
 {
-    Ok(of_scalar(read_scalar(alloc, key, value)?))
+    Ok(of_scalar(read_single(alloc, key, value)?))
 }
 
 pub(crate) const SHAPE: &str = "a wrapper key stands in an object of another shape";
@@ -66,7 +66,7 @@ fn read_object(alloc: Global, members: Map<String, Value>) -> Result<Bson, Error
     ensures ranged { IfOk result (λ v. InRange (bson_view v)) }
 {
     if any_wrapper(&members) {
-        read_wrapper(alloc, members)
+        read_wrapped(alloc, members)
     } else {
         Ok(Bson::Document(read_members(alloc, members)?))
     }
@@ -89,7 +89,7 @@ pub(crate) fn read_members(alloc: Global, members: Map<String, Value>) -> Result
 }
 
 #[cycle(read)]
-fn read_wrapper(alloc: Global, mut members: Map<String, Value>) -> Result<Bson, Error>
+fn read_wrapped(alloc: Global, mut members: Map<String, Value>) -> Result<Bson, Error>
     ensures given { Gives bson_view result (reads_wrapper (members_view members.entries)) }
     ensures ranged { IfOk result (λ v. InRange (bson_view v)) }
 {
@@ -97,7 +97,7 @@ fn read_wrapper(alloc: Global, mut members: Map<String, Value>) -> Result<Bson, 
         return Err(Error::DeserializationError { message: SHAPE });
     };
     let Some((other, scope)) = members.pop_first() else {
-        return read_single(alloc, key.as_str(), value);
+        return single_value(alloc, key.as_str(), value);
     };
     if !members.is_empty() {
         return Err(Error::DeserializationError { message: SHAPE });
@@ -124,12 +124,6 @@ fn read_code(
         Value::String(code) => read_scope(alloc, scope, code),
         _ => Err(Error::DeserializationError { message: SHAPE }),
     }
-}
-
-pub(crate) fn is_code_with_scope(key: &str, other: &str) -> bool
-    ensures { result ≡ (bytes_eq key.now (codes "$code") && bytes_eq other.now (codes "$scope")) }
-{
-    key == "$code" && other == "$scope"
 }
 
 pub(crate) fn with_scope(code: String, scope: Document) -> Bson

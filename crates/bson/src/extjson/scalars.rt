@@ -1,10 +1,9 @@
 //! The kinds that hold no other value.
-ghost use Rattle.std.specs.Prelude.{◌≡◌, ◌<◌, IfOk, string_bytes};
-ghost use Rattle.serde_json.specs.View.{view, number_view, members_view};
+ghost use Rattle.std.specs.Prelude.{◌≡◌, ◌<◌, IfOk};
+ghost use Rattle.serde_json.specs.View.{number_view};
 ghost use Rattle.bson_wrapper.specs.Faults.{Gives};
 ghost use Rattle.bson_wrapper.specs.Reading.{number_read};
 ghost use Rattle.bson_model.specs.Reading.{scalar_value};
-ghost use Rattle.bson_model.specs.Writing.{with_scope};
 ghost use Rattle.bson_wrapper.specs.View.{scalar_view};
 ghost use Rattle.bson_model.specs.Normal.{InRange};
 ghost use Rattle.bson_scalar.specs.DbPointer.{id_of};
@@ -22,7 +21,7 @@ use bson_scalar::oid::ObjectId;
 use bson_scalar::spec::BinarySubtype;
 use bson_wrapper::error::Error;
 use bson_wrapper::scalar::Scalar;
-use serde_json::{Map, Number, Value};
+use serde_json::Number;
 use std::alloc::{AllocError, Global};
 
 pub(crate) fn of_scalar(value: Scalar) -> Bson
@@ -120,18 +119,4 @@ pub(crate) fn read_number(n: Number) -> Result<Bson, Error>
             message: "a number is no whole number of 64 bits",
         }),
     }
-}
-
-// The tree of code with its scope's map.
-pub(crate) fn wrapped_code(
-    alloc: Global,
-    code: String,
-    scope: Map<String, Value>,
-) -> Result<Value, AllocError>
-    ensures { IfOk result (λ t. view t ≡ with_scope (string_bytes code) (members_view scope.entries)) }
-{
-    let mut members = Map::new(alloc);
-    serde_json::put(&mut members, alloc, "$scope", Value::Object(scope))?;
-    serde_json::put(&mut members, alloc, "$code", Value::String(code))?;
-    Ok(Value::Object(members))
 }

@@ -1,12 +1,12 @@
 //! The text of a value in both forms, written with no tree.
-ghost use Rattle.std.specs.Prelude.{◌≡◌, ◌++◌, [], OnOk, true, string_bytes};
+ghost use Rattle.std.specs.Prelude.{◌≡◌, [], OnOk, true, string_bytes};
 ghost use Rattle.json.specs.Print.{print as print_tokens};
 ghost use Rattle.serde_json.specs.Data.{array, object};
 ghost use Rattle.bson_model.specs.Normal.{InRange, ItemsInRange, PairsInRange, writable};
 ghost use Rattle.bson_model.specs.Writing.{writes, writes_items, writes_pairs};
 ghost use Rattle.bson_store.specs.Order.{in_order};
 ghost use Rattle.bson_store.specs.Pairs.{keys, HasDistinctKeys};
-ghost use Rattle.bson.specs.Texts.{Prints, GivesText, IsPrinted, code_tokens};
+ghost use Rattle.bson.specs.Texts.{Prints, GivesText, IsPrinted};
 ghost use Rattle.bson.specs.Texts.{writes_in_order, KeysAscend};
 ghost use Rattle.bson.specs.View.{bson_view, scoped_view, values_view, pairs_view};
 
@@ -14,6 +14,7 @@ use crate::bson::{Bson, JavaScriptCodeWithScope};
 use crate::document::Document;
 use crate::scalar::scalar_ref;
 use bson_store::{PairStore, SmallPairs};
+use bson_wrapper::code::put_code;
 use bson_wrapper::form::Form;
 use bson_wrapper::write::{print_scalar, put_binary};
 use bson_wrapper::write_error::WriteError;
@@ -170,17 +171,6 @@ fn print_by_key(
         last = Some(key);
     }
     Ok(out.end_object()?)
-}
-
-// What stands before the scope.
-fn put_code(code: &str, out: &mut Writer) -> Result<(), AllocError>
-    ensures put { OnOk result (out.new.tokens ≡ out.old.tokens ++ code_tokens code.now) }
-    ensures before { out.new.before ≡ out.old.before }
-{
-    out.begin_object()?;
-    out.key("$code")?;
-    out.string(code)?;
-    out.key("$scope")
 }
 
 // Each key is less than the next, by bytes.

@@ -8,7 +8,8 @@ ghost use Rattle.bson.specs.View.{bson_view, scoped_view, document_view, values_
 
 use crate::bson::{Bson, JavaScriptCodeWithScope};
 use crate::document::Document;
-use crate::extjson::scalars::{to_scalar, wrapped_code};
+use crate::extjson::scalars::to_scalar;
+use bson_wrapper::code::wrapped_code;
 use bson_wrapper::form::Form;
 use bson_wrapper::write::write_scalar;
 use bson_wrapper::write_error::WriteError;

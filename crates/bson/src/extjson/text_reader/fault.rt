@@ -8,8 +8,9 @@ ghost use Rattle.bson_wrapper.specs.Reading.{single_at};
 ghost use Rattle.bson_wrapper.specs.Table.{wrapper_of};
 ghost use Rattle.bson.specs.Straight.{Finds};
 
-use crate::extjson::read::{CODE, SHAPE, is_code_with_scope, read_single};
+use crate::extjson::read::{CODE, SHAPE, single_value};
 use crate::extjson::scalars::read_number;
+use bson_wrapper::code::is_code_with_scope;
 use bson_wrapper::error::Error;
 use bson_wrapper::wrapper::any_wrapper;
 use serde_json::{Map, Value};
@@ -82,7 +83,7 @@ fn check_single(alloc: Global, key: &str, value: &Value) -> Result<(), Error>
     ensures { Finds result (scalar_value (single_at (wrapper_of key.now) (view value.now))) }
 {
     let held = value.clone()?;
-    drop(read_single(alloc, key, held)?);
+    drop(single_value(alloc, key, held)?);
     Ok(())
 }
 

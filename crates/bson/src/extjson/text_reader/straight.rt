@@ -17,12 +17,13 @@ ghost use Rattle.bson.specs.Straight.{ScopeMeans, WrapperMeans, CodeMeans};
 
 use crate::bson::Bson;
 use crate::document::Document;
-use crate::extjson::read::{is_code_with_scope, read, read_single, with_scope};
+use crate::extjson::read::{read, single_value, with_scope};
 use crate::extjson::scalars::read_number;
 use crate::extjson::text_reader::gathered::{Gathered, document_of, is_none, none, put};
 use crate::extjson::text_reader::held::{read_from, read_tree};
 use crate::extjson::text_reader::number::number;
 use crate::extjson::text_reader::unread::Unread;
+use bson_wrapper::code::{is_code_with_scope, is_scope};
 use bson_wrapper::wrapper::named;
 use json::{Reader, Token};
 use serde_json::Value;
@@ -111,11 +112,11 @@ fn read_object(alloc: Global, reader: &mut Reader<'_>, depth: usize) -> Result<B
     'members: while let Some(name) = reader.next_key()? {
         if named(name).is_some() {
             if is_none(&found) {
-                return read_wrapper(alloc, reader, depth, name);
+                return read_wrapped(alloc, reader, depth, name);
             }
             return Err(Unread::LeftToTree);
         }
-        if name == "$scope" && is_none(&found) {
+        if is_scope(name) && is_none(&found) {
             return read_scoped(alloc, reader, depth, name);
         }
         found = read_member(alloc, reader, depth, name, found)?;
@@ -167,7 +168,7 @@ fn read_member(
 // What the wrapper means whose key was read: one of that key alone, or code with its scope.
 #[cycle(straight)]
 #[inline(never)]
-fn read_wrapper(
+fn read_wrapped(
     alloc: Global,
     reader: &mut Reader<'_>,
     depth: usize,
@@ -180,7 +181,7 @@ fn read_wrapper(
     match reader.next_key()? {
         Some(other) => read_code(alloc, reader, depth, key, held, other),
         None => {
-            let read = read_single(alloc, key, held)?;
+            let read = single_value(alloc, key, held)?;
             Ok(read)
         }
     }

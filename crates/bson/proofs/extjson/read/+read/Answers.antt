@@ -127,16 +127,16 @@ pub read_members-returns-clause-ranged : goal.read_members-returns-clause-ranged
 read_members-returns-clause-ranged t c =
     subst PairsInRange (sym (document_view-pairs record { pairs = c.loop-key.pairs })) c.loop-key.invariant.ranged
 
-pub read_wrapper-returns-then-not-is_empty-clause-given : goal.read_wrapper-returns-then-not-is_empty-clause-given
-read_wrapper-returns-then-not-is_empty-clause-given t c =
+pub read_wrapped-returns-then-not-is_empty-clause-given : goal.read_wrapped-returns-then-not-is_empty-clause-given
+read_wrapped-returns-then-not-is_empty-clause-given t c =
     let no = c.if-not-is_empty.true in
     let some : length c.pop_first-2.new.self.entries ≡ 0 → ⊥ = λ e. false≢true (sym no ∙ c.is_empty.ensures.1 e) in
     more_than_two _ (c.in-Some.key, c.in-Some.value)
     (c.in-Some-pop_first.other, c.in-Some-pop_first.scope) _ _ c.in-Some.ensures.removal
     c.in-Some-pop_first.ensures.removal some
 
-pub read_wrapper-returns-clause-given : goal.read_wrapper-returns-clause-given
-read_wrapper-returns-clause-given t c =
+pub read_wrapped-returns-clause-given : goal.read_wrapped-returns-clause-given
+read_wrapped-returns-clause-given t c =
     let none : length c.pop_first-2.new.self.entries ≡ 0 = c.is_empty.ensures.0 c.if-not-is_empty.false in
     let two =
     just_two _ (c.in-Some.key, c.in-Some.value)
@@ -144,10 +144,10 @@ read_wrapper-returns-clause-given t c =
     c.in-Some-pop_first.ensures.removal none in
     rw two (grind (arith, c.read_code.ensures.given))
 
-pub read_wrapper-returns-in_default-pop_first-clause-given : goal.read_wrapper-returns-in_default-pop_first-clause-given
-read_wrapper-returns-in_default-pop_first-clause-given t c =
+pub read_wrapped-returns-in_default-pop_first-clause-given : goal.read_wrapped-returns-in_default-pop_first-clause-given
+read_wrapped-returns-in_default-pop_first-clause-given t c =
     let gone : IsSome c.pop_first-2.result → ⊥ = λ s. false≢true (rw c.in_default-pop_first.is at s) in
     let one =
     just_one _ (c.in-Some.key, c.in-Some.value) _
     (IsSome c.pop_first-2.result) c.in-Some.ensures.removal c.pop_first-2.ensures.variant.1 gone in
-    rw (one, sym c.as_str.ensures.value) c.read_single.ensures.given
+    rw (one, sym c.as_str.ensures.value) c.single_value.ensures.given

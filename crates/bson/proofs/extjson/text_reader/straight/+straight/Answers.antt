@@ -116,8 +116,8 @@ read_object-returns-then-is_none-clause-ok t c =
     let k = c.in-Some.name.now in
     let s = c.next_key.new.self in
     let named : read_key l.reader ≡ Some (Some k, s) = grind arith in
-    if_ok c.read_wrapper.result c.read_wrapper.ensures.ok (λ v m.
-    from_first c.args.depth k c.args.reader.now l.reader s c.read_wrapper.new.reader l.invariant.0 (gathered l.found)
+    if_ok c.read_wrapped.result c.read_wrapped.ensures.ok (λ v m.
+    from_first c.args.depth k c.args.reader.now l.reader s c.read_wrapped.new.reader l.invariant.0 (gathered l.found)
     (bson_view v) l.invariant.1 (c.is_none.ensures c.if-is_none.true) named m)
 
 pub read_object-returns-then-is_none-2-clause-ok : goal.read_object-returns-then-is_none-2-clause-ok
@@ -128,7 +128,7 @@ read_object-returns-then-is_none-2-clause-ok t c =
     let named : read_key l.reader ≡ Some (Some k, s) = grind arith in
     if_ok c.read_scoped.result c.read_scoped.ensures.ok (λ v m.
     from_first c.args.depth k c.args.reader.now l.reader s c.read_scoped.new.reader l.invariant.0 (gathered l.found)
-    (bson_view v) l.invariant.1 (c.is_none-then-eq.ensures c.if-is_none-2.true) named m)
+    (bson_view v) l.invariant.1 (c.is_none-then-is_scope.ensures c.if-is_none-2.true) named m)
 
 pub read_object-returns-clause-ok : goal.read_object-returns-clause-ok
 read_object-returns-clause-ok t c =
@@ -233,8 +233,8 @@ read_scope-returns-in_ok-read_pairs-in-BeginObject-clause-ok t c =
     let read = c.in_ok-read_pairs-in-BeginObject.ensures.ok in
     (object read.0, opened ∙ ap (parse_map object) read.1, ap (λ r. r >>= λ ps. Ok (Some ps)) read.2)
 
-pub read_wrapper-returns-in-Some-clause-ok : goal.read_wrapper-returns-in-Some-clause-ok
-read_wrapper-returns-in-Some-clause-ok t c =
+pub read_wrapped-returns-in-Some-clause-ok : goal.read_wrapped-returns-in-Some-clause-ok
+read_wrapped-returns-in-Some-clause-ok t c =
     let k = c.args.key.now in
     let l = c.in-Some.other.now in
     let s = c.read_tree.new.reader in
@@ -245,8 +245,8 @@ read_wrapper-returns-in-Some-clause-ok t c =
     with_scope c.args.depth k l c.args.reader.now s us c.read_code.new.reader (view c.in_ok-held.held)
     (bson_view v) held.ok held.shorter named code)
 
-pub read_wrapper-returns-in_ok-read-in-None-clause-ok : goal.read_wrapper-returns-in_ok-read-in-None-clause-ok
-read_wrapper-returns-in_ok-read-in-None-clause-ok t c =
+pub read_wrapped-returns-in_ok-read-in-None-clause-ok : goal.read_wrapped-returns-in_ok-read-in-None-clause-ok
+read_wrapped-returns-in_ok-read-in-None-clause-ok t c =
     let k = c.args.key.now in
     let s = c.read_tree.new.reader in
     let rest = c.next_key.new.self in

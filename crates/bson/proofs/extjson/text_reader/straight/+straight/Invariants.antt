@@ -30,8 +30,8 @@ decreases-read_scope l = 8 * l.depth + 2
 abbrev pub decreases-read_code : goal.decreases-read_code
 decreases-read_code l = 8 * l.depth + 3
 
-abbrev pub decreases-read_wrapper : goal.decreases-read_wrapper
-decreases-read_wrapper l = 8 * l.depth + 4
+abbrev pub decreases-read_wrapped : goal.decreases-read_wrapped
+decreases-read_wrapped l = 8 * l.depth + 4
 
 abbrev pub decreases-read_object : goal.decreases-read_object
 decreases-read_object l = 8 * l.depth + 5
