@@ -72,6 +72,9 @@ def accepted(parts):
            keyed([(b"$code", LONG), (b"$scope", keyed(outputs))]))
     yield "an element that gives way", listed([LONG, b'{"a":{"$oid":1},"a":true}']), listed([LONG, b'{"a":true}'])
     yield "a value that gives way", keyed([(b"a", b'{"$oid":1}'), (b"a", LONG)]), keyed([(b"a", LONG)])
+    yield "a wrapper's key twice", listed([LONG, b'{"$symbol":1,"$symbol":"s"}']), listed([LONG, b'{"$symbol":"s"}'])
+    yield ("a scope twice", listed([LONG, b'{"$code":1,"$scope":{"a":1},"$scope":null,"$code":"f"}']),
+           listed([LONG, b'{"$code":"f"}']))
     yield "127 levels in a list", listed([LONG, nested(126)]), listed([LONG, nested(126)])
     deep = keyed([(b"a", nested(126)), (b"b", LONG)])
     yield "127 levels under a key", deep, deep
@@ -104,6 +107,7 @@ def refused(given):
     yield "one bracket more", whole + b"]", NOT_JSON
     yield "one brace more", map_of_all + b"}", NOT_JSON
     yield "no UTF-8 at the end", listed([*given, b'"\xff"']), NOT_JSON
+    yield "no meaning first, and then no JSON", listed([b"1.5", *given, b"1e400"]), NOT_JSON
     yield "128 levels in a list", listed([LONG, nested(127)]), NOT_JSON
     yield "128 levels under a key", keyed([(b"a", nested(127)), (b"b", LONG)]), NOT_JSON
 

@@ -1,6 +1,6 @@
 -- What is read and printed part by part.
-use Rattle.std.proofs.Common.{◌≡◌, ℕ, ◌-◌, ◌<◌, ◌≤◌, List, [], ◌∷◌, ◌++◌, length, true, false, Option, Some, None, Ok}
-use Rattle.std.proofs.Common.{refl, sym, ap, ◌∙◌, subst, arith}
+use Rattle.std.proofs.Common.{◌≡◌, ℕ, ◌-◌, ◌<◌, ◌≤◌, List, [], ◌∷◌, ◌++◌, length, false, Option, Some, None}
+use Rattle.std.proofs.Common.{Ok, option_map, refl, sym, ap, ◌∙◌, subst, arith}
 use Rattle.json.specs.Json.{Json, if_last, parse_map, after_end_array, items, value}
 use Rattle.json.specs.Lex.{tokens}
 use Rattle.json.specs.Print.{print}
@@ -23,16 +23,21 @@ use Rattle.bson_model.specs.Reading.{reads, reads_items}
 use Rattle.bson_model.specs.Value as model
 use Rattle.bson_model.specs.Value.{Value, Values, no_values}
 use Rattle.bson_model.specs.Writing.{writes, writes_items}
-use Rattle.bson_model.proofs.Offered.{value_read, writable_is, tree_is, has_text}
+use Rattle.bson_model.proofs.Offered.{writable_is, tree_is, has_text}
 use Rattle.bson.specs.Converted.{ItemsConverted, TreeConverted, TextConverted}
-use Rattle.bson.specs.Straight.{TreeMeans}
+use Rattle.bson.specs.Straight.{TreeMeans, Reads}
 use Rattle.bson.specs.Texts.{IsPrinted, IsTextIn, tokens_of}
+use Rattle.bson.specs.View.{bson_view}
+use Rattle.bson.specs.declared.bson.Bson.{Bson}
+use Rattle.bson.proofs.Marks.{given_ok}
 use Rattle.bson.proofs.Printed.{EndsItems, items_more as printed_more}
 use Rattle.bson.proofs.Turns.{one_item, last_item, array_opened, was_read}
 
--- what was read can be written
-pub read_writable : (d : Data) (v : Value) → reads d ≡ Ok v → writable v ≡ true
-read_writable d v h = (value_read (λ w. w) d (Ok v) h).ok.read_form.1
+-- a value was read, not nothing
+pub value_was_read : (tree : Option (Data × List Token)) (rest : List Token) (o : Option Bson) (b : Bson)
+    → Reads reads tree (option_map bson_view o) rest → o ≡ Some b → TreeMeans tree (bson_view b) rest
+value_was_read tree rest o b r is =
+    (r.0, r.1, given_ok (reads r.0) (bson_view b) (r.2 ∙ ap (option_map bson_view) is))
 
 -- the writer refuses a value that can't be written alone
 pub finite_refused : (f : Form) (v : Value) (e : WriteError) → Stops e (writes f v) → e ≡ FiniteDouble

@@ -1,6 +1,6 @@
 -- Members that are read and printed in turn, by ascending key.
 use Rattle.std.proofs.Common.{◌≡◌, ℕ, ◌-◌, ◌<◌, List, [], ◌∷◌, ◌++◌, length, false, Option, Some, None, Ok, Less}
-use Rattle.std.proofs.Common.{nat_cmp, refl, sym, ap, ◌∙◌, subst}
+use Rattle.std.proofs.Common.{nat_cmp, refl, sym, ap, ◌∙◌, subst, arith}
 use Rattle.std.specs.Prelude.{is_some}
 use Rattle.std.specs.Cmp.Lexicographic.{slice_cmp}
 use Rattle.std.proofs.lemmas.Cmp.{nat_list_cmp_total}
@@ -15,6 +15,7 @@ use Rattle.bson_wrapper.specs.Written.{◌>>=◌}
 use Rattle.bson_wrapper.specs.declared.form.Form.{Form}
 use Rattle.bson_wrapper.proofs.Offered.{in_turn}
 use Rattle.bson_model.specs.Normal.{InRange, PairsInRange}
+use Rattle.bson_model.specs.Reading.{reads_members}
 use Rattle.bson_model.specs.Sorted.{put_pair, KeysAscend}
 use Rattle.bson_model.specs.Value.{Value, Pairs, no_pairs, pair, document}
 use Rattle.bson_model.specs.Writing.{writes, writes_pairs}
@@ -24,7 +25,7 @@ use Rattle.bson.specs.Texts.{writes_in_order}
 use Rattle.bson.proofs.Gathering.{Gathers, none_yet, one_gathered, all_gathered}
 use Rattle.bson.proofs.OntoTree.{bind_same}
 use Rattle.bson.proofs.Printed.{EndsMembers, members_more, put_first}
-use Rattle.bson.proofs.PutReads.{put_plain, object_read}
+use Rattle.bson.proofs.PutReads.{put_plain, put_reads, put_ascends, object_read}
 use Rattle.bson.proofs.Turns.{object_opened}
 
 -- ---- pairs behind others
@@ -83,7 +84,9 @@ written_in_order f (pair k v (pair l w ps)) up =
 pub record MembersPass (f : Form) (depth : ℕ) (start here old new : List Token) (last : Option (List ℕ)) : Type 0 where
   pub trees : Members
   pub pairs : Pairs
-  pub gathers : Gathers depth start here trees pairs
+  pub gathers : Gathers depth no_members start here trees
+  pub read : reads_members trees ≡ Ok pairs
+  pub ascends : KeysAscend pairs
   pub plain : has_wrapper trees ≡ false
   pub below : (k : List ℕ) → Follows last k → AllBelow k pairs
   -- what ends the text well from here on ends it well from the start
@@ -95,7 +98,9 @@ pub none_passed : (f : Form) (depth : ℕ) (ts old : List Token) → MembersPass
 none_passed f depth ts old = record {
   trees = no_members;
   pairs = no_pairs;
-  gathers = none_yet depth ts no_pairs refl;
+  gathers = none_yet depth no_members ts;
+  read = refl;
+  ascends = tt;
   plain = refl;
   below = λ k follows. tt;
   ends = λ more end h. h;
@@ -116,8 +121,9 @@ one_passed f depth k start here s r old mid near new last g named plain follows 
     record {
       trees = put k m.0 g.trees;
       pairs = put_pair k v g.pairs;
-      gathers = one_gathered depth k start here s r g.trees g.pairs (put_pair k v g.pairs) g.gathers named
-          (m.0, v, m.1, m.2, refl) less;
+      gathers = one_gathered depth no_members k start here s r g.trees m.0 g.gathers named m.1 less;
+      read = put_reads k m.0 v m.2 g.trees g.pairs g.read;
+      ascends = put_ascends k v g.pairs g.ascends;
       plain = put_plain k m.0 plain g.trees ∙ g.plain;
       below = λ j next. subst (AllBelow j) (sym last_put)
           (below_more j k v g.pairs (still_below j k g.pairs below next) next);
@@ -141,12 +147,12 @@ object_passed f depth start here rest old opened new end last opening g ended cl
       document g.pairs,
       (
         g.trees,
-        all_gathered depth start here rest g.trees g.pairs g.gathers ended,
-        object_read g.trees g.pairs g.plain g.gathers.read,
+        all_gathered depth no_members start here rest g.trees g.gathers ended (length start) (omega arith),
+        object_read g.trees g.pairs g.plain g.read,
       ),
       (
         object all.0,
-        ap (λ r. r >>= λ ms. Ok (object ms)) (sym (written_in_order f g.pairs g.gathers.ascends) ∙ all.1),
+        ap (λ r. r >>= λ ms. Ok (object ms)) (sym (written_in_order f g.pairs g.ascends) ∙ all.1),
         in_turn old (begin_object ∷ []) opened (members_tokens (members_outline all.0)) end opening all.2,
         g.ranged,
       ),

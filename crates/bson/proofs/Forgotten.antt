@@ -1,11 +1,13 @@
 -- What reading gives with no value of it.
 use Rattle.std.proofs.Common.{◌≡◌, Result, Ok, Err, IfErr, refl, ap}
+use Rattle.std.specs.Prelude.{OnOk}
 use Rattle.serde_json.specs.Data.{Data}
 use Rattle.bson_wrapper.specs.Faults.{Fault, Fails, ◌>>=◌}
 use Rattle.bson_wrapper.specs.declared.error.Error.{Error}
 use Rattle.bson_wrapper.specs.declared.error.Error.TheVariants.{InvalidObjectId, DeserializationError, OutOfMemory}
 use Rattle.bson_model.specs.Fault.{IsFaultOf}
 use Rattle.bson_model.specs.Reading.{reads}
+use Rattle.bson_model.specs.Value.{Value}
 use Rattle.bson_model.proofs.Offered.{value_read}
 use Rattle.bson.specs.Straight.{forgotten, Finds}
 use Rattle.bson.specs.View.{bson_view}
@@ -31,6 +33,15 @@ found_fails : {A : Type 0} (r : Result A Fault) (e : Error) → Fails e (forgott
 found_fails r OutOfMemory h = tt
 found_fails r (DeserializationError message) h = forgotten_fault r _ h
 found_fails r (InvalidObjectId e) h = (h.0, forgotten_fault r _ h.1, h.2)
+
+forgotten_read : {A : Type 0} (r : Result A Fault) → forgotten r ≡ Ok tt → (x : A) × (r ≡ Ok x)
+forgotten_read (Ok x) h = (x, refl)
+forgotten_read (Err e) h = cc
+
+pub found_value : {X : Type 0} (t : Data) (r : Result X Error) → Finds r (reads t)
+    → OnOk r ((v : Value) × (reads t ≡ Ok v))
+found_value t (Ok x) h = forgotten_read (reads t) h
+found_value t (Err e) h = tt
 
 pub found_fault : {X : Type 0} (t : Data) (r : Result X Error) → Finds r (reads t) → IfErr r (λ e. IsFaultOf t e)
 found_fault t (Ok x) h = tt

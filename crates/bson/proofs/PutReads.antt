@@ -1,6 +1,6 @@
 -- One more member of a map, and one more pair of what the map is read as.
 use Rattle.std.proofs.Common.{◌≡◌, ℕ, List, true, false, Result, Ok, Err, Ordering, Less, Equal, Greater, nat_cmp, refl}
-use Rattle.std.proofs.Common.{sym, ap, ◌||◌}
+use Rattle.std.proofs.Common.{sym, ◌∙◌}
 use Rattle.std.specs.Prelude.{is_some}
 use Rattle.std.specs.Cmp.Lexicographic.{slice_cmp}
 use Rattle.std.specs.Ordering.{match_ordering}
@@ -13,6 +13,7 @@ use Rattle.bson_model.specs.Reading.{reads, reads_members, scalar_value}
 use Rattle.bson_model.specs.Sorted.{put_pair, IsLeast, KeysAscend}
 use Rattle.bson_model.specs.Value.{Value, Pairs, no_pairs, pair, document}
 use Rattle.bson_model.proofs.Offered.{flipped}
+use Rattle.bson.proofs.Keys.{is_wrapper, wrapper_key, any_other}
 
 -- ---- what the map is read as
 
@@ -46,19 +47,10 @@ nothing_read (member k d ms) h = let p = parts k (reads d) (reads_members ms) no
 
 -- ---- its keys
 
-plain_at : (o : Ordering) (k l : List ℕ) (d e : Data) (ms : Members) → is_some (wrapper_of k) ≡ false
-    → has_wrapper (put k d ms) ≡ has_wrapper ms
-    → has_wrapper (match_ordering o (member k d (member l e ms)) (member l d ms) (member l e (put k d ms)))
-    ≡ (is_some (wrapper_of l) || has_wrapper ms)
-plain_at Less k l d e ms plain is = rw plain refl
-plain_at Equal k l d e ms plain is = refl
-plain_at Greater k l d e ms plain is = ap (λ b. is_some (wrapper_of l) || b) is
-
 -- an ordinary key changes nothing of whether there is a wrapper's key
 pub put_plain : (k : List ℕ) (d : Data) → is_some (wrapper_of k) ≡ false → (ms : Members)
     → has_wrapper (put k d ms) ≡ has_wrapper ms
-put_plain k d plain no_members = rw plain refl
-put_plain k d plain (member l e ms) = plain_at (slice_cmp nat_cmp k l) k l d e ms plain (put_plain k d plain ms)
+put_plain k d plain ms = wrapper_key (put k d ms) ∙ any_other is_wrapper k d ms plain ∙ sym (wrapper_key ms)
 
 least_at : (o : Ordering) (q k l : List ℕ) (v w : Value) (ps : Pairs) → slice_cmp nat_cmp q k ≡ Less
     → slice_cmp nat_cmp q l ≡ Less → IsLeast q ps → IsLeast q (put_pair k v ps)

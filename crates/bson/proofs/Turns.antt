@@ -1,15 +1,19 @@
 -- A turn of the grammar's loops over tokens, where each part that is read becomes a part of the tree.
-use Rattle.std.proofs.Common.{◌≡◌, ℕ, ◌-◌, ◌<◌, ◌≤◌, List, length, Option, Some, None, Result, Ok, Err, IfOk}
-use Rattle.std.proofs.Common.{option_map, refl, ap, ◌∙◌, arith, ◌∷◌}
+use Rattle.std.proofs.Common.{◌≡◌, ℕ, zero, suc, ◌-◌, ◌<◌, ◌≤◌, List, length, Option, Some, None, Result, Ok, Err}
+use Rattle.std.proofs.Common.{IfOk, IfErr, option_map, refl, ap, ◌∙◌, arith, ◌∷◌, ◌⊎◌, inl, inr, Bor}
 use Rattle.std.proofs.lemmas.Option.{same_Some}
 use Rattle.json.specs.Token.{Token}
 use Rattle.json.specs.Json as json
 use Rattle.json.specs.Json.{Parse, parse_map, after_end_array, read_key, items, members, value}
-use Rattle.json.proofs.Grammar.{value-begin_array, value-begin_object, items_end, items_more, members_end, members_more}
-use Rattle.json.proofs.Grammar.{read_key-shorter}
+use Rattle.json.specs.Reads.{token_of}
+use Rattle.json.specs.declared.token.Token as found
+use Rattle.json.specs.declared.token.Token.TheVariants.{EndObject, EndArray, Key, Bad}
+use Rattle.json.proofs.Grammar.{value_is, value-begin_array, value-begin_object}
+use Rattle.json.proofs.Grammar.{items_end, items_more, members_end, members_more}
+use Rattle.json.proofs.Grammar.{read_key-shorter, items_fail, members_no_key, members_fail}
 use Rattle.serde_json.specs.Data.{Data, array, object, no_items, item, Members, no_members, put}
 use Rattle.serde_json.specs.Read.{of_json, of_items, of_members, converted}
-use Rattle.bson.specs.Straight.{MembersAre}
+use Rattle.bson.specs.Straight.{MembersAre, NoMembers}
 
 -- what holds of a value that was read has what follows from it
 pub if_ok : {X E : Type 0} {P Q : X → Type 0} (r : Result X E) → IfOk r P → ((x : X) → P x → Q x) → IfOk r Q
@@ -110,3 +114,103 @@ more_members depth k ts s r rest d old new named held less more =
 pub no_more_members : (depth : ℕ) (ts rest : List Token) (old : Members) → read_key ts ≡ Some (None, rest)
     → MembersAre depth old ts old rest
 no_more_members depth ts rest old ended = λ n enough. last_member (value depth) n old ts rest enough ended
+
+-- ---- where the text breaks
+
+was_none : {A B : Type 0} (f : A → B) (x : Option A) → option_map f x ≡ None → x ≡ None
+was_none f None h = refl
+was_none f (Some a) h = cc
+
+none_first : (j : json.Json) (o : Option (json.Items × List Token)) → of_json j ≡ None
+    → converted of_items (parse_map (json.item j) o) ≡ None
+none_first j None h = refl
+none_first j (Some (js, r)) h = rw h refl
+
+none_at : (k : List ℕ) (j : json.Json) (old : Members) (o : Option (json.Members × List Token)) → of_json j ≡ None
+    → converted (λ ms. of_members ms old) (parse_map (json.member k j) o) ≡ None
+none_at k j old None h = refl
+none_at k j old (Some (js, r)) h = rw h refl
+
+-- the elements are not read to the end of the list
+abbrev pub NoItems : ℕ → List Token → Type 0
+NoItems depth ts = (n : ℕ) → converted of_items (items (value depth) n ts) ≡ None
+
+module _ (p : Parse json.Json) where
+  item_breaks : (n : ℕ) (ts : List Token) (o : Option (json.Json × List Token)) → after_end_array ts ≡ None → p ts ≡ o
+      → converted of_json o ≡ None → converted of_items (items p n ts) ≡ None
+  unfolding items
+  item_breaks n ts None going is h = ap (converted of_items) (items_fail p n ts going is)
+  item_breaks zero ts (Some (j, r)) going is h = refl
+  item_breaks (suc n) ts (Some (j, r)) going is h =
+      ap (converted of_items) (items_more p (suc n) ts r j (omega arith) going is)
+      ∙ none_first j _ (was_none (λ d. (d, r)) (of_json j) h)
+
+  member_breaks : (n : ℕ) (k : List ℕ) (ts s : List Token) (old : Members) (o : Option (json.Json × List Token))
+      → read_key ts ≡ Some (Some k, s) → p s ≡ o → converted of_json o ≡ None
+      → converted (λ ms. of_members ms old) (members p n ts) ≡ None
+  unfolding members
+  member_breaks n k ts s old None named is h =
+      ap (converted (λ ms. of_members ms old)) (members_fail p n k ts s named is)
+  member_breaks zero k ts s old (Some (j, r)) named is h = refl
+  member_breaks (suc n) k ts s old (Some (j, r)) named is h =
+      ap (converted (λ ms. of_members ms old)) (members_more p (suc n) k ts s r j (omega arith) named is)
+      ∙ none_at k j old _ (was_none (λ d. (d, r)) (of_json j) h)
+
+-- an element breaks, or one behind it
+pub no_item : (depth : ℕ) (ts : List Token) → after_end_array ts ≡ None → converted of_json (value depth ts) ≡ None
+    → NoItems depth ts
+no_item depth ts going h n = item_breaks (value depth) n ts (value depth ts) going refl h
+
+pub no_more_items : (depth : ℕ) (ts r : List Token) (d : Data) → after_end_array ts ≡ None
+    → converted of_json (value depth ts) ≡ Some (d, r) → NoItems depth r → NoItems depth ts
+unfolding items
+no_more_items depth ts r d going read h zero = refl
+no_more_items depth ts r d going read h (suc n) =
+    one_item (value depth) (suc n) ts r d (omega arith) going read ∙ ap (parse_map (item d)) (h (suc n - 1))
+
+-- no key stands there; the value at the key breaks, or what is behind it
+pub no_key : (depth : ℕ) (ts : List Token) → read_key ts ≡ None → NoMembers depth ts
+no_key depth ts none old n = ap (converted (λ ms. of_members ms old)) (members_no_key (value depth) n ts none)
+
+pub no_member : (depth : ℕ) (k : List ℕ) (ts s : List Token) → read_key ts ≡ Some (Some k, s)
+    → converted of_json (value depth s) ≡ None → NoMembers depth ts
+no_member depth k ts s named h old n = member_breaks (value depth) n k ts s old (value depth s) named refl h
+
+pub no_members_behind : (depth : ℕ) (k : List ℕ) (ts s r : List Token) (d : Data) → read_key ts ≡ Some (Some k, s)
+    → converted of_json (value depth s) ≡ Some (d, r) → NoMembers depth r → NoMembers depth ts
+unfolding members
+no_members_behind depth k ts s r d named read h old zero = refl
+no_members_behind depth k ts s r d named read h old (suc n) =
+    one_member (value depth) (suc n) old k ts s r d (omega arith) named read ∙ h (put k d old) (suc n - 1)
+
+-- a list or an object that is too deep
+pub too_deep_array : (depth : ℕ) (ts r : List Token) → ts ≡ Token.begin_array ∷ r → depth ≡ 0
+    → converted of_json (value depth ts) ≡ None
+unfolding value
+too_deep_array depth ts r is deep = rw (is, deep) refl
+
+pub too_deep_object : (depth : ℕ) (ts r : List Token) → ts ≡ Token.begin_object ∷ r → depth ≡ 0
+    → converted of_json (value depth ts) ≡ None
+unfolding value
+too_deep_object depth ts r is deep = rw (is, deep) refl
+
+-- no value begins with a closing bracket, a key, or what is no token
+pub none_begins : (depth : ℕ) (k : found.Token) (ts r : List Token) → ts ≡ token_of k ∷ r
+    → (k ≡ EndObject) ⊎ (k ≡ EndArray) ⊎ ((s : Bor (List ℕ)) × (k ≡ Key s)) ⊎ (k ≡ Bad)
+    → converted of_json (value depth ts) ≡ None
+none_begins depth k ts r is (inl e) = ap (λ t. converted of_json (value depth t)) (is ∙ ap (λ t. token_of t ∷ r) e)
+    ∙ ap (converted of_json) (value_is depth (Token.end_object ∷ r))
+none_begins depth k ts r is (inr (inl e)) =
+    ap (λ t. converted of_json (value depth t)) (is ∙ ap (λ t. token_of t ∷ r) e)
+    ∙ ap (converted of_json) (value_is depth (Token.end_array ∷ r))
+none_begins depth k ts r is (inr (inr (inl (s, e)))) =
+    ap (λ t. converted of_json (value depth t)) (is ∙ ap (λ t. token_of t ∷ r) e)
+    ∙ ap (converted of_json) (value_is depth (Token.key s.now ∷ r))
+none_begins depth k ts r is (inr (inr (inr e))) =
+    ap (λ t. converted of_json (value depth t)) (is ∙ ap (λ t. token_of t ∷ r) e)
+    ∙ ap (converted of_json) (value_is depth (Token.bad ∷ r))
+
+-- what holds of an error has what follows from it
+pub if_err : {X E : Type 0} {P Q : E → Type 0} (r : Result X E) → IfErr r P → ((e : E) → P e → Q e) → IfErr r Q
+if_err (Ok x) h f = tt
+if_err (Err e) h f = f e h

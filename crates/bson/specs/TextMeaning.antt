@@ -1,9 +1,10 @@
 -- What bytes mean as a text, and why they mean nothing.
-use Rattle.std.specs.Prelude.{◌≡◌, ℕ, List, Some, None, IsUtf8}
+use Rattle.std.specs.Prelude.{◌≡◌, ℕ, List, Some, None, Ok, IsUtf8}
 use Rattle.serde_json.specs.Data.{Data}
 use Rattle.serde_json.specs.Read.{read}
 use Rattle.bson_wrapper.specs.declared.error.Error.TheVariants as tree_error
 use Rattle.bson_model.specs.Fault.{IsFaultOf}
+use Rattle.bson_model.specs.Reading.{reads}
 use Rattle.bson_model.specs.Value.{Value}
 use Rattle.bson_model.specs.Laws.{HasMeaning}
 use Rattle.bson.specs.declared.extjson.text_error.TextError.{TextError}
@@ -23,6 +24,10 @@ pub record HasTextMeaning (bytes : List ℕ) (v : Value) : Type 0 where
   pub tree : Data
   pub text : IsTextOf bytes tree
   pub meaning : HasMeaning tree v
+
+-- the bytes are a text of a tree that means nothing
+abbrev pub HasNoMeaning : List ℕ → Type 0
+HasNoMeaning bytes = (t : Data) × IsTextOf bytes t × ((v : Value) → reads t ≡ Ok v → ⊥)
 
 -- why the bytes give no value; a fault of the tree is never want of memory
 abbrev pub IsTextFault : List ℕ → TextError → Type 0

@@ -1,10 +1,10 @@
 //! A text to another of the same value, part by part.
-ghost use Rattle.std.specs.Prelude.{◌≡◌, ◌<◌, ◌≤◌, ◌∷◌, List, length, true, option_map, IfOk, IfErr};
-ghost use Rattle.std.specs.Prelude.{OnOk, IfSome, string_bytes};
+ghost use Rattle.std.specs.Prelude.{◌≡◌, ◌<◌, ◌≤◌, ◌∷◌, List, length, true, None, option_map, IfOk, IfErr};
+ghost use Rattle.std.specs.Prelude.{OnOk, IfSome, IsTrue, string_bytes};
 ghost use Rattle.json.specs.Json.{value, items, members};
 ghost use Rattle.json.specs.Reads.{token_of};
 ghost use Rattle.serde_json.specs.Data.{Data, no_members};
-ghost use Rattle.serde_json.specs.Read.{of_json, of_items, of_members, converted};
+ghost use Rattle.serde_json.specs.Read.{of_json, of_items, of_members, converted, read};
 ghost use Rattle.bson_model.specs.Means.{Means};
 ghost use Rattle.bson_model.specs.Value as model;
 ghost use Rattle.bson.specs.Converted.{IsConversion, TreeConverted, ItemsConverted};
@@ -17,11 +17,11 @@ use crate::extjson::text::{finished, print_read};
 use crate::extjson::text_error::TextError;
 use crate::extjson::text_reader::straight::{read_begun, read_value};
 use crate::extjson::text_reader::unread::Unread;
-use crate::extjson::text_reader::{MAX_DEPTH, or_by_tree, read_text};
+use crate::extjson::text_reader::{MAX_DEPTH, find_fault, or_fault, read_bytes, read_text};
 use bson_wrapper::form::Form;
 use bson_wrapper::wrapper::named;
-use json::{Reader, Scratch, Token, Writer};
-use std::alloc::Global;
+use json::{Invalid, Reader, Scratch, Token, Writer};
+use std::alloc::{AllocError, Global};
 
 /// What [`Bson::convert_text`] gives.
 ///
@@ -39,6 +39,37 @@ pub enum Converted {
     Text(String),
     /// The value, which was read whole.
     Value(Bson),
+}
+
+// Why a text was not converted part by part.
+#[derive(Clone, Copy, Drop)]
+enum Unconverted {
+    OutOfMemory,
+    // It seems to break the grammar of JSON.
+    Broken,
+    // A part of it means nothing, or stands where it can't be written.
+    Left,
+}
+
+impl From<AllocError> for Unconverted {
+    fn from(_refused: AllocError) -> Unconverted {
+        Unconverted::OutOfMemory
+    }
+}
+
+impl From<Invalid> for Unconverted {
+    fn from(_invalid: Invalid) -> Unconverted {
+        Unconverted::Broken
+    }
+}
+
+impl From<Unread> for Unconverted {
+    fn from(unread: Unread) -> Unconverted {
+        match unread {
+            Unread::OutOfMemory => Unconverted::OutOfMemory,
+            Unread::Broken => Unconverted::Broken,
+        }
+    }
 }
 
 // A text of fewer bytes is read whole.
@@ -71,13 +102,47 @@ fn convert(alloc: Global, form: Form, bytes: &[u8]) -> Result<Converted, TextErr
         return Err(TextError::NotJson);
     };
     let mut scratch = Scratch::new(alloc);
-    let read = match convert_parts(alloc, form, text, &mut scratch) {
-        Ok(Some(written)) => return Ok(Converted::Text(written)),
-        Ok(None) => read_text(alloc, text, &mut scratch),
-        Err(unread) => Err(unread),
-    };
-    drop(scratch);
-    Ok(Converted::Value(or_by_tree(alloc, bytes, text, read)?))
+    match convert_parts(alloc, form, text, &mut scratch) {
+        Ok(Some(written)) => Ok(Converted::Text(written)),
+        Ok(None) => {
+            let read = read_text(alloc, text, &mut scratch);
+            drop(scratch);
+            Ok(Converted::Value(or_fault(alloc, bytes, text, read)?))
+        }
+        Err(why) => {
+            drop(scratch);
+            refuse(alloc, bytes, text, why)?;
+            Ok(Converted::Value(read_bytes(alloc, bytes)?))
+        }
+    }
+}
+
+// Refuses a text that was not converted, where it means nothing.
+fn refuse(alloc: Global, bytes: &[u8], text: &str, why: Unconverted) -> Result<(), TextError>
+    requires { bytes.now ≡ text.now }
+    ensures { IfErr result (λ e. IsTextFault bytes.now e) }
+{
+    match why {
+        Unconverted::OutOfMemory => Err(TextError::OutOfMemory),
+        Unconverted::Left => find_fault(alloc, bytes),
+        Unconverted::Broken => match breaks_grammar(alloc, text) {
+            Ok(true) => Err(TextError::NotJson),
+            Ok(false) => find_fault(alloc, bytes),
+            Err(_) => Err(TextError::OutOfMemory),
+        },
+    }
+}
+
+// Whether the tokens of the text are no JSON value, or go on behind one.
+fn breaks_grammar(alloc: Global, text: &str) -> Result<bool, AllocError>
+    ensures { IfOk result (λ broken. IsTrue broken → read text.now ≡ None) }
+{
+    let mut scratch = Scratch::new(alloc);
+    let mut reader = Reader::new(text, &mut scratch)?;
+    match reader.skip_value(MAX_DEPTH) {
+        Ok(()) => Ok(reader.next().is_some()),
+        Err(_) => Ok(true),
+    }
 }
 
 // The text, written as its parts are read; none where it is to be read whole.
@@ -86,7 +151,7 @@ fn convert_parts(
     form: Form,
     text: &str,
     scratch: &mut Scratch,
-) -> Result<Option<String>, Unread>
+) -> Result<Option<String>, Unconverted>
     ensures { IfOk result (λ s. IfSome s (λ written. TextConverted form text.now (string_bytes written))) }
 {
     if text.len() < LEAST_LENGTH || !has_parts(text, scratch)? {
@@ -96,13 +161,13 @@ fn convert_parts(
     let mut out = Writer::new(Vec::with_capacity(alloc, text.len())?);
     convert_root(alloc, form, &mut reader, &mut out)?;
     if reader.next().is_some() {
-        return Err(Unread::Broken);
+        return Err(Unconverted::Broken);
     }
     Ok(Some(finished(out)))
 }
 
 // Whether the text begins as a list, or is an object whose members can be written as they come.
-fn has_parts(text: &str, scratch: &mut Scratch) -> Result<bool, Unread> {
+fn has_parts(text: &str, scratch: &mut Scratch) -> Result<bool, Unconverted> {
     let mut reader = Reader::new(text, scratch)?;
     match reader.next() {
         Some(Token::BeginArray) => Ok(true),
@@ -113,7 +178,7 @@ fn has_parts(text: &str, scratch: &mut Scratch) -> Result<bool, Unread> {
 
 // Whether the keys of the object ascend, and none is a wrapper's. It only saves a try: the keys are
 // looked at again as the members are written.
-fn keys_ascend(reader: &mut Reader<'_>) -> Result<bool, Unread> {
+fn keys_ascend(reader: &mut Reader<'_>) -> Result<bool, Unconverted> {
     let mut last: Option<&str> = None;
     'members: while let Some(name) = reader.next_key()? {
         if named(name).is_some() || !follows(last, name) {
@@ -140,12 +205,12 @@ fn convert_root(
     form: Form,
     reader: &mut Reader<'_>,
     out: &mut Writer,
-) -> Result<(), Unread>
+) -> Result<(), Unconverted>
     ensures ok { OnOk result
         (TreeConverted form (converted of_json (value 127 reader.old)) reader.new out.old.tokens out.new.tokens) }
     ensures before { out.new.before ≡ out.old.before }
 {
-    let token = reader.next().ok_or(Unread::Broken)?;
+    let token = reader.next().ok_or(Unconverted::Broken)?;
     match token {
         Token::BeginObject => convert_members(alloc, form, reader, MAX_DEPTH - 1, out),
         token => convert_begun(alloc, form, reader, MAX_DEPTH, token, out),
@@ -160,7 +225,7 @@ fn convert_begun(
     depth: usize,
     token: Token<'_>,
     out: &mut Writer,
-) -> Result<(), Unread>
+) -> Result<(), Unconverted>
     ensures ok { OnOk result
         (TreeConverted form (converted of_json (value depth (token_of token.entry ∷ reader.old))) reader.new
         out.old.tokens out.new.tokens) }
@@ -169,11 +234,11 @@ fn convert_begun(
 {
     if let Token::BeginArray = token {
         if depth == 0 {
-            return Err(Unread::LeftToTree);
+            return Err(Unconverted::Broken);
         }
         return convert_items(alloc, form, reader, depth - 1, out);
     }
-    let value = read_begun(alloc, reader, depth, token)?;
+    let value = read_begun(alloc, reader, depth, token)?.ok_or(Unconverted::Left)?;
     print_read(alloc, form, &value, out)?;
     drop(value);
     Ok(())
@@ -186,7 +251,7 @@ fn convert_members(
     reader: &mut Reader<'_>,
     depth: usize,
     out: &mut Writer,
-) -> Result<(), Unread>
+) -> Result<(), Unconverted>
     ensures ok { OnOk result
         (ObjectConverted form
         (converted (λ ms. of_members ms no_members) (members (value depth) (length reader.old) reader.old)) reader.new
@@ -197,7 +262,7 @@ fn convert_members(
     let mut last: Option<&str> = None;
     'members: while let Some(name) = reader.next_key()? {
         if named(name).is_some() || !follows(last, name) {
-            return Err(Unread::LeftToTree);
+            return Err(Unconverted::Left);
         }
         out.key(name)?;
         convert_member(alloc, form, reader, depth, out)?;
@@ -213,13 +278,13 @@ fn convert_member(
     reader: &mut Reader<'_>,
     depth: usize,
     out: &mut Writer,
-) -> Result<(), Unread>
+) -> Result<(), Unconverted>
     ensures ok { OnOk result
         (TreeConverted form (converted of_json (value depth reader.old)) reader.new out.old.tokens out.new.tokens) }
     ensures before { out.new.before ≡ out.old.before }
     ensures shorter { OnOk result (length reader.new < length reader.old) }
 {
-    let token = reader.next().ok_or(Unread::Broken)?;
+    let token = reader.next().ok_or(Unconverted::Broken)?;
     convert_begun(alloc, form, reader, depth, token, out)
 }
 
@@ -230,7 +295,7 @@ fn convert_items(
     reader: &mut Reader<'_>,
     depth: usize,
     out: &mut Writer,
-) -> Result<(), Unread>
+) -> Result<(), Unconverted>
     ensures ok { OnOk result
         (ItemsConverted form (converted of_items (items (value depth) (length reader.old) reader.old)) reader.new
         out.old.tokens out.new.tokens) }
@@ -239,7 +304,7 @@ fn convert_items(
 {
     out.begin_array()?;
     'items: while !reader.take_end_array() {
-        let item = read_value(alloc, reader, depth)?;
+        let item = read_value(alloc, reader, depth)?.ok_or(Unconverted::Left)?;
         print_read(alloc, form, &item, out)?;
         drop(item);
     }

@@ -1,19 +1,20 @@
 //! Values from texts, with no tree of the whole.
 //!
 //! In reading order: `straight` (values from the tokens of a text), `held` (trees of what a
-//! wrapper's key holds, and of an object that begins with `$scope`), `number` (the number of a
+//! wrapper's key holds, and of an object with more keys of wrappers), `number` (the number of a
 //! token), `gathered` (the members of an object as they come, by ascending key), `unread` (why no
-//! value was read straight) and `fault` (why the tree of a text means nothing).
-ghost use Rattle.std.specs.Prelude.{◌≡◌, ℕ, List, None, IfOk, IfErr, IsTrue, IsUtf8};
+//! tree was read) and `fault` (why the tree of a text means nothing).
+ghost use Rattle.std.specs.Prelude.{◌≡◌, ℕ, List, Some, Ok, option_map, IfOk, IfErr, OnOk, IsUtf8};
 ghost use Rattle.serde_json.specs.Data.{Data};
-ghost use Rattle.serde_json.specs.Read.{read};
+ghost use Rattle.serde_json.specs.Read.{read as tree_of};
 ghost use Rattle.bson_model.specs.Fault.{IsFaultOf};
 ghost use Rattle.bson_model.specs.Means.{Means};
+ghost use Rattle.bson_model.specs.Reading.{reads};
 ghost use Rattle.bson_model.specs.Texts.{ComesBack};
 ghost use Rattle.bson_model.specs.Value as model;
 ghost use Rattle.bson.specs.View.{bson_view};
-ghost use Rattle.bson.specs.TextMeaning.{IsTextOf, HasTextMeaning, IsTextFault};
-ghost use Rattle.bson.specs.Straight.{TextMeans};
+ghost use Rattle.bson.specs.TextMeaning.{IsTextOf, HasTextMeaning, HasNoMeaning, IsTextFault};
+ghost use Rattle.bson.specs.Straight.{TextReads, IsBroken};
 ghost use Rattle.bson.specs.declared.extjson.text_error.TextError.TheVariants.{OutOfMemory};
 
 mod fault;
@@ -31,7 +32,7 @@ use crate::extjson::text_reader::unread::Unread;
 use bson_wrapper::error::Error;
 use json::{Reader, Scratch};
 use serde_json::Value;
-use std::alloc::{AllocError, Global};
+use std::alloc::Global;
 
 /// How deep arrays and objects may nest.
 pub(crate) const MAX_DEPTH: usize = 127;
@@ -49,10 +50,8 @@ impl Bson {
     /// What is read comes back: its text in either form is read as the same value again, unless it
     /// nests deeper than 127.
     ///
-    /// What has a meaning is read straight, with no tree of the whole. A text that is refused so is
-    /// read again by its tree, which finds the fault. So is, and is then accepted, a text that has
-    /// an object in which a wrapper's key stands twice, or in which a value of no meaning gives way
-    /// to a later one of its key.
+    /// What has a meaning is read straight, with no tree of the whole. A text that means nothing is
+    /// read again by its tree, which tells the fault.
     ///
     /// ```
     /// let value = Bson::try_from_text(alloc, br#"{"n": {"$numberLong": "5"}}"#)?;
@@ -69,7 +68,8 @@ impl Bson {
     }
 }
 
-fn read_bytes(alloc: Global, bytes: &[u8]) -> Result<Bson, TextError>
+// The value that the bytes mean.
+pub(crate) fn read_bytes(alloc: Global, bytes: &[u8]) -> Result<Bson, TextError>
     ensures ok { IfOk result (λ v. HasTextMeaning bytes.now (bson_view v)) }
     ensures fault { IfErr result (λ e. IsTextFault bytes.now e) }
 {
@@ -79,73 +79,53 @@ fn read_bytes(alloc: Global, bytes: &[u8]) -> Result<Bson, TextError>
     let mut scratch = Scratch::new(alloc);
     let read = read_text(alloc, text, &mut scratch);
     drop(scratch);
-    or_by_tree(alloc, bytes, text, read)
+    or_fault(alloc, bytes, text, read)
 }
 
-// What was read straight, or else what the text's tree means.
-pub(crate) fn or_by_tree(
+// What was read, or why it means nothing.
+pub(crate) fn or_fault(
     alloc: Global,
     bytes: &[u8],
     text: &str,
-    read: Result<Bson, Unread>,
+    read: Result<Option<Bson>, Unread>,
 ) -> Result<Bson, TextError>
     requires same { bytes.now ≡ text.now }
     requires utf8 { IsUtf8 bytes.now }
-    requires meant { IfOk read (λ v. TextMeans text.now (bson_view v)) }
+    requires ok { IfOk read (λ v. TextReads text.now (option_map bson_view v)) }
+    requires broken { IfErr read (IsBroken (tree_of text.now)) }
     ensures ok { IfOk result (λ v. HasTextMeaning bytes.now (bson_view v)) }
     ensures fault { IfErr result (λ e. IsTextFault bytes.now e) }
 {
     match read {
-        Ok(value) => Ok(value),
+        Ok(Some(value)) => Ok(value),
+        Ok(None) => Err(fault_of(alloc, bytes)),
+        Err(Unread::Broken) => Err(TextError::NotJson),
         Err(Unread::OutOfMemory) => Err(TextError::OutOfMemory),
-        Err(Unread::LeftToTree) => by_tree(alloc, bytes),
-        Err(Unread::Broken) => by_tokens(alloc, bytes, text),
     }
 }
 
-// The same of a text that seems to break the grammar of JSON: where its tokens do, it needs no
-// tree.
-fn by_tokens(alloc: Global, bytes: &[u8], text: &str) -> Result<Bson, TextError>
-    requires { bytes.now ≡ text.now }
-    ensures ok { IfOk result (λ v. HasTextMeaning bytes.now (bson_view v)) }
-    ensures fault { IfErr result (λ e. IsTextFault bytes.now e) }
-{
-    match breaks_grammar(alloc, text) {
-        Ok(true) => Err(TextError::NotJson),
-        Ok(false) => by_tree(alloc, bytes),
-        Err(_) => Err(TextError::OutOfMemory),
-    }
-}
-
-// Whether the tokens of the text are no JSON value, or go on behind one.
-fn breaks_grammar(alloc: Global, text: &str) -> Result<bool, AllocError>
-    ensures { IfOk result (λ broken. IsTrue broken → read text.now ≡ None) }
-{
-    let mut scratch = Scratch::new(alloc);
-    let mut reader = Reader::new(text, &mut scratch)?;
-    match reader.skip_value(MAX_DEPTH) {
-        Ok(()) => Ok(reader.next().is_some()),
-        Err(_) => Ok(true),
-    }
-}
-
-// The same by the text's tree. Most such texts have a fault, which is looked for first: that makes
-// no values.
+// Why the bytes mean nothing, which are a text of a tree.
 #[inline(never)]
-fn by_tree(alloc: Global, bytes: &[u8]) -> Result<Bson, TextError>
-    ensures ok { IfOk result (λ v. HasTextMeaning bytes.now (bson_view v)) }
+fn fault_of(alloc: Global, bytes: &[u8]) -> TextError
+    requires { HasNoMeaning bytes.now }
+    ensures { IsTextFault bytes.now result }
+{
+    match find_fault(alloc, bytes) {
+        Err(fault) => fault,
+        Ok(()) => unreachable!(),
+    }
+}
+
+/// Refuses bytes that mean nothing, with the fault of their tree.
+pub(crate) fn find_fault(alloc: Global, bytes: &[u8]) -> Result<(), TextError>
+    ensures ok { OnOk result ((v : model.Value) × (t : Data) × (tree_of bytes.now ≡ Some t) × (reads t ≡ Ok v)) }
     ensures fault { IfErr result (λ e. IsTextFault bytes.now e) }
 {
     match Value::from_slice(alloc, bytes) {
-        Ok(tree) => {
-            if let Err(fault) = check(alloc, &tree) {
-                return Err(refusal(fault));
-            }
-            match Bson::try_from_value(alloc, tree) {
-                Ok(value) => Ok(value),
-                Err(fault) => Err(refusal(fault)),
-            }
-        }
+        Ok(tree) => match check(alloc, &tree) {
+            Ok(()) => Ok(()),
+            Err(fault) => Err(refusal(fault)),
+        },
         Err(error) if error.is_memory() => Err(TextError::OutOfMemory),
         Err(_) => Err(TextError::NotJson),
     }
@@ -164,9 +144,14 @@ fn refusal(fault: Error) -> TextError
     }
 }
 
-// The same straight from the tokens of the text.
-pub(crate) fn read_text(alloc: Global, text: &str, scratch: &mut Scratch) -> Result<Bson, Unread>
-    ensures ok { IfOk result (λ v. TextMeans text.now (bson_view v)) }
+// The value that the text means, or none.
+pub(crate) fn read_text(
+    alloc: Global,
+    text: &str,
+    scratch: &mut Scratch,
+) -> Result<Option<Bson>, Unread>
+    ensures ok { IfOk result (λ v. TextReads text.now (option_map bson_view v)) }
+    ensures broken { IfErr result (IsBroken (tree_of text.now)) }
 {
     let mut reader = Reader::new(text, scratch)?;
     let read = read_value(alloc, &mut reader, MAX_DEPTH)?;

@@ -1,9 +1,10 @@
 //! Why a tree means nothing, told with no value made of it.
 ghost use Rattle.serde_json.specs.View.{view, items_view, members_view};
-ghost use Rattle.std.specs.Prelude.{IfErr};
+ghost use Rattle.std.specs.Prelude.{◌≡◌, Ok, IfErr, OnOk};
 ghost use Rattle.bson_model.specs.Fault.{IsFaultOf};
 ghost use Rattle.bson_model.specs.Reading.{reads, reads_items, reads_members, reads_wrapper};
 ghost use Rattle.bson_model.specs.Reading.{reads_scope, scalar_value, code_at};
+ghost use Rattle.bson_model.specs.Value as model;
 ghost use Rattle.bson_wrapper.specs.Reading.{single_at};
 ghost use Rattle.bson_wrapper.specs.Table.{wrapper_of};
 ghost use Rattle.bson.specs.Straight.{Finds};
@@ -18,7 +19,8 @@ use std::alloc::Global;
 
 /// Refuses a tree that means nothing, with its fault.
 pub(crate) fn check(alloc: Global, tree: &Value) -> Result<(), Error>
-    ensures { IfErr result (λ e. IsFaultOf (view tree.now) e) }
+    ensures ok { OnOk result ((v : model.Value) × (reads (view tree.now) ≡ Ok v)) }
+    ensures fault { IfErr result (λ e. IsFaultOf (view tree.now) e) }
 {
     check_value(alloc, tree)
 }

@@ -1,17 +1,23 @@
 //! The members of an object as they come, and the document of them by ascending key.
-ghost use Rattle.std.specs.Prelude.{◌≡◌, IfOk, OnOk, IsTrue, MatchResult, string_bytes};
+ghost use Rattle.std.specs.Prelude.{◌≡◌, option_map, IfOk, OnOk, MatchResult, string_bytes};
 ghost use Rattle.bson_model.specs.Sorted.{put_pair, KeysAscend};
 ghost use Rattle.bson_model.specs.Value.{no_pairs};
 ghost use Rattle.bson.specs.View.{bson_view, document_view};
 ghost use Rattle.bson.specs.Gathered.{gathered_pairs, gathered, put_all, StandsAt, FitsAt};
 ghost use Rattle.bson.specs.Gathered.{KeepsTurns, prefix};
+ghost use Rattle.bson.specs.Straight.{is_nothing, holds_nothing, unless_nothing};
 
 use crate::bson::Bson;
 use crate::document::Document;
-use crate::extjson::text_reader::unread::Unread;
-use bson_store::{Pair, SmallPairs};
-use std::alloc::Global;
+use bson_store::{Pair, PairStore, SmallPairs};
+use std::alloc::{AllocError, Global};
 use std::cmp::Ordering;
+
+// The least positive double.
+const LEAST_DOUBLE: u64 = 1;
+
+/// Stands for a value that means nothing: no text means a double that is finite and no zero.
+pub(crate) const NOTHING: Bson = Bson::Double(LEAST_DOUBLE);
 
 /// Where a key goes before the last of so many members, they are put in order at the end.
 const MANY: usize = 32;
@@ -32,18 +38,8 @@ pub(crate) fn none(alloc: Global) -> Gathered
     Gathered::Few(Vec::new(alloc))
 }
 
-/// Whether there are none yet.
-pub(crate) fn is_none(found: &Gathered) -> bool
-    ensures { IsTrue result → gathered found.now ≡ no_pairs }
-{
-    match found {
-        Gathered::Few(members) => members.is_empty(),
-        Gathered::Many(_) => false,
-    }
-}
-
 /// Puts the value at the key. One that is there with the key gives way.
-pub(crate) fn put(found: Gathered, key: String, value: Bson) -> Result<Gathered, Unread>
+pub(crate) fn put(found: Gathered, key: String, value: Bson) -> Result<Gathered, AllocError>
     requires { KeysAscend (gathered found) }
     ensures { IfOk result
         (λ now. gathered now ≡ put_pair (string_bytes key) (bson_view value) (gathered found)) }
@@ -54,7 +50,7 @@ pub(crate) fn put(found: Gathered, key: String, value: Bson) -> Result<Gathered,
     }
 }
 
-fn put_few(mut members: Vec<Pair<Bson>>, key: String, value: Bson) -> Result<Gathered, Unread>
+fn put_few(mut members: Vec<Pair<Bson>>, key: String, value: Bson) -> Result<Gathered, AllocError>
     requires { KeysAscend (gathered_pairs members.items) }
     ensures { IfOk result
         (λ now. gathered now ≡ put_pair (string_bytes key) (bson_view value) (gathered_pairs members.items)) }
@@ -69,7 +65,7 @@ fn put_few(mut members: Vec<Pair<Bson>>, key: String, value: Bson) -> Result<Gat
     }
 }
 
-fn put_many(mut members: Vec<Pair<Bson>>, key: String, value: Bson) -> Result<Gathered, Unread>
+fn put_many(mut members: Vec<Pair<Bson>>, key: String, value: Bson) -> Result<Gathered, AllocError>
     ensures { IfOk result
         (λ now. gathered now ≡ put_pair (string_bytes key) (bson_view value) (put_all members.items no_pairs)) }
 {
@@ -100,7 +96,7 @@ fn enter(
     place: Result<usize, usize>,
     key: String,
     value: Bson,
-) -> Result<(), Unread>
+) -> Result<(), AllocError>
     requires { MatchResult place (λ at. StandsAt (string_bytes key) members.old.items at)
         (λ at. FitsAt (string_bytes key) members.old.items at) }
     ensures { OnOk result (gathered_pairs members.new.items
@@ -113,8 +109,37 @@ fn enter(
     Ok(())
 }
 
-/// The document of the members.
-pub(crate) fn document_of(alloc: Global, found: Gathered) -> Result<Document, Unread>
+/// The document of the members, or none where one has a value that means nothing.
+pub(crate) fn document_of(alloc: Global, found: Gathered) -> Result<Option<Document>, AllocError>
+    requires { KeysAscend (gathered found) }
+    ensures { IfOk result (λ document. option_map document_view document ≡ unless_nothing (gathered found)) }
+{
+    let document = in_order(alloc, found)?;
+    Ok(if has_nothing(&document) {
+        None
+    } else {
+        Some(document)
+    })
+}
+
+fn has_nothing(document: &Document) -> bool
+    ensures { result ≡ holds_nothing (document_view document.now) }
+{
+    for at in 0..document.pairs.len() {
+        if is_nothing(document.pairs.value_at(at)) {
+            return true;
+        }
+    }
+    false
+}
+
+fn is_nothing(value: &Bson) -> bool
+    ensures { result ≡ is_nothing (bson_view value.now) }
+{
+    value.as_f64() == Some(LEAST_DOUBLE)
+}
+
+fn in_order(alloc: Global, found: Gathered) -> Result<Document, AllocError>
     requires { KeysAscend (gathered found) }
     ensures { IfOk result (λ document. document_view document ≡ gathered found) }
 {
@@ -135,7 +160,7 @@ fn of_ascending(members: Vec<Pair<Bson>>) -> Document
 }
 
 // The first bytes of the keys tell most of them apart.
-fn of_many(alloc: Global, mut members: Vec<Pair<Bson>>) -> Result<Document, Unread>
+fn of_many(alloc: Global, mut members: Vec<Pair<Bson>>) -> Result<Document, AllocError>
     ensures { IfOk result (λ document. document_view document ≡ put_all members.items no_pairs) }
 {
     sort_by_prefix(&mut members)?;
@@ -146,7 +171,7 @@ fn of_many(alloc: Global, mut members: Vec<Pair<Bson>>) -> Result<Document, Unre
 }
 
 // Of members whose first bytes are alike, or whose keys stand twice.
-fn of_unsorted(alloc: Global, mut members: Vec<Pair<Bson>>) -> Result<Document, Unread>
+fn of_unsorted(alloc: Global, mut members: Vec<Pair<Bson>>) -> Result<Document, AllocError>
     ensures { IfOk result (λ document. document_view document ≡ put_all members.items no_pairs) }
 {
     sort_by_key(&mut members)?;
@@ -154,7 +179,7 @@ fn of_unsorted(alloc: Global, mut members: Vec<Pair<Bson>>) -> Result<Document, 
     Ok(of_ascending(found))
 }
 
-fn sort_by_prefix(members: &mut Vec<Pair<Bson>>) -> Result<(), Unread>
+fn sort_by_prefix(members: &mut Vec<Pair<Bson>>) -> Result<(), AllocError>
     ensures { OnOk result (KeepsTurns members.old.items members.new.items) }
 {
     members.sort_by_cached_key(|member| prefix_of(member.key.as_bytes()))?;
@@ -173,7 +198,7 @@ fn prefix_of(key: &[u8]) -> u128
     prefix
 }
 
-fn sort_by_key(members: &mut Vec<Pair<Bson>>) -> Result<(), Unread>
+fn sort_by_key(members: &mut Vec<Pair<Bson>>) -> Result<(), AllocError>
     ensures { OnOk result (KeepsTurns members.old.items members.new.items) }
 {
     members.sort_by(|one, other| one.key.cmp(&other.key))?;
@@ -181,7 +206,7 @@ fn sort_by_key(members: &mut Vec<Pair<Bson>>) -> Result<(), Unread>
 }
 
 // The last member of each key, by ascending key. It is quick where the keys do not descend.
-fn last_of_each(alloc: Global, members: Vec<Pair<Bson>>) -> Result<Vec<Pair<Bson>>, Unread>
+fn last_of_each(alloc: Global, members: Vec<Pair<Bson>>) -> Result<Vec<Pair<Bson>>, AllocError>
     ensures { IfOk result (λ found. gathered_pairs found.items ≡ put_all members.items no_pairs) }
 {
     let mut found = Vec::with_capacity(alloc, members.len())?;

@@ -1,17 +1,18 @@
-//! Trees of parts of a text: of what a wrapper's key holds, and of an object that begins with a
-//! scope.
-ghost use Rattle.std.specs.Prelude.{◌≡◌, ◌<◌, length, IfOk, OnOk, Some};
+//! Trees of parts of a text: of what a wrapper's key holds, and of an object of several keys of
+//! wrappers.
+ghost use Rattle.std.specs.Prelude.{◌≡◌, ◌<◌, length, IfOk, IfErr, OnOk, Some};
 ghost use Rattle.json.specs.Json.{value, items};
-ghost use Rattle.serde_json.specs.Data.{no_members};
+ghost use Rattle.serde_json.specs.Data.{no_members, put};
 ghost use Rattle.serde_json.specs.Read.{of_json, of_items, converted};
 ghost use Rattle.serde_json.specs.View.{view, items_view, members_view};
-ghost use Rattle.bson.specs.Straight.{IsEntered, MembersAre, ObjectIs};
+ghost use Rattle.bson.specs.Straight.{IsBroken, IsEntered, MembersAre, NoMembers, ObjectIs, NoObject};
+ghost use Rattle.bson.specs.declared.extjson.text_reader.unread.Unread.TheVariants.{Broken};
 
 use crate::extjson::text_reader::number::number;
 use crate::extjson::text_reader::unread::Unread;
 use json::{Reader, Token};
 use serde_json::{Map, Value};
-use std::alloc::Global;
+use std::alloc::{AllocError, Global};
 
 #[cycle(tree)]
 pub(crate) fn read_tree(
@@ -20,6 +21,7 @@ pub(crate) fn read_tree(
     depth: usize,
 ) -> Result<Value, Unread>
     ensures ok { IfOk result (λ t. converted of_json (value depth reader.old) ≡ Some (view t, reader.new)) }
+    ensures broken { IfErr result (IsBroken (converted of_json (value depth reader.old))) }
     ensures shorter { OnOk result (length reader.new < length reader.old) }
 {
     let token = reader.next().ok_or(Unread::Broken)?;
@@ -27,20 +29,20 @@ pub(crate) fn read_tree(
         Token::String(text) => Ok(Value::String(String::from_str(alloc, text)?)),
         Token::Number(text) => match number(text) {
             Some(n) => Ok(Value::Number(n)),
-            None => Err(Unread::LeftToTree),
+            None => Err(Unread::Broken),
         },
         Token::Bool(b) => Ok(Value::Bool(b)),
         Token::Null => Ok(Value::Null),
         Token::EndObject | Token::EndArray | Token::Key(_) | Token::Bad => Err(Unread::Broken),
         Token::BeginArray => {
             if depth == 0 {
-                return Err(Unread::LeftToTree);
+                return Err(Unread::Broken);
             }
             Ok(Value::Array(read_items(alloc, reader, depth - 1)?))
         }
         Token::BeginObject => {
             if depth == 0 {
-                return Err(Unread::LeftToTree);
+                return Err(Unread::Broken);
             }
             let none = Map::new(alloc);
             Ok(Value::Object(read_members(alloc, reader, depth - 1, none)?))
@@ -53,6 +55,8 @@ fn read_items(alloc: Global, reader: &mut Reader<'_>, depth: usize) -> Result<Ve
     ensures ok { IfOk result
         (λ v. converted of_items (items (value depth) (length reader.old) reader.old)
         ≡ Some (items_view v.items, reader.new)) }
+    ensures broken { IfErr result
+        (IsBroken (converted of_items (items (value depth) (length reader.old) reader.old))) }
     ensures shorter { OnOk result (length reader.new < length reader.old) }
 {
     let mut found = Vec::new(alloc);
@@ -73,6 +77,7 @@ fn read_members(
 ) -> Result<Map<String, Value>, Unread>
     ensures ok { IfOk result
         (λ m. MembersAre depth (members_view found.entries) reader.old (members_view m.entries) reader.new) }
+    ensures broken { IfErr result (λ e. e ≡ Broken → NoMembers depth reader.old) }
     ensures shorter { OnOk result (length reader.new < length reader.old) }
 {
     'members: while let Some(name) = reader.next_key()? {
@@ -94,6 +99,7 @@ fn read_member(
     ensures ok { IfOk result
         (λ now. IsEntered (converted of_json (value depth reader.old)) key.now (members_view found.entries)
         (members_view now.entries) reader.new) }
+    ensures broken { IfErr result (IsBroken (converted of_json (value depth reader.old))) }
     ensures shorter { OnOk result (length reader.new < length reader.old) }
 {
     let key = String::from_str(alloc, key)?;
@@ -102,17 +108,29 @@ fn read_member(
     Ok(found)
 }
 
-/// The members of the object whose first key was read.
+/// The members of the object, beside those that were found, from one on whose key was read.
 pub(crate) fn read_from(
     alloc: Global,
     reader: &mut Reader<'_>,
     depth: usize,
     key: &str,
+    found: Map<String, Value>,
 ) -> Result<Map<String, Value>, Unread>
-    ensures ok { IfOk result (λ m. ObjectIs depth key.now reader.old (members_view m.entries) reader.new) }
+    ensures ok { IfOk result
+        (λ m. ObjectIs depth (members_view found.entries) key.now reader.old (members_view m.entries) reader.new) }
+    ensures broken { IfErr result (λ e. e ≡ Broken → NoObject depth key.now reader.old) }
     ensures shorter { OnOk result (length reader.new < length reader.old) }
 {
-    let none = Map::new(alloc);
-    let first = read_member(alloc, reader, depth, key, none)?;
+    let first = read_member(alloc, reader, depth, key, found)?;
     read_members(alloc, reader, depth, first)
+}
+
+/// The value at the key, and no other member.
+pub(crate) fn lone(alloc: Global, key: &str, value: Value) -> Result<Map<String, Value>, AllocError>
+    ensures { IfOk result (λ m. members_view m.entries ≡ put key.now (view value) no_members) }
+{
+    let mut members = Map::new(alloc);
+    let key = String::from_str(alloc, key)?;
+    drop(members.insert(key, value)?);
+    Ok(members)
 }

@@ -1,15 +1,15 @@
 //! The number of a token of JSON.
-ghost use Rattle.std.specs.Prelude.{◌≡◌, ◌<◌, ◌==◌, length, slice_index, Some, IfSome, IsTrue};
+ghost use Rattle.std.specs.Prelude.{◌≡◌, ◌<◌, ◌==◌, length, slice_index, option_map, IsTrue};
 ghost use Rattle.std.specs.Prelude.{true, false};
-ghost use Rattle.serde_json.specs.Read.{number_of, number_from};
+ghost use Rattle.serde_json.specs.Read.{number_of, number_from, float_of};
 ghost use Rattle.serde_json.specs.View.{number_view};
 
 use fast_float::Numeral;
 use serde_json::Number;
 
-// The number of the token, where it is whole and has 64 bits.
+// The number of the token, where it is in range.
 pub(crate) fn number(text: &str) -> Option<Number>
-    ensures { IfSome result (λ n. number_of text.now ≡ Some (number_view n)) }
+    ensures { option_map number_view result ≡ number_of text.now }
 {
     let bytes = text.as_bytes();
     if has_minus(bytes) {
@@ -20,23 +20,30 @@ pub(crate) fn number(text: &str) -> Option<Number>
 }
 
 fn unsigned(numeral: &Numeral<'_>) -> Option<Number>
-    ensures { IfSome result (λ n. number_from false numeral.now ≡ Some (number_view n)) }
+    ensures { option_map number_view result ≡ number_from false numeral.now }
 {
     match numeral.to_u64() {
         Some(n) => Some(Number::from(n)),
-        None => None,
+        None => nearest(false, numeral),
     }
 }
 
 fn negative(numeral: &Numeral<'_>) -> Option<Number>
-    ensures { IfSome result (λ n. number_from true numeral.now ≡ Some (number_view n)) }
+    ensures { option_map number_view result ≡ number_from true numeral.now }
 {
     if let Some(n) = numeral.to_i64(true) {
         if n < 0 {
             return Some(Number::from(n));
         }
     }
-    None
+    nearest(true, numeral)
+}
+
+// The float nearest to the number, where it is finite.
+fn nearest(negative: bool, numeral: &Numeral<'_>) -> Option<Number>
+    ensures { option_map number_view result ≡ float_of negative numeral.now }
+{
+    Number::from_f64(numeral.to_float::<f64>(negative))
 }
 
 fn has_minus(bytes: &[u8]) -> bool

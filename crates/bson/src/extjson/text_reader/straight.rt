@@ -1,32 +1,36 @@
 //! Values straight from the tokens of a text.
 //!
-//! What is read here has its meaning by the grammar. A refusal tells nothing of the text: it may
-//! have a fault, or a shape that is left to the reader over trees, which also finds the fault.
-ghost use Rattle.std.specs.Prelude.{◌≡◌, ◌<◌, ◌≤◌, ◌∷◌, length, option_map, string_bytes, IfOk, OnOk};
-ghost use Rattle.json.specs.Json.{value, items, members};
+//! Each function reads a whole part of the text, also where that means nothing, and answers the
+//! value or none. It fails only where the text is no JSON text, or memory runs out.
+ghost use Rattle.std.specs.Prelude.{◌≡◌, ◌<◌, ◌≤◌, ◌∷◌, length, codes, option_map};
+ghost use Rattle.std.specs.Prelude.{is_some, true, IfOk, IfErr, OnOk};
+ghost use Rattle.json.specs.Json.{value, items};
 ghost use Rattle.json.specs.Reads.{token_of};
-ghost use Rattle.serde_json.specs.Data.{no_members};
-ghost use Rattle.serde_json.specs.Read.{of_json, of_items, of_members, converted};
-ghost use Rattle.serde_json.specs.View.{view};
-ghost use Rattle.bson_model.specs.Reading.{code_value};
+ghost use Rattle.serde_json.specs.Data.{array, object, no_members, put};
+ghost use Rattle.serde_json.specs.Read.{of_json, of_items, converted};
+ghost use Rattle.serde_json.specs.View.{view, members_view};
+ghost use Rattle.bson_wrapper.specs.Table.{wrapper_of};
+ghost use Rattle.bson_model.specs.Reading.{reads, reads_members, reads_scope};
 ghost use Rattle.bson_model.specs.Sorted.{KeysAscend};
-ghost use Rattle.bson.specs.View.{bson_view, document_view, values_view};
+ghost use Rattle.bson.specs.View.{bson_view, document_view};
 ghost use Rattle.bson.specs.Gathered.{gathered};
-ghost use Rattle.bson.specs.Straight.{TreeMeans, ItemsMean, IsJoined, ObjectMeans, PairsMean};
-ghost use Rattle.bson.specs.Straight.{ScopeMeans, WrapperMeans, CodeMeans};
+ghost use Rattle.bson.specs.Straight.{Reads, IsBroken, IsJoined, MembersRead, NoMembers};
+ghost use Rattle.bson.specs.Straight.{ObjectReads, NoObject};
+ghost use Rattle.bson.specs.Straight.{code_given};
+ghost use Rattle.bson.specs.declared.extjson.text_reader.unread.Unread.TheVariants.{Broken};
 
 use crate::bson::Bson;
 use crate::document::Document;
 use crate::extjson::read::{read, single_value, with_scope};
 use crate::extjson::scalars::read_number;
-use crate::extjson::text_reader::gathered::{Gathered, document_of, is_none, none, put};
-use crate::extjson::text_reader::held::{read_from, read_tree};
+use crate::extjson::text_reader::gathered::{Gathered, NOTHING, document_of, none, put};
+use crate::extjson::text_reader::held::{lone, read_from, read_tree};
 use crate::extjson::text_reader::number::number;
-use crate::extjson::text_reader::unread::Unread;
+use crate::extjson::text_reader::unread::{Unread, meant};
 use bson_wrapper::code::{is_code_with_scope, is_scope};
 use bson_wrapper::wrapper::named;
 use json::{Reader, Token};
-use serde_json::Value;
+use serde_json::{Map, Value};
 use std::alloc::Global;
 
 #[cycle(straight)]
@@ -35,8 +39,10 @@ pub(crate) fn read_value(
     alloc: Global,
     reader: &mut Reader<'_>,
     depth: usize,
-) -> Result<Bson, Unread>
-    ensures ok { IfOk result (λ v. TreeMeans (converted of_json (value depth reader.old)) (bson_view v) reader.new) }
+) -> Result<Option<Bson>, Unread>
+    ensures ok { IfOk result
+        (λ v. Reads reads (converted of_json (value depth reader.old)) (option_map bson_view v) reader.new) }
+    ensures broken { IfErr result (IsBroken (converted of_json (value depth reader.old))) }
     ensures shorter { OnOk result (length reader.new < length reader.old) }
 {
     let token = reader.next().ok_or(Unread::Broken)?;
@@ -51,96 +57,95 @@ pub(crate) fn read_begun(
     reader: &mut Reader<'_>,
     depth: usize,
     token: Token<'_>,
-) -> Result<Bson, Unread>
+) -> Result<Option<Bson>, Unread>
     ensures ok { IfOk result
-        (λ v. TreeMeans (converted of_json (value depth (token_of token.entry ∷ reader.old))) (bson_view v)
+        (λ v. Reads reads (converted of_json (value depth (token_of token.entry ∷ reader.old))) (option_map bson_view v)
         reader.new) }
+    ensures broken { IfErr result (IsBroken (converted of_json (value depth (token_of token.entry ∷ reader.old)))) }
     ensures shorter { OnOk result (length reader.new ≤ length reader.old) }
 {
     match token {
-        Token::String(text) => Ok(Bson::String(String::from_str(alloc, text)?)),
+        Token::String(text) => Ok(Some(Bson::String(String::from_str(alloc, text)?))),
         Token::Number(text) => match number(text) {
-            Some(n) => Ok(read_number(n)?),
-            None => Err(Unread::LeftToTree),
+            Some(n) => Ok(meant(read_number(n))?),
+            None => Err(Unread::Broken),
         },
-        Token::Bool(b) => Ok(Bson::Boolean(b)),
-        Token::Null => Ok(Bson::Null),
+        Token::Bool(b) => Ok(Some(Bson::Boolean(b))),
+        Token::Null => Ok(Some(Bson::Null)),
         Token::EndObject | Token::EndArray | Token::Key(_) | Token::Bad => Err(Unread::Broken),
         Token::BeginArray => {
             if depth == 0 {
-                return Err(Unread::LeftToTree);
+                return Err(Unread::Broken);
             }
-            Ok(Bson::Array(read_items(alloc, reader, depth - 1)?))
+            read_array(alloc, reader, depth - 1)
         }
         Token::BeginObject => {
             if depth == 0 {
-                return Err(Unread::LeftToTree);
+                return Err(Unread::Broken);
             }
             read_object(alloc, reader, depth - 1)
         }
     }
 }
 
+// A list whose bracket was read.
 #[cycle(straight)]
 #[inline(never)]
-fn read_items(alloc: Global, reader: &mut Reader<'_>, depth: usize) -> Result<Vec<Bson>, Unread>
+fn read_array(alloc: Global, reader: &mut Reader<'_>, depth: usize) -> Result<Option<Bson>, Unread>
     ensures ok { IfOk result
-        (λ v. ItemsMean (converted of_items (items (value depth) (length reader.old) reader.old))
-        (values_view v.items) reader.new) }
+        (λ v. Reads (λ ds. reads (array ds)) (converted of_items (items (value depth) (length reader.old) reader.old))
+        (option_map bson_view v) reader.new) }
+    ensures broken { IfErr result
+        (IsBroken (converted of_items (items (value depth) (length reader.old) reader.old))) }
     ensures shorter { OnOk result (length reader.new < length reader.old) }
 {
     let mut found = Vec::new(alloc);
+    let mut has_meaning = true;
     'items: while !reader.take_end_array() {
-        let item = read_value(alloc, reader, depth)?;
+        let Some(item) = read_value(alloc, reader, depth)? else {
+            has_meaning = false;
+            continue;
+        };
         found.push(item)?;
     }
+    if !has_meaning {
+        return Ok(None);
+    }
     found.shrink_to_fit();
-    Ok(found)
+    Ok(Some(Bson::Array(found)))
 }
 
-// A document, or a wrapper.
+// A document, or a wrapper, whose brace was read.
 #[cycle(straight)]
 #[inline(never)]
-fn read_object(alloc: Global, reader: &mut Reader<'_>, depth: usize) -> Result<Bson, Unread>
+fn read_object(alloc: Global, reader: &mut Reader<'_>, depth: usize) -> Result<Option<Bson>, Unread>
     ensures ok { IfOk result
-        (λ v. ObjectMeans
-        (converted (λ ms. of_members ms no_members) (members (value depth) (length reader.old) reader.old))
-        (bson_view v) reader.new) }
+        (λ v. MembersRead (λ ms. reads (object ms)) depth reader.old (option_map bson_view v) reader.new) }
+    ensures broken { IfErr result (λ e. e ≡ Broken → NoMembers depth reader.old) }
     ensures shorter { OnOk result (length reader.new < length reader.old) }
 {
     let mut found = none(alloc);
+    let mut is_first = true;
+    let mut is_document = true;
     'members: while let Some(name) = reader.next_key()? {
-        if named(name).is_some() {
-            if is_none(&found) {
-                return read_wrapped(alloc, reader, depth, name);
-            }
-            return Err(Unread::LeftToTree);
+        if is_first && is_scope(name) {
+            return read_small(alloc, reader, depth, name, Map::new(alloc));
         }
-        if is_scope(name) && is_none(&found) {
-            return read_scoped(alloc, reader, depth, name);
+        let is_wrapper = named(name).is_some();
+        if is_first && is_wrapper {
+            return read_wrapped(alloc, reader, depth, name);
         }
         found = read_member(alloc, reader, depth, name, found)?;
+        is_first = false;
+        is_document = is_document & !is_wrapper;
     }
-    let document = document_of(alloc, found)?;
-    Ok(Bson::Document(document))
-}
-
-// What the object means whose first key, `$scope`, was read. It has a tree of its own, since only
-// what follows tells whether a scope stands there, whose keys are not tested, or a value like any
-// other.
-#[inline(never)]
-fn read_scoped(
-    alloc: Global,
-    reader: &mut Reader<'_>,
-    depth: usize,
-    key: &str,
-) -> Result<Bson, Unread>
-    ensures ok { IfOk result (λ v. WrapperMeans depth key.now reader.old (bson_view v) reader.new) }
-    ensures shorter { OnOk result (length reader.new < length reader.old) }
-{
-    let members = read_from(alloc, reader, depth, key)?;
-    let value = read(alloc, Value::Object(members))?;
-    Ok(value)
+    if !is_document {
+        return Ok(None);
+    }
+    match document_of(alloc, found)? {
+        Some(document) => Ok(Some(Bson::Document(document))),
+        None => Ok(None),
+    }
 }
 
 // The members, and the one whose key was read.
@@ -157,15 +162,36 @@ fn read_member(
     ensures ok { IfOk result
         (λ now. IsJoined (converted of_json (value depth reader.old)) name.now (gathered found)
         (gathered now) reader.new) }
+    ensures broken { IfErr result (IsBroken (converted of_json (value depth reader.old))) }
     ensures shorter { OnOk result (length reader.new < length reader.old) }
 {
     let key = String::from_str(alloc, name)?;
-    let member = read_value(alloc, reader, depth)?;
-    let now = put(found, key, member)?;
-    Ok(now)
+    let member = read_value(alloc, reader, depth)?.unwrap_or(NOTHING);
+    Ok(put(found, key, member)?)
 }
 
-// What the wrapper means whose key was read: one of that key alone, or code with its scope.
+// What the object means of which these members were found and the next key was read, by a tree of
+// its own. Of an object that begins with `$scope` only what follows tells whether a scope stands
+// there, whose keys are not tested, or a value like any other.
+#[inline(never)]
+fn read_small(
+    alloc: Global,
+    reader: &mut Reader<'_>,
+    depth: usize,
+    key: &str,
+    found: Map<String, Value>,
+) -> Result<Option<Bson>, Unread>
+    ensures ok { IfOk result
+        (λ v. ObjectReads depth (members_view found.entries) key.now reader.old (option_map bson_view v) reader.new) }
+    ensures broken { IfErr result (λ e. e ≡ Broken → NoObject depth key.now reader.old) }
+    ensures shorter { OnOk result (length reader.new < length reader.old) }
+{
+    let members = read_from(alloc, reader, depth, key, found)?;
+    Ok(meant(read(alloc, Value::Object(members)))?)
+}
+
+// What the wrapper means whose key was read: one of that key alone, code with its scope, or what
+// its tree means.
 #[cycle(straight)]
 #[inline(never)]
 fn read_wrapped(
@@ -173,53 +199,65 @@ fn read_wrapped(
     reader: &mut Reader<'_>,
     depth: usize,
     key: &str,
-) -> Result<Bson, Unread>
-    ensures ok { IfOk result (λ v. WrapperMeans depth key.now reader.old (bson_view v) reader.new) }
+) -> Result<Option<Bson>, Unread>
+    requires wrapper { is_some (wrapper_of key.now) ≡ true }
+    ensures ok { IfOk result
+        (λ v. ObjectReads depth no_members key.now reader.old (option_map bson_view v) reader.new) }
+    ensures broken { IfErr result (λ e. e ≡ Broken → NoObject depth key.now reader.old) }
     ensures shorter { OnOk result (length reader.new < length reader.old) }
 {
     let held = read_tree(alloc, reader, depth)?;
     match reader.next_key()? {
-        Some(other) => read_code(alloc, reader, depth, key, held, other),
-        None => {
-            let read = single_value(alloc, key, held)?;
-            Ok(read)
-        }
+        None => Ok(meant(single_value(alloc, key, held))?),
+        Some(other) => if is_code_with_scope(key, other) {
+            read_code(alloc, reader, depth, held)
+        } else {
+            let found = lone(alloc, key, held)?;
+            read_small(alloc, reader, depth, other, found)
+        },
     }
 }
 
-// Code, behind whose key another one was read.
+// Code, behind which the key `$scope` was read. Of a key that stands again the last value counts.
 #[cycle(straight)]
 fn read_code(
     alloc: Global,
     reader: &mut Reader<'_>,
     depth: usize,
-    key: &str,
     held: Value,
-    other: &str,
-) -> Result<Bson, Unread>
+) -> Result<Option<Bson>, Unread>
     ensures ok { IfOk result
-        (λ v. CodeMeans depth key.now (view held) other.now reader.old (bson_view v) reader.new) }
+        (λ v. ObjectReads depth (put (codes "$code") (view held) no_members) (codes "$scope") reader.old
+        (option_map bson_view v) reader.new) }
+    ensures broken { IfErr result (λ e. e ≡ Broken → NoObject depth (codes "$scope") reader.old) }
     ensures shorter { OnOk result (length reader.new < length reader.old) }
 {
-    if !is_code_with_scope(key, other) {
-        return Err(Unread::LeftToTree);
+    let mut code = held;
+    let mut scope = read_scope(alloc, reader, depth)?;
+    let mut is_code = true;
+    'members: while let Some(name) = reader.next_key()? {
+        if is_scope(name) {
+            scope = read_scope(alloc, reader, depth)?;
+        } else {
+            code = read_tree(alloc, reader, depth)?;
+            is_code = is_code & is_code_with_scope(name, "$scope");
+        }
     }
-    let Value::String(code) = held else {
-        return Err(Unread::LeftToTree);
-    };
-    let scope = read_scope(alloc, reader, depth)?;
-    if reader.next_key()?.is_some() {
-        return Err(Unread::LeftToTree);
+    if !is_code {
+        return Ok(None);
     }
     Ok(coded(code, scope))
 }
 
-fn coded(code: String, scope: Option<Document>) -> Bson
-    ensures { bson_view result ≡ code_value (string_bytes code) (option_map document_view scope) }
+// Code with the scope that was read, null or a document, where both mean something.
+fn coded(code: Value, scope: Option<Option<Document>>) -> Option<Bson>
+    ensures { option_map bson_view result
+        ≡ code_given (view code) (option_map (λ d. option_map document_view d) scope) }
 {
-    match scope {
-        None => Bson::JavaScriptCode(code),
-        Some(scope) => with_scope(code, scope),
+    match (code, scope) {
+        (Value::String(code), Some(None)) => Some(Bson::JavaScriptCode(code)),
+        (Value::String(code), Some(Some(scope))) => Some(with_scope(code, scope)),
+        _ => None,
     }
 }
 
@@ -229,35 +267,46 @@ fn read_scope(
     alloc: Global,
     reader: &mut Reader<'_>,
     depth: usize,
-) -> Result<Option<Document>, Unread>
+) -> Result<Option<Option<Document>>, Unread>
     ensures ok { IfOk result
-        (λ scope. ScopeMeans (converted of_json (value depth reader.old)) (option_map document_view scope) reader.new) }
+        (λ scope. Reads reads_scope (converted of_json (value depth reader.old))
+        (option_map (λ d. option_map document_view d) scope) reader.new) }
+    ensures broken { IfErr result (IsBroken (converted of_json (value depth reader.old))) }
     ensures shorter { OnOk result (length reader.new < length reader.old) }
 {
     let token = reader.next().ok_or(Unread::Broken)?;
     match token {
-        Token::Null => Ok(None),
+        Token::Null => Ok(Some(None)),
         Token::BeginObject => {
             if depth == 0 {
-                return Err(Unread::LeftToTree);
+                return Err(Unread::Broken);
             }
-            Ok(Some(read_pairs(alloc, reader, depth - 1)?))
+            match read_pairs(alloc, reader, depth - 1)? {
+                Some(scope) => Ok(Some(Some(scope))),
+                None => Ok(None),
+            }
         }
-        _ => Err(Unread::LeftToTree),
+        token => {
+            drop(read_begun(alloc, reader, depth, token)?);
+            Ok(None)
+        }
     }
 }
 
 #[cycle(straight)]
-fn read_pairs(alloc: Global, reader: &mut Reader<'_>, depth: usize) -> Result<Document, Unread>
+fn read_pairs(
+    alloc: Global,
+    reader: &mut Reader<'_>,
+    depth: usize,
+) -> Result<Option<Document>, Unread>
     ensures ok { IfOk result
-        (λ v. PairsMean
-        (converted (λ ms. of_members ms no_members) (members (value depth) (length reader.old) reader.old))
-        (document_view v) reader.new) }
+        (λ d. MembersRead reads_members depth reader.old (option_map document_view d) reader.new) }
+    ensures broken { IfErr result (λ e. e ≡ Broken → NoMembers depth reader.old) }
     ensures shorter { OnOk result (length reader.new < length reader.old) }
 {
     let mut found = none(alloc);
     'members: while let Some(name) = reader.next_key()? {
         found = read_member(alloc, reader, depth, name, found)?;
     }
-    document_of(alloc, found)
+    Ok(document_of(alloc, found)?)
 }

@@ -1,8 +1,11 @@
 use Rattle.std.proofs.Common.{◌∷◌, ap, arith}
+use Rattle.json.specs.Json.{value}
 use Rattle.json.specs.Reads.{token_of}
+use Rattle.serde_json.specs.Read.{of_json, converted}
 use Rattle.bson_wrapper.proofs.Offered.{on_ok}
 use Rattle.bson.specs.View.{bson_view}
-use Rattle.bson.proofs.Converting.{read_writable, list_converted}
+use Rattle.bson.proofs.Converting.{value_was_read, list_converted}
+use Rattle.bson.proofs.Marks.{read_writable}
 use Rattle.bson.proofs.extjson.convert.convert_begun.Goals as goal
 
 pub returns-in-BeginArray-clause-ok : goal.returns-in-BeginArray-clause-ok
@@ -16,5 +19,7 @@ returns-in-BeginArray-clause-ok c =
 
 pub print_read-requires : goal.print_read-requires
 print_read-requires c =
-    let m = c.in_ok-value.ensures.ok in
+    let ts = token_of c.args.token ∷ c.args.reader.now in
+    let m = value_was_read (converted of_json (value c.args.depth ts)) c.read_begun.new.reader
+    c.in_ok-read_begun.field-0 c.in_ok-value.value c.in_ok-read_begun.ensures.ok c.in_ok-value.ensures.ok_part in
     read_writable m.0 (bson_view c.in_ok-value.value) m.2

@@ -1,10 +1,9 @@
-use Rattle.std.proofs.Common.{◌≡◌, ◌+◌, ◌*◌, ◌≤◌, List, length}
-use Rattle.json.specs.Token.{Token}
-use Rattle.serde_json.specs.Data.{Items, Members}
+use Rattle.std.proofs.Common.{◌≡◌, ◌+◌, ◌*◌, length}
+use Rattle.serde_json.specs.Data.{Items}
 use Rattle.serde_json.specs.View.{members_view}
 use Rattle.bson.proofs.Elements.{Lists}
+use Rattle.bson.proofs.Gathering.{Gathers}
 use Rattle.bson.proofs.Trees.{items_onto}
-use Rattle.bson.specs.Straight.{MembersAre}
 use Rattle.bson.proofs.extjson.text_reader.held.+tree.Given as goal
 
 abbrev pub decreases-read_tree : goal.decreases-read_tree
@@ -27,13 +26,9 @@ invariant-read_items-items l = (front : Items → Items) × Lists l.depth l.init
 abbrev pub decreases-read_items-items : goal.decreases-read_items-items
 decreases-read_items-items l = length l.reader
 
--- what is read from here to the end is what is read from the start
 abbrev pub invariant-read_members-members : goal.invariant-read_members-members
-invariant-read_members-members l = record {
-  all : (ms : Members) (rest : List Token) → MembersAre l.depth (members_view l.found.entries) l.reader ms rest
-      → MembersAre l.depth (members_view l.initial.found.entries) l.initial.reader ms rest;
-  shorter : length l.reader ≤ length l.initial.reader;
-}
+invariant-read_members-members l = Gathers l.depth (members_view l.initial.found.entries) l.initial.reader l.reader
+    (members_view l.found.entries)
 
 abbrev pub decreases-read_members-members : goal.decreases-read_members-members
 decreases-read_members-members l = length l.reader

@@ -1,8 +1,8 @@
-use Rattle.std.proofs.Common.{◌≡◌, ap, subst, ◌∙◌}
-use Rattle.serde_json.specs.Data.{no_members, put}
+use Rattle.std.proofs.Common.{subst}
+use Rattle.std.proofs.lemmas.Result.{err_from_is_err_and}
 use Rattle.serde_json.specs.View.{members_view}
 use Rattle.bson.specs.Straight.{MembersAre}
-use Rattle.bson.proofs.Turns.{if_ok, more_members}
+use Rattle.bson.proofs.Turns.{if_ok, if_err, more_members, no_member, no_members_behind}
 use Rattle.bson.proofs.extjson.text_reader.held.read_from.Goals as goal
 
 pub returns-clause-ok : goal.returns-clause-ok
@@ -11,10 +11,20 @@ returns-clause-ok c =
     let s = c.read_member.new.reader in
     let rest = c.read_members.new.reader in
     let first = c.in_ok-first.ensures in
-    let d = first.ok.0 in
-    let none : members_view c.new-none.result.entries ≡ no_members = ap members_view c.new-none.ensures.empty in
-    let one : members_view c.in_ok-first.first.entries ≡ put k d no_members = first.ok.2 ∙ ap (put k d) none in
     if_ok c.read_members.result c.read_members.ensures.ok (λ m are before named.
-    more_members c.args.depth k before c.args.reader.now s rest d no_members
+    more_members c.args.depth k before c.args.reader.now s rest first.ok.0 (members_view c.args.found.entries)
     (members_view m.entries) named first.ok.1 first.shorter
-    (subst (λ ms. MembersAre c.args.depth ms s (members_view m.entries) rest) one are))
+    (subst (λ ms. MembersAre c.args.depth ms s (members_view m.entries) rest) first.ok.2 are))
+
+pub returns-in_err-first-clause-broken : goal.returns-in_err-first-clause-broken
+returns-in_err-first-clause-broken c =
+    let p = err_from_is_err_and c.from_residual.result c.from_residual.ensures.1 in
+    rw (p.1, p.2) (λ broken before named.
+    no_member c.args.depth c.args.key.now before c.args.reader.now named (c.in_err-first.ensures.broken broken))
+
+pub returns-clause-broken : goal.returns-clause-broken
+returns-clause-broken c =
+    let first = c.in_ok-first.ensures in
+    if_err c.read_members.result c.read_members.ensures.broken (λ e none broken before named.
+    no_members_behind c.args.depth c.args.key.now before c.args.reader.now c.read_member.new.reader first.ok.0 named
+    first.ok.1 (none broken))

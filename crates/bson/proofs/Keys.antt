@@ -1,0 +1,145 @@
+-- Keys of a map, whether there is one of a kind.
+use Rattle.std.proofs.Common.{◌≡◌, ℕ, List, Bool, true, false, not, ◌&&◌, ◌||◌, codes, None, Ok}
+use Rattle.std.proofs.Common.{Ordering, Less, Equal, Greater, nat_cmp, if◌then◌else◌, inl, inr, ◌⊎◌, refl, sym, ap, ◌∙◌}
+use Rattle.std.proofs.lemmas.Bool.{both_ways, not-true, or_left, or_right, or_cases, and_from, and_parts}
+use Rattle.std.proofs.lemmas.Bool.{and_left, and_right}
+use Rattle.std.proofs.lemmas.Slice.Eq.{bytes_eq-Decides}
+use Rattle.std.specs.Cmp.Lexicographic.{slice_cmp}
+use Rattle.std.specs.Ordering.{match_ordering}
+use Rattle.std.specs.Prelude.{is_some}
+use Rattle.std.specs.Str.{bytes_eq}
+use Rattle.serde_json.specs.Data.{Data, Members, no_members, member, object, put}
+use Rattle.bson_wrapper.specs.Faults.{◌>>=◌}
+use Rattle.bson_wrapper.specs.Table.{wrapper_of, has_wrapper}
+use Rattle.bson_model.specs.Reading.{reads, reads_members, reads_wrapper}
+use Rattle.bson_model.specs.Value.{document}
+use Rattle.bson_model.proofs.Offered.{equal_keys}
+use Rattle.bson.specs.Straight.{given}
+
+abbrev pub any_key : (List ℕ → Bool) → Members → Bool
+any_key f no_members = false
+any_key f (member k d ms) = f k || any_key f ms
+
+abbrev pub is_wrapper : List ℕ → Bool
+is_wrapper k = is_some (wrapper_of k)
+
+abbrev pub is_code : List ℕ → Bool
+is_code k = bytes_eq k (codes "$code")
+
+abbrev pub is_scope : List ℕ → Bool
+is_scope k = bytes_eq k (codes "$scope")
+
+-- a key that stands beside no wrapper's
+abbrev pub is_ordinary : List ℕ → Bool
+is_ordinary k = not (is_wrapper k) && not (is_scope k)
+
+-- a key that stands beside no code
+abbrev pub is_stray : List ℕ → Bool
+is_stray k = not (is_code k) && not (is_scope k)
+
+pub wrapper_key : (ms : Members) → has_wrapper ms ≡ any_key is_wrapper ms
+wrapper_key no_members = refl
+wrapper_key (member k d ms) = ap (λ b. is_wrapper k || b) (wrapper_key ms)
+
+-- ---- one more member
+
+or_from : (a b c d : Bool) → (a ≡ true → c ≡ true) → (b ≡ true → d ≡ true) → (a || b) ≡ true → (c || d) ≡ true
+or_from true b c d f g h = or_left c d (f refl)
+or_from false b c d f g h = or_right c d (g h)
+
+module _ (f : List ℕ → Bool) (k : List ℕ) (d : Data) where
+  new_at : (o : Ordering) (l : List ℕ) (e : Data) (ms : Members) → slice_cmp nat_cmp k l ≡ o → f k ≡ true
+      → any_key f (put k d ms) ≡ true
+      → any_key f (match_ordering o (member k d (member l e ms)) (member l d ms) (member l e (put k d ms))) ≡ true
+  new_at Less l e ms at h more = or_left (f k) (any_key f (member l e ms)) h
+  new_at Equal l e ms at h more = or_left (f l) (any_key f ms) (ap f (sym (equal_keys k l at)) ∙ h)
+  new_at Greater l e ms at h more = or_right (f l) (any_key f (put k d ms)) more
+
+  pub any_new : (ms : Members) → f k ≡ true → any_key f (put k d ms) ≡ true
+  any_new no_members h = or_left (f k) false h
+  any_new (member l e ms) h = new_at (slice_cmp nat_cmp k l) l e ms refl h (any_new ms h)
+
+  kept_at : (o : Ordering) (l : List ℕ) (e : Data) (ms : Members)
+      → (any_key f ms ≡ true → any_key f (put k d ms) ≡ true) → any_key f (member l e ms) ≡ true
+      → any_key f (match_ordering o (member k d (member l e ms)) (member l d ms) (member l e (put k d ms))) ≡ true
+  kept_at Less l e ms more h = or_right (f k) (any_key f (member l e ms)) h
+  kept_at Equal l e ms more h = h
+  kept_at Greater l e ms more h = or_from (f l) (any_key f ms) (f l) (any_key f (put k d ms)) (λ e. e) more h
+
+  pub any_kept : (ms : Members) → any_key f ms ≡ true → any_key f (put k d ms) ≡ true
+  any_kept no_members h = cc
+  any_kept (member l e ms) h = kept_at (slice_cmp nat_cmp k l) l e ms (any_kept ms) h
+
+  other_at : (o : Ordering) (l : List ℕ) (e : Data) (ms : Members) → f k ≡ false
+      → any_key f (put k d ms) ≡ any_key f ms
+      → any_key f (match_ordering o (member k d (member l e ms)) (member l d ms) (member l e (put k d ms)))
+      ≡ any_key f (member l e ms)
+  other_at Less l e ms h is = ap (λ b. b || any_key f (member l e ms)) h
+  other_at Equal l e ms h is = refl
+  other_at Greater l e ms h is = ap (λ b. f l || b) is
+
+  pub any_other : (ms : Members) → f k ≡ false → any_key f (put k d ms) ≡ any_key f ms
+  any_other no_members h = ap (λ b. b || false) h
+  any_other (member l e ms) h = other_at (slice_cmp nat_cmp k l) l e ms h (any_other ms h)
+
+-- ---- keys of two kinds
+
+one_true : (a : Bool) → (a || false) ≡ true → a ≡ true
+one_true true h = refl
+one_true false h = h
+
+all_more : (f g : List ℕ → Bool) → ((k : List ℕ) → f k ≡ true → g k ≡ true) → (ms : Members)
+    → any_key f ms ≡ true → any_key g ms ≡ true
+all_more f g imply no_members h = h
+all_more f g imply (member k d ms) h =
+    or_from (f k) (any_key f ms) (g k) (any_key g ms) (imply k) (all_more f g imply ms) h
+
+code_wrapper : (k : List ℕ) → is_code k ≡ true → is_wrapper k ≡ true
+code_wrapper k h = ap is_wrapper ((bytes_eq-Decides k (codes "$code")).0 h)
+
+no_code : (k : List ℕ) (b : Bool) → is_code k ≡ b → is_wrapper k ≡ false → b ≡ false
+no_code k true is h = absurd (both_ways (is_wrapper k) h (code_wrapper k is))
+no_code k false is h = refl
+
+ordinary_stray : (k : List ℕ) → is_ordinary k ≡ true → is_stray k ≡ true
+ordinary_stray k is =
+    let parts = and_parts (not (is_wrapper k)) (not (is_scope k)) is in
+    and_from (not (is_code k)) (not (is_scope k))
+    (ap not (no_code k (is_code k) refl (not-true (is_wrapper k) parts.0))) parts.1
+
+not_both : (k l : List ℕ) → (is_stray k ≡ true) ⊎ (is_stray l ≡ true) → (is_code k && is_scope l) ≡ false
+not_both k l (inl h) = and_left (is_code k) (is_scope l) (not-true (is_code k) (and_parts _ _ h).0)
+not_both k l (inr h) = and_right (is_code k) (is_scope l) (not-true (is_scope l) (and_parts _ _ h).1)
+
+module _ (f g : List ℕ → Bool) (stray : (k : List ℕ) → g k ≡ true → is_stray k ≡ true)
+    (apart : (k : List ℕ) → g k ≡ true → f k ≡ false) where
+  -- keys of both kinds are no wrapper's alone, nor code with its scope
+  neither : (ms : Members) → any_key f ms ≡ true → any_key g ms ≡ true → given (reads_wrapper ms) ≡ None
+  neither no_members h i = refl
+  neither (member k d no_members) h i =
+      absurd (both_ways (f k) (apart k (one_true (g k) i)) (one_true (f k) h))
+  neither (member k d (member l e no_members)) h i = rw (not_both k l (by (or_cases (g k) (g l || false) i))) refl
+    where
+      by : (g k ≡ true) ⊎ ((g l || false) ≡ true) → (is_stray k ≡ true) ⊎ (is_stray l ≡ true)
+      by (inl is) = inl (stray k is)
+      by (inr is) = inr (stray l (one_true (g l) is))
+  neither (member k d (member l e (member m c ms))) h i = refl
+
+  both_refused : ((k : List ℕ) → f k ≡ true → is_wrapper k ≡ true) → (ms : Members) → any_key f ms ≡ true
+      → any_key g ms ≡ true → given (reads (object ms)) ≡ None
+  both_refused wraps ms h i =
+      ap (λ b. given (if b then reads_wrapper ms else (reads_members ms >>= λ ps. Ok (document ps))))
+      (wrapper_key ms ∙ all_more f is_wrapper wraps ms h) ∙ neither ms h i
+
+-- a wrapper's key beside an ordinary one
+pub strange_refused : (ms : Members) → has_wrapper ms ≡ true → any_key is_ordinary ms ≡ true
+    → given (reads (object ms)) ≡ None
+strange_refused ms h i =
+    both_refused is_wrapper is_ordinary ordinary_stray (λ k is. not-true (is_wrapper k) (and_parts _ _ is).0)
+    (λ k is. is) ms (sym (wrapper_key ms) ∙ h) i
+
+-- a stray key beside code
+pub stray_refused : (ms : Members) → any_key (λ k. bytes_eq k (codes "$code")) ms ≡ true → any_key is_stray ms ≡ true
+    → given (reads (object ms)) ≡ None
+stray_refused ms h i =
+    both_refused is_code is_stray (λ k is. is) (λ k is. not-true (is_code k) (and_parts _ _ is).0) code_wrapper ms h i
