@@ -60,6 +60,8 @@ def accepted(parts):
     yield "a list under a key", keyed([(b"a", listed(given))]), keyed([(b"a", listed(written))])
     yield "keys ascend", keyed(pairs), keyed(outputs)
     yield "keys descend", keyed(pairs[::-1]), keyed(outputs)
+    yield "keys in another order", keyed(pairs[1::2] + pairs[::2]), keyed(outputs)
+    yield from out_of_order(pairs, outputs)
     yield "a late key is the first again", keyed([*pairs, (keys[0], LONG)]), keyed([(keys[0], LONG), *outputs[1:]])
     yield "the last key twice", keyed([*pairs, (keys[-1], b"true")]), keyed([*outputs[:-1], (keys[-1], b"true")])
     yield ("a list, and then a lesser key", keyed([(b"b", listed(given)), (b"a", b"null")]),
@@ -86,6 +88,27 @@ def accepted(parts):
         yield f"{length} bytes", text, text
 
 
+def out_of_order(pairs, outputs):
+    """The same of objects whose keys do not ascend by bytes, which a text has before or behind its escapes."""
+    alike = b"the first sixteen bytes are alike "
+    yield ("keys alike in their first bytes", keyed((alike + key, text) for key, text in pairs[::-1]),
+           keyed((alike + key, output) for key, output in outputs))
+    yield ("keys with escapes", keyed([(b"\\u0062", LONG), (b"a\\u000a", b"true"), (b"\\u00e9", b"null"), (b"a", b"false")]),
+           keyed([(b"a", b"false"), (b"a\\n", b"true"), (b"b", LONG), (b"\xc3\xa9", b"null")]))
+    yield ("a key and the same with a zero byte",
+           keyed([(b"b", LONG), (b"a\\u0000", b"true"), (b"a", b"false"), (b"", b"null")]),
+           keyed([(b"", b"null"), (b"a", b"false"), (b"a\\u0000", b"true"), (b"b", LONG)]))
+    yield ("a key, and then a beginning of it", keyed([(b"ab", LONG), (b"aa", b"true"), (b"a", b"false")]),
+           keyed([(b"a", b"false"), (b"aa", b"true"), (b"ab", LONG)]))
+    yield ("a double key out of order", keyed([(b"b", b"true"), (b"a", LONG), (b"b", b"null")]),
+           keyed([(b"a", LONG), (b"b", b"null")]))
+    yield ("a double key alike in its first bytes",
+           keyed([(alike + b"b", b"true"), (alike + b"a", LONG), (alike + b"b", b"null")]),
+           keyed([(alike + b"a", LONG), (alike + b"b", b"null")]))
+    yield ("a value that gives way out of order", keyed([(b"b", b'{"$oid":1}'), (b"a", LONG), (b"b", b"null")]),
+           keyed([(b"a", LONG), (b"b", b"null")]))
+
+
 def refused(given):
     """A name, a text, and the words for its fault."""
     keys = [b"key%05d" % number for number in range(len(given))]
@@ -96,6 +119,14 @@ def refused(given):
     yield "a fraction last", listed([*given, b"0.5"]), NOT_EXTENDED
     yield "a bad object id under the last key", keyed([*pairs, (b"z", b'{"$oid":"zz"}')]), BAD_ID
     yield "no meaning in a list under the last key", keyed([*pairs, (b"z", b'[{"$oid":1}]')]), NOT_EXTENDED
+    turned = keyed(pairs[::-1])
+    yield "a bad object id under a lesser key", keyed([*pairs, (b"a", b'{"$oid":"zz"}')]), BAD_ID
+    yield "no meaning under a lesser key", keyed([*pairs, (b"a", b'[{"$oid":1}]')]), NOT_EXTENDED
+    yield "a wrapper's key behind a lesser one", keyed([*pairs, (b"a", b"1"), (b"$oid", b'"z"')]), NOT_EXTENDED
+    yield "no brace behind a lesser key", turned[:-1], NOT_JSON
+    yield "a comma before the end behind a lesser key", turned[:-1] + b",}", NOT_JSON
+    yield "one brace more behind a lesser key", turned + b"}", NOT_JSON
+    yield "128 levels under a lesser key", keyed([(b"b", LONG), (b"a", nested(127))]), NOT_JSON
     yield "a wrapper's key late", keyed([(b"", whole), (b"$oid", b'"53e37d08776f724e42000000"')]), NOT_EXTENDED
     yield "a wrapper's key first", keyed([(b"$oid", whole), (b"a", b"1")]), NOT_EXTENDED
     yield "a comma before the end", whole[:-1] + b",]", NOT_JSON

@@ -9,7 +9,7 @@ use Rattle.json.specs.Tree.{items_tokens}
 use Rattle.std.specs.Prelude.{is_ok, option_and_then}
 use Rattle.serde_json.specs.Data.{Data, Items, no_items, item, array}
 use Rattle.serde_json.specs.Read.{of_json, of_items, converted}
-use Rattle.serde_json.specs.Written.{items_outline}
+use Rattle.serde_json.specs.Written.{compact_text, items_outline}
 use Rattle.serde_json.proofs.Texts.{print-outline}
 use Rattle.bson_wrapper.specs.Faults.{◌>>=◌}
 use Rattle.bson_wrapper.specs.Written as writing
@@ -18,14 +18,14 @@ use Rattle.bson_wrapper.specs.declared.form.Form.{Form}
 use Rattle.bson_wrapper.specs.declared.write_error.WriteError.{WriteError}
 use Rattle.bson_wrapper.specs.declared.write_error.WriteError.TheVariants.{FiniteDouble}
 use Rattle.bson_wrapper.proofs.Offered.{in_turn}
-use Rattle.bson_model.specs.Normal.{ItemsInRange, writable}
+use Rattle.bson_model.specs.Normal.{InRange, ItemsInRange, writable}
 use Rattle.bson_model.specs.Reading.{reads, reads_items}
 use Rattle.bson_model.specs.Value as model
 use Rattle.bson_model.specs.Value.{Value, Values, no_values}
 use Rattle.bson_model.specs.Writing.{writes, writes_items}
 use Rattle.bson_model.proofs.Offered.{writable_is, tree_is, has_text}
 use Rattle.bson.specs.Converted.{ItemsConverted, TreeConverted, TextConverted}
-use Rattle.bson.specs.Straight.{TreeMeans, Reads}
+use Rattle.bson.specs.Straight.{TextMeans, TreeMeans, Reads}
 use Rattle.bson.specs.Texts.{IsPrinted, IsTextIn, tokens_of}
 use Rattle.bson.specs.View.{bson_view}
 use Rattle.bson.specs.declared.bson.Bson.{Bson}
@@ -119,21 +119,25 @@ last_read o d h =
     let j = was_read of_json o d [] h in
     ap (λ q. option_and_then of_json (option_and_then (λ p. if_last p.0 p.1) q)) j.1 ∙ j.2
 
-text_printed : (f : Form) (v : Value) (old new : List Token) (s : List ℕ) → old ≡ [] → IsPrinted f v old new
-    → s ≡ print new → IsTextIn f v s
-text_printed f v old new s none p is = record {
-  tree = p.0;
-  is_tree = tree_is f v p.0 p.1 p.3;
-  reads_again = λ plain. has_text f v p.0 p.1 plain p.3;
-  compact = is ∙ ap print (p.2 ∙ ap (λ l. l ++ tokens_of p.0) none) ∙ print-outline p.0;
+-- a text that is one tree and nothing behind it
+pub text_read : (text : List ℕ) (v : Value) (rest : List Token)
+    → TreeMeans (converted of_json (value 127 (tokens text))) v rest → rest ≡ [] → TextMeans text v
+text_read text v rest m last =
+    (m.0, last_read (value 127 (tokens text)) m.0 (m.1 ∙ ap (λ l. Some (m.0, l)) last), m.2)
+
+pub text_written : (f : Form) (v : Value) (t : Data) (s : List ℕ) → writes f v ≡ Ok t → InRange v → s ≡ compact_text t
+    → IsTextIn f v s
+text_written f v t s written ranged is = record {
+  tree = t;
+  is_tree = tree_is f v t written ranged;
+  reads_again = λ plain. has_text f v t written plain ranged;
+  compact = is;
 }
 
 pub text_converted : (f : Form) (text s : List ℕ) (rest old new : List Token)
     → TreeConverted f (converted of_json (value 127 (tokens text))) rest old new → rest ≡ [] → old ≡ []
     → s ≡ print new → TextConverted f text s
 text_converted f text s rest old new p last none is =
-    let m = p.1 in (
-      p.0,
-      (m.0, last_read (value 127 (tokens text)) m.0 (m.1 ∙ ap (λ l. Some (m.0, l)) last), m.2),
-      text_printed f p.0 old new s none p.2 is,
-    )
+    let tree = p.2 in
+    let all = is ∙ ap print (tree.2 ∙ ap (λ l. l ++ tokens_of tree.0) none) ∙ print-outline tree.0 in
+    (p.0, text_read text p.0 rest p.1 last, text_written f p.0 tree.0 s tree.1 tree.3 all)

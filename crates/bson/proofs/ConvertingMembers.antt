@@ -70,7 +70,7 @@ ranged_more k v no_pairs ranged here = (here, tt)
 ranged_more k v (pair l w ps) ranged here = (ranged.0, ranged_more k v ps ranged.1 here)
 
 -- pairs whose keys ascend are written in their order
-written_in_order : (f : Form) (ps : Pairs) → KeysAscend ps → writes_in_order f ps ≡ writes_pairs f ps
+pub written_in_order : (f : Form) (ps : Pairs) → KeysAscend ps → writes_in_order f ps ≡ writes_pairs f ps
 written_in_order f no_pairs up = refl
 written_in_order f (pair k v no_pairs) up = refl
 written_in_order f (pair k v (pair l w ps)) up =

@@ -9,7 +9,7 @@ use Rattle.std.specs.Ordering.{nat_cmp}
 use Rattle.std.specs.declared.alloc.Global.{Global}
 use Rattle.std.specs.declared.cmp.Ordering.TheVariants.{Less, Equal, Greater}
 use Rattle.bson_model.specs.Sorted.{put_pair}
-use Rattle.bson_model.specs.Value.{Pairs, no_pairs}
+use Rattle.bson_model.specs.Value.{Value, Pairs, no_pairs, pair}
 use Rattle.bson_store.specs.Small.{stored_pairs}
 use Rattle.bson_store.specs.declared.small.Pair.{Pair}
 use Rattle.bson.specs.View.{bson_view, pairs_view}
@@ -26,10 +26,38 @@ member k v = record { key = k; value = v }
 abbrev pub gathered_pairs : List Member → Pairs
 gathered_pairs ms = pairs_view (stored_pairs ms)
 
+-- ---- what has a key each, and a value
+
+module _ {M : Type 0} (key_of : M → List ℕ) where
+  -- they have one key
+  abbrev pub have_one_key : M → M → Bool
+  have_one_key m n = bytes_eq (key_of m) (key_of n)
+
+  -- the same, in which those of each key stand in the order in which they stood
+  abbrev pub HaveTurns : List M → List M → Type 0
+  HaveTurns ms ns = (m : M) → filter (have_one_key m) ns ≡ filter (have_one_key m) ms
+
+  module _ (value_of : M → Value) where
+    -- the pairs after each in turn is put to them
+    abbrev pub put_each : List M → Pairs → Pairs
+    put_each [] ps = ps
+    put_each (m ∷ ms) ps = put_each ms (put_pair (key_of m) (value_of m) ps)
+
+    abbrev pub pairs_of : List M → Pairs
+    pairs_of [] = no_pairs
+    pairs_of (m ∷ ms) = pair (key_of m) (value_of m) (pairs_of ms)
+
+-- ---- members
+
+abbrev pub member_key : Member → List ℕ
+member_key m = string_bytes m.key
+
+abbrev pub member_value : Member → Value
+member_value m = bson_view m.value
+
 -- the pairs after each member in turn is put to them
 abbrev pub put_all : List Member → Pairs → Pairs
-put_all [] ps = ps
-put_all (m ∷ ms) ps = put_all ms (put_pair (string_bytes m.key) (bson_view m.value) ps)
+put_all ms ps = put_each member_key member_value ms ps
 
 abbrev pub gathered : Gathered → Pairs
 gathered (Few v) = gathered_pairs v.items
@@ -48,13 +76,8 @@ FitsAt k [] (suc i) = ⊥
 FitsAt k (m ∷ ms) zero = slice_cmp nat_cmp k (string_bytes m.key) ≡ Less
 FitsAt k (m ∷ ms) (suc i) = (slice_cmp nat_cmp k (string_bytes m.key) ≡ Greater) × FitsAt k ms i
 
--- they have one key
-abbrev pub has_key_of : Member → Member → Bool
-has_key_of m n = bytes_eq (string_bytes m.key) (string_bytes n.key)
-
--- the same members, in which those of each key stand in the order in which they stood
 abbrev pub KeepsTurns : List Member → List Member → Type 0
-KeepsTurns ms ns = (m : Member) → filter (has_key_of m) ns ≡ filter (has_key_of m) ms
+KeepsTurns ms ns = HaveTurns member_key ms ns
 
 -- the first n bytes as a number
 abbrev pub prefix : List ℕ → ℕ → ℕ

@@ -2,7 +2,8 @@
 //! as `{"base64": "aGVsbG8=", "subType": "00"}` under `$binary` (RFC 4648 section 4, with padding;
 //! two hexadecimal digits, of which lower-case ones are written). `$uuid` is read alone, as
 //! `{"$uuid": "00112233-4455-6677-8899-aabbccddeeff"}`, and means a binary of subtype 04.
-ghost use Rattle.std.specs.Prelude.{◌≡◌, ◌<◌, IfOk, OnOk, ◌∷◌, [], string_bytes};
+ghost use Rattle.std.specs.Prelude.{◌≡◌, ◌<◌, IfOk, OnOk, ◌∷◌, [], codes, string_bytes};
+ghost use Rattle.serde_json.specs.Data.{string};
 ghost use Rattle.serde_json.specs.View.{view};
 ghost use Rattle.hex.specs.Hex.{encode_lower, IsBytes};
 ghost use Rattle.bson_scalar.specs.Base64.{padded_text};
@@ -12,6 +13,7 @@ ghost use Rattle.bson_wrapper.specs.Binaries.{binary_tree};
 ghost use Rattle.bson_wrapper.specs.Faults.{Gives, or_wrong_shape};
 ghost use Rattle.bson_wrapper.specs.Reading.{binary_read, uuid_read, byte_of as byte_at};
 ghost use Rattle.bson_wrapper.specs.Reading.{bytes_of as bytes_at};
+ghost use Rattle.bson_wrapper.specs.Shapes.{object_of_one, object_of_two};
 ghost use Rattle.bson_wrapper.specs.View.{scalar_view};
 
 use crate::error::Error;
@@ -109,6 +111,38 @@ fn base64_text(alloc: Global, bytes: &[u8]) -> Result<String, AllocError>
     STANDARD.encode(alloc, bytes)
 }
 
+// What `$binary` holds.
+#[derive(Drop)]
+struct Texts {
+    base64: String,
+    subtype: String,
+}
+
+fn texts_of(alloc: Global, binary: &Binary) -> Result<Texts, AllocError>
+    ensures base64 { IfOk result (λ texts. string_bytes texts.base64 ≡ padded_text binary.now.bytes.items) }
+    ensures subtype { IfOk result (λ texts. string_bytes texts.subtype
+        ≡ encode_lower (subtype_byte binary.now.subtype ∷ [])) }
+    ensures ranged { OnOk result ((subtype_byte binary.now.subtype < 256) × IsBytes binary.now.bytes.items) }
+{
+    are_bytes(binary.bytes.as_slice());
+    let base64 = base64_text(alloc, binary.bytes.as_slice())?;
+    let subtype = byte_text(alloc, binary.subtype)?;
+    Ok(Texts { base64, subtype })
+}
+
+fn write_texts<S: Sink>(texts: Texts, out: &mut S) -> Result<S::Tree, AllocError>
+    ensures written { IfOk result (λ t. S.wrote out.old
+        (object_of_one (codes "$binary")
+        (object_of_two (codes "base64") (string (string_bytes texts.base64)) (codes "subType")
+        (string (string_bytes texts.subtype)))) t out.new) }
+    ensures before { S.before out.new ≡ S.before out.old }
+{
+    let Texts { base64, subtype } = texts;
+    let key = begin("$binary", out)?;
+    let texts = two_texts("base64", base64, "subType", subtype, out)?;
+    end_one(key, texts, out)
+}
+
 /// Writes the tree of a binary, in both forms.
 pub fn write_binary<S: Sink>(
     alloc: Global,
@@ -120,10 +154,22 @@ pub fn write_binary<S: Sink>(
     ensures before { S.before out.new ≡ S.before out.old }
     ensures ranged { OnOk result ((subtype_byte binary.now.subtype < 256) × IsBytes binary.now.bytes.items) }
 {
-    are_bytes(binary.bytes.as_slice());
-    let base64 = base64_text(alloc, binary.bytes.as_slice())?;
-    let subtype = byte_text(alloc, binary.subtype)?;
-    let key = begin("$binary", out)?;
-    let texts = two_texts("base64", base64, "subType", subtype, out)?;
-    end_one(key, texts, out)
+    write_texts(texts_of(alloc, binary)?, out)
+}
+
+/// Writes the tree of a binary, as `write_binary` does. Its bytes are dropped before the texts are
+/// put into the sink.
+pub fn write_owned<S: Sink>(
+    alloc: Global,
+    binary: Binary,
+    out: &mut S,
+) -> Result<S::Tree, AllocError>
+    ensures written { IfOk result (λ t. S.wrote out.old
+        (binary_tree binary.subtype binary.bytes.items) t out.new) }
+    ensures before { S.before out.new ≡ S.before out.old }
+    ensures ranged { OnOk result ((subtype_byte binary.subtype < 256) × IsBytes binary.bytes.items) }
+{
+    let texts = texts_of(alloc, &binary)?;
+    drop(binary);
+    write_texts(texts, out)
 }

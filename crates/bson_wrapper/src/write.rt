@@ -9,7 +9,7 @@ ghost use Rattle.bson_wrapper.specs.Tokens.{tokens_of, Sends, Puts};
 ghost use Rattle.bson_wrapper.specs.View.{scalar_view};
 ghost use Rattle.bson_wrapper.specs.Written.{Writes, writes_scalar};
 
-use crate::binaries::write_binary;
+use crate::binaries::{write_binary, write_owned};
 use crate::dates::write_date;
 use crate::decimals::write_decimal;
 use crate::doubles::write_double;
@@ -56,7 +56,7 @@ pub fn write_to<S: Sink>(
         Scalar::JavaScriptCode(code) => Ok(write_code(code, out)?),
         Scalar::RegularExpression(regex) => Ok(write_regex(alloc, regex, out)?),
         Scalar::Timestamp(stamp) => Ok(write_timestamp(stamp, out)?),
-        Scalar::Binary(binary) => Ok(write_binary(alloc, &binary, out)?),
+        Scalar::Binary(binary) => Ok(write_owned(alloc, binary, out)?),
         Scalar::ObjectId(id) => Ok(write_oid(alloc, id, out)?),
         Scalar::DateTime(date) => Ok(write_date(alloc, form, date, out)?),
         Scalar::Decimal128(decimal) => Ok(write_decimal(alloc, decimal, out)?),

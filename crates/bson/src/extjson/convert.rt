@@ -12,7 +12,10 @@ ghost use Rattle.bson.specs.Converted.{ObjectConverted, TextConverted, Follows};
 ghost use Rattle.bson.specs.TextMeaning.{IsTextOf, IsTextFault};
 ghost use Rattle.bson.specs.declared.extjson.text_error.TextError.TheVariants.{OutOfMemory};
 
+mod by_key;
+
 use crate::bson::Bson;
+use crate::extjson::convert::by_key::convert_by_key;
 use crate::extjson::text::{finished, print_read};
 use crate::extjson::text_error::TextError;
 use crate::extjson::text_reader::straight::{read_begun, read_value};
@@ -43,7 +46,7 @@ pub enum Converted {
 
 // Why a text was not converted part by part.
 #[derive(Clone, Copy, Drop)]
-enum Unconverted {
+pub(crate) enum Unconverted {
     OutOfMemory,
     // It seems to break the grammar of JSON.
     Broken,
@@ -77,11 +80,11 @@ const LEAST_LENGTH: usize = 4096;
 
 impl Bson {
     /// The text in the form of the value that the bytes mean, as [`Bson::try_from_text`] reads it;
-    /// or that value, where there is little to save or its parts do not stand in the order in which
-    /// they are written.
+    /// or that value, where there is little to save.
     ///
-    /// A list is read and written an element at a time, and so is a list in an object whose keys
-    /// ascend by bytes; other members of such an object are read and written one at a time.
+    /// A list is read and written an element at a time, and so is a list in an object; other
+    /// members of an object are read and written one at a time. Where the keys do not ascend by
+    /// bytes, the texts of the members are put in order at the end.
     ///
     /// It is Ok and refused as `try_from_text` is, with the same errors.
     pub fn convert_text(alloc: Global, form: Form, bytes: &[u8]) -> Result<Converted, TextError>
@@ -145,6 +148,17 @@ fn breaks_grammar(alloc: Global, text: &str) -> Result<bool, AllocError>
     }
 }
 
+// How a text is converted.
+#[derive(Clone, Copy, Drop)]
+enum Parts {
+    // It is read whole.
+    None,
+    // Its parts are written as they come.
+    InTurn,
+    // The texts of its members are put in order.
+    ByKey,
+}
+
 // The text, written as its parts are read; none where it is to be read whole.
 fn convert_parts(
     alloc: Global,
@@ -154,44 +168,61 @@ fn convert_parts(
 ) -> Result<Option<String>, Unconverted>
     ensures { IfOk result (λ s. IfSome s (λ written. TextConverted form text.now (string_bytes written))) }
 {
-    if text.len() < LEAST_LENGTH || !has_parts(text, scratch)? {
+    if text.len() < LEAST_LENGTH {
         return Ok(None);
     }
+    match parts_of(text, scratch)? {
+        Parts::None => Ok(None),
+        Parts::InTurn => Ok(Some(convert_in_turn(alloc, form, text, scratch)?)),
+        Parts::ByKey => convert_by_key(alloc, form, text, scratch),
+    }
+}
+
+fn convert_in_turn(
+    alloc: Global,
+    form: Form,
+    text: &str,
+    scratch: &mut Scratch,
+) -> Result<String, Unconverted>
+    ensures { IfOk result (λ written. TextConverted form text.now (string_bytes written)) }
+{
     let mut reader = Reader::new(text, scratch)?;
     let mut out = Writer::new(Vec::with_capacity(alloc, text.len())?);
     convert_root(alloc, form, &mut reader, &mut out)?;
     if reader.next().is_some() {
         return Err(Unconverted::Broken);
     }
-    Ok(Some(finished(out)))
+    Ok(finished(out))
 }
 
-// Whether the text begins as a list, or is an object whose members can be written as they come.
-fn has_parts(text: &str, scratch: &mut Scratch) -> Result<bool, Unconverted> {
+// How the text is converted, as its first token and its keys tell. It only saves a try: the keys
+// are looked at again as the members are written.
+fn parts_of(text: &str, scratch: &mut Scratch) -> Result<Parts, Unconverted> {
     let mut reader = Reader::new(text, scratch)?;
     match reader.next() {
-        Some(Token::BeginArray) => Ok(true),
-        Some(Token::BeginObject) => keys_ascend(&mut reader),
-        _ => Ok(false),
+        Some(Token::BeginArray) => Ok(Parts::InTurn),
+        Some(Token::BeginObject) => parts_of_object(&mut reader),
+        _ => Ok(Parts::None),
     }
 }
 
-// Whether the keys of the object ascend, and none is a wrapper's. It only saves a try: the keys are
-// looked at again as the members are written.
-fn keys_ascend(reader: &mut Reader<'_>) -> Result<bool, Unconverted> {
+fn parts_of_object(reader: &mut Reader<'_>) -> Result<Parts, Unconverted> {
     let mut last: Option<&str> = None;
     'members: while let Some(name) = reader.next_key()? {
-        if named(name).is_some() || !follows(last, name) {
-            return Ok(false);
+        if named(name).is_some() {
+            return Ok(Parts::None);
+        }
+        if !follows(last, name) {
+            return Ok(Parts::ByKey);
         }
         reader.skip_value(MAX_DEPTH - 1)?;
         last = Some(name);
     }
-    Ok(true)
+    Ok(Parts::InTurn)
 }
 
 // The key is greater than the last one, by bytes.
-fn follows(last: Option<&str>, key: &str) -> bool
+pub(crate) fn follows(last: Option<&str>, key: &str) -> bool
     ensures { result ≡ true → Follows (option_map (λ s. s.now) last.entry) key.now }
 {
     match last {
@@ -239,9 +270,7 @@ fn convert_begun(
         return convert_items(alloc, form, reader, depth - 1, out);
     }
     let value = read_begun(alloc, reader, depth, token)?.ok_or(Unconverted::Left)?;
-    print_read(alloc, form, &value, out)?;
-    drop(value);
-    Ok(())
+    Ok(print_read(alloc, form, value, out)?)
 }
 
 // An object whose brace was read, a member at a time.
@@ -272,7 +301,7 @@ fn convert_members(
 }
 
 // The value of a member whose key was read.
-fn convert_member(
+pub(crate) fn convert_member(
     alloc: Global,
     form: Form,
     reader: &mut Reader<'_>,
@@ -305,8 +334,7 @@ fn convert_items(
     out.begin_array()?;
     'items: while !reader.take_end_array() {
         let item = read_value(alloc, reader, depth)?.ok_or(Unconverted::Left)?;
-        print_read(alloc, form, &item, out)?;
-        drop(item);
+        print_read(alloc, form, item, out)?;
     }
     Ok(out.end_array()?)
 }

@@ -16,6 +16,7 @@ use crate::scalar::scalar_ref;
 use bson_store::{PairStore, SmallPairs};
 use bson_wrapper::code::put_code;
 use bson_wrapper::form::Form;
+use bson_wrapper::scalar::Scalar;
 use bson_wrapper::write::{print_scalar, put_binary};
 use bson_wrapper::write_error::WriteError;
 use json::Writer;
@@ -45,17 +46,29 @@ pub(crate) fn finished(out: Writer) -> String
 pub(crate) fn print_read(
     alloc: Global,
     form: Form,
-    value: &Bson,
+    value: Bson,
     out: &mut Writer,
 ) -> Result<(), AllocError>
-    requires { writable (bson_view value.now) ≡ true }
-    ensures ok { OnOk result (IsPrinted form (bson_view value.now) out.old.tokens out.new.tokens) }
+    requires { writable (bson_view value) ≡ true }
+    ensures ok { OnOk result (IsPrinted form (bson_view value) out.old.tokens out.new.tokens) }
     ensures before { out.new.before ≡ out.old.before }
 {
-    match print(alloc, form, value, out) {
+    match print_owned(alloc, form, value, out) {
         Ok(()) => Ok(()),
         Err(WriteError::OutOfMemory) => Err(AllocError),
         Err(WriteError::FiniteDouble) => unreachable!(),
+    }
+}
+
+// The bytes of a binary are dropped before its text is printed.
+fn print_owned(alloc: Global, form: Form, value: Bson, out: &mut Writer) -> Result<(), WriteError>
+    ensures printed { Prints (λ t. t) result (writes form (bson_view value)) out.old.tokens out.new.tokens }
+    ensures before { out.new.before ≡ out.old.before }
+    ensures ranged { OnOk result (InRange (bson_view value)) }
+{
+    match value {
+        Bson::Binary(binary) => print_scalar(alloc, form, Scalar::Binary(binary), out),
+        value => print(alloc, form, &value, out),
     }
 }
 

@@ -18,7 +18,7 @@ ghost use Rattle.bson.specs.Straight.{TextReads, IsBroken};
 ghost use Rattle.bson.specs.declared.extjson.text_error.TextError.TheVariants.{OutOfMemory};
 
 mod fault;
-mod gathered;
+pub(crate) mod gathered;
 mod held;
 mod number;
 pub(crate) mod straight;

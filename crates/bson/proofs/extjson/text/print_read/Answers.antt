@@ -6,7 +6,7 @@ use Rattle.bson.proofs.extjson.text.print_read.Goals as goal
 
 pub unreachable-requires : goal.unreachable-requires
 unreachable-requires c =
-    let v = bson_view c.args.value.now in
+    let v = bson_view c.args.value in
     let e = c.in-Err-FiniteDouble in
     let not : writable v ≡ false = finite_refused c.args.form v e.field-0 e.ensures.printed e.field-0-is in
     let can : writable v ≡ true = c.requires in

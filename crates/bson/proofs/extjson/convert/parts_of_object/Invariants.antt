@@ -1,5 +1,5 @@
 use Rattle.std.proofs.Common.{length}
-use Rattle.bson.proofs.extjson.convert.keys_ascend.Given as goal
+use Rattle.bson.proofs.extjson.convert.parts_of_object.Given as goal
 
 abbrev pub invariant-members : goal.invariant-members
 invariant-members l = Unit {0}

@@ -3,7 +3,7 @@ use Rattle.json.specs.Json.{value}
 use Rattle.serde_json.specs.Read.{of_json, converted}
 use Rattle.bson.specs.Converted.{TreeConverted}
 use Rattle.bson.proofs.Converting.{text_converted}
-use Rattle.bson.proofs.extjson.convert.convert_parts.Goals as goal
+use Rattle.bson.proofs.extjson.convert.convert_in_turn.Goals as goal
 
 pub returns : goal.returns
 returns c =
