@@ -8,6 +8,9 @@ from dataclasses import dataclass
 FORMS = ("canonical", "relaxed")
 # What more brackets open may nest too deep within a list.
 MOST_BRACKETS = 100
+MANY = 200_000
+# An odd number, so that its multiples are distinct modulo a power of two.
+STEP = 0x9E3779B1
 LONG = b'"' + b"x" * 5000 + b'"'
 NOT_JSON = (1, b"", b"bson_cli: not JSON\n")
 BAD_ID = (1, b"", b"bson_cli: bad object id\n")
@@ -83,9 +86,23 @@ def accepted(parts):
     yield "a string", LONG, LONG
     yield "no element", b"[" + b" " * 5000 + b"]", b"[]"
     yield "no member", b"{" + b" " * 5000 + b"}", b"{}"
+    yield from many()
     for length in (4095, 4096, 4097):
         text = b'["' + b"x" * (length - 4) + b'"]'
         yield f"{length} bytes", text, text
+
+
+def many():
+    """The same of objects of many keys in random order."""
+    pairs = [(b"%06x" % (number * STEP % 2**24), b"null") for number in range(MANY)]
+    text, output = keyed(pairs), keyed(sorted(pairs))
+    first, last = pairs[0], pairs[-1]
+    yield f"{MANY} keys in random order", text, output
+    yield f"{MANY} keys in random order in a list", listed([text]), listed([output])
+    yield (f"{MANY} keys in random order, the first twice", keyed([*pairs, (first[0], b"true")]),
+           keyed(sorted([(first[0], b"true"), *pairs[1:]])))
+    yield (f"{MANY} keys in random order in a list, the last twice", listed([keyed([(last[0], b"true"), *pairs])]),
+           listed([output]))
 
 
 def out_of_order(pairs, outputs):
