@@ -1,6 +1,6 @@
 -- The text of an object from the texts of its members.
-use Rattle.std.proofs.Common.{◌≡◌, ℕ, ◌-◌, ◌<◌, ◌≤◌, Bool, true, false, cond, ◌==◌, List, [], ◌∷◌, ◌++◌, length, drop}
-use Rattle.std.proofs.Common.{take, Option, Some, None, Result, Ok, Err, Less, nat_cmp, refl, sym, ap, ◌∙◌, subst, arith, append_assoc}
+use Rattle.std.proofs.Common.{◌≡◌, ℕ, ◌-◌, ◌<◌, Bool, true, false, cond, ◌==◌, List, [], ◌∷◌, ◌++◌, length, drop, take}
+use Rattle.std.proofs.Common.{Option, Some, None, Result, Ok, Err, Less, nat_cmp, refl, sym, ap, ◌∙◌, subst, arith, append_assoc}
 use Rattle.std.proofs.lemmas.Bool.{eq-eqb, ne_eqb}
 use Rattle.std.proofs.lemmas.Cmp.{nat_list_cmp_total}
 use Rattle.std.proofs.lemmas.List.{drop-append-le, take-append-le, length-append, length-drop}
@@ -28,10 +28,9 @@ use Rattle.bson_model.specs.Normal.{PairsInRange}
 use Rattle.bson_model.specs.Reading.{reads_members}
 use Rattle.bson_model.specs.Sorted.{put_pair, IsLeast, KeysAscend}
 use Rattle.bson_model.specs.Value.{Value, Pairs, no_pairs, document}
-use Rattle.bson_model.specs.Writing.{writes_pairs}
 use Rattle.bson.specs.Converted.{TextConverted, Follows}
 use Rattle.bson.specs.Gathered.{put_each, pairs_of}
-use Rattle.bson.specs.Pieces.{piece_key, piece_text, members_text, object_text, Ascend, IsWithin, InOrder, IsMemberText}
+use Rattle.bson.specs.Pieces.{piece_key, piece_text, members_text, Ascend, IsWithin, InOrder, IsMemberText}
 use Rattle.bson.specs.Pieces.{Values, value_at, IsPiece, IsAdded, ObjectInPieces}
 use Rattle.bson.specs.Texts.{tokens_of, writes_in_order}
 use Rattle.bson.specs.declared.extjson.convert.by_key.Piece.{Piece}
@@ -73,7 +72,8 @@ last_text : (texts new s : List ℕ) (p : Piece) → new ≡ texts ++ s → p.st
     → piece_text new p ≡ s
 last_text texts new s p is start end =
     let long = ap length is ∙ length-append texts s in
-    let rest : drop p.start new ≡ s = ap (drop p.start) is ∙ ap (λ n. drop n (texts ++ s)) start ∙ drop-append_seam texts s in
+    let rest : drop p.start new ≡ s =
+    ap (drop p.start) is ∙ ap (λ n. drop n (texts ++ s)) start ∙ drop-append_seam texts s in
     let all : p.end - p.start ≡ length s = omega (arith, long, start, end) in
     ap (take (p.end - p.start)) rest ∙ ap (λ n. take n s) all ∙ take-length s
 
@@ -180,7 +180,8 @@ one_in_pieces f k start here s r found now g named plain added less =
 
 pub all_in_pieces : (f : Form) (start here rest : List Token) (found : Pieces) → PiecesPass f start here found
     → read_key here ≡ Some (None, rest)
-    → ObjectInPieces f (converted (λ js. of_members js no_members) (members (value 126) (length start) start)) rest found
+    → ObjectInPieces f (converted (λ js. of_members js no_members) (members (value 126) (length start) start)) rest
+    found
 all_in_pieces f start here rest found g ended = (
   g.values,
   g.trees,

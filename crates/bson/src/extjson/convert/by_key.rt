@@ -68,8 +68,9 @@ fn gather<'a>(
     form: Form,
     reader: &mut Reader<'a>,
 ) -> Result<Option<Pieces<'a>>, Unconverted>
-    ensures { IfOk result (λ found. IfSome found (λ o. ObjectInPieces form
-        (converted (λ ms. of_members ms no_members) (members (value 126) (length reader.old) reader.old)) reader.new o)) }
+    ensures { IfOk result (λ found. IfSome found (λ pieces. ObjectInPieces form
+        (converted (λ ms. of_members ms no_members) (members (value 126) (length reader.old) reader.old)) reader.new
+        pieces)) }
 {
     let mut found = Pieces {
         pieces: Vec::new(alloc),

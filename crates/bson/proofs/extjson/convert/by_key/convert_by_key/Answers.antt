@@ -1,4 +1,4 @@
-use Rattle.std.proofs.Common.{◌≡◌, [], ◌∷◌, length, Some, string_bytes, subst, arith}
+use Rattle.std.proofs.Common.{◌≡◌, [], ◌∷◌, length, string_bytes, subst, arith}
 use Rattle.std.specs.Prelude.{IfSome}
 use Rattle.std.proofs.lemmas.List.Elements.{All-weaker}
 use Rattle.json.specs.Json.{members, value}
@@ -28,7 +28,8 @@ returns c =
     let found = c.in-Some.found in
     let r = c.next.new.self in
     let all = converted (λ ms. of_members ms no_members) (members (value 126) (length r) r) in
-    let o = subst (λ x. IfSome x (λ o. ObjectInPieces f all c.gather.new.reader o)) c.in-Some.is c.in_ok-found.ensures in
+    let o =
+    subst (λ x. IfSome x (λ o. ObjectInPieces f all c.gather.new.reader o)) c.in-Some.is c.in_ok-found.ensures in
     let last : c.gather.new.reader ≡ [] = grind arith in
     let opened : tokens text ≡ begin_object ∷ r = grind arith in
     some_more (λ written. InOrder found.pieces.items found.texts.items (string_bytes written))

@@ -16,7 +16,8 @@ joined-requires-2 c =
     let texts = c.args.found.texts.items in
     let by_prefix = c.sort_by_prefix.new.pieces.items in
     All-permutation (IsWithin texts) by_prefix c.sort_by_key.new.pieces.items c.in_ok-sort_by_key.ensures.same
-    (All-permutation (IsWithin texts) c.args.found.pieces.items by_prefix c.in_ok-sort_by_prefix.ensures.same c.requires)
+    (All-permutation (IsWithin texts) c.args.found.pieces.items by_prefix c.in_ok-sort_by_prefix.ensures.same
+    c.requires)
 
 pub returns-in-Some : goal.returns-in-Some
 returns-in-Some c =

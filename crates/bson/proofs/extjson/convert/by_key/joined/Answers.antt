@@ -1,11 +1,11 @@
-use Rattle.std.proofs.Common.{◌≡◌, suc, ◌+◌, ◌<◌, ◌∷◌, ◌++◌, [], drop, length, None, option_map, sym, ap, ◌∙◌, subst, arith}
+use Rattle.std.proofs.Common.{◌≡◌, suc, ◌+◌, ◌<◌, ◌∷◌, ◌++◌, [], drop, length, option_map, sym, ap, ◌∙◌, subst, arith}
 use Rattle.std.proofs.Common.{add-one}
 use Rattle.std.specs.Prelude.{is_some}
 use Rattle.std.proofs.Math.Seq.{drop-cons}
 use Rattle.std.proofs.lemmas.List.{drop_all}
 use Rattle.std.proofs.lemmas.Str.{IsUtf8-append, IsUtf8-from_ascii}
 use Rattle.std.specs.Str.{IsUtf8}
-use Rattle.bson.specs.Pieces.{members_text, object_text, piece_text, Ascend, IsWithin}
+use Rattle.bson.specs.Pieces.{members_text, piece_text, Ascend}
 use Rattle.bson.proofs.Pieces.{next_joined, next_ascends, comma_utf8}
 use Rattle.bson.proofs.extjson.convert.by_key.joined.Goals as goal
 
