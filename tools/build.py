@@ -59,8 +59,13 @@ def stop(why):
     sys.exit(3)
 
 
+def counted(count, word):
+    """As `1 minute`, or `2 minutes`."""
+    return f"{count} {word}{'s' * (count != 1)}"
+
+
 def minutes(count):
-    return f"{max(1, round(count))} minute{'s' * (round(count) > 1)}"
+    return counted(max(1, round(count)), "minute")
 
 
 def sums_of(rtlib, crates):
@@ -145,6 +150,7 @@ class Step:
             words = ["--target", "x86_64-unknown-linux-gnu", "--toolchain", f"{top}/toolchain", "-o", self.made]
             words += [f"{self.made}.o", f"{top}/c/libos_c.a", f"{top}/c/liblibc_c.a"]
             is_done = self.run(f"{top}/bin/rattle-link", *words).wait() == 0
+            os.remove(f"{self.made}.o")
         if is_done:
             self.proved = lines[0]
         else:
@@ -288,8 +294,9 @@ def build(rt, steps):
     with open(LOG, "w", encoding="utf-8") as log:
         it = Build(steps, done, schedule, log)
         if len(done) < len(steps):
-            print(f"bson: proving and building {PROGRAM}, {len(steps) - len(done)} crates by {schedule.processors} processors:"
-                  f" some {minutes(it.whole)}, and after the first crate a better guess; the log is {LOG}", file=sys.stderr)
+            crates, processors = counted(len(steps) - len(done), "crate"), counted(schedule.processors, "processor")
+            print(f"bson: proving and building {PROGRAM}, {crates} by {processors}: some {minutes(it.whole)}, and after the"
+                  f" first crate a better guess; the log is {LOG}", file=sys.stderr)
         try:
             it.run()
         finally:
