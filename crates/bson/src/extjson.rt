@@ -1,4 +1,8 @@
 //! MongoDB Extended JSON v2.
+//!
+//! In reading order: `de` (the calls that read trees) over `read` and `scalars`; `ser` (the calls
+//! that write) over `write` (trees) and `text` (texts); `text_reader` (values from texts) with
+//! `text_error`; `convert` (a text to another, part by part).
 pub mod convert;
 pub mod de;
 mod read;

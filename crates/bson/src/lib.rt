@@ -1,4 +1,10 @@
 //! The document model of BSON 1.1 and MongoDB Extended JSON v2.
+//!
+//! In reading order: `bson` (a value) and `document` (pairs over a store); `conversions`,
+//! `accessors` and `kinds` (values from what they hold, and back), `element_type`; `extjson`
+//! (readers and writers of trees and texts). The recursions over values have a module each, `same`,
+//! `hash`, `clone`, `show`, `debug`, `pretty`, and end in one arm for all scalars, of `scalar`.
+//! `store` names the stores of `bson_store`.
 #![tactic(auto)]
 
 mod accessors;

@@ -1,13 +1,14 @@
-//! The wrappers of MongoDB Extended JSON v2 that hold one scalar, and the scalars that JSON has a
-//! form for: each kind read from its tree and written in the canonical and the relaxed form. Lists,
-//! documents and code with a scope, which hold values, are the layer above.
+//! The wrappers of MongoDB Extended JSON v2 that hold one scalar: each is read from its tree, and
+//! each scalar is written in the canonical and the relaxed form. Null, booleans, numbers and
+//! strings of JSON are read in the layer above, and so are lists, documents and code with a scope,
+//! which hold values.
 //!
 //! In reading order: `scalar` (a scalar value), `form` (the two forms), `wrapper` (the table of
 //! wrapper keys), `error` and `write_error`; `shapes` (a text, an object of one key or two), `sink`
 //! (where a tree is written to: into memory, or onto a text) and `wrapped` (the shapes, written); a
 //! module for the wrappers of each subject, `ints`, `doubles`, `decimals`, `texts`, `regexes`,
-//! `ids`, `timestamps`, `dates`, `binaries`, `lone`; `read` and `write` over all of them; `code` (the
-//! keys of code with its scope); `laws`.
+//! `ids`, `timestamps`, `dates`, `binaries`, `lone`; `read` and `write` over all of them; `code`
+//! (the keys of code with its scope); `laws`.
 #![tactic(auto)]
 
 pub mod binaries;

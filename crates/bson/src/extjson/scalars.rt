@@ -1,4 +1,4 @@
-//! The kinds that hold no other value.
+//! Scalars as values and values as scalars, and the numbers of JSON.
 ghost use Rattle.std.specs.Prelude.{◌≡◌, ◌<◌, IfOk};
 ghost use Rattle.serde_json.specs.View.{number_view};
 ghost use Rattle.bson_wrapper.specs.Faults.{Gives};
