@@ -95,7 +95,9 @@ static inline void vbson_text_free(vbson_text *text) {
 
 /* Reads the len bytes as one text of Extended JSON, in either form or mixed, and writes its value in the mode. Keys
  * come out in ascending order of their bytes, at every depth; of a key that stands twice the last value counts; a
- * double other than a zero, an infinity or a NaN is refused. *out is written over: what it held is not freed.
+ * finite double is refused, and a number as 0.0 too (a zero is read as {"$numberDouble": "0.0"}). What is written is
+ * the normal form: a decimal "sNaN" or "-NaN" becomes "NaN", which vbson_same finds different. *out is written over:
+ * what it held is not freed.
  * VBSON_NO_MODE, VBSON_NOT_JSON, VBSON_BAD_OBJECT_ID, VBSON_NOT_EXTENDED_JSON, VBSON_OUT_OF_MEMORY. */
 uint32_t vbson_convert(uint32_t mode, const uint8_t *text, size_t len, vbson_text *out);
 

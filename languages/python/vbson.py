@@ -125,7 +125,8 @@ def convert(text, mode=CANONICAL):
     """The text, in the mode, of the value that a text of Extended JSON means.
 
     Keys come out in ascending order at every depth; of a key that stands twice the last value counts.
-    Raises NotJson, BadObjectId, NotExtendedJson (also at a finite double other than zero), and MemoryError.
+    What is written is the normal form: a decimal "sNaN" or "-NaN" becomes "NaN", which same() finds different.
+    Raises NotJson, BadObjectId, NotExtendedJson (also at a finite double, as 1.5 or 0.0), and MemoryError.
     """
     if mode not in (CANONICAL, RELAXED, SHOW):
         raise ValueError("no such mode")
