@@ -10,7 +10,7 @@ ghost use Rattle.bson_wrapper.specs.View.{scalar_view};
 
 use crate::error::Error;
 use crate::scalar::Scalar;
-use crate::shapes::{expected, two_in, u32_of};
+use crate::shapes::{two_in, u32_of};
 use crate::sink::Sink;
 use crate::wrapped::{begin, end_one, end_two, second};
 use bson_scalar::timestamp::Timestamp;
@@ -24,9 +24,10 @@ pub fn read_timestamp(value: Value) -> Result<Scalar, Error>
     ensures { Gives scalar_view result (timestamp_read (view value)) }
 {
     let (increment, time) = two_in(value, "i", "t", SHAPE)?;
-    let increment = expected(u32_of(&increment), SHAPE)?;
-    let time = expected(u32_of(&time), SHAPE)?;
-    Ok(Scalar::Timestamp(Timestamp { time, increment }))
+    match (u32_of(&time), u32_of(&increment)) {
+        (Some(time), Some(increment)) => Ok(Scalar::Timestamp(Timestamp { time, increment })),
+        _ => Err(Error::DeserializationError { message: SHAPE }),
+    }
 }
 
 // What `$timestamp` holds.

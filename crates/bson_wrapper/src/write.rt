@@ -42,26 +42,27 @@ pub fn write_to<S: Sink>(
     ensures before { S.before out.new ≡ S.before out.old }
     ensures ranged { OnOk result (ScalarInRange (scalar_view value)) }
 {
-    match value {
-        Scalar::Null => Ok(out.null()?),
-        Scalar::Undefined => Ok(write_undefined(out)?),
-        Scalar::MinKey => Ok(write_min_key(out)?),
-        Scalar::MaxKey => Ok(write_max_key(out)?),
-        Scalar::Boolean(b) => Ok(out.boolean(b)?),
-        Scalar::Double(pattern) => write_double(pattern, out),
-        Scalar::Int32(z) => Ok(write_int32(form, z, out)?),
-        Scalar::Int64(z) => Ok(write_int64(form, z, out)?),
-        Scalar::String(text) => Ok(out.owned_text(text)?),
-        Scalar::Symbol(text) => Ok(write_symbol(text, out)?),
-        Scalar::JavaScriptCode(code) => Ok(write_code(code, out)?),
-        Scalar::RegularExpression(regex) => Ok(write_regex(alloc, regex, out)?),
-        Scalar::Timestamp(stamp) => Ok(write_timestamp(stamp, out)?),
-        Scalar::Binary(binary) => Ok(write_owned(alloc, binary, out)?),
-        Scalar::ObjectId(id) => Ok(write_oid(alloc, id, out)?),
-        Scalar::DateTime(date) => Ok(write_date(alloc, form, date, out)?),
-        Scalar::Decimal128(decimal) => Ok(write_decimal(alloc, decimal, out)?),
-        Scalar::DbPointer(pointer) => Ok(write_pointer(alloc, pointer, out)?),
-    }
+    let written = match value {
+        Scalar::Null => out.null(),
+        Scalar::Undefined => write_undefined(out),
+        Scalar::MinKey => write_min_key(out),
+        Scalar::MaxKey => write_max_key(out),
+        Scalar::Boolean(b) => out.boolean(b),
+        Scalar::Double(pattern) => return write_double(pattern, out),
+        Scalar::Int32(z) => write_int32(form, z, out),
+        Scalar::Int64(z) => write_int64(form, z, out),
+        Scalar::String(text) => out.owned_text(text),
+        Scalar::Symbol(text) => write_symbol(text, out),
+        Scalar::JavaScriptCode(code) => write_code(code, out),
+        Scalar::RegularExpression(regex) => write_regex(alloc, regex, out),
+        Scalar::Timestamp(stamp) => write_timestamp(stamp, out),
+        Scalar::Binary(binary) => write_owned(alloc, binary, out),
+        Scalar::ObjectId(id) => write_oid(alloc, id, out),
+        Scalar::DateTime(date) => write_date(alloc, form, date, out),
+        Scalar::Decimal128(decimal) => write_decimal(alloc, decimal, out),
+        Scalar::DbPointer(pointer) => write_pointer(alloc, pointer, out),
+    };
+    Ok(written?)
 }
 
 /// The tree of a scalar in a form (MongoDB Extended JSON v2). Texts are moved into it.
