@@ -1,13 +1,14 @@
--- Bytes that have a meaning are not refused, and what they mean comes back.
+-- Bytes that have a meaning are not refused, and what they mean is in range and comes back.
 use Rattle.std.proofs.Common.{◌≡◌, ℕ, List, Result, Ok, Err, Some, None, IfOk, IfErr, refl, sym, ◌∙◌, subst}
 use Rattle.std.proofs.lemmas.Option.{same_Some}
 use Rattle.serde_json.specs.Data.{Data}
 use Rattle.serde_json.specs.Read.{read}
 use Rattle.bson_wrapper.specs.declared.error.Error.TheVariants as tree_error
 use Rattle.bson_model.specs.Means.{Means}
+use Rattle.bson_model.specs.Normal.{InRange}
 use Rattle.bson_model.specs.Texts.{ComesBack}
 use Rattle.bson_model.specs.Value.{Value}
-use Rattle.bson_model.proofs.Offered.{read_comes_back, read_tree}
+use Rattle.bson_model.proofs.Offered.{in_range, read_comes_back, read_tree}
 use Rattle.bson.specs.TextMeaning.{IsTextOf, HasTextMeaning, IsTextFault}
 use Rattle.bson.specs.declared.extjson.text_error.TextError.{TextError}
 use Rattle.bson.specs.declared.extjson.text_error.TextError.TheVariants.{NotJson, NotExtendedJson, OutOfMemory}
@@ -35,3 +36,8 @@ pub came_back : {X E : Type 0} (see : X → Value) (bytes : List ℕ) (r : Resul
     → IfOk r (λ x. HasTextMeaning bytes (see x)) → IfOk r (λ x. ComesBack (see x))
 came_back see bytes (Ok x) h = read_comes_back h.tree (see x) (read_tree bytes h.tree h.text.tree_read) h.meaning.means
 came_back see bytes (Err e) h = tt
+
+pub is_ranged : {X E : Type 0} (see : X → Value) (bytes : List ℕ) (r : Result X E)
+    → IfOk r (λ x. HasTextMeaning bytes (see x)) → IfOk r (λ x. InRange (see x))
+is_ranged see bytes (Ok x) h = in_range h.meaning.means (read_tree bytes h.tree h.text.tree_read)
+is_ranged see bytes (Err e) h = tt

@@ -5,6 +5,7 @@ pub use Rattle.bson_model.proofs.Members.{Member, just_one, just_two, more_than_
 pub use Rattle.bson_model.proofs.PutLaws.{put_swap}
 pub use Rattle.bson_model.proofs.PutMembers.{put_members_swap}
 pub use Rattle.bson_model.proofs.PutSwap.{equal_keys, flipped}
+pub use Rattle.bson_model.proofs.RangeLaws.{in_range}
 pub use Rattle.bson_model.proofs.ReadBack.{forms_idempotent, tree_is, writable_from, write_both, write_finite, write_ok}
 pub use Rattle.bson_model.proofs.ReadLaws.{IsRead, document_read, document_read_ascends, value_read}
 pub use Rattle.bson_model.proofs.ReadTrees.{read_tree}

@@ -9,6 +9,7 @@ ghost use Rattle.serde_json.specs.Data.{Data};
 ghost use Rattle.serde_json.specs.Read.{read as tree_of};
 ghost use Rattle.bson_model.specs.Fault.{IsFaultOf};
 ghost use Rattle.bson_model.specs.Means.{Means};
+ghost use Rattle.bson_model.specs.Normal.{InRange};
 ghost use Rattle.bson_model.specs.Reading.{reads};
 ghost use Rattle.bson_model.specs.Texts.{ComesBack};
 ghost use Rattle.bson_model.specs.Value as model;
@@ -62,6 +63,7 @@ impl Bson {
         ensures accepts { (t : Data) (v : model.Value) → IsTextOf bytes.now t → Means t v
             → IfErr result (λ e. e ≡ OutOfMemory) }
         ensures fault { IfErr result (λ e. IsTextFault bytes.now e) }
+        ensures ranged { IfOk result (λ v. InRange (bson_view v)) }
         ensures comes_back { IfOk result (λ v. ComesBack (bson_view v)) }
     {
         read_bytes(alloc, bytes)
