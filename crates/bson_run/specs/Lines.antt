@@ -90,6 +90,9 @@ pub data Outcomes (task : Task) (on_refusal : OnRefusal) : List (List ℕ) → L
       → Outcomes task on_refusal (before ++ line ∷ []) output (told ++ more) (refused + 1)
 
 -- ---- a run
+--
+-- Of a run, before and after are the bytes that the reader had left and has left, had and holds what the writer held
+-- and holds, told and tells what the writer of verdicts held and holds: None where that is not known.
 
 -- what the reader has left, where it is known
 abbrev pub left_of : Option (List ℕ) → List ℕ
