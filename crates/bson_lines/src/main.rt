@@ -2,28 +2,34 @@
 //! each on a line of its own, in constant memory.
 //!
 //! The library `bson_run` goes the whole way; here stand the arguments (`order`), the files
-//! (`streams`, `run`), the line of progress (`progress`), and the lines on standard error and the
-//! statuses.
+//! (`run`, `streams`, `output`), the line of progress (`progress`), and the lines on standard error
+//! (`messages`, `words`) and the statuses.
 #![tactic(auto)]
 
+mod messages;
 mod order;
+mod output;
 mod progress;
 mod run;
 mod streams;
 mod words;
 
-use crate::order::{Asked, Order, asked_by};
+use crate::messages::{line_of, summary};
+use crate::order::{Asked, Order, STANDARD, asked_by};
 use crate::run::{Stop, run};
 use crate::words::{HELP, OUT_OF_MEMORY, USAGE, VERSION};
 use bson_run::fault::Fault;
-use bson_run::line_fault::Refusal;
-use bson_run::lines::Counts;
 use bson_run::program::{ended, words_given};
-use std::alloc::{AllocError, Global};
+use std::alloc::AllocError;
+use std::io::ErrorKind;
 use std::process::ExitCode;
 
+/// The status by which a shell tells that nobody reads the output any more: 128, and SIGPIPE.
+const NO_READER: u8 = 141;
+
 /// Status 0: done, and no line was refused. Status 1: a line was refused, or the run could not go
-/// on, which standard error tells. Status 2: other arguments, and nothing was read.
+/// on, which standard error tells. Status 2: other arguments, and nothing was read. Status 141:
+/// nobody reads the output any more, and nothing is told.
 fn main(rt: HostRuntime) -> ExitCode {
     match given(&rt) {
         Ok(Asked::Run(order)) => done(&rt, &order),
@@ -50,43 +56,10 @@ fn done(rt: &HostRuntime, order: &Order) -> ExitCode {
     match run(rt, order) {
         Ok(counts) if counts.refused == 0 => ExitCode::SUCCESS,
         Ok(counts) => told(rt, summary(rt.alloc(), counts)),
+        Err(Stop::Output(_, Some(error))) if error.kind() == ErrorKind::BrokenPipe => {
+            ExitCode::from(NO_READER)
+        }
         Err(stop) => told(rt, line_of(rt.alloc(), stop)),
-    }
-}
-
-/// How many lines there were, and how many were refused.
-fn summary(alloc: Global, counts: Counts) -> Result<String, AllocError> {
-    format!(in alloc;
-        "bson_lines: {} lines, {} refused",
-        counts.lines, counts.refused
-    )
-}
-
-/// What stopped the run, and where.
-fn line_of(alloc: Global, stop: Stop<'_>) -> Result<String, AllocError> {
-    match stop {
-        Stop::Input(name) => format!(in alloc; "bson_lines: cannot read {name}"),
-        Stop::Output(name) => format!(in alloc; "bson_lines: cannot write {name}"),
-        Stop::Both(name) => format!(in alloc; "bson_lines: {name} is read and written"),
-        Stop::Line(stopped, title) => at_title(alloc, title, &at_line(alloc, stopped)?),
-    }
-}
-
-/// The line, behind the name of its file where it is not told yet.
-fn at_title(alloc: Global, title: Option<&str>, line: &str) -> Result<String, AllocError> {
-    match title {
-        None => String::from_str(alloc, line),
-        Some(name) => format!(in alloc; "bson_lines: {name}:\n{line}"),
-    }
-}
-
-/// What stopped the run, at which line and where in it; a reader or writer stops it wherever it is.
-fn at_line(alloc: Global, stopped: Refusal) -> Result<String, AllocError> {
-    let words = stopped.at.words();
-    let place = stopped.place;
-    match stopped.at.fault {
-        Fault::CannotRead | Fault::CannotWrite => format!(in alloc; "bson_lines: {words}"),
-        _ => format!(in alloc; "bson_lines: line {}: {words}{place}", stopped.at.line),
     }
 }
 
@@ -102,6 +75,7 @@ fn told(rt: &HostRuntime, line: Result<String, AllocError>) -> ExitCode {
 fn shown(rt: &HostRuntime, text: &str) -> ExitCode {
     match rt.println(text) {
         Ok(()) => ExitCode::SUCCESS,
-        Err(_) => ended(rt, "bson_lines: cannot write", 1),
+        Err(error) if error.kind() == ErrorKind::BrokenPipe => ExitCode::from(NO_READER),
+        Err(error) => told(rt, line_of(rt.alloc(), Stop::Output(STANDARD, Some(error)))),
     }
 }

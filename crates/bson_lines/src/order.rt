@@ -2,6 +2,9 @@
 use bson_run::order::{OnRefusal, Task};
 use std::alloc::{AllocError, Global};
 
+/// The name of standard input among the files that are read, and of standard output.
+pub const STANDARD: &str = "-";
+
 /// What the arguments ask for.
 #[derive(Drop)]
 pub enum Asked {
@@ -22,61 +25,177 @@ pub struct Order {
     pub task: Task,
     /// What becomes of the run at a line that is refused.
     pub on_refusal: OnRefusal,
-    /// The file that the output goes to; standard output where there is none.
-    pub output: Option<String>,
-    /// The files that are read, in this order; standard input where there is none.
+    /// The file that the output goes to, or `-`.
+    pub output: String,
+    /// The files that are read, in this order; `-` is standard input.
     pub inputs: Vec<String>,
 }
 
-/// What the words after the program's name ask for.
+/// What the words after the program's name ask for: a mode, then names of files, with options
+/// anywhere before a word `--`, each once at most.
 pub fn asked_by(alloc: Global, words: Vec<String>) -> Result<Asked, AllocError> {
-    let [word, rest @ ..] = words.as_slice() else {
-        return Ok(Asked::Nothing);
-    };
-    let Some(task) = Task::from_name(word.as_str()) else {
-        return Ok(if rest.is_empty() {
-            of_itself(word.as_str())
-        } else {
-            Asked::Nothing
-        });
-    };
-    match order_of(alloc, task, rest)? {
-        Some(order) => Ok(Asked::Run(order)),
-        None => Ok(Asked::Nothing),
-    }
-}
-
-/// What a word that names no task asks for where it stands alone.
-fn of_itself(word: &str) -> Asked {
-    match word {
-        "--help" | "-h" => Asked::Help,
-        "--version" => Asked::Version,
-        _ => Asked::Nothing,
-    }
-}
-
-/// The order of a task, with the words behind it: each option once at most, and the names of files.
-fn order_of(alloc: Global, task: Task, words: &[String]) -> Result<Option<Order>, AllocError> {
-    let mut order = Order {
-        task,
-        on_refusal: OnRefusal::Stop,
+    let mut given = Given {
+        alloc,
+        task: None,
+        keeps_going: false,
         output: None,
         inputs: Vec::new(alloc),
+        next: Next::Any,
     };
-    let mut names_output = false;
-    for word in words {
-        if names_output {
-            order.output = Some(word.clone()?);
-            names_output = false;
-        } else if word.as_str() == "--keep-going" && order.on_refusal == OnRefusal::Stop {
-            order.on_refusal = OnRefusal::Explain;
-        } else if word.as_str() == "-o" && order.output.is_none() && task != Task::Check {
-            names_output = true;
-        } else if word.starts_with("-") {
-            return Ok(None);
-        } else {
-            order.inputs.push(word.clone()?)?;
+    for word in words.iter() {
+        match given.take(word.as_str())? {
+            Taken::Word => {}
+            Taken::Help => return Ok(Asked::Help),
+            Taken::Version => return Ok(Asked::Version),
+            Taken::Unknown => return Ok(Asked::Nothing),
         }
     }
-    Ok(if names_output { None } else { Some(order) })
+    given.asked()
+}
+
+/// What the words so far gave.
+#[derive(Drop)]
+struct Given {
+    alloc: Global,
+    task: Option<Task>,
+    keeps_going: bool,
+    output: Option<String>,
+    inputs: Vec<String>,
+    next: Next,
+}
+
+/// What the next word is.
+#[derive(Clone, Copy, PartialEq, Eq)]
+enum Next {
+    Any,
+    /// The file of `-o`.
+    Output,
+    /// No option.
+    Name,
+}
+
+/// What a word is.
+#[derive(Clone, Copy, PartialEq, Eq)]
+enum Taken {
+    /// One that was taken.
+    Word,
+    Help,
+    Version,
+    /// One that can't stand here.
+    Unknown,
+}
+
+impl Given {
+    fn take(&mut self, word: &str) -> Result<Taken, AllocError> {
+        match self.next {
+            Next::Any => self.take_any(word),
+            Next::Output => {
+                self.next = Next::Any;
+                self.take_output(word)
+            }
+            Next::Name => self.take_name(word),
+        }
+    }
+
+    fn take_any(&mut self, word: &str) -> Result<Taken, AllocError> {
+        match word {
+            "--help" | "-h" => Ok(Taken::Help),
+            "--version" | "-v" => Ok(Taken::Version),
+            "--" => self.expect(Next::Name),
+            "-o" | "--output" => self.expect(Next::Output),
+            "--keep-going" => {
+                let is_first = !self.keeps_going;
+                self.keeps_going = true;
+                Ok(if is_first {
+                    Taken::Word
+                } else {
+                    Taken::Unknown
+                })
+            }
+            STANDARD => self.take_name(word),
+            _ => match output_in(word) {
+                Some(name) => self.take_output(name),
+                None if word.starts_with("-") => Ok(Taken::Unknown),
+                None => self.take_name(word),
+            },
+        }
+    }
+
+    fn expect(&mut self, next: Next) -> Result<Taken, AllocError> {
+        self.next = next;
+        Ok(Taken::Word)
+    }
+
+    fn take_output(&mut self, name: &str) -> Result<Taken, AllocError> {
+        if self.output.is_some() {
+            return Ok(Taken::Unknown);
+        }
+        self.output = Some(String::from_str(self.alloc, name)?);
+        Ok(Taken::Word)
+    }
+
+    /// The first is a mode, and the others are files.
+    fn take_name(&mut self, word: &str) -> Result<Taken, AllocError> {
+        if self.task.is_some() {
+            self.inputs.push(String::from_str(self.alloc, word)?)?;
+            return Ok(Taken::Word);
+        }
+        self.task = Task::from_name(word);
+        Ok(if self.task.is_some() {
+            Taken::Word
+        } else {
+            Taken::Unknown
+        })
+    }
+
+    /// What all words ask for. A check has no output.
+    fn asked(self) -> Result<Asked, AllocError> {
+        let Given {
+            alloc,
+            task,
+            keeps_going,
+            output,
+            inputs,
+            next,
+        } = self;
+        let Some(task) = task else {
+            return Ok(Asked::Nothing);
+        };
+        if next == Next::Output || (task == Task::Check && output.is_some()) {
+            return Ok(Asked::Nothing);
+        }
+        let output = match output {
+            Some(name) => name,
+            None => String::from_str(alloc, STANDARD)?,
+        };
+        Ok(Asked::Run(Order {
+            task,
+            on_refusal: if keeps_going {
+                OnRefusal::Explain
+            } else {
+                OnRefusal::Stop
+            },
+            output,
+            inputs: inputs_of(alloc, inputs)?,
+        }))
+    }
+}
+
+/// The files that are read: standard input where none is named.
+fn inputs_of(alloc: Global, mut names: Vec<String>) -> Result<Vec<String>, AllocError> {
+    if names.is_empty() {
+        names.push(String::from_str(alloc, STANDARD)?)?;
+    }
+    Ok(names)
+}
+
+/// The file that stands in one word with its option.
+fn output_in(word: &str) -> Option<&str> {
+    if let Some(name) = word.strip_prefix("--output=") {
+        return Some(name);
+    }
+    if word.starts_with("--") {
+        return None;
+    }
+    word.strip_prefix("-o")
 }

@@ -1,4 +1,6 @@
 //! How far a run is, on a terminal: a line that is renewed in place while files are read.
+use crate::messages::named;
+use std::alloc::Global;
 use std::cell::Cell;
 use std::io;
 use std::io::{Read, Write};
@@ -78,49 +80,69 @@ fn newlines(bytes: &[u8]) -> u64 {
     bytes.iter().filter(|byte| **byte == b'\n').count() as u64
 }
 
-/// A reader whose bytes count as progress.
+/// A reader whose bytes count as progress, which keeps why a read failed.
 #[derive(Drop)]
 pub struct Counted<'a, R> {
     pub reader: R,
     pub progress: &'a Progress<'a>,
+    pub error: Option<io::Error>,
 }
 
 impl<R: Read> Read for Counted<'_, R> {
     fn read(&mut self, buf: &mut [u8]) -> io::Result<usize> {
-        let count = self.reader.read(buf)?;
-        self.progress.took(&buf[..count]);
-        Ok(count)
-    }
-}
-
-/// A writer of verdicts, a line for each refused line, with the name of their file before the first
-/// where it has one.
-#[derive(Drop)]
-pub struct Verdicts<'a, 'n, T> {
-    pub writer: T,
-    pub title: Option<&'n str>,
-    pub progress: &'a Progress<'a>,
-}
-
-impl<T: Write> Verdicts<'_, '_, T> {
-    /// The name is written once, before anything else.
-    fn head(&mut self) {
-        self.progress.clear();
-        if let Some(name) = self.title.take() {
-            let _ = writeln!(self.writer, "bson_lines: {name}:");
+        match self.reader.read(buf) {
+            Ok(count) => {
+                self.progress.took(&buf[..count]);
+                Ok(count)
+            }
+            Err(error) => {
+                self.error = Some(error);
+                Err(error)
+            }
         }
     }
 }
 
-impl<T: Write> Write for Verdicts<'_, '_, T> {
+/// A writer of verdicts, a line for each refused line, with the name of their file where it has
+/// one, which keeps why a write failed.
+#[derive(Drop)]
+pub struct Verdicts<'a, T> {
+    pub alloc: Global,
+    pub writer: T,
+    pub name: Option<String>,
+    pub progress: &'a Progress<'a>,
+    pub error: Option<io::Error>,
+}
+
+impl<T: Write> Verdicts<'_, T> {
+    /// Writes whole verdicts.
+    fn put(&mut self, verdicts: &[u8]) -> io::Result<()> {
+        match &self.name {
+            None => self.writer.write_all(verdicts),
+            Some(name) => {
+                let verdicts = named(self.alloc, name.as_str(), verdicts)?;
+                self.writer.write_all(&verdicts)
+            }
+        }
+    }
+}
+
+impl<T: Write> Write for Verdicts<'_, T> {
     fn write(&mut self, buf: &[u8]) -> io::Result<usize> {
-        self.head();
-        let count = self.writer.write(buf)?;
-        let refused = self.progress.refused.get();
-        self.progress
-            .refused
-            .set(refused.saturating_add(newlines(&buf[..count])));
-        Ok(count)
+        self.progress.clear();
+        match self.put(buf) {
+            Ok(()) => {
+                let refused = self.progress.refused.get();
+                self.progress
+                    .refused
+                    .set(refused.saturating_add(newlines(buf)));
+                Ok(buf.len())
+            }
+            Err(error) => {
+                self.error = Some(error);
+                Err(error)
+            }
+        }
     }
 
     fn flush(&mut self) -> io::Result<()> {

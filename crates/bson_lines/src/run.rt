@@ -1,5 +1,7 @@
 //! A run over files: what is opened, and what is told where that can't be done.
-use crate::order::Order;
+use crate::messages::escaped;
+use crate::order::{Order, STANDARD};
+use crate::output::Output;
 use crate::progress::{Counted, Progress, Verdicts};
 use crate::streams::{Sink, Source};
 use bson_run::fault::Fault;
@@ -8,33 +10,48 @@ use bson_run::lines::{Counts, run_lines_explained};
 use bson_run::order::Task;
 use std::fs;
 use std::fs::{File, Metadata};
-use std::io::IsTerminal;
+use std::io::{Error, IsTerminal};
 use std::os::unix::fs::MetadataExt;
 
-/// Why a run could not go on, with the name of the file that it happened at, if it has one.
+/// Why a run could not go on, with the name of the file that it happened at; `-` is a standard
+/// stream.
 #[derive(Drop)]
 pub enum Stop<'a> {
     /// The file can't be read.
-    Input(&'a str),
+    Input(&'a str, Option<Error>),
     /// The file can't be written.
-    Output(&'a str),
+    Output(&'a str, Option<Error>),
     /// The file is read and written.
     Both(&'a str),
-    /// At a line, of this file where there are several.
-    Line(Refusal, Option<&'a str>),
+    /// At a line of the file.
+    Line(&'a str, Refusal),
 }
 
 /// Converts the lines of all files in their order. It stops where a file can't be read or written,
-/// or as `run_lines` does. Nothing is written before each file was found to be one that opens.
+/// or as `run_lines` does. Nothing is read or written before each file was found to be one that
+/// opens, and none that is written.
 pub fn run<'a>(rt: &HostRuntime, order: &'a Order) -> Result<Counts, Stop<'a>> {
     for name in order.inputs.iter() {
         try_input(rt, order, name.as_str())?;
     }
-    let mut sink = sink(rt, order)?;
+    let name = order.output.as_str();
+    let mut output = match Output::open(rt, name) {
+        Ok(output) => output,
+        Err(error) => return Err(Stop::Output(name, Some(error))),
+    };
     let progress = Progress::new(rt, total(rt, order));
-    let counts = run_all(rt, order, &mut sink, &progress);
+    let counts = run_all(rt, order, &mut output.sink, &progress);
     progress.clear();
-    counts
+    match counts {
+        Ok(counts) => match output.finish(rt) {
+            Ok(()) => Ok(counts),
+            Err(error) => Err(Stop::Output(name, Some(error))),
+        },
+        Err(stop) => {
+            output.discard(rt);
+            Err(stop)
+        }
+    }
 }
 
 fn run_all<'a>(
@@ -43,43 +60,37 @@ fn run_all<'a>(
     sink: &mut Sink,
     progress: &Progress<'_>,
 ) -> Result<Counts, Stop<'a>> {
-    if order.inputs.is_empty() {
-        return run_one(rt, order, Source::Stdin(rt.stdin()), None, sink, progress);
-    }
     let mut all = Counts {
         lines: 0,
         refused: 0,
     };
     for name in order.inputs.iter() {
-        let name = name.as_str();
-        let Ok(file) = File::open(rt, name) else {
-            return Err(Stop::Input(name));
-        };
-        let counts = run_one(rt, order, Source::File(file), Some(name), sink, progress)?;
+        let counts = run_one(rt, order, name.as_str(), sink, progress)?;
         all.lines = all.lines.saturating_add(counts.lines);
         all.refused = all.refused.saturating_add(counts.refused);
     }
     Ok(all)
 }
 
-/// Converts the lines of one file, or of standard input, which has no name.
+/// Converts the lines of one file.
 fn run_one<'a>(
     rt: &HostRuntime,
     order: &'a Order,
-    source: Source,
-    name: Option<&'a str>,
+    name: &'a str,
     sink: &mut Sink,
     progress: &Progress<'_>,
 ) -> Result<Counts, Stop<'a>> {
     let mut reader = Counted {
-        reader: source,
+        reader: source(rt, name)?,
         progress,
+        error: None,
     };
-    let title = if order.inputs.len() > 1 { name } else { None };
     let mut report = Verdicts {
+        alloc: rt.alloc(),
         writer: rt.stderr(),
-        title,
+        name: title(rt, name)?,
         progress,
+        error: None,
     };
     match run_lines_explained(
         rt.alloc(),
@@ -90,68 +101,87 @@ fn run_one<'a>(
         &mut report,
     ) {
         Ok(counts) => Ok(counts),
-        Err(stopped) => Err(stopped_by(order, stopped, name, report.title)),
+        Err(refusal) => Err(match refusal.at.fault {
+            Fault::CannotRead => Stop::Input(name, reader.error),
+            Fault::CannotWrite if report.error.is_some() => Stop::Output(STANDARD, report.error),
+            Fault::CannotWrite => Stop::Output(order.output.as_str(), sink.error),
+            _ => Stop::Line(name, refusal),
+        }),
     }
 }
 
-/// What stopped the run.
-fn stopped_by<'a>(
-    order: &'a Order,
-    stopped: Refusal,
-    name: Option<&'a str>,
-    title: Option<&'a str>,
-) -> Stop<'a> {
-    match (stopped.at.fault, name, &order.output) {
-        (Fault::CannotRead, Some(name), _) => Stop::Input(name),
-        (Fault::CannotWrite, _, Some(name)) => Stop::Output(name.as_str()),
-        _ => Stop::Line(stopped, title),
+/// What is read by the name.
+fn source<'a>(rt: &HostRuntime, name: &'a str) -> Result<Source, Stop<'a>> {
+    if name == STANDARD {
+        return Ok(Source::Stdin(rt.stdin()));
+    }
+    match File::open(rt, name) {
+        Ok(file) => Ok(Source::File(file)),
+        Err(error) => Err(Stop::Input(name, Some(error))),
     }
 }
 
-/// A file to read opens, and is not the one that is written.
+/// The name that stands before verdicts.
+fn title<'a>(rt: &HostRuntime, name: &'a str) -> Result<Option<String>, Stop<'a>> {
+    if name == STANDARD {
+        return Ok(None);
+    }
+    match escaped(rt.alloc(), name) {
+        Ok(title) => Ok(Some(title)),
+        Err(error) => Err(Stop::Input(name, Some(Error::from(error)))),
+    }
+}
+
+/// A file to read opens, and is none of those that are written.
 fn try_input<'a>(rt: &HostRuntime, order: &Order, name: &'a str) -> Result<(), Stop<'a>> {
-    let Ok(file) = File::open(rt, name) else {
-        return Err(Stop::Input(name));
+    let input = if name == STANDARD {
+        fs::metadata(rt, "/dev/stdin")
+    } else {
+        match File::open(rt, name) {
+            Ok(file) => file.metadata(),
+            Err(error) => return Err(Stop::Input(name, Some(error))),
+        }
     };
-    let (Ok(input), Some(output)) = (file.metadata(), &order.output) else {
+    let Ok(input) = input else {
         return Ok(());
     };
-    match fs::metadata(rt, output.as_str()) {
-        Ok(output) if is_same_file(&input, &output) => Err(Stop::Both(name)),
-        _ => Ok(()),
+    if is_written(rt, &input, "/dev/stderr") {
+        return Err(Stop::Both(name));
     }
-}
-
-fn is_same_file(one: &Metadata, other: &Metadata) -> bool {
-    one.is_file() && one.dev() == other.dev() && one.ino() == other.ino()
-}
-
-/// What the output goes to.
-fn sink<'a>(rt: &HostRuntime, order: &'a Order) -> Result<Sink, Stop<'a>> {
-    let Some(name) = &order.output else {
-        return Ok(Sink::Stdout(rt.stdout()));
+    let output = order.output.as_str();
+    let output = if output == STANDARD {
+        "/dev/stdout"
+    } else {
+        output
     };
-    match File::create(rt, name.as_str()) {
-        Ok(file) => Ok(Sink::File(file)),
-        Err(_) => Err(Stop::Output(name.as_str())),
+    if order.task != Task::Check && is_written(rt, &input, output) {
+        return Err(Stop::Both(name));
+    }
+    Ok(())
+}
+
+/// Whether a file is what this name stands for.
+fn is_written(rt: &HostRuntime, file: &Metadata, name: &str) -> bool {
+    match fs::metadata(rt, name) {
+        Ok(output) => { file.is_file() && file.dev() == output.dev() && file.ino() == output.ino() }
+        Err(_) => false,
     }
 }
 
 /// How many bytes are to be read, where progress is told: standard error is a terminal to which no
 /// output goes, and all that is read is files.
 fn total(rt: &HostRuntime, order: &Order) -> Option<u64> {
-    let is_apart = order.output.is_some()
+    let is_apart = order.output.as_str() != STANDARD
         || order.task == Task::Check
         || !rt.stdout().is_terminal();
     if !rt.stderr().is_terminal() || !is_apart {
         return None;
     }
-    if order.inputs.is_empty() {
-        return size(rt, "/dev/stdin");
-    }
     let mut total = 0u64;
     for name in order.inputs.iter() {
-        total = total.saturating_add(size(rt, name.as_str())?);
+        let name = name.as_str();
+        let name = if name == STANDARD { "/dev/stdin" } else { name };
+        total = total.saturating_add(size(rt, name)?);
     }
     Some(total)
 }

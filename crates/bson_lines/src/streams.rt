@@ -1,4 +1,4 @@
-//! What is read and written: standard streams and files.
+//! What is read and written: standard streams and files, with the cause where that fails.
 use std::fs::File;
 use std::io;
 use std::io::{Read, Write};
@@ -22,23 +22,65 @@ impl Read for Source {
 
 /// What the output is written to.
 #[derive(Drop)]
-pub enum Sink {
+pub enum Target {
     Stdout(Stdout),
     File(File),
 }
 
-impl Write for Sink {
+impl Target {
+    /// Waits until the system has kept all of a file.
+    pub fn sync(&self) -> io::Result<()> {
+        match self {
+            Target::Stdout(_) => Ok(()),
+            Target::File(file) => file.sync_all(),
+        }
+    }
+}
+
+impl Write for Target {
     fn write(&mut self, buf: &[u8]) -> io::Result<usize> {
         match self {
-            Sink::Stdout(stdout) => stdout.write(buf),
-            Sink::File(file) => file.write(buf),
+            Target::Stdout(stdout) => stdout.write(buf),
+            Target::File(file) => file.write(buf),
         }
     }
 
     fn flush(&mut self) -> io::Result<()> {
         match self {
-            Sink::Stdout(stdout) => stdout.flush(),
-            Sink::File(file) => file.flush(),
+            Target::Stdout(stdout) => stdout.flush(),
+            Target::File(file) => file.flush(),
         }
+    }
+}
+
+/// The same, which keeps why a write failed.
+#[derive(Drop)]
+pub struct Sink {
+    pub target: Target,
+    pub error: Option<io::Error>,
+}
+
+impl Sink {
+    pub fn new(target: Target) -> Sink {
+        Sink {
+            target,
+            error: None,
+        }
+    }
+}
+
+impl Write for Sink {
+    fn write(&mut self, buf: &[u8]) -> io::Result<usize> {
+        match self.target.write(buf) {
+            Ok(count) => Ok(count),
+            Err(error) => {
+                self.error = Some(error);
+                Err(error)
+            }
+        }
+    }
+
+    fn flush(&mut self) -> io::Result<()> {
+        self.target.flush()
     }
 }

@@ -2,7 +2,8 @@
 
 /// Where the arguments ask for nothing that it does.
 pub const USAGE: &str =
-    "usage: bson_lines canonical|relaxed|show|check [--keep-going] [-o FILE] [FILE ..]";
+    "usage: bson_lines canonical|relaxed|show|check [--keep-going] [-o FILE] [FILE ..]
+see bson_lines --help";
 
 /// What stands on standard error where there is no memory for anything else.
 pub const OUT_OF_MEMORY: &str = "bson_lines: out of memory";
@@ -18,11 +19,18 @@ Reads MongoDB Extended JSON v2, a document a line, from the files or from standa
   show        the value as the library prints it, which is no JSON
   check       nothing; refused lines are told
 
-  --keep-going   a refused line is told and left out, and the run goes on; without it the run ends there
-  -o FILE        the output goes to FILE, which is made or emptied, and not to standard output
+  --keep-going            a refused line is told and left out, and the run goes on; without it the run ends there
+  -o FILE, --output FILE  the output goes to FILE, and not to standard output: whole at the end, or not at all
+  -h, --help; -v, --version
+
+Options stand anywhere before a word --, and FILE - is a standard stream. A file that is read and written is refused.
+-o writes FILE.N.part beside FILE, N the process's number, and renames it at the end; where the run ends before, FILE
+stays as it was, and the part is removed (but not where a signal ends the program: ./bson does that).
 
 Blank lines give nothing and count. A byte order mark at the start of a file is passed over. Lines are numbered from 1
-in each file. Memory is that of the longest line. On a terminal a line of progress stands below while files are read.
+in each file, and told as FILE:LINE: where they come from a file. Columns count bytes from 1. Memory is that of the
+longest line. On a terminal a line of progress stands below while files are read.
 
-Status: 0 done, and no line was refused; 1 a line was refused, or the run could not go on, as standard error tells;
-2 other arguments, and nothing was read.";
+Status: 0 done, and no line was refused; 1 a line was refused, or the run could not go on, as standard error tells: the
+lines before it were written, and with --keep-going all others; 2 other arguments, and nothing was read; 141 nobody
+reads the output any more, which is told nowhere.";
