@@ -5,19 +5,30 @@
 
 The library is looked for in the variable VBSON_LIBRARY (its path), beside this file, in ../out/lib (where ./vbson build
 puts it) and where the system keeps libraries. It runs on x86-64 Linux with glibc and a processor with SSE4.2.
-Texts are `str`, or `bytes` in UTF-8. Any number of threads may call at once.
+Texts are `str`, or `bytes` (any other that lends its bytes) in UTF-8; anything else is a TypeError. Any number of threads
+may call at once.
 """
 import ctypes
 import ctypes.util
+import datetime
+import decimal
 import os
 import platform
+from typing import Union
 
 __all__ = ["CANONICAL", "RELAXED", "SHOW", "Error", "NotJson", "BadObjectId", "NotExtendedJson", "NoSuchText", "NoText",
-           "convert", "same", "hash_of", "decimal128", "decimal128_text", "object_id", "object_id_text", "date_time",
-           "date_time_text", "version"]
+           "convert", "same", "hash_of", "decimal128", "decimal128_text", "decimal_of", "object_id", "object_id_text",
+           "date_time", "date_time_text", "datetime_of", "version"]
+
+_Bytes = Union[bytes, bytearray, memoryview]
+_Given = Union[str, bytes, bytearray, memoryview]
 
 # What `convert` writes: the canonical form, the relaxed form, or the value for people to read.
 CANONICAL, RELAXED, SHOW = 0, 1, 2
+_MODES = {"canonical": CANONICAL, "relaxed": RELAXED, "show": SHOW}
+
+_EPOCH = datetime.datetime(1970, 1, 1, tzinfo=datetime.timezone.utc)
+_MILLISECOND = datetime.timedelta(milliseconds=1)
 
 DONE, NO_MODE, NOT_JSON, BAD_OBJECT_ID, NOT_EXTENDED_JSON = 0, 1, 2, 3, 4
 OUT_OF_MEMORY, NO_SUCH_TEXT, NO_TEXT, NO_ROOM, DIFFERENT = 5, 6, 7, 8, 9
@@ -102,11 +113,32 @@ _free = ctypes.CDLL(None).free
 _free.argtypes, _free.restype = [ctypes.c_void_p], None
 
 
+def _lent(value, what):
+    try:
+        return bytes(memoryview(value))
+    except TypeError:
+        raise TypeError(f"{what}, and not {type(value).__name__}") from None
+
+
 def _bytes(text):
     if isinstance(text, str):
         # (a lone surrogate is no UTF-8, and is refused as any other such bytes)
         return text.encode("utf-8", "surrogatepass")
-    return bytes(memoryview(text))
+    return _lent(text, "a text is str or bytes")
+
+
+def _number(value, what):
+    if isinstance(value, bool) or not isinstance(value, int):
+        raise TypeError(f"{what}, and not {type(value).__name__}")
+    return value
+
+
+def _mode(mode):
+    if isinstance(mode, str):
+        mode = _MODES.get(mode, -1)
+    if _number(mode, "a mode is CANONICAL, RELAXED, SHOW or its name") not in _MODES.values():
+        raise ValueError("no such mode: it is CANONICAL, RELAXED, SHOW, or 'canonical', 'relaxed', 'show'")
+    return int(mode)
 
 
 def _wants_done(status):
@@ -115,22 +147,20 @@ def _wants_done(status):
         raise error(words)
 
 
-def version():
+def version() -> str:
     """The library's version, as '0.2.0'."""
     number = _library.vbson_version()
     return f"{number // 10000}.{number // 100 % 100}.{number % 100}"
 
 
-def convert(text, mode=CANONICAL):
-    """The text, in the mode, of the value that a text of Extended JSON means.
+def convert(text: _Given, mode: Union[int, str] = CANONICAL) -> str:
+    """The text, in the mode, of the value that a text of Extended JSON means. A mode goes by its number or its name.
 
     Keys come out in ascending order at every depth; of a key that stands twice the last value counts.
     What is written is the normal form: a decimal "sNaN" or "-NaN" becomes "NaN", which same() finds different.
     Raises NotJson, BadObjectId, NotExtendedJson (also at a finite double, as 1.5 or 0.0), and MemoryError.
     """
-    if mode not in (CANONICAL, RELAXED, SHOW):
-        raise ValueError("no such mode")
-    given, out = _bytes(text), _Text((ctypes.c_uint8 * 1)(), 0, 0)
+    mode, given, out = _mode(mode), _bytes(text), _Text((ctypes.c_uint8 * 1)(), 0, 0)
     _wants_done(_library.vbson_convert(mode, given, len(given), ctypes.byref(out)))
     try:
         return ctypes.string_at(out.bytes, out.len).decode()
@@ -138,7 +168,7 @@ def convert(text, mode=CANONICAL):
         _free(out.bytes)
 
 
-def same(a, b):
+def same(a: _Given, b: _Given) -> bool:
     """Whether two texts of Extended JSON mean the same value. Raises as convert does, for the first text first."""
     a, b = _bytes(a), _bytes(b)
     status = _library.vbson_same(a, len(a), b, len(b))
@@ -147,7 +177,7 @@ def same(a, b):
     return status == DONE
 
 
-def hash_of(text):
+def hash_of(text: _Given) -> int:
     """The hash of the value that a text means: one number for all texts that `same` finds the same.
 
     Raises as convert does.
@@ -169,42 +199,70 @@ def _printed(call, value):
     return room.raw[:size.value].decode()
 
 
-def _of_size(value, size):
-    value = bytes(memoryview(value))
+def _of_size(value, size, what):
+    value = _lent(value, f"{what} is {size} bytes")
     if len(value) != size:
-        raise ValueError(f"{len(value)} bytes, and not {size}")
+        raise ValueError(f"{what} is {size} bytes, and not {len(value)}")
     return value
 
 
-def decimal128(text):
-    """The 16 bytes, the lowest first, of the decimal that a text denotes. Raises NoSuchText; no value is rounded."""
-    return _parsed(_library.vbson_decimal128_parse, text, 16)
+def decimal128(value: Union[_Given, decimal.Decimal]) -> bytes:
+    """The 16 bytes, the lowest first, of the decimal that a text denotes, or of a decimal.Decimal.
+
+    No value is rounded: NoSuchText where it would have to be, and where the text is no decimal's.
+    """
+    given = str(value) if isinstance(value, decimal.Decimal) else value
+    return _parsed(_library.vbson_decimal128_parse, given, 16)
 
 
-def decimal128_text(value):
+def decimal128_text(value: _Bytes) -> str:
     """The text of a decimal of 16 bytes."""
-    return _printed(_library.vbson_decimal128_print, _of_size(value, 16))
+    return _printed(_library.vbson_decimal128_print, _of_size(value, 16, "a decimal"))
 
 
-def object_id(text):
+def decimal_of(value: _Bytes) -> decimal.Decimal:
+    """The decimal.Decimal of a decimal of 16 bytes, exactly: digits, exponent and sign, whatever the context is."""
+    return decimal.Decimal(decimal128_text(value))
+
+
+def object_id(text: _Given) -> bytes:
     """The 12 bytes of the object id whose 24 hexadecimal digits the text is. Raises NoSuchText."""
     return _parsed(_library.vbson_object_id_parse, text, 12)
 
 
-def object_id_text(value):
+def object_id_text(value: _Bytes) -> str:
     """The 24 lower-case hexadecimal digits of an object id of 12 bytes."""
-    return _printed(_library.vbson_object_id_print, _of_size(value, 12))
+    return _printed(_library.vbson_object_id_print, _of_size(value, 12, "an object id"))
 
 
-def date_time(text):
-    """The milliseconds since 1970-01-01T00:00:00Z of the moment that a text of RFC 3339 names. Raises NoSuchText."""
-    given, out = _bytes(text), ctypes.c_int64()
+def date_time(value: Union[_Given, datetime.datetime]) -> int:
+    """The milliseconds since 1970-01-01T00:00:00Z of the moment that a text of RFC 3339 names, or of a datetime.
+
+    Raises NoSuchText. A datetime has a time zone and whole milliseconds, or it is a ValueError.
+    """
+    if isinstance(value, datetime.datetime):
+        return _millis(value)
+    given, out = _bytes(value), ctypes.c_int64()
     _wants_done(_library.vbson_date_time_parse(given, len(given), ctypes.byref(out)))
     return out.value
 
 
-def date_time_text(millis):
+def _millis(moment):
+    if moment.utcoffset() is None:
+        raise ValueError("a datetime with no time zone names no moment")
+    millis, rest = divmod(moment - _EPOCH, _MILLISECOND)
+    if rest:
+        raise ValueError("a datetime with a part of a millisecond would be rounded")
+    return millis
+
+
+def date_time_text(millis: int) -> str:
     """The text of RFC 3339, in UTC, of so many milliseconds after 1970-01-01T00:00:00Z. Raises NoText."""
-    if not -2**63 <= millis < 2**63:
+    if not -2**63 <= _number(millis, "a moment is an int of milliseconds") < 2**63:
         raise NoText("no text")
     return _printed(_library.vbson_date_time_print, millis)
+
+
+def datetime_of(millis: int) -> datetime.datetime:
+    """The datetime, in UTC, of so many milliseconds after 1970-01-01T00:00:00Z. OverflowError outside the years 1 to 9999."""
+    return _EPOCH + _number(millis, "a moment is an int of milliseconds") * _MILLISECOND

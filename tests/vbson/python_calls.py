@@ -1,7 +1,10 @@
 """Each call of vbson.py, and each error. The last line is 'N passed, M failed'."""
+import datetime
+import decimal
 import struct
 import sys
 import threading
+import typing
 
 import signatures
 import vbson
@@ -65,8 +68,20 @@ def try_texts():
     want("a bytearray", vbson.convert(bytearray(b"[1]"), vbson.RELAXED), "[1]")
     raises("no text", vbson.NotJson, vbson.convert, "")
     raises("a lone surrogate", vbson.NotJson, vbson.convert, '"\ud800"')
-    raises("a number", TypeError, vbson.convert, 5)
-    raises("no mode", ValueError, vbson.convert, "{}", 3)
+    for name, mode in (("canonical", vbson.CANONICAL), ("relaxed", vbson.RELAXED), ("show", vbson.SHOW)):
+        want(f"the mode {name}", vbson.convert("[5]", name), vbson.convert("[5]", mode))
+    for it in (5, None, {"a": 1}, ["{}"], 1.5, object()):
+        for call in (vbson.convert, vbson.hash_of, vbson.decimal128, vbson.object_id, vbson.date_time):
+            raises(f"{call.__name__} of {it}", TypeError, call, it)
+        raises(f"the same as {it}", TypeError, vbson.same, "{}", it)
+    for mode in (3, -1, 2**32, "", "Canonical", "0"):
+        raises(f"no mode {mode}", ValueError, vbson.convert, "{}", mode)
+    for mode in (True, False, 1.0, None, b"show"):
+        raises(f"no mode {mode!r}", TypeError, vbson.convert, "{}", mode)
+    try:
+        vbson.convert({"a": 1})
+    except TypeError as it:
+        want("the words for a dict", str(it), "a text is str or bytes, and not dict")
     raises("a bad id", vbson.BadObjectId, vbson.convert, '{"$oid":"5"}')
     raises("a double", vbson.NotExtendedJson, vbson.convert, "1.5")
     want("same", vbson.same('{"a":1,"b":2}', '{"b":2,"a":1}'), True)
@@ -97,6 +112,53 @@ def try_small_values():
     raises("no moment", vbson.NoSuchText, vbson.date_time, "2020")
     raises("a moment of no text", vbson.NoText, vbson.date_time_text, 2**62)
     raises("a moment past 64 bits", vbson.NoText, vbson.date_time_text, 2**63)
+    for it in (True, 1.0, "5", None):
+        raises(f"no moment {it!r}", TypeError, vbson.date_time_text, it)
+        raises(f"no datetime {it!r}", TypeError, vbson.datetime_of, it)
+    for it in ("0" * 16, 16, None):
+        raises(f"no bytes {it!r}", TypeError, vbson.decimal128_text, it)
+        raises(f"no bytes {it!r} of an object id", TypeError, vbson.object_id_text, it)
+
+
+def try_decimals():
+    with decimal.localcontext() as context:
+        # (no context rounds what goes in or comes out)
+        context.prec = 2
+        for text in ("19.90", "-0E-6176", "9.999999999999999999999999999999999E+6144", "0E+6111", "1E-6176", "Infinity", "-Infinity",
+                     "1234567890123456789012345678901234", "-1E+3", "0.000001"):
+            value = decimal.Decimal(text)
+            want(f"{text} there", vbson.decimal128(value), vbson.decimal128(text))
+            want(f"{text} and back", vbson.decimal_of(vbson.decimal128(value)).as_tuple(), value.as_tuple())
+        want("NaN", vbson.decimal_of(vbson.decimal128("NaN")).is_nan(), True)
+        for text in ("12345678901234567890123456789012345", "1E+6145", "1E-6177", "NaN123"):
+            raises(f"the decimal {text}", vbson.NoSuchText, vbson.decimal128, decimal.Decimal(text))
+
+
+def try_datetimes():
+    zone = datetime.timezone(datetime.timedelta(hours=5, minutes=30))
+    utc = datetime.timezone.utc
+    for moment, millis in ((datetime.datetime(2020, 6, 1, 0, 42, 40, 292000, utc), 1590972160292),
+                           (datetime.datetime(1970, 1, 1, 5, 30, tzinfo=zone), 0),
+                           (datetime.datetime(1969, 12, 31, 23, 59, 59, 999000, utc), -1),
+                           (datetime.datetime(1, 1, 1, tzinfo=utc), -62135596800000),
+                           (datetime.datetime(9999, 12, 31, 23, 59, 59, 999000, utc), 253402300799999)):
+        want(f"{moment} there", vbson.date_time(moment), millis)
+        want(f"{moment} and back", vbson.datetime_of(millis), moment)
+        want(f"{moment} in UTC", vbson.datetime_of(millis).utcoffset(), datetime.timedelta(0))
+        want(f"{moment} by its text", vbson.date_time(vbson.date_time_text(millis)), millis)
+    raises("no time zone", ValueError, vbson.date_time, datetime.datetime(2020, 1, 1))
+    raises("a microsecond", ValueError, vbson.date_time, datetime.datetime(2020, 1, 1, 0, 0, 0, 1, utc))
+    raises("a date", TypeError, vbson.date_time, datetime.date(2020, 1, 1))
+    for millis in (-62135596800001, 253402300800000, 2**63, -2**80):
+        raises(f"no datetime at {millis}", OverflowError, vbson.datetime_of, millis)
+
+
+def try_types():
+    for name in vbson.__all__:
+        call = getattr(vbson, name)
+        if not isinstance(call, (int, type)):
+            count = call.__code__.co_argcount
+            want(f"the types of {name}", len(typing.get_type_hints(call)), count + 1)
 
 
 def try_threads():
@@ -119,6 +181,9 @@ want("version", vbson.version(), signatures.version())
 try_texts()
 try_hashes()
 try_small_values()
+try_decimals()
+try_datetimes()
+try_types()
 try_threads()
 print(f"{passed} passed, {failed} failed")
 sys.exit(1 if failed else 0)
