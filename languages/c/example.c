@@ -1,6 +1,9 @@
 /* The canonical form of a text, and whether it means the same.
  *
- *     cc example.c $(pkg-config --cflags --libs vbson) && ./a.out
+ *     export PKG_CONFIG_PATH=PREFIX/lib/pkgconfig
+ *     cc example.c $(pkg-config --cflags --libs vbson) -Wl,-rpath,$(pkg-config --variable=libdir vbson) && ./a.out
+ *
+ * PREFIX is that of ./vbson install, or languages/out. The last word of cc tells the program where libvbson.so.0 is.
  */
 #include <stdio.h>
 #include <string.h>
@@ -9,13 +12,13 @@
 int main(void) {
     const char *text = "{\"n\": 5, \"at\": {\"$date\": \"1970-01-01T00:00:00Z\"}}";
     vbson_text canonical = VBSON_TEXT_NONE;
-    uint32_t status = vbson_convert(VBSON_CANONICAL, (const uint8_t *)text, strlen(text), &canonical);
+    uint32_t status = vbson_convert(VBSON_CANONICAL, vbson_bytes(text), strlen(text), &canonical);
     if (status != VBSON_DONE) {
         fprintf(stderr, "%s\n", vbson_status_text(status));
         return 1;
     }
-    printf("%s\n", (const char *)canonical.bytes);
-    status = vbson_same((const uint8_t *)text, strlen(text), canonical.bytes, canonical.len);
+    printf("%s\n", vbson_chars(&canonical));
+    status = vbson_same(vbson_bytes(text), strlen(text), canonical.bytes, canonical.len);
     printf("%s\n", status == VBSON_DONE ? "the same" : vbson_status_text(status));
     vbson_text_free(&canonical);
     return 0;

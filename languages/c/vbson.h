@@ -26,7 +26,10 @@
 #include <stdlib.h>
 
 #ifdef __cplusplus
+#define VBSON_CAST(type, value) (reinterpret_cast<type>(value))
 extern "C" {
+#else
+#define VBSON_CAST(type, value) ((type)(value))
 #endif
 
 #define VBSON_VERSION 200 /* 10000 * major + 100 * minor + patch */
@@ -83,12 +86,22 @@ typedef struct vbson_text {
     size_t len;
 } vbson_text;
 
-#define VBSON_TEXT_NONE { (const uint8_t *)"", 0, 0 }
+#define VBSON_TEXT_NONE { VBSON_CAST(const uint8_t *, ""), 0, 0 }
+
+/* The bytes of a C string, as the calls take them; its length is strlen's. */
+static inline const uint8_t *vbson_bytes(const char *text) {
+    return VBSON_CAST(const uint8_t *, text);
+}
+
+/* The text as a C string. */
+static inline const char *vbson_chars(const vbson_text *text) {
+    return VBSON_CAST(const char *, text->bytes);
+}
 
 /* Frees the block, if there is one; afterwards the text is VBSON_TEXT_NONE. */
 static inline void vbson_text_free(vbson_text *text) {
-    if (text->size != 0) free((void *)(uintptr_t)text->bytes);
-    text->bytes = (const uint8_t *)"";
+    if (text->size != 0) free(VBSON_CAST(void *, VBSON_CAST(uintptr_t, text->bytes)));
+    text->bytes = vbson_bytes("");
     text->size = 0;
     text->len = 0;
 }

@@ -66,6 +66,16 @@ impl fmt::Display for ObjectId {
     }
 }
 
+/// The text of RFC 3339, in UTC; the milliseconds, as `253402300800000 ms`, where `to_rfc3339` has none.
+impl fmt::Display for DateTime {
+    fn fmt(&self, f: &mut fmt::Formatter<'_>) -> fmt::Result {
+        match call::date_time_print(self.0) {
+            Ok(printed) => f.pad(text_of(&printed)),
+            Err(_) => f.pad(&format!("{} ms", self.0)),
+        }
+    }
+}
+
 fn text_of((room, len): &Printed) -> &str {
     str::from_utf8(&room[..*len]).expect("the library writes UTF-8")
 }

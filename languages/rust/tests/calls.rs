@@ -44,6 +44,9 @@ fn small_values_come_back_from_their_texts() {
     assert_eq!((id.0[0], id.to_string().as_str()), (0x53, "53e37d08776f724e42000000"));
     let moment: DateTime = "2020-06-01T00:42:40.292Z".parse().unwrap();
     assert_eq!((moment.0, moment.to_rfc3339().as_deref()), (1590972160292, Ok("2020-06-01T00:42:40.292Z")));
+    assert_eq!(format!("{moment:>26}"), "  2020-06-01T00:42:40.292Z");
+    assert_eq!(DateTime(253402300800000).to_string(), "253402300800000 ms");
+    assert_eq!(DateTime(-1).to_string(), "1969-12-31T23:59:59.999Z");
 }
 
 #[test]
