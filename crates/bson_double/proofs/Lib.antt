@@ -1,0 +1,11 @@
+pub mod Patterns
+pub mod Between
+pub mod Only
+pub mod Found
+pub mod Scaled
+pub mod Exists
+pub mod Words
+pub mod LimbValues
+pub mod Compared
+pub mod Dense
+pub mod Taken

@@ -1,0 +1,4 @@
+pub mod Doubles
+pub mod Shortest
+pub mod Text
+pub mod Limbs

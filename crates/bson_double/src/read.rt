@@ -1,0 +1,72 @@
+//! Reading a text as a finite double.
+ghost use Rattle.std.specs.Prelude.{◌≡◌, MatchResult, IfErr, Some, None, false, IsTrue, IsFalse};
+ghost use Rattle.fast_float.specs.Parse.{completes_number, without_sign, is_infinity_text, is_nan_text};
+ghost use Rattle.bson_double.specs.Doubles.{is_finite, is_number, finite_of, parse_fault};
+
+use thiserror::Error;
+
+/// Why a text means no finite double.
+#[derive(Clone, Copy, Debug, PartialEq, Eq, Error)]
+pub enum ParseError {
+    /// The text is no number: no sign or one, digits with at most one point and at least one digit,
+    /// and perhaps `e` or `E` with a whole number. Words, as `Infinity`, and spaces are none.
+    #[error("the text is no number")]
+    NotANumber,
+    /// The double nearest to the number is an infinity: its size is at least 2^1024 - 2^970.
+    #[error("the number is too large for a double")]
+    OutOfRange,
+}
+
+/// Whether the double of a pattern is neither an infinity nor a NaN.
+pub fn is_finite(pattern: u64) -> bool
+    ensures { result ≡ is_finite pattern }
+{
+    pattern & 0x7FFF_FFFF_FFFF_FFFF < 0x7FF0_0000_0000_0000
+}
+
+fn without_sign(text: &[u8]) -> &[u8]
+    ensures { result.now ≡ without_sign text.now }
+{
+    match text {
+        [b'+' | b'-', rest @ ..] => rest,
+        _ => text,
+    }
+}
+
+// An `i` or an `n`, in either case, stands where the first digit or point of a number would.
+fn begins_a_word(unsigned: &[u8]) -> bool
+    ensures some { IsTrue result → completes_number 0 unsigned.now ≡ false }
+    ensures none { IsFalse result → (is_infinity_text unsigned.now ≡ false) × (is_nan_text unsigned.now ≡ false) }
+{
+    match unsigned {
+        [first, ..] => matches!(first.to_ascii_lowercase(), b'i' | b'n'),
+        [] => false,
+    }
+}
+
+/// The pattern of the double nearest to the number that a text writes, of two as near the one whose
+/// pattern is even (IEEE 754-2008 section 4.3.1). `-0` is the negative zero, and so is a negative
+/// number that is nearer to zero than to any other double.
+///
+/// `NotANumber` comes where the text writes no number, and `OutOfRange` where the nearest double is
+/// an infinity.
+///
+/// ```
+/// let half = double_of_text(b"0.5")?; // 0x3FE0_0000_0000_0000
+/// ```
+pub fn double_of_text(text: &[u8]) -> Result<u64, ParseError>
+    ensures ok { MatchResult result (λ p. finite_of text.now ≡ Some p) (λ _. finite_of text.now ≡ None) }
+    ensures error { IfErr result (λ e. e ≡ parse_fault text.now) }
+{
+    if begins_a_word(without_sign(text)) {
+        return Err(ParseError::NotANumber);
+    }
+    let parsed: Result<f64, fast_float::Error> = fast_float::parse(text);
+    let Ok(number) = parsed else {
+        return Err(ParseError::NotANumber);
+    };
+    if !number.is_finite() {
+        return Err(ParseError::OutOfRange);
+    }
+    Ok(number.to_bits())
+}
