@@ -1,0 +1,53 @@
+-- The type that a byte names.
+use Rattle.std.proofs.Common.{◌≡◌, ◌↔◌, ℕ, eqb, cond, true, false, Bool, List, [], ◌∷◌, Option, Some, None, refl, sym, ap, ◌∙◌, arith, inl, inr}
+use Rattle.std.proofs.lemmas.Bool.{eqb-true}
+use Rattle.bson_scalar.specs.declared.spec.ElementType.{ElementType}
+use Rattle.bson_scalar.specs.declared.spec.ElementType.TheVariants as kind
+use Rattle.bson_scalar.specs.Tags.{tag_of}
+use Rattle.bson_bytes.specs.Tags.{named, all_types, kind_of}
+use Rattle.bson_bytes.proofs.PartLaws.{chosen}
+
+named_from : (t : ℕ) (ks : List ElementType) (k : ElementType) → named t ks ≡ Some k → tag_of k ≡ t
+named_from t [] k e = absurd cc
+named_from t (j ∷ ks) k e =
+    elim (chosen (eqb t (tag_of j)) (Some j) (named t ks) (Some k) e) [
+      | inl y ↦ let same : j ≡ k = cc in ap tag_of (sym same) ∙ sym (eqb-true t (tag_of j) y.0)
+      | inr m ↦ named_from t ks k m.1
+    ]
+
+pub kind_again : (k : ElementType) → kind_of (tag_of k) ≡ Some k
+unfolding kind_of
+kind_again kind.Double = refl
+kind_again kind.String = refl
+kind_again kind.EmbeddedDocument = refl
+kind_again kind.Array = refl
+kind_again kind.Binary = refl
+kind_again kind.Undefined = refl
+kind_again kind.ObjectId = refl
+kind_again kind.Boolean = refl
+kind_again kind.DateTime = refl
+kind_again kind.Null = refl
+kind_again kind.RegularExpression = refl
+kind_again kind.DbPointer = refl
+kind_again kind.JavaScriptCode = refl
+kind_again kind.Symbol = refl
+kind_again kind.JavaScriptCodeWithScope = refl
+kind_again kind.Int32 = refl
+kind_again kind.Timestamp = refl
+kind_again kind.Int64 = refl
+kind_again kind.Decimal128 = refl
+kind_again kind.MaxKey = refl
+kind_again kind.MinKey = refl
+
+named_is : (t : ℕ) (r o : Option ElementType) → o ≡ kind_of t → ((k : ElementType) → (r ≡ Some k) ↔ (tag_of k ≡ t)) → ((k : ElementType) → o ≡ Some k → tag_of k ≡ t) → r ≡ o
+named_is t (Some k) o e h f = sym (e ∙ ap kind_of (sym ((h k).0 refl)) ∙ kind_again k)
+named_is t None (Some k) e h f = (h k).1 (f k refl)
+named_is t None None e h f = refl
+
+pub kind_is : (t : ℕ) (r : Option ElementType) → ((k : ElementType) → (r ≡ Some k) ↔ (tag_of k ≡ t)) → r ≡ kind_of t
+unfolding kind_of
+kind_is t r h = named_is t r (kind_of t) refl h (λ k e. named_from t all_types k e)
+
+pub tag_from : (t : ℕ) (k : ElementType) → kind_of t ≡ Some k → tag_of k ≡ t
+unfolding kind_of
+tag_from t k e = named_from t all_types k e

@@ -1,0 +1,152 @@
+-- Which bytes are which document: BSON 1.1 (bsonspec.org), a production a line. The number is the most documents, arrays
+-- and scopes that stand in each other. The keys of an array's elements are free, and dropped. Of a key that stands twice
+-- in a document the last value counts, at the first place.
+use Rattle.std.specs.Prelude.{◌≡◌, ◌≢◌, ℕ, suc, ◌+◌, ◌^◌, ◌<◌, List, [], ◌∷◌, ◌++◌, length, cond, true, false}
+use Rattle.std.specs.Int.{Width, w32, w64, to_le_bytes, cast_signed}
+use Rattle.std.specs.List.{AllByRecursion}
+use Rattle.std.specs.Str.{bytes_eq, is_utf8}
+use Rattle.bson_scalar.specs.declared.spec.ElementType.{ElementType}
+use Rattle.bson_scalar.specs.declared.spec.ElementType.TheVariants as tag
+use Rattle.bson_scalar.specs.Subtype.{subtype_of}
+use Rattle.bson_scalar.specs.Tags.{tag_of}
+use Rattle.bson_wrapper.specs.Scalar as kind
+use Rattle.bson_model.specs.Value.{Value, Values, no_values, value, Pairs, no_pairs, pair, scalar, code_scope, array}
+use Rattle.bson_model.specs.Value.{document}
+
+-- ---- numbers, names and texts
+
+-- a whole number, its low byte first
+unfoldable pub le : Width → ℕ → List ℕ
+le w n = to_le_bytes w n
+
+-- no byte is 0
+abbrev pub NoZero : List ℕ → Type 0
+NoZero k = AllByRecursion (λ b. b ≢ 0) k
+
+-- cstring ::= (byte*) 0x00, without its 0: UTF-8 with no 0 in it
+pub record IsName (k : List ℕ) : Type 0 where
+  pub utf8 : is_utf8 k ≡ true
+  pub no_zero : NoZero k
+
+-- a length of BSON: an int32 that is not negative
+abbrev pub IsSize : ℕ → Type 0
+IsSize n = n < 2 ^ 31
+
+-- string ::= int32 (byte*) 0x00: the number counts the bytes and the 0
+abbrev pub text_bytes : List ℕ → List ℕ
+text_bytes s = le w32 (length s + 1) ++ (s ++ 0 ∷ [])
+
+-- what is a string: UTF-8 of a length that fits
+abbrev pub IsText : List ℕ → Type 0
+IsText s = (is_utf8 s ≡ true) × IsSize (length s + 1)
+
+-- document ::= int32 e_list 0x00, around the bytes of a list of elements: the number counts itself and the 0 too
+abbrev pub framed : List ℕ → List ℕ
+framed list = le w32 (length list + 5) ++ (list ++ 0 ∷ [])
+
+-- code_w_s ::= int32 string document: the number counts itself too
+abbrev pub scope_size : List ℕ → List ℕ → ℕ
+scope_size s bytes = 4 + (length (text_bytes s) + length bytes)
+
+abbrev pub scope_bytes : List ℕ → List ℕ → List ℕ
+scope_bytes s bytes = le w32 (scope_size s bytes) ++ (text_bytes s ++ bytes)
+
+-- binary ::= int32 subtype (byte*)
+abbrev pub binary_bytes : ℕ → List ℕ → List ℕ
+binary_bytes b s = le w32 (length s) ++ b ∷ s
+
+-- a binary of the subtype 2, which has a length of its own before its bytes
+abbrev pub old_binary_bytes : List ℕ → List ℕ
+old_binary_bytes s = le w32 (length s + 4) ++ 2 ∷ (le w32 (length s) ++ s)
+
+-- ---- elements as pairs
+
+-- a key that is there keeps its place and gets the value; a new one goes last
+abbrev pub insert_value : List ℕ → Value → Pairs → Pairs
+insert_value k v no_pairs = pair k v no_pairs
+insert_value k v (pair l w ps) = cond (bytes_eq k l) (pair l v ps) (pair l w (insert_value k v ps))
+
+-- the pairs that are done, with those that follow put in turn
+abbrev pub settle : Pairs → Pairs → Pairs
+settle done no_pairs = done
+settle done (pair k v ps) = settle (insert_value k v done) ps
+
+-- one pair a key: the last value, at the first place
+abbrev pub one_each : Pairs → Pairs
+one_each ps = settle no_pairs ps
+
+-- the values of the elements, without their keys
+abbrev pub values : Pairs → Values
+values no_pairs = no_values
+values (pair k v ps) = value v (values ps)
+
+-- ---- the productions
+
+mutual
+  -- document ::= int32 e_list 0x00
+  pub data IsDocument : ℕ → List ℕ → Pairs → Type 0 where
+    is_document : (d : ℕ) (list : List ℕ) (ps : Pairs) → IsList d list ps → IsSize (length list + 5)
+        → IsDocument (suc d) (framed list) ps
+
+  -- e_list ::= "" | element e_list; element ::= tag e_name value
+  pub data IsList : ℕ → List ℕ → Pairs → Type 0 where
+    is_empty : (d : ℕ) → IsList d [] no_pairs
+    is_element : (d : ℕ) (t : ElementType) (k bytes list : List ℕ) (v : Value) (ps : Pairs) → IsName k
+        → IsValue d t bytes v → IsList d list ps
+        → IsList d (tag_of t ∷ (k ++ 0 ∷ (bytes ++ list))) (pair k v ps)
+
+  -- what stands behind the tag and the name of an element
+  pub data IsValue : ℕ → ElementType → List ℕ → Value → Type 0 where
+    -- 0x01 e_name double
+    is_double : (d p : ℕ) → p < 2 ^ 64 → IsValue d tag.Double (le w64 p) (scalar (kind.double p))
+    -- 0x02 e_name string
+    is_text : (d : ℕ) (s : List ℕ) → IsText s → IsValue d tag.String (text_bytes s) (scalar (kind.text s))
+    -- 0x03 e_name document
+    is_embedded : (d : ℕ) (bytes : List ℕ) (ps : Pairs) → IsDocument d bytes ps
+        → IsValue d tag.EmbeddedDocument bytes (document (one_each ps))
+    -- 0x04 e_name document
+    is_array : (d : ℕ) (bytes : List ℕ) (ps : Pairs) → IsDocument d bytes ps
+        → IsValue d tag.Array bytes (array (values ps))
+    -- 0x05 e_name binary
+    is_binary : (d b : ℕ) (s : List ℕ) → b < 256 → b ≢ 2 → IsSize (length s)
+        → IsValue d tag.Binary (binary_bytes b s) (scalar (kind.binary (subtype_of b) s))
+    is_old_binary : (d : ℕ) (s : List ℕ) → IsSize (length s + 4)
+        → IsValue d tag.Binary (old_binary_bytes s) (scalar (kind.binary (subtype_of 2) s))
+    -- 0x06 e_name
+    is_undefined : (d : ℕ) → IsValue d tag.Undefined [] (scalar kind.undefined)
+    -- 0x07 e_name (byte*12)
+    is_object_id : (d : ℕ) (id : List ℕ) → length id ≡ 12 → IsValue d tag.ObjectId id (scalar (kind.object_id id))
+    -- 0x08 e_name 0x00, 0x08 e_name 0x01
+    is_false : (d : ℕ) → IsValue d tag.Boolean (0 ∷ []) (scalar (kind.boolean false))
+    is_true : (d : ℕ) → IsValue d tag.Boolean (1 ∷ []) (scalar (kind.boolean true))
+    -- 0x09 e_name int64
+    is_date : (d n : ℕ) → n < 2 ^ 64 → IsValue d tag.DateTime (le w64 n) (scalar (kind.date (cast_signed w64 n)))
+    -- 0x0A e_name
+    is_null : (d : ℕ) → IsValue d tag.Null [] (scalar kind.null)
+    -- 0x0B e_name cstring cstring: the pattern and the options
+    is_regex : (d : ℕ) (p o : List ℕ) → IsName p → IsName o
+        → IsValue d tag.RegularExpression (p ++ 0 ∷ (o ++ 0 ∷ [])) (scalar (kind.regex p o))
+    -- 0x0C e_name string (byte*12)
+    is_pointer : (d : ℕ) (s id : List ℕ) → IsText s → length id ≡ 12
+        → IsValue d tag.DbPointer (text_bytes s ++ id) (scalar (kind.db_pointer s id))
+    -- 0x0D e_name string
+    is_code : (d : ℕ) (s : List ℕ) → IsText s → IsValue d tag.JavaScriptCode (text_bytes s) (scalar (kind.code s))
+    -- 0x0E e_name string
+    is_symbol : (d : ℕ) (s : List ℕ) → IsText s → IsValue d tag.Symbol (text_bytes s) (scalar (kind.symbol s))
+    -- 0x0F e_name code_w_s
+    is_scope : (d : ℕ) (s bytes : List ℕ) (ps : Pairs) → IsText s → IsDocument d bytes ps
+        → IsSize (scope_size s bytes)
+        → IsValue d tag.JavaScriptCodeWithScope (scope_bytes s bytes) (code_scope s (one_each ps))
+    -- 0x10 e_name int32
+    is_int32 : (d n : ℕ) → n < 2 ^ 32 → IsValue d tag.Int32 (le w32 n) (scalar (kind.int32 (cast_signed w32 n)))
+    -- 0x11 e_name uint64: the increment in its low half, the time in its high one
+    is_timestamp : (d i t : ℕ) → i < 2 ^ 32 → t < 2 ^ 32
+        → IsValue d tag.Timestamp (le w32 i ++ le w32 t) (scalar (kind.timestamp t i))
+    -- 0x12 e_name int64
+    is_int64 : (d n : ℕ) → n < 2 ^ 64 → IsValue d tag.Int64 (le w64 n) (scalar (kind.int64 (cast_signed w64 n)))
+    -- 0x13 e_name decimal128
+    is_decimal : (d : ℕ) (s : List ℕ) → length s ≡ 16 → IsValue d tag.Decimal128 s (scalar (kind.decimal s))
+    -- 0xFF e_name
+    is_min : (d : ℕ) → IsValue d tag.MinKey [] (scalar kind.min_key)
+    -- 0x7F e_name
+    is_max : (d : ℕ) → IsValue d tag.MaxKey [] (scalar kind.max_key)

@@ -1,0 +1,16 @@
+-- What bytes are read as.
+use Rattle.std.specs.Prelude.{◌≡◌, ℕ, List, ◌++◌}
+use Rattle.bson_model.specs.Value.{Pairs}
+use Rattle.bson_bytes.specs.Grammar.{IsDocument, one_each}
+
+-- the bytes are those of a document with these pairs, one a key
+pub record IsRead (d : ℕ) (bytes : List ℕ) (ps : Pairs) : Type 0 where
+  pub elements : Pairs
+  pub grammar : IsDocument d bytes elements
+  pub pairs : ps ≡ one_each elements
+
+-- the same of the front of bytes that others follow
+pub record IsFront (d : ℕ) (bytes : List ℕ) (ps : Pairs) (rest : List ℕ) : Type 0 where
+  pub front : List ℕ
+  pub read : IsRead d front ps
+  pub parts : bytes ≡ front ++ rest

@@ -1,0 +1,7 @@
+pub mod Grammar
+pub mod Laws
+pub mod Tags
+pub mod Fault
+pub mod Reading
+-- what public clauses cite of the crates below, so that a caller names this crate alone
+pub use Rattle.bson_model.specs.Value

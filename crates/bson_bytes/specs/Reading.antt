@@ -1,0 +1,199 @@
+-- What bytes are read as, as a function: for the order of faults, and for the proofs. `IsDocument` is the grammar. Each
+-- part is a value and the bytes behind it; of the faults the first from the left counts, and of those at one place the
+-- first that is tested here. Lengths are held to their parts once those are read.
+use Rattle.std.specs.Prelude.{ℕ, zero, suc, ◌+◌, ◌-◌, ◌^◌, List, [], ◌∷◌, length, take, drop, Result, Ok, Err, true, false}
+use Rattle.std.specs.Prelude.{Option, Some, None, option_map, nat_lt, cond, ◌==◌, if◌then◌else◌}
+use Rattle.std.specs.Int.{Width, w32, w64, byte_len, from_le_bytes, cast_signed}
+use Rattle.std.specs.Str.{is_utf8}
+use Rattle.bson_scalar.specs.declared.spec.ElementType.{ElementType}
+use Rattle.bson_scalar.specs.declared.spec.ElementType.TheVariants as tag
+use Rattle.bson_scalar.specs.Subtype.{subtype_of}
+use Rattle.bson_wrapper.specs.Scalar as kind
+use Rattle.bson_model.specs.Value.{Value, Values, Pairs, no_pairs, pair, scalar, code_scope, array, document}
+use Rattle.bson_bytes.specs.declared.fault.FaultKind.TheVariants.{Short, Length, Tag, Utf8, Boolean, End, Depth, Trailing}
+use Rattle.bson_bytes.specs.declared.fault.Fault.{Fault}
+use Rattle.bson_bytes.specs.Fault.{at, ◌>>=◌, or_fault}
+use Rattle.bson_bytes.specs.Grammar.{settle, values}
+use Rattle.bson_bytes.specs.Tags.{kind_of}
+
+abbrev pub byte_at : List ℕ → Result (ℕ × List ℕ) Fault
+byte_at [] = Err (at Short [])
+byte_at (b ∷ bytes) = Ok (b, bytes)
+
+abbrev pub bytes_at : ℕ → List ℕ → Result (List ℕ × List ℕ) Fault
+bytes_at n bytes = if nat_lt (length bytes) n then Err (at Short bytes) else Ok (take n bytes, drop n bytes)
+
+abbrev pub number_at : Width → List ℕ → Result (ℕ × List ℕ) Fault
+number_at w bytes = if nat_lt (length bytes) (byte_len w) then Err (at Short bytes)
+    else Ok (from_le_bytes w (take (byte_len w) bytes), drop (byte_len w) bytes)
+
+-- an int32 that is not negative
+unfoldable pub size_at : List ℕ → Result (ℕ × List ℕ) Fault
+size_at bytes = do
+  n ← number_at w32 bytes
+  if nat_lt n.0 (2 ^ 31) then Ok n else Err (at Length bytes)
+
+-- the byte 0
+abbrev pub zero_at : List ℕ → Result (List ℕ) Fault
+zero_at [] = Err (at Short [])
+zero_at (b ∷ bytes) = if b == 0 then Ok bytes else Err (at End (b ∷ bytes))
+
+-- the byte before the first of the two
+abbrev pub behind : ℕ → List ℕ × List ℕ → List ℕ × List ℕ
+behind b p = (b ∷ p.0, p.1)
+
+-- the bytes before the first 0, and those behind it
+abbrev pub split_zero : List ℕ → Option (List ℕ × List ℕ)
+split_zero [] = None
+split_zero (b ∷ bytes) = if b == 0 then Some ([], bytes) else option_map (behind b) (split_zero bytes)
+
+-- UTF-8, which stood at the place
+abbrev pub utf8_at : List ℕ → List ℕ → Result (List ℕ) Fault
+utf8_at s bytes = if is_utf8 s then Ok s else Err (at Utf8 bytes)
+
+unfoldable pub name_at : List ℕ → Result (List ℕ × List ℕ) Fault
+name_at bytes = do
+  p ← or_fault (split_zero bytes) Short bytes
+  s ← utf8_at p.0 bytes
+  Ok (s, p.1)
+
+unfoldable pub text_at : List ℕ → Result (List ℕ × List ℕ) Fault
+text_at bytes = do
+  n ← size_at bytes
+  if n.0 == 0 then Err (at Length bytes) else do
+    s ← bytes_at (n.0 - 1) n.1
+    rest ← zero_at s.1
+    t ← utf8_at s.0 n.1
+    Ok (t, rest)
+
+-- bytes under a subtype; those of the subtype 2 have a length of their own before them
+abbrev pub old_binary_at : ℕ → List ℕ → Result (Value × List ℕ) Fault
+old_binary_at size bytes = size_at bytes >>= λ n.
+    if n.0 + 4 == size then (bytes_at n.0 n.1 >>= λ s. Ok (scalar (kind.binary (subtype_of 2) s.0), s.1))
+    else Err (at Length bytes)
+
+abbrev pub plain_binary_at : ℕ → ℕ → List ℕ → Result (Value × List ℕ) Fault
+plain_binary_at b size bytes = bytes_at size bytes >>= λ s. Ok (scalar (kind.binary (subtype_of b) s.0), s.1)
+
+unfoldable pub binary_at : List ℕ → Result (Value × List ℕ) Fault
+binary_at bytes = do
+  n ← size_at bytes
+  b ← byte_at n.1
+  if b.0 == 2 then old_binary_at n.0 b.1 else plain_binary_at b.0 n.0 b.1
+
+unfoldable pub boolean_at : List ℕ → Result (Value × List ℕ) Fault
+boolean_at bytes = do
+  b ← byte_at bytes
+  if b.0 == 0 then Ok (scalar (kind.boolean false), b.1)
+      else if b.0 == 1 then Ok (scalar (kind.boolean true), b.1)
+      else Err (at Boolean bytes)
+
+unfoldable pub regex_at : List ℕ → Result (Value × List ℕ) Fault
+regex_at bytes = do
+  p ← name_at bytes
+  o ← name_at p.1
+  Ok (scalar (kind.regex p.0 o.0), o.1)
+
+unfoldable pub pointer_at : List ℕ → Result (Value × List ℕ) Fault
+pointer_at bytes = do
+  s ← text_at bytes
+  id ← bytes_at 12 s.1
+  Ok (scalar (kind.db_pointer s.0 id.0), id.1)
+
+unfoldable pub timestamp_at : List ℕ → Result (Value × List ℕ) Fault
+timestamp_at bytes = do
+  i ← number_at w32 bytes
+  t ← number_at w32 i.1
+  Ok (scalar (kind.timestamp t.0 i.0), t.1)
+
+-- what was read, by f
+abbrev pub mapped : {A : Type 0} → (Pairs → A) → Result (Pairs × List ℕ) Fault → Result (A × List ℕ) Fault
+mapped f read = read >>= λ x. Ok (f x.0, x.1)
+
+-- the pairs that were read behind those that are done
+abbrev pub settled : Pairs → Result (Pairs × List ℕ) Fault → Result (Pairs × List ℕ) Fault
+settled done read = mapped (settle done) read
+
+-- code, and a document, as long together as is said
+unfoldable pub scope_at : (List ℕ → Result (Pairs × List ℕ) Fault) → List ℕ → Result (Value × List ℕ) Fault
+scope_at inner bytes = do
+  n ← size_at bytes
+  s ← text_at n.1
+  x ← settled no_pairs (inner s.1)
+  if n.0 + length x.1 == length bytes then Ok (code_scope s.0 x.0, x.1) else Err (at Length bytes)
+
+-- a value whose documents are read so
+unfoldable pub value_with : (List ℕ → Result (Pairs × List ℕ) Fault) → ElementType → List ℕ → Result (Value × List ℕ) Fault
+value_with inner tag.Double bytes = do
+  n ← number_at w64 bytes
+  Ok (scalar (kind.double n.0), n.1)
+value_with inner tag.String bytes = do
+  s ← text_at bytes
+  Ok (scalar (kind.text s.0), s.1)
+value_with inner tag.EmbeddedDocument bytes = do
+  x ← settled no_pairs (inner bytes)
+  Ok (document x.0, x.1)
+value_with inner tag.Array bytes = do
+  x ← mapped values (inner bytes)
+  Ok (array x.0, x.1)
+value_with inner tag.Binary bytes = binary_at bytes
+value_with inner tag.Undefined bytes = Ok (scalar kind.undefined, bytes)
+value_with inner tag.ObjectId bytes = do
+  s ← bytes_at 12 bytes
+  Ok (scalar (kind.object_id s.0), s.1)
+value_with inner tag.Boolean bytes = boolean_at bytes
+value_with inner tag.DateTime bytes = do
+  n ← number_at w64 bytes
+  Ok (scalar (kind.date (cast_signed w64 n.0)), n.1)
+value_with inner tag.Null bytes = Ok (scalar kind.null, bytes)
+value_with inner tag.RegularExpression bytes = regex_at bytes
+value_with inner tag.DbPointer bytes = pointer_at bytes
+value_with inner tag.JavaScriptCode bytes = do
+  s ← text_at bytes
+  Ok (scalar (kind.code s.0), s.1)
+value_with inner tag.Symbol bytes = do
+  s ← text_at bytes
+  Ok (scalar (kind.symbol s.0), s.1)
+value_with inner tag.JavaScriptCodeWithScope bytes = scope_at inner bytes
+value_with inner tag.Int32 bytes = do
+  n ← number_at w32 bytes
+  Ok (scalar (kind.int32 (cast_signed w32 n.0)), n.1)
+value_with inner tag.Timestamp bytes = timestamp_at bytes
+value_with inner tag.Int64 bytes = do
+  n ← number_at w64 bytes
+  Ok (scalar (kind.int64 (cast_signed w64 n.0)), n.1)
+value_with inner tag.Decimal128 bytes = do
+  s ← bytes_at 16 bytes
+  Ok (scalar (kind.decimal s.0), s.1)
+value_with inner tag.MaxKey bytes = Ok (scalar kind.max_key, bytes)
+value_with inner tag.MinKey bytes = Ok (scalar kind.min_key, bytes)
+
+-- The elements to the byte 0. The number bounds the turns: the count of the bytes is always enough.
+unfoldable pub list_at : (ElementType → List ℕ → Result (Value × List ℕ) Fault) → ℕ → List ℕ → Result (Pairs × List ℕ) Fault
+list_at element zero bytes = Err (at Short bytes)
+list_at element (suc n) bytes = do
+  t ← byte_at bytes
+  if t.0 == 0 then Ok (no_pairs, t.1) else do
+    k ← or_fault (kind_of t.0) Tag bytes
+    s ← name_at t.1
+    v ← element k s.1
+    x ← list_at element n v.1
+    Ok (pair s.0 v.0 x.0, x.1)
+
+-- the pairs, where the document that began with these bytes has the length
+abbrev pub sized : ℕ → List ℕ → Pairs × List ℕ → Result (Pairs × List ℕ) Fault
+sized n bytes x = if n + length x.1 == length bytes then Ok x else Err (at Length bytes)
+
+-- one document, and in it documents nested no deeper than the number
+unfoldable pub document_at : ℕ → List ℕ → Result (Pairs × List ℕ) Fault
+document_at zero bytes = Err (at Depth bytes)
+document_at (suc d) bytes = do
+  n ← size_at bytes
+  x ← list_at (value_with (document_at d)) (length n.1) n.1
+  sized n.0 bytes x
+
+-- all of the bytes
+unfoldable pub reads : ℕ → List ℕ → Result Pairs Fault
+reads d bytes = do
+  x ← settled no_pairs (document_at d bytes)
+  if length x.1 == 0 then Ok x.0 else Err (at Trailing x.1)

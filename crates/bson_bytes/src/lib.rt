@@ -1,0 +1,9 @@
+//! The book of BSON bytes (BSON 1.1, bsonspec.org): which bytes are which document, which bytes a
+//! document is written as, and the laws of both. It has no `Bson` in it. Read its definitions in
+//! this order: `Grammar`, `Writing`; then `Fault` and `Reading`, for the order of faults. `parts`
+//! reads what an element is made of.
+#![tactic(auto)]
+
+pub mod fault;
+pub mod laws;
+pub mod parts;

@@ -1,0 +1,129 @@
+-- Elements one after the other, as loops read them into a document or a list.
+use Rattle.std.proofs.Common.{◌≡◌, ℕ, ◌<◌, ◌≤◌, ◌-◌, Bool, true, false, cond, List, [], ◌∷◌, ◌++◌, length, Result, Ok, Err, refl, sym, ap}
+use Rattle.std.proofs.Common.{◌∙◌, Some, arith}
+use Rattle.std.specs.Str.{bytes_eq}
+use Rattle.bson_scalar.specs.declared.spec.ElementType.{ElementType}
+use Rattle.bson_model.specs.Value.{Value, Values, no_values, value, Pairs, no_pairs, pair}
+use Rattle.bson_bytes.specs.declared.fault.Fault.{Fault}
+use Rattle.bson_bytes.specs.Fault.{◌>>=◌}
+use Rattle.bson_bytes.specs.Grammar.{values, insert_value, settle}
+use Rattle.bson_bytes.specs.Reading.{byte_at, name_at, size_at, mapped, settled, value_with, document_at}
+use Rattle.bson_bytes.specs.Tags.{kind_of}
+use Rattle.bson_bytes.proofs.Offered.{Read, elements, then_pairs, no_more, one_more, bad_list, unmapped}
+use Rattle.bson.specs.Pairs.{insert_pair}
+use Rattle.bson.specs.View.{bson_view, document_view, values_view, pairs_view, contents}
+use Rattle.bson.specs.declared.bson.Bson.{Bson}
+use Rattle.bson.specs.declared.document.Document.{Document}
+use Rattle.bson.proofs.Seen.{document_view-pairs}
+use Rattle.bson_codec.specs.Reading.{Stops}
+use Rattle.bson_codec.specs.declared.stopped.Stopped.{Stopped}
+use Rattle.bson_codec.specs.declared.stopped.Stopped.TheVariants as stopped
+
+-- ---- pairs
+
+put_view_by : (b : Bool) (k : List ℕ) (v : Bson) (p : List ℕ × Bson) (ps more : List (List ℕ × Bson)) (rest : Pairs) → pairs_view more ≡ rest
+    → pairs_view (cond b ((p.0, v) ∷ ps) (p ∷ more)) ≡ cond b (pair p.0 (bson_view v) (pairs_view ps)) (pair p.0 (bson_view p.1) rest)
+put_view_by true k v p ps more rest e = refl
+put_view_by false k v p ps more rest e = ap (λ (q : Pairs). pair p.0 (bson_view p.1) q) e
+
+pairs_view-put : (k : List ℕ) (v : Bson) (ps : List (List ℕ × Bson)) → pairs_view (insert_pair k v ps) ≡ insert_value k (bson_view v) (pairs_view ps)
+pairs_view-put k v [] = refl
+pairs_view-put k v (p ∷ ps) = put_view_by (bytes_eq k p.0) k v p ps (insert_pair k v ps) (insert_value k (bson_view v) (pairs_view ps)) (pairs_view-put k v ps)
+
+pub document_view-put : (d e : Document) (k : List ℕ) (v : Bson) → contents e ≡ insert_pair k v (contents d) → document_view e ≡ insert_value k (bson_view v) (document_view d)
+document_view-put d e k v h = document_view-pairs e ∙ ap pairs_view h ∙ pairs_view-put k v (contents d) ∙ ap (insert_value k (bson_view v)) (sym (document_view-pairs d))
+
+pub document_view-new : (d : Document) → contents d ≡ [] → document_view d ≡ no_pairs
+document_view-new d h = document_view-pairs d ∙ ap pairs_view h
+
+settled-then : (done : Pairs) (s : List ℕ) (v : Value) (r : Read) → settled done (r >>= then_pairs s v) ≡ settled (insert_value s v done) r
+settled-then done s v (Ok x) = refl
+settled-then done s v (Err f) = refl
+
+pub record PairsLeft (d : ℕ) (done : Pairs) (rest : List ℕ) (total : Read) : Type 0 where
+  pub turns : ℕ
+  pub enough : length rest ≤ turns
+  pub read : settled done (elements d turns rest) ≡ total
+
+pub pairs_start : (d : ℕ) (done : Pairs) (bytes : List ℕ) → done ≡ no_pairs → PairsLeft d done bytes (settled no_pairs (elements d (length bytes) bytes))
+pairs_start d done bytes e = record { turns = length bytes; enough = omega arith; read = ap (λ (q : Pairs). settled q (elements d (length bytes) bytes)) e }
+
+pub pairs_fault : (d : ℕ) (done : Pairs) (rest : List ℕ) (total : Read) (i : PairsLeft d done rest total) (f : Fault) → elements d i.turns rest ≡ Err f → total ≡ Err f
+pairs_fault d done rest total i f h = sym i.read ∙ ap (settled done) h
+
+pub pairs_fail : {A : Type 0} (e : Stopped) (part : Result A Fault) (d : ℕ) (done : Pairs) (rest : List ℕ) (total : Read) (i : PairsLeft d done rest total) → ((f : Fault) → part ≡ Err f → elements d i.turns rest ≡ Err f) → Stops e part → Stops e total
+pairs_fail stopped.OutOfMemory part d done rest total i g h = tt
+pairs_fail (stopped.Fault f) part d done rest total i g h = pairs_fault d done rest total i f (g f h)
+
+pub pairs_end : (d : ℕ) (done : Pairs) (rest : List ℕ) (total : Read) (t : ℕ) (a : List ℕ) → PairsLeft d done rest total → byte_at rest ≡ Ok (t, a) → t ≡ 0 → total ≡ Ok (done, a)
+pairs_end d done rest total t a i e z = sym i.read ∙ ap (settled done) (no_more d i.turns rest t a i.enough e z)
+
+pub pairs_more : (d : ℕ) (done after : Pairs) (rest : List ℕ) (total : Read) (t : ℕ) (a : List ℕ) (k : ElementType) (s : List ℕ) (b : List ℕ) (v : Value) (c : List ℕ) → PairsLeft d done rest total → after ≡ insert_value s v done → length c < length rest
+    → byte_at rest ≡ Ok (t, a) → (t ≡ 0 → ⊥) → kind_of t ≡ Some k → name_at a ≡ Ok (s, b) → value_with (document_at d) k b ≡ Ok (v, c) → PairsLeft d after c total
+pairs_more d done after rest total t a k s b v c i put lt e n k-is h w =
+    let g = one_more d i.turns rest t a k s b v c i.enough lt e n k-is h w in
+    record { turns = g.turns; enough = g.enough; read = ap (λ (q : Pairs). settled q (elements d g.turns c)) put ∙ sym (settled-then done s v (elements d g.turns c)) ∙ ap (settled done) (sym g.read) ∙ i.read }
+
+-- ---- values
+
+abbrev pub ReadValues : Type 0
+ReadValues = Result (Values × List ℕ) Fault
+
+abbrev pub then_values : Value → Values × List ℕ → ReadValues
+then_values v x = Ok (value v x.0, x.1)
+
+abbrev pub onto_values : List Bson → ReadValues → ReadValues
+onto_values [] r = r
+onto_values (x ∷ xs) r = onto_values xs r >>= then_values (bson_view x)
+
+pub onto_values-snoc : (xs : List Bson) (x : Bson) (r : ReadValues) → onto_values (xs ++ x ∷ []) r ≡ onto_values xs (r >>= then_values (bson_view x))
+onto_values-snoc [] x r = refl
+onto_values-snoc (y ∷ xs) x r = ap (λ (q : ReadValues). q >>= then_values (bson_view y)) (onto_values-snoc xs x r)
+
+pub onto_values-err : (xs : List Bson) (f : Fault) → onto_values xs (Err f) ≡ Err f
+onto_values-err [] f = refl
+onto_values-err (y ∷ xs) f = ap (λ (q : ReadValues). q >>= then_values (bson_view y)) (onto_values-err xs f)
+
+pub onto_values-ok : (xs : List Bson) (rest : List ℕ) → onto_values xs (Ok (no_values, rest)) ≡ Ok (values_view xs, rest)
+onto_values-ok [] rest = refl
+onto_values-ok (y ∷ xs) rest = ap (λ (q : ReadValues). q >>= then_values (bson_view y)) (onto_values-ok xs rest)
+
+pub values_fail : {A : Type 0} (e : Stopped) (part : Result A Fault) (xs : List Bson) (r : Read) (total : ReadValues) → ((f : Fault) → part ≡ Err f → r ≡ Err f) → Stops e part → onto_values xs (mapped values r) ≡ total → Stops e total
+values_fail stopped.OutOfMemory part xs r total g h is = tt
+values_fail (stopped.Fault f) part xs r total g h is = sym is ∙ ap (λ (q : Read). onto_values xs (mapped values q)) (g f h) ∙ onto_values-err xs f
+
+mapped-then : (s : List ℕ) (v : Value) (r : Read) → mapped values (r >>= then_pairs s v) ≡ mapped values r >>= then_values v
+mapped-then s v (Ok x) = refl
+mapped-then s v (Err f) = refl
+
+pub record ValuesLeft (d : ℕ) (xs : List Bson) (rest : List ℕ) (total : ReadValues) : Type 0 where
+  pub turns : ℕ
+  pub enough : length rest ≤ turns
+  pub read : onto_values xs (mapped values (elements d turns rest)) ≡ total
+
+pub values_start : (d : ℕ) (bytes : List ℕ) → ValuesLeft d [] bytes (mapped values (elements d (length bytes) bytes))
+values_start d bytes = record { turns = length bytes; enough = omega arith; read = refl }
+
+pub values_end : (d : ℕ) (xs : List Bson) (rest : List ℕ) (total : ReadValues) (t : ℕ) (a : List ℕ) → ValuesLeft d xs rest total → byte_at rest ≡ Ok (t, a) → t ≡ 0 → total ≡ Ok (values_view xs, a)
+values_end d xs rest total t a i e z = sym i.read ∙ ap (λ (q : Read). onto_values xs (mapped values q)) (no_more d i.turns rest t a i.enough e z) ∙ onto_values-ok xs a
+
+pub values_more : (d : ℕ) (xs : List Bson) (rest : List ℕ) (total : ReadValues) (t : ℕ) (a : List ℕ) (k : ElementType) (s b : List ℕ) (v : Bson) (c : List ℕ) → ValuesLeft d xs rest total → length c < length rest
+    → byte_at rest ≡ Ok (t, a) → (t ≡ 0 → ⊥) → kind_of t ≡ Some k → name_at a ≡ Ok (s, b) → value_with (document_at d) k b ≡ Ok (bson_view v, c) → ValuesLeft d (xs ++ v ∷ []) c total
+values_more d xs rest total t a k s b v c i lt e n k-is h w =
+    let g = one_more d i.turns rest t a k s b (bson_view v) c i.enough lt e n k-is h w in
+    record { turns = g.turns; enough = g.enough; read = onto_values-snoc xs v (mapped values (elements d g.turns c)) ∙ ap (onto_values xs) (sym (mapped-then s (bson_view v) (elements d g.turns c))) ∙ ap (λ (q : Read). onto_values xs (mapped values q)) (sym g.read) ∙ i.read }
+
+pub values_fault : (d : ℕ) (xs : List Bson) (rest : List ℕ) (total : ReadValues) (i : ValuesLeft d xs rest total) (f : Fault) → elements d i.turns rest ≡ Err f → total ≡ Err f
+values_fault d xs rest total i f h = sym i.read ∙ ap (λ (q : Read). onto_values xs (mapped values q)) h ∙ onto_values-err xs f
+
+-- ---- a document
+
+pub mapped_fault : {A : Type 0} (g : Pairs → A) (r : Read) (f : Fault) → r ≡ Err f → mapped g r ≡ Err f
+mapped_fault g r f h = ap (mapped g) h
+
+pub mapped_stop : {A : Type 0} (g : Pairs → A) (e : Stopped) (d : ℕ) (bytes : List ℕ) (n : ℕ) (list : List ℕ) → (d ≡ 0 → ⊥)
+    → size_at bytes ≡ Ok (n, list) → Stops e (mapped g (elements (d - 1) (length list) list))
+    → Stops e (mapped g (document_at d bytes))
+mapped_stop g stopped.OutOfMemory d bytes n list h s x = tt
+mapped_stop g (stopped.Fault f) d bytes n list h s x =
+    ap (mapped g) (bad_list d bytes n list f h s (unmapped g (elements (d - 1) (length list) list) f x))
