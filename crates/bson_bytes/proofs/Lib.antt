@@ -5,4 +5,6 @@ pub mod Takes
 pub mod Again
 pub mod Turns
 pub mod GrammarLaws
+pub mod Putting
+pub mod Canonical
 pub mod Offered

@@ -4,6 +4,8 @@ ghost use Rattle.std.specs.Int.{w32, w64};
 ghost use Rattle.bson_bytes.specs.Fault.{Gives};
 ghost use Rattle.bson_bytes.specs.Reading.{byte_at, bytes_at, number_at, size_at, zero_at, split_zero};
 ghost use Rattle.bson_bytes.specs.Reading.{utf8_at, name_at, text_at};
+ghost use Rattle.bson_bytes.specs.Putting.{is_free};
+ghost use Rattle.bson_bytes.specs.Tags.{kind_of};
 
 use crate::fault::{Fault, FaultKind, fault_at};
 use bson_scalar::spec::ElementType;
@@ -98,6 +100,16 @@ pub fn split_zero(bytes: &[u8]) -> Option<(&[u8], &[u8])>
     None
 }
 
+/// Whether no byte is 0.
+pub fn is_free(bytes: &[u8]) -> bool
+    ensures { result ≡ is_free bytes.now }
+{
+    match split_zero(bytes) {
+        Some(_) => false,
+        None => true,
+    }
+}
+
 fn utf8_at<'a>(text: &'a [u8], bytes: &[u8]) -> Result<&'a str, Fault>
     ensures { Gives (λ s. s.now) result (utf8_at text.now bytes.now) }
 {
@@ -133,8 +145,6 @@ pub fn text_at(bytes: &[u8]) -> Result<(&str, &[u8]), Fault>
     let rest = zero_at(end)?;
     Ok((utf8_at(text, place)?, rest))
 }
-
-ghost use Rattle.bson_bytes.specs.Tags.{kind_of};
 
 pub fn kind_of(tag: u8) -> Option<ElementType>
     ensures { result ≡ kind_of tag }

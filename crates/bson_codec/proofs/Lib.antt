@@ -1,2 +1,4 @@
 pub mod Loop
 pub mod Ends
+pub mod Weights
+pub mod Elements

@@ -1,7 +1,9 @@
 pub mod Reading
 pub mod Errors
+pub mod Writing
 -- what public clauses cite of the crates below, so that a caller names this crate alone
 pub use Rattle.bson_bytes.specs.Grammar
 pub use Rattle.bson_bytes.specs.Laws
 pub use Rattle.bson_bytes.specs.Reading as Bytes
+pub use Rattle.bson_bytes.specs.Writing as Canonical
 pub use Rattle.bson.specs.View

@@ -1,0 +1,89 @@
+-- Bytes put behind others, as a function that stops at the first cause: for the proofs. `Writing` has the bytes.
+use Rattle.std.specs.Prelude.{ℕ, ◌+◌, ◌-◌, ◌^◌, List, [], ◌∷◌, ◌++◌, length, take, drop, Result, Ok, Err, Bool, cond, is_none}
+use Rattle.std.specs.Prelude.{nat_lt, ◌&&◌, decimal}
+use Rattle.std.specs.Int.{w32}
+use Rattle.bson_scalar.specs.declared.spec.ElementType.{ElementType}
+use Rattle.bson_scalar.specs.Subtype.{subtype_byte}
+use Rattle.bson_wrapper.specs.Scalar.{Scalar, text, symbol, code, regex, binary, db_pointer}
+use Rattle.bson_model.specs.Value.{Value, Values, no_values, value, Pairs, no_pairs, pair, scalar, code_scope, array}
+use Rattle.bson_model.specs.Value.{document}
+use Rattle.bson_bytes.specs.Grammar.{le, text_bytes}
+use Rattle.bson_bytes.specs.Reading.{split_zero}
+use Rattle.bson_bytes.specs.Writing.{Cause, zero_in_key, zero_in_regex, too_long, scalar_bytes, subtyped_bytes}
+use Rattle.bson_bytes.specs.Writing.{subtyped_size, regex_bytes, name_bytes, type_of}
+
+abbrev pub Put : Type 0
+Put = Result (List ℕ) Cause
+
+abbrev pub then : Put → (List ℕ → Put) → Put
+then (Ok out) f = f out
+then (Err c) f = Err c
+
+-- the bytes, where they have the length
+abbrev pub put_sized : ℕ → List ℕ → List ℕ → Put
+put_sized n bytes out = cond (nat_lt n (2 ^ 31)) (Ok (out ++ bytes)) (Err too_long)
+
+abbrev pub put_text : List ℕ → List ℕ → Put
+put_text s out = put_sized (length s + 1) (text_bytes s) out
+
+-- whether no byte is 0
+abbrev pub is_free : List ℕ → Bool
+is_free k = is_none (split_zero k)
+
+abbrev pub put_regex : List ℕ → List ℕ → List ℕ → Put
+put_regex p o out = cond (is_free p && is_free o) (Ok (out ++ regex_bytes p o)) (Err zero_in_regex)
+
+abbrev pub put_binary : ℕ → List ℕ → List ℕ → Put
+put_binary b s out = put_sized (subtyped_size b s) (subtyped_bytes b s) out
+
+abbrev pub put_pointer : List ℕ → List ℕ → List ℕ → Put
+put_pointer s id out = then (put_text s out) (λ a. Ok (a ++ id))
+
+abbrev pub put_scalar : Scalar → List ℕ → Put
+put_scalar (text s) out = put_text s out
+put_scalar (symbol s) out = put_text s out
+put_scalar (code s) out = put_text s out
+put_scalar (regex p o) out = put_regex p o out
+put_scalar (binary k s) out = put_binary (subtype_byte k) s out
+put_scalar (db_pointer s id) out = put_pointer s id out
+put_scalar x out = Ok (out ++ scalar_bytes x)
+
+-- the tag and the name of an element
+abbrev pub put_name : ElementType → List ℕ → List ℕ → Put
+put_name t k out = cond (is_free k) (Ok (out ++ name_bytes t k)) (Err zero_in_key)
+
+-- four bytes, for a length that is not known yet
+abbrev pub put_room : List ℕ → List ℕ
+put_room out = out ++ 0 ∷ 0 ∷ 0 ∷ 0 ∷ []
+
+-- the length of what stands from the place on, its own four bytes too, into those
+unfoldable pub put_length : ℕ → List ℕ → Put
+put_length start out =
+    cond (nat_lt (length out - start) (2 ^ 31))
+    (Ok (take start out ++ (le w32 (length out - start) ++ drop (start + 4) out))) (Err too_long)
+
+-- the 0 behind a list of elements, and the length of the document
+abbrev pub put_end : ℕ → List ℕ → Put
+put_end start out = put_length start (out ++ 0 ∷ [])
+
+unfoldable mutual
+  pub put_value : Value → List ℕ → Put
+  put_value (scalar x) out = put_scalar x out
+  put_value (code_scope s ps) out =
+      then (then (put_text s (put_room out)) (λ a. then (put_pairs ps (put_room a)) (put_end (length a))))
+      (put_length (length out))
+  put_value (array vs) out = then (put_items 0 vs (put_room out)) (put_end (length out))
+  put_value (document ps) out = then (put_pairs ps (put_room out)) (put_end (length out))
+
+  pub put_items : ℕ → Values → List ℕ → Put
+  put_items n no_values out = Ok out
+  put_items n (value v vs) out =
+      then (put_value v (out ++ name_bytes (type_of v) (decimal n))) (λ b. put_items (n + 1) vs b)
+
+  pub put_pairs : Pairs → List ℕ → Put
+  put_pairs no_pairs out = Ok out
+  put_pairs (pair k v ps) out =
+      then (put_name (type_of v) k out) (λ a. then (put_value v a) (λ b. put_pairs ps b))
+
+abbrev pub put_document : Pairs → List ℕ → Put
+put_document ps out = then (put_pairs ps (put_room out)) (put_end (length out))

@@ -1,0 +1,118 @@
+use Rattle.std.proofs.Common.{◌≡◌, ℕ, ◌+◌, ◌<◌, List, length, arith, sym, ap, subst, ◌∙◌, string_bytes, get_or}
+use Rattle.std.proofs.lemmas.List.{length-append}
+use Rattle.std.proofs.lemmas.Result.{err_from_is_err_and}
+use Rattle.bson_bytes.specs.Putting.{Put, put_end}
+use Rattle.bson_bytes.specs.Writing.{name_bytes}
+use Rattle.bson.specs.Iter.{pairs_left}
+use Rattle.bson.specs.View.{bson_view, values_view, pairs_view}
+use Rattle.bson.specs.declared.bson.Bson.{Bson}
+use Rattle.bson_codec.specs.Writing.{Puts}
+use Rattle.bson_codec.proofs.Elements.{array_bad, array_next, array_end, named, left_is, key_stops, key_put, value_stops}
+use Rattle.bson_codec.proofs.Elements.{document_end, next_pair}
+use Rattle.bson_codec.proofs.Weights.{weight, weight_items, weight_pairs, lighter_item, scoped_seen}
+use Rattle.bson_codec.proofs.write.+write.Goals as goal
+
+pub put_value-put_scoped-requires : goal.put_value-put_scoped-requires
+put_value-put_scoped-requires t c =
+    let seen = ap (λ (v : Bson). weight (bson_view v)) c.in-JavaScriptCodeWithScope.is
+        ∙ ap weight (scoped_seen c.in-JavaScriptCodeWithScope.scoped) in
+    (omega (arith, c.decreases, seen), tt)
+
+-- ---- arrays
+
+pub put_array-put_value-requires : goal.put_array-put_value-requires
+put_array-put_value-requires t c =
+    let items = c.deref-value-items.result.now in
+    let v = c.value-item.result in
+    let below : c.loop-i.i < length items = omega (arith, c.loop-i-test.true) in
+    let h : 1 + weight (bson_view v) < weight_items (values_view items) =
+        subst (λ (w : Bson). 1 + weight (bson_view w) < weight_items (values_view items)) (sym c.value-item.is)
+        (lighter_item items c.loop-i.i v below) in
+    let all = ap (λ (xs : List Bson). weight_items (values_view xs)) c.deref-value-items.ensures.value in
+    (omega (arith, h, all, c.decreases), tt)
+
+pub put_array-returns-in_err-put_value-clause-put : goal.put_array-returns-in_err-put_value-clause-put
+put_array-returns-in_err-put_value-clause-put t c =
+    let p = err_from_is_err_and c.from_residual-in_err-put_value.result c.from_residual-in_err-put_value.ensures.1 in
+    let out = c.loop-i.out.items in
+    let v = c.value-item.result in
+    let name = named out c.put_name.new.out.items c.format.result.now c.type_of.result v c.loop-i.i
+        c.in_ok-put_name.ensures.put c.type_of.ensures c.format.ensures.text in
+    rw (p.1, p.2) (array_bad c.in_err-put_value.field-0.0 c.deref-value-items.result.now c.args.values.now.items c.loop-i.i v
+    c.args.out.now.items c.extend_from_slice.new.self.items out c.put_name.new.out.items (omega (arith, c.loop-i-test.true))
+    c.value-item.is c.deref-value-items.ensures.value c.in_ok-extend_from_slice.ensures.items c.loop-i.invariant.put name
+    c.in_err-put_value.ensures.put)
+
+pub put_array-loop-i-preserved : goal.put_array-loop-i-preserved
+put_array-loop-i-preserved t c =
+    let out = c.loop-i.out.items in
+    let v = c.value-item.result in
+    let name = named out c.put_name.new.out.items c.format.result.now c.type_of.result v c.loop-i.i
+        c.in_ok-put_name.ensures.put c.type_of.ensures c.format.ensures.text in
+    let longer = ap length c.in_ok-put_name.ensures.put ∙ length-append out (name_bytes c.type_of.result c.format.result.now) in
+    record {
+      put = array_next c.deref-value-items.result.now c.loop-i.i v out c.put_name.new.out.items c.put_value.new.out.items _
+          (omega (arith, c.loop-i-test.true)) c.value-item.is c.loop-i.invariant.put name c.in_ok-put_value.ensures.put;
+      room = omega (arith, c.loop-i.invariant.room, longer, c.in_ok-put_value.ensures.grows);
+    }
+
+pub put_array-returns-clause-put : goal.put_array-returns-clause-put
+put_array-returns-clause-put t c =
+    let old = c.args.out.now.items in
+    let start : c.len-start.result ≡ length old = omega (arith, c.len-start.ensures, c.args.out.now.ok) in
+    let ended = array_end c.deref-value-items.result.now c.args.values.now.items c.loop-i.i old
+        c.extend_from_slice.new.self.items c.loop-i.out.items (omega (arith, c.loop-i-test.false))
+        c.deref-value-items.ensures.value c.in_ok-extend_from_slice.ensures.items c.loop-i.invariant.put in
+    subst (λ (r : Put). Puts c.put_end.result c.put_end.new.out.items r) (sym ended)
+    (subst (λ (n : ℕ). Puts c.put_end.result c.put_end.new.out.items (put_end n c.loop-i.out.items)) start
+      c.put_end.ensures.put)
+
+-- ---- documents
+
+pub put_document-returns-in_err-put_key-clause-put : goal.put_document-returns-in_err-put_key-clause-put
+put_document-returns-in_err-put_key-clause-put t c =
+    let p = err_from_is_err_and c.from_residual-in_err-put_key.result c.from_residual-in_err-put_key.ensures.1 in
+    rw (p.1, p.2) (key_stops c.in_err-put_key.field-0.0 c.args.document.now (pairs_left c.elements.pairs)
+    (pairs_left c.next.new.self) (string_bytes c.in-Some.key.now) c.as_str.result.now c.in-Some.value.now c.type_of.result
+    c.args.out.now.items c.extend_from_slice.new.self.items c.elements.out.items c.in-Some.ensures.steps
+    c.in_ok-extend_from_slice.ensures.items c.elements.invariant.put c.type_of.ensures c.as_str.ensures.value
+    c.in_err-put_key.ensures.put)
+
+pub put_document-returns-in_err-put_value-clause-put : goal.put_document-returns-in_err-put_value-clause-put
+put_document-returns-in_err-put_value-clause-put t c =
+    let p = err_from_is_err_and c.from_residual-in_err-put_value.result c.from_residual-in_err-put_value.ensures.1 in
+    let k = string_bytes c.in-Some.key.now in
+    let v = c.in-Some.value.now in
+    let name = key_put k c.as_str.result.now v c.type_of.result c.elements.out.items c.put_key.new.out.items
+        c.type_of.ensures c.as_str.ensures.value c.in_ok-put_key.ensures.put in
+    rw (p.1, p.2) (value_stops c.in_err-put_value.field-0.0 c.args.document.now (pairs_left c.elements.pairs)
+    (pairs_left c.next.new.self) k v c.args.out.now.items c.extend_from_slice.new.self.items c.elements.out.items
+    c.put_key.new.out.items c.in-Some.ensures.steps c.in_ok-extend_from_slice.ensures.items c.elements.invariant.put name
+    c.in_err-put_value.ensures.put)
+
+pub put_document-elements-preserved : goal.put_document-elements-preserved
+put_document-elements-preserved t c =
+    let k = string_bytes c.in-Some.key.now in
+    let v = c.in-Some.value.now in
+    let rest = pairs_left c.next.new.self in
+    let out = c.elements.out.items in
+    let name = key_put k c.as_str.result.now v c.type_of.result out c.put_key.new.out.items c.type_of.ensures
+        c.as_str.ensures.value c.in_ok-put_key.ensures.put in
+    let lighter = ap (λ (ps : _). weight_pairs (pairs_view ps)) c.in-Some.ensures.steps in
+    record {
+      put = next_pair k (bson_view v) (pairs_view rest) out c.put_key.new.out.items c.put_value.new.out.items _
+          (left_is (pairs_left c.elements.pairs) rest k v out _ c.in-Some.ensures.steps c.elements.invariant.put) name
+          c.in_ok-put_value.ensures.put;
+      lighter = omega (arith, lighter, c.elements.invariant.lighter);
+      room = omega (arith, c.elements.invariant.room, c.in_ok-put_key.ensures.grows, c.in_ok-put_value.ensures.grows);
+    }
+
+pub put_document-returns-clause-put : goal.put_document-returns-clause-put
+put_document-returns-clause-put t c =
+    let old = c.args.out.now.items in
+    let start : c.len-start.result ≡ length old = omega (arith, c.len-start.ensures, c.args.out.now.ok) in
+    let ended = document_end c.args.document.now (pairs_left c.elements.pairs) old c.extend_from_slice.new.self.items
+        c.elements.out.items c.in_default.ensures.steps.0 c.in_ok-extend_from_slice.ensures.items c.elements.invariant.put in
+    subst (λ (r : Put). Puts c.put_end.result c.put_end.new.out.items r) (sym ended)
+    (subst (λ (n : ℕ). Puts c.put_end.result c.put_end.new.out.items (put_end n c.elements.out.items)) start
+      c.put_end.ensures.put)

@@ -1,0 +1,106 @@
+//! Values behind the bytes that are written.
+ghost use Rattle.std.specs.Prelude.{◌≡◌, ◌≤◌, ◌+◌, length, vec_len, OnOk};
+ghost use Rattle.bson_bytes.specs.Putting.{put_value, put_items, put_document, put_end, put_length, put_room};
+ghost use Rattle.bson_bytes.specs.Writing.{type_of};
+ghost use Rattle.bson.specs.View.{bson_view, scoped_view, document_view, values_view};
+ghost use Rattle.bson_model.specs.Value.{array};
+ghost use Rattle.bson_codec.specs.Writing.{Puts};
+
+use crate::parts::{
+    put_binary, put_key, put_length, put_name, put_pointer, put_regex, put_text, put_timestamp,
+    put_u32, put_u64,
+};
+use crate::ser::Result;
+use bson::{Bson, Document, JavaScriptCodeWithScope};
+use bson_scalar::spec::ElementType;
+use itoa::Buffer;
+
+#[cycle(write)]
+#[tactic(auto, unfolding(bson_bytes::specs::Putting::put_value))]
+fn put_value(out: &mut Vec<u8>, value: &Bson) -> Result<()>
+    ensures put { Puts result out.new.items (put_value (bson_view value.now) out.old.items) }
+    ensures grows { OnOk result (length out.old.items ≤ length out.new.items) }
+{
+    match value {
+        Bson::Double(pattern) => Ok(put_u64(out, *pattern)?),
+        Bson::String(text) => put_text(out, text.as_str()),
+        Bson::Array(values) => put_array(out, values),
+        Bson::Document(document) => put_document(out, document),
+        Bson::Boolean(truth) => Ok(out.push(u8::from(*truth))?),
+        Bson::Null => Ok(()),
+        Bson::RegularExpression(regex) => put_regex(out, regex),
+        Bson::JavaScriptCode(code) => put_text(out, code.as_str()),
+        Bson::JavaScriptCodeWithScope(scoped) => put_scoped(out, scoped),
+        Bson::Int32(number) => Ok(put_u32(out, number.cast_unsigned())?),
+        Bson::Int64(number) => Ok(put_u64(out, number.cast_unsigned())?),
+        Bson::Timestamp(timestamp) => Ok(put_timestamp(out, *timestamp)?),
+        Bson::Binary(binary) => put_binary(out, binary),
+        Bson::ObjectId(id) => Ok(out.extend_from_slice(&id.bytes())?),
+        Bson::DateTime(date) => Ok(put_u64(out, date.timestamp_millis().cast_unsigned())?),
+        Bson::Symbol(symbol) => put_text(out, symbol.as_str()),
+        Bson::Decimal128(decimal) => Ok(out.extend_from_slice(&decimal.bytes())?),
+        Bson::Undefined => Ok(()),
+        Bson::MaxKey => Ok(()),
+        Bson::MinKey => Ok(()),
+        Bson::DbPointer(pointer) => put_pointer(out, pointer),
+    }
+}
+
+#[cycle(write)]
+#[tactic(auto, unfolding(bson_bytes::specs::Putting::put_value))]
+fn put_scoped(out: &mut Vec<u8>, scoped: &JavaScriptCodeWithScope) -> Result<()>
+    ensures put { Puts result out.new.items (put_value (scoped_view scoped.now) out.old.items) }
+    ensures grows { OnOk result (length out.old.items ≤ length out.new.items) }
+{
+    let start = out.len();
+    out.extend_from_slice(&[0, 0, 0, 0])?;
+    put_text(out, scoped.code.as_str())?;
+    put_document(out, &scoped.scope)?;
+    put_length(out, start)
+}
+
+#[cycle(write)]
+pub(crate) fn put_document(out: &mut Vec<u8>, document: &Document) -> Result<()>
+    ensures put { Puts result out.new.items (put_document (document_view document.now) out.old.items) }
+    ensures grows { OnOk result (length out.old.items ≤ length out.new.items) }
+{
+    let start = out.len();
+    out.extend_from_slice(&[0, 0, 0, 0])?;
+    let mut pairs = document.iter();
+    'elements: while let Some((key, value)) = pairs.next() {
+        put_key(out, type_of(value), key.as_str())?;
+        put_value(out, value)?;
+    }
+    put_end(out, start)
+}
+
+#[cycle(write)]
+fn put_array(out: &mut Vec<u8>, values: &Vec<Bson>) -> Result<()>
+    ensures put { Puts result out.new.items (put_value (array (values_view values.now.items)) out.old.items) }
+    ensures grows { OnOk result (length out.old.items ≤ length out.new.items) }
+{
+    let start = out.len();
+    out.extend_from_slice(&[0, 0, 0, 0])?;
+    let mut buffer = Buffer::new();
+    for (i, value) in values.iter().enumerate() {
+        put_name(out, type_of(value), buffer.format(i))?;
+        put_value(out, value)?;
+    }
+    put_end(out, start)
+}
+
+// The 0 behind a list of elements, and the length of the document at its place.
+fn put_end(out: &mut Vec<u8>, start: usize) -> Result<()>
+    requires { start + 4 ≤ vec_len out.old }
+    ensures put { Puts result out.new.items (put_end start out.old.items) }
+    ensures grows { OnOk result (length out.old.items ≤ length out.new.items) }
+{
+    out.push(0)?;
+    put_length(out, start)
+}
+
+fn type_of(value: &Bson) -> ElementType
+    ensures { result ≡ type_of (bson_view value.now) }
+{
+    value.element_type()
+}
