@@ -88,9 +88,10 @@ typedef struct vbson_text {
 
 #define VBSON_TEXT_NONE { VBSON_CAST(const uint8_t *, ""), 0, 0 }
 
-/* The bytes of a C string, as the calls take them; its length is strlen's. */
+/* The bytes of a text of chars, as the calls take them: a C string's, or those that C++'s std::string_view shows. Of a
+ * null pointer, as an empty view has it, they are none, at a pointer that is not null. */
 static inline const uint8_t *vbson_bytes(const char *text) {
-    return VBSON_CAST(const uint8_t *, text);
+    return VBSON_CAST(const uint8_t *, text != NULL ? text : "");
 }
 
 /* The text as a C string. */
@@ -108,9 +109,9 @@ static inline void vbson_text_free(vbson_text *text) {
 
 /* Reads the len bytes as one text of Extended JSON, in either form or mixed, and writes its value in the mode. Keys
  * come out in ascending order of their bytes, at every depth; of a key that stands twice the last value counts; a
- * finite double is refused, and a number as 0.0 too (a zero is read as {"$numberDouble": "0.0"}). What is written is
- * the normal form: a decimal "sNaN" or "-NaN" becomes "NaN", which vbson_same finds different. *out is written over:
- * what it held is not freed.
+ * finite double is refused, and a number as 0.0 too (a zero is read as {"$numberDouble": "0.0"}). The output can mean
+ * another value in two ways: a NaN of Decimal128 loses its sign and its s, and in the relaxed form an Int64 that fits is
+ * read again as an Int32. *out is written over: what it held is not freed.
  * VBSON_NO_MODE, VBSON_NOT_JSON, VBSON_BAD_OBJECT_ID, VBSON_NOT_EXTENDED_JSON, VBSON_OUT_OF_MEMORY. */
 uint32_t vbson_convert(uint32_t mode, const uint8_t *text, size_t len, vbson_text *out);
 

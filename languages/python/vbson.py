@@ -156,9 +156,10 @@ def version() -> str:
 def convert(text: _Given, mode: Union[int, str] = CANONICAL) -> str:
     """The text, in the mode, of the value that a text of Extended JSON means. A mode goes by its number or its name.
 
-    Keys come out in ascending order at every depth; of a key that stands twice the last value counts.
-    What is written is the normal form: a decimal "sNaN" or "-NaN" becomes "NaN", which same() finds different.
-    Raises NotJson, BadObjectId, NotExtendedJson (also at a finite double, as 1.5 or 0.0), and MemoryError.
+    Keys come out in ascending order at every depth; of a key that stands twice the last value counts. The output can mean
+    another value in two ways: a NaN of Decimal128 loses its sign and its s, and in the relaxed form an Int64 that fits is
+    read again as an Int32. Raises NotJson, BadObjectId, NotExtendedJson (also at a finite double, as 1.5 or 0.0), and
+    MemoryError.
     """
     mode, given, out = _mode(mode), _bytes(text), _Text((ctypes.c_uint8 * 1)(), 0, 0)
     _wants_done(_library.vbson_convert(mode, given, len(given), ctypes.byref(out)))

@@ -86,6 +86,12 @@ def try_texts():
     raises("a double", vbson.NotExtendedJson, vbson.convert, "1.5")
     want("same", vbson.same('{"a":1,"b":2}', '{"b":2,"a":1}'), True)
     want("different", vbson.same("[1,2]", "[2,1]"), False)
+    # (where the output means another value, as the docs say, and beside it where not)
+    for text, mode, is_same in (('{"$numberDecimal":"-NaN"}', "canonical", False), ('{"$numberDecimal":"sNaN"}', "relaxed", False),
+                                ('{"$numberDecimal":"NaN"}', "canonical", True), ('{"$numberLong":"5"}', "relaxed", False),
+                                ('{"$numberLong":"5"}', "canonical", True), ('{"$numberLong":"2147483648"}', "relaxed", True),
+                                ('{"$numberDouble":"-NaN"}', "relaxed", True), ('{"$numberDecimal":"0E+7000"}', "relaxed", True)):
+        want(f"{text} and its {mode} form", vbson.same(text, vbson.convert(text, mode)), is_same)
     raises("the first fault", vbson.NotJson, vbson.same, "", "1.5")
 
 

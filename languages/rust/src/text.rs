@@ -66,8 +66,8 @@ impl fmt::Debug for Text {
 /// The text, in the mode, of the value that a text of Extended JSON means, in either form or mixed.
 ///
 /// Keys come out in ascending order at every depth; of a key that stands twice the last value counts. A finite double
-/// is `NotExtendedJson`, as `1.5` and `0.0` are. What is written is the normal form: a decimal `sNaN` or `-NaN` becomes
-/// `NaN`, which [`same`] finds different.
+/// is `NotExtendedJson`, as `1.5` and `0.0` are. The output can mean another value in two ways: a NaN of Decimal128 loses
+/// its sign and its s, and in the relaxed form an Int64 that fits is read again as an Int32.
 pub fn convert(mode: Mode, text: &[u8]) -> Result<Text, Error> {
     let raw = call::convert(mode as u32, text)?;
     let bytes = NonNull::new(raw.bytes.cast_mut()).expect("a text has a block");
