@@ -9,3 +9,6 @@ pub mod LimbValues
 pub mod Compared
 pub mod Dense
 pub mod Taken
+pub mod Laid
+pub mod Bounded
+pub mod TextLaws

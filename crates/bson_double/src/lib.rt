@@ -18,5 +18,5 @@ mod shortest;
 mod tests;
 mod text;
 
-pub use read::{ParseError, double_of_text, is_finite};
+pub use read::{DoubleError, double_of_text, is_finite};
 pub use text::double_text;

@@ -1,13 +1,13 @@
 //! Reading a text as a finite double.
 ghost use Rattle.std.specs.Prelude.{◌≡◌, MatchResult, IfErr, Some, None, false, IsTrue, IsFalse};
 ghost use Rattle.fast_float.specs.Parse.{completes_number, without_sign, is_infinity_text, is_nan_text};
-ghost use Rattle.bson_double.specs.Doubles.{is_finite, is_number, finite_of, parse_fault};
+ghost use Rattle.bson_double.specs.Doubles.{is_finite, is_number, finite_of, double_fault};
 
 use thiserror::Error;
 
 /// Why a text means no finite double.
 #[derive(Clone, Copy, Debug, PartialEq, Eq, Error)]
-pub enum ParseError {
+pub enum DoubleError {
     /// The text is no number: no sign or one, digits with at most one point and at least one digit,
     /// and perhaps `e` or `E` with a whole number. Words, as `Infinity`, and spaces are none.
     #[error("the text is no number")]
@@ -54,19 +54,19 @@ fn begins_a_word(unsigned: &[u8]) -> bool
 /// ```
 /// let half = double_of_text(b"0.5")?; // 0x3FE0_0000_0000_0000
 /// ```
-pub fn double_of_text(text: &[u8]) -> Result<u64, ParseError>
+pub fn double_of_text(text: &[u8]) -> Result<u64, DoubleError>
     ensures ok { MatchResult result (λ p. finite_of text.now ≡ Some p) (λ _. finite_of text.now ≡ None) }
-    ensures error { IfErr result (λ e. e ≡ parse_fault text.now) }
+    ensures error { IfErr result (λ e. e ≡ double_fault text.now) }
 {
     if begins_a_word(without_sign(text)) {
-        return Err(ParseError::NotANumber);
+        return Err(DoubleError::NotANumber);
     }
     let parsed: Result<f64, fast_float::Error> = fast_float::parse(text);
     let Ok(number) = parsed else {
-        return Err(ParseError::NotANumber);
+        return Err(DoubleError::NotANumber);
     };
     if !number.is_finite() {
-        return Err(ParseError::OutOfRange);
+        return Err(DoubleError::OutOfRange);
     }
     Ok(number.to_bits())
 }

@@ -1,5 +1,5 @@
 //! Rows of texts and patterns. The texts are those that Python's `repr` gives, in the layout here.
-use crate::{ParseError, double_of_text, double_text, is_finite};
+use crate::{DoubleError, double_of_text, double_text, is_finite};
 
 fn written(pattern: u64, text: &str) -> bool {
     is_finite(pattern) && double_text(pattern).as_str() == text
@@ -9,7 +9,7 @@ fn read(text: &str, pattern: u64) -> bool {
     double_of_text(text.as_bytes()) == Ok(pattern)
 }
 
-fn refused(text: &str, error: ParseError) -> bool {
+fn refused(text: &str, error: DoubleError) -> bool {
     double_of_text(text.as_bytes()) == Err(error)
 }
 
@@ -71,19 +71,19 @@ fn doubles_of_texts(rt: HostRuntime) {
 
 #[test]
 fn refused_texts(rt: HostRuntime) {
-    assert!(rt; refused("1e400", ParseError::OutOfRange));
-    assert!(rt; refused("-1e400", ParseError::OutOfRange));
-    assert!(rt; refused("1.7976931348623159e308", ParseError::OutOfRange));
-    assert!(rt; refused("", ParseError::NotANumber));
-    assert!(rt; refused(" 1.5", ParseError::NotANumber));
-    assert!(rt; refused("1.5 ", ParseError::NotANumber));
-    assert!(rt; refused("0x1p3", ParseError::NotANumber));
-    assert!(rt; refused("1_0", ParseError::NotANumber));
-    assert!(rt; refused("1,5", ParseError::NotANumber));
-    assert!(rt; refused("1e", ParseError::NotANumber));
-    assert!(rt; refused(".", ParseError::NotANumber));
-    assert!(rt; refused("-", ParseError::NotANumber));
-    assert!(rt; refused("inf", ParseError::NotANumber));
-    assert!(rt; refused("-Infinity", ParseError::NotANumber));
-    assert!(rt; refused("NaN", ParseError::NotANumber));
+    assert!(rt; refused("1e400", DoubleError::OutOfRange));
+    assert!(rt; refused("-1e400", DoubleError::OutOfRange));
+    assert!(rt; refused("1.7976931348623159e308", DoubleError::OutOfRange));
+    assert!(rt; refused("", DoubleError::NotANumber));
+    assert!(rt; refused(" 1.5", DoubleError::NotANumber));
+    assert!(rt; refused("1.5 ", DoubleError::NotANumber));
+    assert!(rt; refused("0x1p3", DoubleError::NotANumber));
+    assert!(rt; refused("1_0", DoubleError::NotANumber));
+    assert!(rt; refused("1,5", DoubleError::NotANumber));
+    assert!(rt; refused("1e", DoubleError::NotANumber));
+    assert!(rt; refused(".", DoubleError::NotANumber));
+    assert!(rt; refused("-", DoubleError::NotANumber));
+    assert!(rt; refused("inf", DoubleError::NotANumber));
+    assert!(rt; refused("-Infinity", DoubleError::NotANumber));
+    assert!(rt; refused("NaN", DoubleError::NotANumber));
 }

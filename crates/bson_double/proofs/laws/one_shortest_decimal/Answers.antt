@@ -7,3 +7,6 @@ returns-clause-one c = one_decimal
 
 pub returns-clause-exists : goal.returns-clause-exists
 returns-clause-exists c = λ p some small finite. has_shortest p (record { some = some; small = small; finite = finite })
+
+pub returns-clause-few_digits : goal.returns-clause-few_digits
+returns-clause-few_digits c = λ p d k c' j read higher s. s.highest c' j higher read
