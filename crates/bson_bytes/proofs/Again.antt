@@ -1,23 +1,20 @@
 -- What is in the grammar is read.
-use Rattle.std.proofs.Common.{◌≡◌, ℕ, zero, suc, ◌+◌, ◌^◌, ◌<◌, ◌≤◌, Bool, true, false, cond, eqb, List, [], ◌∷◌, ◌++◌, length, Option, Some, None, Result, Ok, Err, refl, sym, ap, subst, ◌∙◌, append_assoc, arith}
-use Rattle.std.specs.Int.{w32, w64, cast_signed}
+use Rattle.std.proofs.Common.{◌≡◌, ℕ, zero, suc, ◌+◌, ◌^◌, ◌<◌, ◌≤◌, false, eqb, List, [], ◌∷◌, ◌++◌, length, Ok, refl, sym, ap, subst, ◌∙◌, append_assoc, arith}
+use Rattle.std.specs.Int.{w32, w64}
 use Rattle.std.proofs.lemmas.Bool.{eq-eqb, ne_eqb}
 use Rattle.std.proofs.lemmas.List.{length-append}
-use Rattle.bson_bytes.specs.declared.fault.Fault.{Fault}
 use Rattle.bson_scalar.specs.declared.spec.ElementType.{ElementType as Kind}
 use Rattle.bson_scalar.specs.declared.spec.ElementType.TheVariants as tag
 use Rattle.bson_scalar.specs.Subtype.{subtype_of}
 use Rattle.bson_wrapper.specs.Scalar as kind
 use Rattle.bson_bytes.proofs.Tagged.{kind_again}
-use Rattle.bson_bytes.specs.Fault.{at, ◌>>=◌, or_fault}
 use Rattle.bson_scalar.specs.Tags.{tag_of}
-use Rattle.bson_bytes.specs.Tags.{kind_of}
 use Rattle.bson_model.specs.Value.{Value, Values, Pairs, no_pairs, pair}
 use Rattle.bson_model.specs.Value as model
 use Rattle.bson_bytes.specs.Grammar.{le, IsName, IsDocument, is_document, IsList, is_empty, is_element, IsValue}
 use Rattle.bson_bytes.specs.Grammar.{is_double, is_text, is_embedded, is_array, is_binary, is_false, is_true, is_null, is_int32, is_int64, is_old_binary, is_undefined, is_object_id, is_date, is_regex, is_pointer, is_code, is_symbol, is_scope, is_timestamp, is_decimal, is_max, is_min}
-use Rattle.bson_bytes.specs.Grammar.{values, settle, text_bytes, IsText}
-use Rattle.bson_bytes.specs.Reading.{binary_at, boolean_at, bytes_at, regex_at, pointer_at, timestamp_at, scope_at, mapped, settled, value_with, list_at, sized, document_at}
+use Rattle.bson_bytes.specs.Grammar.{settle, text_bytes, IsText}
+use Rattle.bson_bytes.specs.Reading.{binary_at, boolean_at, bytes_at, regex_at, pointer_at, timestamp_at, scope_at, value_with, list_at, document_at}
 use Rattle.bson_bytes.proofs.PartLaws.{wide32, wide64, length-le, number_again, size_again, bytes_again, name_again, text_again, regroup as end_behind}
 use Rattle.bson_bytes.proofs.Takes.{regroup}
 
@@ -76,12 +73,13 @@ scope_again d s bytes ps rest t read lt =
     let n = 4 + (length (text_bytes s) + length bytes) in
     let back = append_assoc (le w32 n) (text_bytes s ++ bytes) rest ∙ ap (λ (x : List ℕ). le w32 n ++ x) (append_assoc (text_bytes s) bytes rest) in
     let counted : length (le w32 n ++ (text_bytes s ++ (bytes ++ rest))) ≡ n + length rest =
-        length-append (le w32 n) (text_bytes s ++ (bytes ++ rest)) ∙ ap (λ (a : ℕ). a + length (text_bytes s ++ (bytes ++ rest))) (length-le w32 (2 ^ 32) wide32 n)
-        ∙ ap (λ (a : ℕ). 4 + a) (length-append (text_bytes s) (bytes ++ rest) ∙ ap (λ (a : ℕ). length (text_bytes s) + a) (length-append bytes rest)) ∙ omega arith in
+    length-append (le w32 n) (text_bytes s ++ (bytes ++ rest)) ∙ ap (λ (a : ℕ). a + length (text_bytes s ++ (bytes ++ rest))) (length-le w32 (2 ^ 32) wide32 n)
+    ∙ ap (λ (a : ℕ). 4 + a) (length-append (text_bytes s) (bytes ++ rest) ∙ ap (λ (a : ℕ). length (text_bytes s) + a) (length-append bytes rest)) ∙ omega arith in
     ap (scope_at (document_at d)) back ∙ rw (size_again n (text_bytes s ++ (bytes ++ rest)) lt, text_again s (bytes ++ rest) t.0 t.1, read, eq-eqb _ _ (sym counted)) refl
 
 mutual
   unfolding value_with boolean_at list_at document_at
+
   value_again : {d : ℕ} {t : Kind} {bytes : List ℕ} {v : Value} → IsValue d t bytes v → (rest : List ℕ)
       → value_with (document_at d) t (bytes ++ rest) ≡ Ok (v, rest)
   value_again (is_double d p lt) rest = rw (number_again w64 (2 ^ 64) wide64 p rest lt) refl
@@ -115,7 +113,7 @@ mutual
   list_again (is_element d t k bytes list v ps name w ws) zero rest le = absurd (omega arith)
   list_again (is_element d t k bytes list v ps name w ws) (suc m) rest le =
       let more : length (list ++ 0 ∷ rest) ≤ m =
-          omega (arith, le, length-append k (0 ∷ (bytes ++ list)), length-append (k ++ 0 ∷ (bytes ++ list)) (0 ∷ rest), length-append bytes list, length-append list (0 ∷ rest)) in
+      omega (arith, le, length-append k (0 ∷ (bytes ++ list)), length-append (k ++ 0 ∷ (bytes ++ list)) (0 ∷ rest), length-append bytes list, length-append list (0 ∷ rest)) in
       ap (λ (x : List ℕ). list_at (value_with (document_at d)) (suc m) (tag_of t ∷ x)) (sym (regroup k bytes list (0 ∷ rest)))
       ∙ rw (tag_some t, kind_again t, name_again k (bytes ++ (list ++ 0 ∷ rest)) name, value_again w (list ++ 0 ∷ rest), list_again ws m rest more) refl
 
@@ -124,7 +122,7 @@ mutual
   document_again (is_document d list ps ws lt) rest =
       let back = end_behind (le w32 (length list + 5)) list rest in
       let counted : length (le w32 (length list + 5) ++ (list ++ 0 ∷ rest)) ≡ length list + 5 + length rest =
-          length-append (le w32 (length list + 5)) (list ++ 0 ∷ rest) ∙ ap (λ (a : ℕ). a + length (list ++ 0 ∷ rest)) (length-le w32 (2 ^ 32) wide32 (length list + 5))
-          ∙ ap (λ (a : ℕ). 4 + a) (length-append list (0 ∷ rest)) ∙ omega arith in
+      length-append (le w32 (length list + 5)) (list ++ 0 ∷ rest) ∙ ap (λ (a : ℕ). a + length (list ++ 0 ∷ rest)) (length-le w32 (2 ^ 32) wide32 (length list + 5))
+      ∙ ap (λ (a : ℕ). 4 + a) (length-append list (0 ∷ rest)) ∙ omega arith in
       ap (document_at (suc d)) (sym back)
       ∙ rw (size_again (length list + 5) (list ++ 0 ∷ rest) lt, list_again ws (length (list ++ 0 ∷ rest)) rest (omega arith), eq-eqb _ _ (sym counted)) refl

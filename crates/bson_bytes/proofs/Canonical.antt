@@ -1,6 +1,6 @@
 -- The bytes that a value is written as are in the grammar, and stand for it.
 use Rattle.std.proofs.Common.{◌≡◌, ℕ, suc, ◌+◌, ◌^◌, ◌<◌, Bool, true, false, cond, eqb, List, [], ◌∷◌, ◌++◌, length, refl, sym, ap, subst}
-use Rattle.std.proofs.Common.{◌∙◌, append_assoc, arith, Ok}
+use Rattle.std.proofs.Common.{◌∙◌, append_assoc, arith}
 use Rattle.std.specs.Prelude.{decimal, ℤ, FitsSigned}
 use Rattle.std.specs.Int.{w32, w64, cast_unsigned}
 use Rattle.std.specs.Char.{digit_value}
@@ -18,10 +18,10 @@ use Rattle.bson_kind.specs.ElementType.{scalar_type}
 use Rattle.bson_wrapper.specs.Scalar.{Scalar, null, undefined, min_key, max_key, boolean, double, int32, int64, text}
 use Rattle.bson_wrapper.specs.Scalar.{symbol, code, regex, timestamp, binary, object_id, date, decimal as decimal128}
 use Rattle.bson_wrapper.specs.Scalar.{db_pointer}
-use Rattle.bson_model.specs.Normal.{map_scalars, map_scalars_of_items, map_scalars_of_pairs}
+use Rattle.bson_model.specs.Normal.{map_scalars, map_scalars_of_items}
 use Rattle.bson_model.specs.Value.{Value, Values, no_values, value, Pairs, no_pairs, pair, scalar, code_scope, array}
 use Rattle.bson_model.specs.Value.{document}
-use Rattle.bson_bytes.specs.Grammar.{le, IsName, NoZero, IsSize, text_bytes, scope_size, scope_bytes, framed, values}
+use Rattle.bson_bytes.specs.Grammar.{le, IsName, NoZero, IsSize, scope_bytes, framed, values}
 use Rattle.bson_bytes.specs.Grammar.{binary_bytes, old_binary_bytes, insert_value, settle, one_each}
 use Rattle.bson_bytes.specs.Grammar.{IsDocument, is_document, IsList, is_empty, is_element, IsValue, is_double, is_text}
 use Rattle.bson_bytes.specs.Grammar.{is_embedded, is_array, is_binary, is_old_binary, is_undefined, is_object_id, is_false}
@@ -29,7 +29,7 @@ use Rattle.bson_bytes.specs.Grammar.{is_true, is_date, is_null, is_regex, is_poi
 use Rattle.bson_bytes.specs.Grammar.{is_int32, is_timestamp, is_int64, is_decimal, is_min, is_max}
 use Rattle.bson_bytes.specs.Laws.{IsRead}
 use Rattle.bson_bytes.specs.Reading.{reads}
-use Rattle.bson_bytes.specs.Writing.{scalar_bytes, subtyped_bytes, subtyped_size, name_bytes, type_of, value_bytes, items_bytes}
+use Rattle.bson_bytes.specs.Writing.{scalar_bytes, name_bytes, type_of, value_bytes, items_bytes}
 use Rattle.bson_bytes.specs.Writing.{list_bytes, document_bytes, FitsScalar, FitsValue, FitsItems, FitsList, FitsDocument}
 use Rattle.bson_bytes.specs.Writing.{by_byte, as_written, TypedScalar, Typed, TypedItems, TypedPairs, TypedDocument}
 use Rattle.bson_bytes.specs.Writing.{Nests, NestsItems, NestsPairs}
@@ -40,9 +40,10 @@ use Rattle.bson_bytes.proofs.PartLaws.{ok_is}
 
 no_zero_digits : (cs : List ℕ) → AllDigits 10 cs → NoZero cs
 no_zero_digits [] h = tt
-no_zero_digits (c ∷ cs) h =
-    ((λ e. let low : digit_value 0 < 10 = subst (λ (x : ℕ). digit_value x < 10) e h.0 in absurd (omega (arith, low))),
-    no_zero_digits cs h.1)
+no_zero_digits (c ∷ cs) h = (
+  (λ e. let low : digit_value 0 < 10 = subst (λ (x : ℕ). digit_value x < 10) e h.0 in absurd (omega (arith, low))),
+  no_zero_digits cs h.1,
+)
 
 decimal_name : (n : ℕ) → n < 2 ^ 64 → IsName (decimal n)
 decimal_name n lt = record {
@@ -165,7 +166,7 @@ mutual
   items_is (value v vs) d n f t h lt =
       let others = items_bytes (n + 1) vs in
       let low : n + 1 + length others < 2 ^ 64 =
-          omega (arith, lt, length-append (name_bytes (type_of v) (decimal n)) (value_bytes v ++ others), length-append (value_bytes v) others) in
+      omega (arith, lt, length-append (name_bytes (type_of v) (decimal n)) (value_bytes v ++ others), length-append (value_bytes v) others) in
       let rest = items_is vs d (n + 1) f.1 t.1 h.1 low in
       record {
         pairs = pair (decimal n) (map_scalars by_byte v) rest.pairs;
@@ -195,4 +196,4 @@ pub written_one : (d : ℕ) (ps qs : Pairs) → FitsDocument ps → FitsDocument
 written_one d ps qs f g t u h k e =
     ok_is (as_written ps) (as_written qs)
     (sym (is_read (suc d) (document_bytes ps) (as_written ps) (written_read d ps f t h)) ∙ ap (reads (suc d)) e
-      ∙ is_read (suc d) (document_bytes qs) (as_written qs) (written_read d qs g u k))
+    ∙ is_read (suc d) (document_bytes qs) (as_written qs) (written_read d qs g u k))

@@ -64,5 +64,5 @@ pub front_read : (d : ℕ) (bytes : List ℕ) (qs : Pairs) (rest : List ℕ) →
 front_read d bytes qs rest h =
     let ps = h.read.elements in
     let read : document_at d bytes ≡ Ok (ps, rest) =
-        ap (document_at d) h.parts ∙ document_again h.read.grammar rest in
+    ap (document_at d) h.parts ∙ document_again h.read.grammar rest in
     ap (settled no_pairs) read ∙ ap (λ (q : Pairs). Ok (q, rest)) (sym h.read.pairs)

@@ -1,5 +1,5 @@
 -- What a part that was read took from the front, and that a part in the grammar is read.
-use Rattle.std.proofs.Common.{◌≡◌, ◌≢◌, ℕ, zero, suc, ◌+◌, ◌-◌, ◌^◌, ◌<◌, ◌≤◌, Bool, true, false, cond, ltb, eqb, List, [], ◌∷◌, ◌++◌, length, get_or, take, drop, Option, Some, None, Result, Ok, Err, refl, sym, ap, subst, ◌∙◌, append_assoc, arith, inl, inr, ◌⊎◌}
+use Rattle.std.proofs.Common.{◌≡◌, ℕ, zero, suc, ◌+◌, ◌-◌, ◌^◌, ◌<◌, ◌≤◌, Bool, true, false, cond, ltb, eqb, List, [], ◌∷◌, ◌++◌, length, get_or, take, drop, Option, Some, None, Result, Ok, Err, refl, sym, ap, subst, ◌∙◌, append_assoc, arith, inl, inr, ◌⊎◌}
 use Rattle.std.specs.Prelude.{option_map}
 use Rattle.std.specs.Int.{Width, w32, w64, byte_len, from_le_bytes, to_le_bytes}
 use Rattle.std.specs.Str.{is_utf8, IsUtf8}
@@ -183,9 +183,6 @@ utf8_refused s bytes n = rw (false_from_ne_true (is_utf8 s) (λ h. n (IsUtf8-fro
 
 -- ---- names
 
-
-
-
 -- the text is the front, with no 0, and behind it the 0 stands
 abbrev pub Splits : List ℕ → List ℕ → List ℕ → Type 0
 Splits bytes k rest = NoZero k × (bytes ≡ k ++ 0 ∷ rest)
@@ -257,8 +254,8 @@ text_takes bytes s rest fits e =
     let len : n.0 ≡ length c.0.0 + 1 = absurd_or n.0 (length c.0.0) some text.spelled.1 in
     let behind : n.1 ≡ c.0.0 ++ 0 ∷ d.0 = text.parts ∙ ap (λ (x : List ℕ). x ++ c.0.1) text.spelled.0 ∙ ap (λ (x : List ℕ). c.0.0 ++ x) end in
     let whole : bytes ≡ (le w32 (length c.0.0 + 1) ++ (c.0.0 ++ 0 ∷ [])) ++ d.0 =
-        size.parts ∙ ap (λ (x : List ℕ). x ++ n.1) size.spelled.0 ∙ ap (λ (k : ℕ). le w32 k ++ n.1) len
-        ∙ ap (λ (x : List ℕ). le w32 (length c.0.0 + 1) ++ x) behind ∙ regroup (le w32 (length c.0.0 + 1)) c.0.0 d.0 in
+    size.parts ∙ ap (λ (x : List ℕ). x ++ n.1) size.spelled.0 ∙ ap (λ (k : ℕ). le w32 k ++ n.1) len
+    ∙ ap (λ (x : List ℕ). le w32 (length c.0.0 + 1) ++ x) behind ∙ regroup (le w32 (length c.0.0 + 1)) c.0.0 d.0 in
     let made : Takes IsTextBytes bytes c.0.0 d.0 = record {
       front = le w32 (length c.0.0 + 1) ++ (c.0.0 ++ 0 ∷ []);
       spelled = (refl, rw utf8.0 utf8.1, omega (arith, size.spelled.1, len));

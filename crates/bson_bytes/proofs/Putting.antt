@@ -1,14 +1,10 @@
 -- What is put behind other bytes are the bytes of the value, and it stops for a cause that the value has.
-use Rattle.std.proofs.Common.{◌≡◌, ◌≢◌, ◌⊎◌, ℕ, suc, ◌+◌, ◌-◌, ◌^◌, ◌<◌, ◌≤◌, Bool, true, false, cond, ltb, eqb, List, [], ◌∷◌, ◌++◌, length, take}
-use Rattle.std.proofs.Common.{drop, Option, None, Some, Result, Ok, Err, refl, sym, ap, subst, ◌∙◌, append_assoc, arith, inl, inr}
+use Rattle.std.proofs.Common.{◌≡◌, ◌⊎◌, ℕ, ◌+◌, ◌-◌, ◌^◌, Bool, true, false, cond, ltb, List, [], ◌∷◌, ◌++◌, length, take}
+use Rattle.std.proofs.Common.{drop, Option, None, Some, Ok, Err, refl, sym, ap, subst, ◌∙◌, append_assoc, arith, inl, inr}
 use Rattle.std.specs.Prelude.{decimal, is_none, ◌&&◌}
 use Rattle.std.specs.Int.{w32}
-use Rattle.std.specs.Char.{digit_value}
-use Rattle.std.specs.Str.Parse.{AllDigits}
 use Rattle.std.proofs.lemmas.Bool.{ltb-true, ltb-false}
-use Rattle.std.proofs.lemmas.Fmt.{IsAscii-decimal, decimal_is_IsNumeral}
 use Rattle.std.proofs.lemmas.List.{take_at, drop_at, length-append, append-nil}
-use Rattle.std.proofs.lemmas.Str.{is_utf8-from_IsUtf8, IsUtf8-from_ascii}
 use Rattle.bson_scalar.specs.declared.spec.ElementType.{ElementType}
 use Rattle.bson_scalar.specs.Subtype.{subtype_byte}
 use Rattle.bson_wrapper.specs.Scalar.{Scalar, null, undefined, min_key, max_key, boolean, double, int32, int64, text}
@@ -16,8 +12,8 @@ use Rattle.bson_wrapper.specs.Scalar.{symbol, code, regex, timestamp, binary, ob
 use Rattle.bson_wrapper.specs.Scalar.{db_pointer}
 use Rattle.bson_model.specs.Value.{Value, Values, no_values, value, Pairs, no_pairs, pair, scalar, code_scope, array}
 use Rattle.bson_model.specs.Value.{document}
-use Rattle.bson_bytes.specs.Grammar.{le, IsName, NoZero, IsSize, text_bytes, scope_size, scope_bytes, framed}
-use Rattle.bson_bytes.specs.Putting.{Put, then, put_sized, put_text, is_free, put_regex, put_binary, put_pointer}
+use Rattle.bson_bytes.specs.Grammar.{le, NoZero, IsSize, text_bytes, scope_size, framed}
+use Rattle.bson_bytes.specs.Putting.{Put, then, put_sized, put_text, is_free, put_regex, put_pointer}
 use Rattle.bson_bytes.specs.Putting.{put_scalar, put_name, put_room, put_length, put_end, put_value, put_items, put_pairs}
 use Rattle.bson_bytes.specs.Putting.{put_document}
 use Rattle.bson_bytes.specs.Reading.{split_zero}
@@ -25,7 +21,7 @@ use Rattle.bson_bytes.specs.Writing.{Cause, zero_in_key, zero_in_regex, too_long
 use Rattle.bson_bytes.specs.Writing.{type_of, value_bytes, items_bytes, list_bytes, document_bytes, regex_bytes}
 use Rattle.bson_bytes.specs.Writing.{FitsScalar, FitsValue, FitsItems, FitsList, FitsDocument, IsLong, HasZeroKey}
 use Rattle.bson_bytes.specs.Writing.{HasZeroRegex, ScalarFails, ValueFails, ItemsFail, ListFails, DocumentFails}
-use Rattle.bson_bytes.proofs.PartLaws.{no_zero_from, none_from_no_zero, wide32, length-le}
+use Rattle.bson_bytes.proofs.PartLaws.{no_zero_from, none_from_no_zero}
 
 -- ---- what was put
 
@@ -134,11 +130,11 @@ sized_is out body b e =
     let zeros : List ℕ = 0 ∷ 0 ∷ 0 ∷ 0 ∷ [] in
     let all : b ≡ out ++ (zeros ++ body) = e ∙ append_assoc out zeros body in
     let len : length b - length out ≡ 4 + length body =
-        omega (arith, ap length all, length-append out (zeros ++ body)) in
+    omega (arith, ap length all, length-append out (zeros ++ body)) in
     let front : take (length out) b ≡ out =
-        ap (take (length out)) all ∙ take_at out (zeros ++ body) (length out) refl in
+    ap (take (length out)) all ∙ take_at out (zeros ++ body) (length out) refl in
     let rest : drop (length out + 4) b ≡ body =
-        ap (drop (length out + 4)) e ∙ drop_at (put_room out) body (length out + 4) (length-append out zeros) in
+    ap (drop (length out + 4)) e ∙ drop_at (put_room out) body (length out + 4) (length-append out zeros) in
     rw (len, front, rest) refl
 
 with_first : (r : Put) (out bytes : List ℕ) (p q : Type 0) (g h : Cause → Type 0) → p → Told out r bytes q h
@@ -152,10 +148,10 @@ told_length : (out : List ℕ) (r : Put) (body : List ℕ) (p : Type 0) (g : Cau
     (λ c. g c ⊎ IsLong c (4 + length body))
 told_length out (Ok b) body p g t =
     subst (λ (x : Put). Told out x (le w32 (4 + length body) ++ body) (p × IsSize (4 + length body))
-      (λ c. g c ⊎ IsLong c (4 + length body))) (sym (sized_is out body b t.1))
+    (λ c. g c ⊎ IsLong c (4 + length body))) (sym (sized_is out body b t.1))
     (with_first (put_sized (4 + length body) (le w32 (4 + length body) ++ body) out) out (le w32 (4 + length body) ++ body) p
-      (IsSize (4 + length body)) g (λ c. IsLong c (4 + length body)) t.0
-      (told_sized (4 + length body) (le w32 (4 + length body) ++ body) out))
+    (IsSize (4 + length body)) g (λ c. IsLong c (4 + length body)) t.0
+    (told_sized (4 + length body) (le w32 (4 + length body) ++ body) out))
 told_length out (Err c) body p g t = inl t
 
 -- a list of elements as a document
@@ -166,10 +162,10 @@ told_end out (Ok b) list p g t =
     let body = list ++ 0 ∷ [] in
     let size : 4 + length body ≡ length list + 5 = ap (λ (n : ℕ). 4 + n) (length-append list (0 ∷ [])) ∙ omega arith in
     let ended : b ++ 0 ∷ [] ≡ put_room out ++ body =
-        ap (λ (x : List ℕ). x ++ 0 ∷ []) t.1 ∙ append_assoc (put_room out) list (0 ∷ []) in
+    ap (λ (x : List ℕ). x ++ 0 ∷ []) t.1 ∙ append_assoc (put_room out) list (0 ∷ []) in
     let whole : Told out (put_end (length out) b) (le w32 (4 + length body) ++ body) (p × IsSize (4 + length body))
-            (λ c. g c ⊎ IsLong c (4 + length body)) =
-        told_length out (Ok (b ++ 0 ∷ [])) body p g (t.0, ended) in
+    (λ c. g c ⊎ IsLong c (4 + length body)) =
+    told_length out (Ok (b ++ 0 ∷ [])) body p g (t.0, ended) in
     subst (λ (n : ℕ). Told out (put_end (length out) b) (le w32 n ++ body) (p × IsSize n) (λ c. g c ⊎ IsLong c n)) size whole
 
 -- ---- values
@@ -192,19 +188,20 @@ told_scope s ps out h =
     let fits = IsSize (length s + 1) × (FitsList ps × IsSize (length (list_bytes ps) + 5)) in
     let fails = λ (c : Cause). IsLong c (length s + 1) ⊎ (ListFails c ps ⊎ IsLong c (length (list_bytes ps) + 5)) in
     let parts : Told (put_room out) (then (put_text s (put_room out)) put) body fits fails =
-        told_then (put_room out) (put_text s (put_room out)) put (text_bytes s) bytes (IsSize (length s + 1))
-        (FitsList ps × IsSize (length (list_bytes ps) + 5)) (λ c. IsLong c (length s + 1))
-        (λ c. ListFails c ps ⊎ IsLong c (length (list_bytes ps) + 5)) (told_sized (length s + 1) (text_bytes s) (put_room out))
-        (λ mid. told_end mid (put_pairs ps (put_room mid)) (list_bytes ps) (FitsList ps) (λ c. ListFails c ps)
-          (h (put_room mid))) in
+    told_then (put_room out) (put_text s (put_room out)) put (text_bytes s) bytes (IsSize (length s + 1))
+    (FitsList ps × IsSize (length (list_bytes ps) + 5)) (λ c. IsLong c (length s + 1))
+    (λ c. ListFails c ps ⊎ IsLong c (length (list_bytes ps) + 5)) (told_sized (length s + 1) (text_bytes s) (put_room out))
+    (λ mid. told_end mid (put_pairs ps (put_room mid)) (list_bytes ps) (FitsList ps) (λ c. ListFails c ps)
+    (h (put_room mid))) in
     let r = then (then (put_text s (put_room out)) put) (put_length (length out)) in
     let whole : Told out r (le w32 (4 + length body) ++ body) (fits × IsSize (4 + length body))
-            (λ c. fails c ⊎ IsLong c (4 + length body)) =
-        told_length out (then (put_text s (put_room out)) put) body fits fails parts in
+    (λ c. fails c ⊎ IsLong c (4 + length body)) =
+    told_length out (then (put_text s (put_room out)) put) body fits fails parts in
     subst (λ (n : ℕ). Told out r (le w32 n ++ body) (fits × IsSize n) (λ c. fails c ⊎ IsLong c n)) size whole
 
 mutual
   unfolding put_value put_items put_pairs
+
   pub told_value : (v : Value) (out : List ℕ) → Told out (put_value v out) (value_bytes v) (FitsValue v) (λ c. ValueFails c v)
   told_value (scalar x) out = told_scalar x out
   told_value (code_scope s ps) out = told_scope s ps out (λ mid. told_pairs ps mid)
@@ -222,8 +219,8 @@ mutual
       prefixed out name (put_items n (value v vs) out) (value_bytes v ++ items_bytes (n + 1) vs) (FitsValue v × FitsItems vs)
       (λ c. ValueFails c v ⊎ ItemsFail c vs)
       (told_then (out ++ name) (put_value v (out ++ name)) (λ b. put_items (n + 1) vs b) (value_bytes v) (items_bytes (n + 1) vs)
-        (FitsValue v) (FitsItems vs) (λ c. ValueFails c v) (λ c. ItemsFail c vs) (told_value v (out ++ name))
-        (λ b. told_items (n + 1) vs b))
+      (FitsValue v) (FitsItems vs) (λ c. ValueFails c v) (λ c. ItemsFail c vs) (told_value v (out ++ name))
+      (λ b. told_items (n + 1) vs b))
 
   pub told_pairs : (ps : Pairs) (out : List ℕ)
       → Told out (put_pairs ps out) (list_bytes ps) (FitsList ps) (λ c. ListFails c ps)
@@ -233,7 +230,7 @@ mutual
       (value_bytes v ++ list_bytes ps) (NoZero k) (FitsValue v × FitsList ps) (λ c. HasZeroKey c k)
       (λ c. ValueFails c v ⊎ ListFails c ps) (told_name (type_of v) k out)
       (λ mid. told_then mid (put_value v mid) (λ b. put_pairs ps b) (value_bytes v) (list_bytes ps) (FitsValue v) (FitsList ps)
-        (λ c. ValueFails c v) (λ c. ListFails c ps) (told_value v mid) (λ b. told_pairs ps b))
+      (λ c. ValueFails c v) (λ c. ListFails c ps) (told_value v mid) (λ b. told_pairs ps b))
 
 pub told_document : (ps : Pairs) (out : List ℕ)
     → Told out (put_document ps out) (document_bytes ps) (FitsDocument ps) (λ c. DocumentFails c ps)
@@ -286,7 +283,7 @@ mutual
   value_fits (scalar x) c f h = scalar_fits x c f h
   value_fits (code_scope s ps) c f h =
       either (either (λ l. long_is c (length s + 1) f.0.0 l)
-        (either (λ l. list_fits ps c f.0.1.0 l) (λ l. long_is c (length (list_bytes ps) + 5) f.0.1.1 l)))
+      (either (λ l. list_fits ps c f.0.1.0 l) (λ l. long_is c (length (list_bytes ps) + 5) f.0.1.1 l)))
       (λ l. long_is c (scope_size s (framed (list_bytes ps))) f.1 l) h
   value_fits (array vs) c f h =
       either (λ l. items_fit vs c f.0 l) (λ l. long_is c (length (items_bytes 0 vs) + 5) f.1 l) h

@@ -1,10 +1,10 @@
 -- What was read is in the grammar.
-use Rattle.std.proofs.Common.{◌≡◌, ℕ, zero, suc, ◌+◌, ◌^◌, ◌<◌, ◌≤◌, Bool, true, false, cond, eqb, List, [], ◌∷◌, ◌++◌, length, Option, Some, None, Result, Ok, Err, refl, sym, ap, subst, ◌∙◌, append_assoc, arith, inl, inr}
+use Rattle.std.proofs.Common.{◌≡◌, ℕ, zero, suc, ◌+◌, ◌^◌, ◌<◌, true, false, cond, eqb, List, [], ◌∷◌, ◌++◌, length, Result, Ok, Err, refl, sym, ap, subst, ◌∙◌, append_assoc, arith, inl, inr}
 use Rattle.std.specs.Int.{w32, w64, cast_signed}
 use Rattle.std.proofs.lemmas.Bool.{eqb-true, eqb-false}
 use Rattle.std.proofs.lemmas.List.{length-append}
 use Rattle.bson_bytes.specs.declared.fault.Fault.{Fault}
-use Rattle.bson_bytes.specs.declared.fault.FaultKind.TheVariants.{Short, Length, Tag, Boolean}
+use Rattle.bson_bytes.specs.declared.fault.FaultKind.TheVariants.{Length, Tag, Boolean}
 use Rattle.bson_scalar.specs.declared.spec.ElementType.{ElementType as Kind}
 use Rattle.bson_scalar.specs.declared.spec.ElementType.TheVariants as tag
 use Rattle.bson_scalar.specs.Subtype.{subtype_of}
@@ -15,11 +15,11 @@ use Rattle.bson_scalar.specs.Tags.{tag_of}
 use Rattle.bson_bytes.specs.Tags.{kind_of}
 use Rattle.bson_model.specs.Value.{Value, Values, Pairs, no_pairs, pair}
 use Rattle.bson_model.specs.Value as model
-use Rattle.bson_bytes.specs.Grammar.{le, IsName, IsDocument, is_document, IsList, is_empty, is_element, IsValue}
+use Rattle.bson_bytes.specs.Grammar.{le, IsDocument, is_document, IsList, is_empty, is_element, IsValue}
 use Rattle.bson_bytes.specs.Grammar.{is_double, is_text, is_embedded, is_array, is_binary, is_false, is_true, is_null, is_int32, is_int64, is_old_binary, is_undefined, is_object_id, is_date, is_regex, is_pointer, is_code, is_symbol, is_scope, is_timestamp, is_decimal, is_max, is_min}
 use Rattle.bson_bytes.specs.Grammar.{values, settle, text_bytes, IsText}
 use Rattle.bson_bytes.specs.Reading.{byte_at, bytes_at, number_at, size_at, name_at, text_at, binary_at, boolean_at, value_with, list_at, sized, document_at, mapped, settled, regex_at, pointer_at, timestamp_at, scope_at, old_binary_at, plain_binary_at}
-use Rattle.bson_bytes.proofs.PartLaws.{IsBytes, IsBytes-rest, Takes, bind_ok, unless_ok, if_ok, chosen, ok_is, or_fault_ok, IsNumber, wide32, wide64, length-le, number_takes, size_takes, bytes_takes, byte_takes, name_takes, text_takes, IsTextBytes, regroup as end_behind}
+use Rattle.bson_bytes.proofs.PartLaws.{IsBytes, IsBytes-rest, Takes, bind_ok, if_ok, chosen, ok_is, or_fault_ok, IsNumber, wide32, wide64, length-le, number_takes, size_takes, bytes_takes, byte_takes, name_takes, text_takes, IsTextBytes, regroup as end_behind}
 
 -- a value and the bytes behind it, as the reader gives them
 abbrev pub Of : (ℕ → Kind → List ℕ → Value → Type 0) → ℕ → Kind → List ℕ → Value × List ℕ → Type 0
@@ -90,7 +90,7 @@ binary_takes d bytes p fits e =
           let same = eqb-true (n.0.0 + 4) b.0.0 g.0 in
           let two : b.0.1 ≡ 2 ∷ c.0.1 = byte ∙ ap (λ (x : ℕ). x ∷ c.0.1) (eqb-true c.0.0 2 old.0) in
           let whole : b.0.1 ≡ (2 ∷ (le w32 (length s.0.0) ++ s.0.0)) ++ s.0.1 = two ∙ ap (λ (x : List ℕ). 2 ∷ x) (inner.parts ∙ ap (λ (x : List ℕ). x ++ n.0.1) inner.spelled.0
-              ∙ ap (λ (x : List ℕ). le w32 n.0.0 ++ x) (held.parts ∙ ap (λ (x : List ℕ). x ++ s.0.1) held.spelled.0) ∙ sym (append_assoc (le w32 n.0.0) s.0.0 s.0.1) ∙ ap (λ (k : ℕ). (le w32 k ++ s.0.0) ++ s.0.1) (sym held.spelled.1)) in
+          ∙ ap (λ (x : List ℕ). le w32 n.0.0 ++ x) (held.parts ∙ ap (λ (x : List ℕ). x ++ s.0.1) held.spelled.0) ∙ sym (append_assoc (le w32 n.0.0) s.0.0 s.0.1) ∙ ap (λ (k : ℕ). (le w32 k ++ s.0.0) ++ s.0.1) (sym held.spelled.1)) in
           let n-is : b.0.0 ≡ length s.0.0 + 4 = omega (arith, same, held.spelled.1) in
           two_parts d tag.Binary bytes (le w32 (length s.0.0 + 4)) b.0.1 (2 ∷ (le w32 (length s.0.0) ++ s.0.0)) s.0.1 (model.scalar (kind.binary (subtype_of 2) s.0.0)) p
           (size.parts ∙ ap (λ (x : List ℕ). x ++ b.0.1) (size.spelled.0 ∙ ap (λ (k : ℕ). le w32 k) n-is)) whole held.rest_bytes
@@ -180,8 +180,8 @@ scope_takes d h bytes p fits e =
     let whole : b.0.1 ≡ (text_bytes s.0.0 ++ doc.front) ++ x.0.1 = text.parts ∙ ap (λ (a : List ℕ). a ++ s.0.1) text.spelled.0 ∙ ap (λ (a : List ℕ). text_bytes s.0.0 ++ a) doc.parts ∙ sym (append_assoc (text_bytes s.0.0) doc.front x.0.1) in
     let front : bytes ≡ le w32 b.0.0 ++ b.0.1 = size.parts ∙ ap (λ (a : List ℕ). a ++ b.0.1) size.spelled.0 in
     let counted : length bytes ≡ 4 + (length (text_bytes s.0.0) + length doc.front + length x.0.1) =
-        ap length front ∙ length-append (le w32 b.0.0) b.0.1 ∙ ap (λ (a : ℕ). a + length b.0.1) (length-le w32 (2 ^ 32) wide32 b.0.0)
-        ∙ ap (λ (a : ℕ). 4 + a) (ap length whole ∙ length-append (text_bytes s.0.0 ++ doc.front) x.0.1 ∙ ap (λ (a : ℕ). a + length x.0.1) (length-append (text_bytes s.0.0) doc.front)) in
+    ap length front ∙ length-append (le w32 b.0.0) b.0.1 ∙ ap (λ (a : ℕ). a + length b.0.1) (length-le w32 (2 ^ 32) wide32 b.0.0)
+    ∙ ap (λ (a : ℕ). 4 + a) (ap length whole ∙ length-append (text_bytes s.0.0 ++ doc.front) x.0.1 ∙ ap (λ (a : ℕ). a + length x.0.1) (length-append (text_bytes s.0.0) doc.front)) in
     let n-is : b.0.0 ≡ 4 + (length (text_bytes s.0.0) + length doc.front) = same_number b.0.0 (length (text_bytes s.0.0)) (length doc.front) (length x.0.1) (length bytes) (eqb-true _ _ g.0) counted in
     two_parts d tag.JavaScriptCodeWithScope bytes (le w32 (4 + (length (text_bytes s.0.0) + length doc.front))) b.0.1 (text_bytes s.0.0 ++ doc.front) x.0.1 (model.code_scope s.0.0 x.0.0) p
     (front ∙ ap (λ (k : ℕ). le w32 k ++ b.0.1) n-is) whole doc.rest_bytes
@@ -248,9 +248,9 @@ list_takes d h (suc m) bytes p fits e =
           let val = value_takes d h k.0 s.0.1 v.0 fits2 v.1 in
           let others = list_takes d h m v.0.1 x.0 val.rest_bytes x.1 in
           let whole : bytes ≡ (tag_of k.0 ∷ (s.0.0 ++ 0 ∷ (val.front ++ others.list))) ++ 0 ∷ x.0.1 =
-              byte ∙ ap (λ (a : ℕ). a ∷ t.1) (sym tag) ∙ ap (λ (a : List ℕ). tag_of k.0 ∷ a) (name.1
-              ∙ ap (λ (a : List ℕ). s.0.0 ++ 0 ∷ a) (val.parts ∙ ap (λ (a : List ℕ). val.front ++ a) others.parts)
-              ∙ regroup s.0.0 val.front others.list (0 ∷ x.0.1)) in
+          byte ∙ ap (λ (a : ℕ). a ∷ t.1) (sym tag) ∙ ap (λ (a : List ℕ). tag_of k.0 ∷ a) (name.1
+          ∙ ap (λ (a : List ℕ). s.0.0 ++ 0 ∷ a) (val.parts ∙ ap (λ (a : List ℕ). val.front ++ a) others.parts)
+          ∙ regroup s.0.0 val.front others.list (0 ∷ x.0.1)) in
           subst (λ (q : Pairs × List ℕ). TakesList d bytes q.0 q.1) (ok_is (pair s.0.0 v.0.0 x.0.0, x.0.1) p x.2)
           record {
             list = tag_of k.0 ∷ (s.0.0 ++ 0 ∷ (val.front ++ others.list));

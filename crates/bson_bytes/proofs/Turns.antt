@@ -1,13 +1,13 @@
 -- Elements one after the other, and documents, as loops read them.
-use Rattle.std.proofs.Common.{◌≡◌, ℕ, zero, suc, ◌+◌, ◌-◌, ◌<◌, ◌≤◌, List, [], ◌∷◌, length, Option, Some, None, Result, Ok, Err}
-use Rattle.std.proofs.Common.{refl, sym, ap, ◌∙◌, arith}
+use Rattle.std.proofs.Common.{◌≡◌, ℕ, zero, suc, ◌+◌, ◌-◌, ◌<◌, ◌≤◌, List, [], ◌∷◌, length, Some, None, Result, Ok, Err}
+use Rattle.std.proofs.Common.{refl, ap, ◌∙◌, arith}
 use Rattle.std.proofs.lemmas.Bool.{eq-eqb, ne_eqb}
 use Rattle.std.proofs.Math.Numerals.{sub-one}
 use Rattle.bson_scalar.specs.declared.spec.ElementType.{ElementType}
 use Rattle.bson_model.specs.Value.{Value, Pairs, no_pairs, pair, code_scope}
 use Rattle.bson_bytes.specs.declared.fault.Fault.{Fault}
 use Rattle.bson_bytes.specs.declared.fault.FaultKind.TheVariants.{Short, Tag, Length, Depth}
-use Rattle.bson_bytes.specs.Fault.{at, ◌>>=◌, or_fault}
+use Rattle.bson_bytes.specs.Fault.{at, ◌>>=◌}
 use Rattle.bson_bytes.specs.Reading.{text_at, scope_at, byte_at, name_at, size_at, mapped, settled, value_with, list_at}
 use Rattle.bson_bytes.specs.Reading.{sized, document_at}
 use Rattle.bson_bytes.specs.Tags.{kind_of}
@@ -104,7 +104,6 @@ document_done d bytes n list ps rest h s x k = sized_as d bytes n list h s ∙ a
 pub document_wrong : (d : ℕ) (bytes : List ℕ) (n : ℕ) (list : List ℕ) (ps : Pairs) (rest : List ℕ) → (d ≡ 0 → ⊥) → size_at bytes ≡ Ok (n, list) → elements (d - 1) (length list) list ≡ Ok (ps, rest)
     → (n + length rest ≡ length bytes → ⊥) → document_at d bytes ≡ Err (at Length bytes)
 document_wrong d bytes n list ps rest h s x k = sized_as d bytes n list h s ∙ ap (λ (r : Read). r >>= sized n bytes) x ∙ rw (ne_eqb _ _ k) refl
-
 
 pub unmapped : {A : Type 0} (f : Pairs → A) (r : Read) (x : Fault) → mapped f r ≡ Err x → r ≡ Err x
 unmapped f (Ok y) x h = absurd cc

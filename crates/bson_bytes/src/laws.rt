@@ -1,8 +1,10 @@
 //! Laws of the definitions.
-ghost use Rattle.std.specs.Prelude.{◌≡◌, ◌↔◌, ◌++◌, ◌<◌, ℕ, List, Ok, slice_index};
+ghost use Rattle.std.specs.Prelude.{◌≡◌, ◌↔◌, ◌++◌, ◌<◌, ℕ, suc, List, Ok, slice_index};
 ghost use Rattle.bson_bytes.specs.Grammar.{IsDocument};
 ghost use Rattle.bson_bytes.specs.Laws.{IsRead};
 ghost use Rattle.bson_bytes.specs.Reading.{reads};
+ghost use Rattle.bson_bytes.specs.Writing.{document_bytes, as_written, Cause, FitsDocument, DocumentFails};
+ghost use Rattle.bson_bytes.specs.Writing.{TypedDocument, NestsPairs};
 ghost use Rattle.bson_model.specs.Value.{Pairs};
 
 /// Bytes are those of a document just if reading them gives it. So what is no document is read as
@@ -16,4 +18,22 @@ pub fn reading_is_grammar()
 pub fn one_document()
     ensures { (d : ℕ) (a b x y : List ℕ) (ps qs : Pairs) → IsDocument d a ps → IsDocument d b qs
         → a ++ x ≡ b ++ y → (a ≡ b) × (ps ≡ qs) }
+{}
+
+/// What a document is written as is read back as that document: the same keys in the same order,
+/// the same numbers, patterns and options, and each binary under the subtype that its byte names.
+pub fn written_is_read()
+    ensures { (d : ℕ) (ps : Pairs) → FitsDocument ps → TypedDocument ps → NestsPairs ps d
+        → IsRead (suc d) (document_bytes ps) (as_written ps) }
+{}
+
+/// Documents that are written as the same bytes are read back as the same.
+pub fn written_is_one()
+    ensures { (d : ℕ) (ps qs : Pairs) → FitsDocument ps → FitsDocument qs → TypedDocument ps → TypedDocument qs
+        → NestsPairs ps d → NestsPairs qs d → document_bytes ps ≡ document_bytes qs → as_written ps ≡ as_written qs }
+{}
+
+/// Where each part of a document fits, none fails for a cause.
+pub fn what_fits_has_no_cause()
+    ensures { (ps : Pairs) (c : Cause) → FitsDocument ps → DocumentFails c ps → ⊥ }
 {}

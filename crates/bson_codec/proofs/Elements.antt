@@ -9,7 +9,7 @@ use Rattle.bson_bytes.proofs.Offered.{Told, told_document, document_fits}
 use Rattle.bson_bytes.specs.Putting.{Put, then, put_name, put_value, put_items, put_pairs, put_room, put_end, put_document}
 use Rattle.bson_bytes.specs.Writing.{type_of, name_bytes, document_bytes, FitsDocument, DocumentFails, Cause, zero_in_key}
 use Rattle.bson_bytes.specs.Writing.{zero_in_regex, too_long}
-use Rattle.bson.proofs.Seen.{document_view-pairs}
+use Rattle.bson_codec.proofs.Seen.{document_view-pairs}
 use Rattle.bson.specs.ElementType.{value_type}
 use Rattle.bson.specs.View.{bson_view, document_view, values_view, pairs_view, contents}
 use Rattle.bson.specs.declared.bson.Bson.{Bson}

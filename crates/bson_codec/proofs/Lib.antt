@@ -1,3 +1,4 @@
+pub mod Seen
 pub mod Loop
 pub mod Ends
 pub mod Weights

@@ -14,7 +14,7 @@ use Rattle.bson.specs.Pairs.{insert_pair}
 use Rattle.bson.specs.View.{bson_view, document_view, values_view, pairs_view, contents}
 use Rattle.bson.specs.declared.bson.Bson.{Bson}
 use Rattle.bson.specs.declared.document.Document.{Document}
-use Rattle.bson.proofs.Seen.{document_view-pairs}
+use Rattle.bson_codec.proofs.Seen.{document_view-pairs}
 use Rattle.bson_codec.specs.Reading.{Stops}
 use Rattle.bson_codec.specs.declared.stopped.Stopped.{Stopped}
 use Rattle.bson_codec.specs.declared.stopped.Stopped.TheVariants as stopped

@@ -1,11 +1,9 @@
 -- How much a value holds, for the measure of the writer.
-use Rattle.std.proofs.Common.{◌≡◌, rules, ℕ, ◌+◌, ◌<◌, zero, suc, List, [], ◌∷◌, length, get_or, arith}
+use Rattle.std.proofs.Common.{ℕ, ◌+◌, ◌<◌, zero, suc, List, [], ◌∷◌, length, get_or, arith}
 use Rattle.bson_model.specs.Value.{Value, Values, no_values, value, Pairs, no_pairs, pair, scalar, code_scope, array}
 use Rattle.bson_model.specs.Value.{document}
-use Rattle.bson.specs.declared.bson.Bson.{Bson, the_lemmas}
-use Rattle.bson.specs.declared.bson.Bson.TheVariants.{JavaScriptCodeWithScope as scoped}
-use Rattle.bson.specs.declared.bson.JavaScriptCodeWithScope.{JavaScriptCodeWithScope}
-use Rattle.bson.specs.View.{bson_view, scoped_view, values_view}
+use Rattle.bson.specs.declared.bson.Bson.{Bson}
+use Rattle.bson.specs.View.{bson_view, values_view}
 
 abbrev mutual
   pub weight : Value → ℕ
@@ -27,6 +25,3 @@ pub lighter_item : (vs : List Bson) (i : ℕ) (v : Bson) → i < length vs
 lighter_item [] i v lt = absurd (omega arith)
 lighter_item (w ∷ vs) zero v lt = omega arith
 lighter_item (w ∷ vs) (suc i) v lt = let h = lighter_item vs i v (omega arith) in omega (arith, h)
-
-pub scoped_seen : (s : JavaScriptCodeWithScope) → bson_view (scoped s) ≡ scoped_view s
-scoped_seen s = search (rules, the_lemmas)

@@ -1,6 +1,7 @@
 //! Bytes of documents.
-ghost use Rattle.std.specs.Prelude.{◌≡◌, IfOk, OnOk, IfErr};
-ghost use Rattle.bson_bytes.specs.Writing.{document_bytes, FitsDocument};
+ghost use Rattle.std.specs.Prelude.{◌≡◌, ℕ, suc, IfOk, OnOk, IfErr};
+ghost use Rattle.bson_bytes.specs.Laws.{IsRead};
+ghost use Rattle.bson_bytes.specs.Writing.{document_bytes, as_written, FitsDocument, TypedDocument, NestsPairs};
 ghost use Rattle.bson.specs.View.{document_view};
 ghost use Rattle.bson_codec.specs.Writing.{IsRefusal};
 ghost use Rattle.bson_codec.specs.declared.ser.Error.TheVariants as errors;
@@ -54,6 +55,10 @@ pub fn to_vec(alloc: Global, document: &Document) -> Result<Vec<u8>>
     // The canonical bytes, and each part fits.
     ensures ok { IfOk result (λ out. out.items ≡ document_bytes (document_view document.now)) }
     ensures fits { OnOk result (FitsDocument (document_view document.now)) }
+    // They are read back as the document, each binary under the subtype that its byte names.
+    ensures back { IfOk result (λ out. (d : ℕ) → TypedDocument (document_view document.now)
+        → NestsPairs (document_view document.now) d
+        → IsRead (suc d) out.items (as_written (document_view document.now))) }
     // Where each part fits, it is refused for memory alone.
     ensures only { FitsDocument (document_view document.now) → IfErr result (λ e. e ≡ errors.OutOfMemory) }
     // Some part has that cause.

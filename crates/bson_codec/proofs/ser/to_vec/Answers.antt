@@ -1,6 +1,9 @@
-use Rattle.std.proofs.Common.{◌≡◌, List, ℕ, sym, ap, subst, ◌∙◌}
+use Rattle.std.proofs.Common.{◌≡◌, List, ℕ, suc, sym, ap, subst, ◌∙◌}
 use Rattle.std.proofs.lemmas.Result.{err_from_is_err_and}
+use Rattle.bson_bytes.proofs.Offered.{written_read}
+use Rattle.bson_bytes.specs.Laws.{IsRead}
 use Rattle.bson_bytes.specs.Putting.{put_document}
+use Rattle.bson_bytes.specs.Writing.{as_written}
 use Rattle.bson.specs.View.{document_view}
 use Rattle.bson_codec.specs.Writing.{StopsFor}
 use Rattle.bson_codec.proofs.Elements.{told_ok, refusal, only_memory}
@@ -26,6 +29,13 @@ pub returns-clause-ok : goal.returns-clause-ok
 returns-clause-ok c =
     let ps = document_view c.args.document.now in
     (told_ok ps c.put_document.new.out.items (ap (put_document ps) (sym c.new-out.ensures.items) ∙ c.in_ok-put_document.ensures.put)).1
+
+pub returns-clause-back : goal.returns-clause-back
+returns-clause-back c = λ d typed nests.
+    let ps = document_view c.args.document.now in
+    let put = ap (put_document ps) (sym c.new-out.ensures.items) ∙ c.in_ok-put_document.ensures.put in
+    let told = told_ok ps c.put_document.new.out.items put in
+    subst (λ (out : List ℕ). IsRead (suc d) out (as_written ps)) (sym told.1) (written_read d ps told.0 typed nests)
 
 pub returns-clause-fits : goal.returns-clause-fits
 returns-clause-fits c =

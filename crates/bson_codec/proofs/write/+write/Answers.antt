@@ -9,7 +9,8 @@ use Rattle.bson.specs.declared.bson.Bson.{Bson}
 use Rattle.bson_codec.specs.Writing.{Puts}
 use Rattle.bson_codec.proofs.Elements.{array_bad, array_next, array_end, named, left_is, key_stops, key_put, value_stops}
 use Rattle.bson_codec.proofs.Elements.{document_end, next_pair}
-use Rattle.bson_codec.proofs.Weights.{weight, weight_items, weight_pairs, lighter_item, scoped_seen}
+use Rattle.bson_codec.proofs.Seen.{scoped_seen}
+use Rattle.bson_codec.proofs.Weights.{weight, weight_items, weight_pairs, lighter_item}
 use Rattle.bson_codec.proofs.write.+write.Goals as goal
 
 pub put_value-put_scoped-requires : goal.put_value-put_scoped-requires
