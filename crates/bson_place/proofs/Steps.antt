@@ -4,8 +4,6 @@ use Rattle.std.proofs.Common.{IsSome, ℤ, Result, Ok, Err, IfOk, MatchOption, M
 use Rattle.std.proofs.Common.{String, Global, string_bytes, rules, length, arith}
 use Rattle.std.specs.Prelude.{codes}
 use Rattle.std.specs.Str.{bytes_eq}
-use Rattle.std.proofs.lemmas.Bool.{and_parts}
-use Rattle.std.proofs.lemmas.Slice.Eq.{bytes_eq-Decides}
 use Rattle.std.specs.declared.alloc.AllocError.{AllocError}
 use Rattle.serde_json.specs.Data.{Data, Num, Items, item, Members, no_members, member}
 use Rattle.serde_json.specs.Data as tree
@@ -20,15 +18,15 @@ use Rattle.bson_wrapper.specs.Reading.{single_at, on_text}
 use Rattle.bson_wrapper.specs.Scalar.{Scalar}
 use Rattle.bson_wrapper.specs.Scalar as kind
 use Rattle.bson_wrapper.specs.Table.{wrapper_of, has_wrapper}
-use Rattle.bson_wrapper.specs.declared.error.Error.{Error}
 use Rattle.bson_model.specs.Reading.{reads, reads_items, reads_members, reads_wrapper, reads_scope, scalar_value}
 use Rattle.bson_model.specs.Reading.{code_at, code_value, scope_value}
 use Rattle.bson_model.specs.Value.{Value, Values, value, Pairs, pair}
 use Rattle.bson_model.specs.Value as model
 use Rattle.bson_model.proofs.Offered.{Member}
 use Rattle.bson_place.specs.declared.place.Place.{Place}
+use Rattle.bson_place.specs.declared.place.Reason.{Reason}
 use Rattle.bson_place.specs.Place.{dotted, word_of, Turn, key, way_of, FaultAt, FaultAmong, FaultIn, number, array}
-use Rattle.bson_place.specs.Place.{document, wrapper, scope, shape, later, behind, HasValue, IsErrorOf, IsPlace}
+use Rattle.bson_place.specs.Place.{document, wrapper, scope, shape, later, behind, HasValue, IsReason, IsPlace}
 use Rattle.bson_place.specs.Place.{HasScope, IsScopeFault, in_scope, no_scope, IsOpen, code_with_scope}
 
 -- ---- what a value stands for
@@ -66,20 +64,20 @@ number_value n h = whole_value (as_i64 n) h
 
 -- ---- places
 
--- the same error at a way that leads through one more turn
+-- the same reason at a way that leads through one more turn
 pub carried : {A B : Fault → List Turn → Type 0} (p q : Place) (t : Turn)
     → ((f : Fault) (way : List Turn) → A f way → B f (way ++ t ∷ []))
-    → way_of q ≡ way_of p ++ t ∷ [] → q.error ≡ p.error → IsPlace A p → IsPlace B q
-carried {A} {B} p q t f way error is = record {
+    → way_of q ≡ way_of p ++ t ∷ [] → q.reason ≡ p.reason → IsPlace A p → IsPlace B q
+carried {A} {B} p q t f way reason is = record {
   fault = is.fault;
   way = subst (B is.fault) (sym way) (f is.fault (way_of p) is.way);
-  error = subst (IsErrorOf is.fault) (sym error) is.error;
+  reason = subst (IsReason is.fault) (sym reason) is.reason;
 }
 
 -- the same place, seen from further out
 with_place : {A B : Fault → List Turn → Type 0} (p : Place) → ((f : Fault) (way : List Turn) → A f way → B f way)
     → IsPlace A p → IsPlace B p
-with_place p f is = record { fault = is.fault; way = f is.fault (way_of p) is.way; error = is.error }
+with_place p f is = record { fault = is.fault; way = f is.fault (way_of p) is.way; reason = is.reason }
 
 pub found_from : {V W : Type 0} {A B : Fault → List Turn → Type 0} (r : Result (Option Place) AllocError) → (V → W)
     → ((f : Fault) (way : List Turn) → A f way → B f way)
@@ -142,7 +140,7 @@ member_less k d rest all v is = record {
   fault = λ f way h. is.fault f way (behind k d v.0 rest v.1 h);
 }
 
-document_value : (ms : Members) → has_wrapper ms ≡ false → HasPairs ms → HasValue (tree.object ms)
+pub document_value : (ms : Members) → has_wrapper ms ≡ false → HasPairs ms → HasValue (tree.object ms)
 document_value ms none ps = (
   model.document ps.0,
   ap (λ b. cond b (reads_wrapper ms) (reads_members ms >>= λ qs. Ok (model.document qs))) none
@@ -165,9 +163,9 @@ pub lone_value : (k : List ℕ) (d : Data) (x : Scalar) → has_wrapper (member 
 lone_value k d x h e = (model.scalar x, wrapped (member k d no_members) h ∙ ap scalar_value e)
 
 -- a place at a tree itself
-pub at_once : {A : Fault → List Turn → Type 0} (p : Place) → IsErrorOf wrong_shape p.error → way_of p ≡ []
+pub at_once : {A : Fault → List Turn → Type 0} (p : Place) → IsReason wrong_shape p.reason → way_of p ≡ []
     → A wrong_shape [] → IsPlace A p
-at_once {A} p error way a = record { fault = wrong_shape; way = subst (A wrong_shape) (sym way) a; error = error }
+at_once {A} p reason way a = record { fault = wrong_shape; way = subst (A wrong_shape) (sym way) a; reason = reason }
 
 -- two keys that are not those of code and its scope
 not_open_by_keys : (k : List ℕ) (d : Data) (l : List ℕ) (e : Data)
@@ -186,81 +184,56 @@ not_code k d l e w h =
     let ms = member k d (member l e no_members) in
     shape ms w (not_open_by_keys k d l e h) (wrapped ms w ∙ other_keys k d l (reads_scope e) h)
 
-same_branches : (b : Bool) (x y : Result Value Fault) → x ≡ y → cond b x y ≡ y
-same_branches true x y h = h
-same_branches false x y h = refl
+abbrev pub Coded : Data → Data → Members
+Coded d e = member (codes "$code") d (member (codes "$scope") e no_members)
 
-no_code_text : (k : List ℕ) (d : Data) (l : List ℕ) (e : Data) → ((s : List ℕ) → d ≡ tree.string s → ⊥)
-    → code_at k d l (reads_scope e) ≡ Err wrong_shape
-no_code_text k tree.null l e h = same_branches _ _ _ refl
-no_code_text k (tree.boolean b) l e h = same_branches _ _ _ refl
-no_code_text k (tree.number n) l e h = same_branches _ _ _ refl
-no_code_text k (tree.string s) l e h = absurd (h s refl)
-no_code_text k (tree.array ds) l e h = same_branches _ _ _ refl
-no_code_text k (tree.object ms) l e h = same_branches _ _ _ refl
+no_code_text : (d e : Data) → ((s : List ℕ) → d ≡ tree.string s → ⊥)
+    → code_at (codes "$code") d (codes "$scope") (reads_scope e) ≡ Err wrong_shape
+no_code_text tree.null e h = refl
+no_code_text (tree.boolean b) e h = refl
+no_code_text (tree.number n) e h = refl
+no_code_text (tree.string s) e h = absurd (h s refl)
+no_code_text (tree.array ds) e h = refl
+no_code_text (tree.object ms) e h = refl
 
-not_open_by_code : (k : List ℕ) (d : Data) (l : List ℕ) (e : Data) → ((s : List ℕ) → d ≡ tree.string s → ⊥)
-    → IsOpen (member k d (member l e no_members)) → ⊥
-not_open_by_code k d l e h (code_with_scope s ms) = h s refl
+not_open_by_code : (d e : Data) → ((s : List ℕ) → d ≡ tree.string s → ⊥) → IsOpen (Coded d e) → ⊥
+not_open_by_code d e h (code_with_scope s ms) = h s refl
 
-pub not_text : (k : List ℕ) (d : Data) (l : List ℕ) (e : Data) → has_wrapper (member k d (member l e no_members)) ≡ true
-    → ((s : List ℕ) → d ≡ tree.string s → ⊥)
-    → FaultAt wrong_shape (tree.object (member k d (member l e no_members))) []
-not_text k d l e w h =
-    let ms = member k d (member l e no_members) in
-    shape ms w (not_open_by_code k d l e h) (wrapped ms w ∙ no_code_text k d l e h)
+pub not_text : (d e : Data) → ((s : List ℕ) → d ≡ tree.string s → ⊥) → FaultAt wrong_shape (tree.object (Coded d e)) []
+not_text d e h = shape (Coded d e) refl (not_open_by_code d e h) (no_code_text d e h)
 
-not_open_by_scope : (k : List ℕ) (d : Data) (l : List ℕ) (e : Data) → ((ms : Members) → e ≡ tree.object ms → ⊥)
-    → IsOpen (member k d (member l e no_members)) → ⊥
-not_open_by_scope k d l e h (code_with_scope s ms) = h ms refl
+not_open_by_scope : (d e : Data) → ((ms : Members) → e ≡ tree.object ms → ⊥) → IsOpen (Coded d e) → ⊥
+not_open_by_scope d e h (code_with_scope s ms) = h ms refl
 
-code_read : (k : List ℕ) (d : Data) (l : List ℕ) (s : List ℕ) (r : Result (Option Pairs) Fault)
-    → (bytes_eq k (codes "$code") && bytes_eq l (codes "$scope")) ≡ true → d ≡ tree.string s
-    → code_at k d l r ≡ scope_value s r
-code_read k d l s r h e = rw e (ap (λ b. cond b (scope_value s r) (Err wrong_shape)) h)
+code_read : (d e : Data) (s : List ℕ) → d ≡ tree.string s
+    → reads (tree.object (Coded d e)) ≡ scope_value s (reads_scope e)
+code_read d e s is = rw is refl
 
-value_of_code : (k : List ℕ) (d : Data) (l : List ℕ) (e : Data) (s : List ℕ)
-    → has_wrapper (member k d (member l e no_members)) ≡ true
-    → (bytes_eq k (codes "$code") && bytes_eq l (codes "$scope")) ≡ true
-    → d ≡ tree.string s → HasScope e → HasValue (tree.object (member k d (member l e no_members)))
-value_of_code k d l e s w h is ps = (
-  code_value s ps.0,
-  wrapped (member k d (member l e no_members)) w ∙ code_read k d l s (reads_scope e) h is
-      ∙ ap (scope_value s) ps.1,
-)
+pub value_of_code : (d e : Data) (s : List ℕ) → d ≡ tree.string s → HasScope e → HasValue (tree.object (Coded d e))
+value_of_code d e s is ps = (code_value s ps.0, code_read d e s is ∙ ap (scope_value s) ps.1)
 
-scope_way : (k : List ℕ) (d : Data) (l : List ℕ) (e : Data) (s : List ℕ)
-    → has_wrapper (member k d (member l e no_members)) ≡ true → k ≡ codes "$code" → l ≡ codes "$scope"
-    → d ≡ tree.string s → (f : Fault) (way : List Turn) → IsScopeFault l e f way
-    → FaultAt f (tree.object (member k d (member l e no_members))) way
-scope_way k d l e s w a b is f way (in_scope ms h) = rw (a, b, is) (scope s ms h)
-scope_way k d l e s w a b is f way (no_scope x none bad_scope) =
-    let ms = member k d (member l e no_members) in
-    shape ms w (not_open_by_scope k d l e none) (wrapped ms w ∙ code_read k d l s (reads_scope e) (rw (a, b) refl) is
-    ∙ ap (scope_value s) bad_scope)
+pub scope_way : (d e : Data) (s : List ℕ) → d ≡ tree.string s → (f : Fault) (way : List Turn) → IsScopeFault e f way
+    → FaultAt f (tree.object (Coded d e)) way
+scope_way d e s is f way (in_scope ms h) = rw is (scope s ms h)
+scope_way d e s is f way (no_scope x none bad_scope) =
+    shape (Coded d e) refl (not_open_by_scope d e none) (code_read d e s is ∙ ap (scope_value s) bad_scope)
 
-pub of_code : (k : List ℕ) (d : Data) (l : List ℕ) (e : Data) (r : Result (Option Place) AllocError)
-    → has_wrapper (member k d (member l e no_members)) ≡ true
-    → (bytes_eq k (codes "$code") && bytes_eq l (codes "$scope")) ≡ true → (s : List ℕ) × (d ≡ tree.string s)
-    → IfOk r (λ found. MatchOption found (HasScope e) (IsPlace (IsScopeFault l e)))
+pub of_code : (d e : Data) (r : Result (Option Place) AllocError) → (s : List ℕ) × (d ≡ tree.string s)
+    → IfOk r (λ found. MatchOption found (HasScope e) (IsPlace (IsScopeFault e)))
     → IfOk r
-    (λ found. MatchOption found (HasValue (tree.object (member k d (member l e no_members))))
-    (IsPlace (λ f. FaultAt f (tree.object (member k d (member l e no_members))))))
-of_code k d l e r w h text g =
-    let keys = and_parts _ _ h in
-    found_from r (value_of_code k d l e text.0 w h text.1)
-    (scope_way k d l e text.0 w ((bytes_eq-Decides _ _).0 keys.0) ((bytes_eq-Decides _ _).0 keys.1) text.1) g
+    (λ found. MatchOption found (HasValue (tree.object (Coded d e))) (IsPlace (λ f. FaultAt f (tree.object (Coded d e)))))
+of_code d e r text g = found_from r (value_of_code d e text.0 text.1) (scope_way d e text.0 text.1) g
 
 pub no_number : (n : Num) → as_i64 n ≡ None → FaultAt wrong_shape (tree.number n) []
 no_number n h = number n (ap (λ o. or_wrong_shape o >>= λ z. Ok (narrowest z)) h)
 
-pub no_scope_found : (k : List ℕ) (d e : Data) (p : Place) → d ≡ e → ((ms : Members) → e ≡ tree.object ms → ⊥)
-    → reads_scope e ≡ Err wrong_shape → IsErrorOf wrong_shape p.error → way_of p ≡ [] → IsPlace (IsScopeFault k d) p
-no_scope_found k d e p is none h error way = rw is (at_once p error way (no_scope e none h))
+pub no_scope_found : (d e : Data) (p : Place) → d ≡ e → ((ms : Members) → e ≡ tree.object ms → ⊥)
+    → reads_scope e ≡ Err wrong_shape → IsReason wrong_shape p.reason → way_of p ≡ [] → IsPlace (IsScopeFault d) p
+no_scope_found d e p is none h reason way = rw is (at_once p reason way (no_scope e none h))
 
-pub scope_found : (k : List ℕ) (ms : Members) (f : Fault) (way : List Turn) → FaultIn f ms way
-    → IsScopeFault k (tree.object ms) f (way ++ key k ∷ [])
-scope_found k ms f way h = in_scope ms h
+pub scope_found : (ms : Members) (f : Fault) (way : List Turn) → FaultIn f ms way
+    → IsScopeFault (tree.object ms) f (way ++ key (codes "$scope") ∷ [])
+scope_found ms f way h = in_scope ms h
 
 pub scope_of_map : (ms : Members) → HasPairs ms → HasScope (tree.object ms)
 scope_of_map ms ps = (Some ps.0, ap (λ r. r >>= λ qs. Ok (Some qs)) ps.1)
@@ -281,10 +254,10 @@ pub is_false : {Q : Type 0} (P : Type 0) (b : Bool) → b ≡ false → MatchBoo
 is_false P true e h = cc
 is_false P false e h = h
 
--- the error of a wrapper's value, at its key
-pub lone_place : (k : List ℕ) (d : Data) (f : Fault) (e : Error) (r : Result (Option Place) AllocError)
-    → has_wrapper (member k d no_members) ≡ true → single_at (wrapper_of k) d ≡ Err f → IsErrorOf f e
-    → IfOk r (λ found. MatchOption found ⊥ (λ p. (way_of p ≡ key k ∷ []) × (p.error ≡ e)))
+-- the reason at a wrapper's key
+pub lone_place : (k : List ℕ) (d : Data) (f : Fault) (e : Reason) (r : Result (Option Place) AllocError)
+    → has_wrapper (member k d no_members) ≡ true → single_at (wrapper_of k) d ≡ Err f → IsReason f e
+    → IfOk r (λ found. MatchOption found ⊥ (λ p. (way_of p ≡ key k ∷ []) × (p.reason ≡ e)))
     → IfOk r
     (λ found. MatchOption found (HasValue (tree.object (member k d no_members)))
     (IsPlace (λ g. FaultAt g (tree.object (member k d no_members)))))
@@ -292,37 +265,22 @@ lone_place k d f e (Ok None) w h is p = absurd p
 lone_place k d f e (Ok (Some place)) w h is p = record {
   fault = f;
   way = subst (λ way. FaultAt f (tree.object (member k d no_members)) way) (sym p.0) (wrapper k d w h);
-  error = subst (IsErrorOf f) (sym p.1) is;
+  reason = subst (IsReason f) (sym p.1) is;
 }
 lone_place k d f e (Err o) w h is p = tt
 
 -- ---- a map of two keys and of more
 
-never : {k l m : List ℕ} {c d e : Data} {ms : Members} → IsOpen (member k c (member l d (member m e ms))) → ⊥
+pub never : {k l m : List ℕ} {c d e : Data} {ms : Members} → IsOpen (member k c (member l d (member m e ms))) → ⊥
 never is = elim is [ ]
 
-not_open_by_more : (x y : Member) (rest : List Member) → (length rest ≡ 0 → ⊥) → IsOpen (members_view (x ∷ y ∷ rest))
-    → ⊥
-not_open_by_more x y [] h is = h refl
-not_open_by_more x y (z ∷ rest) h is = never is
-
-pub more_found : (es : List Member) (x y : Member) (mid rest : List Member) → es ≡ x ∷ mid → mid ≡ y ∷ rest
-    → (length rest ≡ 0 → ⊥) → has_wrapper (members_view es) ≡ true → reads_wrapper (members_view es) ≡ Err wrong_shape
-    → FaultAt wrong_shape (tree.object (members_view es)) []
-more_found es x y mid rest a b h w e =
-    shape (members_view es) w (subst (λ l. IsOpen (members_view l)
-    → ⊥) (sym (a ∙ ap (λ l. x ∷ l) b)) (not_open_by_more x y rest h)) (wrapped (members_view es) w ∙ e)
-
-two_left : (x y : Member) (rest : List Member) → length rest ≡ 0
-    → members_view (x ∷ y ∷ rest) ≡ member (string_bytes x.0) (view x.1)
-    (member (string_bytes y.0) (view y.1) no_members)
-two_left x y [] h = refl
-two_left x y (z ∷ rest) h = absurd (omega arith)
-
-pub two_members_left : (es : List Member) (x y : Member) (mid rest : List Member) → es ≡ x ∷ mid → mid ≡ y ∷ rest
-    → length rest ≡ 0
-    → members_view es ≡ member (string_bytes x.0) (view x.1) (member (string_bytes y.0) (view y.1) no_members)
-two_members_left es x y mid rest a b h = rw (a, b) (two_left x y rest h)
+pub more_found : (es more : List Member) (x y z : Member) → es ≡ x ∷ y ∷ z ∷ more
+    → has_wrapper (members_view es) ≡ true → FaultAt wrong_shape (tree.object (members_view es)) []
+more_found es more x y z is w =
+    let ms = members_view (x ∷ y ∷ z ∷ more) in
+    let has : has_wrapper ms ≡ true = subst (λ l. has_wrapper (members_view l) ≡ true) is w in
+    subst (λ l. FaultAt wrong_shape (tree.object (members_view l)) []) (sym is)
+    (shape ms has (λ o. never o) (wrapped ms has))
 
 -- ---- the text of a way
 

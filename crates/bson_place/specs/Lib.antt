@@ -1,4 +1,5 @@
 pub mod Place
+pub mod Shape
 -- what public clauses cite of the crates below, so that a caller names this crate alone
 pub use Rattle.bson_wrapper.specs.Faults
 pub use Rattle.bson_model.specs.Value

@@ -7,13 +7,14 @@ use Rattle.bson_wrapper.specs.Faults.{Fault, wrong_shape, wrong_id, IsIdFault}
 use Rattle.bson_wrapper.specs.Reading.{number_read, single_at}
 use Rattle.bson_wrapper.specs.Shapes.{object_of_two}
 use Rattle.bson_wrapper.specs.Table.{wrapper_of, has_wrapper}
-use Rattle.bson_wrapper.specs.declared.error.Error.{Error}
-use Rattle.bson_wrapper.specs.declared.error.Error.TheVariants.{InvalidObjectId, DeserializationError, OutOfMemory}
+use Rattle.bson_model.specs.Fault.{MeansNothing, fault_of}
 use Rattle.bson_model.specs.Reading.{reads, reads_scope}
 use Rattle.bson_model.specs.Value.{Value, Pairs}
 use Rattle.bson_place.specs.declared.place.Step.{Step}
 use Rattle.bson_place.specs.declared.place.Step.TheVariants as declared
 use Rattle.bson_place.specs.declared.place.Place.{Place}
+use Rattle.bson_place.specs.declared.place.Reason.{Reason}
+use Rattle.bson_place.specs.declared.place.Reason.TheVariants.{BadObjectId, WrongShape}
 
 -- ---- the way
 
@@ -86,17 +87,22 @@ mutual
 
 -- ---- what is found
 
--- the error is that of the fault
-abbrev pub IsErrorOf : Fault → Error → Type 0
-IsErrorOf f OutOfMemory = ⊥
-IsErrorOf f (DeserializationError message) = f ≡ wrong_shape
-IsErrorOf f (InvalidObjectId e) = (s : List ℕ) × (f ≡ wrong_id s) × IsIdFault s e
+-- the reason is that of the fault
+abbrev pub IsReason : Fault → Reason → Type 0
+IsReason f (WrongShape message) = f ≡ wrong_shape
+IsReason f (BadObjectId e) = (s : List ℕ) × (f ≡ wrong_id s) × IsIdFault s e
 
--- a fault lies at the place, and the place has its error
+-- a fault lies at the place, for its reason
 pub record IsPlace (lies : Fault → List Turn → Type 0) (place : Place) : Type 0 where
   pub fault : Fault
   pub way : lies fault (way_of place)
-  pub error : IsErrorOf fault place.error
+  pub reason : IsReason fault place.reason
+
+-- the tree means nothing, and its first fault lies at the place, for its reason
+pub record IsFirstFault (t : Data) (place : Place) : Type 0 where
+  pub nothing : MeansNothing t
+  pub way : FaultAt (fault_of t) t (way_of place)
+  pub reason : IsReason (fault_of t) place.reason
 
 -- the tree has a value
 abbrev pub HasValue : Data → Type 0
@@ -108,9 +114,9 @@ HasValue t = (v : Value) × (reads t ≡ Ok v)
 abbrev pub HasScope : Data → Type 0
 HasScope d = (ps : Option Pairs) × (reads_scope d ≡ Ok ps)
 
--- why a tree that stands at this key is no scope, and the way from the fault to the object that it stands in
-pub data IsScopeFault (k : List ℕ) : Data → Fault → List Turn → Type 0 where
+-- why a tree is no scope, and the way from the fault to the object that it stands in
+pub data IsScopeFault : Data → Fault → List Turn → Type 0 where
   in_scope : {f : Fault} {way : List Turn} (ms : Members) → FaultIn f ms way
-      → IsScopeFault k (tree.object ms) f (way ++ key k ∷ [])
+      → IsScopeFault (tree.object ms) f (way ++ key (codes "$scope") ∷ [])
   no_scope : (d : Data) → ((ms : Members) → d ≡ tree.object ms → ⊥) → reads_scope d ≡ Err wrong_shape
-      → IsScopeFault k d wrong_shape []
+      → IsScopeFault d wrong_shape []

@@ -2,14 +2,14 @@
 ghost use Rattle.std.specs.Prelude.{◌≡◌, ◌++◌, map, IfOk, OnOk, string_bytes};
 ghost use Rattle.bson_place.specs.Place.{dotted, turn_of, way_of, word_of};
 
-use bson_wrapper::error::Error;
+use bson_scalar::oid;
 use std::alloc::{AllocError, Global};
 
 /// A step of the way to a fault.
 ///
 /// ```
 /// let tree = Value::from_slice(alloc, br#"{"orders": [1.5]}"#)?;
-/// if let Some(place) = place_of_fault(alloc, tree)? {
+/// if let Some(place) = place_of_fault(alloc, &tree)? {
 ///     println!(rt; "{:?}", place.steps)?; // [Element(0), Key("orders")]
 /// }
 /// ```
@@ -21,18 +21,38 @@ pub enum Step {
     Element(usize),
 }
 
-/// The first fault of a tree, and the way to it.
+/// What is wrong at a place.
+///
+/// ```
+/// let tree = Value::from_slice(alloc, br#"{"$oid": "53e3"}"#)?;
+/// if let Some(place) = place_of_fault(alloc, &tree)? {
+///     println!(rt; "{}", place.reason)?; // an object id has 24 digits, but "53e3" has 4
+/// }
+/// ```
+#[derive(Debug, Drop, thiserror::Error)]
+pub enum Reason {
+    /// The text of an object id, under `$oid` or inside a `$dbPointer` that is right in all else.
+    #[error("{0}")]
+    BadObjectId(oid::Error),
+
+    /// Anything else, told by what was expected there: an object with a wrapper key has not exactly
+    /// that wrapper's shape, or a number is no i64.
+    #[error("{0}")]
+    WrongShape(&'static str),
+}
+
+/// The first fault of a tree: what is wrong, and the way to it.
 ///
 /// ```
 /// let tree = Value::from_slice(alloc, br#"{"orders": [{"price": 1.5}]}"#)?;
-/// if let Some(place) = place_of_fault(alloc, tree)? {
+/// if let Some(place) = place_of_fault(alloc, &tree)? {
 ///     println!(rt; "{}", place.path(alloc)?)?; // orders.0.price
 /// }
 /// ```
-#[derive(Drop)]
+#[derive(Debug, Drop)]
 pub struct Place {
-    /// What is wrong there; never want of memory.
-    pub error: Error,
+    /// What is wrong there.
+    pub reason: Reason,
     /// The way, from the fault outward.
     pub steps: Vec<Step>,
 }

@@ -72,7 +72,7 @@ fn path(alloc: Global, text: &[u8]) -> Result<String, AllocError>
         // (a text that has a tree is refused for want of memory alone)
         return Err(AllocError);
     };
-    match place_of_fault(alloc, tree)? {
+    match place_of_fault(alloc, &tree)? {
         None => Ok(String::new(alloc)),
         Some(place) => told(alloc, displayed(alloc, &place)?),
     }
@@ -83,7 +83,7 @@ fn displayed(alloc: Global, place: &Place) -> Result<String, AllocError>
     ensures { IfOk result (λ words. IsDisplayed (way_of place.now) (string_bytes words)) }
 {
     let path = place.path(alloc)?;
-    let message = format!(in alloc; "{}", place.error)?;
+    let message = format!(in alloc; "{}", place.reason)?;
     if path.is_empty() {
         return format!(in alloc; " ({message})");
     }

@@ -34,7 +34,7 @@ pub struct LineFault {
 /// if let Err(refusal) = run {
 ///     println!(rt; "line {}{}", refusal.at.line, refusal.place)?;
 /// }
-/// // line 1 at n (a number that is no whole one of 64 bits)
+/// // line 1 at n (a number is no whole number of 64 bits)
 /// ```
 #[derive(Drop)]
 pub struct Refusal {

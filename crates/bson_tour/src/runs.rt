@@ -65,7 +65,7 @@ fn refusal(rt: &impl Print, alloc: Global) -> anyhow::Result<()> {
     if let Err(refusal) = run {
         println!(rt; "line {}{}", refusal.at.line, refusal.place)?;
     }
-    // line 1 at n (a number that is no whole one of 64 bits)
+    // line 1 at n (a number is no whole number of 64 bits)
     Ok(())
 }
 

@@ -13,7 +13,8 @@ pub(crate) fn print(rt: &impl Print, alloc: Global) -> anyhow::Result<()> {
     text_error(rt, alloc)?;
     converted(rt, alloc)?;
     place(rt, alloc)?;
-    step(rt, alloc)
+    step(rt, alloc)?;
+    reason(rt, alloc)
 }
 
 fn extjson_de_error(rt: &impl Print, alloc: Global) -> anyhow::Result<()> {
@@ -57,7 +58,7 @@ fn converted(rt: &impl Print, alloc: Global) -> anyhow::Result<()> {
 
 fn place(rt: &impl Print, alloc: Global) -> anyhow::Result<()> {
     let tree = Value::from_slice(alloc, br#"{"orders": [{"price": 1.5}]}"#)?;
-    if let Some(place) = place_of_fault(alloc, tree)? {
+    if let Some(place) = place_of_fault(alloc, &tree)? {
         println!(rt; "{}", place.path(alloc)?)?; // orders.0.price
     }
     Ok(())
@@ -65,8 +66,16 @@ fn place(rt: &impl Print, alloc: Global) -> anyhow::Result<()> {
 
 fn step(rt: &impl Print, alloc: Global) -> anyhow::Result<()> {
     let tree = Value::from_slice(alloc, br#"{"orders": [1.5]}"#)?;
-    if let Some(place) = place_of_fault(alloc, tree)? {
+    if let Some(place) = place_of_fault(alloc, &tree)? {
         println!(rt; "{:?}", place.steps)?; // [Element(0), Key("orders")]
+    }
+    Ok(())
+}
+
+fn reason(rt: &impl Print, alloc: Global) -> anyhow::Result<()> {
+    let tree = Value::from_slice(alloc, br#"{"$oid": "53e3"}"#)?;
+    if let Some(place) = place_of_fault(alloc, &tree)? {
+        println!(rt; "{}", place.reason)?; // an object id has 24 digits, but "53e3" has 4
     }
     Ok(())
 }

@@ -8,5 +8,5 @@ returns-in-Some c = number_value (number_view c.args.n) (subst IsSome (sym c.in-
 
 pub returns-in-None : goal.returns-in-None
 returns-in-None c =
-    at_once c.here.result c.here.ensures.error c.here.ensures.way
+    at_once c.here.result c.here.ensures.reason c.here.ensures.way
     (no_number (number_view c.args.n) (sym c.as_i64.ensures ∙ c.in-None.is))

@@ -1,0 +1,54 @@
+//! Wrong shapes: which wrapper's an object has not, and what is told of it.
+ghost use Rattle.std.specs.Prelude.{◌≡◌, is_some};
+ghost use Rattle.bson_place.specs.Shape.{alone_text, wrapper_in};
+ghost use Rattle.bson_wrapper.specs.Table.{has_wrapper};
+ghost use Rattle.serde_json.specs.View.{members_view};
+
+use bson_wrapper::wrapper::{Wrapper, named};
+use serde_json::{Map, Value};
+
+/// Of a number that is no i64.
+pub const NUMBER: &str = "a number is no whole number of 64 bits";
+
+/// Of code that is no text, beside a scope.
+pub const CODE: &str = "`$code` holds a text";
+
+/// Of what stands as a scope, beside code.
+pub const SCOPE: &str = "`$scope` holds an object";
+
+/// Of an object that has the wrapper's key, and other keys than the wrapper's object.
+pub fn beside_others(wrapper: Wrapper) -> &'static str
+    ensures names { result.now ≡ alone_text wrapper }
+{
+    match wrapper {
+        Wrapper::Oid => "`$oid` stands alone in its object",
+        Wrapper::Symbol => "`$symbol` stands alone in its object",
+        Wrapper::RegularExpression => "`$regularExpression` stands alone in its object",
+        Wrapper::NumberInt => "`$numberInt` stands alone in its object",
+        Wrapper::NumberLong => "`$numberLong` stands alone in its object",
+        Wrapper::NumberDouble => "`$numberDouble` stands alone in its object",
+        Wrapper::NumberDecimal => "`$numberDecimal` stands alone in its object",
+        Wrapper::Binary => "`$binary` stands alone in its object",
+        Wrapper::Uuid => "`$uuid` stands alone in its object",
+        Wrapper::Code => "`$code` stands alone in its object, or beside `$scope`",
+        Wrapper::Timestamp => "`$timestamp` stands alone in its object",
+        Wrapper::Date => "`$date` stands alone in its object",
+        Wrapper::MinKey => "`$minKey` stands alone in its object",
+        Wrapper::MaxKey => "`$maxKey` stands alone in its object",
+        Wrapper::DbPointer => "`$dbPointer` stands alone in its object",
+        Wrapper::Undefined => "`$undefined` stands alone in its object",
+    }
+}
+
+/// The first wrapper, by ascending key, whose key a map has.
+pub fn first_wrapper(members: &Map<String, Value>) -> Option<Wrapper>
+    ensures first { result ≡ wrapper_in (members_view members.now.entries) }
+    ensures has { is_some result ≡ has_wrapper (members_view members.now.entries) }
+{
+    for (key, _) in members.iter() {
+        if let Some(wrapper) = named(key.as_str()) {
+            return Some(wrapper);
+        }
+    }
+    None
+}
