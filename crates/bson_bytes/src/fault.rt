@@ -3,6 +3,12 @@ ghost use Rattle.std.specs.Prelude.{◌≡◌};
 ghost use Rattle.bson_bytes.specs.Fault.{at};
 
 /// What is wrong with bytes that are no document of BSON 1.1.
+///
+/// ```
+/// if let Err(Error::Malformed { kind, .. }) = from_slice(alloc, b"\x05\0\0", DEPTH) {
+///     println!(rt; "{kind:?}")?; // Short
+/// }
+/// ```
 #[derive(Clone, Copy, Debug, PartialEq, Eq)]
 pub enum FaultKind {
     /// A document, an array or a scope begins where the limit of nesting is reached. The place is

@@ -19,6 +19,12 @@ use std::alloc::Global;
 pub const DEPTH: usize = 100;
 
 /// Why bytes give no document.
+///
+/// ```
+/// if let Err(error) = from_slice(alloc, b"\x05\0\0\0\0\0", DEPTH) {
+///     println!(rt; "{error}")?; // no BSON document, by the byte at 5
+/// }
+/// ```
 #[derive(Debug, Drop, thiserror::Error)]
 pub enum Error {
     /// The bytes are no document of BSON 1.1, for their first fault.

@@ -11,6 +11,14 @@ use bson::Document;
 use std::alloc::{AllocError, AllocFailed, Global};
 
 /// Why a document has no bytes.
+///
+/// ```
+/// let mut document = Document::new(alloc);
+/// drop(document.insert(String::from_str(alloc, "a\0b")?, Bson::Null)?);
+/// if let Err(error) = to_vec(alloc, &document) {
+///     println!(rt; "{error}")?; // a key has a 0 byte in it
+/// }
+/// ```
 #[derive(Clone, Copy, Debug, Drop, PartialEq, Eq, thiserror::Error)]
 pub enum Error {
     /// A key has a 0 byte in it, which would end it.
@@ -51,6 +59,14 @@ impl<T: Drop> From<AllocFailed<T>> for Error {
 ///
 /// It is refused as `Key`, `Regex` or `Size` where some part of it, at any depth, has no bytes for
 /// that cause.
+///
+/// ```
+/// let mut document = Document::new(alloc);
+/// drop(document.insert(String::from_str(alloc, "n")?, Bson::Int32(5))?);
+/// let bytes = to_vec(alloc, &document)?;
+/// let back = from_slice(alloc, &bytes, DEPTH)?;
+/// println!(rt; "{back}")?; // { "n": 5 }
+/// ```
 pub fn to_vec(alloc: Global, document: &Document) -> Result<Vec<u8>>
     // The canonical bytes, and each part fits.
     ensures ok { IfOk result (λ out. out.items ≡ document_bytes (document_view document.now)) }

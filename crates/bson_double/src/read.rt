@@ -6,6 +6,12 @@ ghost use Rattle.bson_double.specs.Doubles.{is_finite, is_number, finite_of, dou
 use thiserror::Error;
 
 /// Why a text means no finite double.
+///
+/// ```
+/// if let Err(error) = double_of_text(b"1e400") {
+///     println!(rt; "{error}")?; // the number is too large for a double
+/// }
+/// ```
 #[derive(Clone, Copy, Debug, PartialEq, Eq, Error)]
 pub enum DoubleError {
     /// The text is no number: no sign or one, digits with at most one point and at least one digit,
@@ -52,7 +58,8 @@ fn begins_a_word(unsigned: &[u8]) -> bool
 /// an infinity.
 ///
 /// ```
-/// let half = double_of_text(b"0.5")?; // 0x3FE0_0000_0000_0000
+/// let pattern = double_of_text(b"0.5")?;
+/// println!(rt; "{pattern:#x}")?; // 0x3fe0000000000000
 /// ```
 pub fn double_of_text(text: &[u8]) -> Result<u64, DoubleError>
     ensures ok { MatchResult result (λ p. finite_of text.now ≡ Some p) (λ _. finite_of text.now ≡ None) }

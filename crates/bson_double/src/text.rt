@@ -112,7 +112,7 @@ fn push_unsigned(text: &mut ArrayString<32>, pattern: u64)
 /// more than 4 zeros between it and the first digit. It is a number of RFC 8259.
 ///
 /// ```
-/// let text = double_text(0x4029_0000_0000_0000); // 12.5
+/// println!(rt; "{}", double_text(0x4029_0000_0000_0000))?; // 12.5
 /// ```
 pub fn double_text(pattern: u64) -> ArrayString<32>
     requires { IsTrue (is_finite pattern) }

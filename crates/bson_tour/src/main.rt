@@ -7,8 +7,10 @@
 #![tactic(auto)]
 
 mod binaries;
+mod bytes;
 mod dates;
 mod documents;
+mod doubles;
 mod given;
 mod kinds;
 mod runs;
@@ -23,5 +25,7 @@ fn main(rt: HostRuntime) -> anyhow::Result<()> {
     binaries::print(&rt, alloc)?;
     stores::print(&rt, alloc)?;
     texts::print(&rt, alloc)?;
-    runs::print(&rt, alloc)
+    runs::print(&rt, alloc)?;
+    doubles::print(&rt)?;
+    bytes::print(&rt, alloc)
 }
