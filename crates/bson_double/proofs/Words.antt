@@ -1,5 +1,6 @@
 -- Texts that begin with a letter of `inf` or `nan`, and texts that don't.
-use Rattle.std.proofs.Common.{◌≡◌, ℕ, ◌+◌, ◌<◌, ◌≤◌, ◌⊎◌, List, [], ◌∷◌, length, false, inl, inr, refl, ap, ◌∙◌, arith, rules}
+use Rattle.std.proofs.Common.{◌≡◌, ℕ, ◌+◌, ◌<◌, ◌≤◌, ◌⊎◌, List, [], ◌∷◌, length, false, inl, inr, refl, ap, ◌∙◌, arith}
+use Rattle.std.proofs.Common.{rules}
 use Rattle.std.proofs.lemmas.Bool.{cases_Bool, cases_lt, lt-ltb, le-ltb}
 use Rattle.std.specs.Prelude.{slice_index}
 use Rattle.std.specs.Char.{to_ascii_lowercase, is_ascii_digit}
@@ -42,7 +43,8 @@ n_is_none c cs h = starts_none c cs (elim (small c 110 (omega arith) h) [
   | inr e ↦ (let f : c ≡ 78 = omega arith in rw f refl)
 ])
 
-pub word_first : (s : List ℕ) → 0 < length s → (to_ascii_lowercase (slice_index s 0) ≡ 105) ⊎ (to_ascii_lowercase (slice_index s 0) ≡ 110)
+pub word_first : (s : List ℕ) → 0 < length s
+    → (to_ascii_lowercase (slice_index s 0) ≡ 105) ⊎ (to_ascii_lowercase (slice_index s 0) ≡ 110)
     → completes_number 0 s ≡ false
 word_first [] l h = absurd (omega arith)
 word_first (c ∷ cs) l (inl h) = i_is_none c cs h

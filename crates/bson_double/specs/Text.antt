@@ -15,7 +15,8 @@ pointed s place =
 
 -- the point after the first digit if there are others, and the power of ten of that digit
 abbrev pub power_text : ℕ → List ℕ
-power_text place = if nat_lt place 1101 then codes "e-" ++ decimal (1101 - place) else codes "e" ++ decimal (place - 1101)
+power_text place = if nat_lt place 1101 then codes "e-" ++ decimal (1101 - place) else codes "e" ++ decimal
+    (place - 1101)
 
 abbrev pub scientific : List ℕ → ℕ → List ℕ
 scientific s place = take 1 s ++ ((if length s == 1 then [] else codes "." ++ drop 1 s) ++ power_text place)

@@ -1,5 +1,5 @@
-//! What holds of every finite double and every text. A finite pattern is one below 2^64 whose double
-//! is neither an infinity nor a NaN.
+//! What holds of every finite double and every text. A finite pattern is one below 2^64 whose
+//! double is neither an infinity nor a NaN.
 ghost use Rattle.std.specs.Prelude.{◌≡◌, ◌<◌, ◌^◌, ℕ, List, true, from_bits, Some};
 ghost use Rattle.std.specs.Float.{binary64};
 ghost use Rattle.ryu.specs.Plain.{IsPlainNumber};
@@ -17,7 +17,8 @@ pub fn patterns_are_values()
 /// a multiple of a higher power of ten is read as the double too: it has a digit too many.
 pub fn one_shortest_decimal()
     ensures one { (p d k c j : ℕ) → IsShortest p d k → IsShortest p c j → (d ≡ c) × (k ≡ j) }
-    ensures exists { (p : ℕ) → 0 < p → p < 2 ^ 63 → is_finite p ≡ true → (d : ℕ) × (k : ℕ) × IsShortest p d k }
+    ensures exists { (p : ℕ) → 0 < p → p < 2 ^ 63 → is_finite p ≡ true
+        → (d : ℕ) × (k : ℕ) × IsShortest p d k }
     ensures few_digits { (p d k c j : ℕ) → IsRead p c j → k < j → IsShortest p d k → ⊥ }
 {}
 
@@ -25,8 +26,8 @@ pub fn one_shortest_decimal()
 pub fn one_text()
     ensures one { (p : ℕ) (s t : List ℕ) → IsDoubleText p s → IsDoubleText p t → s ≡ t }
     ensures exists { (p : ℕ) → is_finite p ≡ true → (s : List ℕ) × IsDoubleText p s }
-    ensures apart { (p q : ℕ) (s : List ℕ) → p < 2 ^ 64 → q < 2 ^ 64 → is_finite p ≡ true → is_finite q ≡ true
-        → IsDoubleText p s → IsDoubleText q s → p ≡ q }
+    ensures apart { (p q : ℕ) (s : List ℕ) → p < 2 ^ 64 → q < 2 ^ 64 → is_finite p ≡ true
+        → is_finite q ≡ true → IsDoubleText p s → IsDoubleText q s → p ≡ q }
 {}
 
 /// The text of a finite pattern is a number as JSON writes it (RFC 8259 section 6), with a point or
@@ -37,5 +38,6 @@ pub fn texts_are_numbers()
 
 /// The text of a finite pattern is read as that pattern.
 pub fn texts_are_read_back()
-    ensures { (p : ℕ) (s : List ℕ) → p < 2 ^ 64 → is_finite p ≡ true → IsDoubleText p s → finite_of s ≡ Some p }
+    ensures { (p : ℕ) (s : List ℕ) → p < 2 ^ 64 → is_finite p ≡ true → IsDoubleText p s
+        → finite_of s ≡ Some p }
 {}

@@ -1,6 +1,7 @@
 //! Reading a text as a finite double.
 ghost use Rattle.std.specs.Prelude.{◌≡◌, MatchResult, IfErr, Some, None, false, IsTrue, IsFalse};
-ghost use Rattle.fast_float.specs.Parse.{completes_number, without_sign, is_infinity_text, is_nan_text};
+ghost use Rattle.fast_float.specs.Parse.{completes_number, without_sign, is_infinity_text};
+ghost use Rattle.fast_float.specs.Parse.{is_nan_text};
 ghost use Rattle.bson_double.specs.Doubles.{is_finite, is_number, finite_of, double_fault};
 
 use thiserror::Error;
@@ -42,7 +43,8 @@ fn without_sign(text: &[u8]) -> &[u8]
 // An `i` or an `n`, in either case, stands where the first digit or point of a number would.
 fn begins_a_word(unsigned: &[u8]) -> bool
     ensures some { IsTrue result → completes_number 0 unsigned.now ≡ false }
-    ensures none { IsFalse result → (is_infinity_text unsigned.now ≡ false) × (is_nan_text unsigned.now ≡ false) }
+    ensures none { IsFalse result
+        → (is_infinity_text unsigned.now ≡ false) × (is_nan_text unsigned.now ≡ false) }
 {
     match unsigned {
         [first, ..] => matches!(first.to_ascii_lowercase(), b'i' | b'n'),
@@ -62,7 +64,8 @@ fn begins_a_word(unsigned: &[u8]) -> bool
 /// println!(rt; "{pattern:#x}")?; // 0x3fe0000000000000
 /// ```
 pub fn double_of_text(text: &[u8]) -> Result<u64, DoubleError>
-    ensures ok { MatchResult result (λ p. finite_of text.now ≡ Some p) (λ _. finite_of text.now ≡ None) }
+    ensures ok { MatchResult result
+        (λ p. finite_of text.now ≡ Some p) (λ _. finite_of text.now ≡ None) }
     ensures error { IfErr result (λ e. e ≡ double_fault text.now) }
 {
     if begins_a_word(without_sign(text)) {

@@ -1,5 +1,6 @@
 //! Writing a finite double as text.
-ghost use Rattle.std.specs.Prelude.{◌≡◌, ◌+◌, ◌<◌, ◌≤◌, ◌^◌, ◌++◌, List, ℕ, length, replicate, IsTrue, IsAscii};
+ghost use Rattle.std.specs.Prelude.{◌≡◌, ◌+◌, ◌<◌, ◌≤◌, ◌^◌, ◌++◌, List, ℕ, length, replicate};
+ghost use Rattle.std.specs.Prelude.{IsTrue, IsAscii};
 ghost use Rattle.arrayvec.specs.ArrayString.{array_string_len};
 ghost use Rattle.bson_double.specs.Doubles.{is_finite};
 ghost use Rattle.bson_double.specs.Text.{pointed, scientific, laid_out, power_text};

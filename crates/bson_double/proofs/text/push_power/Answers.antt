@@ -5,7 +5,8 @@ use Rattle.bson_double.proofs.text.push_power.Goals as goal
 pub push_str-requires-then-place-lt1101 : goal.push_str-requires-then-place-lt1101
 push_str-requires-then-place-lt1101 c =
     let from = c.requires.place.0 in
-    let short : length c.format.result.now ≤ 3 = rw c.format.ensures.text (length-decimal-le 3 _ (omega arith) (omega arith) (omega arith)) in
+    let short : length c.format.result.now ≤ 3 =
+    rw c.format.ensures.text (length-decimal-le 3 _ (omega arith) (omega arith) (omega arith)) in
     search (rules, short, c.push_str.ensures.len, c.requires.room)
 
 pub push_str-requires-else-place-lt1101-2 : goal.push_str-requires-else-place-lt1101-2
