@@ -115,9 +115,9 @@ pub array_bad : (e : Error) (items all : List Bson) (i : ℕ) (v : Bson) (old st
 array_bad e items all i v old start out a lt is same room inv name h =
     let others = values_view (drop (i + 1) items) in
     let left = ap (λ (vs : Values). put_items i vs out) (sym (item_here items i v lt is)) ∙ inv
-        ∙ items_whole items all old start same room in
+    ∙ items_whole items all old start same room in
     array_stops e (values_view all) old (bad_item e i (bson_view v) others out (put_items 0 (values_view all) (put_room old)) left
-      (subst (λ (b : List ℕ). StopsFor e (put_value (bson_view v) b)) name h))
+    (subst (λ (b : List ℕ). StopsFor e (put_value (bson_view v) b)) name h))
 
 pub array_next : (items : List Bson) (i : ℕ) (v : Bson) (out a new : List ℕ) (total : Put) → i < length items
     → v ≡ get_or items i v → put_items i (values_view (drop i items)) out ≡ total
@@ -133,8 +133,8 @@ pub array_end : (items all : List Bson) (i : ℕ) (old start out : List ℕ) →
     → put_value (array (values_view all)) old ≡ put_end (length old) out
 array_end items all i old start out le same room inv =
     let left : put_items i no_values out ≡ put_items 0 (values_view all) (put_room old) =
-        ap (λ (xs : List Bson). put_items i (values_view xs) out) (sym (drop_all i items le)) ∙ inv
-        ∙ items_whole items all old start same room in
+    ap (λ (xs : List Bson). put_items i (values_view xs) out) (sym (drop_all i items le)) ∙ inv
+    ∙ items_whole items all old start same room in
     array_is (values_view all) old out (last_item i out (put_items 0 (values_view all) (put_room old)) left)
 
 -- the tag and the name are those of the value at the place
@@ -164,9 +164,9 @@ pub key_stops : (e : Error) (d : Document) (left rest : List (List ℕ × Bson))
 key_stops e d left rest k name v t old start out is room inv type same h =
     stops_then e (put_pairs (document_view d) (put_room old)) (put_end (length old))
     (bad_key e k (bson_view v) (pairs_view rest) out (put_pairs (document_view d) (put_room old))
-      (left_is left rest k v out _ is inv ∙ pairs_whole d old start room)
-      (subst (λ (n : List ℕ). StopsFor e (put_name (type_of (bson_view v)) n out)) same
-        (subst (λ (u : ElementType). StopsFor e (put_name u name out)) type h)))
+    (left_is left rest k v out _ is inv ∙ pairs_whole d old start room)
+    (subst (λ (n : List ℕ). StopsFor e (put_name (type_of (bson_view v)) n out)) same
+    (subst (λ (u : ElementType). StopsFor e (put_name u name out)) type h)))
 
 pub key_put : (k name : List ℕ) (v : Bson) (t : ElementType) (out a : List ℕ) → t ≡ type_of (bson_view v) → name ≡ k
     → put_name t name out ≡ Ok a → put_name (type_of (bson_view v)) k out ≡ Ok a
@@ -181,14 +181,14 @@ pub value_stops : (e : Error) (d : Document) (left rest : List (List ℕ × Bson
 value_stops e d left rest k v old start out a is room inv name h =
     stops_then e (put_pairs (document_view d) (put_room old)) (put_end (length old))
     (bad_value e k (bson_view v) (pairs_view rest) out a (put_pairs (document_view d) (put_room old))
-      (left_is left rest k v out _ is inv ∙ pairs_whole d old start room) name h)
+    (left_is left rest k v out _ is inv ∙ pairs_whole d old start room) name h)
 
 pub document_end : (d : Document) (left : List (List ℕ × Bson)) (old start out : List ℕ) → left ≡ [] → start ≡ put_room old
     → put_pairs (pairs_view left) out ≡ put_pairs (pairs_view (contents d)) start
     → put_document (document_view d) old ≡ put_end (length old) out
 document_end d left old start out none room inv =
     let over : put_pairs no_pairs out ≡ put_pairs (document_view d) (put_room old) =
-        ap (λ (ps : List (List ℕ × Bson)). put_pairs (pairs_view ps) out) (sym none) ∙ inv ∙ pairs_whole d old start room in
+    ap (λ (ps : List (List ℕ × Bson)). put_pairs (pairs_view ps) out) (sym none) ∙ inv ∙ pairs_whole d old start room in
     ap (λ (r : Put). then r (put_end (length old))) (last_pair out (put_pairs (document_view d) (put_room old)) over)
 
 -- ---- what was written

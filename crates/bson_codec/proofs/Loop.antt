@@ -6,7 +6,7 @@ use Rattle.bson_scalar.specs.declared.spec.ElementType.{ElementType}
 use Rattle.bson_model.specs.Value.{Value, Values, no_values, value, Pairs, no_pairs, pair}
 use Rattle.bson_bytes.specs.declared.fault.Fault.{Fault}
 use Rattle.bson_bytes.specs.Fault.{◌>>=◌}
-use Rattle.bson_bytes.specs.Grammar.{values, insert_value, settle}
+use Rattle.bson_bytes.specs.Grammar.{values, insert_value}
 use Rattle.bson_bytes.specs.Reading.{byte_at, name_at, size_at, mapped, settled, value_with, document_at}
 use Rattle.bson_bytes.specs.Tags.{kind_of}
 use Rattle.bson_bytes.proofs.Offered.{Read, elements, then_pairs, no_more, one_more, bad_list, unmapped}

@@ -11,7 +11,7 @@ use crate::stopped::{Stopped, fault_at};
 use bson::{Bson, DateTime, Decimal128, Document, JavaScriptCodeWithScope, ObjectId};
 use bson_bytes::fault::FaultKind;
 use bson_bytes::parts::{
-    byte_at, kind_of, name_at, size_at, sixteen_at, text_at, twelve_at, u32_at, u64_at,
+    byte_at, kind_of, name_at, sixteen_at, size_at, text_at, twelve_at, u32_at, u64_at,
 };
 use bson_scalar::spec::ElementType;
 use std::alloc::Global;
@@ -53,7 +53,10 @@ fn value_at(
         ElementType::Boolean => boolean_at(bytes),
         ElementType::DateTime => {
             let (number, rest) = u64_at(bytes)?;
-            Ok((Bson::DateTime(DateTime::from_millis(number.cast_signed())), rest))
+            Ok((
+                Bson::DateTime(DateTime::from_millis(number.cast_signed())),
+                rest,
+            ))
         }
         ElementType::Null => Ok((Bson::Null, bytes)),
         ElementType::RegularExpression => regex_at(alloc, bytes),
@@ -109,7 +112,11 @@ fn with_scope(code: String, scope: Document) -> Bson
 
 // The pairs of a document.
 #[cycle(read)]
-pub(crate) fn document_at(alloc: Global, bytes: &[u8], depth: usize) -> Result<(Document, &[u8]), Stopped>
+pub(crate) fn document_at(
+    alloc: Global,
+    bytes: &[u8],
+    depth: usize,
+) -> Result<(Document, &[u8]), Stopped>
     ensures given { Reads (λ x. (document_view x.0, x.1.now)) result (settled no_pairs (document_at depth bytes.now)) }
     ensures shorter { IfOk result (λ x. length x.1.now ≤ length bytes.now) }
 {

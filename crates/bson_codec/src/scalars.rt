@@ -99,7 +99,10 @@ pub(crate) fn pointer_at(alloc: Global, bytes: &[u8]) -> Result<(Bson, &[u8]), S
     let (name, rest) = text_at(bytes)?;
     let (id, rest) = twelve_at(rest)?;
     let name = String::from_str(alloc, name)?;
-    Ok((Bson::DbPointer(DbPointer::new(name, ObjectId::from_bytes(id))), rest))
+    Ok((
+        Bson::DbPointer(DbPointer::new(name, ObjectId::from_bytes(id))),
+        rest,
+    ))
 }
 
 #[tactic(auto, unfolding(bson_bytes::specs::Reading::timestamp_at))]

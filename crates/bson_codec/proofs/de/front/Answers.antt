@@ -1,4 +1,4 @@
-use Rattle.std.proofs.Common.{◌≡◌, List, ℕ, arith, ap, ◌∙◌}
+use Rattle.std.proofs.Common.{List, ℕ, arith, ap, ◌∙◌}
 use Rattle.bson_model.specs.Value.{Pairs, no_pairs}
 use Rattle.bson_bytes.proofs.Offered.{front_from, front_read}
 use Rattle.bson_bytes.specs.Reading.{settled, document_at}
@@ -15,11 +15,13 @@ pub returns-in-Ok-clause-only : goal.returns-in-Ok-clause-only
 returns-in-Ok-clause-only c = λ ps rest h.
     let read = front_read c.args.depth c.args.bytes.now ps rest h in
     let same = same_ok (settled no_pairs (document_at c.args.depth c.args.bytes.now))
-        (document_view c.in-Ok.document, c.in-Ok.rest.now) (ps, rest) c.in-Ok.ensures.given read in
+    (document_view c.in-Ok.document, c.in-Ok.rest.now) (ps, rest) c.in-Ok.ensures.given read in
     ((ap (λ (x : Pairs × List ℕ). x.0) same, ap (λ (x : Pairs × List ℕ). x.1) same), tt)
 
 pub returns-in-Err-clause-only : goal.returns-in-Err-clause-only
-returns-in-Err-clause-only c = λ ps rest h.
-    (tt, c.located.ensures ∙ memory_alone c.in-Err.stopped c.args.bytes.now
-    (settled no_pairs (document_at c.args.depth c.args.bytes.now)) (ps, rest) c.in-Err.ensures.given
-    (front_read c.args.depth c.args.bytes.now ps rest h))
+returns-in-Err-clause-only c = λ ps rest h. (
+  tt,
+  c.located.ensures ∙ memory_alone c.in-Err.stopped c.args.bytes.now
+      (settled no_pairs (document_at c.args.depth c.args.bytes.now)) (ps, rest) c.in-Err.ensures.given
+      (front_read c.args.depth c.args.bytes.now ps rest h),
+)

@@ -2,7 +2,7 @@ use Rattle.std.proofs.Common.{◌≡◌, ◌≤◌, ◌+◌, length, arith, sym,
 use Rattle.std.proofs.lemmas.Result.{err_from_is_err_and}
 use Rattle.bson_model.specs.Value.{no_pairs}
 use Rattle.bson_bytes.specs.Grammar.{values, settle}
-use Rattle.bson_bytes.specs.Reading.{mapped, settled, value_with, document_at}
+use Rattle.bson_bytes.specs.Reading.{mapped, value_with, document_at}
 use Rattle.bson_bytes.specs.Tags.{kind_of}
 use Rattle.bson_bytes.proofs.Offered.{elements, bad_byte, bad_tag, bad_name, bad_value, too_deep, bad_size, mapped_done}
 use Rattle.bson_bytes.proofs.Offered.{mapped_wrong, scope_done}
@@ -171,5 +171,5 @@ pub scope_at-returns-clause-given : goal.scope_at-returns-clause-given
 scope_at-returns-clause-given t c =
     let text : string_bytes c.in_ok-code.code ≡ c.in_ok-text.text.now = c.in_ok-code.ensures.ok in
     let whole = scope_done c.args.depth c.args.bytes.now c.in_ok-size.size _ c.in_ok-text.text.now _ _ c.in_ok-scope.rest.now c.in_ok-size.ensures.given c.in_ok-text.ensures.given c.in_ok-scope.ensures.given
-        (omega (arith, c.if-bytes-rest.false, c.in_ok-size.ensures.shorter, c.in_ok-text.ensures.shorter, c.in_ok-scope.ensures.shorter)) in
+    (omega (arith, c.if-bytes-rest.false, c.in_ok-size.ensures.shorter, c.in_ok-text.ensures.shorter, c.in_ok-scope.ensures.shorter)) in
     rw (c.with_scope.ensures, text) whole

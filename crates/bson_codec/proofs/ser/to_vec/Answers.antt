@@ -1,4 +1,4 @@
-use Rattle.std.proofs.Common.{◌≡◌, List, ℕ, suc, sym, ap, subst, ◌∙◌}
+use Rattle.std.proofs.Common.{List, ℕ, suc, sym, ap, subst, ◌∙◌}
 use Rattle.std.proofs.lemmas.Result.{err_from_is_err_and}
 use Rattle.bson_bytes.proofs.Offered.{written_read}
 use Rattle.bson_bytes.specs.Laws.{IsRead}

@@ -1,4 +1,4 @@
-use Rattle.std.proofs.Common.{◌≡◌, ℕ, ◌+◌, ◌<◌, List, length, arith, sym, ap, subst, ◌∙◌, string_bytes, get_or}
+use Rattle.std.proofs.Common.{◌≡◌, ℕ, ◌+◌, ◌<◌, List, length, arith, sym, ap, subst, ◌∙◌, string_bytes}
 use Rattle.std.proofs.lemmas.List.{length-append}
 use Rattle.std.proofs.lemmas.Result.{err_from_is_err_and}
 use Rattle.bson_bytes.specs.Putting.{Put, put_end}
@@ -16,7 +16,7 @@ use Rattle.bson_codec.proofs.write.+write.Goals as goal
 pub put_value-put_scoped-requires : goal.put_value-put_scoped-requires
 put_value-put_scoped-requires t c =
     let seen = ap (λ (v : Bson). weight (bson_view v)) c.in-JavaScriptCodeWithScope.is
-        ∙ ap weight (scoped_seen c.in-JavaScriptCodeWithScope.scoped) in
+    ∙ ap weight (scoped_seen c.in-JavaScriptCodeWithScope.scoped) in
     (omega (arith, c.decreases, seen), tt)
 
 -- ---- arrays
@@ -27,8 +27,8 @@ put_array-put_value-requires t c =
     let v = c.value-item.result in
     let below : c.loop-i.i < length items = omega (arith, c.loop-i-test.true) in
     let h : 1 + weight (bson_view v) < weight_items (values_view items) =
-        subst (λ (w : Bson). 1 + weight (bson_view w) < weight_items (values_view items)) (sym c.value-item.is)
-        (lighter_item items c.loop-i.i v below) in
+    subst (λ (w : Bson). 1 + weight (bson_view w) < weight_items (values_view items)) (sym c.value-item.is)
+    (lighter_item items c.loop-i.i v below) in
     let all = ap (λ (xs : List Bson). weight_items (values_view xs)) c.deref-value-items.ensures.value in
     (omega (arith, h, all, c.decreases), tt)
 
@@ -38,7 +38,7 @@ put_array-returns-in_err-put_value-clause-put t c =
     let out = c.loop-i.out.items in
     let v = c.value-item.result in
     let name = named out c.put_name.new.out.items c.format.result.now c.type_of.result v c.loop-i.i
-        c.in_ok-put_name.ensures.put c.type_of.ensures c.format.ensures.text in
+    c.in_ok-put_name.ensures.put c.type_of.ensures c.format.ensures.text in
     rw (p.1, p.2) (array_bad c.in_err-put_value.field-0.0 c.deref-value-items.result.now c.args.values.now.items c.loop-i.i v
     c.args.out.now.items c.extend_from_slice.new.self.items out c.put_name.new.out.items (omega (arith, c.loop-i-test.true))
     c.value-item.is c.deref-value-items.ensures.value c.in_ok-extend_from_slice.ensures.items c.loop-i.invariant.put name
@@ -49,7 +49,7 @@ put_array-loop-i-preserved t c =
     let out = c.loop-i.out.items in
     let v = c.value-item.result in
     let name = named out c.put_name.new.out.items c.format.result.now c.type_of.result v c.loop-i.i
-        c.in_ok-put_name.ensures.put c.type_of.ensures c.format.ensures.text in
+    c.in_ok-put_name.ensures.put c.type_of.ensures c.format.ensures.text in
     let longer = ap length c.in_ok-put_name.ensures.put ∙ length-append out (name_bytes c.type_of.result c.format.result.now) in
     record {
       put = array_next c.deref-value-items.result.now c.loop-i.i v out c.put_name.new.out.items c.put_value.new.out.items _
@@ -62,11 +62,11 @@ put_array-returns-clause-put t c =
     let old = c.args.out.now.items in
     let start : c.len-start.result ≡ length old = omega (arith, c.len-start.ensures, c.args.out.now.ok) in
     let ended = array_end c.deref-value-items.result.now c.args.values.now.items c.loop-i.i old
-        c.extend_from_slice.new.self.items c.loop-i.out.items (omega (arith, c.loop-i-test.false))
-        c.deref-value-items.ensures.value c.in_ok-extend_from_slice.ensures.items c.loop-i.invariant.put in
+    c.extend_from_slice.new.self.items c.loop-i.out.items (omega (arith, c.loop-i-test.false))
+    c.deref-value-items.ensures.value c.in_ok-extend_from_slice.ensures.items c.loop-i.invariant.put in
     subst (λ (r : Put). Puts c.put_end.result c.put_end.new.out.items r) (sym ended)
     (subst (λ (n : ℕ). Puts c.put_end.result c.put_end.new.out.items (put_end n c.loop-i.out.items)) start
-      c.put_end.ensures.put)
+    c.put_end.ensures.put)
 
 -- ---- documents
 
@@ -85,7 +85,7 @@ put_document-returns-in_err-put_value-clause-put t c =
     let k = string_bytes c.in-Some.key.now in
     let v = c.in-Some.value.now in
     let name = key_put k c.as_str.result.now v c.type_of.result c.elements.out.items c.put_key.new.out.items
-        c.type_of.ensures c.as_str.ensures.value c.in_ok-put_key.ensures.put in
+    c.type_of.ensures c.as_str.ensures.value c.in_ok-put_key.ensures.put in
     rw (p.1, p.2) (value_stops c.in_err-put_value.field-0.0 c.args.document.now (pairs_left c.elements.pairs)
     (pairs_left c.next.new.self) k v c.args.out.now.items c.extend_from_slice.new.self.items c.elements.out.items
     c.put_key.new.out.items c.in-Some.ensures.steps c.in_ok-extend_from_slice.ensures.items c.elements.invariant.put name
@@ -98,7 +98,7 @@ put_document-elements-preserved t c =
     let rest = pairs_left c.next.new.self in
     let out = c.elements.out.items in
     let name = key_put k c.as_str.result.now v c.type_of.result out c.put_key.new.out.items c.type_of.ensures
-        c.as_str.ensures.value c.in_ok-put_key.ensures.put in
+    c.as_str.ensures.value c.in_ok-put_key.ensures.put in
     let lighter = ap (λ (ps : _). weight_pairs (pairs_view ps)) c.in-Some.ensures.steps in
     record {
       put = next_pair k (bson_view v) (pairs_view rest) out c.put_key.new.out.items c.put_value.new.out.items _
@@ -113,7 +113,7 @@ put_document-returns-clause-put t c =
     let old = c.args.out.now.items in
     let start : c.len-start.result ≡ length old = omega (arith, c.len-start.ensures, c.args.out.now.ok) in
     let ended = document_end c.args.document.now (pairs_left c.elements.pairs) old c.extend_from_slice.new.self.items
-        c.elements.out.items c.in_default.ensures.steps.0 c.in_ok-extend_from_slice.ensures.items c.elements.invariant.put in
+    c.elements.out.items c.in_default.ensures.steps.0 c.in_ok-extend_from_slice.ensures.items c.elements.invariant.put in
     subst (λ (r : Put). Puts c.put_end.result c.put_end.new.out.items r) (sym ended)
     (subst (λ (n : ℕ). Puts c.put_end.result c.put_end.new.out.items (put_end n c.elements.out.items)) start
-      c.put_end.ensures.put)
+    c.put_end.ensures.put)
