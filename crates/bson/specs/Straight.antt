@@ -1,13 +1,12 @@
 -- What the tokens of a text mean, where they are read with no tree of the whole. For private clauses.
-use Rattle.std.specs.Prelude.{◌≡◌, ◌≤◌, ◌==◌, ◌||◌, if◌then◌else◌, ℕ, List, length, Bool, false, Option, Some, None}
+use Rattle.std.specs.Prelude.{◌≡◌, ◌≤◌, ◌==◌, ◌||◌, ℕ, List, length, Bool, false, Option, Some, None}
 use Rattle.std.specs.Prelude.{Result, Ok, Err}
 use Rattle.json.specs.Token.{Token}
 use Rattle.json.specs.Json.{read_key, members, value}
 use Rattle.serde_json.specs.Data.{Data, string, Items, Members, no_members, member, object, put}
 use Rattle.serde_json.specs.Read.{of_members, converted, read}
-use Rattle.bson_wrapper.specs.Faults.{Fault, Gives, ◌>>=◌}
+use Rattle.bson_wrapper.specs.Faults.{Fault}
 use Rattle.bson_wrapper.specs.Scalar.{double}
-use Rattle.bson_wrapper.specs.declared.error.Error.{Error}
 use Rattle.bson_model.specs.Reading.{reads, reads_items, code_value}
 use Rattle.bson_model.specs.Sorted.{put_pair}
 use Rattle.bson_model.specs.Value.{Value, scalar, Values, Pairs, no_pairs, pair}
@@ -114,11 +113,3 @@ ObjectReads depth old k ts v rest =
 abbrev pub code_given : Data → Option (Option Pairs) → Option Value
 code_given (string s) (Some scope) = Some (code_value s scope)
 code_given _ _ = None
-
--- what was read, with no value of it
-abbrev pub forgotten : {A : Type 0} → Result A Fault → Result (Unit {0}) Fault
-forgotten r = r >>= λ x. Ok tt
-
--- a function found that there is a value to read, or the fault
-abbrev pub Finds : {X Y : Type 0} → Result X Error → Result Y Fault → Type 0
-Finds result read = Gives (λ x. tt) result (forgotten read)

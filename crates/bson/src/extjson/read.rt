@@ -14,11 +14,12 @@ ghost use Rattle.bson.specs.View.{bson_view, document_view, values_view};
 use crate::bson::{Bson, JavaScriptCodeWithScope};
 use crate::document::Document;
 use crate::extjson::scalars::{of_scalar, read_number};
+use bson_place::shape::{CODE, SCOPE, beside_others, first_wrapper};
 use bson_store::{PairStore, SmallPairs};
 use bson_wrapper::code::is_code_with_scope;
 use bson_wrapper::error::Error;
 use bson_wrapper::read::read_single;
-use bson_wrapper::wrapper::any_wrapper;
+use bson_wrapper::wrapper::Wrapper;
 use serde_json::{Map, Value};
 use std::alloc::Global;
 
@@ -28,10 +29,6 @@ pub(crate) fn single_value(alloc: Global, key: &str, value: Value) -> Result<Bso
 {
     Ok(of_scalar(read_single(alloc, key, value)?))
 }
-
-pub(crate) const SHAPE: &str = "a wrapper key stands in an object of another shape";
-
-pub(crate) const CODE: &str = "`$code` stands alone, or beside `$scope` with a text";
 
 #[cycle(read)]
 pub(crate) fn read(alloc: Global, value: Value) -> Result<Bson, Error>
@@ -65,10 +62,9 @@ fn read_object(alloc: Global, members: Map<String, Value>) -> Result<Bson, Error
     ensures given { Gives bson_view result (reads (object (members_view members.entries))) }
     ensures ranged { IfOk result (λ v. InRange (bson_view v)) }
 {
-    if any_wrapper(&members) {
-        read_wrapped(alloc, members)
-    } else {
-        Ok(Bson::Document(read_members(alloc, members)?))
+    match first_wrapper(&members) {
+        Some(wrapper) => read_wrapped(alloc, members, wrapper),
+        None => Ok(Bson::Document(read_members(alloc, members)?)),
     }
 }
 
@@ -88,21 +84,30 @@ pub(crate) fn read_members(alloc: Global, members: Map<String, Value>) -> Result
     Ok(Document { pairs })
 }
 
+// An object whose first wrapper is this one.
 #[cycle(read)]
-fn read_wrapped(alloc: Global, mut members: Map<String, Value>) -> Result<Bson, Error>
+fn read_wrapped(
+    alloc: Global,
+    mut members: Map<String, Value>,
+    wrapper: Wrapper,
+) -> Result<Bson, Error>
     ensures given { Gives bson_view result (reads_wrapper (members_view members.entries)) }
     ensures ranged { IfOk result (λ v. InRange (bson_view v)) }
 {
     let Some((key, value)) = members.pop_first() else {
-        return Err(Error::DeserializationError { message: SHAPE });
+        return Err(Error::DeserializationError {
+            message: beside_others(wrapper),
+        });
     };
     let Some((other, scope)) = members.pop_first() else {
         return single_value(alloc, key.as_str(), value);
     };
     if !members.is_empty() {
-        return Err(Error::DeserializationError { message: SHAPE });
+        return Err(Error::DeserializationError {
+            message: beside_others(wrapper),
+        });
     }
-    read_code(alloc, scope, other.as_str(), value, key.as_str())
+    read_code(alloc, scope, other.as_str(), value, key.as_str(), wrapper)
 }
 
 #[cycle(read)]
@@ -112,17 +117,20 @@ fn read_code(
     other: &str,
     value: Value,
     key: &str,
+    wrapper: Wrapper,
 ) -> Result<Bson, Error>
     ensures given { Gives bson_view result
         (code_at key.now (view value) other.now (reads_scope (view scope))) }
     ensures ranged { IfOk result (λ v. InRange (bson_view v)) }
 {
     if !is_code_with_scope(key, other) {
-        return Err(Error::DeserializationError { message: CODE });
+        return Err(Error::DeserializationError {
+            message: beside_others(wrapper),
+        });
     }
     match value {
         Value::String(code) => read_scope(alloc, scope, code),
-        _ => Err(Error::DeserializationError { message: SHAPE }),
+        _ => Err(Error::DeserializationError { message: CODE }),
     }
 }
 
@@ -141,6 +149,6 @@ fn read_scope(alloc: Global, scope: Value, code: String) -> Result<Bson, Error>
     match scope {
         Value::Null => Ok(Bson::JavaScriptCode(code)),
         Value::Object(members) => { Ok(with_scope(code, read_members(alloc, members)?)) }
-        _ => Err(Error::DeserializationError { message: SHAPE }),
+        _ => Err(Error::DeserializationError { message: SCOPE }),
     }
 }

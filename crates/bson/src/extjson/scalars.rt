@@ -15,6 +15,7 @@ ghost use Rattle.bson.specs.View.{bson_view};
 
 use crate::bson::Bson;
 use crate::scalar::scalar_ref;
+use bson_place::shape::NUMBER;
 use bson_scalar::binary::Binary;
 use bson_scalar::db_pointer::DbPointer;
 use bson_scalar::oid::ObjectId;
@@ -115,8 +116,6 @@ pub(crate) fn read_number(n: Number) -> Result<Bson, Error>
         } else {
             Ok(Bson::Int64(z))
         },
-        None => Err(Error::DeserializationError {
-            message: "a number is no whole number of 64 bits",
-        }),
+        None => Err(Error::DeserializationError { message: NUMBER }),
     }
 }

@@ -2,23 +2,22 @@
 //!
 //! In reading order: `straight` (values from the tokens of a text), `held` (trees of what a
 //! wrapper's key holds, and of an object with more keys of wrappers), `number` (the number of a
-//! token), `gathered` (the members of an object as they come, by ascending key), `unread` (why no
-//! tree was read) and `fault` (why the tree of a text means nothing).
+//! token), `gathered` (the members of an object as they come, by ascending key) and `unread` (why no
+//! tree was read). Why the tree of a text means nothing, `bson_place` tells.
 ghost use Rattle.std.specs.Prelude.{◌≡◌, ℕ, List, Some, Ok, option_map, IfOk, IfErr, OnOk, IsUtf8};
 ghost use Rattle.serde_json.specs.Data.{Data};
 ghost use Rattle.serde_json.specs.Read.{read as tree_of};
-ghost use Rattle.bson_model.specs.Fault.{IsFaultOf};
 ghost use Rattle.bson_model.specs.Means.{Means};
 ghost use Rattle.bson_model.specs.Normal.{InRange};
 ghost use Rattle.bson_model.specs.Reading.{reads};
 ghost use Rattle.bson_model.specs.Texts.{ComesBack};
 ghost use Rattle.bson_model.specs.Value as model;
+ghost use Rattle.bson_place.specs.Place.{IsFirstFault};
 ghost use Rattle.bson.specs.View.{bson_view};
 ghost use Rattle.bson.specs.TextMeaning.{IsTextOf, HasTextMeaning, HasNoMeaning, IsTextFault};
 ghost use Rattle.bson.specs.Straight.{TextReads, IsBroken};
 ghost use Rattle.bson.specs.declared.extjson.text_error.TextError.TheVariants.{OutOfMemory};
 
-mod fault;
 pub(crate) mod gathered;
 mod held;
 mod number;
@@ -27,9 +26,10 @@ pub(crate) mod unread;
 
 use crate::bson::Bson;
 use crate::extjson::text_error::TextError;
-use crate::extjson::text_reader::fault::check;
 use crate::extjson::text_reader::straight::read_value;
 use crate::extjson::text_reader::unread::Unread;
+use bson_place::place::{Place, Reason};
+use bson_place::walk::place_of_fault;
 use bson_wrapper::error::Error;
 use json::{Reader, Scratch};
 use serde_json::Value;
@@ -124,23 +124,26 @@ pub(crate) fn find_fault(alloc: Global, bytes: &[u8]) -> Result<(), TextError>
     ensures fault { IfErr result (λ e. IsTextFault bytes.now e) }
 {
     match Value::from_slice(alloc, bytes) {
-        Ok(tree) => match check(alloc, &tree) {
-            Ok(()) => Ok(()),
-            Err(fault) => Err(refusal(fault)),
+        Ok(tree) => match place_of_fault(alloc, &tree) {
+            Ok(None) => Ok(()),
+            Ok(Some(place)) => Err(refusal(place)),
+            Err(_) => Err(TextError::OutOfMemory),
         },
         Err(error) if error.is_memory() => Err(TextError::OutOfMemory),
         Err(_) => Err(TextError::NotJson),
     }
 }
 
-// The error of a text whose tree has the fault.
-fn refusal(fault: Error) -> TextError
-    ensures { (bytes : List ℕ) (tree : Data) → IsTextOf bytes tree → IsFaultOf tree fault → IsTextFault bytes result }
+// The error of a text whose tree has its first fault at the place.
+fn refusal(place: Place) -> TextError
+    ensures { (bytes : List ℕ) (tree : Data) → IsTextOf bytes tree → IsFirstFault tree place
+        → IsTextFault bytes result }
 {
-    match fault {
-        Error::OutOfMemory => TextError::OutOfMemory,
-        Error::InvalidObjectId(id) => TextError::NotExtendedJson(Error::InvalidObjectId(id)),
-        Error::DeserializationError { message } => {
+    let Place { reason, steps } = place;
+    drop(steps);
+    match reason {
+        Reason::BadObjectId(id) => TextError::NotExtendedJson(Error::InvalidObjectId(id)),
+        Reason::WrongShape(message) => {
             TextError::NotExtendedJson(Error::DeserializationError { message })
         }
     }
