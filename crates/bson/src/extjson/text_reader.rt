@@ -2,8 +2,8 @@
 //!
 //! In reading order: `straight` (values from the tokens of a text), `held` (trees of what a
 //! wrapper's key holds, and of an object with more keys of wrappers), `number` (the number of a
-//! token), `gathered` (the members of an object as they come, by ascending key) and `unread` (why no
-//! tree was read). Why the tree of a text means nothing, `bson_place` tells.
+//! token), `gathered` (the members of an object as they come, by ascending key) and `unread` (why
+//! no tree was read). Why the tree of a text means nothing, `bson_place` tells.
 ghost use Rattle.std.specs.Prelude.{◌≡◌, ℕ, List, Some, Ok, option_map, IfOk, IfErr, OnOk, IsUtf8};
 ghost use Rattle.serde_json.specs.Data.{Data};
 ghost use Rattle.serde_json.specs.Read.{read as tree_of};
