@@ -1,5 +1,6 @@
 -- What is in the grammar is read.
-use Rattle.std.proofs.Common.{◌≡◌, ℕ, zero, suc, ◌+◌, ◌^◌, ◌<◌, ◌≤◌, false, eqb, List, [], ◌∷◌, ◌++◌, length, Ok, refl, sym, ap, subst, ◌∙◌, append_assoc, arith}
+use Rattle.std.proofs.Common.{◌≡◌, ℕ, zero, suc, ◌+◌, ◌^◌, ◌<◌, ◌≤◌, false, eqb, List, [], ◌∷◌, ◌++◌, length, Ok}
+use Rattle.std.proofs.Common.{refl, sym, ap, subst, ◌∙◌, append_assoc, arith}
 use Rattle.std.specs.Int.{w32, w64}
 use Rattle.std.proofs.lemmas.Bool.{eq-eqb, ne_eqb}
 use Rattle.std.proofs.lemmas.List.{length-append}
@@ -12,10 +13,15 @@ use Rattle.bson_scalar.specs.Tags.{tag_of}
 use Rattle.bson_model.specs.Value.{Value, Values, Pairs, no_pairs, pair}
 use Rattle.bson_model.specs.Value as model
 use Rattle.bson_bytes.specs.Grammar.{le, IsName, IsDocument, is_document, IsList, is_empty, is_element, IsValue}
-use Rattle.bson_bytes.specs.Grammar.{is_double, is_text, is_embedded, is_array, is_binary, is_false, is_true, is_null, is_int32, is_int64, is_old_binary, is_undefined, is_object_id, is_date, is_regex, is_pointer, is_code, is_symbol, is_scope, is_timestamp, is_decimal, is_max, is_min}
+use Rattle.bson_bytes.specs.Grammar.{is_double, is_text, is_embedded, is_array, is_binary, is_false, is_true, is_null}
+use Rattle.bson_bytes.specs.Grammar.{is_int32, is_int64, is_old_binary, is_undefined, is_object_id, is_date, is_regex}
+use Rattle.bson_bytes.specs.Grammar.{is_pointer, is_code, is_symbol, is_scope, is_timestamp, is_decimal, is_max}
+use Rattle.bson_bytes.specs.Grammar.{is_min}
 use Rattle.bson_bytes.specs.Grammar.{settle, text_bytes, IsText}
-use Rattle.bson_bytes.specs.Reading.{binary_at, boolean_at, bytes_at, regex_at, pointer_at, timestamp_at, scope_at, value_with, list_at, document_at}
-use Rattle.bson_bytes.proofs.PartLaws.{wide32, wide64, length-le, number_again, size_again, bytes_again, name_again, text_again, regroup as end_behind}
+use Rattle.bson_bytes.specs.Reading.{binary_at, boolean_at, bytes_at, regex_at, pointer_at, timestamp_at, scope_at}
+use Rattle.bson_bytes.specs.Reading.{value_with, list_at, document_at}
+use Rattle.bson_bytes.proofs.PartLaws.{wide32, wide64, length-le, number_again, size_again, bytes_again, name_again}
+use Rattle.bson_bytes.proofs.PartLaws.{text_again, regroup as end_behind}
 use Rattle.bson_bytes.proofs.Takes.{regroup}
 
 tag_some : (t : Kind) → eqb (tag_of t) 0 ≡ false

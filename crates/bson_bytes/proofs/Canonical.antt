@@ -1,5 +1,6 @@
 -- The bytes that a value is written as are in the grammar, and stand for it.
-use Rattle.std.proofs.Common.{◌≡◌, ℕ, suc, ◌+◌, ◌^◌, ◌<◌, Bool, true, false, cond, eqb, List, [], ◌∷◌, ◌++◌, length, refl, sym, ap, subst}
+use Rattle.std.proofs.Common.{◌≡◌, ℕ, suc, ◌+◌, ◌^◌, ◌<◌, Bool, true, false, cond, eqb, List, [], ◌∷◌, ◌++◌, length}
+use Rattle.std.proofs.Common.{refl, sym, ap, subst}
 use Rattle.std.proofs.Common.{◌∙◌, append_assoc, arith}
 use Rattle.std.specs.Prelude.{decimal, ℤ, FitsSigned}
 use Rattle.std.specs.Int.{w32, w64, cast_unsigned}
@@ -24,13 +25,15 @@ use Rattle.bson_model.specs.Value.{document}
 use Rattle.bson_bytes.specs.Grammar.{le, IsName, NoZero, IsSize, scope_bytes, framed, values}
 use Rattle.bson_bytes.specs.Grammar.{binary_bytes, old_binary_bytes, insert_value, settle, one_each}
 use Rattle.bson_bytes.specs.Grammar.{IsDocument, is_document, IsList, is_empty, is_element, IsValue, is_double, is_text}
-use Rattle.bson_bytes.specs.Grammar.{is_embedded, is_array, is_binary, is_old_binary, is_undefined, is_object_id, is_false}
+use Rattle.bson_bytes.specs.Grammar.{is_embedded, is_array, is_binary, is_old_binary, is_undefined, is_object_id}
+use Rattle.bson_bytes.specs.Grammar.{is_false}
 use Rattle.bson_bytes.specs.Grammar.{is_true, is_date, is_null, is_regex, is_pointer, is_code, is_symbol, is_scope}
 use Rattle.bson_bytes.specs.Grammar.{is_int32, is_timestamp, is_int64, is_decimal, is_min, is_max}
 use Rattle.bson_bytes.specs.Laws.{IsRead}
 use Rattle.bson_bytes.specs.Reading.{reads}
 use Rattle.bson_bytes.specs.Writing.{scalar_bytes, name_bytes, type_of, value_bytes, items_bytes}
-use Rattle.bson_bytes.specs.Writing.{list_bytes, document_bytes, FitsScalar, FitsValue, FitsItems, FitsList, FitsDocument}
+use Rattle.bson_bytes.specs.Writing.{list_bytes, document_bytes, FitsScalar, FitsValue, FitsItems, FitsList}
+use Rattle.bson_bytes.specs.Writing.{FitsDocument}
 use Rattle.bson_bytes.specs.Writing.{by_byte, as_written, TypedScalar, Typed, TypedItems, TypedPairs, TypedDocument}
 use Rattle.bson_bytes.specs.Writing.{Nests, NestsItems, NestsPairs}
 use Rattle.bson_bytes.proofs.GrammarLaws.{is_read}

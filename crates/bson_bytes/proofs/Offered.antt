@@ -2,6 +2,7 @@
 pub use Rattle.bson_bytes.proofs.Canonical.{written_read}
 pub use Rattle.bson_bytes.proofs.GrammarLaws.{grammar_from, grammar_read, is_read, front_from, front_read}
 pub use Rattle.bson_bytes.proofs.Turns.{Read, elements, then_pairs, bad_byte, no_more, bad_tag, bad_name, bad_value}
-pub use Rattle.bson_bytes.proofs.Turns.{Goes, one_more, too_deep, bad_size, bad_list, unmapped, mapped_done, mapped_wrong}
+pub use Rattle.bson_bytes.proofs.Turns.{Goes, one_more, too_deep, bad_size, bad_list, unmapped, mapped_done}
+pub use Rattle.bson_bytes.proofs.Turns.{mapped_wrong}
 pub use Rattle.bson_bytes.proofs.Turns.{scope_done}
 pub use Rattle.bson_bytes.proofs.Putting.{Told, told_document, document_fits}

@@ -1,6 +1,8 @@
 -- What is put behind other bytes are the bytes of the value, and it stops for a cause that the value has.
-use Rattle.std.proofs.Common.{◌≡◌, ◌⊎◌, ℕ, ◌+◌, ◌-◌, ◌^◌, Bool, true, false, cond, ltb, List, [], ◌∷◌, ◌++◌, length, take}
-use Rattle.std.proofs.Common.{drop, Option, None, Some, Ok, Err, refl, sym, ap, subst, ◌∙◌, append_assoc, arith, inl, inr}
+use Rattle.std.proofs.Common.{◌≡◌, ◌⊎◌, ℕ, ◌+◌, ◌-◌, ◌^◌, Bool, true, false, cond, ltb, List, [], ◌∷◌, ◌++◌, length}
+use Rattle.std.proofs.Common.{take}
+use Rattle.std.proofs.Common.{drop, Option, None, Some, Ok, Err, refl, sym, ap, subst, ◌∙◌, append_assoc, arith, inl}
+use Rattle.std.proofs.Common.{inr}
 use Rattle.std.specs.Prelude.{decimal, is_none, ◌&&◌}
 use Rattle.std.specs.Int.{w32}
 use Rattle.std.proofs.lemmas.Bool.{ltb-true, ltb-false}
@@ -14,10 +16,12 @@ use Rattle.bson_model.specs.Value.{Value, Values, no_values, value, Pairs, no_pa
 use Rattle.bson_model.specs.Value.{document}
 use Rattle.bson_bytes.specs.Grammar.{le, NoZero, IsSize, text_bytes, scope_size, framed}
 use Rattle.bson_bytes.specs.Putting.{Put, then, put_sized, put_text, is_free, put_regex, put_pointer}
-use Rattle.bson_bytes.specs.Putting.{put_scalar, put_name, put_room, put_length, put_end, put_value, put_items, put_pairs}
+use Rattle.bson_bytes.specs.Putting.{put_scalar, put_name, put_room, put_length, put_end, put_value, put_items}
+use Rattle.bson_bytes.specs.Putting.{put_pairs}
 use Rattle.bson_bytes.specs.Putting.{put_document}
 use Rattle.bson_bytes.specs.Reading.{split_zero}
-use Rattle.bson_bytes.specs.Writing.{Cause, zero_in_key, zero_in_regex, too_long, scalar_bytes, subtyped_size, name_bytes}
+use Rattle.bson_bytes.specs.Writing.{Cause, zero_in_key, zero_in_regex, too_long, scalar_bytes, subtyped_size}
+use Rattle.bson_bytes.specs.Writing.{name_bytes}
 use Rattle.bson_bytes.specs.Writing.{type_of, value_bytes, items_bytes, list_bytes, document_bytes, regex_bytes}
 use Rattle.bson_bytes.specs.Writing.{FitsScalar, FitsValue, FitsItems, FitsList, FitsDocument, IsLong, HasZeroKey}
 use Rattle.bson_bytes.specs.Writing.{HasZeroRegex, ScalarFails, ValueFails, ItemsFail, ListFails, DocumentFails}

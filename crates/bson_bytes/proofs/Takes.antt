@@ -1,5 +1,6 @@
 -- What was read is in the grammar.
-use Rattle.std.proofs.Common.{◌≡◌, ℕ, zero, suc, ◌+◌, ◌^◌, ◌<◌, true, false, cond, eqb, List, [], ◌∷◌, ◌++◌, length, Result, Ok, Err, refl, sym, ap, subst, ◌∙◌, append_assoc, arith, inl, inr}
+use Rattle.std.proofs.Common.{◌≡◌, ℕ, zero, suc, ◌+◌, ◌^◌, ◌<◌, true, false, cond, eqb, List, [], ◌∷◌, ◌++◌, length}
+use Rattle.std.proofs.Common.{Result, Ok, Err, refl, sym, ap, subst, ◌∙◌, append_assoc, arith, inl, inr}
 use Rattle.std.specs.Int.{w32, w64, cast_signed}
 use Rattle.std.proofs.lemmas.Bool.{eqb-true, eqb-false}
 use Rattle.std.proofs.lemmas.List.{length-append}
@@ -16,10 +17,17 @@ use Rattle.bson_bytes.specs.Tags.{kind_of}
 use Rattle.bson_model.specs.Value.{Value, Values, Pairs, no_pairs, pair}
 use Rattle.bson_model.specs.Value as model
 use Rattle.bson_bytes.specs.Grammar.{le, IsDocument, is_document, IsList, is_empty, is_element, IsValue}
-use Rattle.bson_bytes.specs.Grammar.{is_double, is_text, is_embedded, is_array, is_binary, is_false, is_true, is_null, is_int32, is_int64, is_old_binary, is_undefined, is_object_id, is_date, is_regex, is_pointer, is_code, is_symbol, is_scope, is_timestamp, is_decimal, is_max, is_min}
+use Rattle.bson_bytes.specs.Grammar.{is_double, is_text, is_embedded, is_array, is_binary, is_false, is_true, is_null}
+use Rattle.bson_bytes.specs.Grammar.{is_int32, is_int64, is_old_binary, is_undefined, is_object_id, is_date, is_regex}
+use Rattle.bson_bytes.specs.Grammar.{is_pointer, is_code, is_symbol, is_scope, is_timestamp, is_decimal, is_max}
+use Rattle.bson_bytes.specs.Grammar.{is_min}
 use Rattle.bson_bytes.specs.Grammar.{values, settle, text_bytes, IsText}
-use Rattle.bson_bytes.specs.Reading.{byte_at, bytes_at, number_at, size_at, name_at, text_at, binary_at, boolean_at, value_with, list_at, sized, document_at, mapped, settled, regex_at, pointer_at, timestamp_at, scope_at, old_binary_at, plain_binary_at}
-use Rattle.bson_bytes.proofs.PartLaws.{IsBytes, IsBytes-rest, Takes, bind_ok, if_ok, chosen, ok_is, or_fault_ok, IsNumber, wide32, wide64, length-le, number_takes, size_takes, bytes_takes, byte_takes, name_takes, text_takes, IsTextBytes, regroup as end_behind}
+use Rattle.bson_bytes.specs.Reading.{byte_at, bytes_at, number_at, size_at, name_at, text_at, binary_at, boolean_at}
+use Rattle.bson_bytes.specs.Reading.{value_with, list_at, sized, document_at, mapped, settled, regex_at, pointer_at}
+use Rattle.bson_bytes.specs.Reading.{timestamp_at, scope_at, old_binary_at, plain_binary_at}
+use Rattle.bson_bytes.proofs.PartLaws.{IsBytes, IsBytes-rest, Takes, bind_ok, if_ok, chosen, ok_is, or_fault_ok}
+use Rattle.bson_bytes.proofs.PartLaws.{IsNumber, wide32, wide64, length-le, number_takes, size_takes, bytes_takes}
+use Rattle.bson_bytes.proofs.PartLaws.{byte_takes, name_takes, text_takes, IsTextBytes, regroup as end_behind}
 
 -- a value and the bytes behind it, as the reader gives them
 abbrev pub Of : (ℕ → Kind → List ℕ → Value → Type 0) → ℕ → Kind → List ℕ → Value × List ℕ → Type 0

@@ -1,5 +1,6 @@
 -- Bytes put behind others, as a function that stops at the first cause: for the proofs. `Writing` has the bytes.
-use Rattle.std.specs.Prelude.{ℕ, ◌+◌, ◌-◌, ◌^◌, List, [], ◌∷◌, ◌++◌, length, take, drop, Result, Ok, Err, Bool, cond, is_none}
+use Rattle.std.specs.Prelude.{ℕ, ◌+◌, ◌-◌, ◌^◌, List, [], ◌∷◌, ◌++◌, length, take, drop, Result, Ok, Err, Bool, cond}
+use Rattle.std.specs.Prelude.{is_none}
 use Rattle.std.specs.Prelude.{nat_lt, ◌&&◌, decimal}
 use Rattle.std.specs.Int.{w32}
 use Rattle.bson_scalar.specs.declared.spec.ElementType.{ElementType}

@@ -1,7 +1,8 @@
 -- What bytes are read as, as a function: for the order of faults, and for the proofs. `IsDocument` is the grammar. Each
 -- part is a value and the bytes behind it; of the faults the first from the left counts, and of those at one place the
 -- first that is tested here. Lengths are held to their parts once those are read.
-use Rattle.std.specs.Prelude.{ℕ, zero, suc, ◌+◌, ◌-◌, ◌^◌, List, [], ◌∷◌, length, take, drop, Result, Ok, Err, true, false}
+use Rattle.std.specs.Prelude.{ℕ, zero, suc, ◌+◌, ◌-◌, ◌^◌, List, [], ◌∷◌, length, take, drop, Result, Ok, Err, true}
+use Rattle.std.specs.Prelude.{false}
 use Rattle.std.specs.Prelude.{Option, Some, None, option_map, nat_lt, ◌==◌, if◌then◌else◌}
 use Rattle.std.specs.Int.{Width, w32, w64, byte_len, from_le_bytes, cast_signed}
 use Rattle.std.specs.Str.{is_utf8}
@@ -10,7 +11,8 @@ use Rattle.bson_scalar.specs.declared.spec.ElementType.TheVariants as tag
 use Rattle.bson_scalar.specs.Subtype.{subtype_of}
 use Rattle.bson_wrapper.specs.Scalar as kind
 use Rattle.bson_model.specs.Value.{Value, Pairs, no_pairs, pair, scalar, code_scope, array, document}
-use Rattle.bson_bytes.specs.declared.fault.FaultKind.TheVariants.{Short, Length, Tag, Utf8, Boolean, End, Depth, Trailing}
+use Rattle.bson_bytes.specs.declared.fault.FaultKind.TheVariants.{Short, Length, Tag, Utf8, Boolean, End, Depth}
+use Rattle.bson_bytes.specs.declared.fault.FaultKind.TheVariants.{Trailing}
 use Rattle.bson_bytes.specs.declared.fault.Fault.{Fault}
 use Rattle.bson_bytes.specs.Fault.{at, ◌>>=◌, or_fault}
 use Rattle.bson_bytes.specs.Grammar.{settle, values}

@@ -1,13 +1,16 @@
 -- Elements one after the other, as a loop writes them.
-use Rattle.std.proofs.Common.{◌≡◌, ℕ, ◌+◌, ◌<◌, ◌≤◌, ◌++◌, [], ◌∷◌, List, length, get_or, drop, Ok, Err, refl, sym, ap, subst, ◌∙◌}
+use Rattle.std.proofs.Common.{◌≡◌, ℕ, ◌+◌, ◌<◌, ◌≤◌, ◌++◌, [], ◌∷◌, List, length, get_or, drop, Ok, Err, refl, sym}
+use Rattle.std.proofs.Common.{ap, subst, ◌∙◌}
 use Rattle.std.specs.Prelude.{decimal}
 use Rattle.std.proofs.lemmas.List.{drop_all, drop_more}
 use Rattle.bson_scalar.specs.declared.spec.ElementType.{ElementType}
 use Rattle.bson_model.specs.Value.{Value, Values, no_values, value, Pairs, no_pairs, pair, scalar, code_scope, array}
 use Rattle.bson_model.specs.Value.{document}
 use Rattle.bson_bytes.proofs.Offered.{Told, told_document, document_fits}
-use Rattle.bson_bytes.specs.Putting.{Put, then, put_name, put_value, put_items, put_pairs, put_room, put_end, put_document}
-use Rattle.bson_bytes.specs.Writing.{type_of, name_bytes, document_bytes, FitsDocument, DocumentFails, Cause, zero_in_key}
+use Rattle.bson_bytes.specs.Putting.{Put, then, put_name, put_value, put_items, put_pairs, put_room, put_end}
+use Rattle.bson_bytes.specs.Putting.{put_document}
+use Rattle.bson_bytes.specs.Writing.{type_of, name_bytes, document_bytes, FitsDocument, DocumentFails, Cause}
+use Rattle.bson_bytes.specs.Writing.{zero_in_key}
 use Rattle.bson_bytes.specs.Writing.{zero_in_regex, too_long}
 use Rattle.bson_codec.proofs.Seen.{document_view-pairs}
 use Rattle.bson.specs.ElementType.{value_type}

@@ -1,5 +1,6 @@
 -- Elements one after the other, as loops read them into a document or a list.
-use Rattle.std.proofs.Common.{◌≡◌, ℕ, ◌<◌, ◌≤◌, ◌-◌, Bool, true, false, cond, List, [], ◌∷◌, ◌++◌, length, Result, Ok, Err, refl, sym, ap}
+use Rattle.std.proofs.Common.{◌≡◌, ℕ, ◌<◌, ◌≤◌, ◌-◌, Bool, true, false, cond, List, [], ◌∷◌, ◌++◌, length, Result, Ok}
+use Rattle.std.proofs.Common.{Err, refl, sym, ap}
 use Rattle.std.proofs.Common.{◌∙◌, Some, arith}
 use Rattle.std.specs.Str.{bytes_eq}
 use Rattle.bson_scalar.specs.declared.spec.ElementType.{ElementType}

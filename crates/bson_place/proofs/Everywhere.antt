@@ -16,7 +16,8 @@ use Rattle.bson_wrapper.specs.Table.{wrapper_of, has_wrapper}
 use Rattle.bson_model.specs.Fault.{MeansNothing}
 use Rattle.bson_model.specs.Value as model
 use Rattle.bson_model.proofs.Offered.{means_from}
-use Rattle.bson_place.specs.Place.{Turn, key, element, FaultAt, FaultAmong, FaultIn, HasValue, HasScope, array, document}
+use Rattle.bson_place.specs.Place.{Turn, key, element, FaultAt, FaultAmong, FaultIn, HasValue, HasScope, array}
+use Rattle.bson_place.specs.Place.{document}
 use Rattle.bson_place.specs.Place.{wrapper, shape, here, later, at_key, behind, IsScopeFault, in_scope, no_scope}
 use Rattle.bson_place.proofs.Steps.{HasItems, HasPairs, Coded, number_value, no_number, array_value, document_value}
 use Rattle.bson_place.proofs.Steps.{wrapped, lone_value, not_code, not_text, value_of_code, scope_way, scope_of_map}

@@ -8,7 +8,8 @@ use Rattle.bson_bytes.proofs.Offered.{elements, bad_byte, bad_tag, bad_name, bad
 use Rattle.bson_bytes.proofs.Offered.{mapped_wrong, scope_done}
 use Rattle.bson.specs.View.{bson_view, document_view}
 use Rattle.bson_codec.proofs.Loop.{pairs_fail, values_fail, pairs_start, pairs_end, pairs_more, values_end, values_more}
-use Rattle.bson_codec.proofs.Loop.{pairs_fault, values_fault, document_view-put, document_view-new, mapped_fault, mapped_stop}
+use Rattle.bson_codec.proofs.Loop.{pairs_fault, values_fault, document_view-put, document_view-new, mapped_fault}
+use Rattle.bson_codec.proofs.Loop.{mapped_stop}
 use Rattle.bson_codec.proofs.read.+read.Goals as goal
 
 -- ---- pairs

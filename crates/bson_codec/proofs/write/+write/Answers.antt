@@ -7,7 +7,8 @@ use Rattle.bson.specs.Iter.{pairs_left}
 use Rattle.bson.specs.View.{bson_view, values_view, pairs_view}
 use Rattle.bson.specs.declared.bson.Bson.{Bson}
 use Rattle.bson_codec.specs.Writing.{Puts}
-use Rattle.bson_codec.proofs.Elements.{array_bad, array_next, array_end, named, left_is, key_stops, key_put, value_stops}
+use Rattle.bson_codec.proofs.Elements.{array_bad, array_next, array_end, named, left_is, key_stops, key_put}
+use Rattle.bson_codec.proofs.Elements.{value_stops}
 use Rattle.bson_codec.proofs.Elements.{document_end, next_pair}
 use Rattle.bson_codec.proofs.Seen.{scoped_seen}
 use Rattle.bson_codec.proofs.Weights.{weight, weight_items, weight_pairs, lighter_item}

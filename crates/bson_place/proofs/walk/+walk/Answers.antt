@@ -1,4 +1,5 @@
-use Rattle.std.proofs.Common.{◌≡◌, ◌+◌, ◌∷◌, [], ◌++◌, List, drop, refl, sym, ap, ◌∙◌, subst, string_bytes, String, Global}
+use Rattle.std.proofs.Common.{◌≡◌, ◌+◌, ◌∷◌, [], ◌++◌, List, drop, refl, sym, ap, ◌∙◌, subst, string_bytes, String}
+use Rattle.std.proofs.Common.{Global}
 use Rattle.std.proofs.Common.{codes, arith}
 use Rattle.std.specs.Prelude.{is_some, IfOk, MatchOption, true}
 use Rattle.std.proofs.lemmas.Bool.{and_parts}
@@ -16,7 +17,8 @@ use Rattle.bson_place.specs.Place.{key, way_of}
 use Rattle.bson_place.proofs.Steps.{view_null, view_boolean, view_number, view_string, inside_none, inside_some}
 use Rattle.bson_place.proofs.Steps.{is_true, is_false, no_scope_found, scope_found, scope_of_map, of_code, not_text}
 use Rattle.bson_place.proofs.Steps.{IsRest, IsRestOf, null_value, boolean_value, text_value, carried, one_less}
-use Rattle.bson_place.proofs.Steps.{Coded, not_code, more_found, of_array, member_less, of_document, at_once, HasItems, HasPairs}
+use Rattle.bson_place.proofs.Steps.{Coded, not_code, more_found, of_array, member_less, of_document, at_once}
+use Rattle.bson_place.proofs.Steps.{HasItems, HasPairs}
 use Rattle.bson_place.proofs.walk.+walk.Goals as goal
 
 pub of_items-loop-item-preserved : goal.of_items-loop-item-preserved
