@@ -1,15 +1,15 @@
 #!/usr/bin/env python3
 """Proves and builds a program and the libraries below it, each as soon as those that it uses are built.
 
-    tools/build.py [bson_lines|vbson]   (./bson calls it where the program is missing or older than a source, ./vbson for
-                                         the library for other languages)
+    tools/build.py [bson_lines|vbson]   (./bson calls it where the program is missing or older than a source, ./vbson
+                                         for the library for other languages)
 
 The program is bson_cli where none is named. Each crate is proved from nothing, over the statements of the libraries
-below, which stand in crates/NAME/out/statements with a sum of all that they are made from: what has not changed is taken
-as it is. Standard error says what happens and how long it takes, and on a terminal has a line of progress, which is gone
-at the end. out/build.log beside the program has all that rattle printed, behind a line a crate with its times, and
-out/proved the last line of each crate's proof. A second run that starts meanwhile waits for the first. Status 0: built,
-or waited; 3: it can't be built here.
+below. They stand in crates/NAME/out/rlib/statements with a sum of all that they are made from: what has not changed is
+taken as it is. Standard error says what happens and how long it takes, and on a terminal has a line of progress, which
+is gone at the end. out/build.log beside the program has all that rattle printed, behind a line a crate with its times,
+and out/proved the last line of each crate's proof. A second run that starts meanwhile waits for the first. Status 0:
+built, or waited; 3: it can't be built here.
 """
 import fcntl
 import hashlib
@@ -35,8 +35,8 @@ PROVED = re.compile(
     r"logic=proved functions=[1-9]\d*( axioms=\d+)?( target=x86_64-unknown-linux-gnu cpu=x86-64-v2)? sum=[0-9a-f]{16}"
     r" native=nat,char,string logic-built=trusted libraries-built=trusted statements=trusted"
 )
-# The minutes that a crate takes with one job on a machine of four processors at 2.5 GHz, the minutes of them that further
-# jobs do not share, and the memory in GB of its first job.
+# The minutes that a crate takes with one job on a machine of four processors at 2.5 GHz, the minutes of them that
+# further jobs do not share, and the memory in GB of its first job.
 COSTS = {
     "bson_datetime": (3.3, 0.6, 1.6),
     "bson_decimal": (2.7, 0.4, 1.6),
@@ -87,7 +87,7 @@ class Step:
     def __init__(self, rtlib, crate, of_sources):
         self.rtlib, self.crate, self.of_sources, self.name = rtlib, crate, of_sources, crate.name
         self.minutes_alone, self.minutes_serial, self.memory = COSTS.get(self.name, (1.5, 0.5, 1.6))
-        self.kept = f"{crate.folder}/out/statements"
+        self.kept = f"{crate.folder}/out/rlib/statements"
         crate.rlib = f"{self.kept}/{self.name}.rlib"
         self.made = f"{crate.folder}/out/{self.name}" if crate.is_program else f"{crate.folder}/out/lib{self.name}.a"
         self.made = crate.rlib if crate.makes_rlib() else self.made
