@@ -5,8 +5,8 @@
 
 Each kind of input of bench/run.py, as one document: a list stands under the key "a", since libbson takes documents
 alone, and the deep values nest at most 80 levels, since it refuses 100; code with scope is left out, of which version
-1.23 refuses a list of some hundred. Both programs read standard input and write the
-canonical text. A time is the least processor seconds of five runs in turns, a peak the greatest. Needs Debian's
+1.23 refuses a list of some hundred. Beside these are places with a price, whose doubles bson_lines takes with
+--doubles. Both programs read standard input and write the canonical text. A time is the least processor seconds of five runs in turns, a peak the greatest. Needs Debian's
 libbson-dev, a C compiler and pkg-config.
 """
 import os
@@ -22,6 +22,12 @@ from run import HERE, KINDS, TOP, code_with_scope, generate
 def deep_value(rng, i):
     depth = rng.randrange(1, 40)
     return '{"a":[' * depth + '{"$numberInt":"%d"}' % rng.randrange(10**6) + "]}" * depth
+
+
+def place(rng, i):
+    """A place with its coordinates and a price, of 2 to 17 digits."""
+    return '{"id":%d,"at":{"lat":%r,"lon":%.5f},"price":%.2f,"score":%r}' % (
+        i, rng.uniform(-90, 90), rng.uniform(-180, 180), rng.uniform(0, 10**rng.randrange(1, 6)), rng.random())
 
 
 def spent(command, path):
@@ -51,11 +57,13 @@ def libbson(room):
 def main():
     sizes = [int(word) for word in sys.argv[1:]] or [10, 50]
     subprocess.run([f"{TOP}/bson", "canonical"], input=b"{}", check=True, stdout=subprocess.DEVNULL)
-    ours = f"{TOP}/crates/bson_cli/out/bson_cli"
+    subprocess.run([f"{TOP}/bson", "canonical", "--doubles"], input=b"{}", check=True, stdout=subprocess.DEVNULL)
+    ours = [f"{TOP}/crates/bson_cli/out/bson_cli", "canonical"]
+    with_doubles = [f"{TOP}/crates/bson_lines/out/bson_lines", "canonical", "--whole", "--doubles"]
     with tempfile.TemporaryDirectory() as room:
         theirs = libbson(room)
         print("| input | MB | bson_cli, s | MB | libbson, s | MB | ratio of times |\n|---|---|---|---|---|---|---|")
-        for name, make, opening, closing in KINDS:
+        for name, make, opening, closing in [*KINDS, ("places with prices", place, "[", "]")]:
             if make is code_with_scope:
                 continue
             make = deep_value if name == "deep and mixed" else make
@@ -63,7 +71,7 @@ def main():
             for size in sizes:
                 path = f"{room}/input.json"
                 generate(path, make, opening, closing, size * 1_000_000)
-                own, other = best_of(5, [[ours, "canonical"], [theirs]], path)
+                own, other = best_of(5, [with_doubles if make is place else ours, [theirs]], path)
                 cells = [f"{own[0]:.2f}", own[1], f"{other[0]:.2f}", other[1], f"{own[0] / other[0]:.2f}"]
                 print(f"| {name} | {size} | {' | '.join(map(str, cells))} |", flush=True)
 

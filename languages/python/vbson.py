@@ -4,7 +4,8 @@
     '{"n":{"$numberInt":"5"}}'
 
 The library is looked for in the variable VBSON_LIBRARY (its path), beside this file, in ../out/lib (where ./vbson build
-puts it) and where the system keeps libraries. It runs on x86-64 Linux with glibc and a processor with SSE4.2.
+puts it), in ../.. (where it is installed beside this file) and where the system keeps libraries. It runs on x86-64 Linux
+with glibc and a processor with SSE4.2.
 Texts are `str`, or `bytes` (any other that lends its bytes) in UTF-8; anything else is a TypeError. Any number of threads
 may call at once.
 """
@@ -73,7 +74,7 @@ _HERE = os.path.dirname(os.path.realpath(__file__))
 
 def _path():
     named = os.environ.get("VBSON_LIBRARY")
-    near = [f"{_HERE}/libvbson.so", f"{os.path.dirname(_HERE)}/out/lib/libvbson.so"]
+    near = [f"{_HERE}/libvbson.so", f"{os.path.dirname(_HERE)}/out/lib/libvbson.so", f"{_HERE}/../../libvbson.so.0"]
     found = named or next(filter(os.path.exists, near), None) or ctypes.util.find_library("vbson")
     if not found:
         raise ImportError("there is no libvbson.so: run ./vbson build, or name the library in VBSON_LIBRARY")

@@ -3,7 +3,7 @@ import pathlib
 from dataclasses import dataclass
 
 import forms
-from grammar import WRAPPER_KEYS, BadObjectId, NotExtendedJson, meaning
+from grammar import TAKEN, WRAPPER_KEYS, BadObjectId, NotExtendedJson, meaning
 from json_text import DEEPEST, NotJson, read
 
 FORMS = {'canonical': forms.canonical, 'relaxed': forms.relaxed, 'show': forms.shown}
@@ -38,12 +38,19 @@ def judge(data):
 
 def rows():
     """The rows (mode, input, answer): those of rows.txt, and those too long to write down."""
-    # (four lines each, the last one empty)
-    lines = (pathlib.Path(__file__).parent / 'rows.txt').read_text('utf-8').split('\n')
-    yield from zip(lines[0::4], lines[1::4], lines[2::4])
+    with_doubles = list(rows_in('rows_with_doubles.txt')) if TAKEN else []
+    others = {(mode, text) for mode, text, _ in with_doubles}
+    yield from with_doubles
+    yield from (row for row in rows_in('rows.txt') if row[:2] not in others)
     yield from key_rows()
     yield from nesting_rows()
     yield from decimal_rows()
+
+
+def rows_in(name):
+    """The rows of a file, four lines each, the last one empty."""
+    lines = (pathlib.Path(__file__).parent / name).read_text('utf-8').split('\n')
+    return zip(lines[0::4], lines[1::4], lines[2::4])
 
 
 def key_rows():

@@ -8,6 +8,7 @@ import json
 
 import dates
 import decimal128
+import doubles
 
 LAST_RELAXED_DATE = 253402300799999
 
@@ -93,7 +94,7 @@ SHOWN = {
     'MaxKey': lambda _: 'MaxKey',
     'Boolean': lambda truth: 'true' if truth else 'false',
     'String': lambda text: f'"{text}"',
-    'Double': lambda text: f'Double(0x{DOUBLES[text]:016x})',
+    'Double': lambda text: f'Double(0x{pattern_of(text):016x})',
     'RegularExpression': lambda regex: f'/{regex[0]}/{regex[1]}',
     'JavaScriptCode': str,
     'JavaScriptCodeWithScope': lambda code: code[0],
@@ -108,7 +109,11 @@ SHOWN = {
     'DbPointer': lambda pointer: f'DbPointer({pointer[0]}, {pointer[1]})',
 }
 
-# The patterns of the doubles that have a text (IEEE 754 binary64; the quiet NaN of each sign).
+def pattern_of(text):
+    return DOUBLES[text] if text in DOUBLES else doubles.pattern_of(float(text))
+
+
+# The patterns of the doubles that have a text by default (IEEE 754 binary64; the quiet NaN of each sign).
 DOUBLES = {
     '0.0': 0x0000000000000000,
     '-0.0': 0x8000000000000000,

@@ -6,7 +6,8 @@ Object: a list of [key, node], in the order in which they are written.
 import base64
 import re
 
-from grammar import DOUBLES
+import doubles
+from grammar import DOUBLES, TAKEN
 
 
 class Raw(str):
@@ -64,9 +65,9 @@ class Generator:
         return [self.node(room // max(count, 1) - 1) for _ in range(count)]
 
     def document(self, room):
-        """A document; some have more than eight keys, where its index begins."""
+        """A document; some have more than sixteen keys, where its index begins."""
         many = self.chance(0.08)
-        count = 6 + self.below(8) if many else self.below(min(room, 5) + 1)
+        count = 13 + self.below(8) if many else self.below(min(room, 5) + 1)
         keys = {}
         while len(keys) < count:
             keys[self.key()] = None
@@ -117,6 +118,8 @@ class Generator:
         return sign + zeros + str(abs(number))
 
     def number(self):
+        if 'doubles' in TAKEN and self.chance(0.5):
+            return Raw(self.decimal_number())
         return Raw(self.whole(32 if self.chance(0.5) else 64))
 
     def word(self):
@@ -128,7 +131,29 @@ class Generator:
     def int64(self):
         return Object([['$numberLong', self.int_text(64)]])
 
+    def decimal_number(self):
+        """A JSON number with a point or an exponent, or -0, which is a finite double's text in some spelling."""
+        kind = self.below(6)
+        if kind < 2:
+            return doubles.text_of(self.finite_pattern())
+        if kind == 2:
+            return f'{self.whole(40)}.{self.digits(1 + self.below(20))}'
+        if kind == 3:
+            return f'{self.whole(64)}{self.one_of("eE")}{self.below(280) - 320}'
+        if kind == 4:
+            return f'{self.one_of(("", "-"))}{1 + self.below(9)}{self.digits(19 + self.below(200))}'
+        return self.one_of(('-0', '0.0', '-0.0', '1.0', '0e5', '-0e-9', '5e-324', '2.4703282292062327e-324',
+                            '1.7976931348623157e308', '9223372036854775808', '-9223372036854775809', '1e22', '1e23'))
+
+    def finite_pattern(self):
+        if self.chance(0.5):
+            return doubles.pattern_of(round(self.random() * 10**self.below(9), self.below(7)) * self.one_of((1, -1)))
+        return self.below(doubles.INFINITY) + self.below(2) * doubles.SIGN
+
     def double(self):
+        if 'doubles' in TAKEN and self.chance(0.7):
+            written = self.decimal_number()
+            return Object([['$numberDouble', ('+' if written[0] != '-' and self.chance(0.1) else '') + written]])
         return Object([['$numberDouble', self.one_of(tuple(sorted(DOUBLES)))]])
 
     def constant(self):

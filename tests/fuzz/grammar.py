@@ -2,7 +2,7 @@
 
 A value is a pair of its kind and its content:
   Null, Undefined, MinKey, MaxKey: None         Boolean: bool              Int32, Int64, DateTime: int
-  String, Symbol, JavaScriptCode: str           Double: its JSON text      Decimal128: as decimal128.py has it
+  String, Symbol, JavaScriptCode: str           Double: its text           Decimal128: as decimal128.py has it
   Array: list of values                         Document: list of (key, value), the keys ascending by their bytes
   RegularExpression: (pattern, options)         Binary: (subtype, bytes)   ObjectId: lower-case text
   JavaScriptCodeWithScope: (code, pairs)        Timestamp: (time, increment)
@@ -10,7 +10,8 @@ A value is a pair of its kind and its content:
 
 An object with one of the 16 wrapper keys has exactly the keys and shapes of one wrapper; any other is a document.
 The own keys of a scope are free. The first fault is told: of a list's elements in order, of a document's or scope's
-values by ascending key; a wrapper is judged as a whole. It is BadObjectId where a `$oid` or `$dbPointer` is right but
+values by ascending key; a wrapper is judged as a whole. Where finite doubles are taken (TAKEN), a number that is no i64,
+and a decimal number under `$numberDouble`, is the double nearest to it, where that is finite. The fault is BadObjectId where a `$oid` or `$dbPointer` is right but
 for the text of its id, and NotExtendedJson everywhere else.
 """
 import base64
@@ -19,7 +20,8 @@ import re
 
 import dates
 import decimal128
-from json_text import I64
+import doubles
+from json_text import I64, OtherNumber
 
 I32 = range(-2**31, 2**31)
 U32 = range(2**32)
@@ -29,6 +31,8 @@ WRAPPER_KEYS = frozenset(
 KINDS = frozenset(
     'Double String Array Document Boolean Null RegularExpression JavaScriptCode JavaScriptCodeWithScope Int32 Int64'
     ' Timestamp Binary ObjectId DateTime Symbol Decimal128 Undefined MaxKey MinKey DbPointer'.split())
+# What is taken beside the grammar of the default.
+TAKEN = set()
 DOUBLES = frozenset('0.0 -0.0 Infinity -Infinity NaN -NaN'.split())
 
 INT_TEXT = re.compile(r'([+-]?)([0-9]+)')
@@ -58,6 +62,8 @@ def meaning(tree):
         return 'String', tree
     if kind is list:
         return 'Array', [meaning(item) for item in tree]
+    if kind is OtherNumber:
+        return finite(tree)
     if kind is not dict:
         raise NotExtendedJson
     if WRAPPER_KEYS.isdisjoint(tree):
@@ -126,8 +132,15 @@ def regular_expression(tree):
 
 def double(tree):
     written = text(tree['$numberDouble'])
-    demand(written in DOUBLES)
-    return 'Double', written
+    return ('Double', written) if written in DOUBLES else finite(written)
+
+
+def finite(written):
+    """The double nearest to a decimal number (IEEE 754-2008 section 4.3.1), as its shortest text."""
+    demand('doubles' in TAKEN)
+    found = doubles.answer_to(written)
+    demand(found not in ('NotANumber', 'OutOfRange'))
+    return 'Double', doubles.text_of(int(found, 16))
 
 
 def decimal(tree):

@@ -1,6 +1,6 @@
 """JSON text to tree (RFC 8259), as the Rust crate `serde_json` reads it without features.
 
-A tree is None, a truth value, an int (a number that is an i64), OTHER_NUMBER (any other number), a str, a list,
+A tree is None, a truth value, an int (a number that is an i64), an OtherNumber (any other number), a str, a list,
 or a dict from str to tree.
 
   - The bytes are strict UTF-8. A byte order mark is no white space.
@@ -20,14 +20,9 @@ class NotJson(Exception):
     """The bytes are no JSON text."""
 
 
-class OtherNumber:
-    """A number that is no i64."""
+class OtherNumber(str):
+    """The text of a number that is no i64."""
 
-    def __repr__(self):
-        return 'OTHER_NUMBER'
-
-
-OTHER_NUMBER = OtherNumber()
 
 SPACE = re.compile(r'[ \t\n\r]*')
 PLAIN = re.compile(r'[^"\\\x00-\x1f]*')
@@ -166,4 +161,4 @@ def number(text, at):
         return int(written), found.end()
     if float(written) in (float('inf'), float('-inf')):
         raise NotJson
-    return OTHER_NUMBER, found.end()
+    return OtherNumber(written), found.end()

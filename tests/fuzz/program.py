@@ -1,9 +1,12 @@
 """Runs of the program, each a process of its own."""
 import os
+import re
 import signal
 from dataclasses import dataclass
 
 LONGEST_SECONDS = 60
+# How the program over lines tells a refusal of one text: the words, and where.
+TOLD = re.compile(rb'bson_lines: (?:line [0-9]+: )?(not JSON|bad object id|not Extended JSON)(?: at .*| \(.*)\n')
 
 
 @dataclass(frozen=True)
@@ -33,10 +36,10 @@ def refused(line):
 
 
 class Program:
-    """A program that is handed its mode and, on standard input, bytes."""
+    """A program that is handed its mode, other words and, on standard input, bytes."""
 
-    def __init__(self, path):
-        self.path = path
+    def __init__(self, path, words=()):
+        self.path, self.words = path, words
 
     def answer(self, mode, data):
         """Runs the program once. A run that doesn't end is killed, and its status tells so."""
@@ -44,7 +47,7 @@ class Program:
         output_end, output_start = os.pipe()
         error_end, error_start = os.pipe()
         process = os.posix_spawn(
-            self.path, (self.path, mode), {}, setsigdef=(signal.SIGPIPE,),
+            self.path, (self.path, mode, *self.words), {}, setsigdef=(signal.SIGPIPE,),
             file_actions=[(os.POSIX_SPAWN_DUP2, end, at)
                           for at, end in enumerate((input_end, output_start, error_start))])
         for end in (input_end, output_start, error_start):
@@ -58,7 +61,8 @@ class Program:
             status = os.waitstatus_to_exitcode(os.waitpid(process, 0)[1])
         finally:
             signal.alarm(0)
-        return Answer(status, output, error)
+        told = TOLD.fullmatch(error)
+        return Answer(status, output, b'bson_cli: ' + told[1] + b'\n' if told else error)
 
 
 def write_all(end, data):

@@ -7,7 +7,9 @@ from pathlib import Path
 HERE = Path(__file__).resolve().parent
 sys.path.insert(0, str(HERE.parent / "rows"))
 
-from rows import CLI, spelled
+from rows import CLI, ROOT, spelled
+
+LINES = ROOT / "crates/bson_lines/out/bson_lines"
 
 BYTE_ORDER_MARK = b"\xef\xbb\xbf"
 
@@ -61,9 +63,16 @@ def of_text(form, text):
     return done.stdout, done.stderr.removeprefix(b"bson_cli: ").removesuffix(b"\n")
 
 
+@lru_cache(None)
+def place_of(text):
+    """What bson_lines tells of a refused text, given alone, behind the words for its fault."""
+    done = subprocess.run([LINES, "check"], input=b"\n" + text, capture_output=True, timeout=120)
+    return done.stderr.removeprefix(b"bson_lines: line 2: " + of_text("relaxed", text)[1]).removesuffix(b"\n")
+
+
 def expected(task, on_refusal, text, at_end):
-    """What a run over the lines of the text gives, each by bson_cli; and over those that a newline ends, where the
-    reader fails behind the text."""
+    """What a run over the lines of the text gives, each by bson_cli, and the places of faults by bson_lines; and over
+    those that a newline ends, where the reader fails behind the text."""
     lines = text.removeprefix(BYTE_ORDER_MARK).split(b"\n")
     last = lines.pop()
     at_start = text and not lines and last == b""
@@ -79,7 +88,7 @@ def expected(task, on_refusal, text, at_end):
             return Outcome(b"line %d: %s" % (number, fault), written, reported)
         if fault:
             refused += 1
-            reported += b"bson_lines: line %d: %s\n" % (number, fault)
+            reported += b"bson_lines: line %d: %s%s\n" % (number, fault, place_of(line))
         elif task != "check":
             written += output
     if at_end:

@@ -1,5 +1,5 @@
 """Holds languages/c/vbson.h and the wrappers to the sources of crates/vbson: the calls with their types, the statuses
-with their numbers, which statuses each call answers, the text's fields, and the version."""
+with their numbers, which statuses each call answers, the rooms, the text's fields, and the version."""
 import re
 from pathlib import Path
 
@@ -150,6 +150,19 @@ def status_faults():
         yield f"the mode {name}", None if is_right else "other numbers"
 
 
+def room_faults():
+    """The room of each kind is the one that its text fits in by the contract, and no wrapper hands over less."""
+    text = HEADER.read_text()
+    rust = int(re.search(r"(?m)^pub const ROOM: usize = (\d+);$", (LANGUAGES / "rust/src/call.rs").read_text())[1])
+    python = int(re.search(r"room, size = ctypes.create_string_buffer\((\d+)\)", (LANGUAGES / "python/vbson.py").read_text())[1])
+    for name, (_, _, contract) in exports().items():
+        fits = re.search(r"ensures fits \{ (\d+) ≤ length room.old → result ≢ 8 \}", contract)
+        if name.endswith("_print"):
+            kind = name.removeprefix("vbson_").removesuffix("_print").upper()
+            is_right = fits and f"#define VBSON_{kind}_ROOM {fits[1]}\n" in text and int(fits[1]) <= min(rust, python)
+            yield f"the room of {name}", None if is_right else "vbson.h, a wrapper and the contract have other numbers"
+
+
 def text_fault():
     source = (SOURCES / "text.rt").read_text()
     wanted = "#[repr(C)]\n#[derive(Drop)]\npub struct Text<'a> {\n    pub bytes: &'a [u8],\n    pub len: usize,\n}"
@@ -184,6 +197,7 @@ def faults():
     yield from call_faults()
     yield from rust_faults()
     yield from status_faults()
+    yield from room_faults()
     yield "the fields of vbson_text", text_fault()
     yield from version_faults()
 

@@ -12,21 +12,22 @@ use Rattle.serde_json.specs.Read.{of_json, of_members, converted}
 use Rattle.serde_json.specs.Written.{members_outline}
 use Rattle.bson_wrapper.specs.Table.{wrapper_of, has_wrapper}
 use Rattle.bson_wrapper.specs.Written.{◌>>=◌}
+use Rattle.bson_wrapper.specs.declared.form.Doubles.{Doubles}
 use Rattle.bson_wrapper.specs.declared.form.Form.{Form}
 use Rattle.bson_wrapper.proofs.Offered.{in_turn}
 use Rattle.bson_model.specs.Normal.{InRange, PairsInRange}
-use Rattle.bson_model.specs.Reading.{reads_members}
+use Rattle.bson_model.specs.Reading.{reads_members_in}
 use Rattle.bson_model.specs.Sorted.{put_pair, KeysAscend}
 use Rattle.bson_model.specs.Value.{Value, Pairs, no_pairs, pair, document}
-use Rattle.bson_model.specs.Writing.{writes, writes_pairs}
+use Rattle.bson_model.specs.Writing.{writes_in, writes_pairs_in}
 use Rattle.bson_model.proofs.Offered.{flipped}
 use Rattle.bson.specs.Converted.{TreeConverted, ObjectConverted, Follows}
 use Rattle.bson.specs.Texts.{writes_in_order}
-use Rattle.bson.proofs.Gathering.{Gathers, none_yet, one_gathered, all_gathered}
+use Rattle.bson_tokens.proofs.Offered.{Gathers, none_yet, one_gathered, all_gathered}
 use Rattle.bson.proofs.OntoTree.{bind_same}
 use Rattle.bson.proofs.Printed.{EndsMembers, members_more, put_first}
 use Rattle.bson.proofs.PutReads.{put_plain, put_reads, put_ascends, object_read}
-use Rattle.bson.proofs.Turns.{object_opened}
+use Rattle.bson_tokens.proofs.Offered.{object_opened}
 
 -- ---- pairs behind others
 
@@ -70,32 +71,34 @@ ranged_more k v no_pairs ranged here = (here, tt)
 ranged_more k v (pair l w ps) ranged here = (ranged.0, ranged_more k v ps ranged.1 here)
 
 -- pairs whose keys ascend are written in their order
-pub written_in_order : (f : Form) (ps : Pairs) → KeysAscend ps → writes_in_order f ps ≡ writes_pairs f ps
-written_in_order f no_pairs up = refl
-written_in_order f (pair k v no_pairs) up = refl
-written_in_order f (pair k v (pair l w ps)) up =
-    let rest = written_in_order f (pair l w ps) up.1 in
-    bind_same (writes f v) _ _ (λ d. put_first k l d up.0.0 (writes f w) (writes_in_order f ps)
+pub written_in_order : (D : Doubles) (f : Form) (ps : Pairs) → KeysAscend ps
+    → writes_in_order D f ps ≡ writes_pairs_in D f ps
+written_in_order D f no_pairs up = refl
+written_in_order D f (pair k v no_pairs) up = refl
+written_in_order D f (pair k v (pair l w ps)) up =
+    let rest = written_in_order D f (pair l w ps) up.1 in
+    bind_same (writes_in D f v) _ _ (λ d. put_first k l d up.0.0 (writes_in D f w) (writes_in_order D f ps)
     ∙ ap (λ r. r >>= λ ms. Ok (put k d ms)) rest)
 
 -- ---- the members so far
 
 -- the members up to here were read and printed, and their keys ascend to the last one
-pub record MembersPass (f : Form) (depth : ℕ) (start here old new : List Token) (last : Option (List ℕ)) : Type 0 where
+pub record MembersPass (D : Doubles) (f : Form) (depth : ℕ) (start here old new : List Token)
+    (last : Option (List ℕ)) : Type 0 where
   pub trees : Members
   pub pairs : Pairs
   pub gathers : Gathers depth no_members start here trees
-  pub read : reads_members trees ≡ Ok pairs
+  pub read : reads_members_in D trees ≡ Ok pairs
   pub ascends : KeysAscend pairs
   pub plain : has_wrapper trees ≡ false
   pub below : (k : List ℕ) → Follows last k → AllBelow k pairs
   -- what ends the text well from here on ends it well from the start
-  pub ends : (more : Pairs) (end : List Token) → EndsMembers (writes_in_order f more) new end
-      → EndsMembers (writes_in_order f (then_pairs pairs more)) old end
+  pub ends : (more : Pairs) (end : List Token) → EndsMembers (writes_in_order D f more) new end
+      → EndsMembers (writes_in_order D f (then_pairs pairs more)) old end
   pub ranged : PairsInRange pairs
 
-pub none_passed : (f : Form) (depth : ℕ) (ts old : List Token) → MembersPass f depth ts ts old old None
-none_passed f depth ts old = record {
+pub none_passed : (D : Doubles) (f : Form) (depth : ℕ) (ts old : List Token) → MembersPass D f depth ts ts old old None
+none_passed D f depth ts old = record {
   trees = no_members;
   pairs = no_pairs;
   gathers = none_yet depth no_members ts;
@@ -107,12 +110,12 @@ none_passed f depth ts old = record {
   ranged = tt;
 }
 
-pub one_passed : (f : Form) (depth : ℕ) (k : List ℕ) (start here s r old mid near new : List Token)
-    (last : Option (List ℕ)) → MembersPass f depth start here old mid last → read_key here ≡ Some (Some k, s)
+pub one_passed : (D : Doubles) (f : Form) (depth : ℕ) (k : List ℕ) (start here s r old mid near new : List Token)
+    (last : Option (List ℕ)) → MembersPass D f depth start here old mid last → read_key here ≡ Some (Some k, s)
     → is_some (wrapper_of k) ≡ false → Follows last k → near ≡ mid ++ key k ∷ []
-    → TreeConverted f (converted of_json (value depth s)) r near new → length r < length s
-    → MembersPass f depth start r old new (Some k)
-one_passed f depth k start here s r old mid near new last g named plain follows keyed p less =
+    → TreeConverted D f (converted of_json (value depth s)) r near new → length r < length s
+    → MembersPass D f depth start r old new (Some k)
+one_passed D f depth k start here s r old mid near new last g named plain follows keyed p less =
     let v = p.0 in
     let m = p.1 in
     let printed = p.2 in
@@ -122,46 +125,49 @@ one_passed f depth k start here s r old mid near new last g named plain follows 
       trees = put k m.0 g.trees;
       pairs = put_pair k v g.pairs;
       gathers = one_gathered depth no_members k start here s r g.trees m.0 g.gathers named m.1 less;
-      read = put_reads k m.0 v m.2 g.trees g.pairs g.read;
+      read = put_reads D k m.0 v m.2 g.trees g.pairs g.read;
       ascends = put_ascends k v g.pairs g.ascends;
       plain = put_plain k m.0 plain g.trees ∙ g.plain;
       below = λ j next. subst (AllBelow j) (sym last_put)
           (below_more j k v g.pairs (still_below j k g.pairs below next) next);
       ends = λ more end h.
-          subst (λ ps. EndsMembers (writes_in_order f (then_pairs ps more)) old end) (sym last_put)
-          (subst (λ ps. EndsMembers (writes_in_order f ps) old end) (sym (then_one g.pairs k v more))
+          subst (λ ps. EndsMembers (writes_in_order D f (then_pairs ps more)) old end) (sym last_put)
+          (subst (λ ps. EndsMembers (writes_in_order D f ps) old end) (sym (then_one g.pairs k v more))
           (g.ends (pair k v more) end
-          (members_more f k v more mid near new end keyed (printed.0, printed.1, printed.2) h)));
+          (members_more D f k v more mid near new end keyed (printed.0, printed.1, printed.2) h)));
       ranged = subst PairsInRange (sym last_put) (ranged_more k v g.pairs g.ranged printed.3);
     }
 
 -- a whole object
-pub object_passed : (f : Form) (depth : ℕ) (start here rest old opened new end : List Token) (last : Option (List ℕ))
-    → opened ≡ old ++ begin_object ∷ [] → MembersPass f depth start here opened new last
+pub object_passed : (D : Doubles) (f : Form) (depth : ℕ) (start here rest old opened new end : List Token)
+    (last : Option (List ℕ))
+    → opened ≡ old ++ begin_object ∷ [] → MembersPass D f depth start here opened new last
     → read_key here ≡ Some (None, rest) → end ≡ new ++ end_object ∷ []
-    → ObjectConverted f (converted (λ js. of_members js no_members) (members (value depth) (length start) start)) rest
+    → ObjectConverted D f (converted (λ js. of_members js no_members) (members (value depth) (length start) start)) rest
     old end
-object_passed f depth start here rest old opened new end last opening g ended closed =
-    let all = subst (λ ps. EndsMembers (writes_in_order f ps) opened end) (then_none g.pairs)
+object_passed D f depth start here rest old opened new end last opening g ended closed =
+    let all = subst (λ ps. EndsMembers (writes_in_order D f ps) opened end) (then_none g.pairs)
     (g.ends no_pairs end (no_members, refl, closed)) in (
       document g.pairs,
       (
         g.trees,
         all_gathered depth no_members start here rest g.trees g.gathers ended (length start) (omega arith),
-        object_read g.trees g.pairs g.plain g.read,
+        object_read D g.trees g.pairs g.plain g.read,
       ),
       (
         object all.0,
-        ap (λ r. r >>= λ ms. Ok (object ms)) (sym (written_in_order f g.pairs g.ascends) ∙ all.1),
+        ap (λ r. r >>= λ ms. Ok (object ms)) (sym (written_in_order D f g.pairs g.ascends) ∙ all.1),
         in_turn old (begin_object ∷ []) opened (members_tokens (members_outline all.0)) end opening all.2,
         g.ranged,
       ),
     )
 
-pub object_converted : (f : Form) (depth : ℕ) (ts r rest old end : List Token) → ts ≡ begin_object ∷ r → 0 < depth
-    → ObjectConverted f (converted (λ js. of_members js no_members) (members (value (depth - 1)) (length r) r)) rest old
+pub object_converted : (D : Doubles) (f : Form) (depth : ℕ) (ts r rest old end : List Token) → ts ≡ begin_object ∷ r
+    → 0 < depth
+    → ObjectConverted D f (converted (λ js. of_members js no_members) (members (value (depth - 1)) (length r) r)) rest
+    old
     end
-    → TreeConverted f (converted of_json (value depth ts)) rest old end
-object_converted f depth ts r rest old end is left p =
+    → TreeConverted D f (converted of_json (value depth ts)) rest old end
+object_converted D f depth ts r rest old end is left p =
     let read = p.1 in
     (p.0, (object read.0, object_opened depth ts r is left ∙ ap (parse_map object) read.1, read.2), p.2)

@@ -1,47 +1,21 @@
--- The members of an object that were read so far, before those that are left.
-use Rattle.std.proofs.Common.{◌≡◌, ℕ, ◌<◌, ◌≤◌, List, length, Option, Some, None, sym, subst, arith}
+-- What an object means from its first key on.
+use Rattle.std.proofs.Common.{◌≡◌, ℕ, List, length, Option, Some, sym, subst, arith}
 use Rattle.json.specs.Token.{Token}
-use Rattle.json.specs.Json.{read_key, value}
-use Rattle.json.proofs.Grammar.{read_key-shorter}
-use Rattle.serde_json.specs.Data.{Data, Members, no_members, object, put}
-use Rattle.serde_json.specs.Read.{of_json, converted}
-use Rattle.bson_model.specs.Reading.{reads}
+use Rattle.json.specs.Json.{read_key}
+use Rattle.serde_json.specs.Data.{Members, no_members, object}
+use Rattle.bson_wrapper.specs.declared.form.Doubles.{Doubles}
+use Rattle.bson_model.specs.Reading.{reads_in}
 use Rattle.bson_model.specs.Value.{Value}
-use Rattle.bson.specs.Straight.{MembersAre, NoMembers, MembersRead, ObjectReads}
-use Rattle.bson.proofs.Turns.{more_members, no_more_members, no_members_behind}
-
--- from the start of the members, beside old ones, up to here
-pub record Gathers (depth : ℕ) (old : Members) (start here : List Token) (so_far : Members) : Type 0 where
-  pub all : (ms : Members) (rest : List Token) → MembersAre depth so_far here ms rest
-      → MembersAre depth old start ms rest
-  pub none : NoMembers depth here → NoMembers depth start
-  pub shorter : length here ≤ length start
-
-pub none_yet : (depth : ℕ) (old : Members) (ts : List Token) → Gathers depth old ts ts old
-none_yet depth old ts = record { all = λ ms rest are. are; none = λ no. no; shorter = omega arith }
-
-pub one_gathered : (depth : ℕ) (old : Members) (k : List ℕ) (start here s r : List Token) (so_far : Members) (d : Data)
-    → Gathers depth old start here so_far → read_key here ≡ Some (Some k, s)
-    → converted of_json (value depth s) ≡ Some (d, r) → length r < length s
-    → Gathers depth old start r (put k d so_far)
-one_gathered depth old k start here s r so_far d g named read less =
-    let first = read_key-shorter here (Some k) s named in
-    record {
-      all = λ ms rest more. g.all ms rest (more_members depth k here s r rest d so_far ms named read less more);
-      none = λ no. g.none (no_members_behind depth k here s r d named read no);
-      shorter = omega (arith, g.shorter, first, less);
-    }
-
-pub all_gathered : (depth : ℕ) (old : Members) (start here rest : List Token) (so_far : Members)
-    → Gathers depth old start here so_far → read_key here ≡ Some (None, rest) → MembersAre depth old start so_far rest
-all_gathered depth old start here rest so_far g ended =
-    g.all so_far rest (no_more_members depth here rest so_far ended)
+use Rattle.bson_tokens.specs.Parts.{MembersAre}
+use Rattle.bson.specs.Straight.{MembersRead, ObjectReads}
+use Rattle.bson_tokens.proofs.Offered.{Gathers}
 
 -- what an object means from its first key on is what it means as a whole
-pub from_first : (depth : ℕ) (k : List ℕ) (start here s rest : List Token) (so_far : Members) (v : Option Value)
+pub from_first : (D : Doubles) (depth : ℕ) (k : List ℕ) (start here s rest : List Token) (so_far : Members)
+    (v : Option Value)
     → Gathers depth no_members start here so_far → so_far ≡ no_members → read_key here ≡ Some (Some k, s)
-    → ObjectReads depth no_members k s v rest → MembersRead (λ ms. reads (object ms)) depth start v rest
-from_first depth k start here s rest so_far v g first named m = (
+    → ObjectReads D depth no_members k s v rest → MembersRead (λ ms. reads_in D (object ms)) depth start v rest
+from_first D depth k start here s rest so_far v g first named m = (
   m.0,
   g.all m.0 rest (subst (λ ms. MembersAre depth ms here m.0 rest) (sym first) (m.1 here named)) (length start)
       (omega arith),

@@ -11,7 +11,8 @@ use Rattle.std.specs.Str.{bytes_eq}
 use Rattle.serde_json.specs.Data.{Data, Members, no_members, member, object, put}
 use Rattle.bson_wrapper.specs.Faults.{◌>>=◌}
 use Rattle.bson_wrapper.specs.Table.{wrapper_of, has_wrapper}
-use Rattle.bson_model.specs.Reading.{reads, reads_members, reads_wrapper}
+use Rattle.bson_wrapper.specs.declared.form.Doubles.{Doubles}
+use Rattle.bson_model.specs.Reading.{reads_in, reads_members_in, reads_wrapper_in}
 use Rattle.bson_model.specs.Value.{document}
 use Rattle.bson_model.proofs.Offered.{equal_keys}
 use Rattle.bson.specs.Straight.{given}
@@ -111,10 +112,10 @@ not_both : (k l : List ℕ) → (is_stray k ≡ true) ⊎ (is_stray l ≡ true) 
 not_both k l (inl h) = and_left (is_code k) (is_scope l) (not-true (is_code k) (and_parts _ _ h).0)
 not_both k l (inr h) = and_right (is_code k) (is_scope l) (not-true (is_scope l) (and_parts _ _ h).1)
 
-module _ (f g : List ℕ → Bool) (stray : (k : List ℕ) → g k ≡ true → is_stray k ≡ true)
+module _ (D : Doubles) (f g : List ℕ → Bool) (stray : (k : List ℕ) → g k ≡ true → is_stray k ≡ true)
     (apart : (k : List ℕ) → g k ≡ true → f k ≡ false) where
   -- keys of both kinds are no wrapper's alone, nor code with its scope
-  neither : (ms : Members) → any_key f ms ≡ true → any_key g ms ≡ true → given (reads_wrapper ms) ≡ None
+  neither : (ms : Members) → any_key f ms ≡ true → any_key g ms ≡ true → given (reads_wrapper_in D ms) ≡ None
   neither no_members h i = refl
   neither (member k d no_members) h i =
       absurd (both_ways (f k) (apart k (one_true (g k) i)) (one_true (f k) h))
@@ -126,20 +127,20 @@ module _ (f g : List ℕ → Bool) (stray : (k : List ℕ) → g k ≡ true → 
   neither (member k d (member l e (member m c ms))) h i = refl
 
   both_refused : ((k : List ℕ) → f k ≡ true → is_wrapper k ≡ true) → (ms : Members) → any_key f ms ≡ true
-      → any_key g ms ≡ true → given (reads (object ms)) ≡ None
+      → any_key g ms ≡ true → given (reads_in D (object ms)) ≡ None
   both_refused wraps ms h i =
-      ap (λ b. given (if b then reads_wrapper ms else (reads_members ms >>= λ ps. Ok (document ps))))
+      ap (λ b. given (if b then reads_wrapper_in D ms else (reads_members_in D ms >>= λ ps. Ok (document ps))))
       (wrapper_key ms ∙ all_more f is_wrapper wraps ms h) ∙ neither ms h i
 
 -- a wrapper's key beside an ordinary one
-pub strange_refused : (ms : Members) → has_wrapper ms ≡ true → any_key is_ordinary ms ≡ true
-    → given (reads (object ms)) ≡ None
-strange_refused ms h i =
-    both_refused is_wrapper is_ordinary ordinary_stray (λ k is. not-true (is_wrapper k) (and_parts _ _ is).0)
+pub strange_refused : (D : Doubles) (ms : Members) → has_wrapper ms ≡ true → any_key is_ordinary ms ≡ true
+    → given (reads_in D (object ms)) ≡ None
+strange_refused D ms h i =
+    both_refused D is_wrapper is_ordinary ordinary_stray (λ k is. not-true (is_wrapper k) (and_parts _ _ is).0)
     (λ k is. is) ms (sym (wrapper_key ms) ∙ h) i
 
 -- a stray key beside code
-pub stray_refused : (ms : Members) → any_key (λ k. bytes_eq k (codes "$code")) ms ≡ true → any_key is_stray ms ≡ true
-    → given (reads (object ms)) ≡ None
-stray_refused ms h i =
-    both_refused is_code is_stray (λ k is. is) (λ k is. not-true (is_code k) (and_parts _ _ is).0) code_wrapper ms h i
+pub stray_refused : (D : Doubles) (ms : Members) → any_key (λ k. bytes_eq k (codes "$code")) ms ≡ true
+    → any_key is_stray ms ≡ true → given (reads_in D (object ms)) ≡ None
+stray_refused D ms h i =
+    both_refused D is_code is_stray (λ k is. is) (λ k is. not-true (is_code k) (and_parts _ _ is).0) code_wrapper ms h i

@@ -1,21 +1,23 @@
 -- Values of no meaning, and what stands for them.
 use Rattle.std.proofs.Common.{◌≡◌, ◌==◌, ◌||◌, ℕ, zero, suc, Bool, true, false, if◌then◌else◌, List, [], ◌∷◌, drop}
 use Rattle.std.proofs.Common.{slice_get, Some, None, Result, Ok, Err, Ordering, Less, Equal, Greater, nat_cmp}
-use Rattle.std.proofs.Common.{option_map, refl, sym, ap, ◌∙◌}
+use Rattle.std.proofs.Common.{option_map, refl, sym, ap, subst, arith}
 use Rattle.std.proofs.lemmas.Bool.{eqb-true}
 use Rattle.std.specs.Cmp.Lexicographic.{slice_cmp}
 use Rattle.std.specs.Ordering.{match_ordering}
 use Rattle.serde_json.specs.Data.{Data, Members, no_members, member, put}
-use Rattle.bson_wrapper.specs.Doubles.{is_special}
+use Rattle.bson_wrapper.specs.Doubles.{normal_double}
 use Rattle.bson_wrapper.specs.Faults.{Fault, ◌>>=◌}
-use Rattle.bson_wrapper.specs.Normal.{writable_scalar}
+use Rattle.bson_wrapper.specs.Normal.{IsNormalOrNan}
 use Rattle.bson_wrapper.specs.Scalar as kind
 use Rattle.bson_wrapper.specs.Scalar.{Scalar}
-use Rattle.bson_model.specs.Normal.{writable}
-use Rattle.bson_model.specs.Reading.{reads, reads_members}
+use Rattle.bson_wrapper.specs.declared.form.Doubles.{Doubles}
+use Rattle.bson_model.specs.Normal.{writable_in}
+use Rattle.bson_model.specs.Value.{IfScalar}
+use Rattle.bson_model.specs.Reading.{reads_in, reads_members_in}
 use Rattle.bson_model.specs.Sorted.{put_pair}
 use Rattle.bson_model.specs.Value.{Value, scalar, code_scope, array, document, Pairs, pair}
-use Rattle.bson_model.proofs.Offered.{value_read}
+use Rattle.bson_model.proofs.Offered.{value_read_in, means_from_in, normal_scalar_of}
 use Rattle.bson_store.specs.Pairs.{values}
 use Rattle.bson.specs.Straight.{given, is_nothing, marked, marked_members, holds_nothing, unless_nothing}
 use Rattle.bson.specs.View.{bson_view, pairs_view}
@@ -38,61 +40,68 @@ given_none (Err d) h x e = cc
 
 -- ---- one more member
 
-put_marked_at : (o : Ordering) (k l : List ℕ) (v w : Value) (d e : Data) (ms : Members) → marked (reads d) ≡ v
-    → marked (reads e) ≡ w → marked_members (put k d ms) ≡ put_pair k v (marked_members ms)
-    → marked_members (match_ordering o (member k d (member l e ms)) (member l d ms) (member l e (put k d ms)))
-    ≡ match_ordering o (pair k v (pair l w (marked_members ms))) (pair l v (marked_members ms))
-    (pair l w (put_pair k v (marked_members ms)))
-put_marked_at Less k l v w d e ms h i is = rw (h, i) refl
-put_marked_at Equal k l v w d e ms h i is = rw h refl
-put_marked_at Greater k l v w d e ms h i is = rw (i, is) refl
+module _ (D : Doubles) where
+  put_marked_at : (o : Ordering) (k l : List ℕ) (v w : Value) (d e : Data) (ms : Members) → marked (reads_in D d) ≡ v
+      → marked (reads_in D e) ≡ w → marked_members D (put k d ms) ≡ put_pair k v (marked_members D ms)
+      → marked_members D (match_ordering o (member k d (member l e ms)) (member l d ms) (member l e (put k d ms)))
+      ≡ match_ordering o (pair k v (pair l w (marked_members D ms))) (pair l v (marked_members D ms))
+      (pair l w (put_pair k v (marked_members D ms)))
+  put_marked_at Less k l v w d e ms h i is = rw (h, i) refl
+  put_marked_at Equal k l v w d e ms h i is = rw h refl
+  put_marked_at Greater k l v w d e ms h i is = rw (i, is) refl
 
-pub put_marked : (k : List ℕ) (d : Data) (ms : Members)
-    → marked_members (put k d ms) ≡ put_pair k (marked (reads d)) (marked_members ms)
-put_marked k d no_members = refl
-put_marked k d (member l e ms) = put_marked_at (slice_cmp nat_cmp k l) k l (marked (reads d)) (marked (reads e)) d e ms
-    refl refl (put_marked k d ms)
+  pub put_marked : (k : List ℕ) (d : Data) (ms : Members)
+      → marked_members D (put k d ms) ≡ put_pair k (marked (reads_in D d)) (marked_members D ms)
+  put_marked k d no_members = refl
+  put_marked k d (member l e ms) =
+      put_marked_at (slice_cmp nat_cmp k l) k l (marked (reads_in D d)) (marked (reads_in D e)) d e ms
+      refl refl (put_marked k d ms)
 
 -- ---- a tree that means something
 
 -- what was read can be written
-pub read_writable : (d : Data) (v : Value) → reads d ≡ Ok v → writable v ≡ true
-read_writable d v h = (value_read (λ w. w) d (Ok v) h).ok.read_form.1
+pub read_writable : (D : Doubles) (d : Data) (v : Value) → reads_in D d ≡ Ok v → writable_in D v ≡ true
+read_writable D d v h = (value_read_in D (λ w. w) d (Ok v) h).ok.read_form.1
 
-marks_unwritable : (p : ℕ) (b : Bool) → (p == 1) ≡ b → is_special p ≡ true → b ≡ false
-marks_unwritable p false h special = refl
-marks_unwritable p true h special =
-    let one : p ≡ 1 = eqb-true p 1 h in
-    let no : is_special 1 ≡ true = ap is_special (sym one) ∙ special in cc
+-- a double that is read is in normal form
+marks_unread : (p : ℕ) (b : Bool) → (p == 0x7FF0000000000001) ≡ b → normal_double p ≡ p → b ≡ false
+marks_unread p false h normal = refl
+marks_unread p true h normal =
+    let is : p ≡ 0x7FF0000000000001 = eqb-true p 0x7FF0000000000001 h in
+    let no : 0x7FF8000000000000 ≡ 0x7FF0000000000001 = subst (λ q. normal_double q ≡ q) is normal in
+    absurd (omega (arith, no))
 
-written_scalar : (x : Scalar) → writable_scalar x ≡ true → is_nothing (scalar x) ≡ false
-written_scalar (kind.double p) h = marks_unwritable p (p == 1) refl h
-written_scalar kind.null h = refl
-written_scalar kind.undefined h = refl
-written_scalar kind.min_key h = refl
-written_scalar kind.max_key h = refl
-written_scalar (kind.boolean b) h = refl
-written_scalar (kind.int32 z) h = refl
-written_scalar (kind.int64 z) h = refl
-written_scalar (kind.text s) h = refl
-written_scalar (kind.symbol s) h = refl
-written_scalar (kind.code s) h = refl
-written_scalar (kind.regex s t) h = refl
-written_scalar (kind.timestamp m n) h = refl
-written_scalar (kind.binary s bs) h = refl
-written_scalar (kind.object_id bs) h = refl
-written_scalar (kind.date z) h = refl
-written_scalar (kind.decimal bs) h = refl
-written_scalar (kind.db_pointer s t) h = refl
+un_double : (p q : ℕ) → kind.double p ≡ kind.double q → p ≡ q
+un_double p q h = cc
 
-written : (v : Value) → writable v ≡ true → is_nothing v ≡ false
-written (scalar x) h = written_scalar x h
-written (code_scope s ps) h = refl
-written (array vs) h = refl
-written (document ps) h = refl
+unmarked_scalar : (x : Scalar) → IsNormalOrNan x → is_nothing (scalar x) ≡ false
+unmarked_scalar (kind.double p) h = marks_unread p (p == 0x7FF0000000000001) refl (un_double _ _ h)
+unmarked_scalar kind.null h = refl
+unmarked_scalar kind.undefined h = refl
+unmarked_scalar kind.min_key h = refl
+unmarked_scalar kind.max_key h = refl
+unmarked_scalar (kind.boolean b) h = refl
+unmarked_scalar (kind.int32 z) h = refl
+unmarked_scalar (kind.int64 z) h = refl
+unmarked_scalar (kind.text s) h = refl
+unmarked_scalar (kind.symbol s) h = refl
+unmarked_scalar (kind.code s) h = refl
+unmarked_scalar (kind.regex s t) h = refl
+unmarked_scalar (kind.timestamp m n) h = refl
+unmarked_scalar (kind.binary s bs) h = refl
+unmarked_scalar (kind.object_id bs) h = refl
+unmarked_scalar (kind.date z) h = refl
+unmarked_scalar (kind.decimal bs) h = refl
+unmarked_scalar (kind.db_pointer s t) h = refl
 
-pub never_nothing : (d : Data) (v : Value) → reads d ≡ Ok v → is_nothing v ≡ false
-never_nothing d v h = written v (read_writable d v h)
+unmarked : (v : Value) → IfScalar v IsNormalOrNan → is_nothing v ≡ false
+unmarked (scalar x) h = unmarked_scalar x h
+unmarked (code_scope s ps) h = refl
+unmarked (array vs) h = refl
+unmarked (document ps) h = refl
+
+pub never_nothing : (D : Doubles) (d : Data) (v : Value) → reads_in D d ≡ Ok v → is_nothing v ≡ false
+never_nothing D d v h = unmarked v (normal_scalar_of D (means_from_in D d v h))
 
 -- ---- a whole map
 
@@ -111,10 +120,11 @@ first_of k (Err e) s qs never h = refl
 first_of k (Ok v) s qs never h = rw (never v refl) (one_more k v s qs (holds_nothing qs) h)
 
 -- it is read where none of its values stands for nothing
-pub reads_marked : (ms : Members) → given (reads_members ms) ≡ unless_nothing (marked_members ms)
-reads_marked no_members = refl
-reads_marked (member k d ms) =
-    first_of k (reads d) (reads_members ms) (marked_members ms) (never_nothing d) (reads_marked ms)
+pub reads_marked : (D : Doubles) (ms : Members)
+    → given (reads_members_in D ms) ≡ unless_nothing (marked_members D ms)
+reads_marked D no_members = refl
+reads_marked D (member k d ms) =
+    first_of k (reads_in D d) (reads_members_in D ms) (marked_members D ms) (never_nothing D d) (reads_marked D ms)
 
 -- ---- a document
 

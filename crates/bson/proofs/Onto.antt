@@ -3,9 +3,10 @@ use Rattle.std.proofs.Common.{◌≡◌, ℕ, List, [], ◌∷◌, ◌++◌, Res
 use Rattle.bson_model.specs.Value.{Value, Values, no_values, value, Pairs, no_pairs, pair}
 use Rattle.serde_json.specs.Data.{Data, Items, item, Members, member}
 use Rattle.bson_wrapper.specs.Faults.{Fault, ◌>>=◌, Fails}
-use Rattle.bson_model.specs.Reading.{reads, reads_items, reads_members}
+use Rattle.bson_model.specs.Reading.{reads_in, reads_items_in, reads_members_in}
 use Rattle.bson_wrapper.specs.declared.error.Error.{Error}
 use Rattle.bson_wrapper.specs.declared.error.Error.TheVariants.{InvalidObjectId, DeserializationError, OutOfMemory}
+use Rattle.bson_wrapper.specs.declared.form.Doubles.{Doubles}
 use Rattle.bson.specs.View.{bson_view, values_of, pairs_view}
 use Rattle.bson.specs.declared.bson.Bson.{Bson}
 
@@ -46,39 +47,41 @@ pub onto_pairs-ok : (xs : List Entry) → onto_pairs xs (Ok no_pairs) ≡ Ok (pa
 onto_pairs-ok [] = refl
 onto_pairs-ok (y ∷ xs) = ap (λ q. q >>= λ ps. Ok (pair (y.0) (bson_view y.1) ps)) (onto_pairs-ok xs)
 
--- a fault of the next one is the fault of the whole
-pub values_fault : (e : Error) (xs : List Value) (d : Data) (ds : Items) (total : Result Values Fault)
-    → Fails e (reads d) → onto_values xs (reads_items (item d ds)) ≡ total → Fails e total
-values_fault OutOfMemory xs d ds total h is = tt
-values_fault (DeserializationError m) xs d ds total h is = sym is
-    ∙ ap (λ r. onto_values xs (r >>= λ v. reads_items ds >>= λ vs. Ok (value v vs))) h ∙ onto_values-err xs _
-values_fault (InvalidObjectId f) xs d ds total h is = (
-  h.0,
-  sym is ∙ ap (λ r. onto_values xs (r >>= λ v. reads_items ds >>= λ vs. Ok (value v vs))) h.1
-      ∙ onto_values-err xs _,
-  h.2,
-)
+module _ (D : Doubles) where
+  -- a fault of the next one is the fault of the whole
+  pub values_fault : (e : Error) (xs : List Value) (d : Data) (ds : Items) (total : Result Values Fault)
+      → Fails e (reads_in D d) → onto_values xs (reads_items_in D (item d ds)) ≡ total → Fails e total
+  values_fault OutOfMemory xs d ds total h is = tt
+  values_fault (DeserializationError m) xs d ds total h is = sym is
+      ∙ ap (λ r. onto_values xs (r >>= λ v. reads_items_in D ds >>= λ vs. Ok (value v vs))) h ∙ onto_values-err xs _
+  values_fault (InvalidObjectId f) xs d ds total h is = (
+    h.0,
+    sym is ∙ ap (λ r. onto_values xs (r >>= λ v. reads_items_in D ds >>= λ vs. Ok (value v vs))) h.1
+        ∙ onto_values-err xs _,
+    h.2,
+  )
 
--- one more was read
-pub values_step : (xs : List Value) (d : Data) (v : Value) (ds : Items) (total : Result Values Fault) → reads d ≡ Ok v
-    → onto_values xs (reads_items (item d ds)) ≡ total → onto_values (xs ++ v ∷ []) (reads_items ds) ≡ total
-values_step xs d v ds total h is = onto_values-snoc xs v (reads_items ds)
-    ∙ ap (λ r. onto_values xs (r >>= λ w. reads_items ds >>= λ vs. Ok (value w vs))) (sym h) ∙ is
+  -- one more was read
+  pub values_step : (xs : List Value) (d : Data) (v : Value) (ds : Items) (total : Result Values Fault)
+      → reads_in D d ≡ Ok v → onto_values xs (reads_items_in D (item d ds)) ≡ total
+      → onto_values (xs ++ v ∷ []) (reads_items_in D ds) ≡ total
+  values_step xs d v ds total h is = onto_values-snoc xs v (reads_items_in D ds)
+      ∙ ap (λ r. onto_values xs (r >>= λ w. reads_items_in D ds >>= λ vs. Ok (value w vs))) (sym h) ∙ is
 
-pub pairs_fault : (e : Error) (xs : List Entry) (k : List ℕ) (d : Data) (ms : Members) (total : Result Pairs Fault)
-    → Fails e (reads d) → onto_pairs xs (reads_members (member k d ms)) ≡ total → Fails e total
-pairs_fault OutOfMemory xs k d ms total h is = tt
-pairs_fault (DeserializationError m) xs k d ms total h is = sym is
-    ∙ ap (λ r. onto_pairs xs (r >>= λ v. reads_members ms >>= λ ps. Ok (pair k v ps))) h ∙ onto_pairs-err xs _
-pairs_fault (InvalidObjectId f) xs k d ms total h is = (
-  h.0,
-  sym is ∙ ap (λ r. onto_pairs xs (r >>= λ v. reads_members ms >>= λ ps. Ok (pair k v ps))) h.1
-      ∙ onto_pairs-err xs _,
-  h.2,
-)
+  pub pairs_fault : (e : Error) (xs : List Entry) (k : List ℕ) (d : Data) (ms : Members) (total : Result Pairs Fault)
+      → Fails e (reads_in D d) → onto_pairs xs (reads_members_in D (member k d ms)) ≡ total → Fails e total
+  pairs_fault OutOfMemory xs k d ms total h is = tt
+  pairs_fault (DeserializationError m) xs k d ms total h is = sym is
+      ∙ ap (λ r. onto_pairs xs (r >>= λ v. reads_members_in D ms >>= λ ps. Ok (pair k v ps))) h ∙ onto_pairs-err xs _
+  pairs_fault (InvalidObjectId f) xs k d ms total h is = (
+    h.0,
+    sym is ∙ ap (λ r. onto_pairs xs (r >>= λ v. reads_members_in D ms >>= λ ps. Ok (pair k v ps))) h.1
+        ∙ onto_pairs-err xs _,
+    h.2,
+  )
 
-pub pairs_step : (xs : List Entry) (x : Entry) (d : Data) (ms : Members) (total : Result Pairs Fault)
-    → reads d ≡ Ok (bson_view x.1) → onto_pairs xs (reads_members (member (x.0) d ms)) ≡ total
-    → onto_pairs (xs ++ x ∷ []) (reads_members ms) ≡ total
-pairs_step xs x d ms total h is = onto_pairs-snoc xs x (reads_members ms)
-    ∙ ap (λ r. onto_pairs xs (r >>= λ w. reads_members ms >>= λ ps. Ok (pair (x.0) w ps))) (sym h) ∙ is
+  pub pairs_step : (xs : List Entry) (x : Entry) (d : Data) (ms : Members) (total : Result Pairs Fault)
+      → reads_in D d ≡ Ok (bson_view x.1) → onto_pairs xs (reads_members_in D (member (x.0) d ms)) ≡ total
+      → onto_pairs (xs ++ x ∷ []) (reads_members_in D ms) ≡ total
+  pairs_step xs x d ms total h is = onto_pairs-snoc xs x (reads_members_in D ms)
+      ∙ ap (λ r. onto_pairs xs (r >>= λ w. reads_members_in D ms >>= λ ps. Ok (pair (x.0) w ps))) (sym h) ∙ is

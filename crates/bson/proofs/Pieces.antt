@@ -1,6 +1,7 @@
 -- The text of an object from the texts of its members.
 use Rattle.std.proofs.Common.{◌≡◌, ℕ, ◌-◌, ◌<◌, Bool, true, false, cond, ◌==◌, List, [], ◌∷◌, ◌++◌, length, drop, take}
-use Rattle.std.proofs.Common.{Option, Some, None, Result, Ok, Err, Less, nat_cmp, refl, sym, ap, ◌∙◌, subst, arith, append_assoc}
+use Rattle.std.proofs.Common.{Option, Some, None, Result, Ok, Err, Less, nat_cmp, refl, sym, ap, ◌∙◌, subst, arith}
+use Rattle.std.proofs.Common.{append_assoc}
 use Rattle.std.proofs.lemmas.Bool.{eq-eqb, ne_eqb}
 use Rattle.std.proofs.lemmas.Cmp.{nat_list_cmp_total}
 use Rattle.std.proofs.lemmas.List.{drop-append-le, take-append-le, length-append, length-drop}
@@ -23,9 +24,10 @@ use Rattle.serde_json.specs.Written.{compact_text}
 use Rattle.serde_json.proofs.Texts.{print-outline}
 use Rattle.bson_wrapper.specs.Table.{wrapper_of, has_wrapper}
 use Rattle.bson_wrapper.specs.Written.{◌>>=◌}
+use Rattle.bson_wrapper.specs.declared.form.Doubles.{Doubles}
 use Rattle.bson_wrapper.specs.declared.form.Form.{Form}
 use Rattle.bson_model.specs.Normal.{PairsInRange}
-use Rattle.bson_model.specs.Reading.{reads_members}
+use Rattle.bson_model.specs.Reading.{reads_members_in}
 use Rattle.bson_model.specs.Sorted.{put_pair, IsLeast, KeysAscend}
 use Rattle.bson_model.specs.Value.{Value, Pairs, no_pairs, document}
 use Rattle.bson.specs.Converted.{TextConverted, Follows}
@@ -37,10 +39,10 @@ use Rattle.bson.specs.declared.extjson.convert.by_key.Piece.{Piece}
 use Rattle.bson.specs.declared.extjson.convert.by_key.Pieces.{Pieces}
 use Rattle.bson.proofs.Converting.{text_read, text_written}
 use Rattle.bson.proofs.ConvertingMembers.{written_in_order}
-use Rattle.bson.proofs.Gathering.{Gathers, none_yet, one_gathered, all_gathered}
+use Rattle.bson_tokens.proofs.Offered.{Gathers, none_yet, one_gathered, all_gathered}
 use Rattle.bson.proofs.PutReads.{put_plain, put_reads, object_read}
 use Rattle.bson.proofs.Turned.{turned, put_ascending, put_last}
-use Rattle.bson.proofs.Turns.{object_opened}
+use Rattle.bson_tokens.proofs.Offered.{object_opened}
 
 -- ---- what may be there
 
@@ -77,17 +79,18 @@ last_text texts new s p is start end =
     let all : p.end - p.start ≡ length s = omega (arith, long, start, end) in
     ap (take (p.end - p.start)) rest ∙ ap (λ n. take n s) all ∙ take-length s
 
-last_piece : (f : Form) (k : List ℕ) (v : Value) (old new s : List ℕ) (values : Values) (p : Piece) → new ≡ old ++ s
-    → piece_key p ≡ k → p.start ≡ length old → p.end ≡ length new → values p.start ≡ v → IsMemberText f k v s
-    → IsUtf8 s → IsPiece f new values p
-last_piece f k v old new s values p is key_is start end here text utf8 =
+last_piece : (D : Doubles) (f : Form) (k : List ℕ) (v : Value) (old new s : List ℕ) (values : Values) (p : Piece)
+    → new ≡ old ++ s
+    → piece_key p ≡ k → p.start ≡ length old → p.end ≡ length new → values p.start ≡ v → IsMemberText D f k v s
+    → IsUtf8 s → IsPiece D f new values p
+last_piece D f k v old new s values p is key_is start end here text utf8 =
     let long = ap length is ∙ length-append old s in
     let same = last_text old new s p is start end in
     let some : 0 < length s = omega (arith, ap length text.3, length-append (quoted k) (58 ∷ compact_text text.0)) in (
       (omega (arith, start, end, long, some), omega (arith, end), subst IsUtf8 (sym same) utf8),
-      subst (λ l. IsMemberText f l (values p.start) (piece_text new p)) (sym key_is)
-          (subst (λ w. IsMemberText f k w (piece_text new p)) (sym here)
-          (subst (IsMemberText f k v) (sym same) text)),
+      subst (λ l. IsMemberText D f l (values p.start) (piece_text new p)) (sym key_is)
+          (subst (λ w. IsMemberText D f k w (piece_text new p)) (sym here)
+          (subst (IsMemberText D f k v) (sym same) text)),
     )
 
 -- ---- one more value
@@ -110,42 +113,43 @@ module _ (values : Values) (v : Value) (at : ℕ) where
       put_there ps (put_pair (piece_key p) (with_value p.start) qs) (All-tail (λ q. q.start < at) p ps h)
       ∙ ap (λ w. put_each piece_key (value_at values) ps (put_pair (piece_key p) w qs)) (value_there p.start first)
 
-  piece_there : (f : Form) (texts new s : List ℕ) → new ≡ texts ++ s → at ≡ length texts → (p : Piece)
-      → IsPiece f texts values p → IsPiece f new with_value p
-  piece_there f texts new s is here p h =
+  piece_there : (D : Doubles) (f : Form) (texts new s : List ℕ) → new ≡ texts ++ s → at ≡ length texts → (p : Piece)
+      → IsPiece D f texts values p → IsPiece D f new with_value p
+  piece_there D f texts new s is here p h =
       let within = h.0 in
       let long = ap length is ∙ length-append texts s in
       let same : piece_text new p ≡ piece_text texts p = ap (λ l. piece_text l p) is ∙ same_text texts s p within in
       let stays = sym (value_there p.start (omega (arith, within.0, within.1, here))) in (
         (within.0, omega (arith, within.1, long), subst IsUtf8 (sym same) within.2),
-        subst (λ w. IsMemberText f (piece_key p) w (piece_text new p)) stays
-            (subst (IsMemberText f (piece_key p) (value_at values p)) (sym same) h.1),
+        subst (λ w. IsMemberText D f (piece_key p) w (piece_text new p)) stays
+            (subst (IsMemberText D f (piece_key p) (value_at values p)) (sym same) h.1),
       )
 
 -- ---- the members so far
 
-pub record PiecesPass (f : Form) (start here : List Token) (found : Pieces) : Type 0 where
+pub record PiecesPass (D : Doubles) (f : Form) (start here : List Token) (found : Pieces) : Type 0 where
   pub values : Values
   pub trees : Members
   pub gathers : Gathers 126 no_members start here trees
   pub plain : has_wrapper trees ≡ false
-  pub read : reads_members trees ≡ Ok (put_each piece_key (value_at values) found.pieces.items no_pairs)
-  pub all : All (IsPiece f found.texts.items values) found.pieces.items
+  pub read : reads_members_in D trees ≡ Ok (put_each piece_key (value_at values) found.pieces.items no_pairs)
+  pub all : All (IsPiece D f found.texts.items values) found.pieces.items
 
-pub none_in_pieces : (f : Form) (ts : List Token) (found : Pieces) → found.pieces.items ≡ [] → PiecesPass f ts ts found
-none_in_pieces f ts found none = record {
+pub none_in_pieces : (D : Doubles) (f : Form) (ts : List Token) (found : Pieces) → found.pieces.items ≡ []
+    → PiecesPass D f ts ts found
+none_in_pieces D f ts found none = record {
   values = λ i. document no_pairs;
   trees = no_members;
   gathers = none_yet 126 no_members ts;
   plain = refl;
   read = ap (λ ps. Ok (put_each piece_key (λ p. document no_pairs) ps no_pairs)) (sym none);
-  all = subst (All (IsPiece f found.texts.items (λ i. document no_pairs))) (sym none) (All-nil _);
+  all = subst (All (IsPiece D f found.texts.items (λ i. document no_pairs))) (sym none) (All-nil _);
 }
 
-pub one_in_pieces : (f : Form) (k : List ℕ) (start here s r : List Token) (found now : Pieces)
-    → PiecesPass f start here found → read_key here ≡ Some (Some k, s) → is_some (wrapper_of k) ≡ false
-    → IsAdded f k (converted of_json (value 126 s)) r found now → length r < length s → PiecesPass f start r now
-one_in_pieces f k start here s r found now g named plain added less =
+pub one_in_pieces : (D : Doubles) (f : Form) (k : List ℕ) (start here s r : List Token) (found now : Pieces)
+    → PiecesPass D f start here found → read_key here ≡ Some (Some k, s) → is_some (wrapper_of k) ≡ false
+    → IsAdded D f k (converted of_json (value 126 s)) r found now → length r < length s → PiecesPass D f start r now
+one_in_pieces D f k start here s r found now g named plain added less =
     let v = added.0.0 in
     let m = added.0.1 in
     let text = added.0.2 in
@@ -157,7 +161,7 @@ one_in_pieces f k start here s r found now g named plain added less =
     let at = length old in
     let values = with_value g.values v at in
     let here_is : values p.start ≡ v = value_here g.values v at p.start is.2 in
-    let lower = All-weaker (IsPiece f old g.values) (λ q. q.start < at)
+    let lower = All-weaker (IsPiece D f old g.values) (λ q. q.start < at)
     (λ q h. omega (arith, h.0.0, h.0.1)) ps g.all in
     let pairs : put_each piece_key (value_at values) now.pieces.items no_pairs
     ≡ put_pair k v (put_each piece_key (value_at g.values) ps no_pairs) =
@@ -166,23 +170,24 @@ one_in_pieces f k start here s r found now g named plain added less =
     ∙ ap (λ l. put_pair l (values p.start) (put_each piece_key (value_at values) ps no_pairs)) is.1
     ∙ ap (λ w. put_pair k w (put_each piece_key (value_at values) ps no_pairs)) here_is
     ∙ ap (put_pair k v) (put_there g.values v at ps no_pairs lower) in
-    let before = All-weaker (IsPiece f old g.values) (IsPiece f new values)
-    (piece_there g.values v at f old new text.0 text.3 refl) ps g.all in
-    let last = last_piece f k v old new text.0 values p text.3 is.1 is.2 is.3 here_is text.1 text.2 in
+    let before = All-weaker (IsPiece D f old g.values) (IsPiece D f new values)
+    (piece_there g.values v at D f old new text.0 text.3 refl) ps g.all in
+    let last = last_piece D f k v old new text.0 values p text.3 is.1 is.2 is.3 here_is text.1 text.2 in
     record {
       values = values;
       trees = put k m.0 g.trees;
       gathers = one_gathered 126 no_members k start here s r g.trees m.0 g.gathers named m.1 less;
       plain = put_plain k m.0 plain g.trees ∙ g.plain;
-      read = put_reads k m.0 v m.2 g.trees _ g.read ∙ ap Ok (sym pairs);
-      all = subst (All (IsPiece f new values)) (sym is.4) (All-push (IsPiece f new values) ps p before last);
+      read = put_reads D k m.0 v m.2 g.trees _ g.read ∙ ap Ok (sym pairs);
+      all = subst (All (IsPiece D f new values)) (sym is.4) (All-push (IsPiece D f new values) ps p before last);
     }
 
-pub all_in_pieces : (f : Form) (start here rest : List Token) (found : Pieces) → PiecesPass f start here found
+pub all_in_pieces : (D : Doubles) (f : Form) (start here rest : List Token) (found : Pieces)
+    → PiecesPass D f start here found
     → read_key here ≡ Some (None, rest)
-    → ObjectInPieces f (converted (λ js. of_members js no_members) (members (value 126) (length start) start)) rest
+    → ObjectInPieces D f (converted (λ js. of_members js no_members) (members (value 126) (length start) start)) rest
     found
-all_in_pieces f start here rest found g ended = (
+all_in_pieces D f start here rest found g ended = (
   g.values,
   g.trees,
   all_gathered 126 no_members start here rest g.trees g.gathers ended (length start) (omega arith),
@@ -231,20 +236,20 @@ ascending_pairs values last (p ∷ ps) up =
     least_after values k (p ∷ ps) up = (up.0, least_of values k (piece_key p) ps up.0 up.1)
 
 -- the texts of members are the text of their trees
-pieces_written : (f : Form) (texts : List ℕ) (values : Values) (behind : Bool) (ps : List Piece)
-    → All (IsPiece f texts values) ps
-    → (ms : Members) × (writes_in_order f (pairs_of piece_key (value_at values) ps) ≡ Ok ms)
+pieces_written : (D : Doubles) (f : Form) (texts : List ℕ) (values : Values) (behind : Bool) (ps : List Piece)
+    → All (IsPiece D f texts values) ps
+    → (ms : Members) × (writes_in_order D f (pairs_of piece_key (value_at values) ps) ≡ Ok ms)
     × (members_text texts behind ps ≡ written.members_text behind ms)
     × PairsInRange (pairs_of piece_key (value_at values) ps)
-pieces_written f texts values behind [] h = (no_members, refl, refl, tt)
-pieces_written f texts values behind (p ∷ ps) h =
-    let text = (All-head (IsPiece f texts values) p ps h).1 in
-    let more = pieces_written f texts values true ps (All-tail (IsPiece f texts values) p ps h) in
+pieces_written D f texts values behind [] h = (no_members, refl, refl, tt)
+pieces_written D f texts values behind (p ∷ ps) h =
+    let text = (All-head (IsPiece D f texts values) p ps h).1 in
+    let more = pieces_written D f texts values true ps (All-tail (IsPiece D f texts values) p ps h) in
     let k = piece_key p in
     let one = quoted k ++ 58 ∷ compact_text text.0 in
     let comma = written.comma_if behind in (
       member k text.0 more.0,
-      ap (λ q. q >>= λ d. writes_in_order f (pairs_of piece_key (value_at values) ps) >>= λ ms. Ok (member k d ms))
+      ap (λ q. q >>= λ d. writes_in_order D f (pairs_of piece_key (value_at values) ps) >>= λ ms. Ok (member k d ms))
           text.1 ∙ ap (λ q. q >>= λ ms. Ok (member k text.0 ms)) more.1,
       ap (λ l. comma ++ (l ++ members_text texts true ps)) text.3
           ∙ ap (λ l. comma ++ (one ++ l)) more.2
@@ -254,10 +259,11 @@ pieces_written f texts values behind (p ∷ ps) h =
     )
 
 -- the object that the pieces in order give has the text of its tree
-pub text_by_key : (f : Form) (text done : List ℕ) (r : List Token) (found : Pieces) → tokens text ≡ begin_object ∷ r
-    → ObjectInPieces f (converted (λ js. of_members js no_members) (members (value 126) (length r) r)) [] found
-    → InOrder found.pieces.items found.texts.items done → TextConverted f text done
-text_by_key f text done r found opened o order =
+pub text_by_key : (D : Doubles) (f : Form) (text done : List ℕ) (r : List Token) (found : Pieces)
+    → tokens text ≡ begin_object ∷ r
+    → ObjectInPieces D f (converted (λ js. of_members js no_members) (members (value 126) (length r) r)) [] found
+    → InOrder found.pieces.items found.texts.items done → TextConverted D f text done
+text_by_key D f text done r found opened o order =
     let values = o.0 in
     let trees = o.1 in
     let ps = order.0 in
@@ -266,13 +272,13 @@ text_by_key f text done r found opened o order =
     let put : put_each piece_key (value_at values) found.pieces.items no_pairs ≡ pairs =
     turned piece_key (value_at values) found.pieces.items ps no_pairs order.1
     ∙ put_ascending piece_key (value_at values) ps up in
-    let all = All-permutation (IsPiece f found.texts.items values) found.pieces.items ps order.2 o.5 in
-    let w = pieces_written f found.texts.items values false ps all in
+    let all = All-permutation (IsPiece D f found.texts.items values) found.pieces.items ps order.2 o.5 in
+    let w = pieces_written D f found.texts.items values false ps all in
     let tree = object_opened 127 (tokens text) r opened (omega arith) ∙ ap (parse_map object) o.2 in
-    let read = object_read trees pairs o.3 (o.4 ∙ ap Ok put) in (
+    let read = object_read D trees pairs o.3 (o.4 ∙ ap Ok put) in (
       document pairs,
-      text_read text (document pairs) [] (object trees, tree, read) refl,
-      text_written f (document pairs) (object w.0) done
-          (ap (λ q. q >>= λ ms. Ok (object ms)) (sym (written_in_order f pairs up) ∙ w.1)) w.3
+      text_read D text (document pairs) [] (object trees, tree, read) refl,
+      text_written D f (document pairs) (object w.0) done
+          (ap (λ q. q >>= λ ms. Ok (object ms)) (sym (written_in_order D f pairs up) ∙ w.1)) w.3
           (order.4 ∙ ap (λ l. 123 ∷ l) w.2),
     )

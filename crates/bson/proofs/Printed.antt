@@ -12,6 +12,7 @@ use Rattle.serde_json.specs.Data.{Data, object, Items, item, Members, member, pu
 use Rattle.serde_json.specs.Written.{items_outline, members_outline}
 use Rattle.bson_wrapper.proofs.Offered.{in_turn}
 use Rattle.bson_wrapper.specs.Written.{Refusal, finite, ◌>>=◌, Stops}
+use Rattle.bson_wrapper.specs.declared.form.Doubles.{Doubles}
 use Rattle.bson_wrapper.specs.declared.form.Form.{Form}
 use Rattle.bson_wrapper.specs.declared.write_error.WriteError.{WriteError}
 use Rattle.bson_wrapper.specs.declared.write_error.WriteError.TheVariants.{FiniteDouble, OutOfMemory}
@@ -19,7 +20,7 @@ use Rattle.bson_store.specs.Order.{key_cmp, in_order}
 use Rattle.bson_store.specs.Pairs.{keys, HasDistinctKeys}
 use Rattle.bson_model.specs.Value.{Value, code_scope, Values, value, Pairs, pair}
 use Rattle.bson_model.specs.Normal.{InRange, PairsInRange}
-use Rattle.bson_model.specs.Writing.{writes, writes_items, writes_pairs, with_scope}
+use Rattle.bson_model.specs.Writing.{writes_in, writes_items_in, writes_pairs_in, with_scope}
 use Rattle.bson_store.proofs.Offered.{find-in_order, lacks}
 use Rattle.bson.specs.Texts.{tokens_of, code_tokens, writes_in_order, KeysAscend}
 use Rattle.bson.specs.View.{bson_view, pairs_view}
@@ -32,24 +33,25 @@ use Rattle.bson.proofs.OntoTree.{bind_same}
 abbrev pub EndsItems : Result Items Refusal → List Token → List Token → Type 0
 EndsItems w old end = (ds : Items) × (w ≡ Ok ds) × (end ≡ old ++ items_tokens (items_outline ds))
 
-pub items_more : (f : Form) (v : Value) (vs : Values) (old new end : List Token)
-    → ((x : Data) × (writes f v ≡ Ok x) × (new ≡ old ++ tokens_of x)) → EndsItems (writes_items f vs) new end
-    → EndsItems (writes_items f (value v vs)) old end
-items_more f v vs old new end p q = (
+pub items_more : (D : Doubles) (f : Form) (v : Value) (vs : Values) (old new end : List Token)
+    → ((x : Data) × (writes_in D f v ≡ Ok x) × (new ≡ old ++ tokens_of x)) → EndsItems (writes_items_in D f vs) new end
+    → EndsItems (writes_items_in D f (value v vs)) old end
+items_more D f v vs old new end p q = (
   item p.0 q.0,
-  ap (λ r. r >>= λ d. writes_items f vs >>= λ ds. Ok (item d ds)) p.1 ∙ ap (λ r. r >>= λ ds. Ok (item p.0 ds)) q.1,
+  ap (λ r. r >>= λ d. writes_items_in D f vs >>= λ ds. Ok (item d ds)) p.1 ∙ ap (λ r. r >>= λ ds. Ok (item p.0 ds)) q.1,
   in_turn old (tokens_of p.0) new (items_tokens (items_outline q.0)) end p.2 q.2,
 )
 
-pub items_here : (f : Form) (e : WriteError) (v : Value) (vs : Values) → Stops e (writes f v)
-    → Stops e (writes_items f (value v vs))
-items_here f OutOfMemory v vs h = tt
-items_here f FiniteDouble v vs h = ap (λ r. r >>= λ d. writes_items f vs >>= λ ds. Ok (item d ds)) h
+pub items_here : (D : Doubles) (f : Form) (e : WriteError) (v : Value) (vs : Values) → Stops e (writes_in D f v)
+    → Stops e (writes_items_in D f (value v vs))
+items_here D f OutOfMemory v vs h = tt
+items_here D f FiniteDouble v vs h = ap (λ r. r >>= λ d. writes_items_in D f vs >>= λ ds. Ok (item d ds)) h
 
-pub items_later : (f : Form) (e : WriteError) (v : Value) (d : Data) (vs : Values) → writes f v ≡ Ok d
-    → Stops e (writes_items f vs) → Stops e (writes_items f (value v vs))
-items_later f OutOfMemory v d vs g h = tt
-items_later f FiniteDouble v d vs g h = ap (λ r. r >>= λ c. writes_items f vs >>= λ ds. Ok (item c ds)) g
+pub items_later : (D : Doubles) (f : Form) (e : WriteError) (v : Value) (d : Data) (vs : Values)
+    → writes_in D f v ≡ Ok d
+    → Stops e (writes_items_in D f vs) → Stops e (writes_items_in D f (value v vs))
+items_later D f OutOfMemory v d vs g h = tt
+items_later D f FiniteDouble v d vs g h = ap (λ r. r >>= λ c. writes_items_in D f vs >>= λ ds. Ok (item c ds)) g
     ∙ ap (λ r. r >>= λ ds. Ok (item d ds)) h
 
 -- ---- documents whose keys ascend
@@ -57,27 +59,29 @@ items_later f FiniteDouble v d vs g h = ap (λ r. r >>= λ c. writes_items f vs 
 abbrev pub EndsMembers : Result Members Refusal → List Token → List Token → Type 0
 EndsMembers w old end = (ms : Members) × (w ≡ Ok ms) × (end ≡ old ++ members_tokens (members_outline ms))
 
-pub members_more : (f : Form) (k : List ℕ) (v : Value) (ps : Pairs) (old near new end : List Token)
-    → near ≡ old ++ key k ∷ [] → ((x : Data) × (writes f v ≡ Ok x) × (new ≡ near ++ tokens_of x))
-    → EndsMembers (writes_in_order f ps) new end
-    → EndsMembers (writes_in_order f (pair k v ps)) old end
-members_more f k v ps old near new end n p q = (
+pub members_more : (D : Doubles) (f : Form) (k : List ℕ) (v : Value) (ps : Pairs) (old near new end : List Token)
+    → near ≡ old ++ key k ∷ [] → ((x : Data) × (writes_in D f v ≡ Ok x) × (new ≡ near ++ tokens_of x))
+    → EndsMembers (writes_in_order D f ps) new end
+    → EndsMembers (writes_in_order D f (pair k v ps)) old end
+members_more D f k v ps old near new end n p q = (
   member k p.0 q.0,
-  ap (λ r. r >>= λ d. writes_in_order f ps >>= λ ms. Ok (member k d ms)) p.1
+  ap (λ r. r >>= λ d. writes_in_order D f ps >>= λ ms. Ok (member k d ms)) p.1
       ∙ ap (λ r. r >>= λ ms. Ok (member k p.0 ms)) q.1,
   in_turn old (key k ∷ []) near (tokens_of p.0 ++ members_tokens (members_outline q.0)) end n
       (in_turn near (tokens_of p.0) new (members_tokens (members_outline q.0)) end p.2 q.2),
 )
 
-pub members_here : (f : Form) (e : WriteError) (k : List ℕ) (v : Value) (ps : Pairs) → Stops e (writes f v)
-    → Stops e (writes_in_order f (pair k v ps))
-members_here f OutOfMemory k v ps h = tt
-members_here f FiniteDouble k v ps h = ap (λ r. r >>= λ d. writes_in_order f ps >>= λ ms. Ok (member k d ms)) h
+pub members_here : (D : Doubles) (f : Form) (e : WriteError) (k : List ℕ) (v : Value) (ps : Pairs)
+    → Stops e (writes_in D f v)
+    → Stops e (writes_in_order D f (pair k v ps))
+members_here D f OutOfMemory k v ps h = tt
+members_here D f FiniteDouble k v ps h = ap (λ r. r >>= λ d. writes_in_order D f ps >>= λ ms. Ok (member k d ms)) h
 
-pub members_later : (f : Form) (e : WriteError) (k : List ℕ) (v : Value) (d : Data) (ps : Pairs) → writes f v ≡ Ok d
-    → Stops e (writes_in_order f ps) → Stops e (writes_in_order f (pair k v ps))
-members_later f OutOfMemory k v d ps g h = tt
-members_later f FiniteDouble k v d ps g h = ap (λ r. r >>= λ c. writes_in_order f ps >>= λ ms. Ok (member k c ms)) g
+pub members_later : (D : Doubles) (f : Form) (e : WriteError) (k : List ℕ) (v : Value) (d : Data) (ps : Pairs)
+    → writes_in D f v ≡ Ok d
+    → Stops e (writes_in_order D f ps) → Stops e (writes_in_order D f (pair k v ps))
+members_later D f OutOfMemory k v d ps g h = tt
+members_later D f FiniteDouble k v d ps g h = ap (λ r. r >>= λ c. writes_in_order D f ps >>= λ ms. Ok (member k c ms)) g
     ∙ ap (λ r. r >>= λ ms. Ok (member k d ms)) h
 
 -- a key that is less than the first one is put first
@@ -89,14 +93,14 @@ put_first k l d h (Ok e) (Err x) = refl
 put_first k l d h (Err x) b = refl
 
 -- the map of a document whose keys ascend has its members in the document's order
-pub in_turn_is : (f : Form) (xs : List Entry) → KeysAscend (keys xs)
-    → writes_in_order f (pairs_view xs) ≡ writes_pairs f (pairs_view xs)
-in_turn_is f [] h = refl
-in_turn_is f (x ∷ []) h = refl
-in_turn_is f (x ∷ y ∷ ys) h =
-    let rest = in_turn_is f (y ∷ ys) (λ i. h (suc i)) in
-    bind_same (writes f (bson_view x.1)) _ _ (λ d.
-    put_first x.0 y.0 d (h 0 x.0 y.0 refl refl) (writes f (bson_view y.1)) (writes_in_order f (pairs_view ys))
+pub in_turn_is : (D : Doubles) (f : Form) (xs : List Entry) → KeysAscend (keys xs)
+    → writes_in_order D f (pairs_view xs) ≡ writes_pairs_in D f (pairs_view xs)
+in_turn_is D f [] h = refl
+in_turn_is D f (x ∷ []) h = refl
+in_turn_is D f (x ∷ y ∷ ys) h =
+    let rest = in_turn_is D f (y ∷ ys) (λ i. h (suc i)) in
+    bind_same (writes_in D f (bson_view x.1)) _ _ (λ d.
+    put_first x.0 y.0 d (h 0 x.0 y.0 refl refl) (writes_in D f (bson_view y.1)) (writes_in_order D f (pairs_view ys))
     ∙ ap (λ r. r >>= λ ms. Ok (put x.0 d ms)) rest)
 
 -- ---- documents by ascending key
@@ -111,30 +115,31 @@ put_later k l h (Ok x) (Err e) r = refl
 put_later k l h (Err finite) (Ok d) r = refl
 put_later k l h (Err finite) (Err finite) r = refl
 
-written_put : (f : Form) (k : List ℕ) (v : Bson) (es : List Entry) → find key_cmp k es ≡ None
-    → writes_in_order f (pairs_view (put_entry key_cmp k v es))
-    ≡ (writes f (bson_view v) >>= λ d. writes_in_order f (pairs_view es) >>= λ ms. Ok (put k d ms))
-written_put f k v [] h = refl
-written_put f k v (e ∷ es) h =
-    let a = writes f (bson_view e.1) in
-    let r = writes_in_order f (pairs_view es) in
+written_put : (D : Doubles) (f : Form) (k : List ℕ) (v : Bson) (es : List Entry) → find key_cmp k es ≡ None
+    → writes_in_order D f (pairs_view (put_entry key_cmp k v es))
+    ≡ (writes_in D f (bson_view v) >>= λ d. writes_in_order D f (pairs_view es) >>= λ ms. Ok (put k d ms))
+written_put D f k v [] h = refl
+written_put D f k v (e ∷ es) h =
+    let a = writes_in D f (bson_view e.1) in
+    let r = writes_in_order D f (pairs_view es) in
     elim (key_cmp k e.0) as (λ o. key_cmp k e.0 ≡ o → cond (is_eq o) (Some e.1) (find key_cmp k es) ≡ None
-    → writes_in_order f (pairs_view (by_order o ((k, v) ∷ e ∷ es) ((e.0, v) ∷ es) (e ∷ put_entry key_cmp k v es)))
-    ≡ (writes f (bson_view v) >>= λ d. (a >>= λ x. r >>= λ ms. Ok (member e.0 x ms)) >>= λ ms. Ok (put k d ms))) [
-      | Less ↦ λ o n. bind_same (writes f (bson_view v)) _ _ (λ d. put_first k e.0 d o a r)
+    → writes_in_order D f (pairs_view (by_order o ((k, v) ∷ e ∷ es) ((e.0, v) ∷ es) (e ∷ put_entry key_cmp k v es)))
+    ≡ (writes_in D f (bson_view v) >>= λ d. (a >>= λ x. r >>= λ ms. Ok (member e.0 x ms)) >>= λ ms. Ok (put k d ms))) [
+      | Less ↦ λ o n. bind_same (writes_in D f (bson_view v)) _ _ (λ d. put_first k e.0 d o a r)
       | Equal ↦ λ o n. cc
-      | Greater ↦ λ o n. bind_same a _ _ (λ x. ap (λ q. q >>= λ ms. Ok (member e.0 x ms)) (written_put f k v es n))
-          ∙ put_later k e.0 o a (writes f (bson_view v)) r
+      | Greater ↦ λ o n. bind_same a _ _ (λ x. ap (λ q. q >>= λ ms. Ok (member e.0 x ms)) (written_put D f k v es n))
+          ∙ put_later k e.0 o a (writes_in D f (bson_view v)) r
     ] refl h
 
 -- the map of a document has its members by ascending key
-pub by_key_is : (f : Form) (ps : List Entry) → HasDistinctKeys ps
-    → writes_in_order f (pairs_view (in_order ps)) ≡ writes_pairs f (pairs_view ps)
+pub by_key_is : (D : Doubles) (f : Form) (ps : List Entry) → HasDistinctKeys ps
+    → writes_in_order D f (pairs_view (in_order ps)) ≡ writes_pairs_in D f (pairs_view ps)
 unfolding IsDistinct
-by_key_is f [] d = refl
-by_key_is f (p ∷ ps) d =
-    written_put f p.0 p.1 (in_order ps) (find-in_order p.0 ps ∙ lacks p.0 ps d.0)
-    ∙ bind_same (writes f (bson_view p.1)) _ _ (λ x. ap (λ r. r >>= λ ms. Ok (put p.0 x ms)) (by_key_is f ps d.1))
+by_key_is D f [] d = refl
+by_key_is D f (p ∷ ps) d =
+    written_put D f p.0 p.1 (in_order ps) (find-in_order p.0 ps ∙ lacks p.0 ps d.0)
+    ∙ bind_same (writes_in D f (bson_view p.1)) _ _ (λ x. ap (λ r. r >>= λ ms. Ok (put p.0 x ms))
+    (by_key_is D f ps d.1))
 
 ranged_put : (k : List ℕ) (v : Bson) (es : List Entry) → find key_cmp k es ≡ None
     → PairsInRange (pairs_view (put_entry key_cmp k v es)) → InRange (bson_view v) × PairsInRange (pairs_view es)
@@ -159,36 +164,37 @@ ranged_by_key (p ∷ ps) d r =
 -- ---- one more pair of what is left
 
 module _ (left rest : List Entry) (k : List ℕ) (v : Bson) (here : left ≡ (k, v) ∷ rest) where
-  pub ends_more : (f : Form) (old near new end : List Token) → near ≡ old ++ key k ∷ []
-      → ((x : Data) × (writes f (bson_view v) ≡ Ok x) × (new ≡ near ++ tokens_of x))
-      → EndsMembers (writes_in_order f (pairs_view rest)) new end
-      → EndsMembers (writes_in_order f (pairs_view left)) old end
-  ends_more f old near new end n p h =
-      subst (λ (xs : List Entry). EndsMembers (writes_in_order f (pairs_view xs)) old end) (sym here)
-      (members_more f k (bson_view v) (pairs_view rest) old near new end n p h)
+  pub ends_more : (D : Doubles) (f : Form) (old near new end : List Token) → near ≡ old ++ key k ∷ []
+      → ((x : Data) × (writes_in D f (bson_view v) ≡ Ok x) × (new ≡ near ++ tokens_of x))
+      → EndsMembers (writes_in_order D f (pairs_view rest)) new end
+      → EndsMembers (writes_in_order D f (pairs_view left)) old end
+  ends_more D f old near new end n p h =
+      subst (λ (xs : List Entry). EndsMembers (writes_in_order D f (pairs_view xs)) old end) (sym here)
+      (members_more D f k (bson_view v) (pairs_view rest) old near new end n p h)
 
-  pub stops_here : (f : Form) (e : WriteError) → Stops e (writes f (bson_view v))
-      → Stops e (writes_in_order f (pairs_view left))
-  stops_here f e h =
-      subst (λ (xs : List Entry). Stops e (writes_in_order f (pairs_view xs))) (sym here)
-      (members_here f e k (bson_view v) (pairs_view rest) h)
+  pub stops_here : (D : Doubles) (f : Form) (e : WriteError) → Stops e (writes_in D f (bson_view v))
+      → Stops e (writes_in_order D f (pairs_view left))
+  stops_here D f e h =
+      subst (λ (xs : List Entry). Stops e (writes_in_order D f (pairs_view xs))) (sym here)
+      (members_here D f e k (bson_view v) (pairs_view rest) h)
 
-  pub stops_more : (f : Form) (e : WriteError) (d : Data) → writes f (bson_view v) ≡ Ok d
-      → Stops e (writes_in_order f (pairs_view rest)) → Stops e (writes_in_order f (pairs_view left))
-  stops_more f e d p h =
-      subst (λ (xs : List Entry). Stops e (writes_in_order f (pairs_view xs))) (sym here)
-      (members_later f e k (bson_view v) d (pairs_view rest) p h)
+  pub stops_more : (D : Doubles) (f : Form) (e : WriteError) (d : Data) → writes_in D f (bson_view v) ≡ Ok d
+      → Stops e (writes_in_order D f (pairs_view rest)) → Stops e (writes_in_order D f (pairs_view left))
+  stops_more D f e d p h =
+      subst (λ (xs : List Entry). Stops e (writes_in_order D f (pairs_view xs))) (sym here)
+      (members_later D f e k (bson_view v) d (pairs_view rest) p h)
 
   pub ranged_more : InRange (bson_view v) → PairsInRange (pairs_view rest) → PairsInRange (pairs_view left)
   ranged_more r h = subst (λ (xs : List Entry). PairsInRange (pairs_view xs)) (sym here) (r, h)
 
 -- ---- code with a scope
 
-pub scoped : (f : Form) (s : List ℕ) (ps : Pairs) (old mid near new : List Token) → mid ≡ old ++ code_tokens s
-    → ((x : Members) × (writes_pairs f ps ≡ Ok x) × (near ≡ mid ++ tokens_of (object x)))
+pub scoped : (D : Doubles) (f : Form) (s : List ℕ) (ps : Pairs) (old mid near new : List Token)
+    → mid ≡ old ++ code_tokens s
+    → ((x : Members) × (writes_pairs_in D f ps ≡ Ok x) × (near ≡ mid ++ tokens_of (object x)))
     → new ≡ near ++ end_object ∷ []
-    → (t : Data) × (writes f (code_scope s ps) ≡ Ok t) × (new ≡ old ++ tokens_of t)
-scoped f s ps old mid near new m p n = (
+    → (t : Data) × (writes_in D f (code_scope s ps) ≡ Ok t) × (new ≡ old ++ tokens_of t)
+scoped D f s ps old mid near new m p n = (
   _,
   ap (λ r. r >>= λ ms. Ok (with_scope s ms)) p.1,
   in_turn old (code_tokens s) mid (tokens_of (object p.0) ++ end_object ∷ []) new m

@@ -1,5 +1,5 @@
 -- One more member of a map, and one more pair of what the map is read as.
-use Rattle.std.proofs.Common.{◌≡◌, ℕ, List, true, false, Result, Ok, Err, Ordering, Less, Equal, Greater, nat_cmp, refl}
+use Rattle.std.proofs.Common.{◌≡◌, ℕ, List, false, Result, Ok, Err, Ordering, Less, Equal, Greater, nat_cmp, refl}
 use Rattle.std.proofs.Common.{sym, ◌∙◌}
 use Rattle.std.specs.Prelude.{is_some}
 use Rattle.std.specs.Cmp.Lexicographic.{slice_cmp}
@@ -7,9 +7,9 @@ use Rattle.std.specs.Ordering.{match_ordering}
 use Rattle.std.proofs.lemmas.Cmp.{nat_list_cmp_total}
 use Rattle.serde_json.specs.Data.{Data, Members, no_members, member, object, put}
 use Rattle.bson_wrapper.specs.Faults.{Fault, ◌>>=◌}
-use Rattle.bson_wrapper.specs.Reading.{single_at}
 use Rattle.bson_wrapper.specs.Table.{wrapper_of, has_wrapper}
-use Rattle.bson_model.specs.Reading.{reads, reads_members, scalar_value}
+use Rattle.bson_wrapper.specs.declared.form.Doubles.{Doubles}
+use Rattle.bson_model.specs.Reading.{reads_in, reads_members_in}
 use Rattle.bson_model.specs.Sorted.{put_pair, IsLeast, KeysAscend}
 use Rattle.bson_model.specs.Value.{Value, Pairs, no_pairs, pair, document}
 use Rattle.bson_model.proofs.Offered.{flipped}
@@ -25,25 +25,21 @@ parts k (Err e) s ps h = cc
 parts k (Ok v) (Err e) ps h = cc
 parts k (Ok v) (Ok qs) ps h = (v, qs, refl, refl, cc)
 
-put_at : (o : Ordering) (k l : List ℕ) (d e : Data) (v w : Value) (ms : Members) (qs : Pairs) → reads d ≡ Ok v
-    → reads e ≡ Ok w → reads_members ms ≡ Ok qs → reads_members (put k d ms) ≡ Ok (put_pair k v qs)
-    → reads_members (match_ordering o (member k d (member l e ms)) (member l d ms) (member l e (put k d ms)))
+put_at : (D : Doubles) (o : Ordering) (k l : List ℕ) (d e : Data) (v w : Value) (ms : Members) (qs : Pairs)
+    → reads_in D d ≡ Ok v → reads_in D e ≡ Ok w → reads_members_in D ms ≡ Ok qs
+    → reads_members_in D (put k d ms) ≡ Ok (put_pair k v qs)
+    → reads_members_in D (match_ordering o (member k d (member l e ms)) (member l d ms) (member l e (put k d ms)))
     ≡ Ok (match_ordering o (pair k v (pair l w qs)) (pair l v qs) (pair l w (put_pair k v qs)))
-put_at Less k l d e v w ms qs h i j is = rw (h, i, j) refl
-put_at Equal k l d e v w ms qs h i j is = rw (h, j) refl
-put_at Greater k l d e v w ms qs h i j is = rw (i, is) refl
+put_at D Less k l d e v w ms qs h i j is = rw (h, i, j) refl
+put_at D Equal k l d e v w ms qs h i j is = rw (h, j) refl
+put_at D Greater k l d e v w ms qs h i j is = rw (i, is) refl
 
-pub put_reads : (k : List ℕ) (d : Data) (v : Value) → reads d ≡ Ok v → (ms : Members) (ps : Pairs)
-    → reads_members ms ≡ Ok ps → reads_members (put k d ms) ≡ Ok (put_pair k v ps)
-put_reads k d v h no_members ps i = let e : no_pairs ≡ ps = cc in rw (h, sym e) refl
-put_reads k d v h (member l e ms) ps i =
-    let p = parts l (reads e) (reads_members ms) ps i in
-    rw p.4 (put_at (slice_cmp nat_cmp k l) k l d e v p.0 ms p.1 h p.2 p.3 (put_reads k d v h ms p.1 p.3))
-
--- a map that is read as no pairs has no members
-pub nothing_read : (ms : Members) → reads_members ms ≡ Ok no_pairs → ms ≡ no_members
-nothing_read no_members h = refl
-nothing_read (member k d ms) h = let p = parts k (reads d) (reads_members ms) no_pairs h in cc
+pub put_reads : (D : Doubles) (k : List ℕ) (d : Data) (v : Value) → reads_in D d ≡ Ok v → (ms : Members) (ps : Pairs)
+    → reads_members_in D ms ≡ Ok ps → reads_members_in D (put k d ms) ≡ Ok (put_pair k v ps)
+put_reads D k d v h no_members ps i = let e : no_pairs ≡ ps = cc in rw (h, sym e) refl
+put_reads D k d v h (member l e ms) ps i =
+    let p = parts l (reads_in D e) (reads_members_in D ms) ps i in
+    rw p.4 (put_at D (slice_cmp nat_cmp k l) k l d e v p.0 ms p.1 h p.2 p.3 (put_reads D k d v h ms p.1 p.3))
 
 -- ---- its keys
 
@@ -83,11 +79,7 @@ put_ascends k v (pair l w ps) up = ascend_at (slice_cmp nat_cmp k l) k l v w ps 
 
 -- ---- objects
 
--- a map with no wrapper's key, and a map of one that has
-pub object_read : (ms : Members) (ps : Pairs) → has_wrapper ms ≡ false → reads_members ms ≡ Ok ps
-    → reads (object ms) ≡ Ok (document ps)
-object_read ms ps plain h = rw (plain, h) refl
-
-pub lone_read : (k : List ℕ) (d : Data) (v : Value) → is_some (wrapper_of k) ≡ true
-    → scalar_value (single_at (wrapper_of k) d) ≡ Ok v → reads (object (member k d no_members)) ≡ Ok v
-lone_read k d v some h = rw some h
+-- a map with no wrapper's key
+pub object_read : (D : Doubles) (ms : Members) (ps : Pairs) → has_wrapper ms ≡ false → reads_members_in D ms ≡ Ok ps
+    → reads_in D (object ms) ≡ Ok (document ps)
+object_read D ms ps plain h = rw (plain, h) refl

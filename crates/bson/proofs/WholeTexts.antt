@@ -1,28 +1,37 @@
 -- What the text of a value's tree is.
 use Rattle.std.proofs.Common.{◌≡◌, true, false, Result, Ok, Err, String, Global, string_bytes, sym, ap, ◌∙◌}
 use Rattle.std.specs.Prelude.{is_ok, IfOk, OnOk}
+use Rattle.bson_wrapper.specs.declared.form.Doubles.{Doubles}
 use Rattle.bson_wrapper.specs.declared.form.Form.{Form}
 use Rattle.bson_wrapper.specs.declared.write_error.WriteError.{WriteError}
 use Rattle.bson_wrapper.specs.declared.write_error.WriteError.TheVariants.{FiniteDouble, OutOfMemory}
 use Rattle.bson_model.specs.Value.{Value}
-use Rattle.bson_model.specs.Normal.{writable, InRange}
-use Rattle.bson_model.specs.Writing.{writes}
-use Rattle.bson_model.proofs.Offered.{has_text, tree_is, writable_from, writable_is}
-use Rattle.bson.specs.Texts.{GivesText, IsTextIn}
+use Rattle.bson_model.specs.Normal.{writable_in, InRange}
+use Rattle.bson_model.specs.Writing.{writes_in}
+use Rattle.bson_model.proofs.Offered.{has_text_in, tree_is_in, writable_from_in, writable_is_in}
+use Rattle.bson.specs.Texts.{GivesText, IsTextUnder}
 
-pub text_is : (f : Form) (v : Value) (r : Result (String Global) WriteError) → GivesText r (writes f v)
-    → OnOk r (InRange v) → IfOk r (λ s. IsTextIn f v (string_bytes s))
-text_is f v (Ok s) g r =
-    record { tree = g.0; is_tree = tree_is f v g.0 g.1 r; reads_again = λ p. has_text f v g.0 g.1 p r; compact = g.2 }
-text_is f v (Err e) g r = tt
+pub text_is : (D : Doubles) (f : Form) (v : Value) (r : Result (String Global) WriteError)
+    → GivesText r (writes_in D f v)
+    → OnOk r (InRange v) → IfOk r (λ s. IsTextUnder D f v (string_bytes s))
+text_is D f v (Ok s) g r =
+    record {
+      tree = g.0;
+      is_tree = tree_is_in D f v g.0 g.1 r;
+      reads_again = λ p. has_text_in D f v g.0 g.1 p r;
+      compact = g.2;
+    }
+text_is D f v (Err e) g r = tt
 
-pub text_writable : (f : Form) (v : Value) (r : Result (String Global) WriteError) → GivesText r (writes f v)
-    → OnOk r (writable v ≡ true)
-text_writable f v (Ok s) g = writable_from f v g.0 g.1
-text_writable f v (Err e) g = tt
+pub text_writable : (D : Doubles) (f : Form) (v : Value) (r : Result (String Global) WriteError)
+    → GivesText r (writes_in D f v)
+    → OnOk r (writable_in D v ≡ true)
+text_writable D f v (Ok s) g = writable_from_in D f v g.0 g.1
+text_writable D f v (Err e) g = tt
 
-pub text_finite : (f : Form) (v : Value) (r : Result (String Global) WriteError) → GivesText r (writes f v)
-    → r ≡ Err FiniteDouble → writable v ≡ false
-text_finite f v (Ok s) g e = cc
-text_finite f v (Err OutOfMemory) g e = cc
-text_finite f v (Err FiniteDouble) g e = sym (writable_is f v) ∙ ap is_ok g
+pub text_finite : (D : Doubles) (f : Form) (v : Value) (r : Result (String Global) WriteError)
+    → GivesText r (writes_in D f v)
+    → r ≡ Err FiniteDouble → writable_in D v ≡ false
+text_finite D f v (Ok s) g e = cc
+text_finite D f v (Err OutOfMemory) g e = cc
+text_finite D f v (Err FiniteDouble) g e = sym (writable_is_in D f v) ∙ ap is_ok g

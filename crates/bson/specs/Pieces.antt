@@ -9,11 +9,12 @@ use Rattle.json.specs.Token.{Token}
 use Rattle.serde_json.specs.Data.{Data, Members}
 use Rattle.serde_json.specs.Written.{comma_if, compact_text}
 use Rattle.bson_wrapper.specs.Table.{has_wrapper}
+use Rattle.bson_wrapper.specs.declared.form.Doubles.{Doubles}
 use Rattle.bson_wrapper.specs.declared.form.Form.{Form}
 use Rattle.bson_model.specs.Normal.{InRange}
-use Rattle.bson_model.specs.Reading.{reads_members}
+use Rattle.bson_model.specs.Reading.{reads_members_in}
 use Rattle.bson_model.specs.Value.{Value, no_pairs}
-use Rattle.bson_model.specs.Writing.{writes}
+use Rattle.bson_model.specs.Writing.{writes_in}
 use Rattle.bson.specs.Converted.{Follows}
 use Rattle.bson.specs.Gathered.{HaveTurns, put_each}
 use Rattle.bson.specs.Straight.{TreeMeans}
@@ -54,15 +55,15 @@ InOrder pieces texts written =
 -- ---- gathered
 
 -- the text of a member of this key and value
-abbrev pub IsMemberText : Form → List ℕ → Value → List ℕ → Type 0
-IsMemberText f k v s =
-    (t : Data) × (writes f v ≡ Ok t) × InRange v × (s ≡ quoted k ++ 58 ∷ compact_text t)
+abbrev pub IsMemberText : Doubles → Form → List ℕ → Value → List ℕ → Type 0
+IsMemberText D f k v s =
+    (t : Data) × (writes_in D f v ≡ Ok t) × InRange v × (s ≡ quoted k ++ 58 ∷ compact_text t)
 
 -- a tree was read, of which these tokens are left, and the text of the member is behind the old texts
-abbrev pub IsTextAdded : Form → List ℕ → Option (Data × List Token) → List Token → List ℕ → List ℕ → Type 0
-IsTextAdded f k tree rest old new =
-    (v : Value) × TreeMeans tree v rest
-    × ((s : List ℕ) × IsMemberText f k v s × IsUtf8 s × (new ≡ old ++ s))
+abbrev pub IsTextAdded : Doubles → Form → List ℕ → Option (Data × List Token) → List Token → List ℕ → List ℕ → Type 0
+IsTextAdded D f k tree rest old new =
+    (v : Value) × TreeMeans D tree v rest
+    × ((s : List ℕ) × IsMemberText D f k v s × IsUtf8 s × (new ≡ old ++ s))
 
 -- the values of pieces, by where their texts begin
 abbrev pub Values : Type 0
@@ -71,20 +72,20 @@ Values = ℕ → Value
 abbrev pub value_at : Values → Piece → Value
 value_at values p = values p.start
 
-abbrev pub IsPiece : Form → List ℕ → Values → Piece → Type 0
-IsPiece f texts values p =
-    IsWithin texts p × IsMemberText f (piece_key p) (value_at values p) (piece_text texts p)
+abbrev pub IsPiece : Doubles → Form → List ℕ → Values → Piece → Type 0
+IsPiece D f texts values p =
+    IsWithin texts p × IsMemberText D f (piece_key p) (value_at values p) (piece_text texts p)
 
 -- the same with its piece
-abbrev pub IsAdded : Form → List ℕ → Option (Data × List Token) → List Token → Pieces → Pieces → Type 0
-IsAdded f k tree rest old new =
-    IsTextAdded f k tree rest old.texts.items new.texts.items
+abbrev pub IsAdded : Doubles → Form → List ℕ → Option (Data × List Token) → List Token → Pieces → Pieces → Type 0
+IsAdded D f k tree rest old new =
+    IsTextAdded D f k tree rest old.texts.items new.texts.items
     × ((p : Piece) × (piece_key p ≡ k) × (p.start ≡ length old.texts.items) × (p.end ≡ length new.texts.items)
     × (new.pieces.items ≡ old.pieces.items ++ p ∷ []))
 
 -- the members of an object were read, of which the pieces have the texts
-abbrev pub ObjectInPieces : Form → Option (Members × List Token) → List Token → Pieces → Type 0
-ObjectInPieces f members rest found =
+abbrev pub ObjectInPieces : Doubles → Form → Option (Members × List Token) → List Token → Pieces → Type 0
+ObjectInPieces D f members rest found =
     (values : Values) × (trees : Members) × (members ≡ Some (trees, rest)) × (has_wrapper trees ≡ false)
-    × (reads_members trees ≡ Ok (put_each piece_key (value_at values) found.pieces.items no_pairs))
-    × All (IsPiece f found.texts.items values) found.pieces.items
+    × (reads_members_in D trees ≡ Ok (put_each piece_key (value_at values) found.pieces.items no_pairs))
+    × All (IsPiece D f found.texts.items values) found.pieces.items

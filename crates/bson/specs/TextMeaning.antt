@@ -2,11 +2,12 @@
 use Rattle.std.specs.Prelude.{◌≡◌, ℕ, List, Some, None, Ok, IsUtf8}
 use Rattle.serde_json.specs.Data.{Data}
 use Rattle.serde_json.specs.Read.{read}
-use Rattle.bson_wrapper.specs.declared.error.Error.TheVariants as tree_error
-use Rattle.bson_model.specs.Fault.{IsFaultOf}
-use Rattle.bson_model.specs.Reading.{reads}
+use Rattle.bson_wrapper.specs.declared.form.Doubles.{Doubles}
+use Rattle.bson_wrapper.specs.declared.form.Doubles.TheVariants.{Special}
+use Rattle.bson_model.specs.Reading.{reads_in}
 use Rattle.bson_model.specs.Value.{Value}
-use Rattle.bson_model.specs.Laws.{HasMeaning}
+use Rattle.bson_model.specs.Laws.{HasMeaningIn}
+use Rattle.bson_place.specs.Place.{IsFirstFaultIn}
 use Rattle.bson.specs.declared.extjson.text_error.TextError.{TextError}
 use Rattle.bson.specs.declared.extjson.text_error.TextError.TheVariants.{NotJson, NotExtendedJson, OutOfMemory}
 
@@ -20,18 +21,26 @@ abbrev pub IsNoText : List ℕ → Type 0
 IsNoText bytes = IsUtf8 bytes → read bytes ≡ None
 
 -- the bytes are the text of a tree that means the value
-pub record HasTextMeaning (bytes : List ℕ) (v : Value) : Type 0 where
+pub record HasTextMeaningIn (D : Doubles) (bytes : List ℕ) (v : Value) : Type 0 where
   pub tree : Data
   pub text : IsTextOf bytes tree
-  pub meaning : HasMeaning tree v
+  pub meaning : HasMeaningIn D tree v
 
 -- the bytes are a text of a tree that means nothing
-abbrev pub HasNoMeaning : List ℕ → Type 0
-HasNoMeaning bytes = (t : Data) × IsTextOf bytes t × ((v : Value) → reads t ≡ Ok v → ⊥)
+abbrev pub HasNoMeaningIn : Doubles → List ℕ → Type 0
+HasNoMeaningIn D bytes = (t : Data) × IsTextOf bytes t × ((v : Value) → reads_in D t ≡ Ok v → ⊥)
 
--- why the bytes give no value; a fault of the tree is never want of memory
+-- why the bytes give no value
+abbrev pub IsTextFaultIn : Doubles → List ℕ → TextError → Type 0
+IsTextFaultIn D bytes NotJson = IsNoText bytes
+IsTextFaultIn D bytes (NotExtendedJson place) = (t : Data) × IsTextOf bytes t × IsFirstFaultIn D t place
+IsTextFaultIn D bytes OutOfMemory = Unit {0}
+
+abbrev pub HasTextMeaning : List ℕ → Value → Type 0
+HasTextMeaning = HasTextMeaningIn Special
+
+abbrev pub HasNoMeaning : List ℕ → Type 0
+HasNoMeaning = HasNoMeaningIn Special
+
 abbrev pub IsTextFault : List ℕ → TextError → Type 0
-IsTextFault bytes NotJson = IsNoText bytes
-IsTextFault bytes (NotExtendedJson tree_error.OutOfMemory) = ⊥
-IsTextFault bytes (NotExtendedJson e) = (t : Data) × IsTextOf bytes t × IsFaultOf t e
-IsTextFault bytes OutOfMemory = Unit {0}
+IsTextFault = IsTextFaultIn Special

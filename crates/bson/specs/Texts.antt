@@ -1,28 +1,34 @@
 -- Texts of values, which are written with no tree.
-use Rattle.std.specs.Prelude.{◌≡◌, ℕ, suc, [], ◌∷◌, ◌++◌, codes, List, Result, Ok, Err, Some, String, string_bytes}
+use Rattle.std.specs.Prelude.{◌≡◌, ℕ, suc, ◌++◌, List, Result, Ok, Err, Some, String, string_bytes}
 use Rattle.std.specs.Prelude.{slice_get}
 use Rattle.std.specs.declared.alloc.Global.{Global}
 use Rattle.std.specs.declared.cmp.Ordering.TheVariants.{Less}
-use Rattle.json.specs.Token.{Token, key}
+use Rattle.json.specs.Token.{Token}
 use Rattle.serde_json.specs.Data.{Data, Members, no_members, member}
 use Rattle.serde_json.specs.Written.{compact_text}
 pub use Rattle.bson_wrapper.specs.Tokens.{tokens_of, code_tokens}
 use Rattle.bson_wrapper.specs.Written.{Refusal, Stops, ◌>>=◌}
+use Rattle.bson_wrapper.specs.declared.form.Doubles.{Doubles}
+use Rattle.bson_wrapper.specs.declared.form.Doubles.TheVariants.{Special, Finite}
 use Rattle.bson_wrapper.specs.declared.form.Form.{Form}
 use Rattle.bson_wrapper.specs.declared.write_error.WriteError.{WriteError}
+use Rattle.bson_wrapper.specs.declared.write_error.WriteError.TheVariants.{FiniteDouble, OutOfMemory}
 use Rattle.bson_store.specs.Order.{key_cmp}
-use Rattle.bson_model.specs.Texts.{ReadsAgain}
+use Rattle.bson_model.specs.Texts.{ReadsAgainIn}
 use Rattle.bson_model.specs.Value.{Value, Pairs, no_pairs, pair}
-use Rattle.bson_model.specs.Writing.{writes}
+use Rattle.bson_model.specs.Writing.{writes_in}
 use Rattle.bson_model.specs.Normal.{InRange}
-use Rattle.bson_model.specs.Laws.{IsTreeOf}
+use Rattle.bson_model.specs.Laws.{IsTreeOfIn}
 
 -- the compact text of the value's tree in the form
-pub record IsTextIn (f : Form) (v : Value) (text : List ℕ) : Type 0 where
+pub record IsTextUnder (D : Doubles) (f : Form) (v : Value) (text : List ℕ) : Type 0 where
   pub tree : Data
-  pub is_tree : IsTreeOf f v tree
-  pub reads_again : ReadsAgain f v tree
+  pub is_tree : IsTreeOfIn D f v tree
+  pub reads_again : ReadsAgainIn D f v tree
   pub compact : text ≡ compact_text tree
+
+abbrev pub IsTextIn : Form → Value → List ℕ → Type 0
+IsTextIn = IsTextUnder Special
 
 -- ---- for private clauses
 
@@ -38,15 +44,21 @@ abbrev pub GivesText : Result (String Global) WriteError → Result Data Refusal
 GivesText (Ok s) written = (t : Data) × (written ≡ Ok t) × (string_bytes s ≡ compact_text t)
 GivesText (Err e) written = Stops e written
 
+-- why a value is not written: where finite doubles are, for want of memory alone
+abbrev pub MayStop : Doubles → WriteError → Type 0
+MayStop D OutOfMemory = Unit {0}
+MayStop Special FiniteDouble = Unit {0}
+MayStop Finite FiniteDouble = ⊥
+
 -- the map of a document whose keys ascend
-abbrev pub writes_in_order : Form → Pairs → Result Members Refusal
-writes_in_order f no_pairs = Ok no_members
-writes_in_order f (pair k v ps) = writes f v >>= λ d. writes_in_order f ps >>= λ ms. Ok (member k d ms)
+abbrev pub writes_in_order : Doubles → Form → Pairs → Result Members Refusal
+writes_in_order D f no_pairs = Ok no_members
+writes_in_order D f (pair k v ps) = writes_in D f v >>= λ d. writes_in_order D f ps >>= λ ms. Ok (member k d ms)
 
 -- each key is less than the next
 abbrev pub KeysAscend : List (List ℕ) → Type 0
 KeysAscend ks = (i : ℕ) (k l : List ℕ) → slice_get ks i ≡ Some k → slice_get ks (suc i) ≡ Some l → key_cmp k l ≡ Less
 
 -- the value was printed in the form: the tokens of its tree come after the old ones
-abbrev pub IsPrinted : Form → Value → List Token → List Token → Type 0
-IsPrinted f v old new = (t : Data) × (writes f v ≡ Ok t) × (new ≡ old ++ tokens_of t) × InRange v
+abbrev pub IsPrinted : Doubles → Form → Value → List Token → List Token → Type 0
+IsPrinted D f v old new = (t : Data) × (writes_in D f v ≡ Ok t) × (new ≡ old ++ tokens_of t) × InRange v

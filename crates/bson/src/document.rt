@@ -24,9 +24,9 @@ use std::alloc::Global;
 /// Two documents are equal if they have the same keys, in any order, and equal values under each.
 ///
 /// Of n pairs, in the worst case and whatever the keys are, a key is found, or put where it is new,
-/// in the order of log n comparisons of keys; where there are no more than eight pairs, in n. The
-/// first key that does not ascend among more than eight makes an index, in the order of n log n,
-/// which stays until no more than eight pairs are left.
+/// in the order of log n comparisons of keys; where there are no more than sixteen pairs, in n.
+/// The first key that does not ascend among more than sixteen makes an index, in the order of
+/// n log n, which stays until no more than sixteen pairs are left.
 /// `remove` takes in the order of log n for each pair behind the one that it takes out. `==`,
 /// `Hash`, and writing the text of a document whose keys don't ascend take in the order of n log n.
 /// `remove`, `==` and `Hash` take no memory.

@@ -1,10 +1,12 @@
 //! MongoDB Extended JSON v2.
 //!
-//! In reading order: `de` (the calls that read trees) over `read` and `scalars`; `ser` (the calls
-//! that write) over `write` (trees) and `text` (texts); `text_reader` (values from texts) with
-//! `text_error`; `convert` (a text to another, part by part).
+//! In reading order: `options` (which doubles are read and written); `de` (the calls that read
+//! trees) over `read` and `scalars`; `ser` (the calls that write) over `write` (trees) and `text`
+//! (texts); `text_reader` (values from texts) with `text_error`; `convert` (a text to another, part
+//! by part).
 pub mod convert;
 pub mod de;
+mod options;
 mod read;
 pub(crate) mod scalars;
 mod ser;
@@ -13,5 +15,6 @@ mod text_error;
 mod text_reader;
 mod write;
 
-pub use bson_wrapper::form::Form;
+pub use crate::extjson::options::Options;
+pub use bson_wrapper::form::{Doubles, Form};
 pub use bson_wrapper::write_error::WriteError;

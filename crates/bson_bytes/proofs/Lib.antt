@@ -7,4 +7,7 @@ pub mod Turns
 pub mod GrammarLaws
 pub mod Putting
 pub mod Canonical
+pub mod First
+pub mod Within
+pub mod Passed
 pub mod Offered

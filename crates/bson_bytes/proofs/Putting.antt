@@ -35,14 +35,14 @@ Told out (Ok b) bytes fits fails = fits × (b ≡ out ++ bytes)
 Told out (Err c) bytes fits fails = fails c
 
 behind : (out mid : List ℕ) (r : Put) (a b : List ℕ) (p q : Type 0) (g h : Cause → Type 0)
-    → p × (mid ≡ out ++ a) → Told mid r b q h → Told out r (a ++ b) (p × q) (λ c. g c ⊎ h c)
+    → p × (mid ≡ out ++ a) → Told mid r b q h → Told out r (a ++ b) (p × q) (λ c. g c ⊎ (p × h c))
 behind out mid (Ok e) a b p q g h t u =
     ((t.0, u.0), u.1 ∙ ap (λ (x : List ℕ). x ++ b) t.1 ∙ append_assoc out a b)
-behind out mid (Err c) a b p q g h t u = inr u
+behind out mid (Err c) a b p q g h t u = inr (t.0, u)
 
 told_then : (out : List ℕ) (r : Put) (f : List ℕ → Put) (a b : List ℕ) (p q : Type 0) (g h : Cause → Type 0)
     → Told out r a p g → ((mid : List ℕ) → Told mid (f mid) b q h)
-    → Told out (then r f) (a ++ b) (p × q) (λ c. g c ⊎ h c)
+    → Told out (then r f) (a ++ b) (p × q) (λ c. g c ⊎ (p × h c))
 told_then out (Err c) f a b p q g h t u = inl t
 told_then out (Ok mid) f a b p q g h t u = behind out mid (f mid) a b p q g h t (u mid)
 
@@ -142,17 +142,17 @@ sized_is out body b e =
     rw (len, front, rest) refl
 
 with_first : (r : Put) (out bytes : List ℕ) (p q : Type 0) (g h : Cause → Type 0) → p → Told out r bytes q h
-    → Told out r bytes (p × q) (λ c. g c ⊎ h c)
+    → Told out r bytes (p × q) (λ c. g c ⊎ (p × h c))
 with_first (Ok b) out bytes p q g h x t = ((x, t.0), t.1)
-with_first (Err c) out bytes p q g h x t = inr t
+with_first (Err c) out bytes p q g h x t = inr (x, t)
 
 -- the same as it is told, where the body is what was put behind the four bytes
 told_length : (out : List ℕ) (r : Put) (body : List ℕ) (p : Type 0) (g : Cause → Type 0) → Told (put_room out) r body p g
     → Told out (then r (put_length (length out))) (le w32 (4 + length body) ++ body) (p × IsSize (4 + length body))
-    (λ c. g c ⊎ IsLong c (4 + length body))
+    (λ c. g c ⊎ (p × IsLong c (4 + length body)))
 told_length out (Ok b) body p g t =
     subst (λ (x : Put). Told out x (le w32 (4 + length body) ++ body) (p × IsSize (4 + length body))
-    (λ c. g c ⊎ IsLong c (4 + length body))) (sym (sized_is out body b t.1))
+    (λ c. g c ⊎ (p × IsLong c (4 + length body)))) (sym (sized_is out body b t.1))
     (with_first (put_sized (4 + length body) (le w32 (4 + length body) ++ body) out) out (le w32 (4 + length body) ++ body) p
     (IsSize (4 + length body)) g (λ c. IsLong c (4 + length body)) t.0
     (told_sized (4 + length body) (le w32 (4 + length body) ++ body) out))
@@ -160,7 +160,7 @@ told_length out (Err c) body p g t = inl t
 
 -- a list of elements as a document
 told_end : (out : List ℕ) (r : Put) (list : List ℕ) (p : Type 0) (g : Cause → Type 0) → Told (put_room out) r list p g
-    → Told out (then r (put_end (length out))) (framed list) (p × IsSize (length list + 5)) (λ c. g c ⊎ IsLong c (length list + 5))
+    → Told out (then r (put_end (length out))) (framed list) (p × IsSize (length list + 5)) (λ c. g c ⊎ (p × IsLong c (length list + 5)))
 told_end out (Err c) list p g t = inl t
 told_end out (Ok b) list p g t =
     let body = list ++ 0 ∷ [] in
@@ -168,9 +168,9 @@ told_end out (Ok b) list p g t =
     let ended : b ++ 0 ∷ [] ≡ put_room out ++ body =
     ap (λ (x : List ℕ). x ++ 0 ∷ []) t.1 ∙ append_assoc (put_room out) list (0 ∷ []) in
     let whole : Told out (put_end (length out) b) (le w32 (4 + length body) ++ body) (p × IsSize (4 + length body))
-    (λ c. g c ⊎ IsLong c (4 + length body)) =
+    (λ c. g c ⊎ (p × IsLong c (4 + length body))) =
     told_length out (Ok (b ++ 0 ∷ [])) body p g (t.0, ended) in
-    subst (λ (n : ℕ). Told out (put_end (length out) b) (le w32 n ++ body) (p × IsSize n) (λ c. g c ⊎ IsLong c n)) size whole
+    subst (λ (n : ℕ). Told out (put_end (length out) b) (le w32 n ++ body) (p × IsSize n) (λ c. g c ⊎ (p × IsLong c n))) size whole
 
 -- ---- values
 
@@ -190,18 +190,19 @@ told_scope s ps out h =
     let size : 4 + length body ≡ scope_size s bytes = ap (λ (n : ℕ). 4 + n) (length-append (text_bytes s) bytes) in
     let put = λ (a : List ℕ). then (put_pairs ps (put_room a)) (put_end (length a)) in
     let fits = IsSize (length s + 1) × (FitsList ps × IsSize (length (list_bytes ps) + 5)) in
-    let fails = λ (c : Cause). IsLong c (length s + 1) ⊎ (ListFails c ps ⊎ IsLong c (length (list_bytes ps) + 5)) in
+    let inner = λ (c : Cause). ListFails c ps ⊎ (FitsList ps × IsLong c (length (list_bytes ps) + 5)) in
+    let fails = λ (c : Cause). IsLong c (length s + 1) ⊎ (IsSize (length s + 1) × inner c) in
     let parts : Told (put_room out) (then (put_text s (put_room out)) put) body fits fails =
     told_then (put_room out) (put_text s (put_room out)) put (text_bytes s) bytes (IsSize (length s + 1))
     (FitsList ps × IsSize (length (list_bytes ps) + 5)) (λ c. IsLong c (length s + 1))
-    (λ c. ListFails c ps ⊎ IsLong c (length (list_bytes ps) + 5)) (told_sized (length s + 1) (text_bytes s) (put_room out))
+    inner (told_sized (length s + 1) (text_bytes s) (put_room out))
     (λ mid. told_end mid (put_pairs ps (put_room mid)) (list_bytes ps) (FitsList ps) (λ c. ListFails c ps)
     (h (put_room mid))) in
     let r = then (then (put_text s (put_room out)) put) (put_length (length out)) in
     let whole : Told out r (le w32 (4 + length body) ++ body) (fits × IsSize (4 + length body))
-    (λ c. fails c ⊎ IsLong c (4 + length body)) =
+    (λ c. fails c ⊎ (fits × IsLong c (4 + length body))) =
     told_length out (then (put_text s (put_room out)) put) body fits fails parts in
-    subst (λ (n : ℕ). Told out r (le w32 n ++ body) (fits × IsSize n) (λ c. fails c ⊎ IsLong c n)) size whole
+    subst (λ (n : ℕ). Told out r (le w32 n ++ body) (fits × IsSize n) (λ c. fails c ⊎ (fits × IsLong c n))) size whole
 
 mutual
   unfolding put_value put_items put_pairs
@@ -221,7 +222,7 @@ mutual
   told_items n (value v vs) out =
       let name = name_bytes (type_of v) (decimal n) in
       prefixed out name (put_items n (value v vs) out) (value_bytes v ++ items_bytes (n + 1) vs) (FitsValue v × FitsItems vs)
-      (λ c. ValueFails c v ⊎ ItemsFail c vs)
+      (λ c. ValueFails c v ⊎ (FitsValue v × ItemsFail c vs))
       (told_then (out ++ name) (put_value v (out ++ name)) (λ b. put_items (n + 1) vs b) (value_bytes v) (items_bytes (n + 1) vs)
       (FitsValue v) (FitsItems vs) (λ c. ValueFails c v) (λ c. ItemsFail c vs) (told_value v (out ++ name))
       (λ b. told_items (n + 1) vs b))
@@ -232,7 +233,7 @@ mutual
   told_pairs (pair k v ps) out =
       told_then out (put_name (type_of v) k out) (λ a. then (put_value v a) (λ b. put_pairs ps b)) (name_bytes (type_of v) k)
       (value_bytes v ++ list_bytes ps) (NoZero k) (FitsValue v × FitsList ps) (λ c. HasZeroKey c k)
-      (λ c. ValueFails c v ⊎ ListFails c ps) (told_name (type_of v) k out)
+      (λ c. ValueFails c v ⊎ (FitsValue v × ListFails c ps)) (told_name (type_of v) k out)
       (λ mid. told_then mid (put_value v mid) (λ b. put_pairs ps b) (value_bytes v) (list_bytes ps) (FitsValue v) (FitsList ps)
       (λ c. ValueFails c v) (λ c. ListFails c ps) (told_value v mid) (λ b. told_pairs ps b))
 
@@ -243,12 +244,12 @@ told_document ps out =
 
 -- ---- what fits has no cause
 
-long_is : (c : Cause) (n : ℕ) → IsSize n → IsLong c n → ⊥
+pub long_is : (c : Cause) (n : ℕ) → IsSize n → IsLong c n → ⊥
 long_is too_long n lt le = omega (arith, lt, le)
 long_is zero_in_key n lt h = h
 long_is zero_in_regex n lt h = h
 
-key_is : (c : Cause) (k : List ℕ) → NoZero k → HasZeroKey c k → ⊥
+pub key_is : (c : Cause) (k : List ℕ) → NoZero k → HasZeroKey c k → ⊥
 key_is zero_in_key k f h = h f
 key_is zero_in_regex k f h = h
 key_is too_long k f h = h
@@ -258,7 +259,7 @@ regex_is zero_in_regex p o f h = h f
 regex_is zero_in_key p o f h = h
 regex_is too_long p o f h = h
 
-either : {A B C : Type 0} → (A → C) → (B → C) → A ⊎ B → C
+pub either : {A B C : Type 0} → (A → C) → (B → C) → A ⊎ B → C
 either f g (inl x) = f x
 either f g (inr y) = g y
 
@@ -286,22 +287,22 @@ mutual
   pub value_fits : (v : Value) (c : Cause) → FitsValue v → ValueFails c v → ⊥
   value_fits (scalar x) c f h = scalar_fits x c f h
   value_fits (code_scope s ps) c f h =
-      either (either (λ l. long_is c (length s + 1) f.0.0 l)
-      (either (λ l. list_fits ps c f.0.1.0 l) (λ l. long_is c (length (list_bytes ps) + 5) f.0.1.1 l)))
-      (λ l. long_is c (scope_size s (framed (list_bytes ps))) f.1 l) h
+      either (either (λ l. long_is c (length s + 1) f.0.0 l) (λ m.
+      either (λ l. list_fits ps c f.0.1.0 l) (λ l. long_is c (length (list_bytes ps) + 5) f.0.1.1 l.1) m.1))
+      (λ l. long_is c (scope_size s (framed (list_bytes ps))) f.1 l.1) h
   value_fits (array vs) c f h =
-      either (λ l. items_fit vs c f.0 l) (λ l. long_is c (length (items_bytes 0 vs) + 5) f.1 l) h
+      either (λ l. items_fit vs c f.0 l) (λ l. long_is c (length (items_bytes 0 vs) + 5) f.1 l.1) h
   value_fits (document ps) c f h =
-      either (λ l. list_fits ps c f.0 l) (λ l. long_is c (length (list_bytes ps) + 5) f.1 l) h
+      either (λ l. list_fits ps c f.0 l) (λ l. long_is c (length (list_bytes ps) + 5) f.1 l.1) h
 
   pub items_fit : (vs : Values) (c : Cause) → FitsItems vs → ItemsFail c vs → ⊥
   items_fit no_values c f h = h
-  items_fit (value v vs) c f h = either (λ l. value_fits v c f.0 l) (λ l. items_fit vs c f.1 l) h
+  items_fit (value v vs) c f h = either (λ l. value_fits v c f.0 l) (λ l. items_fit vs c f.1 l.1) h
 
   pub list_fits : (ps : Pairs) (c : Cause) → FitsList ps → ListFails c ps → ⊥
   list_fits no_pairs c f h = h
   list_fits (pair k v ps) c f h =
-      either (λ l. key_is c k f.0 l) (either (λ l. value_fits v c f.1.0 l) (λ l. list_fits ps c f.1.1 l)) h
+      either (λ l. key_is c k f.0 l) (λ m. either (λ l. value_fits v c f.1.0 l) (λ l. list_fits ps c f.1.1 l.1) m.1) h
 
 pub document_fits : (ps : Pairs) (c : Cause) → FitsDocument ps → DocumentFails c ps → ⊥
-document_fits ps c f h = either (λ l. list_fits ps c f.0 l) (λ l. long_is c (length (list_bytes ps) + 5) f.1 l) h
+document_fits ps c f h = either (λ l. list_fits ps c f.0 l) (λ l. long_is c (length (list_bytes ps) + 5) f.1 l.1) h

@@ -112,6 +112,10 @@ timestamp_at bytes = do
 abbrev pub mapped : {A : Type 0} → (Pairs → A) → Result (Pairs × List ℕ) Fault → Result (A × List ℕ) Fault
 mapped f read = read >>= λ x. Ok (f x.0, x.1)
 
+-- the bytes behind what was read
+abbrev pub passed : {A : Type 0} → Result (A × List ℕ) Fault → Result (List ℕ) Fault
+passed read = read >>= λ x. Ok x.1
+
 -- the pairs that were read behind those that are done
 abbrev pub settled : Pairs → Result (Pairs × List ℕ) Fault → Result (Pairs × List ℕ) Fault
 settled done read = mapped (settle done) read

@@ -150,25 +150,28 @@ ScalarFails c (db_pointer s id) = IsLong c (length s + 1)
 ScalarFails c x = ⊥
 
 abbrev mutual
-  -- something in the value has no bytes for this cause
+  -- of the parts of the value, in the order in which they stand in the bytes, a whole behind its parts, the first that
+  -- has no bytes has none for this cause
   pub ValueFails : Cause → Value → Type 0
   ValueFails c (scalar x) = ScalarFails c x
   ValueFails c (code_scope s ps) =
-      (IsLong c (length s + 1) ⊎ (ListFails c ps ⊎ IsLong c (length (list_bytes ps) + 5)))
-      ⊎ IsLong c (scope_size s (framed (list_bytes ps)))
-  ValueFails c (array vs) = ItemsFail c vs ⊎ IsLong c (length (items_bytes 0 vs) + 5)
-  ValueFails c (document ps) = ListFails c ps ⊎ IsLong c (length (list_bytes ps) + 5)
+      (IsLong c (length s + 1)
+      ⊎ (IsSize (length s + 1) × (ListFails c ps ⊎ (FitsList ps × IsLong c (length (list_bytes ps) + 5)))))
+      ⊎ ((IsSize (length s + 1) × (FitsList ps × IsSize (length (list_bytes ps) + 5)))
+      × IsLong c (scope_size s (framed (list_bytes ps))))
+  ValueFails c (array vs) = ItemsFail c vs ⊎ (FitsItems vs × IsLong c (length (items_bytes 0 vs) + 5))
+  ValueFails c (document ps) = ListFails c ps ⊎ (FitsList ps × IsLong c (length (list_bytes ps) + 5))
 
   pub ItemsFail : Cause → Values → Type 0
   ItemsFail c no_values = ⊥
-  ItemsFail c (value v vs) = ValueFails c v ⊎ ItemsFail c vs
+  ItemsFail c (value v vs) = ValueFails c v ⊎ (FitsValue v × ItemsFail c vs)
 
   pub ListFails : Cause → Pairs → Type 0
   ListFails c no_pairs = ⊥
-  ListFails c (pair k v ps) = HasZeroKey c k ⊎ (ValueFails c v ⊎ ListFails c ps)
+  ListFails c (pair k v ps) = HasZeroKey c k ⊎ (NoZero k × (ValueFails c v ⊎ (FitsValue v × ListFails c ps)))
 
 abbrev pub DocumentFails : Cause → Pairs → Type 0
-DocumentFails c ps = ListFails c ps ⊎ IsLong c (length (list_bytes ps) + 5)
+DocumentFails c ps = ListFails c ps ⊎ (FitsList ps × IsLong c (length (list_bytes ps) + 5))
 
 -- ---- what is read back
 

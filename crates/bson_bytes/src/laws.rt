@@ -1,5 +1,6 @@
 //! Laws of the definitions.
-ghost use Rattle.std.specs.Prelude.{◌≡◌, ◌↔◌, ◌++◌, ◌<◌, ℕ, suc, List, Ok, slice_index};
+ghost use Rattle.std.specs.Prelude.{◌≡◌, ◌↔◌, ◌++◌, ◌<◌, ◌≤◌, ℕ, suc, List, length, Ok, Err, slice_index};
+ghost use Rattle.bson_bytes.specs.declared.fault.Fault.{Fault};
 ghost use Rattle.bson_bytes.specs.Grammar.{IsDocument};
 ghost use Rattle.bson_bytes.specs.Laws.{IsRead};
 ghost use Rattle.bson_bytes.specs.Reading.{reads};
@@ -12,6 +13,11 @@ ghost use Rattle.bson_model.specs.Value.{Pairs};
 pub fn reading_is_grammar()
     ensures { (d : ℕ) (bytes : List ℕ) (ps : Pairs) → ((i : ℕ) → slice_index bytes i < 256)
         → (reads d bytes ≡ Ok ps) ↔ IsRead d bytes ps }
+{}
+
+/// The place of a fault is one of the bytes, or their end.
+pub fn fault_stands_in_the_bytes()
+    ensures { (d : ℕ) (bytes : List ℕ) (f : Fault) → reads d bytes ≡ Err f → f.left ≤ length bytes }
 {}
 
 /// No document's bytes begin another's, and no bytes stand for two.
@@ -36,4 +42,9 @@ pub fn written_is_one()
 /// Where each part of a document fits, none fails for a cause.
 pub fn what_fits_has_no_cause()
     ensures { (ps : Pairs) (c : Cause) → FitsDocument ps → DocumentFails c ps → ⊥ }
+{}
+
+/// A document fails for one cause at most: that of the first of its parts that has no bytes.
+pub fn first_cause_is_one()
+    ensures { (ps : Pairs) (c e : Cause) → DocumentFails c ps → DocumentFails e ps → c ≡ e }
 {}

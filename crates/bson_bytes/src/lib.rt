@@ -1,9 +1,10 @@
 //! The book of BSON bytes (BSON 1.1, bsonspec.org): which bytes are which document, which bytes a
 //! document is written as, and the laws of both. It has no `Bson` in it. Read its definitions in
 //! this order: `Grammar`, `Writing`; then `Fault` and `Reading`, for the order of faults. `parts`
-//! reads what an element is made of.
+//! reads what an element is made of, and `check` a document with nothing kept of it.
 #![tactic(auto)]
 
+pub mod check;
 pub mod fault;
 pub mod laws;
 pub mod parts;

@@ -14,8 +14,8 @@ use std::process::ExitCode;
 
 const USAGE: &str = "usage: bson_cli canonical|relaxed|show";
 
-/// Status 0: done. Status 1: refused, with one line on standard error. Status 2: other arguments,
-/// and nothing was read.
+// Status 0: done. Status 1: refused, with one line on standard error. Status 2: other arguments,
+// and nothing was read.
 fn main(rt: HostRuntime) -> ExitCode {
     let answer = match asked(&rt) {
         Ok(Some(mode)) => run(rt.alloc(), mode, &mut rt.stdin(), &mut rt.stdout()),
@@ -28,7 +28,7 @@ fn main(rt: HostRuntime) -> ExitCode {
     }
 }
 
-/// The mode that the arguments ask for. One that is no UTF-8 asks for none.
+// The mode that the arguments ask for. One that is no UTF-8 asks for none.
 fn asked(rt: &HostRuntime) -> Result<Option<Mode>, Fault> {
     match words_given(rt)? {
         Some(words) => Ok(mode_of(&words)),

@@ -3,3 +3,6 @@ pub mod Loop
 pub mod Ends
 pub mod Weights
 pub mod Elements
+pub mod Typed
+pub mod Streams
+pub mod Runs

@@ -1,22 +1,24 @@
 -- Elements one after the other, as loops read them into a document or a list.
 use Rattle.std.proofs.Common.{◌≡◌, ℕ, ◌<◌, ◌≤◌, ◌-◌, Bool, true, false, cond, List, [], ◌∷◌, ◌++◌, length, Result, Ok}
-use Rattle.std.proofs.Common.{Err, refl, sym, ap}
+use Rattle.std.proofs.Common.{Err, refl, sym, ap, string_bytes}
 use Rattle.std.proofs.Common.{◌∙◌, Some, arith}
 use Rattle.std.specs.Str.{bytes_eq}
 use Rattle.bson_scalar.specs.declared.spec.ElementType.{ElementType}
 use Rattle.bson_model.specs.Value.{Value, Values, no_values, value, Pairs, no_pairs, pair}
 use Rattle.bson_bytes.specs.declared.fault.Fault.{Fault}
 use Rattle.bson_bytes.specs.Fault.{◌>>=◌}
-use Rattle.bson_bytes.specs.Grammar.{values, insert_value}
-use Rattle.bson_bytes.specs.Reading.{byte_at, name_at, size_at, mapped, settled, value_with, document_at}
+use Rattle.bson_bytes.specs.Grammar.{values, insert_value, settle}
+use Rattle.bson_bytes.specs.Reading.{byte_at, name_at, size_at, mapped, value_with, document_at}
 use Rattle.bson_bytes.specs.Tags.{kind_of}
 use Rattle.bson_bytes.proofs.Offered.{Read, elements, then_pairs, no_more, one_more, bad_list, unmapped}
+use Rattle.bson_store.specs.declared.small.Pair.{Pair}
 use Rattle.bson.specs.Pairs.{insert_pair}
+use Rattle.bson.specs.Put.{put_entries}
 use Rattle.bson.specs.View.{bson_view, document_view, values_view, pairs_view, contents}
 use Rattle.bson.specs.declared.bson.Bson.{Bson}
 use Rattle.bson.specs.declared.document.Document.{Document}
 use Rattle.bson_codec.proofs.Seen.{document_view-pairs}
-use Rattle.bson_codec.specs.Reading.{Stops}
+use Rattle.bson_codec.specs.Reading.{Stops, entries_view}
 use Rattle.bson_codec.specs.declared.stopped.Stopped.{Stopped}
 use Rattle.bson_codec.specs.declared.stopped.Stopped.TheVariants as stopped
 
@@ -31,39 +33,66 @@ pairs_view-put : (k : List ℕ) (v : Bson) (ps : List (List ℕ × Bson)) → pa
 pairs_view-put k v [] = refl
 pairs_view-put k v (p ∷ ps) = put_view_by (bytes_eq k p.0) k v p ps (insert_pair k v ps) (insert_value k (bson_view v) (pairs_view ps)) (pairs_view-put k v ps)
 
-pub document_view-put : (d e : Document) (k : List ℕ) (v : Bson) → contents e ≡ insert_pair k v (contents d) → document_view e ≡ insert_value k (bson_view v) (document_view d)
-document_view-put d e k v h = document_view-pairs e ∙ ap pairs_view h ∙ pairs_view-put k v (contents d) ∙ ap (insert_value k (bson_view v)) (sym (document_view-pairs d))
+view-put_entries : (es : List (Pair Bson)) (ps : List (List ℕ × Bson))
+    → pairs_view (put_entries es ps) ≡ settle (pairs_view ps) (entries_view es)
+view-put_entries [] ps = refl
+view-put_entries (e ∷ es) ps =
+    view-put_entries es (insert_pair (string_bytes e.key) e.value ps)
+    ∙ ap (λ (q : Pairs). settle q (entries_view es)) (pairs_view-put (string_bytes e.key) e.value ps)
 
-pub document_view-new : (d : Document) → contents d ≡ [] → document_view d ≡ no_pairs
-document_view-new d h = document_view-pairs d ∙ ap pairs_view h
+-- the document of entries is what they settle to
+document_view-entries : (d : Document) (es : List (Pair Bson)) → contents d ≡ put_entries es []
+    → document_view d ≡ settle no_pairs (entries_view es)
+document_view-entries d es h = document_view-pairs d ∙ ap pairs_view h ∙ view-put_entries es []
 
-settled-then : (done : Pairs) (s : List ℕ) (v : Value) (r : Read) → settled done (r >>= then_pairs s v) ≡ settled (insert_value s v done) r
-settled-then done s v (Ok x) = refl
-settled-then done s v (Err f) = refl
+pub entries_done : (d : Document) (es : List (Pair Bson)) (rest : List ℕ) (r : Read) → contents d ≡ put_entries es []
+    → r ≡ Ok (settle no_pairs (entries_view es), rest) → r ≡ Ok (document_view d, rest)
+entries_done d es rest r h is = is ∙ ap (λ (q : Pairs). Ok (q, rest)) (sym (document_view-entries d es h))
 
-pub record PairsLeft (d : ℕ) (done : Pairs) (rest : List ℕ) (total : Read) : Type 0 where
+-- the entries before those that follow
+abbrev pub onto_entries : List (Pair Bson) → Read → Read
+onto_entries [] r = r
+onto_entries (e ∷ es) r = onto_entries es r >>= then_pairs (string_bytes e.key) (bson_view e.value)
+
+pub onto_entries-snoc : (es : List (Pair Bson)) (e : Pair Bson) (r : Read)
+    → onto_entries (es ++ e ∷ []) r ≡ onto_entries es (r >>= then_pairs (string_bytes e.key) (bson_view e.value))
+onto_entries-snoc [] e r = refl
+onto_entries-snoc (x ∷ es) e r =
+    ap (λ (q : Read). q >>= then_pairs (string_bytes x.key) (bson_view x.value)) (onto_entries-snoc es e r)
+
+onto_entries-err : (es : List (Pair Bson)) (f : Fault) → onto_entries es (Err f) ≡ Err f
+onto_entries-err [] f = refl
+onto_entries-err (x ∷ es) f =
+    ap (λ (q : Read). q >>= then_pairs (string_bytes x.key) (bson_view x.value)) (onto_entries-err es f)
+
+onto_entries-ok : (es : List (Pair Bson)) (rest : List ℕ) → onto_entries es (Ok (no_pairs, rest)) ≡ Ok (entries_view es, rest)
+onto_entries-ok [] rest = refl
+onto_entries-ok (x ∷ es) rest =
+    ap (λ (q : Read). q >>= then_pairs (string_bytes x.key) (bson_view x.value)) (onto_entries-ok es rest)
+
+pub record PairsLeft (d : ℕ) (es : List (Pair Bson)) (rest : List ℕ) (total : Read) : Type 0 where
   pub turns : ℕ
   pub enough : length rest ≤ turns
-  pub read : settled done (elements d turns rest) ≡ total
+  pub read : onto_entries es (elements d turns rest) ≡ total
 
-pub pairs_start : (d : ℕ) (done : Pairs) (bytes : List ℕ) → done ≡ no_pairs → PairsLeft d done bytes (settled no_pairs (elements d (length bytes) bytes))
-pairs_start d done bytes e = record { turns = length bytes; enough = omega arith; read = ap (λ (q : Pairs). settled q (elements d (length bytes) bytes)) e }
+pub pairs_start : (d : ℕ) (bytes : List ℕ) → PairsLeft d [] bytes (elements d (length bytes) bytes)
+pairs_start d bytes = record { turns = length bytes; enough = omega arith; read = refl }
 
-pub pairs_fault : (d : ℕ) (done : Pairs) (rest : List ℕ) (total : Read) (i : PairsLeft d done rest total) (f : Fault) → elements d i.turns rest ≡ Err f → total ≡ Err f
-pairs_fault d done rest total i f h = sym i.read ∙ ap (settled done) h
+pub pairs_fault : (d : ℕ) (es : List (Pair Bson)) (rest : List ℕ) (total : Read) (i : PairsLeft d es rest total) (f : Fault) → elements d i.turns rest ≡ Err f → total ≡ Err f
+pairs_fault d es rest total i f h = sym i.read ∙ ap (onto_entries es) h ∙ onto_entries-err es f
 
-pub pairs_fail : {A : Type 0} (e : Stopped) (part : Result A Fault) (d : ℕ) (done : Pairs) (rest : List ℕ) (total : Read) (i : PairsLeft d done rest total) → ((f : Fault) → part ≡ Err f → elements d i.turns rest ≡ Err f) → Stops e part → Stops e total
-pairs_fail stopped.OutOfMemory part d done rest total i g h = tt
-pairs_fail (stopped.Fault f) part d done rest total i g h = pairs_fault d done rest total i f (g f h)
+pub pairs_fail : {A : Type 0} (e : Stopped) (part : Result A Fault) (d : ℕ) (es : List (Pair Bson)) (rest : List ℕ) (total : Read) (i : PairsLeft d es rest total) → ((f : Fault) → part ≡ Err f → elements d i.turns rest ≡ Err f) → Stops e part → Stops e total
+pairs_fail stopped.OutOfMemory part d es rest total i g h = tt
+pairs_fail (stopped.Fault f) part d es rest total i g h = pairs_fault d es rest total i f (g f h)
 
-pub pairs_end : (d : ℕ) (done : Pairs) (rest : List ℕ) (total : Read) (t : ℕ) (a : List ℕ) → PairsLeft d done rest total → byte_at rest ≡ Ok (t, a) → t ≡ 0 → total ≡ Ok (done, a)
-pairs_end d done rest total t a i e z = sym i.read ∙ ap (settled done) (no_more d i.turns rest t a i.enough e z)
+pub pairs_end : (d : ℕ) (es : List (Pair Bson)) (rest : List ℕ) (total : Read) (t : ℕ) (a : List ℕ) → PairsLeft d es rest total → byte_at rest ≡ Ok (t, a) → t ≡ 0 → total ≡ Ok (entries_view es, a)
+pairs_end d es rest total t a i e z = sym i.read ∙ ap (onto_entries es) (no_more d i.turns rest t a i.enough e z) ∙ onto_entries-ok es a
 
-pub pairs_more : (d : ℕ) (done after : Pairs) (rest : List ℕ) (total : Read) (t : ℕ) (a : List ℕ) (k : ElementType) (s : List ℕ) (b : List ℕ) (v : Value) (c : List ℕ) → PairsLeft d done rest total → after ≡ insert_value s v done → length c < length rest
-    → byte_at rest ≡ Ok (t, a) → (t ≡ 0 → ⊥) → kind_of t ≡ Some k → name_at a ≡ Ok (s, b) → value_with (document_at d) k b ≡ Ok (v, c) → PairsLeft d after c total
-pairs_more d done after rest total t a k s b v c i put lt e n k-is h w =
-    let g = one_more d i.turns rest t a k s b v c i.enough lt e n k-is h w in
-    record { turns = g.turns; enough = g.enough; read = ap (λ (q : Pairs). settled q (elements d g.turns c)) put ∙ sym (settled-then done s v (elements d g.turns c)) ∙ ap (settled done) (sym g.read) ∙ i.read }
+pub pairs_more : (d : ℕ) (es : List (Pair Bson)) (rest : List ℕ) (total : Read) (t : ℕ) (a : List ℕ) (k : ElementType) (x : Pair Bson) (b c : List ℕ) → PairsLeft d es rest total → length c < length rest
+    → byte_at rest ≡ Ok (t, a) → (t ≡ 0 → ⊥) → kind_of t ≡ Some k → name_at a ≡ Ok (string_bytes x.key, b) → value_with (document_at d) k b ≡ Ok (bson_view x.value, c) → PairsLeft d (es ++ x ∷ []) c total
+pairs_more d es rest total t a k x b c i lt e n k-is h w =
+    let g = one_more d i.turns rest t a k (string_bytes x.key) b (bson_view x.value) c i.enough lt e n k-is h w in
+    record { turns = g.turns; enough = g.enough; read = onto_entries-snoc es x (elements d g.turns c) ∙ ap (onto_entries es) (sym g.read) ∙ i.read }
 
 -- ---- values
 
@@ -128,3 +157,8 @@ pub mapped_stop : {A : Type 0} (g : Pairs → A) (e : Stopped) (d : ℕ) (bytes 
 mapped_stop g stopped.OutOfMemory d bytes n list h s x = tt
 mapped_stop g (stopped.Fault f) d bytes n list h s x =
     ap (mapped g) (bad_list d bytes n list f h s (unmapped g (elements (d - 1) (length list) list) f x))
+
+pub list_stop : {A : Type 0} (g : Pairs → A) (e : Stopped) (d : ℕ) (bytes : List ℕ) (n : ℕ) (list : List ℕ) → (d ≡ 0 → ⊥)
+    → size_at bytes ≡ Ok (n, list) → Stops e (elements (d - 1) (length list) list) → Stops e (mapped g (document_at d bytes))
+list_stop g stopped.OutOfMemory d bytes n list h s x = tt
+list_stop g (stopped.Fault f) d bytes n list h s x = ap (mapped g) (bad_list d bytes n list f h s x)

@@ -1,15 +1,32 @@
 -- What the calls answer where bytes are no document.
-use Rattle.std.specs.Prelude.{◌≡◌, ℕ, ◌-◌, List, length, Result, Err}
+use Rattle.std.specs.Prelude.{◌≡◌, ◌≤◌, ℕ, ◌+◌, ◌-◌, List, length, Result, Err}
 use Rattle.bson_bytes.specs.declared.fault.Fault.{Fault}
+use Rattle.bson_bytes.specs.declared.fault.FaultKind.{FaultKind}
 use Rattle.bson_codec.specs.declared.stopped.Stopped.{Stopped}
 use Rattle.bson_codec.specs.declared.stopped.Stopped.TheVariants as stopped
 use Rattle.bson_codec.specs.declared.de.Error.{Error}
 use Rattle.bson_codec.specs.declared.de.Error.TheVariants as errors
 
--- the fault that reading the bytes gives, with its place from their front; or memory ran out
+-- the fault that reading the bytes gives: its kind, and that so many bytes stand before its place
+abbrev pub IsPlacedFault : {Y : Type 0} → FaultKind → ℕ → List ℕ → Result Y Fault → Type 0
+IsPlacedFault k n bytes read = (f : Fault) × (read ≡ Err f) × (k ≡ f.kind) × (n + f.left ≡ length bytes)
+
+-- that fault, or memory ran out
 abbrev pub IsFaultOf : {Y : Type 0} → Error → List ℕ → Result Y Fault → Type 0
 IsFaultOf errors.OutOfMemory bytes read = Unit {0}
-IsFaultOf (errors.Malformed k n) bytes read = (f : Fault) × (read ≡ Err f) × (k ≡ f.kind) × (n ≡ length bytes - f.left)
+IsFaultOf (errors.Malformed k n) bytes read = IsPlacedFault k n bytes read
+
+-- that fault, where no memory is taken
+abbrev pub IsFaultAlone : {Y : Type 0} → Error → List ℕ → Result Y Fault → Type 0
+IsFaultAlone errors.OutOfMemory bytes read = ⊥
+IsFaultAlone (errors.Malformed k n) bytes read = IsPlacedFault k n bytes read
+
+-- ---- for private clauses
+
+-- a fault stands in the bytes, or at their end
+abbrev pub StandsIn : Stopped → List ℕ → Type 0
+StandsIn stopped.OutOfMemory bytes = Unit {0}
+StandsIn (stopped.Fault f) bytes = f.left ≤ length bytes
 
 -- the error with its place from the front of the bytes
 abbrev pub located : Stopped → List ℕ → Error

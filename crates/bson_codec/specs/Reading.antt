@@ -1,6 +1,11 @@
 -- What a function that reads bytes into values returns.
-use Rattle.std.specs.Prelude.{◌≡◌, Result, Ok, Err}
+use Rattle.std.specs.Prelude.{◌≡◌, List, Result, Ok, Err}
+use Rattle.bson_store.specs.Small.{stored_pairs}
+use Rattle.bson_store.specs.declared.small.Pair.{Pair}
+use Rattle.bson_model.specs.Value.{Pairs}
 use Rattle.bson_bytes.specs.declared.fault.Fault.{Fault}
+use Rattle.bson.specs.View.{pairs_view}
+use Rattle.bson.specs.declared.bson.Bson.{Bson}
 use Rattle.bson_codec.specs.declared.stopped.Stopped.{Stopped}
 use Rattle.bson_codec.specs.declared.stopped.Stopped.TheVariants as stopped
 
@@ -13,3 +18,7 @@ Stops (stopped.Fault f) read = read ≡ Err f
 abbrev pub Reads : {X Y : Type 0} → (X → Y) → Result X Stopped → Result Y Fault → Type 0
 Reads view (Ok x) read = read ≡ Ok (view x)
 Reads view (Err e) read = Stops e read
+
+-- the pairs that entries stand for
+abbrev pub entries_view : List (Pair Bson) → Pairs
+entries_view es = pairs_view (stored_pairs es)

@@ -1,18 +1,22 @@
 //! Documents from bytes.
-ghost use Rattle.std.specs.Prelude.{◌≡◌, ◌-◌, IfOk, IfErr, length};
+ghost use Rattle.std.specs.Prelude.{◌≡◌, ◌↔◌, ◌-◌, IfOk, IfErr, OnOk, OnErr, IsTrue, false, length};
 ghost use Rattle.bson_model.specs.Value.{Pairs, no_pairs};
-ghost use Rattle.bson_bytes.specs.Laws.{IsRead, IsFront};
+ghost use Rattle.bson_bytes.specs.Laws.{IsRead, IsFront, IsCanonical};
 ghost use Rattle.bson_bytes.specs.Reading.{document_at, reads, settled};
 ghost use Rattle.bson.specs.View.{document_view};
-ghost use Rattle.bson_codec.specs.Errors.{IsFaultOf, located};
+ghost use Rattle.bson_codec.specs.Errors.{IsFaultOf, IsFaultAlone, StandsIn, located};
 ghost use Rattle.bson_codec.specs.Reading.{Reads};
 ghost use Rattle.bson_codec.specs.declared.de.Error.TheVariants as errors;
+ghost use Rattle.bson_codec.specs.declared.ser.Error.TheVariants as causes;
 
 use crate::read::document_at;
+use crate::ser;
+use crate::ser::to_vec;
 use crate::stopped::{Stopped, fault_at};
 use bson::Document;
+use bson_bytes::check;
 pub use bson_bytes::fault::FaultKind;
-use std::alloc::Global;
+use std::alloc::{AllocError, Global};
 
 /// How deep documents, arrays and scopes may nest where a caller has no limit of its own: the limit
 /// of MongoDB's server.
@@ -81,6 +85,55 @@ pub fn front(alloc: Global, bytes: &[u8], depth: usize) -> Result<(Document, &[u
     }
 }
 
+/// Whether the bytes are a document, as [`from_slice`] reads it, with nothing kept and no memory
+/// taken: where it answers, `from_slice` gives a document unless memory runs out, and where it
+/// fails, the same error.
+///
+/// ```
+/// println!(rt; "{:?}", is_document(b"\x05\0\0\0\0", DEPTH).is_ok())?; // true
+/// ```
+pub fn is_document(bytes: &[u8], depth: usize) -> Result<()>
+    // They are in the grammar.
+    ensures ok { OnOk result ((ps : Pairs) × IsRead depth bytes.now ps) }
+    // What is in the grammar is never refused.
+    ensures only { OnErr result ((ps : Pairs) → IsRead depth bytes.now ps → ⊥) }
+    // Which fault it is, and where.
+    ensures fault { IfErr result (λ e. IsFaultAlone e bytes.now (reads depth bytes.now)) }
+{
+    match check::is_document(bytes, depth) {
+        Ok(()) => Ok(()),
+        Err(fault) => Err(located(Stopped::Fault(fault), bytes)),
+    }
+}
+
+/// Whether the bytes are a document, as [`from_slice`] reads it, and the bytes that it is written
+/// as: of all bytes of a document there are one such.
+pub fn is_canonical(alloc: Global, bytes: &[u8], depth: usize) -> Result<bool, AllocError>
+    ensures { IfOk result (λ b. IsTrue b ↔ ((ps : Pairs) × IsCanonical depth bytes.now ps)) }
+{
+    let document = match from_slice(alloc, bytes, depth) {
+        Ok(document) => document,
+        Err(Error::Malformed { .. }) => return Ok(false),
+        Err(Error::OutOfMemory) => return Err(AllocError),
+    };
+    match to_vec(alloc, &document) {
+        Ok(written) => Ok(written.as_slice() == bytes),
+        Err(error) => unwritten(error),
+    }
+}
+
+// What is said of bytes whose document has none for this cause.
+fn unwritten(error: ser::Error) -> Result<bool, AllocError>
+    ensures { IfOk result (λ b. (b ≡ false) × (error ≡ causes.OutOfMemory → ⊥)) }
+{
+    match error {
+        ser::Error::OutOfMemory => Err(AllocError),
+        ser::Error::Key => Ok(false),
+        ser::Error::Regex => Ok(false),
+        ser::Error::Size => Ok(false),
+    }
+}
+
 #[tactic(auto, unfolding(bson_bytes::specs::Reading::reads))]
 fn whole(alloc: Global, bytes: &[u8], depth: usize) -> Result<Document, Stopped>
     ensures { Reads document_view result (reads depth bytes.now) }
@@ -94,12 +147,13 @@ fn whole(alloc: Global, bytes: &[u8], depth: usize) -> Result<Document, Stopped>
 
 // The error with its place from the front of the bytes.
 fn located(stopped: Stopped, bytes: &[u8]) -> Error
+    requires { StandsIn stopped bytes.now }
     ensures { result ≡ located stopped bytes.now }
 {
     match stopped {
         Stopped::Fault(fault) => Error::Malformed {
             kind: fault.kind,
-            offset: bytes.len().saturating_sub(fault.left),
+            offset: bytes.len() - fault.left,
         },
         Stopped::OutOfMemory => Error::OutOfMemory,
     }

@@ -3,12 +3,16 @@
 #![tactic(auto)]
 
 pub mod de;
+pub mod documents;
 mod parts;
 mod read;
 mod scalars;
 pub mod ser;
 mod stopped;
+pub mod stream;
 mod write;
 
-pub use de::{from_slice, front};
+pub use de::{from_slice, front, is_canonical, is_document};
+pub use documents::run_documents;
 pub use ser::to_vec;
+pub use stream::{from_reader, to_writer};

@@ -3,7 +3,8 @@ ghost use Rattle.std.specs.Prelude.{◌≡◌, ◌≤◌, ◌+◌, ◌++◌, len
 ghost use Rattle.std.specs.Int.{w32, w64};
 ghost use Rattle.bson_bytes.specs.Grammar.{le, old_binary_bytes, binary_bytes};
 ghost use Rattle.bson_bytes.specs.Putting.{put_sized, put_text, put_regex, put_binary, put_pointer, put_name, put_length};
-ghost use Rattle.bson_bytes.specs.Writing.{name_bytes};
+ghost use Rattle.bson_bytes.specs.Writing.{name_bytes, TypedScalar};
+ghost use Rattle.bson.specs.Scalar as kind;
 ghost use Rattle.bson_scalar.specs.DbPointer.{namespace_of, id_of};
 ghost use Rattle.bson_scalar.specs.Subtype.{subtype_byte};
 ghost use Rattle.bson_codec.specs.Writing.{Puts};
@@ -29,7 +30,8 @@ pub(crate) fn put_u64(out: &mut Vec<u8>, number: u64) -> Result<(), AllocError>
 }
 
 pub(crate) fn put_timestamp(out: &mut Vec<u8>, timestamp: Timestamp) -> Result<(), AllocError>
-    ensures { OnOk result (out.new.items ≡ out.old.items ++ (le w32 timestamp.increment ++ le w32 timestamp.time)) }
+    ensures put { OnOk result (out.new.items ≡ out.old.items ++ (le w32 timestamp.increment ++ le w32 timestamp.time)) }
+    ensures typed { TypedScalar (kind.timestamp timestamp.time timestamp.increment) }
 {
     put_u32(out, timestamp.increment)?;
     put_u32(out, timestamp.time)
@@ -51,6 +53,7 @@ pub(crate) fn put_text(out: &mut Vec<u8>, text: &str) -> Result<()>
 pub(crate) fn put_binary(out: &mut Vec<u8>, binary: &Binary) -> Result<()>
     ensures put { Puts result out.new.items
         (put_binary (subtype_byte binary.now.subtype) binary.now.bytes.items out.old.items) }
+    ensures typed { TypedScalar (kind.binary binary.now.subtype binary.now.bytes.items) }
     ensures grows { OnOk result (length out.old.items ≤ length out.new.items) }
 {
     let byte = u8::from(binary.subtype);
@@ -106,8 +109,10 @@ pub(crate) fn put_regex(out: &mut Vec<u8>, regex: &Regex) -> Result<()>
     Ok(())
 }
 
+#[tactic(auto, using(crate::proofs::Typed::string_utf8))]
 pub(crate) fn put_pointer(out: &mut Vec<u8>, pointer: &DbPointer) -> Result<()>
     ensures put { Puts result out.new.items (put_pointer (namespace_of pointer.now) (id_of pointer.now) out.old.items) }
+    ensures typed { OnOk result (TypedScalar (kind.db_pointer (namespace_of pointer.now) (id_of pointer.now))) }
     ensures grows { OnOk result (length out.old.items ≤ length out.new.items) }
 {
     put_text(out, pointer.namespace())?;

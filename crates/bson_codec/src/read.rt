@@ -2,7 +2,7 @@
 ghost use Rattle.std.specs.Prelude.{◌≡◌, ◌≤◌, length, IfOk, string_bytes};
 ghost use Rattle.bson_model.specs.Value.{no_pairs, code_scope};
 ghost use Rattle.bson_bytes.specs.Grammar.{values};
-ghost use Rattle.bson_codec.specs.Reading.{Reads};
+ghost use Rattle.bson_codec.specs.Reading.{Reads, entries_view};
 ghost use Rattle.bson_bytes.specs.Reading.{scope_at, value_with, mapped, settled, list_at, document_at};
 ghost use Rattle.bson.specs.View.{bson_view, document_view, values_view};
 
@@ -14,6 +14,7 @@ use bson_bytes::parts::{
     byte_at, kind_of, name_at, sixteen_at, size_at, text_at, twelve_at, u32_at, u64_at,
 };
 use bson_scalar::spec::ElementType;
+use bson_store::Pair;
 use std::alloc::Global;
 
 #[cycle(read)]
@@ -124,20 +125,22 @@ pub(crate) fn document_at(
         return Err(fault_at(FaultKind::Depth, bytes));
     }
     let (size, list) = size_at(bytes)?;
-    let (pairs, rest) = list_at(alloc, list, depth - 1)?;
+    let (entries, rest) = list_at(alloc, list, depth - 1)?;
     if bytes.len() - rest.len() != size {
         return Err(fault_at(FaultKind::Length, bytes));
     }
-    Ok((pairs, rest))
+    let document = Document::from_entries(alloc, entries)?;
+    Ok((document, rest))
 }
 
+// The elements of a document, as they stand.
 #[cycle(read)]
-fn list_at(alloc: Global, bytes: &[u8], depth: usize) -> Result<(Document, &[u8]), Stopped>
-    ensures given { Reads (λ x. (document_view x.0, x.1.now)) result
-        (settled no_pairs (list_at (value_with (document_at depth)) (length bytes.now) bytes.now)) }
+fn list_at(alloc: Global, bytes: &[u8], depth: usize) -> Result<(Vec<Pair<Bson>>, &[u8]), Stopped>
+    ensures given { Reads (λ x. (entries_view x.0.items, x.1.now)) result
+        (list_at (value_with (document_at depth)) (length bytes.now) bytes.now) }
     ensures shorter { IfOk result (λ x. length x.1.now ≤ length bytes.now) }
 {
-    let mut found = Document::new(alloc);
+    let mut found = Vec::new(alloc);
     let mut rest = bytes;
     'elements: loop {
         let (tag, after) = byte_at(rest)?;
@@ -150,7 +153,7 @@ fn list_at(alloc: Global, bytes: &[u8], depth: usize) -> Result<(Document, &[u8]
         let (name, after) = name_at(after)?;
         let key = String::from_str(alloc, name)?;
         let (value, after) = value_at(alloc, kind, after, depth)?;
-        drop(found.insert(key, value)?);
+        found.push(Pair { key, value })?;
         rest = after;
     }
 }

@@ -57,8 +57,8 @@ impl<T: Drop> From<AllocFailed<T>> for Error {
 /// The bytes of the document (BSON 1.1): its pairs in their order, the elements of an array under
 /// the keys "0", "1", "2" and so on, and a binary under the byte of its subtype.
 ///
-/// It is refused as `Key`, `Regex` or `Size` where some part of it, at any depth, has no bytes for
-/// that cause.
+/// It is refused as `Key`, `Regex` or `Size` for the first of its parts, at any depth and a whole
+/// behind its parts, that has no bytes.
 ///
 /// ```
 /// let mut document = Document::new(alloc);
@@ -71,13 +71,14 @@ pub fn to_vec(alloc: Global, document: &Document) -> Result<Vec<u8>>
     // The canonical bytes, and each part fits.
     ensures ok { IfOk result (λ out. out.items ≡ document_bytes (document_view document.now)) }
     ensures fits { OnOk result (FitsDocument (document_view document.now)) }
+    // Its texts are UTF-8, its numbers are in range, and no key stands twice in it, at any depth.
+    ensures typed { OnOk result (TypedDocument (document_view document.now)) }
     // They are read back as the document, each binary under the subtype that its byte names.
-    ensures back { IfOk result (λ out. (d : ℕ) → TypedDocument (document_view document.now)
-        → NestsPairs (document_view document.now) d
+    ensures back { IfOk result (λ out. (d : ℕ) → NestsPairs (document_view document.now) d
         → IsRead (suc d) out.items (as_written (document_view document.now))) }
     // Where each part fits, it is refused for memory alone.
     ensures only { FitsDocument (document_view document.now) → IfErr result (λ e. e ≡ errors.OutOfMemory) }
-    // Some part has that cause.
+    // It is the cause of the first part, in the order of writing, that has no bytes.
     ensures cause { IfErr result (λ e. IsRefusal e (document_view document.now)) }
 {
     let mut out = Vec::new(alloc);

@@ -1,8 +1,9 @@
 //! Values behind the bytes that are written.
 ghost use Rattle.std.specs.Prelude.{◌≡◌, ◌≤◌, ◌+◌, length, vec_len, OnOk};
 ghost use Rattle.bson_bytes.specs.Putting.{put_value, put_items, put_document, put_end, put_length, put_room};
-ghost use Rattle.bson_bytes.specs.Writing.{type_of};
-ghost use Rattle.bson.specs.View.{bson_view, scoped_view, document_view, values_view};
+ghost use Rattle.bson_bytes.specs.Writing.{type_of, Typed, TypedDocument};
+ghost use Rattle.bson.specs.View.{bson_view, scoped_view, document_view, values_view, contents};
+ghost use Rattle.bson.specs.Pairs.{HasDistinctKeys};
 ghost use Rattle.bson_model.specs.Value.{array};
 ghost use Rattle.bson_codec.specs.Writing.{Puts};
 
@@ -14,11 +15,13 @@ use crate::ser::Result;
 use bson::{Bson, Document, JavaScriptCodeWithScope};
 use bson_scalar::spec::ElementType;
 use itoa::Buffer;
+use std::alloc::AllocError;
 
 #[cycle(write)]
-#[tactic(auto, unfolding(bson_bytes::specs::Putting::put_value))]
+#[tactic(auto, unfolding(bson_bytes::specs::Putting::put_value), using(crate::proofs::Typed::string_utf8))]
 fn put_value(out: &mut Vec<u8>, value: &Bson) -> Result<()>
     ensures put { Puts result out.new.items (put_value (bson_view value.now) out.old.items) }
+    ensures typed { OnOk result (Typed (bson_view value.now)) }
     ensures grows { OnOk result (length out.old.items ≤ length out.new.items) }
 {
     match value {
@@ -47,9 +50,10 @@ fn put_value(out: &mut Vec<u8>, value: &Bson) -> Result<()>
 }
 
 #[cycle(write)]
-#[tactic(auto, unfolding(bson_bytes::specs::Putting::put_value))]
+#[tactic(auto, unfolding(bson_bytes::specs::Putting::put_value), using(crate::proofs::Typed::string_utf8))]
 fn put_scoped(out: &mut Vec<u8>, scoped: &JavaScriptCodeWithScope) -> Result<()>
     ensures put { Puts result out.new.items (put_value (scoped_view scoped.now) out.old.items) }
+    ensures typed { OnOk result (Typed (scoped_view scoped.now)) }
     ensures grows { OnOk result (length out.old.items ≤ length out.new.items) }
 {
     let start = out.len();
@@ -62,10 +66,11 @@ fn put_scoped(out: &mut Vec<u8>, scoped: &JavaScriptCodeWithScope) -> Result<()>
 #[cycle(write)]
 pub(crate) fn put_document(out: &mut Vec<u8>, document: &Document) -> Result<()>
     ensures put { Puts result out.new.items (put_document (document_view document.now) out.old.items) }
+    ensures typed { OnOk result (TypedDocument (document_view document.now)) }
     ensures grows { OnOk result (length out.old.items ≤ length out.new.items) }
 {
     let start = out.len();
-    out.extend_from_slice(&[0, 0, 0, 0])?;
+    make_room(out, document)?;
     let mut pairs = document.iter();
     'elements: while let Some((key, value)) = pairs.next() {
         put_key(out, type_of(value), key.as_str())?;
@@ -77,6 +82,7 @@ pub(crate) fn put_document(out: &mut Vec<u8>, document: &Document) -> Result<()>
 #[cycle(write)]
 fn put_array(out: &mut Vec<u8>, values: &Vec<Bson>) -> Result<()>
     ensures put { Puts result out.new.items (put_value (array (values_view values.now.items)) out.old.items) }
+    ensures typed { OnOk result (Typed (array (values_view values.now.items))) }
     ensures grows { OnOk result (length out.old.items ≤ length out.new.items) }
 {
     let start = out.len();
@@ -87,6 +93,18 @@ fn put_array(out: &mut Vec<u8>, values: &Vec<Bson>) -> Result<()>
         put_value(out, value)?;
     }
     put_end(out, start)
+}
+
+/// As much room as is made at once for each pair of a document: most take more.
+const LEAST_ROOM: usize = 8;
+
+// Four bytes for the length of the document, and room for its pairs.
+fn make_room(out: &mut Vec<u8>, document: &Document) -> Result<(), AllocError>
+    ensures room { OnOk result (out.new.items ≡ put_room out.old.items) }
+    ensures distinct { HasDistinctKeys (contents document.now) }
+{
+    out.reserve(document.len().saturating_mul(LEAST_ROOM))?;
+    out.extend_from_slice(&[0, 0, 0, 0])
 }
 
 // The 0 behind a list of elements, and the length of the document at its place.

@@ -294,17 +294,17 @@ module _ (c e : ℕ) (small : c < 10 ^ 34) (within : e < 12288) where
       ]
 
 -- the tests on an exponent, of the stored one
-at-most-zero : (e : ℕ) → int_le (exponent_at e) (pos 0) ≡ true → e ≤ 6176
+pub at-most-zero : (e : ℕ) → int_le (exponent_at e) (pos 0) ≡ true → e ≤ 6176
 at-most-zero e h = grind (arith, ints, h)
 
-at-least-six : (ds : List ℕ) (e : ℕ) → int_le (neg_ℤ (pos 6)) (scientific_exponent ds (exponent_at e)) ≡ true
+pub at-least-six : (ds : List ℕ) (e : ℕ) → int_le (neg_ℤ (pos 6)) (scientific_exponent ds (exponent_at e)) ≡ true
     → 6171 ≤ e + length ds
 at-least-six ds e h = grind (arith, ints, h)
 
-places : (e : ℕ) → e ≤ 6176 → unsigned_abs (exponent_at e) ≡ 6176 - e
+pub places : (e : ℕ) → e ≤ 6176 → unsigned_abs (exponent_at e) ≡ 6176 - e
 places e low = omega (arith, ints, clamps)
 
-first-digit : (ds : List ℕ) (e : ℕ) → scientific_exponent ds (exponent_at e) ≡ pos (e + length ds) -ℤ pos 6177
+pub first-digit : (ds : List ℕ) (e : ℕ) → scientific_exponent ds (exponent_at e) ≡ pos (e + length ds) -ℤ pos 6177
 first-digit ds e = omega (arith, ints)
 
 finite-prints : (c e : ℕ) → c < 10 ^ 34 → e < 12288 → Prints c e (finite_text (decimal c) (exponent_at e))

@@ -12,3 +12,4 @@ pub mod Taken
 pub mod Laid
 pub mod Bounded
 pub mod TextLaws
+pub mod Offered

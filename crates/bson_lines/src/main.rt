@@ -2,7 +2,7 @@
 //! each on a line of its own, in constant memory.
 //!
 //! The library `bson_run` goes the whole way; here stand the arguments (`order`), the files
-//! (`run`, `streams`, `output`), the line of progress (`progress`), and the lines on standard error
+//! (`run`, `streams`, `output`; `whole` for one text), the line of progress (`progress`), and the lines on standard error
 //! (`messages`, `words`) and the statuses.
 #![tactic(auto)]
 
@@ -12,6 +12,7 @@ mod output;
 mod progress;
 mod run;
 mod streams;
+mod whole;
 mod words;
 
 use crate::messages::{line_of, summary};
@@ -27,9 +28,9 @@ use std::process::ExitCode;
 /// The status by which a shell tells that nobody reads the output any more: 128, and SIGPIPE.
 const NO_READER: u8 = 141;
 
-/// Status 0: done, and no line was refused. Status 1: a line was refused, or the run could not go
-/// on, which standard error tells. Status 2: other arguments, and nothing was read. Status 141:
-/// nobody reads the output any more, and nothing is told.
+// Status 0: done, and no line was refused. Status 1: a line was refused, or the run could not go
+// on, which standard error tells. Status 2: other arguments, and nothing was read. Status 141:
+// nobody reads the output any more, and nothing is told.
 fn main(rt: HostRuntime) -> ExitCode {
     match given(&rt) {
         Ok(Asked::Run(order)) => done(&rt, &order),
@@ -40,7 +41,7 @@ fn main(rt: HostRuntime) -> ExitCode {
     }
 }
 
-/// What the arguments ask for. One that is no UTF-8 asks for nothing.
+// What the arguments ask for. One that is no UTF-8 asks for nothing.
 fn given(rt: &HostRuntime) -> Result<Asked, Fault> {
     let Some(words) = words_given(rt)? else {
         return Ok(Asked::Nothing);
@@ -51,7 +52,7 @@ fn given(rt: &HostRuntime) -> Result<Asked, Fault> {
     }
 }
 
-/// Runs, and tells what came of it.
+// Runs, and tells what came of it.
 fn done(rt: &HostRuntime, order: &Order) -> ExitCode {
     match run(rt, order) {
         Ok(counts) if counts.refused == 0 => ExitCode::SUCCESS,
@@ -63,7 +64,7 @@ fn done(rt: &HostRuntime, order: &Order) -> ExitCode {
     }
 }
 
-/// Status 1, once the line was given to standard error.
+// Status 1, once the line was given to standard error.
 fn told(rt: &HostRuntime, line: Result<String, AllocError>) -> ExitCode {
     match line {
         Ok(line) => ended(rt, &line, 1),
@@ -71,7 +72,7 @@ fn told(rt: &HostRuntime, line: Result<String, AllocError>) -> ExitCode {
     }
 }
 
-/// Writes what the program says of itself.
+// Writes what the program says of itself.
 fn shown(rt: &HostRuntime, text: &str) -> ExitCode {
     match rt.println(text) {
         Ok(()) => ExitCode::SUCCESS,

@@ -2,8 +2,8 @@
 use crate::order::STANDARD;
 use crate::run::Stop;
 use bson_run::fault::Fault;
-use bson_run::line_fault::Refusal;
 use bson_run::lines::Counts;
+use bson_run::refusal::Refusal;
 use std::alloc::{AllocError, Global};
 use std::io::Error;
 
@@ -34,13 +34,14 @@ pub fn line_of(alloc: Global, stop: Stop<'_>) -> Result<String, AllocError> {
             format!(in alloc; "bson_lines: {name} is read and written")
         }
         Stop::Line(name, refusal) => at_line(alloc, name, refusal),
+        Stop::Text(name, refusal) => at_text(alloc, name, refusal),
     }
 }
 
-/// What stopped the run, at which line and where in it.
+// What stopped the run, at which line and where in it.
 fn at_line(alloc: Global, name: &str, refusal: Refusal) -> Result<String, AllocError> {
-    let (line, words, place) = (refusal.at.line, refusal.at.words(), refusal.place);
-    match refusal.at.fault {
+    let (line, words, place) = (refusal.line, refusal.fault.words(), &refusal.place);
+    match &refusal.fault {
         Fault::CannotRead | Fault::CannotWrite => format!(in alloc; "bson_lines: {words}"),
         _ if name == STANDARD => format!(in alloc; "bson_lines: line {line}: {words}{place}"),
         _ => {
@@ -50,7 +51,20 @@ fn at_line(alloc: Global, name: &str, refusal: Refusal) -> Result<String, AllocE
     }
 }
 
-/// A file as messages name it.
+// Why a text on any number of lines was refused, and where; at which line for what is no JSON.
+fn at_text(alloc: Global, name: &str, refusal: Refusal) -> Result<String, AllocError> {
+    if refusal.line > 0 {
+        return at_line(alloc, name, refusal);
+    }
+    let (words, place) = (refusal.fault.words(), &refusal.place);
+    if name == STANDARD {
+        return format!(in alloc; "bson_lines: {words}{place}");
+    }
+    let name = escaped(alloc, name)?;
+    format!(in alloc; "{name}: {words}{place}")
+}
+
+// A file as messages name it.
 fn shown(alloc: Global, name: &str, stream: &str) -> Result<String, AllocError> {
     if name == STANDARD {
         return format!(in alloc; "standard {stream}");
@@ -73,7 +87,7 @@ pub fn escaped(alloc: Global, name: &str) -> Result<String, AllocError> {
     Ok(escaped)
 }
 
-/// The system's words for an error, behind a colon.
+// The system's words for an error, behind a colon.
 fn cause_of(alloc: Global, error: Option<Error>) -> Result<String, AllocError> {
     let Some(error) = error else {
         return Ok(String::new(alloc));

@@ -1,4 +1,5 @@
 //! What the arguments ask for.
+use bson::extjson::{Doubles, Options};
 use bson_run::order::{OnRefusal, Task};
 use std::alloc::{AllocError, Global};
 
@@ -23,8 +24,12 @@ pub enum Asked {
 pub struct Order {
     /// What is done with each line.
     pub task: Task,
+    /// Which texts have a meaning, and which values a text.
+    pub options: Options,
     /// What becomes of the run at a line that is refused.
     pub on_refusal: OnRefusal,
+    /// Whether the input is one text, and not one a line.
+    pub is_whole: bool,
     /// The file that the output goes to, or `-`.
     pub output: String,
     /// The files that are read, in this order; `-` is standard input.
@@ -37,7 +42,9 @@ pub fn asked_by(alloc: Global, words: Vec<String>) -> Result<Asked, AllocError> 
     let mut given = Given {
         alloc,
         task: None,
+        options: Options::default(),
         keeps_going: false,
+        is_whole: false,
         output: None,
         inputs: Vec::new(alloc),
         next: Next::Any,
@@ -58,7 +65,9 @@ pub fn asked_by(alloc: Global, words: Vec<String>) -> Result<Asked, AllocError> 
 struct Given {
     alloc: Global,
     task: Option<Task>,
+    options: Options,
     keeps_going: bool,
+    is_whole: bool,
     output: Option<String>,
     inputs: Vec<String>,
     next: Next,
@@ -97,6 +106,7 @@ impl Given {
         }
     }
 
+    // Takes a word that no option waits for.
     fn take_any(&mut self, word: &str) -> Result<Taken, AllocError> {
         match word {
             "--help" | "-h" => Ok(Taken::Help),
@@ -106,11 +116,17 @@ impl Given {
             "--keep-going" => {
                 let is_first = !self.keeps_going;
                 self.keeps_going = true;
-                Ok(if is_first {
-                    Taken::Word
-                } else {
-                    Taken::Unknown
-                })
+                Ok(once(is_first))
+            }
+            "--whole" => {
+                let is_first = !self.is_whole;
+                self.is_whole = true;
+                Ok(once(is_first))
+            }
+            "--doubles" => {
+                let is_first = self.options.doubles == Doubles::Special;
+                self.options.doubles = Doubles::Finite;
+                Ok(once(is_first))
             }
             STANDARD => self.take_name(word),
             _ => match output_in(word) {
@@ -121,6 +137,7 @@ impl Given {
         }
     }
 
+    // The next word is taken for this.
     fn expect(&mut self, next: Next) -> Result<Taken, AllocError> {
         self.next = next;
         Ok(Taken::Word)
@@ -134,7 +151,7 @@ impl Given {
         Ok(Taken::Word)
     }
 
-    /// The first is a mode, and the others are files.
+    // The first is a mode, and the others are files.
     fn take_name(&mut self, word: &str) -> Result<Taken, AllocError> {
         if self.task.is_some() {
             self.inputs.push(String::from_str(self.alloc, word)?)?;
@@ -148,12 +165,14 @@ impl Given {
         })
     }
 
-    /// What all words ask for. A check has no output.
+    // What all words ask for. A check has no output.
     fn asked(self) -> Result<Asked, AllocError> {
         let Given {
             alloc,
             task,
+            options,
             keeps_going,
+            is_whole,
             output,
             inputs,
             next,
@@ -161,6 +180,9 @@ impl Given {
         let Some(task) = task else {
             return Ok(Asked::Nothing);
         };
+        if is_whole && (keeps_going || inputs.len() > 1) {
+            return Ok(Asked::Nothing);
+        }
         if next == Next::Output || (task == Task::Check && output.is_some()) {
             return Ok(Asked::Nothing);
         }
@@ -170,18 +192,29 @@ impl Given {
         };
         Ok(Asked::Run(Order {
             task,
+            options,
             on_refusal: if keeps_going {
-                OnRefusal::Explain
+                OnRefusal::KeepGoing
             } else {
                 OnRefusal::Stop
             },
+            is_whole,
             output,
             inputs: inputs_of(alloc, inputs)?,
         }))
     }
 }
 
-/// The files that are read: standard input where none is named.
+// An option stands once.
+fn once(is_first: bool) -> Taken {
+    if is_first {
+        Taken::Word
+    } else {
+        Taken::Unknown
+    }
+}
+
+// The files that are read: standard input where none is named.
 fn inputs_of(alloc: Global, mut names: Vec<String>) -> Result<Vec<String>, AllocError> {
     if names.is_empty() {
         names.push(String::from_str(alloc, STANDARD)?)?;
@@ -189,7 +222,7 @@ fn inputs_of(alloc: Global, mut names: Vec<String>) -> Result<Vec<String>, Alloc
     Ok(names)
 }
 
-/// The file that stands in one word with its option.
+// The file that stands in one word with its option.
 fn output_in(word: &str) -> Option<&str> {
     if let Some(name) = word.strip_prefix("--output=") {
         return Some(name);

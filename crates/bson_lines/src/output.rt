@@ -64,7 +64,7 @@ impl Output {
     }
 }
 
-/// Output that is written where it stays.
+// Output that is written where it stays.
 fn whole(target: Target) -> Output {
     Output {
         sink: Sink::new(target),
@@ -72,7 +72,7 @@ fn whole(target: Target) -> Output {
     }
 }
 
-/// A link that points nowhere: what is made is the file that it points to.
+// A link that points nowhere: what is made is the file that it points to.
 fn is_link(rt: &HostRuntime, name: &str) -> bool {
     match fs::symlink_metadata(rt, name) {
         Ok(found) => found.is_symlink(),
@@ -80,14 +80,14 @@ fn is_link(rt: &HostRuntime, name: &str) -> bool {
     }
 }
 
-/// Output in place of a file that is there, if that may be written. Links to it stay.
+// Output in place of a file that is there, if that may be written. Links to it stay.
 fn replacing(rt: &HostRuntime, name: &str, old: &Metadata) -> io::Result<Output> {
     drop(OpenOptions::new().write(true).open(rt, name)?);
     let file = fs::canonicalize(rt, name)?.into_string();
     beside(rt, file, Some(old))
 }
 
-/// Output beside a file, by the process's number, with the rights of the old one.
+// Output beside a file, by the process's number, with the rights of the old one.
 fn beside(rt: &HostRuntime, file: String, old: Option<&Metadata>) -> io::Result<Output> {
     let number = process::id(rt.process());
     let path = format!(in rt.alloc(); "{file}.{number}.part")?;
@@ -108,7 +108,7 @@ fn beside(rt: &HostRuntime, file: String, old: Option<&Metadata>) -> io::Result<
     })
 }
 
-/// The part takes the place of the file, once the system has all of it.
+// The part takes the place of the file, once the system has all of it.
 fn placed(rt: &HostRuntime, part: &Part, target: &Target) -> io::Result<()> {
     if part.replaces {
         target.sync()?;

@@ -38,7 +38,7 @@ impl<'a> Progress<'a> {
         }
     }
 
-    /// Counts bytes that were read.
+    // Counts bytes that were read.
     fn took(&self, bytes: &[u8]) {
         if let Some(total) = self.total {
             self.read
@@ -49,7 +49,7 @@ impl<'a> Progress<'a> {
         }
     }
 
-    /// Writes the line anew, unless it was written a moment ago.
+    // Writes the line anew, unless it was written a moment ago.
     fn renew(&self, total: u64) {
         let Ok(now) = Instant::now(self.rt) else {
             return;
@@ -115,7 +115,7 @@ pub struct Verdicts<'a, T> {
 }
 
 impl<T: Write> Verdicts<'_, T> {
-    /// Writes whole verdicts.
+    // Writes whole verdicts.
     fn put(&mut self, verdicts: &[u8]) -> io::Result<()> {
         match &self.name {
             None => self.writer.write_all(verdicts),

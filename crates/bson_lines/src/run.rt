@@ -4,10 +4,11 @@ use crate::order::{Order, STANDARD};
 use crate::output::Output;
 use crate::progress::{Counted, Progress, Verdicts};
 use crate::streams::{Sink, Source};
+use crate::whole::convert_whole;
 use bson_run::fault::Fault;
-use bson_run::line_fault::Refusal;
-use bson_run::lines::{Counts, run_lines_explained};
+use bson_run::lines::{Counts, run_lines_with};
 use bson_run::order::Task;
+use bson_run::refusal::Refusal;
 use std::fs;
 use std::fs::{File, Metadata};
 use std::io::{Error, IsTerminal};
@@ -25,6 +26,8 @@ pub enum Stop<'a> {
     Both(&'a str),
     /// At a line of the file.
     Line(&'a str, Refusal),
+    /// At the one text of the file.
+    Text(&'a str, Refusal),
 }
 
 /// Converts the lines of all files in their order. It stops where a file can't be read or written,
@@ -72,7 +75,7 @@ fn run_all<'a>(
     Ok(all)
 }
 
-/// Converts the lines of one file.
+// Converts the lines of one file.
 fn run_one<'a>(
     rt: &HostRuntime,
     order: &'a Order,
@@ -85,6 +88,9 @@ fn run_one<'a>(
         progress,
         error: None,
     };
+    if order.is_whole {
+        return run_text(rt, order, name, &mut reader, sink);
+    }
     let mut report = Verdicts {
         alloc: rt.alloc(),
         writer: rt.stderr(),
@@ -92,8 +98,9 @@ fn run_one<'a>(
         progress,
         error: None,
     };
-    match run_lines_explained(
+    match run_lines_with(
         rt.alloc(),
+        order.options,
         order.task,
         order.on_refusal,
         &mut reader,
@@ -101,16 +108,48 @@ fn run_one<'a>(
         &mut report,
     ) {
         Ok(counts) => Ok(counts),
-        Err(refusal) => Err(match refusal.at.fault {
-            Fault::CannotRead => Stop::Input(name, reader.error),
-            Fault::CannotWrite if report.error.is_some() => Stop::Output(STANDARD, report.error),
-            Fault::CannotWrite => Stop::Output(order.output.as_str(), sink.error),
-            _ => Stop::Line(name, refusal),
-        }),
+        Err(refusal) => {
+            let output = match report.error {
+                Some(error) => Stop::Output(STANDARD, Some(error)),
+                None => Stop::Output(order.output.as_str(), sink.error),
+            };
+            Err(stopped(refusal, name, Stop::Input(name, reader.error), output))
+        }
     }
 }
 
-/// What is read by the name.
+// Converts the one text of a file.
+fn run_text<'a>(
+    rt: &HostRuntime,
+    order: &'a Order,
+    name: &'a str,
+    reader: &mut Counted<'_, Source>,
+    sink: &mut Sink,
+) -> Result<Counts, Stop<'a>> {
+    match convert_whole(rt.alloc(), order, reader, sink) {
+        Ok(()) => Ok(Counts {
+            lines: 1,
+            refused: 0,
+        }),
+        Err(refusal) => match refusal.fault {
+            Fault::CannotRead => Err(Stop::Input(name, reader.error)),
+            Fault::CannotWrite => Err(Stop::Output(order.output.as_str(), sink.error)),
+            _ => Err(Stop::Text(name, refusal)),
+        },
+    }
+}
+
+// Why a run ended: the file that could not be read, or the one that could not be written, or else
+// a line of the file.
+fn stopped<'a>(refusal: Refusal, name: &'a str, input: Stop<'a>, output: Stop<'a>) -> Stop<'a> {
+    match refusal.fault {
+        Fault::CannotRead => input,
+        Fault::CannotWrite => output,
+        _ => Stop::Line(name, refusal),
+    }
+}
+
+// What is read by the name.
 fn source<'a>(rt: &HostRuntime, name: &'a str) -> Result<Source, Stop<'a>> {
     if name == STANDARD {
         return Ok(Source::Stdin(rt.stdin()));
@@ -121,7 +160,7 @@ fn source<'a>(rt: &HostRuntime, name: &'a str) -> Result<Source, Stop<'a>> {
     }
 }
 
-/// The name that stands before verdicts.
+// The name that stands before verdicts.
 fn title<'a>(rt: &HostRuntime, name: &'a str) -> Result<Option<String>, Stop<'a>> {
     if name == STANDARD {
         return Ok(None);
@@ -132,7 +171,7 @@ fn title<'a>(rt: &HostRuntime, name: &'a str) -> Result<Option<String>, Stop<'a>
     }
 }
 
-/// A file to read opens, and is none of those that are written.
+// A file to read opens, and is none of those that are written.
 fn try_input<'a>(rt: &HostRuntime, order: &Order, name: &'a str) -> Result<(), Stop<'a>> {
     let input = if name == STANDARD {
         fs::metadata(rt, "/dev/stdin")
@@ -160,7 +199,7 @@ fn try_input<'a>(rt: &HostRuntime, order: &Order, name: &'a str) -> Result<(), S
     Ok(())
 }
 
-/// Whether a file is what this name stands for.
+// Whether a file is what this name stands for.
 fn is_written(rt: &HostRuntime, file: &Metadata, name: &str) -> bool {
     match fs::metadata(rt, name) {
         Ok(output) => { file.is_file() && file.dev() == output.dev() && file.ino() == output.ino() }
@@ -168,8 +207,8 @@ fn is_written(rt: &HostRuntime, file: &Metadata, name: &str) -> bool {
     }
 }
 
-/// How many bytes are to be read, where progress is told: standard error is a terminal to which no
-/// output goes, and all that is read is files.
+// How many bytes are to be read, where progress is told: standard error is a terminal to which no
+// output goes, and all that is read is files.
 fn total(rt: &HostRuntime, order: &Order) -> Option<u64> {
     let is_apart = order.output.as_str() != STANDARD
         || order.task == Task::Check
@@ -186,7 +225,7 @@ fn total(rt: &HostRuntime, order: &Order) -> Option<u64> {
     Some(total)
 }
 
-/// How many bytes a file has.
+// How many bytes a file has.
 fn size(rt: &HostRuntime, name: &str) -> Option<u64> {
     match fs::metadata(rt, name) {
         Ok(file) if file.is_file() => Some(file.len()),

@@ -2,7 +2,7 @@
 
 /// Where the arguments ask for nothing that it does.
 pub const USAGE: &str =
-    "usage: bson_lines canonical|relaxed|show|check [--keep-going] [-o FILE] [FILE ..]
+    "usage: bson_lines canonical|relaxed|show|check [--doubles] [--keep-going|--whole] [-o FILE] [FILE ..]
 see bson_lines --help";
 
 /// What stands on standard error where there is no memory for anything else.
@@ -11,7 +11,7 @@ pub const OUT_OF_MEMORY: &str = "bson_lines: out of memory";
 pub const VERSION: &str = "bson_lines 0.2.0";
 
 pub const HELP: &str =
-    "usage: bson_lines canonical|relaxed|show|check [--keep-going] [-o FILE] [FILE ..]
+    "usage: bson_lines canonical|relaxed|show|check [--doubles] [--keep-going|--whole] [-o FILE] [FILE ..]
 
 Reads MongoDB Extended JSON v2, a document a line, from the files or from standard input, and writes of each line:
   canonical   its canonical form, which keeps every type
@@ -19,7 +19,10 @@ Reads MongoDB Extended JSON v2, a document a line, from the files or from standa
   show        the value as the library prints it, which is no JSON
   check       nothing; refused lines are told
 
+  --doubles               finite doubles are taken: a number that is no whole one of 64 bits is read as the double
+                          nearest to it, and a double is written as its shortest decimal; without it they are refused
   --keep-going            a refused line is told and left out, and the run goes on; without it the run ends there
+  --whole                 the input, one file at most, is one text on any number of lines, and not a text a line
   -o FILE, --output FILE  the output goes to FILE, and not to standard output: whole at the end, or not at all
   -h, --help; -v, --version
 

@@ -7,14 +7,14 @@ use Rattle.bson_wrapper.specs.Faults.{Gives}
 use Rattle.bson_wrapper.specs.Written.{Refusal}
 use Rattle.bson_wrapper.specs.declared.error.Error.{Error}
 use Rattle.bson_wrapper.specs.declared.form.Form.{Form}
-use Rattle.bson_model.specs.Means.{Means}
-use Rattle.bson_model.specs.Reading.{reads}
-use Rattle.bson_model.specs.Texts.{IsTree, HasEqualTexts, HasText, ComesBack}
+use Rattle.bson_model.specs.Means.{MeansIn}
+use Rattle.bson_model.specs.Reading.{reads_in}
+use Rattle.bson_model.specs.Texts.{IsTree, HasEqualTextsIn, HasTextIn, ComesBackIn}
 use Rattle.bson_model.specs.Same.{same}
 use Rattle.bson_model.specs.Value.{Value}
-use Rattle.bson_model.specs.Normal.{normal_form, as_read, plain, writable, InRange}
-use Rattle.bson_model.specs.Written.{Written}
-use Rattle.bson_model.specs.Writing.{writes}
+use Rattle.bson_model.specs.Normal.{normal_form, as_read, plain, writable_in, InRange}
+use Rattle.bson_model.specs.Written.{WrittenIn}
+use Rattle.bson_model.specs.Writing.{writes_in}
 use Rattle.bson_model.proofs.MeansLaws.{means_from}
 use Rattle.bson_model.proofs.NoFloats.{no_float}
 use Rattle.bson_model.proofs.RangeLaws.{in_range}
@@ -24,55 +24,57 @@ use Rattle.bson_model.proofs.SameSorted.{same_to}
 use Rattle.bson_model.proofs.TextLaws.{text_back, one_tree}
 use Rattle.bson_model.proofs.TreeLaws.{tree_is}
 use Rattle.bson_model.proofs.WriteLaws.{canon_from, canon_to, writable_is}
+use Rattle.bson_wrapper.specs.declared.form.Doubles.{Doubles}
 
-some_ok : (r : Result Data Refusal) → is_ok r ≡ true → (u : Data) × (r ≡ Ok u)
-some_ok (Ok u) h = (u, refl)
-some_ok (Err e) h = cc
+module _ (D : Doubles) where
+  some_ok : (r : Result Data Refusal) → is_ok r ≡ true → (u : Data) × (r ≡ Ok u)
+  some_ok (Ok u) h = (u, refl)
+  some_ok (Err e) h = cc
 
--- a writable value has a tree
-tree_of : (f : Form) (v : Value) → writable v ≡ true → (u : Data) × (writes f v ≡ Ok u)
-tree_of f v h = some_ok (writes f v) (writable_is f v ∙ h)
+  -- a writable value has a tree
+  tree_of : (f : Form) (v : Value) → writable_in D v ≡ true → (u : Data) × (writes_in D f v ≡ Ok u)
+  tree_of f v h = some_ok (writes_in D f v) (writable_is D f v ∙ h)
 
-pub has_tree : (f : Form) (v : Value) → writable v ≡ true → (t : Data) × Written f (normal_form v) t
-has_tree f v h = let t = tree_of f v h in (t.0, canon_from f v t.0 t.1)
+  pub has_tree : (f : Form) (v : Value) → writable_in D v ≡ true → (t : Data) × WrittenIn D f (normal_form v) t
+  has_tree f v h = let t = tree_of f v h in (t.0, canon_from D f v t.0 t.1)
 
--- the value that a tree of v means has that tree
-same_tree : (f : Form) (v : Value) (u : Data) (w : Value) → writes f v ≡ Ok u → Means u w
-    → same w (as_read f (normal_form v)) ≡ true → Written f (normal_form w) u
-same_tree f v u w h m is =
-    let own = tree_of f w (form m).1 in
-    let one : own.0 ≡ u =
-    same_trees f w (as_read f (normal_form v)) own.0 u own.1 (as_read_form f v u h)
-    (same_to w (as_read f (normal_form v)) is) in
-    canon_from f w u (own.1 ∙ ap Ok one)
+  -- the value that a tree of v means has that tree
+  same_tree : (f : Form) (v : Value) (u : Data) (w : Value) → writes_in D f v ≡ Ok u → MeansIn D u w
+      → same w (as_read f (normal_form v)) ≡ true → WrittenIn D f (normal_form w) u
+  same_tree f v u w h m is =
+      let own = tree_of f w (form D m).1 in
+      let one : own.0 ≡ u =
+      same_trees D f w (as_read f (normal_form v)) own.0 u own.1 (as_read_form D f v u h)
+      (same_to w (as_read f (normal_form v)) is) in
+      canon_from D f w u (own.1 ∙ ap Ok one)
 
-equal_texts : (f : Form) (v : Value) (u : Data) (w : Value) (x : Data) → writes f v ≡ Ok u → plain v ≡ true → InRange v
-    → HasEqualTexts f v u w x
-equal_texts f v u w x h p r q s c =
-    let g = canon_to f w x c in
-    let trees = equal_is f v u w x h r p q s c in (
-      λ e. trees.0 (one_tree u x (no_float f v u h) (tree_is f v u h r) (no_float f w x g) (tree_is f w x g s) e),
-      λ e. ap compact_text (trees.1 e),
-    )
+  equal_texts : (f : Form) (v : Value) (u : Data) (w : Value) (x : Data) → writes_in D f v ≡ Ok u → plain v ≡ true → InRange v
+      → HasEqualTextsIn D f v u w x
+  equal_texts f v u w x h p r q s c =
+      let g = canon_to D f w x c in
+      let trees = equal_is D f v u w x h r p q s c in (
+        λ e. trees.0 (one_tree u x (no_float D f v u h) (tree_is D f v u h r) (no_float D f w x g) (tree_is D f w x g s) e),
+        λ e. ap compact_text (trees.1 e),
+      )
 
-pub has_text : (f : Form) (v : Value) (u : Data) → writes f v ≡ Ok u → plain v ≡ true → InRange v → HasText f v u
-has_text f v u h p r = record {
-  written = canon_from f v u h;
-  is_tree = tree_is f v u h r;
-  read_again = text_back u (no_float f v u h) (tree_is f v u h r);
-  means = let b = reads_back_is f v u h r p in (b.0, b.1, b.2, same_tree f v u b.0 h b.1 b.2);
-  equal = λ w x. equal_texts f v u w x h p r;
-}
+  pub has_text : (f : Form) (v : Value) (u : Data) → writes_in D f v ≡ Ok u → plain v ≡ true → InRange v → HasTextIn D f v u
+  has_text f v u h p r = record {
+    written = canon_from D f v u h;
+    is_tree = tree_is D f v u h r;
+    read_again = text_back u (no_float D f v u h) (tree_is D f v u h r);
+    means = let b = reads_back_is D f v u h r p in (b.0, b.1, b.2, same_tree f v u b.0 h b.1 b.2);
+    equal = λ w x. equal_texts f v u w x h p r;
+  }
 
-pub comes_back : (v : Value) → plain v ≡ true → writable v ≡ true → InRange v → ComesBack v
-comes_back v p w r f = let t = tree_of f v w in (t.0, has_text f v t.0 t.1 p r)
+  pub comes_back : (v : Value) → plain v ≡ true → writable_in D v ≡ true → InRange v → ComesBackIn D v
+  comes_back v p w r f = let t = tree_of f v w in (t.0, has_text f v t.0 t.1 p r)
 
--- what a tree means comes back
-pub read_comes_back : (t : Data) (v : Value) → IsTree t → Means t v → ComesBack v
-read_comes_back t v is m = let f = form m in comes_back v f.0 f.1 (in_range m is)
+  -- what a tree means comes back
+  pub read_comes_back : (t : Data) (v : Value) → IsTree t → MeansIn D t v → ComesBackIn D v
+  read_comes_back t v is m = let f = form D m in comes_back v f.0 f.1 (in_range D m is)
 
--- what a reader gave comes back
-pub read_back_ok : {X : Type 0} (see : X → Value) (t : Data) (r : Result X Error) → Gives see r (reads t)
-    → IfOk r (λ v. InRange (see v)) → IfOk r (λ v. ComesBack (see v))
-read_back_ok see t (Ok x) h ranged = let f = form (means_from t (see x) h) in comes_back (see x) f.0 f.1 ranged
-read_back_ok see t (Err e) h ranged = tt
+  -- what a reader gave comes back
+  pub read_back_ok : {X : Type 0} (see : X → Value) (t : Data) (r : Result X Error) → Gives see r (reads_in D t)
+      → IfOk r (λ v. InRange (see v)) → IfOk r (λ v. ComesBackIn D (see v))
+  read_back_ok see t (Ok x) h ranged = let f = form D (means_from D t (see x) h) in comes_back (see x) f.0 f.1 ranged
+  read_back_ok see t (Err e) h ranged = tt

@@ -1,13 +1,139 @@
 -- The laws that the crates above use. No other file of these proofs is cited from outside.
-pub use Rattle.bson_model.proofs.ComesBack.{has_text, read_back_ok, read_comes_back}
-pub use Rattle.bson_model.proofs.MeansLaws.{means_from, means_one, means_to}
-pub use Rattle.bson_model.proofs.Members.{Member, just_one, just_two, more_than_two}
+use Rattle.std.proofs.Common.{◌≡◌, ◌<◌, List, [], ◌∷◌, length, true, false, string_bytes, Result, Ok, Err}
+use Rattle.std.specs.Prelude.{IfOk, OnOk, is_ok}
+use Rattle.serde_json.specs.Data.{Data, Members}
+use Rattle.serde_json.specs.View.{view, members_view}
+use Rattle.bson_wrapper.specs.Faults.{Gives, wrong_shape}
+use Rattle.bson_wrapper.specs.Reading.{single_at}
+use Rattle.bson_wrapper.specs.Table.{wrapper_of}
+use Rattle.bson_wrapper.specs.Written.{Writes}
+use Rattle.bson_wrapper.specs.declared.error.Error.{Error}
+use Rattle.bson_wrapper.specs.declared.form.Doubles.TheVariants.{Special}
+use Rattle.bson_wrapper.specs.declared.form.Form.{Form}
+use Rattle.bson_wrapper.specs.declared.write_error.WriteError.{WriteError}
+use Rattle.bson_wrapper.specs.declared.write_error.WriteError.TheVariants.{FiniteDouble}
+use Rattle.bson_model.specs.Fault.{IsFaultOf, IsDocumentFault}
+use Rattle.bson_model.specs.Laws.{IsTreeOf, FormsAreIdempotent, HasMeaning, HasDocumentMeaning}
+use Rattle.bson_model.specs.Means.{Means, MeansDocument}
+use Rattle.bson_model.specs.Normal.{normal_form, plain, writable, InRange}
+use Rattle.bson_model.specs.Reading.{reads, reads_members, reads_wrapper, reads_scope, scalar_value, code_at}
+use Rattle.bson_model.specs.Sorted.{KeysAscend}
+use Rattle.bson_model.specs.Texts.{Ascends, HasText, ComesBack, IsTree}
+use Rattle.bson_wrapper.specs.Normal.{IsNormalOrNan}
+use Rattle.bson_model.specs.Value.{Value, Pairs, IfScalar}
+use Rattle.bson_model.specs.Writing.{writes}
+use Rattle.bson_model.specs.Written.{Written}
+pub use Rattle.bson_model.proofs.Binds.{bind_ok, fault_bind_ok, un_ok}
+pub use Rattle.bson_model.proofs.EachLaws.{as_read_each}
+pub use Rattle.bson_model.proofs.Members.{Member}
 pub use Rattle.bson_model.proofs.PutLaws.{put_swap}
 pub use Rattle.bson_model.proofs.PutMembers.{put_members_swap}
 pub use Rattle.bson_model.proofs.PutSwap.{equal_keys, flipped}
-pub use Rattle.bson_model.proofs.RangeLaws.{in_range}
-pub use Rattle.bson_model.proofs.ReadBack.{forms_idempotent, tree_is, writable_from, write_both, write_finite, write_ok}
-pub use Rattle.bson_model.proofs.ReadLaws.{IsRead, document_read, document_read_ascends, value_read}
-pub use Rattle.bson_model.proofs.ReadTrees.{read_tree}
-pub use Rattle.bson_model.proofs.SameSorted.{at_each, from_each, option_same, same_document, same_feeds}
-pub use Rattle.bson_model.proofs.WriteLaws.{canon_from, writable_is}
+pub use Rattle.bson_model.proofs.ReadLaws.{IsRead}
+pub use Rattle.bson_model.proofs.ReadTrees.{number_fits, read_tree}
+pub use Rattle.bson_model.proofs.SameSorted.{at_each, from_each, option_same, same_document, same_feeds, scalar_decides}
+pub use Rattle.bson_model.proofs.TreeLaws.{ascends_put, trees_put}
+use Rattle.bson_model.proofs.ComesBack as whole
+use Rattle.bson_model.proofs.MeansLaws as meaning
+use Rattle.bson_model.proofs.Members as member
+use Rattle.bson_model.proofs.RangeLaws as range
+use Rattle.bson_model.proofs.ReadBack as back
+use Rattle.bson_model.proofs.ReadForm as form
+use Rattle.bson_model.proofs.ReadLaws as reading
+use Rattle.bson_model.proofs.WriteLaws as writing
+-- in each mode of doubles
+pub use Rattle.bson_model.proofs.ComesBack.{has_text as has_text_in, read_comes_back as read_comes_back_in}
+pub use Rattle.bson_model.proofs.ComesBack.{read_back_ok as read_back_ok_in}
+pub use Rattle.bson_model.proofs.MeansLaws.{means_from as means_from_in, means_to as means_to_in}
+pub use Rattle.bson_model.proofs.MeansLaws.{means_one as means_one_in}
+pub use Rattle.bson_model.proofs.Modes.{all_writable}
+pub use Rattle.bson_model.proofs.ReadForm.{normal_scalar_of}
+pub use Rattle.bson_model.proofs.RangeLaws.{in_range as in_range_in}
+pub use Rattle.bson_model.proofs.ReadBack.{forms_idempotent as forms_idempotent_in, tree_is as tree_is_in}
+pub use Rattle.bson_model.proofs.ReadBack.{write_finite as write_finite_in, write_ok as write_ok_in}
+pub use Rattle.bson_model.proofs.ReadBack.{writable_from as writable_from_in, write_both as write_both_in}
+pub use Rattle.bson_model.proofs.ReadLaws.{value_read as value_read_in, document_read as document_read_in}
+pub use Rattle.bson_model.proofs.ReadLaws.{document_read_ascends as document_read_ascends_in}
+pub use Rattle.bson_model.proofs.WriteLaws.{canon_from as canon_from_in, writable_is as writable_is_in}
+pub use Rattle.bson_model.proofs.Members.{just_one as just_one_in, just_two as just_two_in}
+pub use Rattle.bson_model.proofs.Members.{more_than_two as more_than_two_in}
+
+-- those of the mode `Special`
+
+pub has_text : (f : Form) (v : Value) (u : Data) → writes f v ≡ Ok u → plain v ≡ true → InRange v → HasText f v u
+has_text = whole.has_text Special
+
+pub read_comes_back : (t : Data) (v : Value) → IsTree t → Means t v → ComesBack v
+read_comes_back = whole.read_comes_back Special
+
+pub read_back_ok : {X : Type 0} (see : X → Value) (t : Data) (r : Result X Error) → Gives see r (reads t)
+    → IfOk r (λ v. InRange (see v)) → IfOk r (λ v. ComesBack (see v))
+read_back_ok = whole.read_back_ok Special
+
+pub means_from : (t : Data) (v : Value) → reads t ≡ Ok v → Means t v
+means_from = meaning.means_from Special
+
+pub means_to : {t : Data} {v : Value} → Means t v → reads t ≡ Ok v
+means_to m = meaning.means_to Special m
+
+pub means_one : (t : Data) (v w : Value) → Means t v → Means t w → v ≡ w
+means_one = meaning.means_one Special
+
+pub read_normal : (t : Data) (v : Value) → reads t ≡ Ok v → IfScalar v IsNormalOrNan
+read_normal t v h = form.normal_scalar_of Special (means_from t v h)
+
+pub in_range : {t : Data} {v : Value} → Means t v → IsTree t → InRange v
+in_range m is = range.in_range Special m is
+
+pub forms_idempotent : (v : Value) → FormsAreIdempotent v
+forms_idempotent = back.forms_idempotent Special
+
+pub tree_is : (f : Form) (v : Value) (t : Data) → writes f v ≡ Ok t → InRange v → IsTreeOf f v t
+tree_is = back.tree_is Special
+
+pub write_finite : {X : Type 0} (f : Form) (see : X → Data) (v : Value) (r : Result X WriteError)
+    → Writes see r (writes f v) → r ≡ Err FiniteDouble → writable v ≡ false
+write_finite = back.write_finite Special
+
+pub write_ok : {X : Type 0} (f : Form) (see : X → Data) (v : Value) (r : Result X WriteError) (P : X → Type 0)
+    → Writes see r (writes f v) → ((x : X) → writes f v ≡ Ok (see x) → P x) → IfOk r P
+write_ok = back.write_ok Special
+
+pub writable_from : (f : Form) (v : Value) (t : Data) → writes f v ≡ Ok t → writable v ≡ true
+writable_from = back.writable_from Special
+
+pub write_both : {X : Type 0} (f : Form) (see : X → Data) (v : Value) (r : Result X WriteError) (P : X → Type 0)
+    → Writes see r (writes f v) → OnOk r (InRange v) → ((x : X) → writes f v ≡ Ok (see x) → InRange v → P x) → IfOk r P
+write_both = back.write_both Special
+
+pub value_read : {X : Type 0} (see : X → Value) (t : Data) (r : Result X Error) → Gives see r (reads t)
+    → IsRead see r (Means t) (HasMeaning t) (IsFaultOf t)
+value_read = reading.value_read Special
+
+pub document_read : {X : Type 0} (see : X → Pairs) (ms : Members) (r : Result X Error) → Gives see r (reads_members ms)
+    → IsRead see r (MeansDocument ms) (HasDocumentMeaning ms) (IsDocumentFault ms)
+document_read = reading.document_read Special
+
+pub document_read_ascends : {X : Type 0} (see : X → Pairs) (ms : Members) (r : Result X Error)
+    → Gives see r (reads_members ms) → Ascends ms → IfOk r (λ v. KeysAscend (see v))
+document_read_ascends = reading.document_read_ascends Special
+
+pub canon_from : (f : Form) (v : Value) (t : Data) → writes f v ≡ Ok t → Written f (normal_form v) t
+canon_from = writing.canon_from Special
+
+pub writable_is : (f : Form) (v : Value) → is_ok (writes f v) ≡ writable v
+writable_is = writing.writable_is Special
+
+pub just_one : (es : List Member) (x : Member) (mid : List Member) (P : Type 0) → es ≡ x ∷ mid → (0 < length mid → P)
+    → (P → ⊥) → reads_wrapper (members_view es) ≡ scalar_value (single_at (wrapper_of (string_bytes x.0)) (view x.1))
+just_one = member.just_one Special
+
+pub just_two : (es : List Member) (x y : Member) (mid rest : List Member) → es ≡ x ∷ mid → mid ≡ y ∷ rest
+    → length rest ≡ 0
+    → reads_wrapper (members_view es) ≡ code_at (string_bytes x.0) (view x.1) (string_bytes y.0)
+    (reads_scope (view y.1))
+just_two = member.just_two Special
+
+pub more_than_two : (es : List Member) (x y : Member) (mid rest : List Member) → es ≡ x ∷ mid → mid ≡ y ∷ rest
+    → (length rest ≡ 0 → ⊥) → reads_wrapper (members_view es) ≡ Err wrong_shape
+more_than_two = member.more_than_two Special

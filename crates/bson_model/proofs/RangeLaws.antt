@@ -1,24 +1,26 @@
 -- What a tree means is in range.
 use Rattle.std.proofs.Common.{◌≡◌, ◌<◌, ◌^◌, ℕ, ℤ, pos, negsuc, [], ◌∷◌, Bool, true, false, cond, Option, Some, None}
-use Rattle.std.proofs.Common.{refl, sym, subst, w64, arith}
+use Rattle.std.proofs.Common.{refl, sym, subst, w64, arith, inl, inr}
 use Rattle.std.specs.Prelude.{FitsSigned}
 use Rattle.std.proofs.lemmas.Bool.{ltb-true}
 use Rattle.serde_json.specs.Data.{Data, Num, unsigned, negative, float, Items, Members}
 use Rattle.serde_json.specs.Find.{as_i64}
-use Rattle.bson_wrapper.specs.Means.{MeansScalar, narrow_number, wide_number, oid, number_int, number_long}
+use Rattle.bson_wrapper.specs.Means.{MeansScalar, MeansScalarIn, narrow_number, wide_number, oid, number_int, number_long}
 use Rattle.bson_wrapper.specs.Means.{number_double, binary, uuid, timestamp, date_of_millis, date_of_text}
 use Rattle.bson_wrapper.specs.Means.{date_of_number, db_pointer}
 use Rattle.bson_wrapper.specs.Normal.{ScalarInRange}
 use Rattle.bson_wrapper.specs.Scalar.{Scalar}
 use Rattle.bson_wrapper.specs.Shapes.{small_number, whole}
-use Rattle.bson_wrapper.proofs.Offered.{subtype_byte-of}
+use Rattle.bson_wrapper.proofs.Offered.{subtype_byte-of, finite_range}
 use Rattle.bson_model.specs.Value.{Value, Values, Pairs}
-use Rattle.bson_model.specs.Means.{Means, scalar, code_with_scope, array, document, MeansItems, nothing, then}
-use Rattle.bson_model.specs.Means.{MeansDocument, empty, entry}
+use Rattle.bson_model.specs.Means.{MeansIn, scalar, code_with_scope, array, document, MeansItemsIn, nothing, then}
+use Rattle.bson_model.specs.Means.{MeansDocumentIn, empty, entry}
 use Rattle.bson_model.specs.Texts.{NumberFits, IsTree, ItemsAreTrees, MembersAreTrees}
 use Rattle.bson_model.specs.Normal.{InRange, ItemsInRange, PairsInRange}
 use Rattle.bson_scalar.proofs.Offered.{hex_bytes, sized_to}
 use Rattle.bson_datetime.proofs.Offered.{named_fits}
+use Rattle.bson_wrapper.specs.declared.form.Doubles.{Doubles}
+use Rattle.bson_wrapper.specs.declared.form.Doubles.TheVariants.{Special, Finite}
 
 un_some : {A : Type 0} (x y : A) → Some x ≡ Some y → x ≡ y
 un_some x y h = cc
@@ -78,19 +80,26 @@ scalar_range (date_of_number n z is) t = whole_fits n z t.1.0 is
 scalar_range (db_pointer name s id is) t = hex_bytes s 12 id (sized_to 12 s id is.0 is.1)
 scalar_range _ t = tt
 
--- ---- values
+-- in each mode
+range_in : (D : Doubles) (t : Data) (x : Scalar) → MeansScalarIn D t x → IsTree t → ScalarInRange x
+range_in Special t x h is = scalar_range h is
+range_in Finite t x (inl h) is = scalar_range h is
+range_in Finite t x (inr h) is = finite_range h
 
-mutual
-  pub in_range : {t : Data} {v : Value} → Means t v → IsTree t → InRange v
-  in_range (scalar d x m) is = scalar_range m is
-  in_range (code_with_scope s ms ps m) is = document_range m is.1.1.0.1
-  in_range (array ds vs m) is = items_range m is
-  in_range (document ms ps none m) is = document_range m is.1
+module _ (D : Doubles) where
+  -- ---- values
 
-  items_range : {ds : Items} {vs : Values} → MeansItems ds vs → ItemsAreTrees ds → ItemsInRange vs
-  items_range nothing is = tt
-  items_range (then d v ds vs m n) is = (in_range m is.0, items_range n is.1)
+  mutual
+    pub in_range : {t : Data} {v : Value} → MeansIn D t v → IsTree t → InRange v
+    in_range (scalar d x m) is = range_in D d x m is
+    in_range (code_with_scope s ms ps m) is = document_range m is.1.1.0.1
+    in_range (array ds vs m) is = items_range m is
+    in_range (document ms ps none m) is = document_range m is.1
 
-  document_range : {ms : Members} {ps : Pairs} → MeansDocument ms ps → MembersAreTrees ms → PairsInRange ps
-  document_range empty is = tt
-  document_range (entry k d v ms ps m n) is = (in_range m is.0, document_range n is.1)
+    items_range : {ds : Items} {vs : Values} → MeansItemsIn D ds vs → ItemsAreTrees ds → ItemsInRange vs
+    items_range nothing is = tt
+    items_range (then d v ds vs m n) is = (in_range m is.0, items_range n is.1)
+
+    document_range : {ms : Members} {ps : Pairs} → MeansDocumentIn D ms ps → MembersAreTrees ms → PairsInRange ps
+    document_range empty is = tt
+    document_range (entry k d v ms ps m n) is = (in_range m is.0, document_range n is.1)

@@ -68,7 +68,7 @@ signed_at : (b : Bool) (s : List ℕ) (n : Num)
 signed_at true s n h = from_fits true (scan (drop 1 s)) n h
 signed_at false s n h = from_fits false (scan s) n h
 
-number_fits : (s : List ℕ) (n : Num) → number_of s ≡ Some n → NumberFits n
+pub number_fits : (s : List ℕ) (n : Num) → number_of s ≡ Some n → NumberFits n
 unfolding number_of
 number_fits s n h = signed_at (slice_index s 0 == minus) s n h
 

@@ -9,21 +9,22 @@ use Rattle.serde_json.specs.Data.{Data, Items, no_items, item, Members, no_membe
 use Rattle.serde_json.specs.Data as tree
 use Rattle.serde_json.specs.Find.{of_integer}
 use Rattle.bson_wrapper.specs.Dates.{is_recent, relaxed_date_tree}
-use Rattle.bson_wrapper.specs.Doubles.{double_text}
+use Rattle.bson_wrapper.specs.Doubles.{text_in}
 use Rattle.bson_wrapper.specs.Normal.{ScalarInRange}
 use Rattle.bson_wrapper.specs.Scalar.{Scalar, null, undefined, min_key, max_key, boolean, double, int32, int64, text}
 use Rattle.bson_wrapper.specs.Scalar.{symbol, code, regex, timestamp, binary, object_id, date, decimal, db_pointer}
 use Rattle.bson_wrapper.specs.Shapes.{object_of_two}
-use Rattle.bson_wrapper.specs.Written.{or_finite, writes_scalar, int32_form, int64_form, date_form}
+use Rattle.bson_wrapper.specs.Written.{or_finite, writes_scalar_in, int32_form, int64_form, date_form}
 use Rattle.bson_wrapper.specs.declared.form.Form.{Form}
 use Rattle.bson_wrapper.specs.declared.form.Form.TheVariants.{Canonical, Relaxed}
 use Rattle.bson_model.specs.Texts.{IsBelow, Ascends, IsTree, ItemsAreTrees, MembersAreTrees}
 use Rattle.bson_model.specs.Value.{Value, scalar, code_scope, array, document, Values, no_values, value, Pairs}
 use Rattle.bson_model.specs.Value.{no_pairs, pair}
 use Rattle.bson_model.specs.Normal.{InRange, ItemsInRange, PairsInRange}
-use Rattle.bson_model.specs.Writing.{writes, writes_items, writes_pairs}
+use Rattle.bson_model.specs.Writing.{writes_in, writes_items_in, writes_pairs_in}
 use Rattle.bson_model.proofs.PutSwap.{cmp, flipped}
 use Rattle.bson_model.proofs.Binds.{bind_ok, un_ok}
+use Rattle.bson_wrapper.specs.declared.form.Doubles.{Doubles}
 
 -- ---- a map stays one
 
@@ -92,58 +93,59 @@ date_is : (f : Form) (z : ℤ) → IsTree (date_form f z)
 date_is Canonical z = long_date_is z
 date_is Relaxed z = recent_is _ z refl
 
-scalar_is : (f : Form) (x : Scalar) (t : Data) → writes_scalar f x ≡ Ok t → ScalarInRange x → IsTree t
-scalar_is f null t h r = rw (un_ok _ _ h) tt
-scalar_is f undefined t h r = rw (un_ok _ _ h) ((tt, tt), (tt, tt))
-scalar_is f min_key t h r = rw (un_ok _ _ h) ((tt, tt), (omega arith, tt))
-scalar_is f max_key t h r = rw (un_ok _ _ h) ((tt, tt), (omega arith, tt))
-scalar_is f (boolean b) t h r = rw (un_ok _ _ h) tt
-scalar_is f (double p) t h r =
-    let b = bind_ok (or_finite (double_text p)) _ t h in rw (un_ok _ _ b.2) ((tt, tt), (tt, tt))
-scalar_is f (int32 z) t h r = rw (un_ok _ _ h) (int32_is f z r)
-scalar_is f (int64 z) t h r = rw (un_ok _ _ h) (int64_is f z r)
-scalar_is f (text s) t h r = rw (un_ok _ _ h) tt
-scalar_is f (symbol s) t h r = rw (un_ok _ _ h) ((tt, tt), (tt, tt))
-scalar_is f (code s) t h r = rw (un_ok _ _ h) ((tt, tt), (tt, tt))
-scalar_is f (regex p o) t h r = rw (un_ok _ _ h) ((tt, tt), ((((refl, tt), (tt, tt)), (tt, (tt, tt))), tt))
-scalar_is f (timestamp s i) t h r =
-    let a : s < 2 ^ 32 = r.0 in
-    let b : i < 2 ^ 32 = r.1 in
-    rw (un_ok _ _ h) ((tt, tt), ((((refl, tt), (tt, tt)), (omega arith, (omega arith, tt))), tt))
-scalar_is f (binary k bytes) t h r = rw (un_ok _ _ h) ((tt, tt), ((((refl, tt), (tt, tt)), (tt, (tt, tt))), tt))
-scalar_is f (object_id id) t h r = rw (un_ok _ _ h) ((tt, tt), (tt, tt))
-scalar_is f (date z) t h r = rw (un_ok _ _ h) (date_is f z)
-scalar_is f (decimal b) t h r = rw (un_ok _ _ h) ((tt, tt), (tt, tt))
-scalar_is f (db_pointer s id) t h r =
-    rw (un_ok _ _ h) ((tt, tt), ((((refl, tt), (tt, tt)), (((tt, tt), (tt, tt)), (tt, tt))), tt))
+module _ (D : Doubles) where
+  scalar_is : (f : Form) (x : Scalar) (t : Data) → writes_scalar_in D f x ≡ Ok t → ScalarInRange x → IsTree t
+  scalar_is f null t h r = rw (un_ok _ _ h) tt
+  scalar_is f undefined t h r = rw (un_ok _ _ h) ((tt, tt), (tt, tt))
+  scalar_is f min_key t h r = rw (un_ok _ _ h) ((tt, tt), (omega arith, tt))
+  scalar_is f max_key t h r = rw (un_ok _ _ h) ((tt, tt), (omega arith, tt))
+  scalar_is f (boolean b) t h r = rw (un_ok _ _ h) tt
+  scalar_is f (double p) t h r =
+      let b = bind_ok (or_finite (text_in D p)) _ t h in rw (un_ok _ _ b.2) ((tt, tt), (tt, tt))
+  scalar_is f (int32 z) t h r = rw (un_ok _ _ h) (int32_is f z r)
+  scalar_is f (int64 z) t h r = rw (un_ok _ _ h) (int64_is f z r)
+  scalar_is f (text s) t h r = rw (un_ok _ _ h) tt
+  scalar_is f (symbol s) t h r = rw (un_ok _ _ h) ((tt, tt), (tt, tt))
+  scalar_is f (code s) t h r = rw (un_ok _ _ h) ((tt, tt), (tt, tt))
+  scalar_is f (regex p o) t h r = rw (un_ok _ _ h) ((tt, tt), ((((refl, tt), (tt, tt)), (tt, (tt, tt))), tt))
+  scalar_is f (timestamp s i) t h r =
+      let a : s < 2 ^ 32 = r.0 in
+      let b : i < 2 ^ 32 = r.1 in
+      rw (un_ok _ _ h) ((tt, tt), ((((refl, tt), (tt, tt)), (omega arith, (omega arith, tt))), tt))
+  scalar_is f (binary k bytes) t h r = rw (un_ok _ _ h) ((tt, tt), ((((refl, tt), (tt, tt)), (tt, (tt, tt))), tt))
+  scalar_is f (object_id id) t h r = rw (un_ok _ _ h) ((tt, tt), (tt, tt))
+  scalar_is f (date z) t h r = rw (un_ok _ _ h) (date_is f z)
+  scalar_is f (decimal b) t h r = rw (un_ok _ _ h) ((tt, tt), (tt, tt))
+  scalar_is f (db_pointer s id) t h r =
+      rw (un_ok _ _ h) ((tt, tt), ((((refl, tt), (tt, tt)), (((tt, tt), (tt, tt)), (tt, tt))), tt))
 
--- ---- values
+  -- ---- values
 
-mutual
-  pub tree_is : (f : Form) (v : Value) (t : Data) → writes f v ≡ Ok t → InRange v → IsTree t
-  tree_is f (scalar x) t h r = scalar_is f x t h r
-  tree_is f (code_scope s ps) t h r =
-      let b = bind_ok (writes_pairs f ps) _ t h in
-      rw (un_ok _ _ b.2)
-      (two_is (codes "$code") (codes "$scope") (tree.string s) (tree.object b.0) refl tt (pairs_are f ps b.0 b.1 r))
-  tree_is f (array vs) t h r =
-      let b = bind_ok (writes_items f vs) _ t h in rw (un_ok _ _ b.2) (items_are f vs b.0 b.1 r)
-  tree_is f (document ps) t h r =
-      let b = bind_ok (writes_pairs f ps) _ t h in rw (un_ok _ _ b.2) (pairs_are f ps b.0 b.1 r)
+  mutual
+    pub tree_is : (f : Form) (v : Value) (t : Data) → writes_in D f v ≡ Ok t → InRange v → IsTree t
+    tree_is f (scalar x) t h r = scalar_is f x t h r
+    tree_is f (code_scope s ps) t h r =
+        let b = bind_ok (writes_pairs_in D f ps) _ t h in
+        rw (un_ok _ _ b.2)
+        (two_is (codes "$code") (codes "$scope") (tree.string s) (tree.object b.0) refl tt (pairs_are f ps b.0 b.1 r))
+    tree_is f (array vs) t h r =
+        let b = bind_ok (writes_items_in D f vs) _ t h in rw (un_ok _ _ b.2) (items_are f vs b.0 b.1 r)
+    tree_is f (document ps) t h r =
+        let b = bind_ok (writes_pairs_in D f ps) _ t h in rw (un_ok _ _ b.2) (pairs_are f ps b.0 b.1 r)
 
-  items_are : (f : Form) (vs : Values) (ds : Items) → writes_items f vs ≡ Ok ds → ItemsInRange vs → ItemsAreTrees ds
-  items_are f no_values ds h r = rw (un_ok _ _ h) tt
-  items_are f (value v vs) ds h r =
-      let b = bind_ok (writes f v) _ ds h in
-      let c = bind_ok (writes_items f vs) _ ds b.2 in
-      rw (un_ok _ _ c.2) (tree_is f v b.0 b.1 r.0, items_are f vs c.0 c.1 r.1)
+    items_are : (f : Form) (vs : Values) (ds : Items) → writes_items_in D f vs ≡ Ok ds → ItemsInRange vs → ItemsAreTrees ds
+    items_are f no_values ds h r = rw (un_ok _ _ h) tt
+    items_are f (value v vs) ds h r =
+        let b = bind_ok (writes_in D f v) _ ds h in
+        let c = bind_ok (writes_items_in D f vs) _ ds b.2 in
+        rw (un_ok _ _ c.2) (tree_is f v b.0 b.1 r.0, items_are f vs c.0 c.1 r.1)
 
-  pairs_are : (f : Form) (ps : Pairs) (ms : Members) → writes_pairs f ps ≡ Ok ms → PairsInRange ps
-      → Ascends ms × MembersAreTrees ms
-  pairs_are f no_pairs ms h r = rw (un_ok _ _ h) (tt, tt)
-  pairs_are f (pair k v ps) ms h r =
-      let b = bind_ok (writes f v) _ ms h in
-      let c = bind_ok (writes_pairs f ps) _ ms b.2 in
-      let rest = pairs_are f ps c.0 c.1 r.1 in
-      subst (λ m. Ascends m × MembersAreTrees m) (sym (un_ok _ _ c.2))
-      (ascends_put k b.0 c.0 rest.0, trees_put k b.0 c.0 (tree_is f v b.0 b.1 r.0) rest.1)
+    pairs_are : (f : Form) (ps : Pairs) (ms : Members) → writes_pairs_in D f ps ≡ Ok ms → PairsInRange ps
+        → Ascends ms × MembersAreTrees ms
+    pairs_are f no_pairs ms h r = rw (un_ok _ _ h) (tt, tt)
+    pairs_are f (pair k v ps) ms h r =
+        let b = bind_ok (writes_in D f v) _ ms h in
+        let c = bind_ok (writes_pairs_in D f ps) _ ms b.2 in
+        let rest = pairs_are f ps c.0 c.1 r.1 in
+        subst (λ m. Ascends m × MembersAreTrees m) (sym (un_ok _ _ c.2))
+        (ascends_put k b.0 c.0 rest.0, trees_put k b.0 c.0 (tree_is f v b.0 b.1 r.0) rest.1)

@@ -6,36 +6,56 @@ use Rattle.bson_wrapper.specs.Faults.{Fault, wrong_shape, wrong_id, IsIdFault}
 use Rattle.bson_wrapper.specs.declared.error.Error.{Error}
 use Rattle.bson_wrapper.specs.declared.error.Error.TheVariants.{InvalidObjectId, DeserializationError, OutOfMemory}
 use Rattle.bson_model.specs.Value.{Value, Pairs}
-use Rattle.bson_model.specs.Means.{Means, MeansDocument}
-use Rattle.bson_model.specs.Reading.{reads, reads_members}
+use Rattle.bson_model.specs.Means.{MeansIn, MeansDocumentIn}
+use Rattle.bson_model.specs.Reading.{reads_in, reads_members_in}
+use Rattle.bson_wrapper.specs.declared.form.Doubles.{Doubles}
+use Rattle.bson_wrapper.specs.declared.form.Doubles.TheVariants.{Special}
 
 abbrev pub fault_in : {A : Type 0} → Result A Fault → Fault
 fault_in (Err e) = e
 fault_in (Ok x) = wrong_shape
 
-abbrev pub fault_of : Data → Fault
-fault_of t = fault_in (reads t)
+abbrev pub fault_of_in : Doubles → Data → Fault
+fault_of_in D t = fault_in (reads_in D t)
 
 -- of a map's own values
-abbrev pub document_fault : Members → Fault
-document_fault ms = fault_in (reads_members ms)
+abbrev pub document_fault_in : Doubles → Members → Fault
+document_fault_in D ms = fault_in (reads_members_in D ms)
 
 -- the tree means nothing
-abbrev pub MeansNothing : Data → Type 0
-MeansNothing t = (v : Value) → Means t v → ⊥
+abbrev pub MeansNothingIn : Doubles → Data → Type 0
+MeansNothingIn D t = (v : Value) → MeansIn D t v → ⊥
 
 -- the error is that of the tree, which means nothing, or memory ran out
-abbrev pub IsFaultOf : Data → Error → Type 0
-IsFaultOf t OutOfMemory = Unit {0}
-IsFaultOf t (DeserializationError message) = MeansNothing t × (fault_of t ≡ wrong_shape)
-IsFaultOf t (InvalidObjectId e) = MeansNothing t × (s : List ℕ) × (fault_of t ≡ wrong_id s) × IsIdFault s e
+abbrev pub IsFaultOfIn : Doubles → Data → Error → Type 0
+IsFaultOfIn D t OutOfMemory = Unit {0}
+IsFaultOfIn D t (DeserializationError message) = MeansNothingIn D t × (fault_of_in D t ≡ wrong_shape)
+IsFaultOfIn D t (InvalidObjectId e) = MeansNothingIn D t × (s : List ℕ) × (fault_of_in D t ≡ wrong_id s) × IsIdFault s e
 
 -- the map is that of no document
+abbrev pub MeansNoDocumentIn : Doubles → Members → Type 0
+MeansNoDocumentIn D ms = (ps : Pairs) → MeansDocumentIn D ms ps → ⊥
+
+abbrev pub IsDocumentFaultIn : Doubles → Members → Error → Type 0
+IsDocumentFaultIn D ms OutOfMemory = Unit {0}
+IsDocumentFaultIn D ms (DeserializationError message) = MeansNoDocumentIn D ms × (document_fault_in D ms ≡ wrong_shape)
+IsDocumentFaultIn D ms (InvalidObjectId e) =
+    MeansNoDocumentIn D ms × (s : List ℕ) × (document_fault_in D ms ≡ wrong_id s) × IsIdFault s e
+
+abbrev pub fault_of : Data → Fault
+fault_of = fault_of_in Special
+
+abbrev pub document_fault : Members → Fault
+document_fault = document_fault_in Special
+
+abbrev pub MeansNothing : Data → Type 0
+MeansNothing = MeansNothingIn Special
+
+abbrev pub IsFaultOf : Data → Error → Type 0
+IsFaultOf = IsFaultOfIn Special
+
 abbrev pub MeansNoDocument : Members → Type 0
-MeansNoDocument ms = (ps : Pairs) → MeansDocument ms ps → ⊥
+MeansNoDocument = MeansNoDocumentIn Special
 
 abbrev pub IsDocumentFault : Members → Error → Type 0
-IsDocumentFault ms OutOfMemory = Unit {0}
-IsDocumentFault ms (DeserializationError message) = MeansNoDocument ms × (document_fault ms ≡ wrong_shape)
-IsDocumentFault ms (InvalidObjectId e) =
-    MeansNoDocument ms × (s : List ℕ) × (document_fault ms ≡ wrong_id s) × IsIdFault s e
+IsDocumentFault = IsDocumentFaultIn Special

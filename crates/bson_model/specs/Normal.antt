@@ -1,12 +1,14 @@
 -- Normal and narrowed forms, and what a value may be.
 use Rattle.std.specs.Prelude.{◌&&◌, Bool, true, is_none}
 use Rattle.bson_wrapper.specs.Scalar.{Scalar}
-use Rattle.bson_wrapper.specs.Normal.{normal_scalar, scalar_as_read, writable_scalar, ScalarInRange}
+use Rattle.bson_wrapper.specs.Normal.{normal_scalar, scalar_as_read, writable_scalar_in, ScalarInRange}
 use Rattle.bson_wrapper.specs.Table.{wrapper_of}
 use Rattle.bson_wrapper.specs.declared.form.Form.{Form}
 use Rattle.bson_wrapper.specs.declared.form.Form.TheVariants.{Canonical, Relaxed}
 use Rattle.bson_model.specs.Value.{Value, scalar, code_scope, array, document, Values, no_values, value, Pairs}
 use Rattle.bson_model.specs.Value.{no_pairs, pair}
+use Rattle.bson_wrapper.specs.declared.form.Doubles.{Doubles}
+use Rattle.bson_wrapper.specs.declared.form.Doubles.TheVariants.{Special}
 
 -- ---- the normal form
 
@@ -77,17 +79,26 @@ abbrev mutual
   PairsInRange (pair k v ps) = InRange v × PairsInRange ps
 
 abbrev mutual
-  -- each double in it is a zero, an infinity or a NaN
-  pub writable : Value → Bool
-  writable (scalar x) = writable_scalar x
-  writable (code_scope s ps) = writable_pairs ps
-  writable (array vs) = writable_items vs
-  writable (document ps) = writable_pairs ps
+  -- each double in it is a zero, an infinity or a NaN, or in the mode `Finite` any
+  pub writable_in : Doubles → Value → Bool
+  writable_in D (scalar x) = writable_scalar_in D x
+  writable_in D (code_scope s ps) = writable_pairs_in D ps
+  writable_in D (array vs) = writable_items_in D vs
+  writable_in D (document ps) = writable_pairs_in D ps
 
-  pub writable_items : Values → Bool
-  writable_items no_values = true
-  writable_items (value v vs) = writable v && writable_items vs
+  pub writable_items_in : Doubles → Values → Bool
+  writable_items_in D no_values = true
+  writable_items_in D (value v vs) = writable_in D v && writable_items_in D vs
 
-  pub writable_pairs : Pairs → Bool
-  writable_pairs no_pairs = true
-  writable_pairs (pair k v ps) = writable v && writable_pairs ps
+  pub writable_pairs_in : Doubles → Pairs → Bool
+  writable_pairs_in D no_pairs = true
+  writable_pairs_in D (pair k v ps) = writable_in D v && writable_pairs_in D ps
+
+abbrev pub writable : Value → Bool
+writable = writable_in Special
+
+abbrev pub writable_items : Values → Bool
+writable_items = writable_items_in Special
+
+abbrev pub writable_pairs : Pairs → Bool
+writable_pairs = writable_pairs_in Special

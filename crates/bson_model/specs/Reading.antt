@@ -5,11 +5,13 @@ use Rattle.std.specs.Str.{bytes_eq}
 use Rattle.serde_json.specs.Data.{Data, Items, no_items, item, Members, no_members, member}
 use Rattle.serde_json.specs.Data as tree
 use Rattle.bson_wrapper.specs.Faults.{Fault, wrong_shape, ◌>>=◌}
-use Rattle.bson_wrapper.specs.Reading.{number_read, single_at, on_text}
+use Rattle.bson_wrapper.specs.Reading.{number_read_in, single_at_in, on_text}
 use Rattle.bson_wrapper.specs.Scalar.{Scalar, null, boolean, text, code}
 use Rattle.bson_wrapper.specs.Table.{wrapper_of, has_wrapper}
 use Rattle.bson_model.specs.Value.{Value, scalar, code_scope, array, document, Values, no_values, value, Pairs}
 use Rattle.bson_model.specs.Value.{no_pairs, pair}
+use Rattle.bson_wrapper.specs.declared.form.Doubles.{Doubles}
+use Rattle.bson_wrapper.specs.declared.form.Doubles.TheVariants.{Special}
 
 abbrev pub scalar_value : Result Scalar Fault → Result Value Fault
 scalar_value r = r >>= λ s. Ok (scalar s)
@@ -28,34 +30,49 @@ code_at k d l scope = if bytes_eq k (codes "$code") && bytes_eq l (codes "$scope
     then on_text d (λ s. scope_value s scope) else Err wrong_shape
 
 abbrev mutual
-  pub reads : Data → Result Value Fault
-  reads tree.null = Ok (scalar null)
-  reads (tree.boolean b) = Ok (scalar (boolean b))
-  reads (tree.number n) = scalar_value (number_read n)
-  reads (tree.string s) = Ok (scalar (text s))
-  reads (tree.array ds) = reads_items ds >>= λ vs. Ok (array vs)
-  reads (tree.object ms) = if has_wrapper ms then reads_wrapper ms else (reads_members ms >>= λ ps. Ok (document ps))
+  pub reads_in : Doubles → Data → Result Value Fault
+  reads_in D tree.null = Ok (scalar null)
+  reads_in D (tree.boolean b) = Ok (scalar (boolean b))
+  reads_in D (tree.number n) = scalar_value (number_read_in D n)
+  reads_in D (tree.string s) = Ok (scalar (text s))
+  reads_in D (tree.array ds) = reads_items_in D ds >>= λ vs. Ok (array vs)
+  reads_in D (tree.object ms) = if has_wrapper ms then reads_wrapper_in D ms else (reads_members_in D ms >>= λ ps. Ok (document ps))
 
-  pub reads_items : Items → Result Values Fault
-  reads_items no_items = Ok no_values
-  reads_items (item d ds) = reads d >>= λ v. reads_items ds >>= λ vs. Ok (value v vs)
+  pub reads_items_in : Doubles → Items → Result Values Fault
+  reads_items_in D no_items = Ok no_values
+  reads_items_in D (item d ds) = reads_in D d >>= λ v. reads_items_in D ds >>= λ vs. Ok (value v vs)
 
   -- the values of a map by ascending key, whose own keys are not tested
-  pub reads_members : Members → Result Pairs Fault
-  reads_members no_members = Ok no_pairs
-  reads_members (member k d ms) = reads d >>= λ v. reads_members ms >>= λ ps. Ok (pair k v ps)
+  pub reads_members_in : Doubles → Members → Result Pairs Fault
+  reads_members_in D no_members = Ok no_pairs
+  reads_members_in D (member k d ms) = reads_in D d >>= λ v. reads_members_in D ms >>= λ ps. Ok (pair k v ps)
 
   -- a map with a wrapper key
-  pub reads_wrapper : Members → Result Value Fault
-  reads_wrapper no_members = Err wrong_shape
-  reads_wrapper (member k d no_members) = scalar_value (single_at (wrapper_of k) d)
-  reads_wrapper (member k d (member l e no_members)) = code_at k d l (reads_scope e)
-  reads_wrapper (member k d (member l e (member m f ms))) = Err wrong_shape
+  pub reads_wrapper_in : Doubles → Members → Result Value Fault
+  reads_wrapper_in D no_members = Err wrong_shape
+  reads_wrapper_in D (member k d no_members) = scalar_value (single_at_in D (wrapper_of k) d)
+  reads_wrapper_in D (member k d (member l e no_members)) = code_at k d l (reads_scope_in D e)
+  reads_wrapper_in D (member k d (member l e (member m f ms))) = Err wrong_shape
 
-  pub reads_scope : Data → Result (Option Pairs) Fault
-  reads_scope tree.null = Ok None
-  reads_scope (tree.boolean b) = Err wrong_shape
-  reads_scope (tree.number n) = Err wrong_shape
-  reads_scope (tree.string s) = Err wrong_shape
-  reads_scope (tree.array ds) = Err wrong_shape
-  reads_scope (tree.object ms) = reads_members ms >>= λ ps. Ok (Some ps)
+  pub reads_scope_in : Doubles → Data → Result (Option Pairs) Fault
+  reads_scope_in D tree.null = Ok None
+  reads_scope_in D (tree.boolean b) = Err wrong_shape
+  reads_scope_in D (tree.number n) = Err wrong_shape
+  reads_scope_in D (tree.string s) = Err wrong_shape
+  reads_scope_in D (tree.array ds) = Err wrong_shape
+  reads_scope_in D (tree.object ms) = reads_members_in D ms >>= λ ps. Ok (Some ps)
+
+abbrev pub reads : Data → Result Value Fault
+reads = reads_in Special
+
+abbrev pub reads_items : Items → Result Values Fault
+reads_items = reads_items_in Special
+
+abbrev pub reads_members : Members → Result Pairs Fault
+reads_members = reads_members_in Special
+
+abbrev pub reads_wrapper : Members → Result Value Fault
+reads_wrapper = reads_wrapper_in Special
+
+abbrev pub reads_scope : Data → Result (Option Pairs) Fault
+reads_scope = reads_scope_in Special

@@ -10,10 +10,12 @@ use Rattle.serde_json.specs.Read.{read, max_depth}
 use Rattle.serde_json.specs.Written.{has_float, compact_text}
 use Rattle.bson_wrapper.specs.declared.form.Form.{Form}
 use Rattle.bson_model.specs.Value.{Value}
-use Rattle.bson_model.specs.Means.{Means}
+use Rattle.bson_model.specs.Means.{MeansIn}
 use Rattle.bson_model.specs.Same.{same}
 use Rattle.bson_model.specs.Normal.{normal_form, as_read, plain, InRange}
-use Rattle.bson_model.specs.Written.{Written}
+use Rattle.bson_model.specs.Written.{WrittenIn}
+use Rattle.bson_wrapper.specs.declared.form.Doubles.{Doubles}
+use Rattle.bson_wrapper.specs.declared.form.Doubles.TheVariants.{Special}
 
 -- ---- the trees that `serde_json` has
 
@@ -58,25 +60,37 @@ HasOwnText t = (depth t ≤ max_depth → read (compact_text t) ≡ Some t)
 -- ---- texts of values
 
 -- the tree u of v, and the tree x of w
-abbrev pub HasEqualTexts : Form → Value → Data → Value → Data → Type 0
-HasEqualTexts f v u w x = plain w ≡ true → InRange w → Written f (normal_form w) x
+abbrev pub HasEqualTextsIn : Doubles → Form → Value → Data → Value → Data → Type 0
+HasEqualTextsIn D f v u w x = plain w ≡ true → InRange w → WrittenIn D f (normal_form w) x
     → ((compact_text u ≡ compact_text x) ↔ (same (as_read f (normal_form v)) (as_read f (normal_form w)) ≡ true))
 
 -- what the tree u of the value v in the form f, and its compact text, are
-pub record HasText (f : Form) (v : Value) (u : Data) : Type 0 where
-  pub written : Written f (normal_form v) u
+pub record HasTextIn (D : Doubles) (f : Form) (v : Value) (u : Data) : Type 0 where
+  pub written : WrittenIn D f (normal_form v) u
   pub is_tree : IsTree u
   -- the text is read as the tree again, unless it nests deeper than texts may
   pub read_again : depth u ≤ max_depth → read (compact_text u) ≡ Some u
   -- the tree means one value, the same as the normal form, and is the tree of that value too
-  pub means : (w : Value) × Means u w × (same w (as_read f (normal_form v)) ≡ true) × Written f (normal_form w) u
+  pub means : (w : Value) × MeansIn D u w × (same w (as_read f (normal_form v)) ≡ true) × WrittenIn D f (normal_form w) u
   -- no other value has the text
-  pub equal : (w : Value) (x : Data) → HasEqualTexts f v u w x
+  pub equal : (w : Value) (x : Data) → HasEqualTextsIn D f v u w x
 
 -- the same of a value that is plain, as each one is that was read
-abbrev pub ReadsAgain : Form → Value → Data → Type 0
-ReadsAgain f v u = plain v ≡ true → HasText f v u
+abbrev pub ReadsAgainIn : Doubles → Form → Value → Data → Type 0
+ReadsAgainIn D f v u = plain v ≡ true → HasTextIn D f v u
 
 -- the value has a tree in each form, which is read from its text again
+abbrev pub ComesBackIn : Doubles → Value → Type 0
+ComesBackIn D v = (f : Form) → (u : Data) × HasTextIn D f v u
+
+abbrev pub HasEqualTexts : Form → Value → Data → Value → Data → Type 0
+HasEqualTexts = HasEqualTextsIn Special
+
+abbrev pub HasText : Form → Value → Data → Type 0
+HasText = HasTextIn Special
+
+abbrev pub ReadsAgain : Form → Value → Data → Type 0
+ReadsAgain = ReadsAgainIn Special
+
 abbrev pub ComesBack : Value → Type 0
-ComesBack v = (f : Form) → (u : Data) × HasText f v u
+ComesBack = ComesBackIn Special

@@ -27,3 +27,10 @@ keys (pair k v ps) = k ∷ keys ps
 abbrev pub get : List ℕ → Pairs → Option Value
 get k no_pairs = None
 get k (pair l v ps) = cond (bytes_eq k l) (Some v) (get k ps)
+
+-- what holds of the scalar, where the value is one
+abbrev pub IfScalar : Value → (Scalar → Type 0) → Type 0
+IfScalar (scalar x) P = P x
+IfScalar (code_scope s ps) P = Unit {0}
+IfScalar (array vs) P = Unit {0}
+IfScalar (document ps) P = Unit {0}

@@ -1,15 +1,17 @@
 -- Equal texts, from what the writers say of each.
 use Rattle.std.proofs.Common.{◌≡◌, true, ℕ, List, sym, ◌∙◌}
 use Rattle.std.specs.Prelude.{◌↔◌}
-use Rattle.bson.specs.Texts.{IsTextIn}
+use Rattle.bson.specs.Texts.{IsTextUnder}
+use Rattle.bson.specs.Doubles.{Doubles}
 use Rattle.bson.specs.Form.{Form}
 use Rattle.bson.specs.Same.{same}
 use Rattle.bson.specs.Value.{Value}
 use Rattle.bson.specs.Normal.{normal_form, as_read, plain, InRange}
 
-pub texts_equal : (f : Form) (v w : Value) (s t : List ℕ) → IsTextIn f v s → IsTextIn f w t → InRange w → plain v ≡ true
-    → plain w ≡ true → (s ≡ t) ↔ (same (as_read f (normal_form v)) (as_read f (normal_form w)) ≡ true)
-texts_equal f v w s t a b r p q =
+pub texts_equal : (D : Doubles) (f : Form) (v w : Value) (s t : List ℕ) → IsTextUnder D f v s → IsTextUnder D f w t
+    → InRange w → plain v ≡ true → plain w ≡ true
+    → (s ≡ t) ↔ (same (as_read f (normal_form v)) (as_read f (normal_form w)) ≡ true)
+texts_equal D f v w s t a b r p q =
     let equal = (a.reads_again p).equal w b.tree q r b.is_tree.written in (
       λ is. equal.0 (sym a.compact ∙ is ∙ b.compact),
       λ is. a.compact ∙ equal.1 is ∙ sym b.compact,

@@ -1,14 +1,18 @@
-//! Whether two values have one canonical text, told from the public contracts of `bson` alone: an
-//! example of a caller whose contract is proved.
+//! Whether two values have one text, told from the public contracts of `bson` alone, and BSON bytes
+//! and texts of each other: an example of callers whose contracts are proved.
 #![tactic(auto)]
 
-ghost use Rattle.std.specs.Prelude.{◌≡◌, ◌↔◌, IfOk, true};
+ghost use Rattle.std.specs.Prelude.{◌≡◌, ◌↔◌, IfOk, Err, true};
 ghost use Rattle.bson.specs.View.{bson_view};
+ghost use Rattle.bson.specs.Doubles.TheVariants.{Finite};
 ghost use Rattle.bson.specs.Same.{same};
-ghost use Rattle.bson.specs.Normal.{normal_form, plain};
+ghost use Rattle.bson.specs.Normal.{normal_form, as_read, plain};
+ghost use Rattle.bson.specs.WriteError.{WriteError};
+
+pub mod bytes;
 
 use bson::Bson;
-use bson::extjson::WriteError;
+use bson::extjson::{Form, Options, WriteError};
 use std::alloc::Global;
 
 /// Whether the canonical texts of two values are equal. Of plain values, in which no document has a
@@ -24,5 +28,28 @@ pub fn have_one_text(alloc: Global, left: &Bson, right: &Bson) -> Result<bool, W
 {
     let first = left.to_canonical_text(alloc)?;
     let second = right.to_canonical_text(alloc)?;
+    Ok(first == second)
+}
+
+/// Whether the texts of two values in a form are equal, with the doubles that the options name. Of
+/// plain values they are equal exactly if the values' normal forms are the same, narrowed in the
+/// relaxed form.
+///
+/// With `Doubles::Finite` each value has a text: only want of memory may come in its place.
+pub fn have_one_text_with(
+    alloc: Global,
+    options: Options,
+    form: Form,
+    left: &Bson,
+    right: &Bson,
+) -> Result<bool, WriteError>
+    ensures pair { plain (bson_view left.now) ≡ true → plain (bson_view right.now) ≡ true
+        → IfOk result
+        (λ equal. (equal ≡ true) ↔ (same (as_read form (normal_form (bson_view left.now)))
+        (as_read form (normal_form (bson_view right.now))) ≡ true)) }
+    ensures every { options.doubles ≡ Finite → result ≡ Err WriteError.FiniteDouble → ⊥ }
+{
+    let first = left.to_text_with(alloc, options, form)?;
+    let second = right.to_text_with(alloc, options, form)?;
     Ok(first == second)
 }

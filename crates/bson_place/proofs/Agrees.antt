@@ -5,31 +5,16 @@ use Rattle.std.specs.Prelude.{codes}
 use Rattle.std.specs.declared.alloc.AllocError.{AllocError}
 use Rattle.serde_json.specs.Data.{Data, Items, Members, no_members, member}
 use Rattle.bson_wrapper.specs.Faults.{Fault, ◌>>=◌}
-use Rattle.bson_model.specs.Fault.{MeansNothing, fault_in, fault_of}
-use Rattle.bson_model.proofs.Offered.{means_to}
-use Rattle.bson_model.specs.Reading.{reads, reads_items, reads_members, scalar_value, scope_value}
-use Rattle.bson_place.specs.Place.{Turn, FaultAt, FaultAmong, FaultIn, number, array, document, wrapper, scope, shape}
+use Rattle.bson_wrapper.specs.declared.form.Doubles.{Doubles}
+use Rattle.bson_model.specs.Fault.{MeansNothingIn, fault_in, fault_of_in}
+use Rattle.bson_model.proofs.Offered.{means_to_in}
+use Rattle.bson_model.specs.Reading.{reads_in, reads_items_in, reads_members_in, scalar_value, scope_value}
+use Rattle.bson_place.specs.Place.{Turn, FaultAtIn, FaultAmongIn, FaultWithinIn, number, array, document, wrapper}
+use Rattle.bson_place.specs.Place.{scope, shape}
 use Rattle.bson_place.specs.Place.{here, later, at_key, behind, key, element, lone, code_with_scope}
-use Rattle.bson_place.specs.Place.{HasValue, IsFirstFault, IsPlace, IsReason, way_of}
+use Rattle.bson_place.specs.Place.{HasValueIn, IsFirstFaultIn, IsPlace, IsReason, way_of}
 use Rattle.bson_place.specs.declared.place.Place.{Place}
 use Rattle.bson_place.proofs.Steps.{wrapped}
-
-mutual
-  pub fault_to : {f : Fault} {t : Data} {way : List Turn} → FaultAt f t way → reads t ≡ Err f
-  fault_to (number n h) = ap scalar_value h
-  fault_to (array ds m) = rw (among_to m) refl
-  fault_to (document ms none m) = rw (none, in_to m) refl
-  fault_to (wrapper k d w h) = wrapped (member k d no_members) w ∙ ap scalar_value h
-  fault_to (scope s ms m) = ap (λ r. scope_value s (r >>= λ qs. Ok (Some qs))) (in_to m)
-  fault_to (shape ms w o h) = h
-
-  pub among_to : {f : Fault} {n : ℕ} {ds : Items} {way : List Turn} → FaultAmong f n ds way → reads_items ds ≡ Err f
-  among_to (here n d ds m) = rw (fault_to m) refl
-  among_to (later n d v ds e m) = rw (e, among_to m) refl
-
-  pub in_to : {f : Fault} {ms : Members} {way : List Turn} → FaultIn f ms way → reads_members ms ≡ Err f
-  in_to (at_key k d ms m) = rw (fault_to m) refl
-  in_to (behind k d v ms e m) = rw (e, in_to m) refl
 
 both : {A : Type 0} {x : Result A Fault} {v : A} {f : Fault} → x ≡ Ok v → x ≡ Err f → ⊥
 both e h = let same = sym e ∙ h in cc
@@ -37,53 +22,73 @@ both e h = let same = sym e ∙ h in cc
 neither : {b : Bool} → b ≡ true → b ≡ false → ⊥
 neither e h = let same = sym e ∙ h in cc
 
-mutual
-  pub one_way : {f g : Fault} {t : Data} {w x : List Turn} → FaultAt f t w → FaultAt g t x → w ≡ x
-  one_way (number n h) (number m e) = refl
-  one_way (array ds a) (array es b) = one_among a b
-  one_way (document ms n a) (document ns m b) = one_in a b
-  one_way (document ms n a) (wrapper k d w h) = absurd (neither w n)
-  one_way (document ms n a) (scope s ns b) = absurd (neither refl n)
-  one_way (document ms n a) (shape ns w o h) = absurd (neither w n)
-  one_way (wrapper k d w h) (document ms n a) = absurd (neither w n)
-  one_way (wrapper k d w h) (wrapper l e v i) = refl
-  one_way (wrapper k d w h) (shape ns v o i) = absurd (o (lone k d))
-  one_way (scope s ms a) (document ns n b) = absurd (neither refl n)
-  one_way (scope s ms a) (scope r ns b) = ap (λ y. y ++ key (codes "$scope") ∷ []) (one_in a b)
-  one_way (scope s ms a) (shape ns v o i) = absurd (o (code_with_scope s ms))
-  one_way (shape ns w o h) (document ms n a) = absurd (neither w n)
-  one_way (shape ns w o h) (wrapper k d v i) = absurd (o (lone k d))
-  one_way (shape ns w o h) (scope s ms a) = absurd (o (code_with_scope s ms))
-  one_way (shape ns w o h) (shape ms v p i) = refl
+module _ (D : Doubles) where
+  mutual
+    pub fault_to : {f : Fault} {t : Data} {way : List Turn} → FaultAtIn D f t way → reads_in D t ≡ Err f
+    fault_to (number n h) = ap scalar_value h
+    fault_to (array ds m) = rw (among_to m) refl
+    fault_to (document ms none m) = rw (none, in_to m) refl
+    fault_to (wrapper k d w h) = wrapped D (member k d no_members) w ∙ ap scalar_value h
+    fault_to (scope s ms m) = ap (λ r. scope_value s (r >>= λ qs. Ok (Some qs))) (in_to m)
+    fault_to (shape ms w o h) = h
 
-  one_among : {f g : Fault} {n : ℕ} {ds : Items} {w x : List Turn} → FaultAmong f n ds w → FaultAmong g n ds x → w ≡ x
-  one_among (here n d ds a) (here m e es b) = ap (λ y. y ++ element n ∷ []) (one_way a b)
-  one_among (here n d ds a) (later m e v es h b) = absurd (both h (fault_to a))
-  one_among (later n d v ds h a) (here m e es b) = absurd (both h (fault_to b))
-  one_among (later n d v ds h a) (later m e u es i b) = one_among a b
+    pub among_to : {f : Fault} {n : ℕ} {ds : Items} {way : List Turn} → FaultAmongIn D f n ds way
+        → reads_items_in D ds ≡ Err f
+    among_to (here n d ds m) = rw (fault_to m) refl
+    among_to (later n d v ds e m) = rw (e, among_to m) refl
 
-  one_in : {f g : Fault} {ms : Members} {w x : List Turn} → FaultIn f ms w → FaultIn g ms x → w ≡ x
-  one_in (at_key k d ms a) (at_key l e ns b) = ap (λ y. y ++ key k ∷ []) (one_way a b)
-  one_in (at_key k d ms a) (behind l e v ns h b) = absurd (both h (fault_to a))
-  one_in (behind k d v ms h a) (at_key l e ns b) = absurd (both h (fault_to b))
-  one_in (behind k d v ms h a) (behind l e u ns i b) = one_in a b
+    pub in_to : {f : Fault} {ms : Members} {way : List Turn} → FaultWithinIn D f ms way → reads_members_in D ms ≡ Err f
+    in_to (at_key k d ms m) = rw (fault_to m) refl
+    in_to (behind k d v ms e m) = rw (e, in_to m) refl
 
-pub one_fault : {f g : Fault} {t : Data} {w x : List Turn} → FaultAt f t w → FaultAt g t x → f ≡ g
-one_fault a b = let same = sym (fault_to a) ∙ fault_to b in cc
+  mutual
+    pub one_way : {f g : Fault} {t : Data} {w x : List Turn} → FaultAtIn D f t w → FaultAtIn D g t x → w ≡ x
+    one_way (number n h) (number m e) = refl
+    one_way (array ds a) (array es b) = one_among a b
+    one_way (document ms n a) (document ns m b) = one_in a b
+    one_way (document ms n a) (wrapper k d w h) = absurd (neither w n)
+    one_way (document ms n a) (scope s ns b) = absurd (neither refl n)
+    one_way (document ms n a) (shape ns w o h) = absurd (neither w n)
+    one_way (wrapper k d w h) (document ms n a) = absurd (neither w n)
+    one_way (wrapper k d w h) (wrapper l e v i) = refl
+    one_way (wrapper k d w h) (shape ns v o i) = absurd (o (lone k d))
+    one_way (scope s ms a) (document ns n b) = absurd (neither refl n)
+    one_way (scope s ms a) (scope r ns b) = ap (λ y. y ++ key (codes "$scope") ∷ []) (one_in a b)
+    one_way (scope s ms a) (shape ns v o i) = absurd (o (code_with_scope s ms))
+    one_way (shape ns w o h) (document ms n a) = absurd (neither w n)
+    one_way (shape ns w o h) (wrapper k d v i) = absurd (o (lone k d))
+    one_way (shape ns w o h) (scope s ms a) = absurd (o (code_with_scope s ms))
+    one_way (shape ns w o h) (shape ms v p i) = refl
 
-pub means_nothing : {f : Fault} {t : Data} {way : List Turn} → FaultAt f t way → MeansNothing t
-means_nothing a v m = absurd (both (means_to m) (fault_to a))
+    one_among : {f g : Fault} {n : ℕ} {ds : Items} {w x : List Turn} → FaultAmongIn D f n ds w
+        → FaultAmongIn D g n ds x → w ≡ x
+    one_among (here n d ds a) (here m e es b) = ap (λ y. y ++ element n ∷ []) (one_way a b)
+    one_among (here n d ds a) (later m e v es h b) = absurd (both h (fault_to a))
+    one_among (later n d v ds h a) (here m e es b) = absurd (both h (fault_to b))
+    one_among (later n d v ds h a) (later m e u es i b) = one_among a b
 
--- the fault that was found is that of the tree, which means nothing
-pub first_found : (t : Data) (r : Result (Option Place) AllocError)
-    → IfOk r (λ found. MatchOption found (HasValue t) (IsPlace (λ f. FaultAt f t)))
-    → IfOk r (λ found. MatchOption found (HasValue t) (IsFirstFault t))
-first_found t (Ok None) h = h
-first_found t (Ok (Some place)) h =
-    let first : h.fault ≡ fault_of t = ap fault_in (sym (fault_to h.way)) in
-    record {
-      nothing = means_nothing h.way;
-      way = subst (λ f. FaultAt f t (way_of place)) first h.way;
-      reason = subst (λ f. IsReason f place.reason) first h.reason;
-    }
-first_found t (Err e) h = tt
+    one_in : {f g : Fault} {ms : Members} {w x : List Turn} → FaultWithinIn D f ms w → FaultWithinIn D g ms x → w ≡ x
+    one_in (at_key k d ms a) (at_key l e ns b) = ap (λ y. y ++ key k ∷ []) (one_way a b)
+    one_in (at_key k d ms a) (behind l e v ns h b) = absurd (both h (fault_to a))
+    one_in (behind k d v ms h a) (at_key l e ns b) = absurd (both h (fault_to b))
+    one_in (behind k d v ms h a) (behind l e u ns i b) = one_in a b
+
+  pub one_fault : {f g : Fault} {t : Data} {w x : List Turn} → FaultAtIn D f t w → FaultAtIn D g t x → f ≡ g
+  one_fault a b = let same = sym (fault_to a) ∙ fault_to b in cc
+
+  pub means_nothing : {f : Fault} {t : Data} {way : List Turn} → FaultAtIn D f t way → MeansNothingIn D t
+  means_nothing a v m = absurd (both (means_to_in D m) (fault_to a))
+
+  -- the fault that was found is that of the tree, which means nothing
+  pub first_found : (t : Data) (r : Result (Option Place) AllocError)
+      → IfOk r (λ found. MatchOption found (HasValueIn D t) (IsPlace (λ f. FaultAtIn D f t)))
+      → IfOk r (λ found. MatchOption found (HasValueIn D t) (IsFirstFaultIn D t))
+  first_found t (Ok None) h = h
+  first_found t (Ok (Some place)) h =
+      let first : h.fault ≡ fault_of_in D t = ap fault_in (sym (fault_to h.way)) in
+      record {
+        nothing = means_nothing h.way;
+        way = subst (λ f. FaultAtIn D f t (way_of place)) first h.way;
+        reason = subst (λ f. IsReason f place.reason) first h.reason;
+      }
+  first_found t (Err e) h = tt

@@ -4,11 +4,13 @@ use Rattle.std.specs.Fmt.{decimal}
 use Rattle.serde_json.specs.Data.{Data, Num, Items, item, Members, no_members, member}
 use Rattle.serde_json.specs.Data as tree
 use Rattle.bson_wrapper.specs.Faults.{Fault, wrong_shape, wrong_id, IsIdFault}
-use Rattle.bson_wrapper.specs.Reading.{number_read, single_at}
+use Rattle.bson_wrapper.specs.Reading.{number_read_in, single_at_in}
 use Rattle.bson_wrapper.specs.Shapes.{object_of_two}
 use Rattle.bson_wrapper.specs.Table.{wrapper_of, has_wrapper}
-use Rattle.bson_model.specs.Fault.{MeansNothing, fault_of}
-use Rattle.bson_model.specs.Reading.{reads, reads_scope}
+use Rattle.bson_wrapper.specs.declared.form.Doubles.{Doubles}
+use Rattle.bson_wrapper.specs.declared.form.Doubles.TheVariants.{Special}
+use Rattle.bson_model.specs.Fault.{MeansNothingIn, fault_of_in}
+use Rattle.bson_model.specs.Reading.{reads_in, reads_scope_in}
 use Rattle.bson_model.specs.Value.{Value, Pairs}
 use Rattle.bson_place.specs.declared.place.Step.{Step}
 use Rattle.bson_place.specs.declared.place.Step.TheVariants as declared
@@ -54,36 +56,36 @@ pub data IsOpen : Members → Type 0 where
 
 mutual
   -- the first fault of the tree, and the way from it outward
-  pub data FaultAt : Fault → Data → List Turn → Type 0 where
-    -- a number that is no i64
-    number : (n : Num) → number_read n ≡ Err wrong_shape → FaultAt wrong_shape (tree.number n) []
-    array : {f : Fault} {way : List Turn} (ds : Items) → FaultAmong f 0 ds way → FaultAt f (tree.array ds) way
-    document : {f : Fault} {way : List Turn} (ms : Members) → has_wrapper ms ≡ false → FaultIn f ms way
-        → FaultAt f (tree.object ms) way
+  pub data FaultAtIn (D : Doubles) : Fault → Data → List Turn → Type 0 where
+    -- a number that is no i64; where finite doubles are read, one whose nearest double is not finite
+    number : (n : Num) → number_read_in D n ≡ Err wrong_shape → FaultAtIn D wrong_shape (tree.number n) []
+    array : {f : Fault} {way : List Turn} (ds : Items) → FaultAmongIn D f 0 ds way → FaultAtIn D f (tree.array ds) way
+    document : {f : Fault} {way : List Turn} (ms : Members) → has_wrapper ms ≡ false → FaultWithinIn D f ms way
+        → FaultAtIn D f (tree.object ms) way
     -- what stands at the key of a wrapper
     wrapper : {f : Fault} (k : List ℕ) (d : Data) → has_wrapper (member k d no_members) ≡ true
-        → single_at (wrapper_of k) d ≡ Err f
-        → FaultAt f (tree.object (member k d no_members)) (key k ∷ [])
-    scope : {f : Fault} {way : List Turn} (s : List ℕ) (ms : Members) → FaultIn f ms way
-        → FaultAt f (object_of_two (codes "$code") (tree.string s) (codes "$scope") (tree.object ms)) (way
+        → single_at_in D (wrapper_of k) d ≡ Err f
+        → FaultAtIn D f (tree.object (member k d no_members)) (key k ∷ [])
+    scope : {f : Fault} {way : List Turn} (s : List ℕ) (ms : Members) → FaultWithinIn D f ms way
+        → FaultAtIn D f (object_of_two (codes "$code") (tree.string s) (codes "$scope") (tree.object ms)) (way
         ++ key (codes "$scope") ∷ [])
     -- an object with a wrapper key that has the shape of no wrapper
-    shape : (ms : Members) → has_wrapper ms ≡ true → (IsOpen ms → ⊥) → reads (tree.object ms) ≡ Err wrong_shape
-        → FaultAt wrong_shape (tree.object ms) []
+    shape : (ms : Members) → has_wrapper ms ≡ true → (IsOpen ms → ⊥) → reads_in D (tree.object ms) ≡ Err wrong_shape
+        → FaultAtIn D wrong_shape (tree.object ms) []
 
   -- of elements, the first of which has this place in its list
-  pub data FaultAmong : Fault → ℕ → Items → List Turn → Type 0 where
-    here : {f : Fault} {way : List Turn} (n : ℕ) (d : Data) (ds : Items) → FaultAt f d way
-        → FaultAmong f n (item d ds) (way ++ element n ∷ [])
-    later : {f : Fault} {way : List Turn} (n : ℕ) (d : Data) (v : Value) (ds : Items) → reads d ≡ Ok v
-        → FaultAmong f (n + 1) ds way → FaultAmong f n (item d ds) way
+  pub data FaultAmongIn (D : Doubles) : Fault → ℕ → Items → List Turn → Type 0 where
+    here : {f : Fault} {way : List Turn} (n : ℕ) (d : Data) (ds : Items) → FaultAtIn D f d way
+        → FaultAmongIn D f n (item d ds) (way ++ element n ∷ [])
+    later : {f : Fault} {way : List Turn} (n : ℕ) (d : Data) (v : Value) (ds : Items) → reads_in D d ≡ Ok v
+        → FaultAmongIn D f (n + 1) ds way → FaultAmongIn D f n (item d ds) way
 
   -- of the values of a map, by ascending key
-  pub data FaultIn : Fault → Members → List Turn → Type 0 where
-    at_key : {f : Fault} {way : List Turn} (k : List ℕ) (d : Data) (ms : Members) → FaultAt f d way
-        → FaultIn f (member k d ms) (way ++ key k ∷ [])
-    behind : {f : Fault} {way : List Turn} (k : List ℕ) (d : Data) (v : Value) (ms : Members) → reads d ≡ Ok v
-        → FaultIn f ms way → FaultIn f (member k d ms) way
+  pub data FaultWithinIn (D : Doubles) : Fault → Members → List Turn → Type 0 where
+    at_key : {f : Fault} {way : List Turn} (k : List ℕ) (d : Data) (ms : Members) → FaultAtIn D f d way
+        → FaultWithinIn D f (member k d ms) (way ++ key k ∷ [])
+    behind : {f : Fault} {way : List Turn} (k : List ℕ) (d : Data) (v : Value) (ms : Members) → reads_in D d ≡ Ok v
+        → FaultWithinIn D f ms way → FaultWithinIn D f (member k d ms) way
 
 -- ---- what is found
 
@@ -99,24 +101,41 @@ pub record IsPlace (lies : Fault → List Turn → Type 0) (place : Place) : Typ
   pub reason : IsReason fault place.reason
 
 -- the tree means nothing, and its first fault lies at the place, for its reason
-pub record IsFirstFault (t : Data) (place : Place) : Type 0 where
-  pub nothing : MeansNothing t
-  pub way : FaultAt (fault_of t) t (way_of place)
-  pub reason : IsReason (fault_of t) place.reason
+pub record IsFirstFaultIn (D : Doubles) (t : Data) (place : Place) : Type 0 where
+  pub nothing : MeansNothingIn D t
+  pub way : FaultAtIn D (fault_of_in D t) t (way_of place)
+  pub reason : IsReason (fault_of_in D t) place.reason
 
 -- the tree has a value
-abbrev pub HasValue : Data → Type 0
-HasValue t = (v : Value) × (reads t ≡ Ok v)
+abbrev pub HasValueIn : Doubles → Data → Type 0
+HasValueIn D t = (v : Value) × (reads_in D t ≡ Ok v)
 
 -- ---- for private clauses
 
 -- the tree is a scope
-abbrev pub HasScope : Data → Type 0
-HasScope d = (ps : Option Pairs) × (reads_scope d ≡ Ok ps)
+abbrev pub HasScopeIn : Doubles → Data → Type 0
+HasScopeIn D d = (ps : Option Pairs) × (reads_scope_in D d ≡ Ok ps)
 
 -- why a tree is no scope, and the way from the fault to the object that it stands in
-pub data IsScopeFault : Data → Fault → List Turn → Type 0 where
-  in_scope : {f : Fault} {way : List Turn} (ms : Members) → FaultIn f ms way
-      → IsScopeFault (tree.object ms) f (way ++ key (codes "$scope") ∷ [])
-  no_scope : (d : Data) → ((ms : Members) → d ≡ tree.object ms → ⊥) → reads_scope d ≡ Err wrong_shape
-      → IsScopeFault d wrong_shape []
+pub data IsScopeFaultIn (D : Doubles) : Data → Fault → List Turn → Type 0 where
+  in_scope : {f : Fault} {way : List Turn} (ms : Members) → FaultWithinIn D f ms way
+      → IsScopeFaultIn D (tree.object ms) f (way ++ key (codes "$scope") ∷ [])
+  no_scope : (d : Data) → ((ms : Members) → d ≡ tree.object ms → ⊥) → reads_scope_in D d ≡ Err wrong_shape
+      → IsScopeFaultIn D d wrong_shape []
+
+-- ---- where no finite doubles are read
+
+abbrev pub FaultAt : Fault → Data → List Turn → Type 0
+FaultAt = FaultAtIn Special
+
+abbrev pub FaultAmong : Fault → ℕ → Items → List Turn → Type 0
+FaultAmong = FaultAmongIn Special
+
+abbrev pub FaultIn : Fault → Members → List Turn → Type 0
+FaultIn = FaultWithinIn Special
+
+abbrev pub IsFirstFault : Data → Place → Type 0
+IsFirstFault = IsFirstFaultIn Special
+
+abbrev pub HasValue : Data → Type 0
+HasValue = HasValueIn Special

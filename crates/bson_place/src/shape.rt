@@ -4,11 +4,9 @@ ghost use Rattle.bson_place.specs.Shape.{alone_text, wrapper_in};
 ghost use Rattle.bson_wrapper.specs.Table.{has_wrapper};
 ghost use Rattle.serde_json.specs.View.{members_view};
 
+pub use bson_wrapper::doubles::NUMBER;
 use bson_wrapper::wrapper::{Wrapper, named};
 use serde_json::{Map, Value};
-
-/// Of a number that is no i64.
-pub const NUMBER: &str = "a number is no whole number of 64 bits";
 
 /// Of code that is no text, beside a scope.
 pub const CODE: &str = "`$code` holds a text";

@@ -1,22 +1,25 @@
 //! How the place of a fault is found.
 ghost use Rattle.std.specs.Prelude.{◌≡◌, ◌∷◌, [], ◌++◌, ℕ, List, true, IfOk, MatchBool};
-ghost use Rattle.std.specs.Prelude.{MatchOption, Ok, codes, string_bytes};
+ghost use Rattle.std.specs.Prelude.{MatchOption, Result, Ok, Err, codes, string_bytes};
 ghost use Rattle.serde_json.specs.View.{view, number_view, items_view, members_view};
 ghost use Rattle.serde_json.specs.Data.{number, string, object, member, no_members};
 ghost use Rattle.bson_wrapper.specs.Table.{has_wrapper};
 ghost use Rattle.bson_wrapper.specs.Shapes.{object_of_two};
-ghost use Rattle.bson_wrapper.specs.Faults.{wrong_shape};
-ghost use Rattle.bson_model.specs.Reading.{reads_items, reads_members};
+ghost use Rattle.bson_wrapper.specs.Faults.{Fault, Fails, wrong_shape};
+ghost use Rattle.bson_wrapper.specs.Scalar.{Scalar};
+ghost use Rattle.bson_model.specs.Reading.{reads_items_in, reads_members_in};
 ghost use Rattle.bson_model.specs.Value.{Values, Pairs};
-ghost use Rattle.bson_place.specs.Place.{FaultAt, FaultAmong, FaultIn, HasScope, HasValue};
-ghost use Rattle.bson_place.specs.Place.{IsFirstFault, IsPlace, IsReason, IsScopeFault, key as at};
+ghost use Rattle.bson_place.specs.Place.{FaultAtIn, FaultAmongIn, FaultWithinIn, HasScopeIn, HasValue, HasValueIn};
+ghost use Rattle.bson_place.specs.Place.{IsFirstFault, IsFirstFaultIn, IsPlace, IsReason, IsScopeFaultIn, key as turn};
 ghost use Rattle.bson_place.specs.Place.{turn_of, way_of};
 
 use crate::place::{Place, Reason, Step};
-use crate::shape::{CODE, NUMBER, SCOPE, beside_others, first_wrapper};
+use crate::shape::{CODE, SCOPE, beside_others, first_wrapper};
 use bson_wrapper::code::is_code_with_scope;
+use bson_wrapper::doubles::read_number;
 use bson_wrapper::error::Error;
-use bson_wrapper::read::read_single;
+use bson_wrapper::form::Doubles;
+use bson_wrapper::read::read_single_in;
 use bson_wrapper::wrapper::Wrapper;
 use serde_json::{Map, Number, Value};
 use std::alloc::{AllocError, Global};
@@ -31,21 +34,45 @@ use std::alloc::{AllocError, Global};
 pub fn place_of_fault(alloc: Global, tree: &Value) -> Result<Option<Place>, AllocError>
     ensures { IfOk result (λ found. MatchOption found (HasValue (view tree.now)) (IsFirstFault (view tree.now))) }
 {
-    walk(alloc, tree)
+    place_of_fault_in(alloc, Doubles::Special, tree)
+}
+
+/// The first fault of the tree, as `place_of_fault` finds it, in either mode of doubles: where
+/// finite ones are read, a number is at fault only where its nearest double is not finite.
+pub fn place_of_fault_in(
+    alloc: Global,
+    doubles: Doubles,
+    tree: &Value,
+) -> Result<Option<Place>, AllocError>
+    ensures { IfOk result
+        (λ found. MatchOption found (HasValueIn doubles (view tree.now)) (IsFirstFaultIn doubles (view tree.now))) }
+{
+    walk(alloc, doubles, tree)
 }
 
 #[cycle(walk)]
-fn walk(alloc: Global, tree: &Value) -> Result<Option<Place>, AllocError>
+fn walk(alloc: Global, doubles: Doubles, tree: &Value) -> Result<Option<Place>, AllocError>
     ensures { IfOk result
-        (λ found. MatchOption found (HasValue (view tree.now)) (IsPlace (λ f. FaultAt f (view tree.now)))) }
+        (λ found. MatchOption found (HasValueIn doubles (view tree.now))
+        (IsPlace (λ f. FaultAtIn doubles f (view tree.now)))) }
 {
     match tree {
         Value::Null => Ok(None),
         Value::Bool(_) => Ok(None),
-        Value::Number(n) => Ok(of_number(alloc, *n)),
+        Value::Number(n) => of_number(alloc, doubles, n),
         Value::String(_) => Ok(None),
-        Value::Array(items) => of_items(alloc, items),
-        Value::Object(members) => of_object(alloc, members),
+        Value::Array(items) => of_items(alloc, doubles, items),
+        Value::Object(members) => of_object(alloc, doubles, members),
+    }
+}
+
+fn at(alloc: Global, reason: Reason) -> Place
+    ensures reason { result.reason ≡ reason }
+    ensures way { way_of result ≡ [] }
+{
+    Place {
+        reason,
+        steps: Vec::new(alloc),
     }
 }
 
@@ -54,19 +81,29 @@ fn here(alloc: Global, message: &'static str) -> Place
     ensures reason { IsReason wrong_shape result.reason }
     ensures way { way_of result ≡ [] }
 {
-    Place {
-        reason: Reason::WrongShape(message),
-        steps: Vec::new(alloc),
+    at(alloc, Reason::WrongShape(message))
+}
+
+// Why a scalar was not read.
+fn reason_of(error: Error) -> Result<Reason, AllocError>
+    ensures { IfOk result (λ reason. (read : Result Scalar Fault) → Fails error read
+        → (f : Fault) × (read ≡ Err f) × IsReason f reason) }
+{
+    match error {
+        Error::InvalidObjectId(id) => Ok(Reason::BadObjectId(id)),
+        Error::DeserializationError { message } => Ok(Reason::WrongShape(message)),
+        Error::OutOfMemory => Err(AllocError),
     }
 }
 
-fn of_number(alloc: Global, n: Number) -> Option<Place>
-    ensures { MatchOption result (HasValue (number (number_view n)))
-        (IsPlace (λ f. FaultAt f (number (number_view n)))) }
+fn of_number(alloc: Global, doubles: Doubles, n: &Number) -> Result<Option<Place>, AllocError>
+    ensures { IfOk result
+        (λ found. MatchOption found (HasValueIn doubles (number (number_view n.now)))
+        (IsPlace (λ f. FaultAtIn doubles f (number (number_view n.now))))) }
 {
-    match n.as_i64() {
-        Some(_) => None,
-        None => Some(here(alloc, NUMBER)),
+    match read_number(doubles, n) {
+        Ok(_) => Ok(None),
+        Err(error) => Ok(Some(at(alloc, reason_of(error)?))),
     }
 }
 
@@ -82,21 +119,25 @@ fn inside(place: Place, step: Step) -> Result<Place, AllocError>
 
 // The place of a fault in what stands at the key.
 fn under(alloc: Global, place: Place, key: &str) -> Result<Place, AllocError>
-    ensures way { IfOk result (λ p. way_of p ≡ way_of place ++ at key.now ∷ []) }
+    ensures way { IfOk result (λ p. way_of p ≡ way_of place ++ turn key.now ∷ []) }
     ensures reason { IfOk result (λ p. p.reason ≡ place.reason) }
 {
     inside(place, Step::Key(String::from_str(alloc, key)?))
 }
 
 #[cycle(walk)]
-fn of_items(alloc: Global, items: &Vec<Value>) -> Result<Option<Place>, AllocError>
+fn of_items(
+    alloc: Global,
+    doubles: Doubles,
+    items: &Vec<Value>,
+) -> Result<Option<Place>, AllocError>
     ensures { IfOk result
-        (λ found. MatchOption found ((vs : Values) × (reads_items (items_view items.now.items) ≡ Ok vs))
-        (IsPlace (λ f. FaultAmong f 0 (items_view items.now.items)))) }
+        (λ found. MatchOption found ((vs : Values) × (reads_items_in doubles (items_view items.now.items) ≡ Ok vs))
+        (IsPlace (λ f. FaultAmongIn doubles f 0 (items_view items.now.items)))) }
 {
     let mut at = 0usize;
     for item in items {
-        match walk(alloc, item)? {
+        match walk(alloc, doubles, item)? {
             None => at += 1,
             Some(place) => return Ok(Some(inside(place, Step::Element(at))?)),
         }
@@ -105,13 +146,18 @@ fn of_items(alloc: Global, items: &Vec<Value>) -> Result<Option<Place>, AllocErr
 }
 
 #[cycle(walk)]
-fn of_members(alloc: Global, members: &Map<String, Value>) -> Result<Option<Place>, AllocError>
+fn of_members(
+    alloc: Global,
+    doubles: Doubles,
+    members: &Map<String, Value>,
+) -> Result<Option<Place>, AllocError>
     ensures { IfOk result
-        (λ found. MatchOption found ((ps : Pairs) × (reads_members (members_view members.now.entries) ≡ Ok ps))
-        (IsPlace (λ f. FaultIn f (members_view members.now.entries)))) }
+        (λ found.
+        MatchOption found ((ps : Pairs) × (reads_members_in doubles (members_view members.now.entries) ≡ Ok ps))
+        (IsPlace (λ f. FaultWithinIn doubles f (members_view members.now.entries)))) }
 {
     for (key, value) in members.iter() {
-        match walk(alloc, value)? {
+        match walk(alloc, doubles, value)? {
             None => {}
             Some(place) => return Ok(Some(under(alloc, place, key.as_str())?)),
         }
@@ -120,14 +166,18 @@ fn of_members(alloc: Global, members: &Map<String, Value>) -> Result<Option<Plac
 }
 
 #[cycle(walk)]
-fn of_object(alloc: Global, members: &Map<String, Value>) -> Result<Option<Place>, AllocError>
+fn of_object(
+    alloc: Global,
+    doubles: Doubles,
+    members: &Map<String, Value>,
+) -> Result<Option<Place>, AllocError>
     ensures { IfOk result
-        (λ found. MatchOption found (HasValue (object (members_view members.now.entries)))
-        (IsPlace (λ f. FaultAt f (object (members_view members.now.entries))))) }
+        (λ found. MatchOption found (HasValueIn doubles (object (members_view members.now.entries)))
+        (IsPlace (λ f. FaultAtIn doubles f (object (members_view members.now.entries))))) }
 {
     match first_wrapper(members) {
-        Some(wrapper) => of_wrapper(alloc, members, wrapper),
-        None => of_members(alloc, members),
+        Some(wrapper) => of_wrapper(alloc, doubles, members, wrapper),
+        None => of_members(alloc, doubles, members),
     }
 }
 
@@ -135,20 +185,21 @@ fn of_object(alloc: Global, members: &Map<String, Value>) -> Result<Option<Place
 #[cycle(walk)]
 fn of_wrapper(
     alloc: Global,
+    doubles: Doubles,
     members: &Map<String, Value>,
     wrapper: Wrapper,
 ) -> Result<Option<Place>, AllocError>
     requires { has_wrapper (members_view members.now.entries) ≡ true }
     ensures { IfOk result
-        (λ found. MatchOption found (HasValue (object (members_view members.now.entries)))
-        (IsPlace (λ f. FaultAt f (object (members_view members.now.entries))))) }
+        (λ found. MatchOption found (HasValueIn doubles (object (members_view members.now.entries)))
+        (IsPlace (λ f. FaultAtIn doubles f (object (members_view members.now.entries))))) }
 {
     let mut pairs = members.iter();
     let Some((key, value)) = pairs.next() else {
         unreachable!();
     };
     let Some((other, scope)) = pairs.next() else {
-        return of_lone(alloc, key.as_str(), value);
+        return of_lone(alloc, doubles, key.as_str(), value);
     };
     if let Some((_third, _held)) = pairs.next() {
         return Ok(Some(here(alloc, beside_others(wrapper))));
@@ -156,51 +207,54 @@ fn of_wrapper(
     if !is_code_with_scope(key.as_str(), other.as_str()) {
         return Ok(Some(here(alloc, beside_others(wrapper))));
     }
-    of_code(alloc, scope, value)
+    of_code(alloc, doubles, scope, value)
 }
 
 // Of an object of one wrapper key.
-fn of_lone(alloc: Global, key: &str, value: &Value) -> Result<Option<Place>, AllocError>
+fn of_lone(
+    alloc: Global,
+    doubles: Doubles,
+    key: &str,
+    value: &Value,
+) -> Result<Option<Place>, AllocError>
     requires { has_wrapper (member key.now (view value.now) no_members) ≡ true }
     ensures { IfOk result
-        (λ found. MatchOption found (HasValue (object (member key.now (view value.now) no_members)))
-        (IsPlace (λ f. FaultAt f (object (member key.now (view value.now) no_members))))) }
+        (λ found. MatchOption found (HasValueIn doubles (object (member key.now (view value.now) no_members)))
+        (IsPlace (λ f. FaultAtIn doubles f (object (member key.now (view value.now) no_members))))) }
 {
-    match read_single(alloc, key, value.clone()?) {
+    match read_single_in(alloc, doubles, key, value.clone()?) {
         Ok(_) => Ok(None),
-        Err(Error::InvalidObjectId(id)) => at_key(alloc, key, Reason::BadObjectId(id)),
-        Err(Error::DeserializationError { message }) => {
-            at_key(alloc, key, Reason::WrongShape(message))
-        }
-        Err(Error::OutOfMemory) => Err(AllocError),
+        Err(error) => at_key(alloc, key, reason_of(error)?),
     }
 }
 
 // The place at the key.
 fn at_key(alloc: Global, key: &str, reason: Reason) -> Result<Option<Place>, AllocError>
     ensures { IfOk result
-        (λ found. MatchOption found ⊥ (λ place. (way_of place ≡ at key.now ∷ []) × (place.reason ≡ reason))) }
+        (λ found. MatchOption found ⊥ (λ place. (way_of place ≡ turn key.now ∷ []) × (place.reason ≡ reason))) }
 {
-    let place = Place {
-        reason,
-        steps: Vec::new(alloc),
-    };
-    Ok(Some(under(alloc, place, key)?))
+    Ok(Some(under(alloc, at(alloc, reason), key)?))
 }
 
 // Of code beside what stands as its scope.
 #[cycle(walk)]
-fn of_code(alloc: Global, scope: &Value, code: &Value) -> Result<Option<Place>, AllocError>
+fn of_code(
+    alloc: Global,
+    doubles: Doubles,
+    scope: &Value,
+    code: &Value,
+) -> Result<Option<Place>, AllocError>
     ensures { IfOk result
         (λ found.
-        MatchOption found (HasValue (object_of_two (codes "$code") (view code.now) (codes "$scope") (view scope.now)))
+        MatchOption found
+        (HasValueIn doubles (object_of_two (codes "$code") (view code.now) (codes "$scope") (view scope.now)))
         (IsPlace
-        (λ f. FaultAt f (object_of_two (codes "$code") (view code.now) (codes "$scope") (view scope.now))))) }
+        (λ f. FaultAtIn doubles f (object_of_two (codes "$code") (view code.now) (codes "$scope") (view scope.now))))) }
 {
     if !is_text(code) {
         return Ok(Some(here(alloc, CODE)));
     }
-    of_scope(alloc, scope)
+    of_scope(alloc, doubles, scope)
 }
 
 fn is_text(value: &Value) -> bool
@@ -212,9 +266,10 @@ fn is_text(value: &Value) -> bool
 
 // Of what stands as a scope, beside code that is a text.
 #[cycle(walk)]
-fn of_scope(alloc: Global, scope: &Value) -> Result<Option<Place>, AllocError>
+fn of_scope(alloc: Global, doubles: Doubles, scope: &Value) -> Result<Option<Place>, AllocError>
     ensures { IfOk result
-        (λ found. MatchOption found (HasScope (view scope.now)) (IsPlace (IsScopeFault (view scope.now)))) }
+        (λ found. MatchOption found (HasScopeIn doubles (view scope.now))
+        (IsPlace (IsScopeFaultIn doubles (view scope.now)))) }
 {
     match scope {
         Value::Null => Ok(None),
@@ -222,17 +277,21 @@ fn of_scope(alloc: Global, scope: &Value) -> Result<Option<Place>, AllocError>
         Value::Number(_) => Ok(Some(here(alloc, SCOPE))),
         Value::String(_) => Ok(Some(here(alloc, SCOPE))),
         Value::Array(_) => Ok(Some(here(alloc, SCOPE))),
-        Value::Object(members) => of_scope_map(alloc, members),
+        Value::Object(members) => of_scope_map(alloc, doubles, members),
     }
 }
 
 #[cycle(walk)]
-fn of_scope_map(alloc: Global, members: &Map<String, Value>) -> Result<Option<Place>, AllocError>
+fn of_scope_map(
+    alloc: Global,
+    doubles: Doubles,
+    members: &Map<String, Value>,
+) -> Result<Option<Place>, AllocError>
     ensures { IfOk result
-        (λ found. MatchOption found (HasScope (object (members_view members.now.entries)))
-        (IsPlace (IsScopeFault (object (members_view members.now.entries))))) }
+        (λ found. MatchOption found (HasScopeIn doubles (object (members_view members.now.entries)))
+        (IsPlace (IsScopeFaultIn doubles (object (members_view members.now.entries))))) }
 {
-    match of_members(alloc, members)? {
+    match of_members(alloc, doubles, members)? {
         None => Ok(None),
         Some(place) => Ok(Some(under(alloc, place, "$scope")?)),
     }

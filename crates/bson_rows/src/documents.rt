@@ -4,10 +4,13 @@
 //! Commands: `insert:KEY:N`, `remove:KEY`, `get:KEY`, `write:KEY:N`, `write_at:PLACE:N`,
 //! `place:PLACE:N`, `entry:KEY:N`, `entry_with:KEY:N`, `key:KEY`, `len`, `clear`, `clone`, `keys`,
 //! `values`.
+//!
+//! `entries KEY:N ..` is the document of the entries.
 use crate::answer::Answer;
 use crate::stop::{Outcome, Stop};
 use crate::words::{cut_at_colon, number};
 use bson::document::Entry;
+use bson::store::Pair;
 use bson::{Bson, Document};
 use std::alloc::Global;
 
@@ -17,6 +20,18 @@ pub(crate) fn call(alloc: Global, rest: &str, out: &mut Answer) -> Outcome {
     out.word("-> ");
     out.show(&document);
     done
+}
+
+pub(crate) fn entries(alloc: Global, rest: &str, out: &mut Answer) -> Outcome {
+    let mut entries = Vec::new(alloc);
+    for word in rest.split_whitespace() {
+        let (key, value) = cut_at_colon(word);
+        let key = String::from_str(alloc, key)?;
+        let value = Bson::Int32(number::<i32>(value)?);
+        entries.push(Pair { key, value })?;
+    }
+    out.show(&Document::from_entries(alloc, entries)?);
+    Ok(())
 }
 
 fn run_all(alloc: Global, document: &mut Document, rest: &str, out: &mut Answer) -> Outcome {

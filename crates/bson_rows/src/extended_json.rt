@@ -1,12 +1,12 @@
 //! Trees that are read, and values that are written: `canonical`, `relaxed`, `show`, `map` and
-//! `pretty`.
+//! `pretty`. A text that is refused is read by both readers.
 use crate::answer::{Answer, Style};
 use crate::held::{tree, value};
 use crate::steps;
 use crate::stop::{Outcome, Stop};
 use crate::words::{cut, number};
 use bson::extjson::WriteError;
-use bson::extjson::de::{Error, Result as Read};
+use bson::extjson::de::{Error, Result as Read, TextError};
 use bson::{Bson, Document};
 use serde_json::Value;
 use std::alloc::{AllocError, Global};
@@ -15,13 +15,29 @@ use std::alloc::{AllocError, Global};
 pub(crate) fn call(alloc: Global, form: &str, rest: &str, out: &mut Answer) -> Outcome {
     match rest.strip_prefix("made ") {
         Some(made) => put_value(alloc, form, steps::made(alloc, made)?, out),
-        None => put_read(
-            alloc,
-            form,
-            Bson::try_from_value(alloc, tree(alloc, rest)?),
-            out,
-        ),
+        None => match Bson::try_from_value(alloc, tree(alloc, rest)?) {
+            Ok(value) => put_value(alloc, form, value, out),
+            Err(error) => put_refused(alloc, rest, error, out),
+        },
     }
+}
+
+/// Puts why the text's tree means nothing. The reader of texts must say so in the same words.
+fn put_refused(alloc: Global, text: &str, error: Error, out: &mut Answer) -> Outcome {
+    let words = format!(in alloc; "{error}")?;
+    put_fault(error, out)?;
+    match Bson::try_from_text(alloc, text.as_bytes()) {
+        Ok(_value) => out.text(" and as a text a value"),
+        Err(TextError::OutOfMemory) => return Err(Stop::OutOfMemory),
+        Err(error) => {
+            let of_text = format!(in alloc; "{error}")?;
+            if of_text != words {
+                out.text(" and as a text ");
+                out.text(of_text.as_str());
+            }
+        }
+    }
+    Ok(())
 }
 
 /// `map FORM MAP`: the map is read as the value that it means. `map own MAP`: as a document,
@@ -79,7 +95,7 @@ fn relaxed(alloc: Global, value: Bson, out: &mut Answer) -> Outcome {
     put_written(value.into_relaxed_text(alloc), lent, tree, out)
 }
 
-type Written = Result<String, WriteError>;
+pub(crate) type Written = Result<String, WriteError>;
 
 fn canonical_tree(alloc: Global, value: &Bson) -> Result<Written, Stop> {
     let copy = value.clone(alloc)?;
@@ -92,7 +108,7 @@ fn relaxed_tree(alloc: Global, value: &Bson) -> Result<Written, Stop> {
 }
 
 /// The text of the tree.
-fn text_of(alloc: Global, tree: Result<Value, WriteError>) -> Result<Written, Stop> {
+pub(crate) fn text_of(alloc: Global, tree: Result<Value, WriteError>) -> Result<Written, Stop> {
     match tree {
         Ok(tree) => Ok(Ok(tree.to_string(alloc)?)),
         Err(error) => Ok(Err(error)),
@@ -100,7 +116,7 @@ fn text_of(alloc: Global, tree: Result<Value, WriteError>) -> Result<Written, St
 }
 
 /// Puts what the three calls wrote, which must be alike.
-fn put_written(
+pub(crate) fn put_written(
     text: Written,
     lent: Written,
     tree: Result<Written, Stop>,

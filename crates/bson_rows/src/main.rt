@@ -8,12 +8,15 @@
 
 mod answer;
 mod binaries;
+mod bytes;
 mod conversions;
 mod dates;
 mod decimals;
 mod documents;
+mod doubles;
 mod errors;
 mod extended_json;
+mod finite;
 mod fnv;
 mod getters;
 mod held;

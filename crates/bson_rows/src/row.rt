@@ -3,8 +3,8 @@ use crate::answer::{Answer, Style};
 use crate::stop::Outcome;
 use crate::words::cut;
 use crate::{
-    binaries, conversions, dates, decimals, documents, errors, extended_json, getters, ids, kinds,
-    small_kinds, stores, tables, texts, vectors,
+    binaries, bytes, conversions, dates, decimals, documents, doubles, errors, extended_json,
+    finite, getters, ids, kinds, small_kinds, stores, tables, texts, vectors,
 };
 use std::alloc::Global;
 
@@ -31,6 +31,7 @@ fn called(alloc: Global, row: &str, out: &mut Answer) -> Outcome {
     match name {
         "canonical" | "relaxed" | "show" => extended_json::call(alloc, name, rest, out),
         "map" => extended_json::map(alloc, rest, out),
+        "finite" => finite::call(alloc, rest, out),
         "pretty" => extended_json::pretty(alloc, rest, out),
         "kind" => kinds::call(alloc, rest, out),
         "get" => getters::call(alloc, rest, out),
@@ -40,14 +41,17 @@ fn called(alloc: Global, row: &str, out: &mut Answer) -> Outcome {
         "from" => conversions::call(alloc, rest, out),
         "date" => dates::call(alloc, rest, out),
         "decimal" => decimals::call(rest, out),
+        "double" => doubles::call(rest, out),
         "id" => ids::call(alloc, rest, out),
         "uuid" => binaries::uuid_call(alloc, rest, out),
         "binary" => binaries::call(alloc, rest, out),
+        "bytes" => bytes::call(alloc, rest, out),
         "vector" => vectors::call(alloc, rest, out),
         "tag" => tables::tag(rest, out),
         "subtype" => tables::subtype(rest, out),
         "store" => stores::call(alloc, rest, out),
         "document" => documents::call(alloc, rest, out),
+        "entries" => documents::entries(alloc, rest, out),
         "error" => errors::call(alloc, rest, out),
         _ => small_kinds::call(alloc, name, rest, out),
     }

@@ -3,6 +3,9 @@ use bson::document::Refused;
 use bson::extjson::WriteError;
 use bson::store::Stopped;
 use bson::{binary, datetime, decimal128, extjson, oid, uuid};
+use bson_codec::stream::{ReaderError, WriterError};
+use bson_codec::{de, ser};
+use bson_double::DoubleError;
 use std::alloc::{AllocError, AllocFailed};
 use std::fmt;
 
@@ -53,6 +56,8 @@ pub trait Refusal: fmt::Display + fmt::Debug + Drop {
 
 impl Refusal for decimal128::ParseError {}
 
+impl Refusal for DoubleError {}
+
 impl Refusal for uuid::Error {}
 
 impl Refusal for bson::document::ValueAccessError {}
@@ -102,5 +107,29 @@ impl Refusal for extjson::de::Error {
 impl Refusal for WriteError {
     fn is_want_of_memory(&self) -> bool {
         matches!(self, WriteError::OutOfMemory)
+    }
+}
+
+impl Refusal for de::Error {
+    fn is_want_of_memory(&self) -> bool {
+        matches!(self, de::Error::OutOfMemory)
+    }
+}
+
+impl Refusal for ser::Error {
+    fn is_want_of_memory(&self) -> bool {
+        matches!(self, ser::Error::OutOfMemory)
+    }
+}
+
+impl Refusal for ReaderError {
+    fn is_want_of_memory(&self) -> bool {
+        matches!(self, ReaderError::OutOfMemory)
+    }
+}
+
+impl Refusal for WriterError {
+    fn is_want_of_memory(&self) -> bool {
+        matches!(self, WriterError::NoBytes(ser::Error::OutOfMemory))
     }
 }

@@ -3,15 +3,16 @@ use Rattle.std.proofs.Common.{◌≡◌, ℕ, List, ◌++◌, ap, ◌∙◌, sub
 use Rattle.bson_wrapper.specs.declared.form.Form.{Form}
 use Rattle.bson_model.specs.Value.{Value}
 use Rattle.bson_model.specs.Normal.{normal_form}
-use Rattle.bson_model.specs.Written.{Written}
-use Rattle.bson_model.specs.Laws.{IsReadForm}
-use Rattle.bson_model.proofs.Offered.{means_one}
-use Rattle.bson.specs.Texts.{IsTextIn}
-use Rattle.bson_run.specs.Convert.{IsWritten, newline}
+use Rattle.bson_model.specs.Written.{WrittenIn}
+use Rattle.bson_model.specs.Laws.{IsReadFormIn}
+use Rattle.bson_model.proofs.Offered.{means_one_in}
+use Rattle.bson.specs.declared.extjson.options.Options.{Options}
+use Rattle.bson.specs.Texts.{IsTextUnder}
+use Rattle.bson_run.specs.Convert.{IsWrittenIn, newline}
 
-pub is_written : (f : Form) (v : Value) (text output : List ℕ) → IsReadForm v → IsTextIn f v text
-    → output ≡ text ++ newline → IsWritten f v output
-is_written f v text output p i l =
+pub is_written : (o : Options) (f : Form) (v : Value) (text output : List ℕ) → IsReadFormIn o.doubles v
+    → IsTextUnder o.doubles f v text → output ≡ text ++ newline → IsWrittenIn o f v output
+is_written o f v text output p i l =
     let t = i.tree in
     let has = i.reads_again p.0 in
     let a = has.means in
@@ -19,5 +20,5 @@ is_written f v text output p i l =
       tree = t;
       is_tree = i.is_tree;
       line = record { text = l ∙ ap (λ s. s ++ newline) i.compact; read_again = has.read_again };
-      again = λ w m. subst (λ x. Written f (normal_form x) t) (means_one t a.0 w a.1 m) a.3;
+      again = λ w m. subst (λ x. WrittenIn o.doubles f (normal_form x) t) (means_one_in o.doubles t a.0 w a.1 m) a.3;
     }

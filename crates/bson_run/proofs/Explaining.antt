@@ -1,18 +1,10 @@
 -- The place of a refused text's fault.
-use Rattle.std.proofs.Common.{◌≡◌, ◌<◌, ◌++◌, ℕ, List, [], ◌∷◌, length, codes, refl, sym, ap, ◌∙◌, subst, arith}
-use Rattle.std.proofs.lemmas.Option.{same_Some}
-use Rattle.serde_json.specs.Data.{Data}
-use Rattle.bson_model.specs.Fault.{MeansNothing}
-use Rattle.bson_model.specs.Means.{Means}
-use Rattle.bson_model.proofs.Offered.{means_from}
-use Rattle.bson_place.specs.Place.{Turn, HasValue, dotted}
-use Rattle.bson.specs.TextMeaning.{IsTextOf}
-use Rattle.bson_run.specs.Place.{IsDisplayed, at_path}
-
--- a text with a tree that has a value is not refused
-pub has_meaning : (text : List ℕ) (t u : Data) → IsTextOf text t → IsTextOf text u → HasValue t → MeansNothing u → ⊥
-has_meaning text t u a b v h =
-    h v.0 (subst (λ d. Means d v.0) (same_Some t u (sym a.tree_read ∙ b.tree_read)) (means_from t v.0 v.1))
+use Rattle.std.proofs.Common.{◌≡◌, ◌<◌, ◌↔◌, ◌++◌, ℕ, List, [], ◌∷◌, Bool, true, false, length, codes, refl, sym, ap}
+use Rattle.std.proofs.Common.{◌∙◌, arith, Some, IsTrue}
+use Rattle.std.specs.List.{All}
+use Rattle.std.proofs.lemmas.List.Elements.{All-pop, All-push}
+use Rattle.bson_place.specs.Place.{Turn, dotted}
+use Rattle.bson_run.specs.Place.{IsDisplayed, IsVisible, at_path}
 
 at_none : (path : List ℕ) → length path ≡ 0 → at_path path ≡ []
 at_none [] h = refl
@@ -31,3 +23,20 @@ pub displayed_at : (way : List Turn) (path message words : List ℕ) → path �
     → words ≡ codes " at " ++ path ++ codes " (" ++ message ++ codes ")" → IsDisplayed way words
 displayed_at way path message words e some is =
     (message, is ∙ ap (λ p. p ++ codes " (" ++ message ++ codes ")") (sym (at_some path some) ∙ ap at_path e))
+
+-- ---- visible characters
+
+before_last : (cs : List ℕ) (c : ℕ) → All IsVisible (cs ++ c ∷ []) → All IsVisible cs × IsVisible c
+before_last cs c h = All-pop IsVisible (cs ++ c ∷ []) cs (Some c) refl h
+
+-- after visible characters one more
+pub one_more : (cs : List ℕ) (c : ℕ) (b : Bool) → All IsVisible cs → IsTrue b ↔ IsVisible c
+    → IsTrue b ↔ All IsVisible (cs ++ c ∷ [])
+one_more cs c b all each =
+    (λ t. All-push IsVisible cs c all (each.0 t), λ h. each.1 (before_last cs c h).1)
+
+-- after one that is not
+pub no_more : (cs : List ℕ) (c : ℕ) (b : Bool) → b ≡ false → IsTrue b ↔ All IsVisible cs
+    → IsTrue b ↔ All IsVisible (cs ++ c ∷ [])
+no_more cs c true e so_far = absurd cc
+no_more cs c false e so_far = (λ t. absurd cc, λ h. so_far.1 (before_last cs c h).0)

@@ -3,4 +3,4 @@ mod Converting
 mod Explaining
 pub mod LinesLaws
 pub mod LinesRuns
-mod Stopping
+mod Rows

@@ -1,16 +1,17 @@
 -- How the lines of bytes grow with the bytes, and how far a run has come.
-use Rattle.std.proofs.Common.{◌≡◌, ◌≢◌, ◌<◌, ◌+◌, ℕ, List, [], ◌∷◌, ◌++◌, cond, length, drop, take, refl, ap, sym}
+use Rattle.std.proofs.Common.{◌≡◌, ◌≢◌, ◌⊎◌, inl, inr, ◌<◌, ◌+◌, ℕ, List, [], ◌∷◌, ◌++◌, cond, length, drop, take, refl, ap, sym}
 use Rattle.std.proofs.Common.{subst, ◌∙◌, append_assoc, append-nil, length-append, arith, ne_eqb, ◌-◌, suc, get_or}
 use Rattle.std.proofs.Common.{add-one, take-append-drop, Result, Ok, Err, IfOk, IfErr, OnOk, OnErr}
 use Rattle.std.proofs.Math.Seq.{drop-cons}
 use Rattle.std.proofs.lemmas.List.{take_rest}
 use Rattle.std.proofs.lemmas.List.Elements.{All-append, All-head, All-tail}
-use Rattle.bson_run.specs.Lines.{lines, onto_first, text_of, Tells, IsBlank, IsBadText, Writes, Outcomes, blank}
-use Rattle.bson_run.specs.Lines.{written, passed_over, IsStopped, IsStoppedAt}
-use Rattle.bson_run.specs.LinesSteps.{IsFirst, IsStoppedOver, IsOpen, IsJudged, IsTold, HaveSameOutcomes, TakesLine}
+use Rattle.bson_run.specs.Lines.{lines, onto_first, text_of, Tells, IsBlank, IsBadTextIn, WritesIn, OutcomesIn, blank}
+use Rattle.bson_run.specs.Lines.{written, passed_over, IsStoppedIn, IsStoppedAtIn}
+use Rattle.bson_run.specs.LinesSteps.{Options, IsOpen, IsJudged, IsTold, HaveSameOutcomes, TakesLine}
 use Rattle.bson_run.specs.LinesSteps.{Progress, Takes, Ends, Reached, Stopped, StopsWithin, StopsLast}
-use Rattle.bson_run.specs.LinesSteps.{Fault, CannotRead, NotJson, BadObjectId, NotExtendedJson, OutOfMemory}
+use Rattle.bson_run.specs.LinesSteps.{Fault, CannotRead, NotJson, NotExtendedJson, OutOfMemory}
 use Rattle.bson_run.specs.LinesSteps.{CannotWrite, Gathered, OnRefusal, Task}
+use Rattle.bson_run.specs.declared.order.OnRefusal.TheVariants.{Stop}
 
 -- a newline ends what stands before it
 lines_ended : (line more : List ℕ) → IsOpen line → lines (line ++ 10 ∷ more) ≡ line ∷ lines more
@@ -32,48 +33,43 @@ lines_last (x ∷ y ∷ xs) h some =
 pub open_nil : IsOpen []
 open_nil k d h = absurd (omega arith)
 
-pub judged_bad : (fault : Fault) (text : List ℕ) → IsJudged fault text → fault ≢ OutOfMemory → IsBadText fault text
-judged_bad CannotRead text h other = h
-judged_bad NotJson text h other = h
-judged_bad BadObjectId text h other = h
-judged_bad NotExtendedJson text h other = h
-judged_bad OutOfMemory text h other = absurd (other refl)
-judged_bad CannotWrite text h other = h
+pub judged_bad : (o : Options) (fault : Fault) (text : List ℕ) → IsJudged o fault text → fault ≢ OutOfMemory
+    → IsBadTextIn o fault text
+judged_bad o CannotRead text h other = h
+judged_bad o NotJson text h other = h
+judged_bad o (NotExtendedJson place) text h other = h
+judged_bad o OutOfMemory text h other = absurd (other refl)
+judged_bad o CannotWrite text h other = h
 
-stopped_at : (on_refusal : OnRefusal) (fault : Fault) (n : ℕ) (line : List ℕ) (others : List (List ℕ))
-    → IsStopped on_refusal fault (text_of n line) → IsStoppedAt on_refusal fault n (line ∷ others)
-stopped_at on_refusal CannotRead n line others h = h
-stopped_at on_refusal NotJson n line others h = h
-stopped_at on_refusal BadObjectId n line others h = h
-stopped_at on_refusal NotExtendedJson n line others h = h
-stopped_at on_refusal OutOfMemory n line others h = h
-stopped_at on_refusal CannotWrite n line others h = h
+stopped_at : (o : Options) (on_refusal : OnRefusal) (fault : Fault) (n : ℕ) (line : List ℕ) (others : List (List ℕ))
+    → IsStoppedIn o on_refusal fault (text_of n line) → IsStoppedAtIn o on_refusal fault n (line ∷ others)
+stopped_at o on_refusal CannotRead n line others h = h
+stopped_at o on_refusal NotJson n line others h = h
+stopped_at o on_refusal (NotExtendedJson place) n line others h = h
+stopped_at o on_refusal OutOfMemory n line others h = h
+stopped_at o on_refusal CannotWrite n line others h = h
 
--- the line that is gathered is the first of the others
-first_at : (fault : Fault) (line : List ℕ) (number n : ℕ) (others : List (List ℕ)) → n ≡ number
-    → IsFirst fault line number n (line ∷ others)
-first_at CannotRead line number n others e = tt
-first_at NotJson line number n others e = (others, refl, e)
-first_at BadObjectId line number n others e = (others, refl, e)
-first_at NotExtendedJson line number n others e = (others, refl, e)
-first_at OutOfMemory line number n others e = tt
-first_at CannotWrite line number n others e = tt
-
-stopped_over : (on_refusal : OnRefusal) (fault : Fault) (n : ℕ) (line : List ℕ) (others : List (List ℕ)) (t : Gathered)
-    → t.line.items ≡ line → n ≡ t.lines → IsStopped on_refusal fault (text_of n line)
-    → IsStoppedOver on_refusal t fault n (line ∷ others)
-stopped_over on_refusal fault n line others t e number h = (
-  stopped_at on_refusal fault n line others h,
-  subst (λ l. IsFirst fault l t.lines n (line ∷ others)) (sym e) (first_at fault line t.lines n others number),
-)
+-- a refused text stops the run, where refusals do
+pub refused_stops : (o : Options) (on_refusal : OnRefusal) (fault e : Fault) (text : List ℕ) → IsJudged o fault text
+    → (e ≡ OutOfMemory) ⊎ ((on_refusal ≡ Stop) × (e ≡ fault)) → IsStoppedIn o on_refusal e text
+refused_stops o on_refusal fault e text h (inl is) = subst (λ f. IsStoppedIn o on_refusal f text) (sym is) tt
+refused_stops o on_refusal fault e text h (inr p) =
+    subst (λ f. IsStoppedIn o on_refusal f text) (sym p.1) (of_fault fault h)
+  where
+    of_fault : (f : Fault) → IsJudged o f text → IsStoppedIn o on_refusal f text
+    of_fault CannotRead h = tt
+    of_fault NotJson h = (p.0, h)
+    of_fault (NotExtendedJson place) h = (p.0, h)
+    of_fault OutOfMemory h = tt
+    of_fault CannotWrite h = h
 
 lines_none : (line : List ℕ) → length line ≡ 0 → lines line ≡ []
 lines_none [] none = refl
 lines_none (x ∷ xs) none = absurd (omega arith)
 
-by_memory : (on_refusal : OnRefusal) (fault : Fault) (n : ℕ) (others : List (List ℕ)) (t : Gathered)
-    → fault ≡ OutOfMemory → IsStoppedOver on_refusal t fault n others
-by_memory on_refusal fault n others t e = subst (λ f. IsStoppedOver on_refusal t f n others) (sym e) (tt, tt)
+by_memory : (o : Options) (on_refusal : OnRefusal) (fault : Fault) (n : ℕ) (others : List (List ℕ))
+    → fault ≡ OutOfMemory → IsStoppedAtIn o on_refusal fault n others
+by_memory o on_refusal fault n others e = subst (λ f. IsStoppedAtIn o on_refusal f n others) (sym e) tt
 
 -- a newline among bytes
 at_newline : (rest : List ℕ) (n : ℕ) → n < length rest → get_or rest n 0 ≡ 10
@@ -111,12 +107,12 @@ pub oks : {X E : Type 0} {P Q : Type 0} (r : Result X E) → OnOk r P → (P →
 oks (Ok x) p f = f p
 oks (Err e) p f = tt
 
-module _ {task : Task} {on_refusal : OnRefusal} where
+module _ {o : Options} {task : Task} {on_refusal : OnRefusal} where
   -- ---- what a line gives
 
   pub blank_taken : (s t : Gathered) → t.line.items ≡ [] → t.lines ≡ s.lines + 1 → t.output.items ≡ s.output.items
       → t.told.items ≡ s.told.items → t.refused ≡ s.refused
-      → IsBlank (text_of s.lines s.line.items) → TakesLine task on_refusal s t
+      → IsBlank (text_of s.lines s.line.items) → TakesLine o task on_refusal s t
   blank_taken s t line number output told refused h = record {
     line = line;
     lines = number;
@@ -127,44 +123,44 @@ module _ {task : Task} {on_refusal : OnRefusal} where
 
   pub written_taken : (s t : Gathered) (more : List ℕ) → t.line.items ≡ [] → t.lines ≡ s.lines + 1
       → t.output.items ≡ s.output.items ++ more → t.told.items ≡ s.told.items → t.refused ≡ s.refused
-      → Writes task (text_of s.lines s.line.items) more → TakesLine task on_refusal s t
+      → WritesIn o task (text_of s.lines s.line.items) more → TakesLine o task on_refusal s t
   written_taken s t more line number grown told refused h = record {
     line = line;
     lines = number;
     outcomes =
         λ before output verdicts e p. rw (grown, told, refused, ← append_assoc output s.output.items more)
-        (written s.line.items more p (subst (λ n. Writes task (text_of n s.line.items) more) e h));
+        (written s.line.items more p (subst (λ n. WritesIn o task (text_of n s.line.items) more) e h));
   }
 
   pub told_taken : (s t : Gathered) (fault : Fault) → t.line.items ≡ [] → t.lines ≡ s.lines + 1
-      → t.output.items ≡ s.output.items → t.refused ≡ s.refused + 1
-      → IsBadText fault (text_of s.lines s.line.items)
-      → IsTold on_refusal (s.lines + 1) fault (text_of s.lines s.line.items) s.told.items t.told.items
-      → TakesLine task on_refusal s t
-  told_taken s t fault line number output refused h told = record {
+      → t.output.items ≡ s.output.items → t.refused ≡ s.refused + 1 → on_refusal ≢ Stop
+      → IsBadTextIn o fault (text_of s.lines s.line.items)
+      → IsTold o (s.lines + 1) fault (text_of s.lines s.line.items) s.told.items t.told.items
+      → TakesLine o task on_refusal s t
+  told_taken s t fault line number output refused goes h told = record {
     line = line;
     lines = number;
     outcomes = λ before written verdicts e p.
         rw (output, told.2, refused, ← append_assoc verdicts s.told.items told.0)
-        (passed_over s.line.items fault told.0 p (subst (λ n. IsBadText fault (text_of n s.line.items)) e h)
-        (subst (λ n. Tells on_refusal (n + 1) fault (text_of n s.line.items) told.0) e (told.1 h)));
+        (passed_over s.line.items fault told.0 p goes (subst (λ n. IsBadTextIn o fault (text_of n s.line.items)) e h)
+        (subst (λ n. Tells (n + 1) fault told.0) e (told.1 h)));
   }
 
   -- ---- taking bytes
 
-  pub take_nothing : (s : Gathered) → Takes task on_refusal [] s s
+  pub take_nothing : (s : Gathered) → Takes o task on_refusal [] s s
   take_nothing s before output told p =
-      subst (λ l. Progress task on_refusal l output told s) (sym (append-nil before)) p
+      subst (λ l. Progress o task on_refusal l output told s) (sym (append-nil before)) p
 
-  pub take_more : (xs ys : List ℕ) (s t u : Gathered) → Takes task on_refusal xs s t → Takes task on_refusal ys t u
-      → Takes task on_refusal (xs ++ ys) s u
+  pub take_more : (xs ys : List ℕ) (s t u : Gathered) → Takes o task on_refusal xs s t → Takes o task on_refusal ys t u
+      → Takes o task on_refusal (xs ++ ys) s u
   take_more xs ys s t u f g before output told p =
-      subst (λ l. Progress task on_refusal l output told u) (append_assoc before xs ys)
+      subst (λ l. Progress o task on_refusal l output told u) (append_assoc before xs ys)
       (g (before ++ xs) output told (f before output told p))
 
   -- a piece of the line
   pub piece_taken : (piece : List ℕ) (s t : Gathered) → IsOpen piece → t.line.items ≡ s.line.items ++ piece
-      → HaveSameOutcomes s t → Takes task on_refusal piece s t
+      → HaveSameOutcomes s t → Takes o task on_refusal piece s t
   piece_taken piece s t h e same before output told p = record {
     done = p.done;
     whole = λ more. ap lines (append_assoc before piece more) ∙ p.whole (piece ++ more)
@@ -178,7 +174,7 @@ module _ {task : Task} {on_refusal : OnRefusal} where
       open_both xs ys f g = All-append (λ y. y ≢ 10) xs ys f g
 
   -- the newline that ends it
-  pub newline_taken : (s t : Gathered) → TakesLine task on_refusal s t → Takes task on_refusal (10 ∷ []) s t
+  pub newline_taken : (s t : Gathered) → TakesLine o task on_refusal s t → Takes o task on_refusal (10 ∷ []) s t
   newline_taken s t taken before output told p = record {
     done = p.done ++ s.line.items ∷ [];
     whole = λ more. ap lines (append_assoc before (10 ∷ []) more) ∙ p.whole (10 ∷ more)
@@ -193,7 +189,7 @@ module _ {task : Task} {on_refusal : OnRefusal} where
   -- ---- stopping
 
   pub reached : {bytes output told : List ℕ} {s : Gathered} (t : Gathered) (more : List ℕ) → HaveSameOutcomes s t
-      → Progress task on_refusal bytes output told s → Reached task on_refusal (bytes ++ more) output told t
+      → Progress o task on_refusal bytes output told s → Reached o task on_refusal (bytes ++ more) output told t
   reached {s} t more same p = record {
     done = p.done;
     others = lines (s.line.items ++ more);
@@ -202,15 +198,15 @@ module _ {task : Task} {on_refusal : OnRefusal} where
     outcomes = rw (same.output, same.told, same.refused) p.outcomes;
   }
 
-  pub stops_after : (xs ys : List ℕ) (fault : Fault) (number : ℕ) (s t u : Gathered) → Takes task on_refusal xs s t
-      → StopsWithin task on_refusal ys fault number t u → StopsWithin task on_refusal (xs ++ ys) fault number s u
-  stops_after xs ys fault number s t u f g before output told more p =
-      subst (λ l. Stopped task on_refusal (l ++ more) output told fault number u) (append_assoc before xs ys)
+  pub stops_after : (xs ys : List ℕ) (fault : Fault) (s t u : Gathered) → Takes o task on_refusal xs s t
+      → StopsWithin o task on_refusal ys fault t u → StopsWithin o task on_refusal (xs ++ ys) fault s u
+  stops_after xs ys fault s t u f g before output told more p =
+      subst (λ l. Stopped o task on_refusal (l ++ more) output told fault u) (append_assoc before xs ys)
       (g (before ++ xs) output told more (f before output told p))
 
-  pub memory_stops : (bytes : List ℕ) (fault : Fault) (number : ℕ) (s t : Gathered) → fault ≡ OutOfMemory
-      → number ≡ s.lines + 1 → HaveSameOutcomes s t → StopsWithin task on_refusal bytes fault number s t
-  memory_stops bytes fault number s t e n same before output told more p = record {
+  pub memory_stops : (bytes : List ℕ) (fault : Fault) (s t : Gathered) → fault ≡ OutOfMemory → HaveSameOutcomes s t
+      → StopsWithin o task on_refusal bytes fault s t
+  memory_stops bytes fault s t e same before output told more p = record {
     reached = record {
       done = p.done;
       others = lines (s.line.items ++ (bytes ++ more));
@@ -218,14 +214,13 @@ module _ {task : Task} {on_refusal : OnRefusal} where
       counted = same.lines ∙ p.counted;
       outcomes = rw (same.output, same.told, same.refused) p.outcomes;
     };
-    line = n ∙ ap (λ k. k + 1) (sym same.lines);
-    reason = by_memory on_refusal fault (length p.done) (lines (s.line.items ++ (bytes ++ more))) t e;
+    reason = by_memory o on_refusal fault (length p.done) (lines (s.line.items ++ (bytes ++ more))) e;
   }
 
-  pub line_stops : (bytes : List ℕ) (fault : Fault) (number : ℕ) (s t : Gathered)
-      → IsStopped on_refusal fault (text_of s.lines s.line.items) → number ≡ s.lines + 1 → HaveSameOutcomes s t
-      → t.line.items ≡ s.line.items → StopsWithin task on_refusal (10 ∷ bytes) fault number s t
-  line_stops bytes fault number s t h n same line before output told more p = record {
+  pub line_stops : (bytes : List ℕ) (fault : Fault) (s t : Gathered)
+      → IsStoppedIn o on_refusal fault (text_of s.lines s.line.items) → HaveSameOutcomes s t
+      → StopsWithin o task on_refusal (10 ∷ bytes) fault s t
+  line_stops bytes fault s t h same before output told more p = record {
     reached = record {
       done = p.done;
       others = s.line.items ∷ lines (bytes ++ more);
@@ -234,31 +229,31 @@ module _ {task : Task} {on_refusal : OnRefusal} where
       counted = same.lines ∙ p.counted;
       outcomes = rw (same.output, same.told, same.refused) p.outcomes;
     };
-    line = n ∙ ap (λ k. k + 1) (sym same.lines);
     reason =
-        stopped_over on_refusal fault (length p.done) s.line.items (lines (bytes ++ more)) t line
-        (sym (same.lines ∙ p.counted)) (subst (λ k. IsStopped on_refusal fault (text_of k s.line.items)) p.counted h);
+        stopped_at o on_refusal fault (length p.done) s.line.items (lines (bytes ++ more))
+        (subst (λ k. IsStoppedIn o on_refusal fault (text_of k s.line.items)) p.counted h);
   }
 
   -- ---- the last line
 
-  last_whole : {bytes output told : List ℕ} {s : Gathered} → (p : Progress task on_refusal bytes output told s)
+  last_whole : {bytes output told : List ℕ} {s : Gathered} → (p : Progress o task on_refusal bytes output told s)
       → lines bytes ≡ p.done ++ lines s.line.items
   last_whole {bytes} {s} p =
       ap lines (sym (append-nil bytes)) ∙ p.whole [] ∙ ap (λ l. p.done ++ lines l) (append-nil s.line.items)
 
-  pub no_last : (s : Gathered) → length s.line.items ≡ 0 → Ends task on_refusal s s
+  pub no_last : (s : Gathered) → length s.line.items ≡ 0 → Ends o task on_refusal s s
   no_last s none before output told p =
       let all : lines before ≡ p.done =
       last_whole p ∙ ap (λ l. p.done ++ l) (lines_none s.line.items none) ∙ append-nil p.done in
       record {
         counted = p.counted ∙ ap length (sym all);
         outcomes =
-            subst (λ l. Outcomes task on_refusal l (output ++ s.output.items) (told ++ s.told.items) s.refused)
+            subst (λ l. OutcomesIn o task on_refusal l (output ++ s.output.items) (told ++ s.told.items) s.refused)
             (sym all) p.outcomes;
       }
 
-  pub last_taken : (s t : Gathered) → 0 < length s.line.items → TakesLine task on_refusal s t → Ends task on_refusal s t
+  pub last_taken : (s t : Gathered) → 0 < length s.line.items → TakesLine o task on_refusal s t
+      → Ends o task on_refusal s t
   last_taken s t some taken before output told p =
       let all : lines before ≡ p.done ++ s.line.items ∷ [] =
       last_whole p ∙ ap (λ l. p.done ++ l) (lines_last s.line.items p.unbroken some) in
@@ -266,14 +261,14 @@ module _ {task : Task} {on_refusal : OnRefusal} where
         counted = taken.lines ∙ ap (λ n. n + 1) p.counted ∙ sym (length-append p.done (s.line.items ∷ []))
             ∙ ap length (sym all);
         outcomes =
-            subst (λ l. Outcomes task on_refusal l (output ++ t.output.items) (told ++ t.told.items) t.refused)
+            subst (λ l. OutcomesIn o task on_refusal l (output ++ t.output.items) (told ++ t.told.items) t.refused)
             (sym all) (taken.outcomes p.done output told p.counted p.outcomes);
       }
 
-  pub last_stops : (fault : Fault) (number : ℕ) (s t : Gathered) → 0 < length s.line.items
-      → IsStopped on_refusal fault (text_of s.lines s.line.items) → number ≡ s.lines + 1 → HaveSameOutcomes s t
-      → t.line.items ≡ s.line.items → StopsLast task on_refusal fault number s t
-  last_stops fault number s t some h n same line before output told p = record {
+  pub last_stops : (fault : Fault) (s t : Gathered) → 0 < length s.line.items
+      → IsStoppedIn o on_refusal fault (text_of s.lines s.line.items) → HaveSameOutcomes s t
+      → StopsLast o task on_refusal fault s t
+  last_stops fault s t some h same before output told p = record {
     reached = record {
       done = p.done;
       others = s.line.items ∷ [];
@@ -281,37 +276,35 @@ module _ {task : Task} {on_refusal : OnRefusal} where
       counted = same.lines ∙ p.counted;
       outcomes = rw (same.output, same.told, same.refused) p.outcomes;
     };
-    line = n ∙ ap (λ k. k + 1) (sym same.lines);
     reason =
-        stopped_over on_refusal fault (length p.done) s.line.items [] t line (sym (same.lines ∙ p.counted))
-        (subst (λ k. IsStopped on_refusal fault (text_of k s.line.items)) p.counted h);
+        stopped_at o on_refusal fault (length p.done) s.line.items []
+        (subst (λ k. IsStoppedIn o on_refusal fault (text_of k s.line.items)) p.counted h);
   }
 
   -- ---- a line that ends among bytes
 
   pub line_taken : (front : List ℕ) (s t u : Gathered) → IsOpen front → t.line.items ≡ s.line.items ++ front
-      → HaveSameOutcomes s t → TakesLine task on_refusal t u → Takes task on_refusal (front ++ 10 ∷ []) s u
+      → HaveSameOutcomes s t → TakesLine o task on_refusal t u → Takes o task on_refusal (front ++ 10 ∷ []) s u
   line_taken front s t u h e same taken =
       take_more front (10 ∷ []) s t u (piece_taken front s t h e same) (newline_taken t u taken)
 
-  pub line_stops_in : (rest : List ℕ) (n : ℕ) (fault : Fault) (number : ℕ) (s t u : Gathered) → n < length rest
+  pub line_stops_in : (rest : List ℕ) (n : ℕ) (fault : Fault) (s t u : Gathered) → n < length rest
       → IsOpen (take n rest) → get_or rest n 0 ≡ 10
       → t.line.items ≡ s.line.items ++ take n rest → HaveSameOutcomes s t
-      → IsStopped on_refusal fault (text_of t.lines t.line.items) → number ≡ t.lines + 1 → HaveSameOutcomes t u
-      → u.line.items ≡ t.line.items → StopsWithin task on_refusal rest fault number s u
-  line_stops_in rest n fault number s t u within h is e same stops number_is kept line =
-      subst (λ l. StopsWithin task on_refusal l fault number s u) (sym (at_newline rest n within is))
-      (stops_after (take n rest) (10 ∷ drop (n + 1) rest) fault number s t u (piece_taken (take n rest) s t h e same)
-      (line_stops (drop (n + 1) rest) fault number t u stops number_is kept line))
+      → IsStoppedIn o on_refusal fault (text_of t.lines t.line.items) → HaveSameOutcomes t u
+      → StopsWithin o task on_refusal rest fault s u
+  line_stops_in rest n fault s t u within h is e same stops kept =
+      subst (λ l. StopsWithin o task on_refusal l fault s u) (sym (at_newline rest n within is))
+      (stops_after (take n rest) (10 ∷ drop (n + 1) rest) fault s t u (piece_taken (take n rest) s t h e same)
+      (line_stops (drop (n + 1) rest) fault t u stops kept))
 
-  pub whole_stops : (bytes taken rest : List ℕ) (fault : Fault) (number : ℕ) (s t u : Gathered) → bytes ≡ taken ++ rest
-      → Takes task on_refusal taken s t → StopsWithin task on_refusal rest fault number t u
-      → StopsWithin task on_refusal bytes fault number s u
-  whole_stops bytes taken rest fault number s t u e f g =
-      subst (λ l. StopsWithin task on_refusal l fault number s u) (sym e)
-      (stops_after taken rest fault number s t u f g)
+  pub whole_stops : (bytes taken rest : List ℕ) (fault : Fault) (s t u : Gathered) → bytes ≡ taken ++ rest
+      → Takes o task on_refusal taken s t → StopsWithin o task on_refusal rest fault t u
+      → StopsWithin o task on_refusal bytes fault s u
+  whole_stops bytes taken rest fault s t u e f g =
+      subst (λ l. StopsWithin o task on_refusal l fault s u) (sym e) (stops_after taken rest fault s t u f g)
 
   pub whole_taken : (bytes taken rest : List ℕ) (s t u : Gathered) → bytes ≡ taken ++ rest
-      → Takes task on_refusal taken s t → Takes task on_refusal rest t u → Takes task on_refusal bytes s u
+      → Takes o task on_refusal taken s t → Takes o task on_refusal rest t u → Takes o task on_refusal bytes s u
   whole_taken bytes taken rest s t u e f g =
-      subst (λ l. Takes task on_refusal l s u) (sym e) (take_more taken rest s t u f g)
+      subst (λ l. Takes o task on_refusal l s u) (sym e) (take_more taken rest s t u f g)

@@ -1,14 +1,14 @@
 -- Where the fault of a refused text lies, in words.
-use Rattle.std.specs.Prelude.{◌≡◌, ◌≢◌, ◌⊎◌, ◌≤◌, ℕ, List, [], ◌∷◌, ◌++◌, codes}
-use Rattle.std.specs.List.{All}
+use Rattle.std.specs.Prelude.{◌≡◌, ◌≢◌, ◌⊎◌, ℕ, List, [], ◌∷◌, ◌++◌, codes, false}
+use Rattle.std.specs.Char.{is_control}
 use Rattle.std.specs.Fmt.{decimal}
-use Rattle.serde_json.specs.Data.{Data}
-use Rattle.bson_wrapper.specs.Faults.{Fault as TreeFault}
-use Rattle.bson_place.specs.Place.{Turn, FaultAt, dotted}
-use Rattle.bson.specs.TextMeaning.{IsTextOf}
+use Rattle.std.specs.List.{All}
+use Rattle.std.specs.Str.{chars}
+use Rattle.bson_place.specs.Place.{Turn, dotted, way_of}
+use Rattle.bson_place.specs.declared.place.Place.{Place}
 use Rattle.bson_run.specs.declared.fault.Fault.{Fault}
-use Rattle.bson_run.specs.declared.fault.Fault.TheVariants.{CannotRead, NotJson, BadObjectId, NotExtendedJson}
-use Rattle.bson_run.specs.declared.fault.Fault.TheVariants.{OutOfMemory, CannotWrite}
+use Rattle.bson_run.specs.declared.fault.Fault.TheVariants.{CannotRead, NotJson, NotExtendedJson, OutOfMemory}
+use Rattle.bson_run.specs.declared.fault.Fault.TheVariants.{CannotWrite}
 
 -- a path that has no word is left out
 abbrev pub at_path : List ℕ → List ℕ
@@ -19,44 +19,28 @@ at_path (x ∷ xs) = codes " at " ++ x ∷ xs
 abbrev pub IsDisplayed : List Turn → List ℕ → Type 0
 IsDisplayed way words = (message : List ℕ) × (words ≡ at_path (dotted way) ++ codes " (" ++ message ++ codes ")")
 
--- no control character of ASCII, which could break a line or steer a terminal
+-- no control character, and no separator of lines or paragraphs: none that breaks a line or steers a terminal
 abbrev pub IsVisible : ℕ → Type 0
-IsVisible byte = (32 ≤ byte) × (byte ≢ 127)
+IsVisible c = (is_control c ≡ false) × (c ≢ 0x2028) × (c ≢ 0x2029)
 
--- the words as they are, where a terminal shows them so; else that they have other characters
+-- the words as they are, where each of their characters is visible; else that they have others
 abbrev pub IsTold : List ℕ → List ℕ → Type 0
 IsTold words told =
-    (All IsVisible words × (told ≡ words))
-    ⊎ (¬ (All IsVisible words) × (told ≡ codes " at a text with control characters"))
+    (All IsVisible (chars words) × (told ≡ words))
+    ⊎ (¬ (All IsVisible (chars words)) × (told ≡ codes " at a text with control characters"))
 
--- the way to the first fault of the text's tree
-pub record IsPlaced (text words : List ℕ) : Type 0 where
-  pub tree : Data
-  pub fault : TreeFault
-  pub way : List Turn
-  pub is_text : IsTextOf text tree
-  pub lies : FaultAt fault tree way
-  pub displayed : List ℕ
-  pub is_displayed : IsDisplayed way displayed
-  pub told : IsTold displayed words
+-- the way to the place, and a message
+abbrev pub IsPlaced : Place → List ℕ → Type 0
+IsPlaced place words = (displayed : List ℕ) × IsDisplayed (way_of place) displayed × IsTold displayed words
 
 -- a column; which one no contract says
 abbrev pub IsColumn : List ℕ → Type 0
 IsColumn words = (n : ℕ) × (words ≡ codes " at column " ++ decimal n)
 
-abbrev pub IsWhere : Fault → List ℕ → List ℕ → Type 0
-IsWhere CannotRead text words = words ≡ []
-IsWhere NotJson text words = IsColumn words
-IsWhere BadObjectId text words = IsPlaced text words
-IsWhere NotExtendedJson text words = IsPlaced text words
-IsWhere OutOfMemory text words = words ≡ []
-IsWhere CannotWrite text words = words ≡ []
-
--- no text has the fault
-abbrev pub IsOfNoText : Fault → Type 0
-IsOfNoText CannotRead = Unit {0}
-IsOfNoText NotJson = ⊥
-IsOfNoText BadObjectId = ⊥
-IsOfNoText NotExtendedJson = ⊥
-IsOfNoText OutOfMemory = Unit {0}
-IsOfNoText CannotWrite = Unit {0}
+-- nothing for a fault that no text has
+abbrev pub IsWhere : Fault → List ℕ → Type 0
+IsWhere CannotRead words = words ≡ []
+IsWhere NotJson words = IsColumn words
+IsWhere (NotExtendedJson place) words = IsPlaced place words
+IsWhere OutOfMemory words = words ≡ []
+IsWhere CannotWrite words = words ≡ []

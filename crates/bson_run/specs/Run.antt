@@ -2,11 +2,12 @@
 use Rattle.std.specs.Prelude.{ℕ, ◌<◌, List, length, Option}
 use Rattle.std.specs.Io.{StartsWith}
 use Rattle.std.specs.Io.KnownBytes.{Keeps, Appends, Consumes, IsAtEnd}
-use Rattle.bson_run.specs.Convert.{Converts, IsRefused}
+use Rattle.bson.specs.declared.extjson.options.Options.{Options}
+use Rattle.bson_run.specs.Convert.{default_options, ConvertsIn, IsRefusedIn}
 use Rattle.bson_run.specs.declared.mode.Mode.{Mode}
 use Rattle.bson_run.specs.declared.fault.Fault.{Fault}
-use Rattle.bson_run.specs.declared.fault.Fault.TheVariants.{CannotRead, NotJson, BadObjectId, NotExtendedJson}
-use Rattle.bson_run.specs.declared.fault.Fault.TheVariants.{OutOfMemory, CannotWrite}
+use Rattle.bson_run.specs.declared.fault.Fault.TheVariants.{CannotRead, NotJson, NotExtendedJson, OutOfMemory}
+use Rattle.bson_run.specs.declared.fault.Fault.TheVariants.{CannotWrite}
 
 -- the reader gave these bytes, and has none left
 pub record ReadsAll (before after : Option (List ℕ)) (bytes : List ℕ) : Type 0 where
@@ -27,34 +28,49 @@ pub record WritesPart (had holds : Option (List ℕ)) (output : List ℕ) : Type
   pub written : Appends had holds beginning
 
 -- all that the reader had is converted to the output
-pub record Accepts (mode : Mode) (before after : Option (List ℕ)) (output : List ℕ) : Type 0 where
+pub record AcceptsIn (o : Options) (mode : Mode) (before after : Option (List ℕ)) (output : List ℕ) : Type 0 where
   pub bytes : List ℕ
   pub all : ReadsAll before after bytes
-  pub converts : Converts mode bytes output
+  pub converts : ConvertsIn o mode bytes output
 
 -- the input was accepted, and the output written
-pub record Done (mode : Mode) (before after had holds : Option (List ℕ)) : Type 0 where
+pub record DoneIn (o : Options) (mode : Mode) (before after had holds : Option (List ℕ)) : Type 0 where
   pub output : List ℕ
-  pub accepted : Accepts mode before after output
+  pub accepted : AcceptsIn o mode before after output
   pub written : Appends had holds output
 
 -- the input was accepted, and the output not written whole
-pub record CutShort (mode : Mode) (before after had holds : Option (List ℕ)) : Type 0 where
+pub record CutShortIn (o : Options) (mode : Mode) (before after had holds : Option (List ℕ)) : Type 0 where
   pub output : List ℕ
-  pub accepted : Accepts mode before after output
+  pub accepted : AcceptsIn o mode before after output
   pub written : WritesPart had holds output
 
 -- all that the reader had is refused for the fault
-pub record Refuses (fault : Fault) (before after : Option (List ℕ)) : Type 0 where
+pub record RefusesIn (o : Options) (fault : Fault) (before after : Option (List ℕ)) : Type 0 where
   pub bytes : List ℕ
   pub all : ReadsAll before after bytes
-  pub refused : IsRefused fault bytes
+  pub refused : IsRefusedIn o fault bytes
 
 -- what each fault says of the bytes
+abbrev pub FailsIn : Options → Fault → Mode → (before after had holds : Option (List ℕ)) → Type 0
+FailsIn o CannotRead mode before after had holds = Keeps had holds
+FailsIn o NotJson mode before after had holds = RefusesIn o NotJson before after × Keeps had holds
+FailsIn o (NotExtendedJson place) mode before after had holds =
+    RefusesIn o (NotExtendedJson place) before after × Keeps had holds
+FailsIn o OutOfMemory mode before after had holds = Keeps had holds
+FailsIn o CannotWrite mode before after had holds = CutShortIn o mode before after had holds
+
+abbrev pub Accepts : Mode → (before after : Option (List ℕ)) → List ℕ → Type 0
+Accepts = AcceptsIn default_options
+
+abbrev pub Done : Mode → (before after had holds : Option (List ℕ)) → Type 0
+Done = DoneIn default_options
+
+abbrev pub CutShort : Mode → (before after had holds : Option (List ℕ)) → Type 0
+CutShort = CutShortIn default_options
+
+abbrev pub Refuses : Fault → (before after : Option (List ℕ)) → Type 0
+Refuses = RefusesIn default_options
+
 abbrev pub Fails : Fault → Mode → (before after had holds : Option (List ℕ)) → Type 0
-Fails CannotRead mode before after had holds = Keeps had holds
-Fails NotJson mode before after had holds = Refuses NotJson before after × Keeps had holds
-Fails BadObjectId mode before after had holds = Refuses BadObjectId before after × Keeps had holds
-Fails NotExtendedJson mode before after had holds = Refuses NotExtendedJson before after × Keeps had holds
-Fails OutOfMemory mode before after had holds = Keeps had holds
-Fails CannotWrite mode before after had holds = CutShort mode before after had holds
+Fails = FailsIn default_options

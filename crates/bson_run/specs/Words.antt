@@ -1,5 +1,7 @@
 -- The words that the program is given, and the lines that it writes on standard error.
 use Rattle.std.specs.Prelude.{ℕ, List, ◌++◌, codes}
+use Rattle.bson_place.specs.declared.place.Reason.{Reason}
+use Rattle.bson_place.specs.declared.place.Reason.TheVariants as reason
 use Rattle.bson_run.specs.declared.mode.Mode.{Mode}
 use Rattle.bson_run.specs.declared.mode.Mode.TheVariants as mode
 use Rattle.bson_run.specs.declared.order.Task.{Task}
@@ -16,11 +18,14 @@ abbrev pub task_name : Task → List ℕ
 task_name (Write mode) = name_of mode
 task_name Check = codes "check"
 
+abbrev pub words_for : Reason → List ℕ
+words_for (reason.BadObjectId e) = codes "bad object id"
+words_for (reason.WrongShape message) = codes "not Extended JSON"
+
 abbrev pub words_of : Fault → List ℕ
 words_of fault.CannotRead = codes "cannot read"
 words_of fault.NotJson = codes "not JSON"
-words_of fault.BadObjectId = codes "bad object id"
-words_of fault.NotExtendedJson = codes "not Extended JSON"
+words_of (fault.NotExtendedJson place) = words_for place.reason
 words_of fault.OutOfMemory = codes "out of memory"
 words_of fault.CannotWrite = codes "cannot write"
 

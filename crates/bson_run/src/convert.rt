@@ -1,29 +1,31 @@
 //! One text to another: from bytes to bytes.
 ghost use Rattle.std.specs.Prelude.{◌≡◌, ◌++◌, IfOk, IfErr, ℕ, List, string_bytes};
 ghost use Rattle.serde_json.specs.Data.{Data};
-ghost use Rattle.bson_model.specs.Means.{Means};
+ghost use Rattle.bson_model.specs.Means.{Means, MeansIn};
 ghost use Rattle.bson_model.specs.Displayed.{display_text};
 ghost use Rattle.bson_model.specs.Value as model;
-ghost use Rattle.bson_model.specs.Laws.{IsReadForm};
+ghost use Rattle.bson_model.specs.Laws.{IsReadFormIn};
 ghost use Rattle.bson.specs.View.{bson_view};
-ghost use Rattle.bson_run.specs.Convert.{Converts, IsOutput, IsRefused, IsConverted, IsWritable, newline};
-ghost use Rattle.bson.specs.TextMeaning.{IsTextOf, HasTextMeaning, IsTextFault};
+ghost use Rattle.bson_run.specs.Convert.{Converts, ConvertsIn, IsOutputIn, IsRefused, IsRefusedIn};
+ghost use Rattle.bson.specs.declared.extjson.options.Options.{Options};
+ghost use Rattle.bson_run.specs.Convert.{default_options, IsConverted, IsWritable, newline};
+ghost use Rattle.bson.specs.TextMeaning.{IsTextOf, HasTextMeaningIn, IsTextFaultIn};
 
 use crate::fault::Fault;
 use crate::mode::Mode;
 use bson::Bson;
 use bson::extjson::convert::Converted;
-use bson::extjson::de::{Error, TextError};
-use bson::extjson::{Form, WriteError};
+use bson::extjson::de::TextError;
+use bson::extjson::{Form, Options, WriteError};
 use std::alloc::Global;
 
 /// The text that the mode asks for of the one value that the bytes mean, and a newline.
 ///
 /// It is Ok exactly where the bytes are UTF-8 and as a whole one JSON text (nested at most 127
 /// deep), and its tree has a meaning in MongoDB Extended JSON v2; only want of memory may come in
-/// its place. `NotJson` is answered where there is no such text, `BadObjectId` where the first
-/// fault of its tree is the text of an object id, and `NotExtendedJson` where it is any other.
-/// `CannotRead` and `CannotWrite` are never answered.
+/// its place. `NotJson` is answered where there is no such text, and `NotExtendedJson` with the
+/// first fault of its tree where that has no meaning. `CannotRead` and `CannotWrite` are never
+/// answered.
 ///
 /// ```
 /// if let Ok(line) = convert(alloc, Mode::Relaxed, br#"{"$numberLong": "5"}"#) {
@@ -37,31 +39,61 @@ pub fn convert(alloc: Global, mode: Mode, bytes: &[u8]) -> Result<Vec<u8>, Fault
         → IfErr result (λ fault. fault ≡ Fault.OutOfMemory) }
     ensures fault { IfErr result (λ fault. IsRefused fault bytes.now) }
 {
-    let read = converted(alloc, mode, bytes)?;
-    output(alloc, mode, read)
+    convert_with(alloc, default_options(), mode, bytes)
+}
+
+// What is done where no options are given.
+pub(crate) fn default_options() -> Options
+    ensures { result ≡ default_options }
+{
+    Options::default()
+}
+
+/// [`convert`] with options: what a text means, and which values have one, is as they say.
+pub fn convert_with(
+    alloc: Global,
+    options: Options,
+    mode: Mode,
+    bytes: &[u8],
+) -> Result<Vec<u8>, Fault>
+    ensures ok { IfOk result (λ output. ConvertsIn options mode bytes.now output.items) }
+    ensures one { IfOk result (λ output. (other : List ℕ) → ConvertsIn options mode bytes.now other
+        → other ≡ output.items) }
+    ensures accepts { (tree : Data) (value : model.Value) → IsTextOf bytes.now tree
+        → MeansIn options.doubles tree value → IfErr result (λ fault. fault ≡ Fault.OutOfMemory) }
+    ensures fault { IfErr result (λ fault. IsRefusedIn options fault bytes.now) }
+{
+    let read = converted(alloc, options, mode, bytes)?;
+    output(alloc, options, mode, read)
 }
 
 /// The same of bytes that are let go once they are read, so that they take no memory beside the
 /// output of a value.
-pub(crate) fn convert_whole(alloc: Global, mode: Mode, bytes: Vec<u8>) -> Result<Vec<u8>, Fault>
-    ensures ok { IfOk result (λ output. Converts mode bytes.items output.items) }
-    ensures fault { IfErr result (λ fault. IsRefused fault bytes.items) }
+pub(crate) fn convert_whole(
+    alloc: Global,
+    options: Options,
+    mode: Mode,
+    bytes: Vec<u8>,
+) -> Result<Vec<u8>, Fault>
+    ensures ok { IfOk result (λ output. ConvertsIn options mode bytes.items output.items) }
+    ensures fault { IfErr result (λ fault. IsRefusedIn options fault bytes.items) }
 {
-    let read = converted(alloc, mode, &bytes)?;
+    let read = converted(alloc, options, mode, &bytes)?;
     drop(bytes);
-    output(alloc, mode, read)
+    output(alloc, options, mode, read)
 }
 
-/// The text in the mode's form of the value that the bytes mean, or that value.
-fn converted(alloc: Global, mode: Mode, bytes: &[u8]) -> Result<Converted, Fault>
+// The text in the mode's form of the value that the bytes mean, or that value.
+fn converted(alloc: Global, options: Options, mode: Mode, bytes: &[u8]) -> Result<Converted, Fault>
     ensures ok { IfOk result
-        (λ read. (value : model.Value) × HasTextMeaning bytes.now value × IsConverted mode value read) }
-    ensures fault { IfErr result (λ fault. IsRefused fault bytes.now) }
+        (λ read. (value : model.Value) × HasTextMeaningIn options.doubles bytes.now value
+        × IsConverted options mode value read) }
+    ensures fault { IfErr result (λ fault. IsRefusedIn options fault bytes.now) }
 {
     let read = match mode {
-        Mode::Canonical => Bson::convert_text(alloc, Form::Canonical, bytes),
-        Mode::Relaxed => Bson::convert_text(alloc, Form::Relaxed, bytes),
-        Mode::Show => return Ok(Converted::Value(meaning(alloc, bytes)?)),
+        Mode::Canonical => Bson::convert_text_with(alloc, options, Form::Canonical, bytes),
+        Mode::Relaxed => Bson::convert_text_with(alloc, options, Form::Relaxed, bytes),
+        Mode::Show => return Ok(Converted::Value(meaning(alloc, options, bytes)?)),
     };
     match read {
         Ok(read) => Ok(read),
@@ -70,63 +102,62 @@ fn converted(alloc: Global, mode: Mode, bytes: &[u8]) -> Result<Converted, Fault
 }
 
 /// The value that the bytes mean as a text.
-pub(crate) fn meaning(alloc: Global, bytes: &[u8]) -> Result<Bson, Fault>
-    ensures ok { IfOk result (λ value. HasTextMeaning bytes.now (bson_view value)) }
-    ensures read_form { IfOk result (λ value. IsReadForm (bson_view value)) }
-    ensures fault { IfErr result (λ fault. IsRefused fault bytes.now) }
+pub(crate) fn meaning(alloc: Global, options: Options, bytes: &[u8]) -> Result<Bson, Fault>
+    ensures ok { IfOk result (λ value. HasTextMeaningIn options.doubles bytes.now (bson_view value)) }
+    ensures read_form { IfOk result (λ value. IsReadFormIn options.doubles (bson_view value)) }
+    ensures fault { IfErr result (λ fault. IsRefusedIn options fault bytes.now) }
 {
-    match Bson::try_from_text(alloc, bytes) {
+    match Bson::try_from_text_with(alloc, options, bytes) {
         Ok(value) => Ok(value),
         Err(error) => Err(refused(error)),
     }
 }
 
-/// The fault of bytes that are refused so.
+// The fault of bytes that are refused so.
 fn refused(error: TextError) -> Fault
-    ensures { (bytes : List ℕ) → IsTextFault bytes error → IsRefused result bytes }
+    ensures { (options : Options) (bytes : List ℕ) → IsTextFaultIn options.doubles bytes error
+        → IsRefusedIn options result bytes }
 {
     match error {
         TextError::NotJson => Fault::NotJson,
-        TextError::NotExtendedJson(Error::InvalidObjectId(_)) => Fault::BadObjectId,
-        TextError::NotExtendedJson(Error::DeserializationError { .. }) => Fault::NotExtendedJson,
-        TextError::NotExtendedJson(Error::OutOfMemory) => Fault::OutOfMemory,
+        TextError::NotExtendedJson(place) => Fault::NotExtendedJson(place),
         TextError::OutOfMemory => Fault::OutOfMemory,
     }
 }
 
-/// The text or the value's output in the mode, and a newline.
-fn output(alloc: Global, mode: Mode, read: Converted) -> Result<Vec<u8>, Fault>
-    requires { IsWritable read }
-    ensures ok { (value : model.Value) → IsReadForm value → IsConverted mode value read
-        → IfOk result (λ output. IsOutput mode value output.items) }
+// The text or the value's output in the mode, and a newline.
+fn output(alloc: Global, options: Options, mode: Mode, read: Converted) -> Result<Vec<u8>, Fault>
+    requires { IsWritable options read }
+    ensures ok { (value : model.Value) → IsReadFormIn options.doubles value → IsConverted options mode value read
+        → IfOk result (λ output. IsOutputIn options mode value output.items) }
     ensures fault { IfErr result (λ fault. fault ≡ Fault.OutOfMemory) }
 {
     match read {
         Converted::Text(text) => line(text),
-        Converted::Value(value) => value_output(alloc, mode, value),
+        Converted::Value(value) => value_output(alloc, options, mode, value),
     }
 }
 
-/// The value's text in the mode, and a newline.
-fn value_output(alloc: Global, mode: Mode, value: Bson) -> Result<Vec<u8>, Fault>
-    requires { IsReadForm (bson_view value) }
-    ensures ok { IfOk result (λ output. IsOutput mode (bson_view value) output.items) }
+// The value's text in the mode, and a newline.
+fn value_output(alloc: Global, options: Options, mode: Mode, value: Bson) -> Result<Vec<u8>, Fault>
+    requires { IsReadFormIn options.doubles (bson_view value) }
+    ensures ok { IfOk result (λ output. IsOutputIn options mode (bson_view value) output.items) }
     ensures fault { IfErr result (λ fault. fault ≡ Fault.OutOfMemory) }
 {
     let text = match mode {
-        Mode::Canonical => value.into_canonical_text(alloc),
-        Mode::Relaxed => value.into_relaxed_text(alloc),
+        Mode::Canonical => value.into_text_with(alloc, options, Form::Canonical),
+        Mode::Relaxed => value.into_text_with(alloc, options, Form::Relaxed),
         Mode::Show => return displayed_line(alloc, &value),
     };
     match text {
         Ok(text) => line(text),
-        // What was read holds no finite double but the zeros.
+        // What was read can be written.
         Err(WriteError::FiniteDouble) => unreachable!(),
         Err(WriteError::OutOfMemory) => Err(Fault::OutOfMemory),
     }
 }
 
-/// The text that shows the value, and a newline.
+// The text that shows the value, and a newline.
 fn displayed_line(alloc: Global, value: &Bson) -> Result<Vec<u8>, Fault>
     ensures ok { IfOk result (λ line. line.items ≡ display_text (bson_view value.now) ++ newline) }
     ensures fault { IfErr result (λ fault. fault ≡ Fault.OutOfMemory) }
@@ -137,7 +168,7 @@ fn displayed_line(alloc: Global, value: &Bson) -> Result<Vec<u8>, Fault>
     }
 }
 
-/// The text, and a newline.
+// The text, and a newline.
 fn line(text: String) -> Result<Vec<u8>, Fault>
     ensures ok { IfOk result (λ line. line.items ≡ string_bytes text ++ newline) }
     ensures fault { IfErr result (λ fault. fault ≡ Fault.OutOfMemory) }

@@ -1,6 +1,8 @@
 //! Why a run was refused.
-ghost use Rattle.std.specs.Prelude.{◌≡◌};
-ghost use Rattle.bson_run.specs.Words.{line_of};
+ghost use Rattle.std.specs.Prelude.{◌≡◌, ◌≢◌, MatchBool};
+ghost use Rattle.bson_run.specs.Words.{line_of, words_of};
+
+use bson_place::place::{Place, Reason};
 
 /// Why a run was refused.
 ///
@@ -9,17 +11,16 @@ ghost use Rattle.bson_run.specs.Words.{line_of};
 ///     println!(rt; "{}", fault.line())?; // bson_cli: not JSON
 /// }
 /// ```
-#[derive(Clone, Copy, PartialEq, Eq, Debug)]
+#[derive(Debug, Drop)]
 pub enum Fault {
     /// The reader answered an error, whichever it was.
     CannotRead,
     /// The input is not one JSON text: its bytes are no UTF-8, it nests deeper than 127, or it
     /// breaks the grammar.
     NotJson,
-    /// A wrapper of an object id has the right shape and a text that is no object id.
-    BadObjectId,
-    /// The JSON text has no meaning in MongoDB Extended JSON v2.
-    NotExtendedJson,
+    /// The JSON text has no meaning in MongoDB Extended JSON v2: its first fault, and where that
+    /// lies.
+    NotExtendedJson(Place),
     /// A request for memory was refused.
     OutOfMemory,
     /// The writer answered an error, whichever it was, or took no byte.
@@ -34,10 +35,35 @@ impl Fault {
         match self {
             Fault::CannotRead => "bson_cli: cannot read",
             Fault::NotJson => "bson_cli: not JSON",
-            Fault::BadObjectId => "bson_cli: bad object id",
-            Fault::NotExtendedJson => "bson_cli: not Extended JSON",
+            Fault::NotExtendedJson(place) => match &place.reason {
+                Reason::BadObjectId(_) => "bson_cli: bad object id",
+                Reason::WrongShape(_) => "bson_cli: not Extended JSON",
+            },
             Fault::OutOfMemory => "bson_cli: out of memory",
             Fault::CannotWrite => "bson_cli: cannot write",
         }
+    }
+
+    /// The words of that line, without the program's name.
+    pub fn words(&self) -> &'static str
+        ensures words { result.now ≡ words_of self.now }
+    {
+        match self {
+            Fault::CannotRead => "cannot read",
+            Fault::NotJson => "not JSON",
+            Fault::NotExtendedJson(place) => match &place.reason {
+                Reason::BadObjectId(_) => "bad object id",
+                Reason::WrongShape(_) => "not Extended JSON",
+            },
+            Fault::OutOfMemory => "out of memory",
+            Fault::CannotWrite => "cannot write",
+        }
+    }
+
+    /// Whether memory was wanting.
+    pub(crate) fn is_memory(&self) -> bool
+        ensures { MatchBool result (self.now ≡ Fault.OutOfMemory) (self.now ≢ Fault.OutOfMemory) }
+    {
+        matches!(self, Fault::OutOfMemory)
     }
 }

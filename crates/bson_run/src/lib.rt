@@ -3,7 +3,7 @@
 //!
 //! In reading order: `mode` and `fault` (what is asked, and what is refused), `convert` (bytes to
 //! bytes) with `value` (bytes to a value), `stream` (all bytes of a reader and to a writer) and
-//! `run` (the whole way from a reader to a writer). Over lines: `order` and `line_fault` (what is
+//! `run` (the whole way from a reader to a writer). Over lines: `order` and `refusal` (what is
 //! asked, and what is refused), `gathered` (the line that is read, and what those before it gave)
 //! and `lines` (the whole way). What the programs have in common stands in `program`.
 #![tactic(auto)]
@@ -12,11 +12,11 @@ pub mod convert;
 pub mod explain;
 pub mod fault;
 mod gathered;
-pub mod line_fault;
 pub mod lines;
 pub mod mode;
 pub mod order;
 pub mod program;
+pub mod refusal;
 pub mod run;
 mod stream;
 pub mod value;

@@ -1,17 +1,19 @@
 //! One run over lines: each line of a reader is a text of its own.
-ghost use Rattle.std.specs.Prelude.{◌≡◌, ◌+◌, [], ℕ, List, Option, IfOk, IfErr, OnOk, OnErr};
+ghost use Rattle.std.specs.Prelude.{◌≡◌, ◌⊎◌, ◌+◌, [], ℕ, List, Option, IfOk, IfErr, OnOk, OnErr};
 ghost use Rattle.std.specs.Prelude.{string_bytes};
 ghost use Rattle.std.specs.Io.KnownBytes.{Appends, Consumes, IsAtEnd};
-ghost use Rattle.bson_run.specs.Lines.{DoneLines, FailsAt, FailsWith};
-ghost use Rattle.bson_run.specs.LinesSteps.{FailsOver, HasRoom, HasWritten, IsStart, Running};
-ghost use Rattle.bson_run.specs.Place.{IsOfNoText};
-ghost use Rattle.bson_run.specs.Run.{WritesBeginning};
+ghost use Rattle.bson_run.specs.Lines.{DoneLines, DoneLinesIn, FailsAt, FailsAtIn};
+ghost use Rattle.bson_run.specs.LinesSteps.{CannotWriteBoth, HasRoom, HasWritten, IsCountedOut};
+ghost use Rattle.bson_run.specs.LinesSteps.{IsStart, Running};
+ghost use Rattle.bson_run.specs.Place.{IsWhere};
 
+use crate::convert::default_options;
 use crate::fault::Fault;
 use crate::gathered::Gathered;
-use crate::line_fault::{LineFault, Refusal};
 use crate::order::{OnRefusal, Task};
+use crate::refusal::Refusal;
 use crate::stream::write_whole;
+use bson::extjson::Options;
 use std::alloc::Global;
 use std::io::{Read, Write};
 
@@ -41,38 +43,16 @@ pub struct Counts {
 /// count. A byte order mark at the start of the input is passed over.
 ///
 /// A line that is refused ends the run, or is told to `report` and left out, as `on_refusal` says.
-/// Where the run stops, the number of the first line that was not done stands beside the fault; all
-/// that the lines before it gave was written, and nothing of the line itself. At `CannotWrite` no
-/// more than a beginning of it was written. A fault of the reader or of a writer, Interrupted too,
-/// is `CannotRead` or `CannotWrite`, and so is a write that takes no byte.
+/// Where the run stops, the number of the first line that was not done stands beside the fault, and
+/// the words of `explain` for the place of the fault in it, unless memory was wanting for them; all
+/// that the lines before it gave was written, and nothing of the line itself. At `CannotWrite` not
+/// all of it was written: either verdicts are missing, or they were all told and output is. A fault
+/// of the reader or of a writer, Interrupted too, is `CannotRead` or `CannotWrite`, and so is a
+/// write that takes no byte.
 ///
 /// Memory is that of the longest line and of a block of 64 KiB with its output. The output of a
 /// block is written before the next is read.
 pub fn run_lines<R: Read, W: Write, T: Write>(
-    alloc: Global,
-    task: Task,
-    on_refusal: OnRefusal,
-    reader: &mut R,
-    writer: &mut W,
-    report: &mut T,
-) -> Result<Counts, LineFault>
-    ensures done { IfOk result
-        (λ counts. DoneLines task on_refusal (R.remaining reader.old) (R.remaining reader.new) (W.contents writer.old)
-        (W.contents writer.new) (T.contents report.old) (T.contents report.new) counts.lines counts.refused) }
-    ensures fails { IfErr result
-        (λ e. FailsAt e.fault task on_refusal (R.remaining reader.old) (R.remaining reader.new) (W.contents writer.old)
-        (W.contents writer.new) (T.contents report.old) (T.contents report.new) e.line) }
-{
-    match run_lines_explained(alloc, task, on_refusal, reader, writer, report) {
-        Ok(counts) => Ok(counts),
-        Err(refusal) => Err(refusal.at),
-    }
-}
-
-/// The same, and where the run stops at a refused line, the place of its fault too, in the words of
-/// `explain`; which are empty where the run stops for another reason, or memory is wanting for
-/// them.
-pub fn run_lines_explained<R: Read, W: Write, T: Write>(
     alloc: Global,
     task: Task,
     on_refusal: OnRefusal,
@@ -84,16 +64,44 @@ pub fn run_lines_explained<R: Read, W: Write, T: Write>(
         (λ counts. DoneLines task on_refusal (R.remaining reader.old) (R.remaining reader.new) (W.contents writer.old)
         (W.contents writer.new) (T.contents report.old) (T.contents report.new) counts.lines counts.refused) }
     ensures fails { IfErr result
-        (λ e. FailsAt e.at.fault task on_refusal (R.remaining reader.old) (R.remaining reader.new)
-        (W.contents writer.old) (W.contents writer.new) (T.contents report.old) (T.contents report.new) e.at.line) }
-    ensures place { IfErr result (λ e. FailsWith (string_bytes e.place) e.at.fault task on_refusal
-        (R.remaining reader.old) (R.remaining reader.new) (W.contents writer.old) (W.contents writer.new)
-        (T.contents report.old) (T.contents report.new) e.at.line) }
-    ensures bare { IfErr result (λ e. IsOfNoText e.at.fault → string_bytes e.place ≡ []) }
+        (λ e. FailsAt e.fault task on_refusal (R.remaining reader.old) (R.remaining reader.new) (W.contents writer.old)
+        (W.contents writer.new) (T.contents report.old) (T.contents report.new) e.line) }
+    ensures place { IfErr result (λ e. IsWhere e.fault (string_bytes e.place) ⊎ (string_bytes e.place ≡ [])) }
+{
+    run_lines_with(
+        alloc,
+        default_options(),
+        task,
+        on_refusal,
+        reader,
+        writer,
+        report,
+    )
+}
+
+/// [`run_lines`] with options: what a line means, and which values have a text, is as they say.
+pub fn run_lines_with<R: Read, W: Write, T: Write>(
+    alloc: Global,
+    options: Options,
+    task: Task,
+    on_refusal: OnRefusal,
+    reader: &mut R,
+    writer: &mut W,
+    report: &mut T,
+) -> Result<Counts, Refusal>
+    ensures done { IfOk result
+        (λ counts. DoneLinesIn options task on_refusal (R.remaining reader.old) (R.remaining reader.new)
+        (W.contents writer.old) (W.contents writer.new) (T.contents report.old) (T.contents report.new) counts.lines
+        counts.refused) }
+    ensures fails { IfErr result
+        (λ e. FailsAtIn options e.fault task on_refusal (R.remaining reader.old) (R.remaining reader.new)
+        (W.contents writer.old) (W.contents writer.new) (T.contents report.old) (T.contents report.new) e.line) }
+    ensures place { IfErr result (λ e. IsWhere e.fault (string_bytes e.place) ⊎ (string_bytes e.place ≡ [])) }
 {
     let mut gathered = Gathered::new(alloc);
     match run_on(
         alloc,
+        options,
         task,
         on_refusal,
         &mut gathered,
@@ -102,42 +110,43 @@ pub fn run_lines_explained<R: Read, W: Write, T: Write>(
         report,
     ) {
         Ok(counts) => Ok(counts),
-        Err(at) => Err(Refusal {
-            at,
-            place: gathered.place_of(alloc, at.fault),
-        }),
+        Err(fault) => Err(gathered.refusal(alloc, fault)),
     }
 }
 
-/// A run that has gathered nothing yet.
+// A run that has gathered nothing yet.
 fn run_on<R: Read, W: Write, T: Write>(
     alloc: Global,
+    options: Options,
     task: Task,
     on_refusal: OnRefusal,
     gathered: &mut Gathered,
     reader: &mut R,
     writer: &mut W,
     report: &mut T,
-) -> Result<Counts, LineFault>
+) -> Result<Counts, Fault>
     requires start { IsStart gathered.old }
     requires room { HasRoom gathered.old }
+    ensures room { HasRoom gathered.new }
     ensures done { IfOk result
-        (λ counts. DoneLines task on_refusal (R.remaining reader.old) (R.remaining reader.new) (W.contents writer.old)
-        (W.contents writer.new) (T.contents report.old) (T.contents report.new) counts.lines counts.refused) }
+        (λ counts. DoneLinesIn options task on_refusal (R.remaining reader.old) (R.remaining reader.new)
+        (W.contents writer.old) (W.contents writer.new) (T.contents report.old) (T.contents report.new) counts.lines
+        counts.refused) }
     ensures fails { IfErr result
-        (λ e. FailsOver gathered.new e.fault task on_refusal (R.remaining reader.old) (R.remaining reader.new)
-        (W.contents writer.old) (W.contents writer.new) (T.contents report.old) (T.contents report.new) e.line) }
+        (λ e. FailsAtIn options e task on_refusal (R.remaining reader.old) (R.remaining reader.new)
+        (W.contents writer.old) (W.contents writer.new) (T.contents report.old) (T.contents report.new) (gathered.new.lines + 1)) }
 {
     let mut block = [0u8; BLOCK];
     for _ in 0..u64::MAX {
         let Ok(count) = reader.read(&mut block) else {
-            return Err(gathered.stopped(Fault::CannotRead));
+            return Err(Fault::CannotRead);
         };
         if count == 0 {
-            return end(alloc, task, on_refusal, gathered, writer, report);
+            return end(alloc, options, task, on_refusal, gathered, writer, report);
         }
         pass_on(
             alloc,
+            options,
             task,
             on_refusal,
             gathered,
@@ -147,58 +156,68 @@ fn run_on<R: Read, W: Write, T: Write>(
         )?;
     }
     // A count that no run reaches.
-    Err(gathered.stopped(Fault::CannotRead))
+    Err(Fault::CannotRead)
 }
 
-/// Takes a block, and writes what its lines gave.
+// Takes a block, and writes what its lines gave.
 fn pass_on<W: Write, T: Write>(
     alloc: Global,
+    options: Options,
     task: Task,
     on_refusal: OnRefusal,
     gathered: &mut Gathered,
     block: &[u8],
     writer: &mut W,
     report: &mut T,
-) -> Result<(), LineFault>
+) -> Result<(), Fault>
     requires room { HasRoom gathered.old }
     ensures room { HasRoom gathered.new }
     ensures ok { OnOk result ((before given after had told : Option (List ℕ))
-        → Running task on_refusal before given had (W.contents writer.old) told (T.contents report.old) gathered.old
+        → Running options task on_refusal before given had (W.contents writer.old) told (T.contents report.old)
+        gathered.old
         → Consumes given after block.now
-        → Running task on_refusal before after had (W.contents writer.new) told (T.contents report.new) gathered.new) }
+        → Running options task on_refusal before after had (W.contents writer.new) told (T.contents report.new)
+        gathered.new) }
     ensures fails { IfErr result (λ e. (before given after had told : Option (List ℕ))
-        → Running task on_refusal before given had (W.contents writer.old) told (T.contents report.old) gathered.old
+        → Running options task on_refusal before given had (W.contents writer.old) told (T.contents report.old)
+        gathered.old
         → Consumes given after block.now
-        → FailsOver gathered.new e.fault task on_refusal before after had (W.contents writer.new) told
-        (T.contents report.new) e.line) }
+        → FailsAtIn options e task on_refusal before after had (W.contents writer.new) told
+        (T.contents report.new) (gathered.new.lines + 1)) }
+    ensures count { IfErr result (λ e. IsCountedOut e gathered.new.lines) }
 {
-    let step = gathered.take(alloc, task, on_refusal, block);
+    let step = gathered.take(alloc, options, task, on_refusal, block);
     write_out(gathered, writer, report)?;
     step
 }
 
-/// Takes a last line that no newline ends, and writes what it gave.
+// Takes a last line that no newline ends, and writes what it gave.
 fn end<W: Write, T: Write>(
     alloc: Global,
+    options: Options,
     task: Task,
     on_refusal: OnRefusal,
     gathered: &mut Gathered,
     writer: &mut W,
     report: &mut T,
-) -> Result<Counts, LineFault>
+) -> Result<Counts, Fault>
     requires room { HasRoom gathered.old }
+    ensures room { HasRoom gathered.new }
     ensures done { IfOk result (λ counts. (before after had told : Option (List ℕ))
-        → Running task on_refusal before after had (W.contents writer.old) told (T.contents report.old) gathered.old
+        → Running options task on_refusal before after had (W.contents writer.old) told (T.contents report.old)
+        gathered.old
         → IsAtEnd after
-        → DoneLines task on_refusal before after had (W.contents writer.new) told
+        → DoneLinesIn options task on_refusal before after had (W.contents writer.new) told
         (T.contents report.new) counts.lines counts.refused) }
     ensures fails { IfErr result (λ e. (before after had told : Option (List ℕ))
-        → Running task on_refusal before after had (W.contents writer.old) told (T.contents report.old) gathered.old
+        → Running options task on_refusal before after had (W.contents writer.old) told (T.contents report.old)
+        gathered.old
         → IsAtEnd after
-        → FailsOver gathered.new e.fault task on_refusal before after had (W.contents writer.new) told
-        (T.contents report.new) e.line) }
+        → FailsAtIn options e task on_refusal before after had (W.contents writer.new) told
+        (T.contents report.new) (gathered.new.lines + 1)) }
+    ensures count { IfErr result (λ e. IsCountedOut e gathered.new.lines) }
 {
-    let step = gathered.take_last(alloc, task, on_refusal);
+    let step = gathered.take_last(alloc, options, task, on_refusal);
     write_out(gathered, writer, report)?;
     step?;
     Ok(Counts {
@@ -207,29 +226,29 @@ fn end<W: Write, T: Write>(
     })
 }
 
-/// Writes what is held, and tells what is untold. The verdicts come first, so that a writer that
-/// takes no more hides none.
+// Writes what is held, and tells what is untold. The verdicts come first, so that a writer that
+// takes no more hides none.
 fn write_out<W: Write, T: Write>(
     gathered: &mut Gathered,
     writer: &mut W,
     report: &mut T,
-) -> Result<(), LineFault>
+) -> Result<(), Fault>
     requires room { HasRoom gathered.old }
     ensures room { HasRoom gathered.new }
     ensures ok { OnOk result (HasWritten gathered.old gathered.new) }
     ensures written { OnOk result (Appends (W.contents writer.old) (W.contents writer.new) gathered.old.output.items) }
     ensures reported { OnOk result (Appends (T.contents report.old) (T.contents report.new) gathered.old.told.items) }
     ensures cut { OnErr result
-        (WritesBeginning (W.contents writer.old) (W.contents writer.new) gathered.old.output.items) }
-    ensures cut_report { OnErr result
-        (WritesBeginning (T.contents report.old) (T.contents report.new) gathered.old.told.items) }
-    ensures fault { IfErr result (λ e. (e.fault ≡ Fault.CannotWrite) × (e.line ≡ gathered.old.lines + 1)) }
+        (CannotWriteBoth (W.contents writer.old) (W.contents writer.new) (T.contents report.old)
+        (T.contents report.new) gathered.old.output.items gathered.old.told.items) }
+    ensures same { OnErr result (gathered.new.lines ≡ gathered.old.lines) }
+    ensures fault { IfErr result (λ e. e ≡ Fault.CannotWrite) }
 {
     let Ok(()) = write_whole(report, &gathered.told) else {
-        return Err(gathered.stopped(Fault::CannotWrite));
+        return Err(Fault::CannotWrite);
     };
     let Ok(()) = write_whole(writer, &gathered.output) else {
-        return Err(gathered.stopped(Fault::CannotWrite));
+        return Err(Fault::CannotWrite);
     };
     gathered.output.clear();
     gathered.told.clear();

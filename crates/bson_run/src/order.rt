@@ -42,8 +42,8 @@ impl Task {
 /// ```
 /// let mut lines: &[u8] = b"[\n2";
 /// let (mut output, mut told) = (Vec::new(alloc), Vec::new(alloc));
-/// let (task, explain) = (Task::Write(Mode::Relaxed), OnRefusal::Explain);
-/// drop(run_lines(alloc, task, explain, &mut lines, &mut output, &mut told));
+/// let (task, go_on) = (Task::Write(Mode::Relaxed), OnRefusal::KeepGoing);
+/// drop(run_lines(alloc, task, go_on, &mut lines, &mut output, &mut told));
 /// rt.print(str::from_utf8(&told)?)?; // bson_lines: line 1: not JSON at column 1
 /// rt.print(str::from_utf8(&output)?)?; // 2
 /// ```
@@ -51,8 +51,6 @@ impl Task {
 pub enum OnRefusal {
     /// It stops.
     Stop,
-    /// The line is told and left out, and the run goes on.
+    /// The line is told, with the place of its fault, and left out, and the run goes on.
     KeepGoing,
-    /// The same, and the place of the fault in the line is told too.
-    Explain,
 }

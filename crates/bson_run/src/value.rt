@@ -7,7 +7,7 @@ ghost use Rattle.serde_json.specs.Data.{Data};
 ghost use Rattle.bson_run.specs.Convert.{IsRefused};
 ghost use Rattle.bson.specs.TextMeaning.{HasTextMeaning, IsTextOf};
 
-use crate::convert::meaning;
+use crate::convert::{default_options, meaning};
 use crate::fault::Fault;
 use bson::Bson;
 use std::alloc::Global;
@@ -20,5 +20,5 @@ pub fn value_of(alloc: Global, bytes: &[u8]) -> Result<Bson, Fault>
         → IfErr result (λ fault. fault ≡ Fault.OutOfMemory) }
     ensures fault { IfErr result (λ fault. IsRefused fault bytes.now) }
 {
-    meaning(alloc, bytes)
+    meaning(alloc, default_options(), bytes)
 }

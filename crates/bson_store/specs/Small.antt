@@ -1,4 +1,4 @@
--- Pairs with a map of their keys' places, which is there where they are more than eight and their keys do not ascend.
+-- Pairs with a map of their keys' places, which is there where they are more than sixteen and their keys do not ascend.
 use Rattle.std.specs.Prelude.{◌≡◌, ℕ, ◌<◌, List, map, length, Option, None, Some, String, Box, string_bytes}
 use Rattle.std.specs.BTreeMap.{BTreeMap, get_by_text}
 use Rattle.std.specs.List.Sorted.{IsStrictlySortedBy}
@@ -28,10 +28,10 @@ module _ {V : Type 0} where
   abbrev pub KeysAscend : List (List ℕ × V) → Type 0
   KeysAscend ps = IsStrictlySortedBy key_cmp (keys ps)
 
-  -- with no map, pairs that are more than eight have keys that ascend; with one, they are more than eight
+  -- with no map, pairs that are more than sixteen have keys that ascend; with one, they are more than sixteen
   abbrev pub IsPlaced : List (List ℕ × V) → Index → Type 0
-  IsPlaced ps None = 8 < length ps → KeysAscend ps
-  IsPlaced ps (Some m) = (8 < length ps) × HasPlaces m.value ps
+  IsPlaced ps None = 16 < length ps → KeysAscend ps
+  IsPlaced ps (Some m) = (16 < length ps) × HasPlaces m.value ps
 
   -- what always holds of the pairs and of their map
   abbrev pub IsIndexed : List (List ℕ × V) → Index → Type 0

@@ -91,7 +91,7 @@ fn ascends<V>(pairs: &Vec<Pair<V>>) -> bool
 pub(crate) fn needs_no_map<V>(pairs: &Vec<Pair<V>>, key: &str) -> bool
     requires { IsPlaced (stored_pairs pairs.now.items) None }
     ensures yes { IsTrue result → (v : V) → IsPlaced (stored_pairs pairs.now.items ++ (key.now, v) ∷ []) None }
-    ensures no { result ≡ false → 8 ≤ length (stored_pairs pairs.now.items) }
+    ensures no { result ≡ false → 16 ≤ length (stored_pairs pairs.now.items) }
 {
     if pairs.len() < FEW {
         return true;

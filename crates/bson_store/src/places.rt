@@ -15,7 +15,7 @@ use std::alloc::{AllocError, Global};
 use std::collections::BTreeMap;
 
 // So many pairs have no map.
-pub(crate) const FEW: usize = 8;
+pub(crate) const FEW: usize = 16;
 
 // The place of the key where there is no map.
 pub(crate) fn find_in<V>(pairs: &Vec<Pair<V>>, key: &str) -> Option<usize>
@@ -110,7 +110,7 @@ fn lower<V>(places: &mut BTreeMap<String, usize>, pairs: &Vec<Pair<V>>, at: usiz
     }
 }
 
-// Takes out the place of a key that was taken out, and drops the map where eight keys are left.
+// Takes out the place of a key that was taken out, and drops the map where sixteen keys are left.
 pub(crate) fn take_place<V>(
     places: &mut Option<Box<BTreeMap<String, usize>>>,
     pairs: &Vec<Pair<V>>,

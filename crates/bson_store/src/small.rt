@@ -35,14 +35,14 @@ pub struct Pair<V> {
     pub value: V,
 }
 
-/// A store whose pairs stand in one `Vec`, and, where more than eight have keys that don't ascend,
+/// A store whose pairs stand in one `Vec`, and, where more than sixteen have keys that don't ascend,
 /// beside an ordered map from each key to its place.
 ///
-/// Up to eight pairs, and any number whose keys were pushed in ascending order, take one block of
-/// memory. Among eight a key is found by a walk, and among more that ascend by halves. The first
+/// Up to sixteen pairs, and any number whose keys were pushed in ascending order, take one block of
+/// memory. Among sixteen a key is found by a walk, and among more that ascend by halves. The first
 /// key that doesn't ascend makes the map, which holds a copy of each key, so that among n pairs a
 /// key is found in the order of log n comparisons, whatever the keys are. `push` takes as many, and
-/// n times as many where it makes the map, once until no more than eight pairs are left;
+/// n times as many where it makes the map, once until no more than sixteen pairs are left;
 /// `remove_at` takes as many for each pair behind the one it takes out, and no memory.
 ///
 /// ```
@@ -119,7 +119,7 @@ impl<V: Drop> SmallPairs<V> {
     /// key of all where `last` is None. None where no key is above it.
     ///
     /// Called again with the key that it found, it walks all pairs by ascending key. Among n pairs,
-    /// more than eight, a call takes in the order of log n comparisons of keys; it takes no memory.
+    /// more than sixteen, a call takes in the order of log n comparisons of keys; it takes no memory.
     pub fn next_above(&self, last: Option<&String>) -> Option<usize>
         ensures in_bounds { IfSome result (λ i. i < length self.now) }
         ensures least { IsLeast (option_map (λ s. string_bytes s.now) last.entry) self.now

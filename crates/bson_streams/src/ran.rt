@@ -94,7 +94,7 @@ fn by_lines(
     let (reader, writer, report) = (&mut ends.reader, &mut ends.writer, &mut ends.report);
     match run_lines(alloc, task, on_refusal, reader, writer, report) {
         Ok(counts) => format!(in alloc; "{} {}", counts.lines, counts.refused),
-        Err(stopped) => format!(in alloc; "line {}: {}", stopped.line, stopped.words()),
+        Err(stopped) => format!(in alloc; "line {}: {}", stopped.line, stopped.fault.words()),
     }
 }
 

@@ -7,3 +7,4 @@ pub mod Dates
 pub mod Words
 pub mod Displays
 pub mod Spellings
+pub mod Orders

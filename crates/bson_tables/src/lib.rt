@@ -2,6 +2,6 @@
 //! means which value (`proofs/Meanings`), why a tree means nothing (`proofs/Faults`), and the tree
 //! of a value in both forms (`proofs/Trees`); `proofs/Standards`, `proofs/Spellings` and
 //! `proofs/Dates` have the texts that other standards say, `proofs/Words` the words for a hasher,
-//! and `proofs/Displays` texts of values. A definition that is changed together with its code is
-//! refused here.
+//! `proofs/Displays` texts of values, and `proofs/Orders` what a text means and a value is written
+//! as with the order of keys. A definition that is changed together with its code is refused here.
 #![tactic(auto)]

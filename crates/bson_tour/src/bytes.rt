@@ -1,14 +1,20 @@
 //! Documents from BSON bytes, and to them.
 use bson::{Bson, Document};
 use bson_codec::de::{DEPTH, Error};
-use bson_codec::{from_slice, to_vec};
+use bson_codec::{from_reader, from_slice, is_document, run_documents, to_vec, to_writer};
 use std::alloc::Global;
 
 pub(crate) fn print(rt: &impl Print, alloc: Global) -> anyhow::Result<()> {
     codec(rt, alloc)?;
     de_error(rt, alloc)?;
     fault_kind(rt, alloc)?;
-    ser_error(rt, alloc)
+    ser_error(rt, alloc)?;
+    looked_at(rt)?;
+    reader_error(rt, alloc)?;
+    writer_error(rt, alloc)?;
+    counts(rt, alloc)?;
+    run_fault(rt, alloc)?;
+    run_end(rt, alloc)
 }
 
 fn codec(rt: &impl Print, alloc: Global) -> anyhow::Result<()> {
@@ -39,6 +45,55 @@ fn ser_error(rt: &impl Print, alloc: Global) -> anyhow::Result<()> {
     drop(document.insert(String::from_str(alloc, "a\0b")?, Bson::Null)?);
     if let Err(error) = to_vec(alloc, &document) {
         println!(rt; "{error}")?; // a key has a 0 byte in it
+    }
+    Ok(())
+}
+
+fn looked_at(rt: &impl Print) -> anyhow::Result<()> {
+    println!(rt; "{:?}", is_document(b"\x05\0\0\0\0", DEPTH).is_ok())?; // true
+    Ok(())
+}
+
+fn reader_error(rt: &impl Print, alloc: Global) -> anyhow::Result<()> {
+    let mut input: &[u8] = b"\x06\0\0\0";
+    if let Err(error) = from_reader(alloc, &mut input, DEPTH) {
+        println!(rt; "{error}")?; // no BSON document, by the byte at 4
+    }
+    Ok(())
+}
+
+fn writer_error(rt: &impl Print, alloc: Global) -> anyhow::Result<()> {
+    let mut document = Document::new(alloc);
+    drop(document.insert(String::from_str(alloc, "a\0b")?, Bson::Null)?);
+    let mut output = Vec::new(alloc);
+    if let Err(error) = to_writer(alloc, &document, &mut output) {
+        println!(rt; "{error}")?; // a key has a 0 byte in it
+    }
+    Ok(())
+}
+
+fn counts(rt: &impl Print, alloc: Global) -> anyhow::Result<()> {
+    let mut input: &[u8] = b"\x05\0\0\0\0\x05\0\0\0\0";
+    let mut output = Vec::new(alloc);
+    let counts = run_documents(alloc, DEPTH, false, &mut input, &mut output);
+    println!(rt; "{counts:?}")?; // Ok(DocumentCounts { documents: 2, refused: 0 })
+    Ok(())
+}
+
+fn run_fault(rt: &impl Print, alloc: Global) -> anyhow::Result<()> {
+    let mut input: &[u8] = b"\x05\0\0\0\0\x01";
+    let mut output = Vec::new(alloc);
+    if let Err(end) = run_documents(alloc, DEPTH, true, &mut input, &mut output) {
+        println!(rt; "{:?}", end.fault)?; // Malformed { kind: Short, offset: 0 }
+    }
+    Ok(())
+}
+
+fn run_end(rt: &impl Print, alloc: Global) -> anyhow::Result<()> {
+    let mut input: &[u8] = b"\x05\0\0\0\0\x05\0\0";
+    let mut output = Vec::new(alloc);
+    if let Err(end) = run_documents(alloc, DEPTH, true, &mut input, &mut output) {
+        println!(rt; "{} {}", end.number, end.start)?; // 2 5
     }
     Ok(())
 }

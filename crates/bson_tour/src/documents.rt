@@ -1,6 +1,7 @@
 //! Values, documents, and the places and walks in them.
 use crate::given;
 use bson::document::{Entry, ValueAccessError};
+use bson::store::Pair;
 use bson::{Array, Bson, Document, JavaScriptCodeWithScope};
 use std::alloc::Global;
 
@@ -18,7 +19,8 @@ pub(crate) fn print(rt: &impl Print, alloc: Global) -> anyhow::Result<()> {
     entry(rt, alloc, given::document(alloc)?)?;
     occupied_entry(rt, alloc, given::document(alloc)?)?;
     vacant_entry(rt, alloc, given::document(alloc)?)?;
-    place_mut(rt, given::document(alloc)?)
+    place_mut(rt, given::document(alloc)?)?;
+    from_entries(rt, alloc)
 }
 
 fn bson(rt: &impl Print, alloc: Global) -> anyhow::Result<()> {
@@ -124,5 +126,15 @@ fn place_mut(rt: &impl Print, mut document: Document) -> anyhow::Result<()> {
         *place.into_value() = Bson::Int32(5);
     }
     println!(rt; "{document}")?; // { "a": 1, "b": 5 }
+    Ok(())
+}
+
+fn from_entries(rt: &impl Print, alloc: Global) -> anyhow::Result<()> {
+    let mut entries = Vec::new(alloc);
+    entries.push(Pair {
+        key: String::from_str(alloc, "a")?,
+        value: Bson::Null,
+    })?;
+    println!(rt; "{}", Document::from_entries(alloc, entries)?)?; // { "a": null }
     Ok(())
 }

@@ -1,6 +1,6 @@
 //! From texts to texts, whole and by lines.
 use bson_run::convert::convert;
-use bson_run::lines::{run_lines, run_lines_explained};
+use bson_run::lines::run_lines;
 use bson_run::mode::{Mode, mode_of};
 use bson_run::order::{OnRefusal, Task};
 use bson_run::value::value_of;
@@ -11,7 +11,6 @@ pub(crate) fn print(rt: &impl Print, alloc: Global) -> anyhow::Result<()> {
     mode(rt, alloc)?;
     fault(rt, alloc)?;
     counts(rt, alloc)?;
-    line_fault(rt, alloc)?;
     refusal(rt, alloc)?;
     task(rt, alloc)?;
     on_refusal(rt, alloc)
@@ -47,25 +46,14 @@ fn counts(rt: &impl Print, alloc: Global) -> anyhow::Result<()> {
     Ok(())
 }
 
-fn line_fault(rt: &impl Print, alloc: Global) -> anyhow::Result<()> {
-    let mut lines: &[u8] = b"1\n[\n";
-    let (mut output, mut told) = (Vec::new(alloc), Vec::new(alloc));
-    let (task, stop) = (Task::Check, OnRefusal::Stop);
-    if let Err(at) = run_lines(alloc, task, stop, &mut lines, &mut output, &mut told) {
-        println!(rt; "line {}: {}", at.line, at.words())?; // line 2: not JSON
-    }
-    Ok(())
-}
-
 fn refusal(rt: &impl Print, alloc: Global) -> anyhow::Result<()> {
     let mut lines: &[u8] = br#"{"n": 1.5}"#;
     let (mut output, mut told) = (Vec::new(alloc), Vec::new(alloc));
     let (task, stop) = (Task::Check, OnRefusal::Stop);
-    let run = run_lines_explained(alloc, task, stop, &mut lines, &mut output, &mut told);
-    if let Err(refusal) = run {
-        println!(rt; "line {}{}", refusal.at.line, refusal.place)?;
+    if let Err(at) = run_lines(alloc, task, stop, &mut lines, &mut output, &mut told) {
+        println!(rt; "line {}: {}{}", at.line, at.fault.words(), at.place)?;
     }
-    // line 1 at n (a number is no whole number of 64 bits)
+    // line 1: not Extended JSON at n (a number is no whole number of 64 bits)
     Ok(())
 }
 
@@ -83,8 +71,8 @@ fn task(rt: &impl Print, alloc: Global) -> anyhow::Result<()> {
 fn on_refusal(rt: &impl Print, alloc: Global) -> anyhow::Result<()> {
     let mut lines: &[u8] = b"[\n2";
     let (mut output, mut told) = (Vec::new(alloc), Vec::new(alloc));
-    let (task, explain) = (Task::Write(Mode::Relaxed), OnRefusal::Explain);
-    drop(run_lines(alloc, task, explain, &mut lines, &mut output, &mut told));
+    let (task, go_on) = (Task::Write(Mode::Relaxed), OnRefusal::KeepGoing);
+    drop(run_lines(alloc, task, go_on, &mut lines, &mut output, &mut told));
     rt.print(str::from_utf8(&told)?)?; // bson_lines: line 1: not JSON at column 1
     rt.print(str::from_utf8(&output)?)?; // 2
     Ok(())

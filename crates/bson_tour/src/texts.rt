@@ -1,7 +1,7 @@
 //! Extended JSON, from trees and texts, and why they mean nothing.
 use bson::Bson;
-use bson::extjson::Form;
 use bson::extjson::convert::Converted;
+use bson::extjson::{Doubles, Form, Options};
 use bson_place::walk::place_of_fault;
 use serde_json::Value;
 use std::alloc::Global;
@@ -9,7 +9,10 @@ use std::alloc::Global;
 pub(crate) fn print(rt: &impl Print, alloc: Global) -> anyhow::Result<()> {
     extjson_de_error(rt, alloc)?;
     write_error(rt, alloc)?;
+    options(rt, alloc)?;
+    to_text_with_call(rt, alloc)?;
     try_from_text_call(rt, alloc)?;
+    try_from_text_with_call(rt, alloc)?;
     text_error(rt, alloc)?;
     converted(rt, alloc)?;
     place(rt, alloc)?;
@@ -33,9 +36,41 @@ fn write_error(rt: &impl Print, alloc: Global) -> anyhow::Result<()> {
     Ok(())
 }
 
+fn options(rt: &impl Print, alloc: Global) -> anyhow::Result<()> {
+    let half = Bson::Double(0x3fe0_0000_0000_0000);
+    let options = Options {
+        doubles: Doubles::Finite,
+    };
+    println!(rt; "{}", half.into_text_with(alloc, options, Form::Canonical)?)?;
+    // {"$numberDouble":"0.5"}
+    if let Err(error) = Bson::Double(1).into_text_with(alloc, Options::default(), Form::Canonical) {
+        println!(rt; "{error}")?; // a finite double has no text
+    }
+    Ok(())
+}
+
+fn to_text_with_call(rt: &impl Print, alloc: Global) -> anyhow::Result<()> {
+    let options = Options {
+        doubles: Doubles::Finite,
+    };
+    let price = Bson::Double(0x4029_0000_0000_0000);
+    println!(rt; "{}", price.to_text_with(alloc, options, Form::Relaxed)?)?;
+    // {"$numberDouble":"12.5"}
+    Ok(())
+}
+
 fn try_from_text_call(rt: &impl Print, alloc: Global) -> anyhow::Result<()> {
     let value = Bson::try_from_text(alloc, br#"{"n": {"$numberLong": "5"}}"#)?;
     println!(rt; "{value:?}")?; // Document({"n": Int64(5)})
+    Ok(())
+}
+
+fn try_from_text_with_call(rt: &impl Print, alloc: Global) -> anyhow::Result<()> {
+    let options = Options {
+        doubles: Doubles::Finite,
+    };
+    let value = Bson::try_from_text_with(alloc, options, br#"{"price": 12.5}"#)?;
+    println!(rt; "{value:?}")?; // Document({"price": Double(0x4029000000000000)})
     Ok(())
 }
 

@@ -5,7 +5,7 @@ use std::alloc::{AllocError, Global};
 use std::process::Abort;
 use std::test::Fail;
 
-const PAIRS: [(&str, u32); 12] = [
+const PAIRS: [(&str, u32); 20] = [
     ("k1", 1),
     ("k2", 2),
     ("k3", 3),
@@ -18,6 +18,14 @@ const PAIRS: [(&str, u32); 12] = [
     ("k10", 10),
     ("k11", 11),
     ("k12", 12),
+    ("k13", 13),
+    ("k14", 14),
+    ("k15", 15),
+    ("k16", 16),
+    ("k17", 17),
+    ("k18", 18),
+    ("k19", 19),
+    ("k20", 20),
 ];
 
 /// Whether the store holds exactly these pairs in this order, and finds each key at its place.
@@ -102,10 +110,10 @@ fn refused_nowhere_in_taking_out(rt: HostRuntime) -> Result<(), Fail> {
     takes_out(&rt, alloc, &mut SmallPairs::new(alloc))
 }
 
-/// Put k1 1 to k9 9, Put k9 10, Take k1 twice, Clear.
+/// Put k1 1 to k17 17, Put k9 10, Take k1 twice, Clear.
 fn commands(alloc: Global) -> Result<Vec<Command<u32>>, AllocError> {
     let mut all = Vec::new(alloc);
-    for &(key, value) in &PAIRS[..9] {
+    for &(key, value) in &PAIRS[..17] {
         all.push(Command::Put(String::from_str(alloc, key)?, value))?;
     }
     all.push(Command::Put(String::from_str(alloc, "k9")?, 10))?;
@@ -115,7 +123,15 @@ fn commands(alloc: Global) -> Result<Vec<Command<u32>>, AllocError> {
     Ok(all)
 }
 
-const REPLIES: [Option<u32>; 13] = [
+const REPLIES: [Option<u32>; 21] = [
+    None,
+    None,
+    None,
+    None,
+    None,
+    None,
+    None,
+    None,
     None,
     None,
     None,
@@ -131,8 +147,8 @@ const REPLIES: [Option<u32>; 13] = [
     None,
 ];
 
-/// A stopped replay leaves the store as it is after the first `done` commands. From the tenth on
-/// none takes memory.
+/// A stopped replay leaves the store as it is after the first `done` commands. From the
+/// eighteenth on none takes memory.
 fn replays<S: PairStore<u32>>(rt: &impl Abort, alloc: Global, store: &mut S) -> Result<(), Fail> {
     match replay(alloc, store, commands(alloc)?) {
         Ok(replies) => {
@@ -141,7 +157,7 @@ fn replays<S: PairStore<u32>>(rt: &impl Abort, alloc: Global, store: &mut S) -> 
             Ok(())
         }
         Err(Stopped { done }) => {
-            assert!(rt; done < 9);
+            assert!(rt; done < 17);
             assert!(rt; holds(store, &PAIRS[..done]));
             Err(Fail::from(AllocError))
         }

@@ -1,16 +1,12 @@
 -- `$numberDouble`.
 use Rattle.std.proofs.Common.{◌≡◌, ◌^◌, ◌/◌, ℕ, List, Bool, true, false, ◌&&◌, ◌||◌, cond, Option, Some, None, refl}
 use Rattle.std.proofs.Common.{sym, ap, ◌∙◌, subst, nat_eq, nat_lt, arith}
-use Rattle.std.specs.Prelude.{Ok, codes, is_some}
+use Rattle.std.specs.Prelude.{codes, is_some}
 use Rattle.std.proofs.lemmas.Bool.{eqb-true, eqb-false, ltb-true, ltb-false, ne_eqb}
-use Rattle.serde_json.specs.Data.{Data}
 use Rattle.bson_wrapper.specs.Doubles.{double_of, double_text, normal_double, is_nan, is_minus_nan, is_special}
-use Rattle.bson_wrapper.specs.Means.{MeansScalar, number_double}
 use Rattle.bson_wrapper.specs.Normal.{IsReadScalar}
-use Rattle.bson_wrapper.specs.Reading.{double_read}
-use Rattle.bson_wrapper.specs.Scalar.{Scalar, double}
-use Rattle.bson_wrapper.specs.Shapes.{object_of_one}
-use Rattle.bson_wrapper.proofs.InverseLemmas.{means_by, un_ok, un_some, text_then, some_then}
+use Rattle.bson_wrapper.specs.Scalar.{double}
+use Rattle.bson_wrapper.proofs.InverseLemmas.{un_some}
 
 -- ---- a text
 
@@ -30,13 +26,6 @@ form_at false false false false false false p h = cc
 
 pub double_form : (s : List ℕ) (p : ℕ) → double_of s ≡ Some p → IsReadScalar (double p)
 double_form s p h = form_at _ _ _ _ _ _ p h
-
-pub double_from : (d : Data) (x : Scalar) → double_read d ≡ Ok x
-    → MeansScalar (object_of_one (codes "$numberDouble") d) x
-double_from d x h =
-    let t = text_then d _ x h in
-    let n = some_then (double_of t.0) _ x t.2 in
-    means_by (codes "$numberDouble") d _ x _ t.1 (un_ok _ _ n.2) (number_double t.0 n.0 n.1)
 
 -- ---- a pattern, its text and its form
 

@@ -1,7 +1,8 @@
 -- The laws that the crates above use. No other file of these proofs is cited from outside.
 pub use Rattle.bson_wrapper.proofs.BinaryLaws.{subtype_byte-of}
+pub use Rattle.bson_wrapper.proofs.DoubleModes.{in_each}
 pub use Rattle.bson_wrapper.proofs.InTurn.{in_turn, on_ok}
 pub use Rattle.bson_wrapper.proofs.InverseLemmas.{text_then}
 pub use Rattle.bson_wrapper.proofs.ScalarLaws.{back, nf_again, nf_written, scalar_form, scalar_from, scalar_no_float}
 pub use Rattle.bson_wrapper.proofs.ScalarLaws.{scalar_to, as_read_again, as_read_canonical, as_read_written}
-pub use Rattle.bson_wrapper.proofs.ScalarLaws.{writable_is, written_from, written_to}
+pub use Rattle.bson_wrapper.proofs.ScalarLaws.{writable_is, written_from, written_to, finite_range, all_writable_is}

@@ -1,6 +1,6 @@
 -- One lemma a law, for all scalars.
 use Rattle.std.proofs.Common.{◌≡◌, ◌<◌, ◌^◌, ℕ, ℤ, pos, negsuc, List, [], ◌∷◌, Bool, true, false, ◌&&◌, cond, Option}
-use Rattle.std.proofs.Common.{Some, None, Result, Ok, Err, refl, sym, ap, ◌∙◌, subst, w32, w64, arith}
+use Rattle.std.proofs.Common.{Some, None, Result, Ok, Err, inl, inr, refl, sym, ap, ◌∙◌, subst, w32, w64, arith}
 use Rattle.std.specs.Prelude.{FitsSigned, is_ok, is_some, codes}
 use Rattle.std.specs.Str.{bytes_eq}
 use Rattle.std.proofs.lemmas.Bool.{and_parts}
@@ -17,20 +17,22 @@ use Rattle.bson_decimal.proofs.Offered.{display_text-canon, parses-form}
 use Rattle.bson_wrapper.specs.Dates.{is_recent, relaxed_date_tree}
 use lib.Signed.{mag}
 use Rattle.bson_wrapper.specs.Decimals.{decimal_tree}
-use Rattle.bson_wrapper.specs.Doubles.{double_text, double_tree, normal_double}
+use Rattle.bson_wrapper.specs.Doubles.{double_tree, normal_double, text_in}
 use Rattle.bson_wrapper.specs.Faults.{Fault, wrong_shape}
 use Rattle.bson_wrapper.specs.Ints.{fits_bits}
-use Rattle.bson_wrapper.specs.Means.{MeansScalar}
+use Rattle.bson_wrapper.specs.Means.{MeansScalar, MeansScalarIn, MeansFinite}
 use Rattle.bson_wrapper.specs.Means as means
-use Rattle.bson_wrapper.specs.Normal.{normal_scalar, scalar_as_read, int64_as_read, writable_scalar, ScalarInRange}
-use Rattle.bson_wrapper.specs.Normal.{IsReadScalar}
-use Rattle.bson_wrapper.specs.Reading.{code_beside, single, single_at, scalar_read}
+use Rattle.bson_wrapper.specs.Normal.{normal_scalar, scalar_as_read, int64_as_read, writable_scalar_in, ScalarInRange}
+use Rattle.bson_wrapper.specs.Normal.{IsReadScalarIn}
+use Rattle.bson_wrapper.specs.Reading.{code_beside, single_in, single_at_in, scalar_read_in}
 use Rattle.bson_wrapper.specs.Regexes.{regex_tree}
 use Rattle.bson_wrapper.specs.Scalar.{Scalar, null, undefined, min_key, max_key, boolean, double, int32, int64, text}
 use Rattle.bson_wrapper.specs.Scalar.{symbol, code, regex, timestamp, binary, object_id, date, decimal, db_pointer}
 use Rattle.bson_wrapper.specs.Table.{key_of, wrapper_of}
-use Rattle.bson_wrapper.specs.Written.{WrittenScalar, Refusal, ◌>>=◌, or_finite, writes_scalar, int32_form, int64_form}
-use Rattle.bson_wrapper.specs.Written.{date_form}
+use Rattle.bson_wrapper.specs.Written.{WrittenScalarIn, Refusal, ◌>>=◌, or_finite, writes_scalar_in, int32_form}
+use Rattle.bson_wrapper.specs.Written.{int64_form, date_form}
+use Rattle.bson_wrapper.specs.declared.form.Doubles.{Doubles}
+use Rattle.bson_wrapper.specs.declared.form.Doubles.TheVariants.{Special, Finite}
 use Rattle.bson_wrapper.specs.declared.form.Form.{Form}
 use Rattle.bson_wrapper.specs.declared.form.Form.TheVariants.{Canonical, Relaxed}
 use Rattle.bson_wrapper.specs.declared.wrapper.Wrapper.{Wrapper}
@@ -45,10 +47,12 @@ use Rattle.bson_datetime.proofs.Offered.{denotes-names}
 use Rattle.bson_scalar.proofs.Offered.{hyphenated_to, sized_to, sorted_text-again}
 use Rattle.bson_wrapper.proofs.DateLaws.{date_from, recent_denoted}
 use Rattle.bson_wrapper.proofs.DecimalLaws.{decimal_from, decimal_of-some, decimal_of-display_text, canon-again}
-use Rattle.bson_wrapper.proofs.DoubleLaws.{double_from, double_form, double_text-form, double_again, nan_form-again}
-use Rattle.bson_wrapper.proofs.DoubleLaws.{special_is}
+use Rattle.bson_wrapper.proofs.DoubleLaws.{nan_form-again}
+use Rattle.bson_wrapper.proofs.DoubleModes.{in_each, double_from, double_to, finite_to, finite_form, double_form_in}
+use Rattle.bson_wrapper.proofs.DoubleModes.{text_is, text_to, has_text, text_form, again, all_writable}
+use Rattle.bson_wrapper.proofs.FiniteDoubles.{text_finite, pattern_finite}
 use Rattle.bson_wrapper.proofs.IdLaws.{oid_from, pointer_from, id_again}
-use Rattle.bson_wrapper.proofs.IntLaws.{int32_from, int64_from, number_from, narrow_read, wide_read, int32_again}
+use Rattle.bson_wrapper.proofs.IntLaws.{int32_from, int64_from, number_from_in, narrow_read, wide_read, int32_again}
 use Rattle.bson_wrapper.proofs.IntLaws.{int64_again, number_again}
 use Rattle.bson_wrapper.proofs.LoneLaws.{min_key_from, max_key_from, undefined_from}
 use Rattle.bson_wrapper.proofs.RegexLaws.{regex_from}
@@ -57,23 +61,24 @@ use Rattle.bson_wrapper.proofs.TimestampLaws.{timestamp_from, natural_again}
 
 -- ---- what is read is the meaning
 
-under : (w : Wrapper) (d : Data) (x : Scalar) → single w d ≡ Ok x → MeansScalar (object_of_one (key_of w) d) x
-under Oid = oid_from
-under Symbol = symbol_from
-under RegularExpression = regex_from
-under NumberInt = int32_from
-under NumberLong = int64_from
-under NumberDouble = double_from
-under NumberDecimal = decimal_from
-under Binary = binary_from
-under Uuid = uuid_from
-under Code = code_from
-under Timestamp = timestamp_from
-under Date = date_from
-under MinKey = min_key_from
-under MaxKey = max_key_from
-under DbPointer = pointer_from
-under Undefined = undefined_from
+under : (m : Doubles) (w : Wrapper) (d : Data) (x : Scalar) → single_in m w d ≡ Ok x
+    → MeansScalarIn m (object_of_one (key_of w) d) x
+under m Oid d x h = in_each m (oid_from d x h)
+under m Symbol d x h = in_each m (symbol_from d x h)
+under m RegularExpression d x h = in_each m (regex_from d x h)
+under m NumberInt d x h = in_each m (int32_from d x h)
+under m NumberLong d x h = in_each m (int64_from d x h)
+under m NumberDouble d x h = double_from m d x h
+under m NumberDecimal d x h = in_each m (decimal_from d x h)
+under m Binary d x h = in_each m (binary_from d x h)
+under m Uuid d x h = in_each m (uuid_from d x h)
+under m Code d x h = in_each m (code_from d x h)
+under m Timestamp d x h = in_each m (timestamp_from d x h)
+under m Date d x h = in_each m (date_from d x h)
+under m MinKey d x h = in_each m (min_key_from d x h)
+under m MaxKey d x h = in_each m (max_key_from d x h)
+under m DbPointer d x h = in_each m (pointer_from d x h)
+under m Undefined d x h = in_each m (undefined_from d x h)
 
 -- the key of a wrapper that the table finds
 key_at : (k : List ℕ) (a : Wrapper) (b : Bool) (r : Option Wrapper) (w : Wrapper) → (b ≡ true → k ≡ key_of a)
@@ -92,10 +97,11 @@ key_from k w =
     (key_at k Timestamp _ _ w (is Timestamp) (key_at k Date _ _ w (is Date) (key_at k MinKey _ _ w (is MinKey)
     (key_at k MaxKey _ _ w (is MaxKey) (key_at k Undefined _ _ w (is Undefined) (λ h. cc))))))))))))))))
 
-single_from : (k : List ℕ) (d : Data) (o : Option Wrapper) (x : Scalar) → o ≡ wrapper_of k → single_at o d ≡ Ok x
-    → MeansScalar (object_of_one k d) x
-single_from k d (Some w) x is h = rw (key_from k w (sym is)) (under w d x h)
-single_from k d None x is h = cc
+single_from : (m : Doubles) (k : List ℕ) (d : Data) (o : Option Wrapper) (x : Scalar) → o ≡ wrapper_of k
+    → single_at_in m o d ≡ Ok x → MeansScalarIn m (object_of_one k d) x
+single_from m k d (Some w) x is h =
+    subst (λ a. MeansScalarIn m (object_of_one a d) x) (sym (key_from k w (sym is))) (under m w d x h)
+single_from m k d None x is h = cc
 
 guarded : (b : Bool) (r : Result Scalar Fault) (x : Scalar) → cond b r (Err wrong_shape) ≡ Ok x
     → (b ≡ true) × (r ≡ Ok x)
@@ -125,72 +131,95 @@ scope_from k l d e x h =
     (subst (λ a. MeansScalar (object_of_two (codes "$code") d a e) x) (sym (inverse.key_is l _ keys.1))
     (code_text e d x g.1))
 
-pub scalar_from : (t : Data) (x : Scalar) → scalar_read t ≡ Ok x → MeansScalar t x
-scalar_from tree.null x h = rw (inverse.un_ok _ _ h) means.null
-scalar_from (tree.boolean b) x h = rw (inverse.un_ok _ _ h) (means.boolean b)
-scalar_from (tree.number n) x h = number_from n x h
-scalar_from (tree.string s) x h = rw (inverse.un_ok _ _ h) (means.text s)
-scalar_from (tree.array ds) x h = cc
-scalar_from (tree.object no_members) x h = cc
-scalar_from (tree.object (member k d no_members)) x h = single_from k d (wrapper_of k) x refl h
-scalar_from (tree.object (member k d (member l e no_members))) x h = scope_from k l d e x h
-scalar_from (tree.object (member k d (member l e (member m f ms)))) x h = cc
+pub scalar_from : (m : Doubles) (t : Data) (x : Scalar) → scalar_read_in m t ≡ Ok x → MeansScalarIn m t x
+scalar_from m tree.null x h = in_each m (rw (inverse.un_ok _ _ h) means.null)
+scalar_from m (tree.boolean b) x h = in_each m (rw (inverse.un_ok _ _ h) (means.boolean b))
+scalar_from m (tree.number n) x h = number_from_in m n x h
+scalar_from m (tree.string s) x h = in_each m (rw (inverse.un_ok _ _ h) (means.text s))
+scalar_from m (tree.array ds) x h = cc
+scalar_from m (tree.object no_members) x h = cc
+scalar_from m (tree.object (member k d no_members)) x h = single_from m k d (wrapper_of k) x refl h
+scalar_from m (tree.object (member k d (member l e no_members))) x h = in_each m (scope_from k l d e x h)
+scalar_from m (tree.object (member k d (member l e (member n f ms)))) x h = cc
 
-pub scalar_to : {t : Data} {x : Scalar} → MeansScalar t x → scalar_read t ≡ Ok x
-scalar_to means.null = refl
-scalar_to (means.boolean b) = refl
-scalar_to (means.text s) = refl
-scalar_to (means.narrow_number n z is fits) = narrow_read n z is fits
-scalar_to (means.wide_number n z is never) = wide_read n z is never
-scalar_to (means.number_int s z is) = rw (int_of_some w32 s z is) refl
-scalar_to (means.number_long s z is) = rw (int_of_some w64 s z is) refl
-scalar_to (means.number_double s p is) = rw is refl
-scalar_to (means.number_decimal s b is) = rw (decimal_of-some s b is) refl
-scalar_to (means.symbol s) = refl
-scalar_to (means.code s) = refl
-scalar_to (means.code_without_scope s) = refl
-scalar_to (means.regular_expression p o) = refl
-scalar_to (means.oid s id is) = rw (sized_to 12 s id is.0 is.1) refl
-scalar_to (means.db_pointer name s id is) = rw (sized_to 12 s id is.0 is.1) refl
-scalar_to (means.timestamp i t m n i_is t_is) = rw (i_is, t_is) refl
-scalar_to (means.date_of_millis s z is) = rw (int_of_some w64 s z is) refl
-scalar_to (means.date_of_text s z is) = rw ((denotes-names s z).1 is) refl
-scalar_to (means.date_of_number n z is) = rw is refl
-scalar_to (means.binary s k bytes n is at) = rw (bytes_to s bytes is, sized_to 1 k (n ∷ []) at refl) refl
-scalar_to (means.uuid s id is) = rw (hyphenated_to s id is) refl
-scalar_to (means.min_key d is) = rw is refl
-scalar_to (means.max_key d is) = rw is refl
-scalar_to means.undefined = refl
+-- a production of today's grammar is read so in each mode
+to_each : (m : Doubles) {t : Data} {x : Scalar} → MeansScalar t x → scalar_read_in m t ≡ Ok x
+to_each m means.null = refl
+to_each m (means.boolean b) = refl
+to_each m (means.text s) = refl
+to_each m (means.narrow_number n z is fits) = narrow_read m n z is fits
+to_each m (means.wide_number n z is never) = wide_read m n z is never
+to_each m (means.number_int s z is) = rw (int_of_some w32 s z is) refl
+to_each m (means.number_long s z is) = rw (int_of_some w64 s z is) refl
+to_each m (means.number_double s p is) = rw (double_to m s p is) refl
+to_each m (means.number_decimal s b is) = rw (decimal_of-some s b is) refl
+to_each m (means.symbol s) = refl
+to_each m (means.code s) = refl
+to_each m (means.code_without_scope s) = refl
+to_each m (means.regular_expression p o) = refl
+to_each m (means.oid s id is) = rw (sized_to 12 s id is.0 is.1) refl
+to_each m (means.db_pointer name s id is) = rw (sized_to 12 s id is.0 is.1) refl
+to_each mode (means.timestamp i t m n i_is t_is) = rw (i_is, t_is) refl
+to_each m (means.date_of_millis s z is) = rw (int_of_some w64 s z is) refl
+to_each m (means.date_of_text s z is) = rw ((denotes-names s z).1 is) refl
+to_each m (means.date_of_number n z is) = rw is refl
+to_each m (means.binary s k bytes n is at) = rw (bytes_to s bytes is, sized_to 1 k (n ∷ []) at refl) refl
+to_each m (means.uuid s id is) = rw (hyphenated_to s id is) refl
+to_each m (means.min_key d is) = rw is refl
+to_each m (means.max_key d is) = rw is refl
+to_each m means.undefined = refl
 
-pub scalar_one : (t : Data) (x y : Scalar) → MeansScalar t x → MeansScalar t y → x ≡ y
-scalar_one t x y h g = inverse.un_ok _ _ (sym (scalar_to g) ∙ scalar_to h)
+to_finite : {t : Data} {x : Scalar} → MeansFinite t x → scalar_read_in Finite t ≡ Ok x
+to_finite (means.nearest_to_text s p is) = rw (finite_to s p is) refl
+to_finite (means.nearest_to_number n p none is) = rw none (rw is refl)
+
+pub scalar_to : (m : Doubles) (t : Data) (x : Scalar) → MeansScalarIn m t x → scalar_read_in m t ≡ Ok x
+scalar_to Special t x h = to_each Special h
+scalar_to Finite t x (inl h) = to_each Finite h
+scalar_to Finite t x (inr h) = to_finite h
+
+pub scalar_one : (m : Doubles) (t : Data) (x y : Scalar) → MeansScalarIn m t x → MeansScalarIn m t y → x ≡ y
+scalar_one m t x y h g = inverse.un_ok _ _ (sym (scalar_to m t y g) ∙ scalar_to m t x h)
 
 -- a scalar that is read is writable, and in normal form, or a NaN of a decimal
-pub scalar_form : {t : Data} {x : Scalar} → MeansScalar t x → IsReadScalar x
-scalar_form (means.number_double s p is) = double_form s p is
-scalar_form (means.regular_expression p o) = (refl, ap (regex p) (sorted_text-again o))
-scalar_form (means.binary s k bytes n is at) = (refl, ap (λ m. binary (subtype_of m) bytes) (subtype_byte-of n))
-scalar_form (means.number_decimal s b is) = (refl, parses-form s b is)
-scalar_form means.null = (refl, refl)
-scalar_form (means.boolean b) = (refl, refl)
-scalar_form (means.text s) = (refl, refl)
-scalar_form (means.narrow_number n z is fits) = (refl, refl)
-scalar_form (means.wide_number n z is never) = (refl, refl)
-scalar_form (means.number_int s z is) = (refl, refl)
-scalar_form (means.number_long s z is) = (refl, refl)
-scalar_form (means.symbol s) = (refl, refl)
-scalar_form (means.code s) = (refl, refl)
-scalar_form (means.code_without_scope s) = (refl, refl)
-scalar_form (means.oid s id is) = (refl, refl)
-scalar_form (means.db_pointer name s id is) = (refl, refl)
-scalar_form (means.timestamp i t m n i_is t_is) = (refl, refl)
-scalar_form (means.date_of_millis s z is) = (refl, refl)
-scalar_form (means.date_of_text s z is) = (refl, refl)
-scalar_form (means.date_of_number n z is) = (refl, refl)
-scalar_form (means.uuid s id is) = (refl, refl)
-scalar_form (means.min_key d is) = (refl, refl)
-scalar_form (means.max_key d is) = (refl, refl)
-scalar_form means.undefined = (refl, refl)
+form_each : (m : Doubles) {t : Data} {x : Scalar} → MeansScalar t x → IsReadScalarIn m x
+form_each m (means.number_double s p is) = double_form_in m s p is
+form_each m (means.regular_expression p o) = (refl, ap (regex p) (sorted_text-again o))
+form_each m (means.binary s k bytes n is at) = (refl, ap (λ k. binary (subtype_of k) bytes) (subtype_byte-of n))
+form_each m (means.number_decimal s b is) = (refl, parses-form s b is)
+form_each m means.null = (refl, refl)
+form_each m (means.boolean b) = (refl, refl)
+form_each m (means.text s) = (refl, refl)
+form_each m (means.narrow_number n z is fits) = (refl, refl)
+form_each m (means.wide_number n z is never) = (refl, refl)
+form_each m (means.number_int s z is) = (refl, refl)
+form_each m (means.number_long s z is) = (refl, refl)
+form_each m (means.symbol s) = (refl, refl)
+form_each m (means.code s) = (refl, refl)
+form_each m (means.code_without_scope s) = (refl, refl)
+form_each m (means.oid s id is) = (refl, refl)
+form_each m (means.db_pointer name s id is) = (refl, refl)
+form_each mode (means.timestamp i t m n i_is t_is) = (refl, refl)
+form_each m (means.date_of_millis s z is) = (refl, refl)
+form_each m (means.date_of_text s z is) = (refl, refl)
+form_each m (means.date_of_number n z is) = (refl, refl)
+form_each m (means.uuid s id is) = (refl, refl)
+form_each m (means.min_key d is) = (refl, refl)
+form_each m (means.max_key d is) = (refl, refl)
+form_each m means.undefined = (refl, refl)
+
+form_finite : {t : Data} {x : Scalar} → MeansFinite t x → IsReadScalarIn Finite x
+form_finite (means.nearest_to_text s p is) = finite_form p (text_finite s p is).1
+form_finite (means.nearest_to_number n p none is) = finite_form p (pattern_finite _ p is).1
+
+pub scalar_form : (m : Doubles) (t : Data) (x : Scalar) → MeansScalarIn m t x → IsReadScalarIn m x
+scalar_form Special t x h = form_each Special h
+scalar_form Finite t x (inl h) = form_each Finite h
+scalar_form Finite t x (inr h) = form_finite h
+
+pub finite_range : {t : Data} {x : Scalar} → MeansFinite t x → ScalarInRange x
+finite_range (means.nearest_to_text s p is) = (text_finite s p is).0
+finite_range (means.nearest_to_number n p none is) = (pattern_finite _ p is).0
 
 -- ---- what is written is the grammar's one tree
 
@@ -210,15 +239,15 @@ decimal_same : (b : List ℕ) → decimal_tree (normal_decimal b) ≡ decimal_tr
 decimal_same b = ap (λ s. object_of_one (codes "$numberDecimal") (tree.string s)) (display_text-canon b)
 
 -- a scalar's tree is that of its normal form
-pub nf_written : (f : Form) (x : Scalar) → writes_scalar f (normal_scalar x) ≡ writes_scalar f x
-nf_written f (double p) = ap (λ o. or_finite o >>= λ s. Ok (double_tree s)) (double_text-form p)
-nf_written f (regex p o) = ap (λ s. Ok (regex_tree p s)) (sorted_text-again o)
-nf_written f (binary k bytes) =
+pub nf_written : (m : Doubles) (f : Form) (x : Scalar) → writes_scalar_in m f (normal_scalar x) ≡ writes_scalar_in m f x
+nf_written m f (double p) = ap (λ o. or_finite o >>= λ s. Ok (double_tree s)) (text_form m p)
+nf_written m f (regex p o) = ap (λ s. Ok (regex_tree p s)) (sorted_text-again o)
+nf_written m f (binary k bytes) =
     ap (λ n. Ok (object_of_one (codes "$binary")
     (object_of_two (codes "base64") (tree.string (padded_text bytes)) (codes "subType")
     (tree.string (encode_lower (n ∷ [])))))) (subtype_byte-of (subtype_byte k))
-nf_written f (decimal b) = ap Ok (decimal_same b)
-nf_written f x = refl
+nf_written m f (decimal b) = ap Ok (decimal_same b)
+nf_written m f x = refl
 
 pub nf_again : (x : Scalar) → normal_scalar (normal_scalar x) ≡ normal_scalar x
 nf_again (double p) = ap double (nan_form-again p)
@@ -228,79 +257,83 @@ nf_again (decimal b) = ap decimal (canon-again b)
 nf_again x = refl
 
 -- of a scalar in normal form: the function and the relation
-written_at : (f : Form) (x : Scalar) (t : Data) → writes_scalar f (normal_scalar x) ≡ Ok t
-    → WrittenScalar f (normal_scalar x) t
-written_at f (double p) t h = let b = bind_ok (or_finite (double_text (normal_double p))) _ t h in
-    (b.0, some_from _ _ b.1, un_ok _ _ b.2)
-written_at f (regex p o) t h = un_ok _ _ h ∙ ap (regex_tree p) (sorted_text-again o)
-written_at f x t h = un_ok _ _ h
+written_at : (m : Doubles) (f : Form) (x : Scalar) (t : Data) → writes_scalar_in m f (normal_scalar x) ≡ Ok t
+    → WrittenScalarIn m f (normal_scalar x) t
+written_at m f (double p) t h = let b = bind_ok (or_finite (text_in m (normal_double p))) _ t h in
+    (b.0, text_is m _ _ (some_from _ _ b.1), un_ok _ _ b.2)
+written_at m f (regex p o) t h = un_ok _ _ h ∙ ap (regex_tree p) (sorted_text-again o)
+written_at m f x t h = un_ok _ _ h
 
-writes_at : (f : Form) (x : Scalar) (t : Data) → WrittenScalar f (normal_scalar x) t
-    → writes_scalar f (normal_scalar x) ≡ Ok t
-writes_at f (double p) t h = rw h.1 (ap Ok (sym h.2))
-writes_at f (regex p o) t h = ap Ok (ap (regex_tree p) (sorted_text-again o) ∙ sym h)
-writes_at f x t h = ap Ok (sym h)
+writes_at : (m : Doubles) (f : Form) (x : Scalar) (t : Data) → WrittenScalarIn m f (normal_scalar x) t
+    → writes_scalar_in m f (normal_scalar x) ≡ Ok t
+writes_at m f (double p) t h = rw (text_to m _ _ h.1) (ap Ok (sym h.2))
+writes_at m f (regex p o) t h = ap Ok (ap (regex_tree p) (sorted_text-again o) ∙ sym h)
+writes_at m f x t h = ap Ok (sym h)
 
-pub written_from : (f : Form) (x : Scalar) (t : Data) → writes_scalar f x ≡ Ok t → WrittenScalar f (normal_scalar x) t
-written_from f x t h = written_at f x t (nf_written f x ∙ h)
+pub written_from : (m : Doubles) (f : Form) (x : Scalar) (t : Data) → writes_scalar_in m f x ≡ Ok t → WrittenScalarIn m f (normal_scalar x) t
+written_from m f x t h = written_at m f x t (nf_written m f x ∙ h)
 
-pub written_to : (f : Form) (x : Scalar) (t : Data) → WrittenScalar f (normal_scalar x) t → writes_scalar f x ≡ Ok t
-written_to f x t h = sym (nf_written f x) ∙ writes_at f x t h
+pub written_to : (m : Doubles) (f : Form) (x : Scalar) (t : Data) → WrittenScalarIn m f (normal_scalar x) t → writes_scalar_in m f x ≡ Ok t
+written_to m f x t h = sym (nf_written m f x) ∙ writes_at m f x t h
 
 double_ok : (o : Option (List ℕ)) → is_ok (or_finite o >>= λ s. Ok (double_tree s)) ≡ is_some o
 double_ok (Some s) = refl
 double_ok None = refl
 
-pub writable_is : (f : Form) (x : Scalar) → is_ok (writes_scalar f x) ≡ writable_scalar x
-writable_is f (double p) = double_ok (double_text p) ∙ special_is p
-writable_is f x = refl
+pub writable_is : (m : Doubles) (f : Form) (x : Scalar) → is_ok (writes_scalar_in m f x) ≡ writable_scalar_in m x
+writable_is m f (double p) = double_ok (text_in m p) ∙ has_text m p
+writable_is m f x = refl
+
+pub all_writable_is : (x : Scalar) → ScalarInRange x → writable_scalar_in Finite x ≡ true
+all_writable_is (double p) r = all_writable p r
+all_writable_is x r = refl
 
 -- ---- a tree is read as the normal form, narrowed where it is a relaxed one
 
 wider : (z : ℤ) → FitsSigned w32 z → FitsSigned w64 z
 wider z r = record { sfits = (let small : mag z < 2 ^ 31 = r.sfits in omega arith) }
 
-int32_back : (f : Form) (z : ℤ) → FitsSigned w32 z → scalar_read (int32_form f z) ≡ Ok (int32 z)
-int32_back Canonical z r = rw (int32_again z r) refl
-int32_back Relaxed z r = number_again z (wider z r) ∙ ap (λ b. Ok (cond b (int32 z) (int64 z))) (fits_true 31 z r.sfits)
+int32_back : (m : Doubles) (f : Form) (z : ℤ) → FitsSigned w32 z → scalar_read_in m (int32_form f z) ≡ Ok (int32 z)
+int32_back m Canonical z r = rw (int32_again z r) refl
+int32_back m Relaxed z r = number_again m z (wider z r) ∙ ap (λ b. Ok (cond b (int32 z) (int64 z))) (fits_true 31 z r.sfits)
 
-int64_back : (f : Form) (z : ℤ) → FitsSigned w64 z → scalar_read (int64_form f z) ≡ Ok (int64_as_read f z)
-int64_back Canonical z r = rw (int64_again z r) refl
-int64_back Relaxed z r = number_again z r
+int64_back : (m : Doubles) (f : Form) (z : ℤ) → FitsSigned w64 z → scalar_read_in m (int64_form f z) ≡ Ok (int64_as_read f z)
+int64_back m Canonical z r = rw (int64_again z r) refl
+int64_back m Relaxed z r = number_again m z r
 
-recent_back : (b : Bool) (z : ℤ) → is_recent z ≡ b → FitsSigned w64 z → scalar_read (relaxed_date_tree z) ≡ Ok (date z)
-recent_back true z e r = rw e (rw (recent_denoted z e) refl)
-recent_back false z e r = rw e (rw (int64_again z r) refl)
+recent_back : (m : Doubles) (b : Bool) (z : ℤ) → is_recent z ≡ b → FitsSigned w64 z → scalar_read_in m (relaxed_date_tree z) ≡ Ok (date z)
+recent_back m true z e r = rw e (rw (recent_denoted z e) refl)
+recent_back m false z e r = rw e (rw (int64_again z r) refl)
 
-date_back : (f : Form) (z : ℤ) → FitsSigned w64 z → scalar_read (date_form f z) ≡ Ok (date z)
-date_back Canonical z r = rw (int64_again z r) refl
-date_back Relaxed z r = recent_back _ z refl r
+date_back : (m : Doubles) (f : Form) (z : ℤ) → FitsSigned w64 z → scalar_read_in m (date_form f z) ≡ Ok (date z)
+date_back m Canonical z r = rw (int64_again z r) refl
+date_back m Relaxed z r = recent_back m _ z refl r
 
-pub back : (f : Form) (x : Scalar) (t : Data) → writes_scalar f x ≡ Ok t → ScalarInRange x
-    → scalar_read t ≡ Ok (scalar_as_read f (normal_scalar x))
-back f null t h r = rw (un_ok _ _ h) refl
-back f undefined t h r = rw (un_ok _ _ h) refl
-back f min_key t h r = rw (un_ok _ _ h) refl
-back f max_key t h r = rw (un_ok _ _ h) refl
-back f (boolean b) t h r = rw (un_ok _ _ h) refl
-back f (double p) t h r = let b = bind_ok (or_finite (double_text p)) _ t h in
-    rw (un_ok _ _ b.2) (rw (double_again p b.0 (some_from _ _ b.1)) refl)
-back f (int32 z) t h r = rw (un_ok _ _ h) (int32_back f z r)
-back f (int64 z) t h r = rw (un_ok _ _ h) (int64_back f z r)
-back f (text s) t h r = rw (un_ok _ _ h) refl
-back f (symbol s) t h r = rw (un_ok _ _ h) refl
-back f (code s) t h r = rw (un_ok _ _ h) refl
-back f (regex p o) t h r = rw (un_ok _ _ h) (ap (λ s. Ok (regex p s)) (sorted_text-again o))
-back f (timestamp s i) t h r = rw (un_ok _ _ h) (rw (natural_again s r.0, natural_again i r.1) refl)
-back f (binary k bytes) t h r = rw (un_ok _ _ h) (rw (bytes_again bytes r.1, byte_again (subtype_byte k) r.0) refl)
-back f (object_id id) t h r = rw (un_ok _ _ h) (rw (id_again id r.0 r.1) refl)
-back f (date z) t h r = rw (un_ok _ _ h) (date_back f z r)
-back f (decimal b) t h r = rw (un_ok _ _ h) (rw (decimal_of-display_text b) refl)
-back f (db_pointer s id) t h r = rw (un_ok _ _ h) (rw (id_again id r.0 r.1) refl)
+pub back : (m : Doubles) (f : Form) (x : Scalar) (t : Data) → writes_scalar_in m f x ≡ Ok t → ScalarInRange x
+    → scalar_read_in m t ≡ Ok (scalar_as_read f (normal_scalar x))
+back m f null t h r = rw (un_ok _ _ h) refl
+back m f undefined t h r = rw (un_ok _ _ h) refl
+back m f min_key t h r = rw (un_ok _ _ h) refl
+back m f max_key t h r = rw (un_ok _ _ h) refl
+back m f (boolean b) t h r = rw (un_ok _ _ h) refl
+back m f (double p) t h r = let b = bind_ok (or_finite (text_in m p)) _ t h in
+    rw (un_ok _ _ b.2) (rw (again m p b.0 r (some_from _ _ b.1)) refl)
+back m f (int32 z) t h r = rw (un_ok _ _ h) (int32_back m f z r)
+back m f (int64 z) t h r = rw (un_ok _ _ h) (int64_back m f z r)
+back m f (text s) t h r = rw (un_ok _ _ h) refl
+back m f (symbol s) t h r = rw (un_ok _ _ h) refl
+back m f (code s) t h r = rw (un_ok _ _ h) refl
+back m f (regex p o) t h r = rw (un_ok _ _ h) (ap (λ s. Ok (regex p s)) (sorted_text-again o))
+back m f (timestamp s i) t h r = rw (un_ok _ _ h) (rw (natural_again s r.0, natural_again i r.1) refl)
+back m f (binary k bytes) t h r = rw (un_ok _ _ h) (rw (bytes_again bytes r.1, byte_again (subtype_byte k) r.0) refl)
+back m f (object_id id) t h r = rw (un_ok _ _ h) (rw (id_again id r.0 r.1) refl)
+back m f (date z) t h r = rw (un_ok _ _ h) (date_back m f z r)
+back m f (decimal b) t h r = rw (un_ok _ _ h) (rw (decimal_of-display_text b) refl)
+back m f (db_pointer s id) t h r = rw (un_ok _ _ h) (rw (id_again id r.0 r.1) refl)
 
-pub reads_back : (f : Form) (x : Scalar) (t : Data) → writes_scalar f x ≡ Ok t → ScalarInRange x
-    → MeansScalar t (scalar_as_read f (normal_scalar x))
-reads_back f x t h r = scalar_from t _ (back f x t h r)
+pub reads_back : (m : Doubles) (f : Form) (x : Scalar) (t : Data) → writes_scalar_in m f x ≡ Ok t → ScalarInRange x
+    → MeansScalarIn m t (scalar_as_read f (normal_scalar x))
+reads_back m f x t h r = scalar_from m t _ (back m f x t h r)
 
 -- ---- what reads back is read so again
 
@@ -322,19 +355,19 @@ pub as_read_canonical : (x : Scalar) → scalar_as_read Canonical x ≡ x
 as_read_canonical (int64 z) = refl
 as_read_canonical x = refl
 
-narrow_number : (b : Bool) (z : ℤ)
-    → writes_scalar Relaxed (cond b (int32 z) (int64 z)) ≡ Ok (tree.number (of_integer z))
-narrow_number true z = refl
-narrow_number false z = refl
+narrow_number : (m : Doubles) (b : Bool) (z : ℤ)
+    → writes_scalar_in m Relaxed (cond b (int32 z) (int64 z)) ≡ Ok (tree.number (of_integer z))
+narrow_number m true z = refl
+narrow_number m false z = refl
 
-int64_written : (f : Form) (z : ℤ) → writes_scalar f (int64_as_read f z) ≡ Ok (int64_form f z)
-int64_written Canonical z = refl
-int64_written Relaxed z = narrow_number _ z
+int64_written : (m : Doubles) (f : Form) (z : ℤ) → writes_scalar_in m f (int64_as_read f z) ≡ Ok (int64_form f z)
+int64_written m Canonical z = refl
+int64_written m Relaxed z = narrow_number m _ z
 
 -- what reads back has the same tree
-pub as_read_written : (f : Form) (x : Scalar) → writes_scalar f (scalar_as_read f x) ≡ writes_scalar f x
-as_read_written f (int64 z) = int64_written f z
-as_read_written f x = refl
+pub as_read_written : (m : Doubles) (f : Form) (x : Scalar) → writes_scalar_in m f (scalar_as_read f x) ≡ writes_scalar_in m f x
+as_read_written m f (int64 z) = int64_written m f z
+as_read_written m f x = refl
 
 -- ---- no float is written, so that a tree's compact text is known
 
@@ -358,9 +391,9 @@ date_none : (f : Form) (z : ℤ) → has_float (date_form f z) ≡ false
 date_none Canonical z = refl
 date_none Relaxed z = recent_none _ z refl
 
-pub scalar_no_float : (f : Form) (x : Scalar) (t : Data) → writes_scalar f x ≡ Ok t → has_float t ≡ false
-scalar_no_float f (double p) t h = let b = bind_ok (or_finite (double_text p)) _ t h in rw (un_ok _ _ b.2) refl
-scalar_no_float f (int32 z) t h = rw (un_ok _ _ h) (int32_none f z)
-scalar_no_float f (int64 z) t h = rw (un_ok _ _ h) (int64_none f z)
-scalar_no_float f (date z) t h = rw (un_ok _ _ h) (date_none f z)
-scalar_no_float f x t h = rw (un_ok _ _ h) refl
+pub scalar_no_float : (m : Doubles) (f : Form) (x : Scalar) (t : Data) → writes_scalar_in m f x ≡ Ok t → has_float t ≡ false
+scalar_no_float m f (double p) t h = let b = bind_ok (or_finite (text_in m p)) _ t h in rw (un_ok _ _ b.2) refl
+scalar_no_float m f (int32 z) t h = rw (un_ok _ _ h) (int32_none f z)
+scalar_no_float m f (int64 z) t h = rw (un_ok _ _ h) (int64_none f z)
+scalar_no_float m f (date z) t h = rw (un_ok _ _ h) (date_none f z)
+scalar_no_float m f x t h = rw (un_ok _ _ h) refl

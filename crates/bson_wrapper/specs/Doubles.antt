@@ -1,12 +1,21 @@
--- `$numberDouble` (MongoDB Extended JSON v2; `-NaN` is our own): six texts of zeros, infinities and NaNs.
+-- `$numberDouble` (MongoDB Extended JSON v2; `-NaN` is our own): six texts of zeros, infinities and NaNs, and in the
+-- mode `Finite` decimal numbers.
 -- A double is its pattern of 64 bits (IEEE 754-2008 binary64). Read and written: {"$numberDouble": "-0.0"}.
-use Rattle.std.specs.Prelude.{◌&&◌, ◌||◌, ◌==◌, ◌/◌, ◌^◌, nat_lt, ℕ, List, Bool, codes, Option, Some, None}
-use Rattle.std.specs.Prelude.{if◌then◌else◌}
+use Rattle.std.specs.Prelude.{◌≡◌, ◌⊎◌, ◌&&◌, ◌||◌, ◌==◌, ◌/◌, ◌^◌, nat_lt, ℕ, List, Bool, true, codes}
+use Rattle.std.specs.Prelude.{if◌then◌else◌, Option, Some, None}
+use Rattle.std.specs.Float.{Float, binary64}
 use Rattle.std.specs.Str.{bytes_eq}
-use Rattle.serde_json.specs.Data.{Data}
+use lib.Ieee.{fits}
+use Rattle.bson_double.specs.Doubles.{is_finite, finite_bits, finite_of}
+use Rattle.bson_double.specs.Text.{IsDoubleText}
+use Rattle.serde_json.specs.Data.{Data, Num}
 use Rattle.serde_json.specs.Data as tree
+use Rattle.serde_json.specs.Find.{to_float}
 use Rattle.bson_wrapper.specs.Shapes.{object_of_one}
+use Rattle.bson_wrapper.specs.Shortest.{finite_text}
 use Rattle.bson_wrapper.specs.Table.{key_of}
+use Rattle.bson_wrapper.specs.declared.form.Doubles.{Doubles}
+use Rattle.bson_wrapper.specs.declared.form.Doubles.TheVariants.{Special, Finite}
 use Rattle.bson_wrapper.specs.declared.wrapper.Wrapper.TheVariants.{NumberDouble}
 
 -- a zero, an infinity or a NaN: all bits but the sign are 0; or the exponent, 11 bits below the sign, is all ones
@@ -49,3 +58,40 @@ double_text p =
 
 abbrev pub double_tree : List ℕ → Data
 double_tree s = object_of_one (key_of NumberDouble) (tree.string s)
+
+-- ---- in each of the two modes
+
+abbrev pub or_finite_of : Option ℕ → List ℕ → Option ℕ
+or_finite_of (Some p) s = Some p
+or_finite_of None s = finite_of s
+
+-- the pattern that a text means: in the mode `Finite` also that of the double nearest to a decimal number
+abbrev pub double_in : Doubles → List ℕ → Option ℕ
+double_in Special s = double_of s
+double_in Finite s = or_finite_of (double_of s) s
+
+-- the pattern of the double nearest to a JSON number, where it is finite
+abbrev pub finite_pattern : Float → Option ℕ
+finite_pattern x = if fits binary64 x then finite_bits x else None
+
+abbrev pub finite_number : Num → Option ℕ
+finite_number n = finite_pattern (to_float n)
+
+-- whether the pattern has a text
+abbrev pub is_writable : Doubles → ℕ → Bool
+is_writable Special p = is_special p
+is_writable Finite p = is_special p || is_finite p
+
+-- the pattern has this text: in the mode `Finite` also its shortest decimal
+abbrev pub IsTextIn : Doubles → ℕ → List ℕ → Type 0
+IsTextIn Special p s = double_text p ≡ Some s
+IsTextIn Finite p s = (double_text p ≡ Some s) ⊎ ((is_finite p ≡ true) × IsDoubleText p s)
+
+-- the same as functions, for the proofs
+abbrev pub or_finite_text : Option (List ℕ) → ℕ → Option (List ℕ)
+or_finite_text (Some s) p = Some s
+or_finite_text None p = finite_text p
+
+abbrev pub text_in : Doubles → ℕ → Option (List ℕ)
+text_in Special p = double_text p
+text_in Finite p = or_finite_text (double_text p) p

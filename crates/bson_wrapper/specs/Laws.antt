@@ -1,42 +1,70 @@
--- The laws of scalars that the layer above builds on: one a law, for all scalars.
-use Rattle.std.specs.Prelude.{◌≡◌, ◌↔◌, ℕ, Ok, is_ok, is_some}
+-- The laws of scalars that the layer above builds on: one a law, for all scalars, in each mode of doubles.
+use Rattle.std.specs.Prelude.{◌≡◌, ◌↔◌, ℕ, Ok, is_ok, is_some, true}
 use Rattle.serde_json.specs.Data.{Data}
-use Rattle.bson_wrapper.specs.Doubles.{double_text, is_special}
-use Rattle.bson_wrapper.specs.Means.{MeansScalar}
-use Rattle.bson_wrapper.specs.Normal.{normal_scalar, scalar_as_read, writable_scalar, ScalarInRange, IsReadScalar}
-use Rattle.bson_wrapper.specs.Reading.{scalar_read}
+use Rattle.bson_wrapper.specs.Doubles.{is_writable, text_in}
+use Rattle.bson_wrapper.specs.Means.{MeansScalarIn}
+use Rattle.bson_wrapper.specs.Normal.{normal_scalar, scalar_as_read, writable_scalar_in, ScalarInRange, IsReadScalarIn}
+use Rattle.bson_wrapper.specs.Reading.{scalar_read_in}
 use Rattle.bson_wrapper.specs.Scalar.{Scalar}
-use Rattle.bson_wrapper.specs.Written.{WrittenScalar, writes_scalar}
+use Rattle.bson_wrapper.specs.Written.{WrittenScalarIn, writes_scalar_in}
+use Rattle.bson_wrapper.specs.declared.form.Doubles.{Doubles}
+use Rattle.bson_wrapper.specs.declared.form.Doubles.TheVariants.{Special, Finite}
 use Rattle.bson_wrapper.specs.declared.form.Form.{Form}
 
 -- a tree means exactly what is read
+abbrev pub MeaningIn : Doubles → Type 0
+MeaningIn m = (t : Data) (x : Scalar) → (scalar_read_in m t ≡ Ok x) ↔ MeansScalarIn m t x
+
 abbrev pub Meaning : Type 0
-Meaning = (t : Data) (x : Scalar) → (scalar_read t ≡ Ok x) ↔ MeansScalar t x
+Meaning = MeaningIn Special
 
 -- so it means one scalar at most
+abbrev pub OneMeaningIn : Doubles → Type 0
+OneMeaningIn m = (t : Data) (x y : Scalar) → MeansScalarIn m t x → MeansScalarIn m t y → x ≡ y
+
 abbrev pub OneMeaning : Type 0
-OneMeaning = (t : Data) (x y : Scalar) → MeansScalar t x → MeansScalar t y → x ≡ y
+OneMeaning = OneMeaningIn Special
 
 -- what is read is writable, and in normal form, or a decimal's NaN
+abbrev pub ReadFormIn : Doubles → Type 0
+ReadFormIn m = (t : Data) (x : Scalar) → MeansScalarIn m t x → IsReadScalarIn m x
+
 abbrev pub ReadForm : Type 0
-ReadForm = (t : Data) (x : Scalar) → MeansScalar t x → IsReadScalar x
+ReadForm = ReadFormIn Special
 
 -- what is written is the grammar's tree of the normal form
+abbrev pub TreeIn : Doubles → Type 0
+TreeIn m = (f : Form) (x : Scalar) (t : Data)
+    → (writes_scalar_in m f x ≡ Ok t) ↔ WrittenScalarIn m f (normal_scalar x) t
+
 abbrev pub Tree : Type 0
-Tree = (f : Form) (x : Scalar) (t : Data) → (writes_scalar f x ≡ Ok t) ↔ WrittenScalar f (normal_scalar x) t
+Tree = TreeIn Special
 
 -- a scalar has a tree exactly if it is writable
-abbrev pub Writable : Type 0
-Writable = (f : Form) (x : Scalar) → is_ok (writes_scalar f x) ≡ writable_scalar x
+abbrev pub WritableIn : Doubles → Type 0
+WritableIn m = (f : Form) (x : Scalar) → is_ok (writes_scalar_in m f x) ≡ writable_scalar_in m x
 
--- a pattern has a text exactly if it is a zero, an infinity or a NaN
+abbrev pub Writable : Type 0
+Writable = WritableIn Special
+
+-- in the mode `Finite` each one is
+abbrev pub AllWritable : Type 0
+AllWritable = (x : Scalar) → ScalarInRange x → writable_scalar_in Finite x ≡ true
+
+-- a pattern has a text exactly if it is a zero, an infinity or a NaN, or in the mode `Finite` finite
+abbrev pub HasTextIn : Doubles → Type 0
+HasTextIn m = (p : ℕ) → is_some (text_in m p) ≡ is_writable m p
+
 abbrev pub HasText : Type 0
-HasText = (p : ℕ) → is_some (double_text p) ≡ is_special p
+HasText = HasTextIn Special
 
 -- what is written means the normal form, narrowed in the relaxed form
+abbrev pub ReadsBackIn : Doubles → Type 0
+ReadsBackIn m = (f : Form) (x : Scalar) (t : Data) → writes_scalar_in m f x ≡ Ok t → ScalarInRange x
+    → MeansScalarIn m t (scalar_as_read f (normal_scalar x))
+
 abbrev pub ReadsBack : Type 0
-ReadsBack = (f : Form) (x : Scalar) (t : Data) → writes_scalar f x ≡ Ok t → ScalarInRange x
-    → MeansScalar t (scalar_as_read f (normal_scalar x))
+ReadsBack = ReadsBackIn Special
 
 -- normal form and narrowing, done again, change nothing
 abbrev pub NormalAgain : Type 0

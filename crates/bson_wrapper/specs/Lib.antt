@@ -3,6 +3,7 @@ pub mod Faults
 pub mod Table
 pub mod Shapes
 pub mod Ints
+pub mod Shortest
 pub mod Doubles
 pub mod Decimals
 pub mod Texts

@@ -1,6 +1,7 @@
--- Which trees mean a value that holds no other, and which one (MongoDB Extended JSON v2): a production a line.
+-- Which trees mean a value that holds no other, and which one (MongoDB Extended JSON v2): a production a line. In the
+-- mode `Finite` there are two more.
 -- An object has its keys in ascending order.
-use Rattle.std.specs.Prelude.{◌≡◌, ℕ, ℤ, pos, List, codes, Bool, true, Some, FitsSigned}
+use Rattle.std.specs.Prelude.{◌≡◌, ◌⊎◌, ℕ, ℤ, pos, List, codes, Bool, true, Some, None, FitsSigned}
 use Rattle.std.specs.Int.{w32, w64}
 use Rattle.serde_json.specs.Data.{Data, Num}
 use Rattle.serde_json.specs.Data as tree
@@ -15,11 +16,14 @@ pub use Rattle.bson_scalar.specs.declared.spec.BinarySubtype.TheVariants.{Uuid}
 pub use Rattle.bson_datetime.specs.Grammar.{Names}
 pub use Rattle.bson_decimal.specs.Text.{Parses}
 pub use Rattle.bson_wrapper.specs.Binaries.{IsByteText}
-use Rattle.bson_wrapper.specs.Doubles.{double_of}
+use Rattle.bson_double.specs.Doubles.{finite_of}
+use Rattle.bson_wrapper.specs.Doubles.{double_of, finite_number}
 use Rattle.bson_wrapper.specs.Ints.{IsIntText}
 use Rattle.bson_wrapper.specs.Scalar.{Scalar}
 use Rattle.bson_wrapper.specs.Scalar as kind
 use Rattle.bson_wrapper.specs.Shapes.{object_of_one, object_of_two, whole, u32_at}
+use Rattle.bson_wrapper.specs.declared.form.Doubles.{Doubles}
+use Rattle.bson_wrapper.specs.declared.form.Doubles.TheVariants.{Special, Finite}
 
 -- the tree means the scalar
 pub data MeansScalar : Data → Scalar → Type 0 where
@@ -76,3 +80,15 @@ pub data MeansScalar : Data → Scalar → Type 0 where
   min_key : (d : Data) → whole d ≡ Some (pos 1) → MeansScalar (object_of_one (codes "$minKey") d) kind.min_key
   max_key : (d : Data) → whole d ≡ Some (pos 1) → MeansScalar (object_of_one (codes "$maxKey") d) kind.max_key
   undefined : MeansScalar (object_of_one (codes "$undefined") (tree.boolean true)) kind.undefined
+
+-- the tree means the double that is nearest to a decimal number, and finite
+pub data MeansFinite : Data → Scalar → Type 0 where
+  nearest_to_text : (s : List ℕ) (p : ℕ) → finite_of s ≡ Some p
+      → MeansFinite (object_of_one (codes "$numberDouble") (tree.string s)) (kind.double p)
+  -- a number that is no i64
+  nearest_to_number : (n : Num) (p : ℕ) → as_i64 n ≡ None → finite_number n ≡ Some p
+      → MeansFinite (tree.number n) (kind.double p)
+
+abbrev pub MeansScalarIn : Doubles → Data → Scalar → Type 0
+MeansScalarIn Special t x = MeansScalar t x
+MeansScalarIn Finite t x = MeansScalar t x ⊎ MeansFinite t x

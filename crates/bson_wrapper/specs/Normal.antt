@@ -4,9 +4,11 @@ use Rattle.std.specs.Int.{w32, w64}
 use Rattle.bson_scalar.specs.Subtype.{subtype_byte, subtype_of}
 use Rattle.bson_decimal.specs.Pattern.{normal_decimal, bytes_meaning, is_nan}
 use Rattle.hex.specs.Hex.{IsBytes}
-use Rattle.bson_wrapper.specs.Doubles.{normal_double, is_special}
+use Rattle.bson_wrapper.specs.Doubles.{normal_double, is_writable}
 use Rattle.bson_wrapper.specs.Ints.{narrowest}
 use Rattle.bson_scalar.specs.Regex.{sorted_text}
+use Rattle.bson_wrapper.specs.declared.form.Doubles.{Doubles}
+use Rattle.bson_wrapper.specs.declared.form.Doubles.TheVariants.{Special}
 use Rattle.bson_wrapper.specs.declared.form.Form.{Form}
 use Rattle.bson_wrapper.specs.declared.form.Form.TheVariants.{Canonical, Relaxed}
 use Rattle.bson_wrapper.specs.Scalar.{Scalar, double, int32, int64, regex, timestamp, binary, object_id, date, decimal}
@@ -31,10 +33,13 @@ abbrev pub scalar_as_read : Form → Scalar → Scalar
 scalar_as_read f (int64 z) = int64_as_read f z
 scalar_as_read f x = x
 
--- whether it has a tree: a double is a zero, an infinity or a NaN
+-- whether it has a tree: a double is a zero, an infinity or a NaN, or in the mode `Finite` any
+abbrev pub writable_scalar_in : Doubles → Scalar → Bool
+writable_scalar_in m (double p) = is_writable m p
+writable_scalar_in m x = true
+
 abbrev pub writable_scalar : Scalar → Bool
-writable_scalar (double p) = is_special p
-writable_scalar x = true
+writable_scalar = writable_scalar_in Special
 
 -- each number in it is in the range of its Rust type
 abbrev pub ScalarInRange : Scalar → Type 0
@@ -54,5 +59,8 @@ IsNormalOrNan (decimal b) = (normal_decimal b ≡ b) ⊎ (is_nan (bytes_meaning 
 IsNormalOrNan x = normal_scalar x ≡ x
 
 -- what is known of every scalar that is read
+abbrev pub IsReadScalarIn : Doubles → Scalar → Type 0
+IsReadScalarIn m x = (writable_scalar_in m x ≡ true) × IsNormalOrNan x
+
 abbrev pub IsReadScalar : Scalar → Type 0
-IsReadScalar x = (writable_scalar x ≡ true) × IsNormalOrNan x
+IsReadScalar = IsReadScalarIn Special

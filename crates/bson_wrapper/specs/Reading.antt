@@ -22,7 +22,7 @@ use Rattle.bson_scalar.specs.declared.spec.BinarySubtype.TheVariants as subtype
 use Rattle.serde_json.specs.Data.{Data, Num, Members, no_members, member}
 use Rattle.serde_json.specs.Data as tree
 use Rattle.serde_json.specs.Find.{as_i64, as_str}
-use Rattle.bson_wrapper.specs.Doubles.{double_of}
+use Rattle.bson_wrapper.specs.Doubles.{double_in, finite_number}
 use Rattle.bson_wrapper.specs.Faults.{Fault, wrong_shape, wrong_id, ◌>>=◌, or_wrong_shape}
 use Rattle.bson_wrapper.specs.Ints.{fits_bits, narrowest}
 use Rattle.bson_wrapper.specs.Scalar.{Scalar, null, undefined, min_key, max_key, boolean, double, int32, int64, text}
@@ -31,6 +31,8 @@ use Rattle.bson_wrapper.specs.Shapes.{whole, u32_at}
 use Rattle.bson_wrapper.specs.Table.{wrapper_of, Wrapper, Oid, Symbol, RegularExpression, NumberInt, NumberLong}
 use Rattle.bson_wrapper.specs.Table.{NumberDouble, NumberDecimal, Binary, Uuid, Code, Timestamp, Date, MinKey, MaxKey}
 use Rattle.bson_wrapper.specs.Table.{DbPointer, Undefined}
+use Rattle.bson_wrapper.specs.declared.form.Doubles.{Doubles}
+use Rattle.bson_wrapper.specs.declared.form.Doubles.TheVariants.{Special, Finite}
 
 -- ---- shapes
 
@@ -68,14 +70,22 @@ int_of h bs = if is_numeral (without_leading_sign bs) && fits_bits h (signed_dig
 abbrev pub number_read : Num → Result Scalar Fault
 number_read n = or_wrong_shape (as_i64 n) >>= λ z. Ok (narrowest z)
 
+abbrev pub or_double_read : Option ℤ → Num → Result Scalar Fault
+or_double_read (Some z) n = Ok (narrowest z)
+or_double_read None n = or_wrong_shape (finite_number n) >>= λ p. Ok (double p)
+
+abbrev pub number_read_in : Doubles → Num → Result Scalar Fault
+number_read_in Special n = number_read n
+number_read_in Finite n = or_double_read (as_i64 n) n
+
 abbrev pub int32_read : Data → Result Scalar Fault
 int32_read d = on_text d (λ s. or_wrong_shape (int_of 31 s) >>= λ z. Ok (int32 z))
 
 abbrev pub int64_read : Data → Result Scalar Fault
 int64_read d = on_text d (λ s. or_wrong_shape (int_of 63 s) >>= λ z. Ok (int64 z))
 
-abbrev pub double_read : Data → Result Scalar Fault
-double_read d = on_text d (λ s. or_wrong_shape (double_of s) >>= λ p. Ok (double p))
+abbrev pub double_read_in : Doubles → Data → Result Scalar Fault
+double_read_in m d = on_text d (λ s. or_wrong_shape (double_in m s) >>= λ p. Ok (double p))
 
 -- the number of the pattern of a NaN or an infinity
 abbrev pub word_of : List ℕ → Option ℕ
@@ -192,39 +202,45 @@ undefined_read _ = Err wrong_shape
 
 -- ---- all wrappers of one key
 
+abbrev pub single_in : Doubles → Wrapper → Data → Result Scalar Fault
+single_in m Oid = oid_read
+single_in m Symbol = symbol_read
+single_in m RegularExpression = regex_read
+single_in m NumberInt = int32_read
+single_in m NumberLong = int64_read
+single_in m NumberDouble = double_read_in m
+single_in m NumberDecimal = decimal_read
+single_in m Binary = binary_read
+single_in m Uuid = uuid_read
+single_in m Code = code_read
+single_in m Timestamp = timestamp_read
+single_in m Date = date_read
+single_in m MinKey = one_read min_key
+single_in m MaxKey = one_read max_key
+single_in m DbPointer = pointer_read
+single_in m Undefined = undefined_read
+
 abbrev pub single : Wrapper → Data → Result Scalar Fault
-single Oid = oid_read
-single Symbol = symbol_read
-single RegularExpression = regex_read
-single NumberInt = int32_read
-single NumberLong = int64_read
-single NumberDouble = double_read
-single NumberDecimal = decimal_read
-single Binary = binary_read
-single Uuid = uuid_read
-single Code = code_read
-single Timestamp = timestamp_read
-single Date = date_read
-single MinKey = one_read min_key
-single MaxKey = one_read max_key
-single DbPointer = pointer_read
-single Undefined = undefined_read
+single = single_in Special
+
+abbrev pub single_at_in : Doubles → Option Wrapper → Data → Result Scalar Fault
+single_at_in m (Some w) d = single_in m w d
+single_at_in m None d = Err wrong_shape
 
 abbrev pub single_at : Option Wrapper → Data → Result Scalar Fault
-single_at (Some w) d = single w d
-single_at None d = Err wrong_shape
+single_at = single_at_in Special
 
 -- code with the scope null
 abbrev pub code_beside : Data → Data → Result Scalar Fault
 code_beside tree.null d = code_read d
 code_beside _ d = Err wrong_shape
 
-abbrev pub scalar_read : Data → Result Scalar Fault
-scalar_read tree.null = Ok null
-scalar_read (tree.boolean b) = Ok (boolean b)
-scalar_read (tree.number n) = number_read n
-scalar_read (tree.string s) = Ok (text s)
-scalar_read (tree.object (member k d no_members)) = single_at (wrapper_of k) d
-scalar_read (tree.object (member k d (member l e no_members))) =
+abbrev pub scalar_read_in : Doubles → Data → Result Scalar Fault
+scalar_read_in m tree.null = Ok null
+scalar_read_in m (tree.boolean b) = Ok (boolean b)
+scalar_read_in m (tree.number n) = number_read_in m n
+scalar_read_in m (tree.string s) = Ok (text s)
+scalar_read_in m (tree.object (member k d no_members)) = single_at_in m (wrapper_of k) d
+scalar_read_in m (tree.object (member k d (member l e no_members))) =
     if bytes_eq k (codes "$code") && bytes_eq l (codes "$scope") then code_beside e d else Err wrong_shape
-scalar_read _ = Err wrong_shape
+scalar_read_in m _ = Err wrong_shape

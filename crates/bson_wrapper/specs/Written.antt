@@ -6,7 +6,7 @@ use Rattle.serde_json.specs.Find.{of_integer}
 use Rattle.bson_wrapper.specs.Binaries.{binary_tree}
 use Rattle.bson_wrapper.specs.Dates.{date_tree, relaxed_date_tree}
 use Rattle.bson_wrapper.specs.Decimals.{decimal_tree}
-use Rattle.bson_wrapper.specs.Doubles.{double_tree, double_text}
+use Rattle.bson_wrapper.specs.Doubles.{double_tree, IsTextIn, text_in}
 use Rattle.bson_wrapper.specs.Ids.{oid_tree, pointer_tree}
 use Rattle.bson_wrapper.specs.Ints.{int32_tree, int64_tree}
 use Rattle.bson_wrapper.specs.Lone.{min_key_tree, max_key_tree, undefined_tree}
@@ -16,6 +16,8 @@ use Rattle.bson_wrapper.specs.Texts.{symbol_tree, code_tree}
 use Rattle.bson_wrapper.specs.Timestamps.{timestamp_tree}
 use Rattle.bson_wrapper.specs.Scalar.{Scalar, null, undefined, min_key, max_key, boolean, double, int32, int64, text}
 use Rattle.bson_wrapper.specs.Scalar.{symbol, code, regex, timestamp, binary, object_id, date, decimal, db_pointer}
+use Rattle.bson_wrapper.specs.declared.form.Doubles.{Doubles}
+use Rattle.bson_wrapper.specs.declared.form.Doubles.TheVariants.{Special}
 use Rattle.bson_wrapper.specs.declared.form.Form.{Form}
 use Rattle.bson_wrapper.specs.declared.form.Form.TheVariants.{Canonical, Relaxed}
 use Rattle.bson_wrapper.specs.declared.write_error.WriteError.{WriteError}
@@ -35,29 +37,32 @@ date_form Canonical z = date_tree z
 date_form Relaxed z = relaxed_date_tree z
 
 -- the scalar, in normal form, has this tree in the form f
+abbrev pub WrittenScalarIn : Doubles → Form → Scalar → Data → Type 0
+WrittenScalarIn m f null t = t ≡ tree.null
+WrittenScalarIn m f undefined t = t ≡ undefined_tree
+WrittenScalarIn m f min_key t = t ≡ min_key_tree
+WrittenScalarIn m f max_key t = t ≡ max_key_tree
+WrittenScalarIn m f (boolean b) t = t ≡ tree.boolean b
+WrittenScalarIn m f (double p) t = (s : List ℕ) × IsTextIn m p s × (t ≡ double_tree s)
+WrittenScalarIn m f (int32 z) t = t ≡ int32_form f z
+WrittenScalarIn m f (int64 z) t = t ≡ int64_form f z
+WrittenScalarIn m f (text s) t = t ≡ tree.string s
+WrittenScalarIn m f (symbol s) t = t ≡ symbol_tree s
+WrittenScalarIn m f (code s) t = t ≡ code_tree s
+WrittenScalarIn m f (regex p o) t = t ≡ regex_tree p o
+WrittenScalarIn m f (timestamp s i) t = t ≡ timestamp_tree s i
+WrittenScalarIn m f (binary k bytes) t = t ≡ binary_tree k bytes
+WrittenScalarIn m f (object_id id) t = t ≡ oid_tree id
+WrittenScalarIn m f (date z) t = t ≡ date_form f z
+WrittenScalarIn m f (decimal b) t = t ≡ decimal_tree b
+WrittenScalarIn m f (db_pointer s id) t = t ≡ pointer_tree s id
+
 abbrev pub WrittenScalar : Form → Scalar → Data → Type 0
-WrittenScalar f null t = t ≡ tree.null
-WrittenScalar f undefined t = t ≡ undefined_tree
-WrittenScalar f min_key t = t ≡ min_key_tree
-WrittenScalar f max_key t = t ≡ max_key_tree
-WrittenScalar f (boolean b) t = t ≡ tree.boolean b
-WrittenScalar f (double p) t = (s : List ℕ) × (double_text p ≡ Some s) × (t ≡ double_tree s)
-WrittenScalar f (int32 z) t = t ≡ int32_form f z
-WrittenScalar f (int64 z) t = t ≡ int64_form f z
-WrittenScalar f (text s) t = t ≡ tree.string s
-WrittenScalar f (symbol s) t = t ≡ symbol_tree s
-WrittenScalar f (code s) t = t ≡ code_tree s
-WrittenScalar f (regex p o) t = t ≡ regex_tree p o
-WrittenScalar f (timestamp s i) t = t ≡ timestamp_tree s i
-WrittenScalar f (binary k bytes) t = t ≡ binary_tree k bytes
-WrittenScalar f (object_id id) t = t ≡ oid_tree id
-WrittenScalar f (date z) t = t ≡ date_form f z
-WrittenScalar f (decimal b) t = t ≡ decimal_tree b
-WrittenScalar f (db_pointer s id) t = t ≡ pointer_tree s id
+WrittenScalar = WrittenScalarIn Special
 
 -- ---- the same as functions of any scalar, for the proofs
 
--- a double is finite and not zero
+-- a double has no text
 pub data Refusal : Type 0 where
   finite : Refusal
 
@@ -70,28 +75,31 @@ abbrev pub or_finite : {A : Type 0} → Option A → Result A Refusal
 or_finite (Some x) = Ok x
 or_finite None = Err finite
 
-abbrev pub double_writes : ℕ → Result Data Refusal
-double_writes p = or_finite (double_text p) >>= λ s. Ok (double_tree s)
+abbrev pub double_writes_in : Doubles → ℕ → Result Data Refusal
+double_writes_in m p = or_finite (text_in m p) >>= λ s. Ok (double_tree s)
+
+abbrev pub writes_scalar_in : Doubles → Form → Scalar → Result Data Refusal
+writes_scalar_in m f null = Ok tree.null
+writes_scalar_in m f undefined = Ok undefined_tree
+writes_scalar_in m f min_key = Ok min_key_tree
+writes_scalar_in m f max_key = Ok max_key_tree
+writes_scalar_in m f (boolean b) = Ok (tree.boolean b)
+writes_scalar_in m f (double p) = double_writes_in m p
+writes_scalar_in m f (int32 z) = Ok (int32_form f z)
+writes_scalar_in m f (int64 z) = Ok (int64_form f z)
+writes_scalar_in m f (text s) = Ok (tree.string s)
+writes_scalar_in m f (symbol s) = Ok (symbol_tree s)
+writes_scalar_in m f (code s) = Ok (code_tree s)
+writes_scalar_in m f (regex p o) = Ok (regex_tree p (sorted_text o))
+writes_scalar_in m f (timestamp s i) = Ok (timestamp_tree s i)
+writes_scalar_in m f (binary k bytes) = Ok (binary_tree k bytes)
+writes_scalar_in m f (object_id id) = Ok (oid_tree id)
+writes_scalar_in m f (date z) = Ok (date_form f z)
+writes_scalar_in m f (decimal b) = Ok (decimal_tree b)
+writes_scalar_in m f (db_pointer s id) = Ok (pointer_tree s id)
 
 abbrev pub writes_scalar : Form → Scalar → Result Data Refusal
-writes_scalar f null = Ok tree.null
-writes_scalar f undefined = Ok undefined_tree
-writes_scalar f min_key = Ok min_key_tree
-writes_scalar f max_key = Ok max_key_tree
-writes_scalar f (boolean b) = Ok (tree.boolean b)
-writes_scalar f (double p) = double_writes p
-writes_scalar f (int32 z) = Ok (int32_form f z)
-writes_scalar f (int64 z) = Ok (int64_form f z)
-writes_scalar f (text s) = Ok (tree.string s)
-writes_scalar f (symbol s) = Ok (symbol_tree s)
-writes_scalar f (code s) = Ok (code_tree s)
-writes_scalar f (regex p o) = Ok (regex_tree p (sorted_text o))
-writes_scalar f (timestamp s i) = Ok (timestamp_tree s i)
-writes_scalar f (binary k bytes) = Ok (binary_tree k bytes)
-writes_scalar f (object_id id) = Ok (oid_tree id)
-writes_scalar f (date z) = Ok (date_form f z)
-writes_scalar f (decimal b) = Ok (decimal_tree b)
-writes_scalar f (db_pointer s id) = Ok (pointer_tree s id)
+writes_scalar = writes_scalar_in Special
 
 -- What a function returned, seen by view, is what writing gives, unless memory ran out.
 abbrev pub Stops : {Y : Type 0} → WriteError → Result Y Refusal → Type 0

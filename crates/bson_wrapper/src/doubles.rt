@@ -1,23 +1,38 @@
-//! `$numberDouble`: one of six texts. Read and written as `{"$numberDouble": "-0.0"}`; a double is
-//! its pattern of 64 bits (IEEE 754-2008 binary64), and one that is finite and no zero has no text.
-ghost use Rattle.std.specs.Prelude.{◌≡◌, option_map};
-ghost use Rattle.serde_json.specs.View.{view};
+//! `$numberDouble`: one of six texts, or a decimal number where finite doubles are read and written.
+//! Read and written as `{"$numberDouble": "-0.0"}` and `{"$numberDouble": "12.5"}`; a double is its
+//! pattern of 64 bits (IEEE 754-2008 binary64).
+ghost use Rattle.std.specs.Prelude.{◌≡◌, ℕ, List, Some, IfOk, IsTrue, option_map};
+ghost use Rattle.bson_double.specs.Doubles.{is_finite};
+ghost use Rattle.bson_wrapper.specs.Shortest.{finite_text};
+ghost use Rattle.serde_json.specs.View.{view, number_view};
 ghost use Rattle.bson_wrapper.specs.Doubles as spec;
 ghost use Rattle.bson_wrapper.specs.Faults.{Gives};
-ghost use Rattle.bson_wrapper.specs.Reading.{double_read};
+ghost use Rattle.bson_wrapper.specs.Ints.{narrowest};
+ghost use Rattle.bson_wrapper.specs.Reading.{double_read_in, number_read_in};
 ghost use Rattle.bson_wrapper.specs.Tokens.{Sends};
 ghost use Rattle.bson_wrapper.specs.View.{scalar_view};
-ghost use Rattle.bson_wrapper.specs.Written.{double_writes};
+ghost use Rattle.bson_wrapper.specs.Written.{double_writes_in};
+ghost use Rattle.bson_wrapper.specs.declared.form.Doubles.TheVariants.{Special, Finite};
 
 use crate::error::Error;
+use crate::form::Doubles;
 use crate::scalar::Scalar;
 use crate::shapes::{expected, text_in};
 use crate::sink::Sink;
 use crate::wrapped::wrapped_text;
 use crate::write_error::WriteError;
-use serde_json::Value;
+use serde_json::{Number, Value};
+use std::alloc::AllocError;
 
 const SHAPE: &str = "`$numberDouble` holds `0.0`, `-0.0`, `Infinity`, `-Infinity`, `NaN` or `-NaN`";
+
+const FINITE_SHAPE: &str = "`$numberDouble` holds a decimal number whose nearest double is finite, \
+    `Infinity`, `-Infinity`, `NaN` or `-NaN`";
+
+/// What is told of a JSON number that is no i64, where no finite doubles are read.
+pub const NUMBER: &str = "a number is no whole number of 64 bits";
+
+const FINITE_NUMBER: &str = "a number is greater than any double";
 
 /// The pattern of a text: of a NaN the quiet one of its sign with no payload.
 pub fn double_of(text: &str) -> Option<u64>
@@ -40,13 +55,75 @@ pub fn double_of(text: &str) -> Option<u64>
     }
 }
 
-/// What `$numberDouble` holds, as the pattern of a double.
-pub fn read_double(value: Value) -> Result<Scalar, Error>
-    ensures { Gives scalar_view result (double_read (view value)) }
+// The same, and else the pattern of the double nearest to a decimal number.
+fn finite_of(text: &str) -> Option<u64>
+    ensures { result ≡ spec.or_finite_of (spec.double_of text.now) text.now }
 {
-    let text = text_in(value, SHAPE)?;
-    let pattern = expected(double_of(text.as_str()), SHAPE)?;
+    match double_of(text) {
+        Some(pattern) => Some(pattern),
+        None => bson_double::double_of_text(text.as_bytes()).ok(),
+    }
+}
+
+fn double_in(doubles: Doubles, text: &str) -> Option<u64>
+    ensures { result ≡ spec.double_in doubles text.now }
+{
+    match doubles {
+        Doubles::Special => double_of(text),
+        Doubles::Finite => finite_of(text),
+    }
+}
+
+fn shape(doubles: Doubles) -> &'static str {
+    match doubles {
+        Doubles::Special => SHAPE,
+        Doubles::Finite => FINITE_SHAPE,
+    }
+}
+
+/// What `$numberDouble` holds, as the pattern of a double.
+pub fn read_double(doubles: Doubles, value: Value) -> Result<Scalar, Error>
+    ensures { Gives scalar_view result (double_read_in doubles (view value)) }
+{
+    let text = text_in(value, shape(doubles))?;
+    let pattern = expected(double_in(doubles, text.as_str()), shape(doubles))?;
     Ok(Scalar::Double(pattern))
+}
+
+fn finite_number(number: &Number) -> Option<u64>
+    ensures { result ≡ spec.finite_number (number_view number.now) }
+{
+    let nearest = number.as_f64()?;
+    if nearest.is_finite() {
+        Some(nearest.to_bits())
+    } else {
+        None
+    }
+}
+
+fn narrowest(number: i64) -> Scalar
+    ensures { scalar_view result ≡ narrowest number }
+{
+    if i32::MIN as i64 <= number && number <= i32::MAX as i64 {
+        Scalar::Int32(number as i32)
+    } else {
+        Scalar::Int64(number)
+    }
+}
+
+/// What a JSON number means: a whole one the Int32 where it fits, else the Int64. One that is no
+/// i64 is refused, or where finite doubles are read it is the double nearest to it.
+pub fn read_number(doubles: Doubles, number: &Number) -> Result<Scalar, Error>
+    ensures { Gives scalar_view result (number_read_in doubles (number_view number.now)) }
+{
+    let whole = number.as_i64();
+    match doubles {
+        Doubles::Special => Ok(narrowest(expected(whole, NUMBER)?)),
+        Doubles::Finite => match whole {
+            Some(whole) => Ok(narrowest(whole)),
+            None => Ok(Scalar::Double(expected(finite_number(number), FINITE_NUMBER)?)),
+        },
+    }
 }
 
 fn double_text(pattern: u64) -> Option<&'static str>
@@ -69,14 +146,53 @@ fn double_text(pattern: u64) -> Option<&'static str>
     }
 }
 
-/// Writes the tree of a double, in both forms: a NaN as `NaN` or `-NaN` by its sign. A double that
-/// is finite and no zero has none, and is refused as `FiniteDouble`.
-pub fn write_double<S: Sink>(pattern: u64, out: &mut S) -> Result<S::Tree, WriteError>
-    ensures written { Sends (λ d t. S.wrote out.old d t out.new) result (double_writes pattern) }
+fn write_special<S: Sink>(pattern: u64, out: &mut S) -> Result<S::Tree, WriteError>
+    ensures written { Sends (λ d t. S.wrote out.old d t out.new) result (double_writes_in Special pattern) }
     ensures before { S.before out.new ≡ S.before out.old }
 {
     match double_text(pattern) {
         Some(text) => Ok(wrapped_text("$numberDouble", text, out)?),
         None => Err(WriteError::FiniteDouble),
+    }
+}
+
+// Writes the shortest decimal of a double that is finite.
+fn write_finite<S: Sink>(pattern: u64, out: &mut S) -> Result<S::Tree, AllocError>
+    requires { IsTrue (is_finite pattern) }
+    ensures written { IfOk result (λ t. (s : List ℕ) × (finite_text pattern ≡ Some s)
+        × S.wrote out.old (spec.double_tree s) t out.new) }
+    ensures before { S.before out.new ≡ S.before out.old }
+{
+    wrapped_text(
+        "$numberDouble",
+        bson_double::double_text(pattern).as_str(),
+        out,
+    )
+}
+
+fn write_any<S: Sink>(pattern: u64, out: &mut S) -> Result<S::Tree, WriteError>
+    ensures written { Sends (λ d t. S.wrote out.old d t out.new) result (double_writes_in Finite pattern) }
+    ensures before { S.before out.new ≡ S.before out.old }
+{
+    match double_text(pattern) {
+        Some(text) => Ok(wrapped_text("$numberDouble", text, out)?),
+        None => Ok(write_finite(pattern, out)?),
+    }
+}
+
+/// Writes the tree of a double, in both forms: a NaN as `NaN` or `-NaN` by its sign. A double that
+/// is finite and no zero is written as its shortest decimal where finite doubles are, and is
+/// refused as `FiniteDouble` where they are not.
+pub fn write_double<S: Sink>(
+    doubles: Doubles,
+    pattern: u64,
+    out: &mut S,
+) -> Result<S::Tree, WriteError>
+    ensures written { Sends (λ d t. S.wrote out.old d t out.new) result (double_writes_in doubles pattern) }
+    ensures before { S.before out.new ≡ S.before out.old }
+{
+    match doubles {
+        Doubles::Special => write_special(pattern, out),
+        Doubles::Finite => write_any(pattern, out),
     }
 }

@@ -1,6 +1,9 @@
 //! The laws of scalars that the layer above builds on, each a fact of the definitions alone.
 ghost use Rattle.bson_wrapper.specs.Laws.{Meaning, OneMeaning, ReadForm, Tree, Writable, HasText};
 ghost use Rattle.bson_wrapper.specs.Laws.{ReadsBack, NormalAgain, AsReadAgain};
+ghost use Rattle.bson_wrapper.specs.Laws.{MeaningIn, OneMeaningIn, ReadFormIn, TreeIn, WritableIn};
+ghost use Rattle.bson_wrapper.specs.Laws.{HasTextIn, AllWritable, ReadsBackIn};
+ghost use Rattle.bson_wrapper.specs.declared.form.Doubles.{Doubles};
 
 /// What reading a tree gives is its one meaning; what is read is writable.
 pub fn reading()
@@ -22,4 +25,16 @@ pub fn round_trip()
     ensures back { ReadsBack }
     ensures normal { NormalAgain }
     ensures as_read { AsReadAgain }
+{}
+
+/// The same in each mode of doubles; in the mode `Finite` every scalar is writable.
+pub fn each_mode()
+    ensures meaning { (m : Doubles) → MeaningIn m }
+    ensures one { (m : Doubles) → OneMeaningIn m }
+    ensures form { (m : Doubles) → ReadFormIn m }
+    ensures tree { (m : Doubles) → TreeIn m }
+    ensures writable { (m : Doubles) → WritableIn m }
+    ensures all { AllWritable }
+    ensures text { (m : Doubles) → HasTextIn m }
+    ensures back { (m : Doubles) → ReadsBackIn m }
 {}

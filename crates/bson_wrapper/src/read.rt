@@ -1,7 +1,7 @@
 //! Reads an object of one wrapper key: the table of wrappers and what each holds.
 ghost use Rattle.serde_json.specs.View.{view};
 ghost use Rattle.bson_wrapper.specs.Faults.{Gives};
-ghost use Rattle.bson_wrapper.specs.Reading.{single, single_at};
+ghost use Rattle.bson_wrapper.specs.Reading.{single_in, single_at, single_at_in};
 ghost use Rattle.bson_wrapper.specs.Table.{wrapper_of};
 ghost use Rattle.bson_wrapper.specs.View.{scalar_view};
 
@@ -10,6 +10,7 @@ use crate::dates::read_date;
 use crate::decimals::read_decimal;
 use crate::doubles::read_double;
 use crate::error::Error;
+use crate::form::Doubles;
 use crate::ids::{read_oid, read_pointer};
 use crate::ints::{read_int32, read_int64};
 use crate::lone::{read_max_key, read_min_key, read_undefined};
@@ -25,8 +26,13 @@ use std::alloc::Global;
 ///
 /// `InvalidObjectId` comes where the text of an object id alone is wrong, `DeserializationError`
 /// for every other tree that this wrapper does not hold.
-pub fn read_wrapper(alloc: Global, wrapper: Wrapper, value: Value) -> Result<Scalar, Error>
-    ensures { Gives scalar_view result (single wrapper (view value)) }
+pub fn read_wrapper(
+    alloc: Global,
+    doubles: Doubles,
+    wrapper: Wrapper,
+    value: Value,
+) -> Result<Scalar, Error>
+    ensures { Gives scalar_view result (single_in doubles wrapper (view value)) }
 {
     match wrapper {
         Wrapper::Oid => read_oid(alloc, value),
@@ -34,7 +40,7 @@ pub fn read_wrapper(alloc: Global, wrapper: Wrapper, value: Value) -> Result<Sca
         Wrapper::RegularExpression => read_regex(alloc, value),
         Wrapper::NumberInt => read_int32(value),
         Wrapper::NumberLong => read_int64(value),
-        Wrapper::NumberDouble => read_double(value),
+        Wrapper::NumberDouble => read_double(doubles, value),
         Wrapper::NumberDecimal => read_decimal(value),
         Wrapper::Binary => read_binary(alloc, value),
         Wrapper::Uuid => read_uuid(alloc, value),
@@ -48,12 +54,25 @@ pub fn read_wrapper(alloc: Global, wrapper: Wrapper, value: Value) -> Result<Sca
     }
 }
 
-/// What an object of this one key means, where it is a wrapper key; any other key is refused.
+/// What an object of this one key means, where it is a wrapper key; any other key is refused. No
+/// finite doubles but zeros are read.
 pub fn read_single(alloc: Global, key: &str, value: Value) -> Result<Scalar, Error>
     ensures { Gives scalar_view result (single_at (wrapper_of key.now) (view value)) }
 {
+    read_single_in(alloc, Doubles::Special, key, value)
+}
+
+/// What an object of this one key means, as `read_single` reads it, in either mode of doubles.
+pub fn read_single_in(
+    alloc: Global,
+    doubles: Doubles,
+    key: &str,
+    value: Value,
+) -> Result<Scalar, Error>
+    ensures { Gives scalar_view result (single_at_in doubles (wrapper_of key.now) (view value)) }
+{
     match named(key) {
-        Some(wrapper) => read_wrapper(alloc, wrapper, value),
+        Some(wrapper) => read_wrapper(alloc, doubles, wrapper, value),
         None => Err(Error::DeserializationError {
             message: "an object of one wrapper key",
         }),

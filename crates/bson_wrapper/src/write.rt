@@ -7,13 +7,13 @@ ghost use Rattle.bson_wrapper.specs.Binaries.{binary_tree};
 ghost use Rattle.bson_wrapper.specs.Normal.{ScalarInRange};
 ghost use Rattle.bson_wrapper.specs.Tokens.{tokens_of, Sends, Puts};
 ghost use Rattle.bson_wrapper.specs.View.{scalar_view};
-ghost use Rattle.bson_wrapper.specs.Written.{Writes, writes_scalar};
+ghost use Rattle.bson_wrapper.specs.Written.{Writes, writes_scalar, writes_scalar_in};
 
 use crate::binaries::{write_binary, write_owned};
 use crate::dates::write_date;
 use crate::decimals::write_decimal;
 use crate::doubles::write_double;
-use crate::form::Form;
+use crate::form::{Doubles, Form};
 use crate::ids::{write_oid, write_pointer};
 use crate::ints::{write_int32, write_int64};
 use crate::lone::{write_max_key, write_min_key, write_undefined};
@@ -31,14 +31,16 @@ use std::alloc::{AllocError, Global};
 /// Writes the tree of a scalar in a form (MongoDB Extended JSON v2) to a sink. Texts are moved into
 /// a tree in memory.
 ///
-/// `FiniteDouble` comes exactly for a double that is finite and no zero.
+/// `FiniteDouble` comes exactly for a double that is finite and no zero, where finite doubles are
+/// not written.
 pub fn write_to<S: Sink>(
     alloc: Global,
+    doubles: Doubles,
     form: Form,
     value: Scalar,
     out: &mut S,
 ) -> Result<S::Tree, WriteError>
-    ensures written { Sends (λ d t. S.wrote out.old d t out.new) result (writes_scalar form (scalar_view value)) }
+    ensures written { Sends (λ d t. S.wrote out.old d t out.new) result (writes_scalar_in doubles form (scalar_view value)) }
     ensures before { S.before out.new ≡ S.before out.old }
     ensures ranged { OnOk result (ScalarInRange (scalar_view value)) }
 {
@@ -48,7 +50,7 @@ pub fn write_to<S: Sink>(
         Scalar::MinKey => write_min_key(out),
         Scalar::MaxKey => write_max_key(out),
         Scalar::Boolean(b) => out.boolean(b),
-        Scalar::Double(pattern) => return write_double(pattern, out),
+        Scalar::Double(pattern) => return write_double(doubles, pattern, out),
         Scalar::Int32(z) => write_int32(form, z, out),
         Scalar::Int64(z) => write_int64(form, z, out),
         Scalar::String(text) => out.owned_text(text),
@@ -72,7 +74,21 @@ pub fn write_scalar(alloc: Global, form: Form, value: Scalar) -> Result<Value, W
     ensures written { Writes view result (writes_scalar form (scalar_view value)) }
     ensures ranged { OnOk result (ScalarInRange (scalar_view value)) }
 {
-    write_to(alloc, form, value, &mut Trees::new(alloc))
+    write_scalar_in(alloc, Doubles::Special, form, value)
+}
+
+/// The tree of a scalar in a form, as `write_scalar` makes it, in either mode of doubles. Where
+/// finite doubles are written `FiniteDouble` does not come.
+pub fn write_scalar_in(
+    alloc: Global,
+    doubles: Doubles,
+    form: Form,
+    value: Scalar,
+) -> Result<Value, WriteError>
+    ensures written { Writes view result (writes_scalar_in doubles form (scalar_view value)) }
+    ensures ranged { OnOk result (ScalarInRange (scalar_view value)) }
+{
+    write_to(alloc, doubles, form, value, &mut Trees::new(alloc))
 }
 
 /// Writes the tree of a scalar in a form, as `write_scalar` makes it, with no tree.
@@ -88,7 +104,22 @@ pub fn print_scalar(
     ensures before { out.new.before ≡ out.old.before }
     ensures ranged { OnOk result (ScalarInRange (scalar_view value)) }
 {
-    write_to(alloc, form, value, out)
+    print_scalar_in(alloc, Doubles::Special, form, value, out)
+}
+
+/// Writes the tree of a scalar, as `write_scalar_in` makes it, with no tree.
+pub fn print_scalar_in(
+    alloc: Global,
+    doubles: Doubles,
+    form: Form,
+    value: Scalar,
+    out: &mut Writer,
+) -> Result<(), WriteError>
+    ensures printed { Puts result (writes_scalar_in doubles form (scalar_view value)) out.old.tokens out.new.tokens }
+    ensures before { out.new.before ≡ out.old.before }
+    ensures ranged { OnOk result (ScalarInRange (scalar_view value)) }
+{
+    write_to(alloc, doubles, form, value, out)
 }
 
 /// Writes the tree of a binary, as `write_scalar` makes it, with no tree.

@@ -1,10 +1,16 @@
 -- What a conversion leaves, and which number stands for which mode.
 use Rattle.std.specs.Prelude.{◌≡◌, ◌==◌, ℕ, List, ◌++◌, Option, Some, None, if◌then◌else◌}
+use Rattle.serde_json.specs.Data.{Data}
+use Rattle.bson_place.specs.Faults.{Fault as TreeFault, wrong_shape, wrong_id}
+use Rattle.bson_model.specs.Fault.{MeansNothing, fault_of}
+use Rattle.bson_place.specs.declared.place.Reason.{Reason}
+use Rattle.bson_place.specs.declared.place.Reason.TheVariants.{BadObjectId, WrongShape}
+use Rattle.bson.specs.TextMeaning.{IsNoText, IsTextOf}
 use Rattle.bson_run.specs.Convert.{Converts, newline}
 use Rattle.bson_run.specs.declared.mode.Mode.{Mode}
 use Rattle.bson_run.specs.declared.mode.Mode.TheVariants.{Canonical, Relaxed, Show}
 use Rattle.bson_run.specs.declared.fault.Fault.{Fault}
-use Rattle.bson_run.specs.declared.fault.Fault.TheVariants.{CannotRead, NotJson, BadObjectId, NotExtendedJson}
+use Rattle.bson_run.specs.declared.fault.Fault.TheVariants.{CannotRead, NotJson, NotExtendedJson, OutOfMemory}
 use Rattle.bson_run.specs.declared.fault.Fault.TheVariants.{CannotWrite}
 use Rattle.vbson.specs.Text.{IsText}
 use Rattle.vbson.specs.declared.text.Text.{Text}
@@ -20,7 +26,28 @@ pub record IsConverted (number : ℕ) (input : List ℕ) (out : Text) : Type 0 w
   pub converts : Converts mode input (text ++ newline)
   pub is_text : IsText text out
 
+-- the text of an object id alone is wrong
+abbrev pub IsBadId : TreeFault → Type 0
+IsBadId it = (id : List ℕ) × (it ≡ wrong_id id)
+
+-- anything else is
+abbrev pub IsBad : TreeFault → Type 0
+IsBad it = it ≡ wrong_shape
+
+-- the bytes are the text of a tree that means nothing, for a reason
+pub record HasNoMeaning (why : TreeFault → Type 0) (bytes : List ℕ) : Type 0 where
+  pub tree : Data
+  pub text : IsTextOf bytes tree
+  pub refused : MeansNothing tree
+  pub reason : why (fault_of tree)
+
 -- ---- for private clauses
+
+-- what a status says of the bytes
+pub record IsCause (status : ℕ) (bytes : List ℕ) : Type 0 where
+  pub not_json : status ≡ 2 → IsNoText bytes
+  pub bad_object_id : status ≡ 3 → HasNoMeaning IsBadId bytes
+  pub not_extended_json : status ≡ 4 → HasNoMeaning IsBad bytes
 
 -- a text is neither read from a reader nor written to a writer
 abbrev pub IsOfText : Fault → Type 0
@@ -28,8 +55,11 @@ IsOfText CannotRead = ⊥
 IsOfText CannotWrite = ⊥
 IsOfText _ = Unit {0}
 
+abbrev pub status_for : Reason → ℕ
+status_for (BadObjectId e) = 3
+status_for (WrongShape message) = 4
+
 abbrev pub status_of : Fault → ℕ
 status_of NotJson = 2
-status_of BadObjectId = 3
-status_of NotExtendedJson = 4
+status_of (NotExtendedJson place) = status_for place.reason
 status_of _ = 5

@@ -3,14 +3,16 @@ ghost use Rattle.std.specs.Prelude.{◌≡◌, ◌↔◌, ◌<◌, ◌≤◌, �
 ghost use Rattle.serde_json.specs.Data.{Data};
 ghost use Rattle.bson_model.specs.Means.{Means};
 ghost use Rattle.bson_model.specs.Value as model;
-ghost use Rattle.bson_run.specs.Convert.{Converts, HasNoMeaning, IsBad, IsBadId, newline};
+ghost use Rattle.bson_run.specs.Convert.{Converts, IsRefused, newline};
 ghost use Rattle.bson.specs.TextMeaning.{IsNoText, IsTextOf};
 ghost use Rattle.bson_run.specs.declared.mode.Mode.{Mode};
-ghost use Rattle.vbson.specs.Convert.{IsConverted, IsOfText, mode_at, status_of};
+ghost use Rattle.vbson.specs.Convert.{HasNoMeaning, IsBad, IsBadId, IsCause, IsConverted, IsOfText};
+ghost use Rattle.vbson.specs.Convert.{mode_at, status_of};
 ghost use Rattle.vbson.specs.Text.{nul};
 
 use crate::status;
 use crate::text::{Text, text_of_line};
+use bson_place::place::Reason;
 use bson_run::convert::convert;
 use bson_run::fault::Fault;
 use bson_run::mode::Mode;
@@ -50,7 +52,7 @@ pub extern "C" fn vbson_convert(
     status::DONE
 }
 
-/// The mode of a number.
+// The mode of a number.
 fn mode_of(number: u32) -> Option<Mode>
     ensures { result ≡ mode_at number }
 {
@@ -65,12 +67,15 @@ fn mode_of(number: u32) -> Option<Mode>
 /// The status of a fault that a text can have.
 pub fn status_of(fault: Fault) -> u32
     requires { IsOfText fault }
-    ensures { result ≡ status_of fault }
+    ensures number { result ≡ status_of fault }
+    ensures cause { (bytes : List ℕ) → IsRefused fault bytes → IsCause result bytes }
 {
     match fault {
         Fault::NotJson => status::NOT_JSON,
-        Fault::BadObjectId => status::BAD_OBJECT_ID,
-        Fault::NotExtendedJson => status::NOT_EXTENDED_JSON,
+        Fault::NotExtendedJson(place) => match &place.reason {
+            Reason::BadObjectId(_) => status::BAD_OBJECT_ID,
+            Reason::WrongShape(_) => status::NOT_EXTENDED_JSON,
+        },
         Fault::OutOfMemory => status::OUT_OF_MEMORY,
         Fault::CannotRead | Fault::CannotWrite => unreachable!(),
     }

@@ -1,5 +1,5 @@
 //! Decimals, object ids and moments: from a text to plain bytes or a number, and back.
-ghost use Rattle.std.specs.Prelude.{◌≡◌, ◌⊎◌, ◌<◌, ℕ, ℤ, List, IsUtf8};
+ghost use Rattle.std.specs.Prelude.{◌≡◌, ◌≢◌, ◌⊎◌, ◌<◌, ◌≤◌, ℕ, ℤ, List, IsUtf8, length};
 ghost use Rattle.bson_decimal.specs.Text.{Parses};
 ghost use Rattle.bson_decimal.specs.Displayed.{display_text as decimal_text};
 ghost use Rattle.bson_scalar.specs.Oid.{IsOidText, encode_lower};
@@ -47,6 +47,7 @@ pub extern "C" fn vbson_decimal128_print(
 ) -> u32
     ensures done { result ≡ 0 → IsPut (decimal_text bytes.now) room.old room.new len.new }
     ensures no_room { result ≡ 8 → HasNoRoom (decimal_text bytes.now) room.old room.new len.new }
+    ensures fits { 42 ≤ length room.old → result ≢ 8 }
     ensures listed { (result ≡ 0) ⊎ (result ≡ 5) ⊎ (result ≡ 8) }
     ensures kept { result ≡ 5 → (room.new ≡ room.old) × (len.new ≡ len.old) }
 {
@@ -78,6 +79,7 @@ pub extern "C" fn vbson_object_id_parse(text: &[u8], out: &mut [u8; 12]) -> u32
 pub extern "C" fn vbson_object_id_print(bytes: &[u8; 12], room: &mut [u8], len: &mut usize) -> u32
     ensures done { result ≡ 0 → IsPut (encode_lower bytes.now) room.old room.new len.new }
     ensures no_room { result ≡ 8 → HasNoRoom (encode_lower bytes.now) room.old room.new len.new }
+    ensures fits { 24 ≤ length room.old → result ≢ 8 }
     ensures listed { (result ≡ 0) ⊎ (result ≡ 8) }
 {
     let mut digits = [0u8; 24];
@@ -119,6 +121,7 @@ pub extern "C" fn vbson_date_time_print(
 ) -> u32
     ensures done { result ≡ 0 → IsPut (rfc millis) room.old room.new len.new }
     ensures no_room { result ≡ 8 → HasNoRoom (rfc millis) room.old room.new len.new }
+    ensures fits { 24 ≤ length room.old → result ≢ 8 }
     ensures no_text { result ≡ 7 → ¬ (IsRfcMillis millis) }
     ensures in_years { (result ≡ 0) ⊎ (result ≡ 8) → IsRfcMillis millis }
     ensures listed { (result ≡ 0) ⊎ (result ≡ 5) ⊎ (result ≡ 7) ⊎ (result ≡ 8) }

@@ -1,10 +1,10 @@
 //! Two texts by what they mean.
 ghost use Rattle.std.specs.Prelude.{◌≡◌, ◌⊎◌, ◌<◌, ◌≤◌, true, false};
-ghost use Rattle.bson_run.specs.Convert.{HasNoMeaning, IsBad, IsBadId};
 ghost use Rattle.bson.specs.TextMeaning.{IsNoText};
 ghost use Rattle.bson.specs.View.{bson_view};
 ghost use Rattle.bson_model.specs.Same.{same};
 ghost use Rattle.bson_model.specs.Value.{Value};
+ghost use Rattle.vbson.specs.Convert.{HasNoMeaning, IsBad, IsBadId};
 ghost use Rattle.vbson.specs.Values.{Compare, IsHashOf, RefusesOne, hash_of};
 
 use crate::convert::status_of;

@@ -4,14 +4,14 @@ ghost use Rattle.std.specs.Prelude.{IfOk, OnOk, IfErr, OnErr};
 ghost use Rattle.std.specs.declared.alloc.Global.{Global};
 ghost use Rattle.std.specs.Iterator.{IsFinite, Drains, YieldsThen};
 ghost use Rattle.bson_store.specs.Pairs.{get, insert_pair, remove_pair};
-ghost use Rattle.bson.specs.Put.{put_all};
+ghost use Rattle.bson.specs.Put.{put_all, put_entries};
 ghost use Rattle.bson.specs.View.{contents};
 ghost use Rattle.bson.specs.declared.bson.Bson as value;
 
 use super::Document;
 use crate::bson::Bson;
-use bson_store::{PairStore, by_key};
-use std::alloc::Global;
+use bson_store::{Pair, PairStore, SmallPairs, by_key};
+use std::alloc::{AllocError, Global};
 use thiserror::Error;
 
 /// Want of memory at a new key, with the pair that was not put. It is an error with a text, so `?`
@@ -128,4 +128,41 @@ impl Document {
         document.extend(items)?;
         Ok(document)
     }
+
+    /// The document of the entries, put in turn: of a key that comes twice the last value stays, in
+    /// the place of the first.
+    ///
+    /// Entries whose keys ascend become the document as they stand, in the memory that they have.
+    /// Where memory is refused they are dropped.
+    ///
+    /// ```
+    /// let mut entries = Vec::new(alloc);
+    /// entries.push(Pair {
+    ///     key: String::from_str(alloc, "a")?,
+    ///     value: Bson::Null,
+    /// })?;
+    /// println!(rt; "{}", Document::from_entries(alloc, entries)?)?; // { "a": null }
+    /// ```
+    pub fn from_entries(alloc: Global, entries: Vec<Pair<Bson>>) -> Result<Document, AllocError>
+        ensures { IfOk result (λ d. contents d ≡ put_entries entries.items []) }
+    {
+        match SmallPairs::try_from_ascending(entries) {
+            Ok(pairs) => Ok(Document { pairs }),
+            Err(entries) => of_entries(alloc, entries),
+        }
+    }
+}
+
+// The document of the entries, each of which is looked up.
+fn of_entries(alloc: Global, entries: Vec<Pair<Bson>>) -> Result<Document, AllocError>
+    ensures { IfOk result (λ d. contents d ≡ put_entries entries.items []) }
+{
+    let pairs = SmallPairs::with_capacity(alloc, entries.len())?;
+    let mut document = Document { pairs };
+    'entries: for Pair { key, value } in entries {
+        let Ok(()) = document.set(key, value) else {
+            return Err(AllocError);
+        };
+    }
+    Ok(document)
 }

@@ -5,23 +5,25 @@ ghost use Rattle.json.specs.Json.{value, items, members};
 ghost use Rattle.json.specs.Reads.{token_of};
 ghost use Rattle.serde_json.specs.Data.{Data, no_members};
 ghost use Rattle.serde_json.specs.Read.{of_json, of_items, of_members, converted, read};
-ghost use Rattle.bson_model.specs.Means.{Means};
+ghost use Rattle.bson_model.specs.Means.{Means, MeansIn};
 ghost use Rattle.bson_model.specs.Value as model;
-ghost use Rattle.bson.specs.Converted.{IsConversion, TreeConverted, ItemsConverted};
+ghost use Rattle.bson.specs.Converted.{IsConversion, IsConversionIn, TreeConverted, ItemsConverted};
 ghost use Rattle.bson.specs.Converted.{ObjectConverted, TextConverted, Follows};
-ghost use Rattle.bson.specs.TextMeaning.{IsTextOf, IsTextFault};
+ghost use Rattle.bson.specs.TextMeaning.{IsTextOf, IsTextFault, IsTextFaultIn};
 ghost use Rattle.bson.specs.declared.extjson.text_error.TextError.TheVariants.{OutOfMemory};
+ghost use Rattle.bson.specs.declared.extjson.convert.Unconverted.TheVariants as unconverted;
 
 mod by_key;
 
 use crate::bson::Bson;
 use crate::extjson::convert::by_key::convert_by_key;
+use crate::extjson::options::Options;
 use crate::extjson::text::{finished, print_read};
 use crate::extjson::text_error::TextError;
 use crate::extjson::text_reader::straight::{read_begun, read_value};
-use crate::extjson::text_reader::unread::Unread;
 use crate::extjson::text_reader::{MAX_DEPTH, find_fault, or_fault, read_bytes, read_text};
-use bson_wrapper::form::Form;
+use bson_tokens::unread::Unread;
+use bson_wrapper::form::{Doubles, Form};
 use bson_wrapper::wrapper::named;
 use json::{Invalid, Reader, Scratch, Token, Writer};
 use std::alloc::{AllocError, Global};
@@ -55,12 +57,16 @@ pub(crate) enum Unconverted {
 }
 
 impl From<AllocError> for Unconverted {
+    ghost from_gives = { λ refused why. why ≡ unconverted.OutOfMemory };
+
     fn from(_refused: AllocError) -> Unconverted {
         Unconverted::OutOfMemory
     }
 }
 
 impl From<Invalid> for Unconverted {
+    ghost from_gives = { λ invalid why. why ≡ unconverted.Broken };
+
     fn from(_invalid: Invalid) -> Unconverted {
         Unconverted::Broken
     }
@@ -93,44 +99,72 @@ impl Bson {
             → IfErr result (λ e. e ≡ OutOfMemory) }
         ensures fault { IfErr result (λ e. IsTextFault bytes.now e) }
     {
-        convert(alloc, form, bytes)
+        convert(alloc, Doubles::Special, form, bytes)
+    }
+
+    /// [`Bson::convert_text`] with the doubles that the options name: the bytes are read as
+    /// [`Bson::try_from_text_with`] reads them, and the text is that of
+    /// [`Bson::to_text_with`].
+    pub fn convert_text_with(
+        alloc: Global,
+        options: Options,
+        form: Form,
+        bytes: &[u8],
+    ) -> Result<Converted, TextError>
+        ensures ok { IfOk result (λ c. IsConversionIn options.doubles form bytes.now c) }
+        ensures accepts { (t : Data) (v : model.Value) → IsTextOf bytes.now t → MeansIn options.doubles t v
+            → IfErr result (λ e. e ≡ OutOfMemory) }
+        ensures fault { IfErr result (λ e. IsTextFaultIn options.doubles bytes.now e) }
+    {
+        convert(alloc, options.doubles, form, bytes)
     }
 }
 
-fn convert(alloc: Global, form: Form, bytes: &[u8]) -> Result<Converted, TextError>
-    ensures ok { IfOk result (λ c. IsConversion form bytes.now c) }
-    ensures fault { IfErr result (λ e. IsTextFault bytes.now e) }
+fn convert(
+    alloc: Global,
+    doubles: Doubles,
+    form: Form,
+    bytes: &[u8],
+) -> Result<Converted, TextError>
+    ensures ok { IfOk result (λ c. IsConversionIn doubles form bytes.now c) }
+    ensures fault { IfErr result (λ e. IsTextFaultIn doubles bytes.now e) }
 {
     let Ok(text) = simdutf8::compat::from_utf8(bytes) else {
         return Err(TextError::NotJson);
     };
     let mut scratch = Scratch::new(alloc);
-    match convert_parts(alloc, form, text, &mut scratch) {
+    match convert_parts(alloc, doubles, form, text, &mut scratch) {
         Ok(Some(written)) => Ok(Converted::Text(written)),
         Ok(None) => {
-            let read = read_text(alloc, text, &mut scratch);
+            let read = read_text(alloc, doubles, text, &mut scratch);
             drop(scratch);
-            Ok(Converted::Value(or_fault(alloc, bytes, text, read)?))
+            Ok(Converted::Value(or_fault(alloc, doubles, bytes, text, read)?))
         }
         Err(why) => {
             drop(scratch);
-            refuse(alloc, bytes, text, why)?;
-            Ok(Converted::Value(read_bytes(alloc, bytes)?))
+            refuse(alloc, doubles, bytes, text, why)?;
+            Ok(Converted::Value(read_bytes(alloc, doubles, bytes)?))
         }
     }
 }
 
 // Refuses a text that was not converted, where it means nothing.
-fn refuse(alloc: Global, bytes: &[u8], text: &str, why: Unconverted) -> Result<(), TextError>
+fn refuse(
+    alloc: Global,
+    doubles: Doubles,
+    bytes: &[u8],
+    text: &str,
+    why: Unconverted,
+) -> Result<(), TextError>
     requires { bytes.now ≡ text.now }
-    ensures { IfErr result (λ e. IsTextFault bytes.now e) }
+    ensures { IfErr result (λ e. IsTextFaultIn doubles bytes.now e) }
 {
     match why {
         Unconverted::OutOfMemory => Err(TextError::OutOfMemory),
-        Unconverted::Left => find_fault(alloc, bytes),
+        Unconverted::Left => find_fault(alloc, doubles, bytes),
         Unconverted::Broken => match breaks_grammar(alloc, text) {
             Ok(true) => Err(TextError::NotJson),
-            Ok(false) => find_fault(alloc, bytes),
+            Ok(false) => find_fault(alloc, doubles, bytes),
             Err(_) => Err(TextError::OutOfMemory),
         },
     }
@@ -162,33 +196,35 @@ enum Parts {
 // The text, written as its parts are read; none where it is to be read whole.
 fn convert_parts(
     alloc: Global,
+    doubles: Doubles,
     form: Form,
     text: &str,
     scratch: &mut Scratch,
 ) -> Result<Option<String>, Unconverted>
-    ensures { IfOk result (λ s. IfSome s (λ written. TextConverted form text.now (string_bytes written))) }
+    ensures { IfOk result (λ s. IfSome s (λ written. TextConverted doubles form text.now (string_bytes written))) }
 {
     if text.len() < LEAST_LENGTH {
         return Ok(None);
     }
     match parts_of(text, scratch)? {
         Parts::None => Ok(None),
-        Parts::InTurn => Ok(Some(convert_in_turn(alloc, form, text, scratch)?)),
-        Parts::ByKey => convert_by_key(alloc, form, text, scratch),
+        Parts::InTurn => Ok(Some(convert_in_turn(alloc, doubles, form, text, scratch)?)),
+        Parts::ByKey => convert_by_key(alloc, doubles, form, text, scratch),
     }
 }
 
 fn convert_in_turn(
     alloc: Global,
+    doubles: Doubles,
     form: Form,
     text: &str,
     scratch: &mut Scratch,
 ) -> Result<String, Unconverted>
-    ensures { IfOk result (λ written. TextConverted form text.now (string_bytes written)) }
+    ensures { IfOk result (λ written. TextConverted doubles form text.now (string_bytes written)) }
 {
     let mut reader = Reader::new(text, scratch)?;
     let mut out = Writer::new(Vec::with_capacity(alloc, text.len())?);
-    convert_root(alloc, form, &mut reader, &mut out)?;
+    convert_root(alloc, doubles, form, &mut reader, &mut out)?;
     if reader.next().is_some() {
         return Err(Unconverted::Broken);
     }
@@ -233,24 +269,27 @@ pub(crate) fn follows(last: Option<&str>, key: &str) -> bool
 
 fn convert_root(
     alloc: Global,
+    doubles: Doubles,
     form: Form,
     reader: &mut Reader<'_>,
     out: &mut Writer,
 ) -> Result<(), Unconverted>
     ensures ok { OnOk result
-        (TreeConverted form (converted of_json (value 127 reader.old)) reader.new out.old.tokens out.new.tokens) }
+        (TreeConverted doubles form (converted of_json (value 127 reader.old)) reader.new out.old.tokens
+        out.new.tokens) }
     ensures before { out.new.before ≡ out.old.before }
 {
     let token = reader.next().ok_or(Unconverted::Broken)?;
     match token {
-        Token::BeginObject => convert_members(alloc, form, reader, MAX_DEPTH - 1, out),
-        token => convert_begun(alloc, form, reader, MAX_DEPTH, token, out),
+        Token::BeginObject => convert_members(alloc, doubles, form, reader, MAX_DEPTH - 1, out),
+        token => convert_begun(alloc, doubles, form, reader, MAX_DEPTH, token, out),
     }
 }
 
 // The value that begins with the token: a list an element at a time, and any other whole.
 fn convert_begun(
     alloc: Global,
+    doubles: Doubles,
     form: Form,
     reader: &mut Reader<'_>,
     depth: usize,
@@ -258,7 +297,7 @@ fn convert_begun(
     out: &mut Writer,
 ) -> Result<(), Unconverted>
     ensures ok { OnOk result
-        (TreeConverted form (converted of_json (value depth (token_of token.entry ∷ reader.old))) reader.new
+        (TreeConverted doubles form (converted of_json (value depth (token_of token.entry ∷ reader.old))) reader.new
         out.old.tokens out.new.tokens) }
     ensures before { out.new.before ≡ out.old.before }
     ensures shorter { OnOk result (length reader.new ≤ length reader.old) }
@@ -267,22 +306,23 @@ fn convert_begun(
         if depth == 0 {
             return Err(Unconverted::Broken);
         }
-        return convert_items(alloc, form, reader, depth - 1, out);
+        return convert_items(alloc, doubles, form, reader, depth - 1, out);
     }
-    let value = read_begun(alloc, reader, depth, token)?.ok_or(Unconverted::Left)?;
-    Ok(print_read(alloc, form, value, out)?)
+    let value = read_begun(alloc, doubles, reader, depth, token)?.ok_or(Unconverted::Left)?;
+    Ok(print_read(alloc, doubles, form, value, out)?)
 }
 
 // An object whose brace was read, a member at a time.
 fn convert_members(
     alloc: Global,
+    doubles: Doubles,
     form: Form,
     reader: &mut Reader<'_>,
     depth: usize,
     out: &mut Writer,
 ) -> Result<(), Unconverted>
     ensures ok { OnOk result
-        (ObjectConverted form
+        (ObjectConverted doubles form
         (converted (λ ms. of_members ms no_members) (members (value depth) (length reader.old) reader.old)) reader.new
         out.old.tokens out.new.tokens) }
     ensures before { out.new.before ≡ out.old.before }
@@ -294,7 +334,7 @@ fn convert_members(
             return Err(Unconverted::Left);
         }
         out.key(name)?;
-        convert_member(alloc, form, reader, depth, out)?;
+        convert_member(alloc, doubles, form, reader, depth, out)?;
         last = Some(name);
     }
     Ok(out.end_object()?)
@@ -303,38 +343,41 @@ fn convert_members(
 // The value of a member whose key was read.
 pub(crate) fn convert_member(
     alloc: Global,
+    doubles: Doubles,
     form: Form,
     reader: &mut Reader<'_>,
     depth: usize,
     out: &mut Writer,
 ) -> Result<(), Unconverted>
     ensures ok { OnOk result
-        (TreeConverted form (converted of_json (value depth reader.old)) reader.new out.old.tokens out.new.tokens) }
+        (TreeConverted doubles form (converted of_json (value depth reader.old)) reader.new out.old.tokens
+        out.new.tokens) }
     ensures before { out.new.before ≡ out.old.before }
     ensures shorter { OnOk result (length reader.new < length reader.old) }
 {
     let token = reader.next().ok_or(Unconverted::Broken)?;
-    convert_begun(alloc, form, reader, depth, token, out)
+    convert_begun(alloc, doubles, form, reader, depth, token, out)
 }
 
 // A list whose bracket was read, an element at a time.
 fn convert_items(
     alloc: Global,
+    doubles: Doubles,
     form: Form,
     reader: &mut Reader<'_>,
     depth: usize,
     out: &mut Writer,
 ) -> Result<(), Unconverted>
     ensures ok { OnOk result
-        (ItemsConverted form (converted of_items (items (value depth) (length reader.old) reader.old)) reader.new
-        out.old.tokens out.new.tokens) }
+        (ItemsConverted doubles form (converted of_items (items (value depth) (length reader.old) reader.old))
+        reader.new out.old.tokens out.new.tokens) }
     ensures before { out.new.before ≡ out.old.before }
     ensures shorter { OnOk result (length reader.new < length reader.old) }
 {
     out.begin_array()?;
     'items: while !reader.take_end_array() {
-        let item = read_value(alloc, reader, depth)?.ok_or(Unconverted::Left)?;
-        print_read(alloc, form, item, out)?;
+        let item = read_value(alloc, doubles, reader, depth)?.ok_or(Unconverted::Left)?;
+        print_read(alloc, doubles, form, item, out)?;
     }
     Ok(out.end_array()?)
 }

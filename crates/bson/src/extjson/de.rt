@@ -5,19 +5,21 @@ ghost use Rattle.serde_json.specs.Data.{object};
 ghost use Rattle.bson_model.specs.Value as model;
 ghost use Rattle.bson_model.specs.Value.{Pairs};
 ghost use Rattle.bson_wrapper.specs.Faults.{Gives};
-ghost use Rattle.bson_model.specs.Means.{Means, MeansDocument};
+ghost use Rattle.bson_model.specs.Means.{Means, MeansIn, MeansDocument, MeansDocumentIn};
 ghost use Rattle.bson_model.specs.Sorted.{KeysAscend};
-ghost use Rattle.bson_model.specs.Texts.{Ascends, ComesBack};
+ghost use Rattle.bson_model.specs.Texts.{Ascends, ComesBack, ComesBackIn};
 ghost use Rattle.bson_model.specs.Normal.{InRange, PairsInRange};
-ghost use Rattle.bson_model.specs.Laws.{HasMeaning, HasDocumentMeaning};
-ghost use Rattle.bson_model.specs.Fault.{IsFaultOf, IsDocumentFault};
+ghost use Rattle.bson_model.specs.Laws.{HasMeaning, HasMeaningIn, HasDocumentMeaning, HasDocumentMeaningIn};
+ghost use Rattle.bson_model.specs.Fault.{IsFaultOf, IsFaultOfIn, IsDocumentFault, IsDocumentFaultIn};
 ghost use Rattle.bson.specs.View.{bson_view, document_view};
 
 use crate::bson::Bson;
 use crate::document::Document;
+use crate::extjson::options::Options;
 use crate::extjson::read::{read, read_members};
 pub use crate::extjson::text_error::TextError;
 pub use bson_wrapper::error::{Error, Result};
+use bson_wrapper::form::Doubles;
 use serde_json::{Map, Value};
 use std::alloc::Global;
 
@@ -39,7 +41,21 @@ impl Bson {
         ensures ranged { IfOk result (λ v. InRange (bson_view v)) }
         ensures comes_back { IfOk result (λ v. ComesBack (bson_view v)) }
     {
-        read(alloc, value)
+        read(alloc, Doubles::Special, value)
+    }
+
+    /// The value that the tree means, read as the options say; otherwise as `try_from_value`.
+    ///
+    /// Where finite doubles are read, a number that is no i64 is the double nearest to it, and
+    /// `$numberDouble` holds any decimal number whose nearest double is finite.
+    pub fn try_from_value_with(alloc: Global, options: Options, value: Value) -> Result<Bson>
+        ensures ok { IfOk result (λ v. HasMeaningIn options.doubles (view value) (bson_view v)) }
+        ensures accepts { (v : model.Value) → MeansIn options.doubles (view value) v → Gives bson_view result (Ok v) }
+        ensures fault { IfErr result (λ e. IsFaultOfIn options.doubles (view value) e) }
+        ensures ranged { IfOk result (λ v. InRange (bson_view v)) }
+        ensures comes_back { IfOk result (λ v. ComesBackIn options.doubles (bson_view v)) }
+    {
+        read(alloc, options.doubles, value)
     }
 
     /// The value that the map means, as `try_from_value` of the object.
@@ -52,6 +68,23 @@ impl Bson {
         ensures comes_back { IfOk result (λ v. ComesBack (bson_view v)) }
     {
         Bson::try_from_value(alloc, Value::Object(map))
+    }
+
+    /// The value that the map means, as `try_from_value_with` of the object.
+    pub fn try_from_map_with(
+        alloc: Global,
+        options: Options,
+        map: Map<String, Value>,
+    ) -> Result<Bson>
+        ensures ok { IfOk result
+            (λ v. HasMeaningIn options.doubles (object (members_view map.entries)) (bson_view v)) }
+        ensures accepts { (v : model.Value) → MeansIn options.doubles (object (members_view map.entries)) v
+            → Gives bson_view result (Ok v) }
+        ensures fault { IfErr result (λ e. IsFaultOfIn options.doubles (object (members_view map.entries)) e) }
+        ensures ranged { IfOk result (λ v. InRange (bson_view v)) }
+        ensures comes_back { IfOk result (λ v. ComesBackIn options.doubles (bson_view v)) }
+    {
+        Bson::try_from_value_with(alloc, options, Value::Object(map))
     }
 }
 
@@ -70,7 +103,25 @@ impl Document {
         ensures ranged { IfOk result (λ v. PairsInRange (document_view v)) }
     {
         ascending(&map);
-        read_members(alloc, map)
+        read_members(alloc, Doubles::Special, map)
+    }
+
+    /// The document of the map, read as the options say; otherwise as `try_from_map`.
+    pub fn try_from_map_with(
+        alloc: Global,
+        options: Options,
+        map: Map<String, Value>,
+    ) -> Result<Document>
+        ensures ok { IfOk result
+            (λ v. HasDocumentMeaningIn options.doubles (members_view map.entries) (document_view v)) }
+        ensures accepts { (ps : Pairs) → MeansDocumentIn options.doubles (members_view map.entries) ps
+            → Gives document_view result (Ok ps) }
+        ensures ascends { IfOk result (λ v. KeysAscend (document_view v)) }
+        ensures fault { IfErr result (λ e. IsDocumentFaultIn options.doubles (members_view map.entries) e) }
+        ensures ranged { IfOk result (λ v. PairsInRange (document_view v)) }
+    {
+        ascending(&map);
+        read_members(alloc, options.doubles, map)
     }
 }
 

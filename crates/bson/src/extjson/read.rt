@@ -4,78 +4,97 @@ ghost use Rattle.serde_json.specs.Data.{object};
 ghost use Rattle.std.specs.Prelude.{◌≡◌, IfOk, string_bytes};
 ghost use Rattle.bson_model.specs.Value.{code_scope};
 ghost use Rattle.bson_wrapper.specs.Faults.{Gives};
-ghost use Rattle.bson_model.specs.Reading.{scalar_value, reads, reads_items, reads_members};
-ghost use Rattle.bson_model.specs.Reading.{reads_wrapper, reads_scope, scope_value, code_at};
+ghost use Rattle.bson_model.specs.Reading.{scalar_value, reads_in, reads_items_in, reads_members_in};
+ghost use Rattle.bson_model.specs.Reading.{reads_wrapper_in, reads_scope_in, scope_value, code_at};
 ghost use Rattle.bson_model.specs.Normal.{InRange, ItemsInRange, PairsInRange};
-ghost use Rattle.bson_wrapper.specs.Reading.{single_at};
+ghost use Rattle.bson_wrapper.specs.Reading.{number_read_in, single_at_in};
 ghost use Rattle.bson_wrapper.specs.Table.{wrapper_of};
 ghost use Rattle.bson.specs.View.{bson_view, document_view, values_view};
 
 use crate::bson::{Bson, JavaScriptCodeWithScope};
 use crate::document::Document;
-use crate::extjson::scalars::{of_scalar, read_number};
+use crate::extjson::scalars::of_scalar;
 use bson_place::shape::{CODE, SCOPE, beside_others, first_wrapper};
 use bson_store::{PairStore, SmallPairs};
 use bson_wrapper::code::is_code_with_scope;
+use bson_wrapper::doubles::read_number;
 use bson_wrapper::error::Error;
-use bson_wrapper::read::read_single;
+use bson_wrapper::form::Doubles;
+use bson_wrapper::read::read_single_in;
 use bson_wrapper::wrapper::Wrapper;
-use serde_json::{Map, Value};
+use serde_json::{Map, Number, Value};
 use std::alloc::Global;
 
-pub(crate) fn single_value(alloc: Global, key: &str, value: Value) -> Result<Bson, Error>
-    ensures given { Gives bson_view result (scalar_value (single_at (wrapper_of key.now) (view value))) }
+pub(crate) fn single_value(
+    alloc: Global,
+    doubles: Doubles,
+    key: &str,
+    value: Value,
+) -> Result<Bson, Error>
+    ensures given { Gives bson_view result (scalar_value (single_at_in doubles (wrapper_of key.now) (view value))) }
     ensures ranged { IfOk result (λ v. InRange (bson_view v)) }
 {
-    Ok(of_scalar(read_single(alloc, key, value)?))
+    Ok(of_scalar(read_single_in(alloc, doubles, key, value)?))
+}
+
+// What a number of JSON means.
+pub(crate) fn number_value(doubles: Doubles, n: &Number) -> Result<Bson, Error>
+    ensures given { Gives bson_view result (scalar_value (number_read_in doubles (number_view n.now))) }
+    ensures ranged { IfOk result (λ v. InRange (bson_view v)) }
+{
+    Ok(of_scalar(read_number(doubles, n)?))
 }
 
 #[cycle(read)]
-pub(crate) fn read(alloc: Global, value: Value) -> Result<Bson, Error>
-    ensures given { Gives bson_view result (reads (view value)) }
+pub(crate) fn read(alloc: Global, doubles: Doubles, value: Value) -> Result<Bson, Error>
+    ensures given { Gives bson_view result (reads_in doubles (view value)) }
     ensures ranged { IfOk result (λ v. InRange (bson_view v)) }
 {
     match value {
         Value::Null => Ok(Bson::Null),
         Value::Bool(b) => Ok(Bson::Boolean(b)),
-        Value::Number(n) => read_number(n),
+        Value::Number(n) => number_value(doubles, &n),
         Value::String(s) => Ok(Bson::String(s)),
-        Value::Array(items) => Ok(Bson::Array(read_items(alloc, items)?)),
-        Value::Object(members) => read_object(alloc, members),
+        Value::Array(items) => Ok(Bson::Array(read_items(alloc, doubles, items)?)),
+        Value::Object(members) => read_object(alloc, doubles, members),
     }
 }
 
 #[cycle(read)]
-fn read_items(alloc: Global, items: Vec<Value>) -> Result<Vec<Bson>, Error>
-    ensures given { Gives (λ v. values_view v.items) result (reads_items (items_view items.items)) }
+fn read_items(alloc: Global, doubles: Doubles, items: Vec<Value>) -> Result<Vec<Bson>, Error>
+    ensures given { Gives (λ v. values_view v.items) result (reads_items_in doubles (items_view items.items)) }
     ensures ranged { IfOk result (λ v. ItemsInRange (values_view v.items)) }
 {
     let mut values = Vec::with_capacity(alloc, items.len())?;
     for item in items {
-        values.push(read(alloc, item)?)?;
+        values.push(read(alloc, doubles, item)?)?;
     }
     Ok(values)
 }
 
 #[cycle(read)]
-fn read_object(alloc: Global, members: Map<String, Value>) -> Result<Bson, Error>
-    ensures given { Gives bson_view result (reads (object (members_view members.entries))) }
+fn read_object(alloc: Global, doubles: Doubles, members: Map<String, Value>) -> Result<Bson, Error>
+    ensures given { Gives bson_view result (reads_in doubles (object (members_view members.entries))) }
     ensures ranged { IfOk result (λ v. InRange (bson_view v)) }
 {
     match first_wrapper(&members) {
-        Some(wrapper) => read_wrapped(alloc, members, wrapper),
-        None => Ok(Bson::Document(read_members(alloc, members)?)),
+        Some(wrapper) => read_wrapped(alloc, doubles, members, wrapper),
+        None => Ok(Bson::Document(read_members(alloc, doubles, members)?)),
     }
 }
 
 #[cycle(read)]
-pub(crate) fn read_members(alloc: Global, members: Map<String, Value>) -> Result<Document, Error>
-    ensures given { Gives document_view result (reads_members (members_view members.entries)) }
+pub(crate) fn read_members(
+    alloc: Global,
+    doubles: Doubles,
+    members: Map<String, Value>,
+) -> Result<Document, Error>
+    ensures given { Gives document_view result (reads_members_in doubles (members_view members.entries)) }
     ensures ranged { IfOk result (λ d. PairsInRange (document_view d)) }
 {
     let mut pairs = SmallPairs::with_capacity(alloc, members.len())?;
     for (key, value) in members {
-        let read = read(alloc, value)?;
+        let read = read(alloc, doubles, value)?;
         match pairs.push(key, read) {
             Ok(()) => {}
             Err(_) => return Err(Error::OutOfMemory),
@@ -88,10 +107,11 @@ pub(crate) fn read_members(alloc: Global, members: Map<String, Value>) -> Result
 #[cycle(read)]
 fn read_wrapped(
     alloc: Global,
+    doubles: Doubles,
     mut members: Map<String, Value>,
     wrapper: Wrapper,
 ) -> Result<Bson, Error>
-    ensures given { Gives bson_view result (reads_wrapper (members_view members.entries)) }
+    ensures given { Gives bson_view result (reads_wrapper_in doubles (members_view members.entries)) }
     ensures ranged { IfOk result (λ v. InRange (bson_view v)) }
 {
     let Some((key, value)) = members.pop_first() else {
@@ -100,19 +120,28 @@ fn read_wrapped(
         });
     };
     let Some((other, scope)) = members.pop_first() else {
-        return single_value(alloc, key.as_str(), value);
+        return single_value(alloc, doubles, key.as_str(), value);
     };
     if !members.is_empty() {
         return Err(Error::DeserializationError {
             message: beside_others(wrapper),
         });
     }
-    read_code(alloc, scope, other.as_str(), value, key.as_str(), wrapper)
+    read_code(
+        alloc,
+        doubles,
+        scope,
+        other.as_str(),
+        value,
+        key.as_str(),
+        wrapper,
+    )
 }
 
 #[cycle(read)]
 fn read_code(
     alloc: Global,
+    doubles: Doubles,
     scope: Value,
     other: &str,
     value: Value,
@@ -120,7 +149,7 @@ fn read_code(
     wrapper: Wrapper,
 ) -> Result<Bson, Error>
     ensures given { Gives bson_view result
-        (code_at key.now (view value) other.now (reads_scope (view scope))) }
+        (code_at key.now (view value) other.now (reads_scope_in doubles (view scope))) }
     ensures ranged { IfOk result (λ v. InRange (bson_view v)) }
 {
     if !is_code_with_scope(key, other) {
@@ -129,7 +158,7 @@ fn read_code(
         });
     }
     match value {
-        Value::String(code) => read_scope(alloc, scope, code),
+        Value::String(code) => read_scope(alloc, doubles, scope, code),
         _ => Err(Error::DeserializationError { message: CODE }),
     }
 }
@@ -141,14 +170,14 @@ pub(crate) fn with_scope(code: String, scope: Document) -> Bson
 }
 
 #[cycle(read)]
-fn read_scope(alloc: Global, scope: Value, code: String) -> Result<Bson, Error>
+fn read_scope(alloc: Global, doubles: Doubles, scope: Value, code: String) -> Result<Bson, Error>
     ensures given { Gives bson_view result
-        (scope_value (string_bytes code) (reads_scope (view scope))) }
+        (scope_value (string_bytes code) (reads_scope_in doubles (view scope))) }
     ensures ranged { IfOk result (λ v. InRange (bson_view v)) }
 {
     match scope {
         Value::Null => Ok(Bson::JavaScriptCode(code)),
-        Value::Object(members) => { Ok(with_scope(code, read_members(alloc, members)?)) }
+        Value::Object(members) => { Ok(with_scope(code, read_members(alloc, doubles, members)?)) }
         _ => Err(Error::DeserializationError { message: SCOPE }),
     }
 }

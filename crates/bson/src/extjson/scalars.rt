@@ -1,10 +1,8 @@
-//! Scalars as values and values as scalars, and the numbers of JSON.
-ghost use Rattle.std.specs.Prelude.{◌≡◌, ◌<◌, IfOk};
-ghost use Rattle.serde_json.specs.View.{number_view};
-ghost use Rattle.bson_wrapper.specs.Faults.{Gives};
-ghost use Rattle.bson_wrapper.specs.Reading.{number_read};
-ghost use Rattle.bson_model.specs.Reading.{scalar_value};
+//! Scalars as values and values as scalars.
+ghost use Rattle.std.specs.Prelude.{◌≡◌, ◌<◌, true, IfOk};
+ghost use Rattle.bson_wrapper.specs.Normal.{writable_scalar_in};
 ghost use Rattle.bson_wrapper.specs.View.{scalar_view};
+ghost use Rattle.bson_wrapper.specs.declared.form.Doubles.TheVariants.{Finite};
 ghost use Rattle.bson_model.specs.Normal.{InRange};
 ghost use Rattle.bson_scalar.specs.DbPointer.{id_of};
 ghost use Rattle.bson_scalar.specs.Oid.{IsBytes, IsObjectId};
@@ -15,14 +13,11 @@ ghost use Rattle.bson.specs.View.{bson_view};
 
 use crate::bson::Bson;
 use crate::scalar::scalar_ref;
-use bson_place::shape::NUMBER;
 use bson_scalar::binary::Binary;
 use bson_scalar::db_pointer::DbPointer;
 use bson_scalar::oid::ObjectId;
 use bson_scalar::spec::BinarySubtype;
-use bson_wrapper::error::Error;
 use bson_wrapper::scalar::Scalar;
-use serde_json::Number;
 use std::alloc::{AllocError, Global};
 
 pub(crate) fn of_scalar(value: Scalar) -> Bson
@@ -64,6 +59,15 @@ fn has_byte(subtype: BinarySubtype)
     let _byte = u8::from(subtype);
 }
 
+// And this that a double has a text where finite ones are written, since its pattern has 64 bits.
+pub(crate) fn can_be_written(value: &Scalar)
+    ensures { writable_scalar_in Finite (scalar_view value.now) ≡ true }
+{
+    if let Scalar::Double(pattern) = value {
+        let _pattern = *pattern;
+    }
+}
+
 fn of_bytes(binary: Binary) -> Binary
     ensures same { result ≡ binary }
     ensures ranged { (subtype_byte binary.subtype < 256) × IsBytes binary.bytes.items }
@@ -102,20 +106,5 @@ pub(crate) fn to_scalar(alloc: Global, value: Bson) -> Result<Scalar, AllocError
         Bson::Binary(binary) => Ok(Scalar::Binary(binary)),
         Bson::DbPointer(pointer) => Ok(Scalar::DbPointer(pointer)),
         value => scalar_ref(&value).to_owned(alloc),
-    }
-}
-
-// A whole number as an Int32 where it fits, else as an Int64.
-pub(crate) fn read_number(n: Number) -> Result<Bson, Error>
-    ensures given { Gives bson_view result (scalar_value (number_read (number_view n))) }
-    ensures ranged { IfOk result (λ v. InRange (bson_view v)) }
-{
-    match n.as_i64() {
-        Some(z) => if i32::MIN as i64 <= z && z <= i32::MAX as i64 {
-            Ok(Bson::Int32(z as i32))
-        } else {
-            Ok(Bson::Int64(z))
-        },
-        None => Err(Error::DeserializationError { message: NUMBER }),
     }
 }

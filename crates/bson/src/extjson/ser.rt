@@ -1,18 +1,20 @@
 //! Trees and texts from values.
-ghost use Rattle.std.specs.Prelude.{◌≡◌, IfOk, OnOk, Err, true, false, string_bytes};
+ghost use Rattle.std.specs.Prelude.{◌≡◌, IfOk, IfErr, OnOk, Err, true, false, string_bytes};
 ghost use Rattle.serde_json.specs.View.{view};
+ghost use Rattle.bson_wrapper.specs.declared.form.Doubles.TheVariants.{Finite};
 ghost use Rattle.bson_wrapper.specs.declared.form.Form.TheVariants.{Canonical, Relaxed};
 ghost use Rattle.bson_wrapper.specs.declared.write_error.WriteError.{WriteError};
-ghost use Rattle.bson_model.specs.Texts.{ReadsAgain};
-ghost use Rattle.bson_model.specs.Normal.{InRange, writable};
-ghost use Rattle.bson_model.specs.Laws.{IsTreeOf, FormsAreIdempotent};
-ghost use Rattle.bson.specs.Texts.{IsTextIn};
+ghost use Rattle.bson_model.specs.Texts.{ReadsAgain, ReadsAgainIn};
+ghost use Rattle.bson_model.specs.Normal.{InRange, writable, writable_in};
+ghost use Rattle.bson_model.specs.Laws.{IsTreeOf, IsTreeOfIn, FormsAreIdempotent, FormsAreIdempotentIn};
+ghost use Rattle.bson.specs.Texts.{IsTextIn, IsTextUnder, MayStop};
 ghost use Rattle.bson.specs.View.{bson_view};
 
 use crate::bson::Bson;
+use crate::extjson::options::Options;
 use crate::extjson::text::text_of;
 use crate::extjson::write::write;
-use bson_wrapper::form::Form;
+use bson_wrapper::form::{Doubles, Form};
 use bson_wrapper::write_error::WriteError;
 use serde_json::Value;
 use std::alloc::Global;
@@ -32,7 +34,7 @@ impl Bson {
         ensures writable { OnOk result (writable (bson_view self) ≡ true) }
         ensures finite { result ≡ Err WriteError.FiniteDouble → writable (bson_view self) ≡ false }
     {
-        self.into_extjson(alloc, Form::Canonical)
+        self.into_extjson(alloc, Doubles::Special, Form::Canonical)
     }
 
     /// The relaxed tree of the value (MongoDB Extended JSON v2), with plain numbers and readable
@@ -49,19 +51,44 @@ impl Bson {
         ensures writable { OnOk result (writable (bson_view self) ≡ true) }
         ensures finite { result ≡ Err WriteError.FiniteDouble → writable (bson_view self) ≡ false }
     {
-        self.into_extjson(alloc, Form::Relaxed)
+        self.into_extjson(alloc, Doubles::Special, Form::Relaxed)
+    }
+
+    /// The tree of the value in a form (MongoDB Extended JSON v2), with the doubles that the options
+    /// name.
+    ///
+    /// With `Doubles::Finite` every value has a tree, in which a finite double is its shortest
+    /// decimal, as in `{"$numberDouble": "12.5"}`; only want of memory may come in its place. With
+    /// `Doubles::Special` it is [`Bson::into_canonical_extjson`] or
+    /// [`Bson::into_relaxed_extjson`].
+    pub fn into_extjson_with(
+        self,
+        alloc: Global,
+        options: Options,
+        form: Form,
+    ) -> Result<Value, WriteError>
+        ensures tree { IfOk result (λ t. IsTreeOfIn options.doubles form (bson_view self) (view t)) }
+        ensures reads_again { IfOk result (λ t. ReadsAgainIn options.doubles form (bson_view self) (view t)) }
+        ensures idempotent { FormsAreIdempotentIn options.doubles (bson_view self) }
+        ensures ranged { OnOk result (InRange (bson_view self)) }
+        ensures writable { OnOk result (writable_in options.doubles (bson_view self) ≡ true) }
+        ensures finite { result ≡ Err WriteError.FiniteDouble → writable_in options.doubles (bson_view self) ≡ false }
+        ensures every { options.doubles ≡ Finite → result ≡ Err WriteError.FiniteDouble → ⊥ }
+    {
+        self.into_extjson(alloc, options.doubles, form)
     }
 
     // The tree of the value in a form.
-    fn into_extjson(self, alloc: Global, form: Form) -> Result<Value, WriteError>
-        ensures tree { IfOk result (λ t. IsTreeOf form (bson_view self) (view t)) }
-        ensures reads_again { IfOk result (λ t. ReadsAgain form (bson_view self) (view t)) }
-        ensures idempotent { FormsAreIdempotent (bson_view self) }
+    fn into_extjson(self, alloc: Global, doubles: Doubles, form: Form) -> Result<Value, WriteError>
+        ensures tree { IfOk result (λ t. IsTreeOfIn doubles form (bson_view self) (view t)) }
+        ensures reads_again { IfOk result (λ t. ReadsAgainIn doubles form (bson_view self) (view t)) }
+        ensures idempotent { FormsAreIdempotentIn doubles (bson_view self) }
         ensures ranged { OnOk result (InRange (bson_view self)) }
-        ensures writable { OnOk result (writable (bson_view self) ≡ true) }
-        ensures finite { result ≡ Err WriteError.FiniteDouble → writable (bson_view self) ≡ false }
+        ensures writable { OnOk result (writable_in doubles (bson_view self) ≡ true) }
+        ensures finite { result ≡ Err WriteError.FiniteDouble → writable_in doubles (bson_view self) ≡ false }
+        ensures every { IfErr result (MayStop doubles) }
     {
-        write(alloc, form, self)
+        write(alloc, doubles, form, self)
     }
 
     /// The compact text of the canonical tree of the value, as [`Bson::into_canonical_extjson`]
@@ -75,7 +102,7 @@ impl Bson {
         ensures writable { OnOk result (writable (bson_view self.now) ≡ true) }
         ensures finite { result ≡ Err WriteError.FiniteDouble → writable (bson_view self.now) ≡ false }
     {
-        self.to_text(alloc, Form::Canonical)
+        self.to_text(alloc, Doubles::Special, Form::Canonical)
     }
 
     /// [`Bson::to_canonical_text`] of a value that is then dropped.
@@ -99,7 +126,7 @@ impl Bson {
         ensures writable { OnOk result (writable (bson_view self.now) ≡ true) }
         ensures finite { result ≡ Err WriteError.FiniteDouble → writable (bson_view self.now) ≡ false }
     {
-        self.to_text(alloc, Form::Relaxed)
+        self.to_text(alloc, Doubles::Special, Form::Relaxed)
     }
 
     /// [`Bson::to_relaxed_text`] of a value that is then dropped.
@@ -112,13 +139,60 @@ impl Bson {
         self.to_relaxed_text(alloc)
     }
 
-    // The text of the value in a form.
-    fn to_text(&self, alloc: Global, form: Form) -> Result<String, WriteError>
-        ensures text { IfOk result (λ s. IsTextIn form (bson_view self.now) (string_bytes s)) }
+    /// The compact text of the tree of the value in a form, as [`Bson::into_extjson_with`] makes it
+    /// and `serde_json` writes it. It is written straight from the value, with no tree.
+    ///
+    /// With `Doubles::Finite` every value has a text, and only want of memory may come in its
+    /// place.
+    ///
+    /// ```
+    /// let options = Options {
+    ///     doubles: Doubles::Finite,
+    /// };
+    /// let price = Bson::Double(0x4029_0000_0000_0000);
+    /// println!(rt; "{}", price.to_text_with(alloc, options, Form::Relaxed)?)?;
+    /// // {"$numberDouble":"12.5"}
+    /// ```
+    pub fn to_text_with(
+        &self,
+        alloc: Global,
+        options: Options,
+        form: Form,
+    ) -> Result<String, WriteError>
+        ensures text { IfOk result (λ s. IsTextUnder options.doubles form (bson_view self.now) (string_bytes s)) }
         ensures ranged { OnOk result (InRange (bson_view self.now)) }
-        ensures writable { OnOk result (writable (bson_view self.now) ≡ true) }
-        ensures finite { result ≡ Err WriteError.FiniteDouble → writable (bson_view self.now) ≡ false }
+        ensures writable { OnOk result (writable_in options.doubles (bson_view self.now) ≡ true) }
+        ensures finite { result ≡ Err WriteError.FiniteDouble
+            → writable_in options.doubles (bson_view self.now) ≡ false }
+        ensures every { options.doubles ≡ Finite → result ≡ Err WriteError.FiniteDouble → ⊥ }
     {
-        text_of(alloc, form, self)
+        self.to_text(alloc, options.doubles, form)
+    }
+
+    /// [`Bson::to_text_with`] of a value that is then dropped.
+    pub fn into_text_with(
+        self,
+        alloc: Global,
+        options: Options,
+        form: Form,
+    ) -> Result<String, WriteError>
+        ensures text { IfOk result (λ s. IsTextUnder options.doubles form (bson_view self) (string_bytes s)) }
+        ensures ranged { OnOk result (InRange (bson_view self)) }
+        ensures writable { OnOk result (writable_in options.doubles (bson_view self) ≡ true) }
+        ensures finite { result ≡ Err WriteError.FiniteDouble → writable_in options.doubles (bson_view self) ≡ false }
+        ensures every { options.doubles ≡ Finite → result ≡ Err WriteError.FiniteDouble → ⊥ }
+    {
+        self.to_text_with(alloc, options, form)
+    }
+
+    // The text of the value in a form.
+    fn to_text(&self, alloc: Global, doubles: Doubles, form: Form) -> Result<String, WriteError>
+        ensures text { IfOk result (λ s. IsTextUnder doubles form (bson_view self.now) (string_bytes s)) }
+        ensures ranged { OnOk result (InRange (bson_view self.now)) }
+        ensures writable { OnOk result (writable_in doubles (bson_view self.now) ≡ true) }
+        ensures finite { result ≡ Err WriteError.FiniteDouble → writable_in doubles (bson_view self.now) ≡ false }
+        ensures every { IfErr result (MayStop doubles) }
+    {
+        text_of(alloc, doubles, form, self)
     }
 }

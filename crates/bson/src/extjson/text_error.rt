@@ -1,5 +1,5 @@
 //! Why bytes give no value.
-use bson_wrapper::error::Error;
+use bson_place::place::Place;
 
 /// Why bytes give no value.
 ///
@@ -15,10 +15,10 @@ pub enum TextError {
     #[error("not JSON")]
     NotJson,
 
-    /// The JSON text has no meaning in MongoDB Extended JSON v2, for the first fault of its tree.
-    /// It is never want of memory.
-    #[error("{0}")]
-    NotExtendedJson(Error),
+    /// The JSON text has no meaning in MongoDB Extended JSON v2, for the first fault of its tree,
+    /// which lies at this place.
+    #[error("{}", .0.reason)]
+    NotExtendedJson(Place),
 
     /// A request for memory was refused.
     #[error("out of memory")]

@@ -16,7 +16,7 @@ ghost use Rattle.bson.specs.Pieces.{InOrder, ObjectInPieces, IsTextAdded};
 use crate::extjson::convert::{Unconverted, convert_member, follows};
 use crate::extjson::text_reader::MAX_DEPTH;
 use crate::extjson::text_reader::gathered::prefix_of;
-use bson_wrapper::form::Form;
+use bson_wrapper::form::{Doubles, Form};
 use bson_wrapper::wrapper::named;
 use json::{Reader, Scratch, Token, Writer};
 use std::alloc::{AllocError, Global};
@@ -43,17 +43,18 @@ pub(crate) struct Pieces<'a> {
 /// twice.
 pub(crate) fn convert_by_key(
     alloc: Global,
+    doubles: Doubles,
     form: Form,
     text: &str,
     scratch: &mut Scratch,
 ) -> Result<Option<String>, Unconverted>
-    ensures { IfOk result (λ s. IfSome s (λ written. TextConverted form text.now (string_bytes written))) }
+    ensures { IfOk result (λ s. IfSome s (λ written. TextConverted doubles form text.now (string_bytes written))) }
 {
     let mut reader = Reader::new(text, scratch)?;
     let Some(Token::BeginObject) = reader.next() else {
         return Ok(None);
     };
-    let Some(found) = gather(alloc, form, &mut reader)? else {
+    let Some(found) = gather(alloc, doubles, form, &mut reader)? else {
         return Ok(None);
     };
     if reader.next().is_some() {
@@ -65,10 +66,11 @@ pub(crate) fn convert_by_key(
 // The texts of the members of an object whose brace was read; none where a key is a wrapper's.
 fn gather<'a>(
     alloc: Global,
+    doubles: Doubles,
     form: Form,
     reader: &mut Reader<'a>,
 ) -> Result<Option<Pieces<'a>>, Unconverted>
-    ensures { IfOk result (λ found. IfSome found (λ pieces. ObjectInPieces form
+    ensures { IfOk result (λ found. IfSome found (λ pieces. ObjectInPieces doubles form
         (converted (λ ms. of_members ms no_members) (members (value 126) (length reader.old) reader.old)) reader.new
         pieces)) }
 {
@@ -80,7 +82,7 @@ fn gather<'a>(
         if named(key).is_some() {
             return Ok(None);
         }
-        found = add(alloc, form, reader, key, found)?;
+        found = add(alloc, doubles, form, reader, key, found)?;
     }
     Ok(Some(found))
 }
@@ -88,18 +90,19 @@ fn gather<'a>(
 // Adds the member whose key was read.
 fn add<'a>(
     alloc: Global,
+    doubles: Doubles,
     form: Form,
     reader: &mut Reader<'a>,
     key: &'a str,
     found: Pieces<'a>,
 ) -> Result<Pieces<'a>, Unconverted>
-    ensures ok { IfOk result (λ now. IsAdded form key.entry.now (converted of_json (value 126 reader.old)) reader.new
-        found.entry now) }
+    ensures ok { IfOk result (λ now. IsAdded doubles form key.entry.now (converted of_json (value 126 reader.old))
+        reader.new found.entry now) }
     ensures shorter { IfOk result (λ now. length reader.new < length reader.old) }
 {
     let Pieces { pieces, mut texts } = found;
     let start = texts.len();
-    add_text(alloc, form, reader, key, &mut texts)?;
+    add_text(alloc, doubles, form, reader, key, &mut texts)?;
     let end = texts.len();
     let pieces = with_last(pieces, Piece { key, start, end })?;
     Ok(Pieces { pieces, texts })
@@ -116,18 +119,19 @@ fn with_last<'a>(mut pieces: Vec<Piece<'a>>, last: Piece<'a>) -> Result<Vec<Piec
 // in a long text takes much room ahead.
 fn add_text(
     alloc: Global,
+    doubles: Doubles,
     form: Form,
     reader: &mut Reader<'_>,
     key: &str,
     texts: &mut Vec<u8>,
 ) -> Result<(), Unconverted>
-    ensures ok { OnOk result (IsTextAdded form key.now (converted of_json (value 126 reader.old)) reader.new
+    ensures ok { OnOk result (IsTextAdded doubles form key.now (converted of_json (value 126 reader.old)) reader.new
         texts.old.items texts.new.items) }
     ensures shorter { OnOk result (length reader.new < length reader.old) }
 {
     let mut out = Writer::new(Vec::with_capacity(alloc, SHORT)?);
     out.key(key)?;
-    convert_member(alloc, form, reader, MAX_DEPTH - 1, &mut out)?;
+    convert_member(alloc, doubles, form, reader, MAX_DEPTH - 1, &mut out)?;
     texts.extend_from_slice(&out.into_inner())?;
     Ok(())
 }

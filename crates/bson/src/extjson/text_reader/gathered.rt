@@ -13,11 +13,11 @@ use bson_store::{Pair, PairStore, SmallPairs};
 use std::alloc::{AllocError, Global};
 use std::cmp::Ordering;
 
-// The least positive double.
-const LEAST_DOUBLE: u64 = 1;
+// A NaN whose payload is not that of `NaN`: each text of a NaN means the one with none.
+const UNREAD_NAN: u64 = 0x7FF0_0000_0000_0001;
 
-/// Stands for a value that means nothing: no text means a double that is finite and no zero.
-pub(crate) const NOTHING: Bson = Bson::Double(LEAST_DOUBLE);
+/// Stands for a value that means nothing: no text means this NaN.
+pub(crate) const NOTHING: Bson = Bson::Double(UNREAD_NAN);
 
 /// Where a key goes before the last of so many members, they are put in order at the end.
 const MANY: usize = 32;
@@ -136,7 +136,7 @@ fn has_nothing(document: &Document) -> bool
 fn is_nothing(value: &Bson) -> bool
     ensures { result ≡ is_nothing (bson_view value.now) }
 {
-    value.as_f64() == Some(LEAST_DOUBLE)
+    value.as_f64() == Some(UNREAD_NAN)
 }
 
 fn in_order(alloc: Global, found: Gathered) -> Result<Document, AllocError>

@@ -3,50 +3,54 @@
 //! Each function reads a whole part of the text, also where that means nothing, and answers the
 //! value or none. It fails only where the text is no JSON text, or memory runs out.
 ghost use Rattle.std.specs.Prelude.{◌≡◌, ◌<◌, ◌≤◌, ◌∷◌, length, codes, option_map};
-ghost use Rattle.std.specs.Prelude.{is_some, true, IfOk, IfErr, OnOk};
+ghost use Rattle.std.specs.Prelude.{is_some, true, IfOk, IfErr, OnOk, Result as Read};
 ghost use Rattle.json.specs.Json.{value, items};
 ghost use Rattle.json.specs.Reads.{token_of};
 ghost use Rattle.serde_json.specs.Data.{array, object, no_members, put};
 ghost use Rattle.serde_json.specs.Read.{of_json, of_items, converted};
 ghost use Rattle.serde_json.specs.View.{view, members_view};
+ghost use Rattle.bson_wrapper.specs.Faults.{Fault, Gives};
 ghost use Rattle.bson_wrapper.specs.Table.{wrapper_of};
-ghost use Rattle.bson_model.specs.Reading.{reads, reads_members, reads_scope};
+ghost use Rattle.bson_model.specs.Reading.{reads_in, reads_members_in, reads_scope_in};
 ghost use Rattle.bson_model.specs.Sorted.{KeysAscend};
+ghost use Rattle.bson_model.specs.Value.{Value as Meaning};
+ghost use Rattle.bson_tokens.specs.Parts.{IsBroken, NoMembers, NoObject};
 ghost use Rattle.bson.specs.View.{bson_view, document_view};
 ghost use Rattle.bson.specs.Gathered.{gathered};
-ghost use Rattle.bson.specs.Straight.{Reads, IsBroken, IsJoined, MembersRead, NoMembers};
-ghost use Rattle.bson.specs.Straight.{ObjectReads, NoObject};
-ghost use Rattle.bson.specs.Straight.{code_given};
-ghost use Rattle.bson.specs.declared.extjson.text_reader.unread.Unread.TheVariants.{Broken};
+ghost use Rattle.bson_tokens.specs.declared.unread.Unread.TheVariants.{Broken};
+ghost use Rattle.bson.specs.Straight.{Reads, IsJoined, MembersRead, ObjectReads, code_given, given};
 
 use crate::bson::Bson;
 use crate::document::Document;
-use crate::extjson::read::{read, single_value, with_scope};
-use crate::extjson::scalars::read_number;
+use crate::extjson::read::{number_value, read, single_value, with_scope};
 use crate::extjson::text_reader::gathered::{Gathered, NOTHING, document_of, none, put};
-use crate::extjson::text_reader::held::{lone, read_from, read_tree};
-use crate::extjson::text_reader::number::number;
-use crate::extjson::text_reader::unread::{Unread, meant};
+use bson_tokens::number::number;
+use bson_tokens::tree::{read_from, read_tree};
+use bson_tokens::unread::Unread;
 use bson_wrapper::code::{is_code_with_scope, is_scope};
+use bson_wrapper::error::Error;
+use bson_wrapper::form::Doubles;
 use bson_wrapper::wrapper::named;
 use json::{Reader, Token};
 use serde_json::{Map, Value};
-use std::alloc::Global;
+use std::alloc::{AllocError, Global};
 
 #[cycle(straight)]
 #[inline(always)]
 pub(crate) fn read_value(
     alloc: Global,
+    doubles: Doubles,
     reader: &mut Reader<'_>,
     depth: usize,
 ) -> Result<Option<Bson>, Unread>
     ensures ok { IfOk result
-        (λ v. Reads reads (converted of_json (value depth reader.old)) (option_map bson_view v) reader.new) }
+        (λ v. Reads (reads_in doubles) (converted of_json (value depth reader.old)) (option_map bson_view v)
+        reader.new) }
     ensures broken { IfErr result (IsBroken (converted of_json (value depth reader.old))) }
     ensures shorter { OnOk result (length reader.new < length reader.old) }
 {
     let token = reader.next().ok_or(Unread::Broken)?;
-    read_begun(alloc, reader, depth, token)
+    read_begun(alloc, doubles, reader, depth, token)
 }
 
 // The value that begins with the token, which was taken.
@@ -54,20 +58,21 @@ pub(crate) fn read_value(
 #[inline(always)]
 pub(crate) fn read_begun(
     alloc: Global,
+    doubles: Doubles,
     reader: &mut Reader<'_>,
     depth: usize,
     token: Token<'_>,
 ) -> Result<Option<Bson>, Unread>
     ensures ok { IfOk result
-        (λ v. Reads reads (converted of_json (value depth (token_of token.entry ∷ reader.old))) (option_map bson_view v)
-        reader.new) }
+        (λ v. Reads (reads_in doubles) (converted of_json (value depth (token_of token.entry ∷ reader.old)))
+        (option_map bson_view v) reader.new) }
     ensures broken { IfErr result (IsBroken (converted of_json (value depth (token_of token.entry ∷ reader.old)))) }
     ensures shorter { OnOk result (length reader.new ≤ length reader.old) }
 {
     match token {
         Token::String(text) => Ok(Some(Bson::String(String::from_str(alloc, text)?))),
         Token::Number(text) => match number(text) {
-            Some(n) => Ok(meant(read_number(n))?),
+            Some(n) => Ok(meant(number_value(doubles, &n))?),
             None => Err(Unread::Broken),
         },
         Token::Bool(b) => Ok(Some(Bson::Boolean(b))),
@@ -77,13 +82,13 @@ pub(crate) fn read_begun(
             if depth == 0 {
                 return Err(Unread::Broken);
             }
-            read_array(alloc, reader, depth - 1)
+            read_array(alloc, doubles, reader, depth - 1)
         }
         Token::BeginObject => {
             if depth == 0 {
                 return Err(Unread::Broken);
             }
-            read_object(alloc, reader, depth - 1)
+            read_object(alloc, doubles, reader, depth - 1)
         }
     }
 }
@@ -91,9 +96,15 @@ pub(crate) fn read_begun(
 // A list whose bracket was read.
 #[cycle(straight)]
 #[inline(never)]
-fn read_array(alloc: Global, reader: &mut Reader<'_>, depth: usize) -> Result<Option<Bson>, Unread>
+fn read_array(
+    alloc: Global,
+    doubles: Doubles,
+    reader: &mut Reader<'_>,
+    depth: usize,
+) -> Result<Option<Bson>, Unread>
     ensures ok { IfOk result
-        (λ v. Reads (λ ds. reads (array ds)) (converted of_items (items (value depth) (length reader.old) reader.old))
+        (λ v. Reads (λ ds. reads_in doubles (array ds))
+        (converted of_items (items (value depth) (length reader.old) reader.old))
         (option_map bson_view v) reader.new) }
     ensures broken { IfErr result
         (IsBroken (converted of_items (items (value depth) (length reader.old) reader.old))) }
@@ -102,7 +113,7 @@ fn read_array(alloc: Global, reader: &mut Reader<'_>, depth: usize) -> Result<Op
     let mut found = Vec::new(alloc);
     let mut has_meaning = true;
     'items: while !reader.take_end_array() {
-        let Some(item) = read_value(alloc, reader, depth)? else {
+        let Some(item) = read_value(alloc, doubles, reader, depth)? else {
             has_meaning = false;
             continue;
         };
@@ -118,9 +129,14 @@ fn read_array(alloc: Global, reader: &mut Reader<'_>, depth: usize) -> Result<Op
 // A document, or a wrapper, whose brace was read.
 #[cycle(straight)]
 #[inline(never)]
-fn read_object(alloc: Global, reader: &mut Reader<'_>, depth: usize) -> Result<Option<Bson>, Unread>
+fn read_object(
+    alloc: Global,
+    doubles: Doubles,
+    reader: &mut Reader<'_>,
+    depth: usize,
+) -> Result<Option<Bson>, Unread>
     ensures ok { IfOk result
-        (λ v. MembersRead (λ ms. reads (object ms)) depth reader.old (option_map bson_view v) reader.new) }
+        (λ v. MembersRead (λ ms. reads_in doubles (object ms)) depth reader.old (option_map bson_view v) reader.new) }
     ensures broken { IfErr result (λ e. e ≡ Broken → NoMembers depth reader.old) }
     ensures shorter { OnOk result (length reader.new < length reader.old) }
 {
@@ -129,13 +145,13 @@ fn read_object(alloc: Global, reader: &mut Reader<'_>, depth: usize) -> Result<O
     let mut is_document = true;
     'members: while let Some(name) = reader.next_key()? {
         if is_first && is_scope(name) {
-            return read_small(alloc, reader, depth, name, Map::new(alloc));
+            return read_small(alloc, doubles, reader, depth, name, Map::new(alloc));
         }
         let is_wrapper = named(name).is_some();
         if is_first && is_wrapper {
-            return read_wrapped(alloc, reader, depth, name);
+            return read_wrapped(alloc, doubles, reader, depth, name);
         }
-        found = read_member(alloc, reader, depth, name, found)?;
+        found = read_member(alloc, doubles, reader, depth, name, found)?;
         is_first = false;
         is_document = is_document & !is_wrapper;
     }
@@ -153,6 +169,7 @@ fn read_object(alloc: Global, reader: &mut Reader<'_>, depth: usize) -> Result<O
 #[inline(always)]
 fn read_member(
     alloc: Global,
+    doubles: Doubles,
     reader: &mut Reader<'_>,
     depth: usize,
     name: &str,
@@ -160,13 +177,13 @@ fn read_member(
 ) -> Result<Gathered, Unread>
     requires { KeysAscend (gathered found) }
     ensures ok { IfOk result
-        (λ now. IsJoined (converted of_json (value depth reader.old)) name.now (gathered found)
+        (λ now. IsJoined doubles (converted of_json (value depth reader.old)) name.now (gathered found)
         (gathered now) reader.new) }
     ensures broken { IfErr result (IsBroken (converted of_json (value depth reader.old))) }
     ensures shorter { OnOk result (length reader.new < length reader.old) }
 {
     let key = String::from_str(alloc, name)?;
-    let member = read_value(alloc, reader, depth)?.unwrap_or(NOTHING);
+    let member = read_value(alloc, doubles, reader, depth)?.unwrap_or(NOTHING);
     Ok(put(found, key, member)?)
 }
 
@@ -176,18 +193,20 @@ fn read_member(
 #[inline(never)]
 fn read_small(
     alloc: Global,
+    doubles: Doubles,
     reader: &mut Reader<'_>,
     depth: usize,
     key: &str,
     found: Map<String, Value>,
 ) -> Result<Option<Bson>, Unread>
     ensures ok { IfOk result
-        (λ v. ObjectReads depth (members_view found.entries) key.now reader.old (option_map bson_view v) reader.new) }
+        (λ v. ObjectReads doubles depth (members_view found.entries) key.now reader.old (option_map bson_view v)
+        reader.new) }
     ensures broken { IfErr result (λ e. e ≡ Broken → NoObject depth key.now reader.old) }
     ensures shorter { OnOk result (length reader.new < length reader.old) }
 {
     let members = read_from(alloc, reader, depth, key, found)?;
-    Ok(meant(read(alloc, Value::Object(members)))?)
+    Ok(meant(read(alloc, doubles, Value::Object(members)))?)
 }
 
 // What the wrapper means whose key was read: one of that key alone, code with its scope, or what
@@ -196,24 +215,25 @@ fn read_small(
 #[inline(never)]
 fn read_wrapped(
     alloc: Global,
+    doubles: Doubles,
     reader: &mut Reader<'_>,
     depth: usize,
     key: &str,
 ) -> Result<Option<Bson>, Unread>
     requires wrapper { is_some (wrapper_of key.now) ≡ true }
     ensures ok { IfOk result
-        (λ v. ObjectReads depth no_members key.now reader.old (option_map bson_view v) reader.new) }
+        (λ v. ObjectReads doubles depth no_members key.now reader.old (option_map bson_view v) reader.new) }
     ensures broken { IfErr result (λ e. e ≡ Broken → NoObject depth key.now reader.old) }
     ensures shorter { OnOk result (length reader.new < length reader.old) }
 {
     let held = read_tree(alloc, reader, depth)?;
     match reader.next_key()? {
-        None => Ok(meant(single_value(alloc, key, held))?),
+        None => Ok(meant(single_value(alloc, doubles, key, held))?),
         Some(other) => if is_code_with_scope(key, other) {
-            read_code(alloc, reader, depth, held)
+            read_code(alloc, doubles, reader, depth, held)
         } else {
             let found = lone(alloc, key, held)?;
-            read_small(alloc, reader, depth, other, found)
+            read_small(alloc, doubles, reader, depth, other, found)
         },
     }
 }
@@ -222,22 +242,23 @@ fn read_wrapped(
 #[cycle(straight)]
 fn read_code(
     alloc: Global,
+    doubles: Doubles,
     reader: &mut Reader<'_>,
     depth: usize,
     held: Value,
 ) -> Result<Option<Bson>, Unread>
     ensures ok { IfOk result
-        (λ v. ObjectReads depth (put (codes "$code") (view held) no_members) (codes "$scope") reader.old
+        (λ v. ObjectReads doubles depth (put (codes "$code") (view held) no_members) (codes "$scope") reader.old
         (option_map bson_view v) reader.new) }
     ensures broken { IfErr result (λ e. e ≡ Broken → NoObject depth (codes "$scope") reader.old) }
     ensures shorter { OnOk result (length reader.new < length reader.old) }
 {
     let mut code = held;
-    let mut scope = read_scope(alloc, reader, depth)?;
+    let mut scope = read_scope(alloc, doubles, reader, depth)?;
     let mut is_code = true;
     'members: while let Some(name) = reader.next_key()? {
         if is_scope(name) {
-            scope = read_scope(alloc, reader, depth)?;
+            scope = read_scope(alloc, doubles, reader, depth)?;
         } else {
             code = read_tree(alloc, reader, depth)?;
             is_code = is_code & is_code_with_scope(name, "$scope");
@@ -265,11 +286,12 @@ fn coded(code: Value, scope: Option<Option<Document>>) -> Option<Bson>
 #[cycle(straight)]
 fn read_scope(
     alloc: Global,
+    doubles: Doubles,
     reader: &mut Reader<'_>,
     depth: usize,
 ) -> Result<Option<Option<Document>>, Unread>
     ensures ok { IfOk result
-        (λ scope. Reads reads_scope (converted of_json (value depth reader.old))
+        (λ scope. Reads (reads_scope_in doubles) (converted of_json (value depth reader.old))
         (option_map (λ d. option_map document_view d) scope) reader.new) }
     ensures broken { IfErr result (IsBroken (converted of_json (value depth reader.old))) }
     ensures shorter { OnOk result (length reader.new < length reader.old) }
@@ -281,13 +303,13 @@ fn read_scope(
             if depth == 0 {
                 return Err(Unread::Broken);
             }
-            match read_pairs(alloc, reader, depth - 1)? {
+            match read_pairs(alloc, doubles, reader, depth - 1)? {
                 Some(scope) => Ok(Some(Some(scope))),
                 None => Ok(None),
             }
         }
         token => {
-            drop(read_begun(alloc, reader, depth, token)?);
+            drop(read_begun(alloc, doubles, reader, depth, token)?);
             Ok(None)
         }
     }
@@ -296,17 +318,40 @@ fn read_scope(
 #[cycle(straight)]
 fn read_pairs(
     alloc: Global,
+    doubles: Doubles,
     reader: &mut Reader<'_>,
     depth: usize,
 ) -> Result<Option<Document>, Unread>
     ensures ok { IfOk result
-        (λ d. MembersRead reads_members depth reader.old (option_map document_view d) reader.new) }
+        (λ d. MembersRead (reads_members_in doubles) depth reader.old (option_map document_view d) reader.new) }
     ensures broken { IfErr result (λ e. e ≡ Broken → NoMembers depth reader.old) }
     ensures shorter { OnOk result (length reader.new < length reader.old) }
 {
     let mut found = none(alloc);
     'members: while let Some(name) = reader.next_key()? {
-        found = read_member(alloc, reader, depth, name, found)?;
+        found = read_member(alloc, doubles, reader, depth, name, found)?;
     }
     Ok(document_of(alloc, found)?)
+}
+
+// The value at the key, and no other member.
+fn lone(alloc: Global, key: &str, value: Value) -> Result<Map<String, Value>, AllocError>
+    ensures { IfOk result (λ m. members_view m.entries ≡ put key.now (view value) no_members) }
+{
+    let mut members = Map::new(alloc);
+    let key = String::from_str(alloc, key)?;
+    drop(members.insert(key, value)?);
+    Ok(members)
+}
+
+// The value of a tree that was read, or none where the tree means nothing.
+fn meant(read: Result<Bson, Error>) -> Result<Option<Bson>, AllocError>
+    ensures { (tree : Read Meaning Fault) → Gives bson_view read tree
+        → IfOk result (λ v. given tree ≡ option_map bson_view v) }
+{
+    match read {
+        Ok(value) => Ok(Some(value)),
+        Err(Error::OutOfMemory) => Err(AllocError),
+        Err(_) => Ok(None),
+    }
 }

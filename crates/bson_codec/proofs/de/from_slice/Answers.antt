@@ -1,8 +1,8 @@
 use Rattle.std.proofs.Common.{arith, ◌∙◌}
-use Rattle.bson_bytes.proofs.Offered.{grammar_from, is_read}
+use Rattle.bson_bytes.proofs.Offered.{grammar_from, is_read, fault_stands}
 use Rattle.bson_bytes.specs.Reading.{reads}
 use Rattle.bson.specs.View.{document_view}
-use Rattle.bson_codec.proofs.Ends.{same_ok, memory_alone}
+use Rattle.bson_codec.proofs.Ends.{same_ok, memory_alone, stands, fault_of}
 use Rattle.bson_codec.proofs.de.from_slice.Goals as goal
 
 pub returns-in-Ok-clause-ok : goal.returns-in-Ok-clause-ok
@@ -23,3 +23,15 @@ returns-in-Err-clause-only c = λ ps h. (
   c.located.ensures ∙ memory_alone c.in-Err.stopped c.args.bytes.now (reads c.args.depth c.args.bytes.now) ps
       c.in-Err.ensures (is_read c.args.depth c.args.bytes.now ps h),
 )
+
+pub located-requires : goal.located-requires
+located-requires c =
+    stands c.in-Err.stopped c.args.bytes.now (reads c.args.depth c.args.bytes.now)
+    (λ f e. fault_stands c.args.depth c.args.bytes.now f e) c.in-Err.ensures
+
+pub returns-in-Err-clause-fault : goal.returns-in-Err-clause-fault
+returns-in-Err-clause-fault c =
+    let read = reads c.args.depth c.args.bytes.now in
+    let place = stands c.in-Err.stopped c.args.bytes.now read
+    (λ f e. fault_stands c.args.depth c.args.bytes.now f e) c.in-Err.ensures in
+    rw c.located.ensures (fault_of c.in-Err.stopped c.args.bytes.now read place c.in-Err.ensures)

@@ -1,9 +1,9 @@
 use Rattle.std.proofs.Common.{List, ℕ, arith, ap, ◌∙◌}
 use Rattle.bson_model.specs.Value.{Pairs, no_pairs}
-use Rattle.bson_bytes.proofs.Offered.{front_from, front_read}
+use Rattle.bson_bytes.proofs.Offered.{front_from, front_read, front_fault}
 use Rattle.bson_bytes.specs.Reading.{settled, document_at}
 use Rattle.bson.specs.View.{document_view}
-use Rattle.bson_codec.proofs.Ends.{same_ok, memory_alone}
+use Rattle.bson_codec.proofs.Ends.{same_ok, memory_alone, stands, fault_of}
 use Rattle.bson_codec.proofs.de.front.Goals as goal
 
 pub returns-in-Ok-clause-ok : goal.returns-in-Ok-clause-ok
@@ -25,3 +25,15 @@ returns-in-Err-clause-only c = λ ps rest h. (
       (settled no_pairs (document_at c.args.depth c.args.bytes.now)) (ps, rest) c.in-Err.ensures.given
       (front_read c.args.depth c.args.bytes.now ps rest h),
 )
+
+pub located-requires : goal.located-requires
+located-requires c =
+    stands c.in-Err.stopped c.args.bytes.now (settled no_pairs (document_at c.args.depth c.args.bytes.now))
+    (λ f e. front_fault c.args.depth c.args.bytes.now f e) c.in-Err.ensures.given
+
+pub returns-in-Err-clause-fault : goal.returns-in-Err-clause-fault
+returns-in-Err-clause-fault c =
+    let read = settled no_pairs (document_at c.args.depth c.args.bytes.now) in
+    let place = stands c.in-Err.stopped c.args.bytes.now read
+    (λ f e. front_fault c.args.depth c.args.bytes.now f e) c.in-Err.ensures.given in
+    rw c.located.ensures (fault_of c.in-Err.stopped c.args.bytes.now read place c.in-Err.ensures.given)

@@ -6,10 +6,10 @@ use Rattle.bson_bytes.specs.Reading.{mapped, value_with, document_at}
 use Rattle.bson_bytes.specs.Tags.{kind_of}
 use Rattle.bson_bytes.proofs.Offered.{elements, bad_byte, bad_tag, bad_name, bad_value, too_deep, bad_size, mapped_done}
 use Rattle.bson_bytes.proofs.Offered.{mapped_wrong, scope_done}
-use Rattle.bson.specs.View.{bson_view, document_view}
-use Rattle.bson_codec.proofs.Loop.{pairs_fail, values_fail, pairs_start, pairs_end, pairs_more, values_end, values_more}
-use Rattle.bson_codec.proofs.Loop.{pairs_fault, values_fault, document_view-put, document_view-new, mapped_fault}
-use Rattle.bson_codec.proofs.Loop.{mapped_stop}
+use Rattle.bson.specs.View.{bson_view}
+use Rattle.bson_codec.proofs.Loop.{pairs_fail, values_fail, pairs_end, pairs_more, values_end, values_more}
+use Rattle.bson_codec.proofs.Loop.{pairs_fault, values_fault, entries_done, mapped_fault, mapped_stop}
+use Rattle.bson_codec.proofs.Loop.{list_stop}
 use Rattle.bson_codec.proofs.read.+read.Goals as goal
 
 -- ---- pairs
@@ -18,18 +18,18 @@ pub list_at-returns-in_err-tag-clause-given : goal.list_at-returns-in_err-tag-cl
 list_at-returns-in_err-tag-clause-given t c =
     let p = err_from_is_err_and c.from_residual.result c.from_residual.ensures.1 in
     let i = c.elements.invariant in
-    rw (p.1, p.2) (pairs_fault c.args.depth (document_view c.elements.found) c.elements.rest.now _ i.0 _
+    rw (p.1, p.2) (pairs_fault c.args.depth c.elements.found.items c.elements.rest.now _ i.0 _
     (bad_byte c.args.depth i.0.turns c.elements.rest.now _ c.in_err-tag.ensures.given))
 
 pub list_at-returns-then-tag-eq0-clause-given : goal.list_at-returns-then-tag-eq0-clause-given
 list_at-returns-then-tag-eq0-clause-given t c =
-    pairs_end c.args.depth (document_view c.elements.found) c.elements.rest.now _ c.in_ok-tag.tag c.in_ok-tag.after.now c.elements.invariant.0 c.in_ok-tag.ensures.given c.if-tag-eq0.true
+    pairs_end c.args.depth c.elements.found.items c.elements.rest.now _ c.in_ok-tag.tag c.in_ok-tag.after.now c.elements.invariant.0 c.in_ok-tag.ensures.given c.if-tag-eq0.true
 
 pub list_at-returns-in_default-clause-given : goal.list_at-returns-in_default-clause-given
 list_at-returns-in_default-clause-given t c =
     let i = c.elements.invariant.0 in
     let no : kind_of c.in_ok-tag.tag ≡ None = sym c.kind_of.ensures ∙ c.in_default.is in
-    rw c.fault_at.ensures (pairs_fault c.args.depth (document_view c.elements.found) c.elements.rest.now _ i _
+    rw c.fault_at.ensures (pairs_fault c.args.depth c.elements.found.items c.elements.rest.now _ i _
     (bad_tag c.args.depth i.turns c.elements.rest.now c.in_ok-tag.tag c.in_ok-tag.after.now i.enough c.in_ok-tag.ensures.given c.if-tag-eq0.false no))
 
 pub list_at-returns-in_err-name-clause-given : goal.list_at-returns-in_err-name-clause-given
@@ -37,7 +37,7 @@ list_at-returns-in_err-name-clause-given t c =
     let p = err_from_is_err_and c.from_residual-in_err-name.result c.from_residual-in_err-name.ensures.1 in
     let i = c.elements.invariant.0 in
     let k : kind_of c.in_ok-tag.tag ≡ Some c.in-Some.kind = sym c.kind_of.ensures ∙ c.in-Some.is in
-    rw (p.1, p.2) (pairs_fault c.args.depth (document_view c.elements.found) c.elements.rest.now _ i _
+    rw (p.1, p.2) (pairs_fault c.args.depth c.elements.found.items c.elements.rest.now _ i _
     (bad_name c.args.depth i.turns c.elements.rest.now c.in_ok-tag.tag c.in_ok-tag.after.now c.in-Some.kind _ i.enough
     c.in_ok-tag.ensures.given c.if-tag-eq0.false k c.in_err-name.ensures.given))
 
@@ -46,12 +46,9 @@ list_at-returns-in_err-value-clause-given t c =
     let p = err_from_is_err_and c.from_residual-in_err-value.result c.from_residual-in_err-value.ensures.1 in
     let i = c.elements.invariant.0 in
     let k : kind_of c.in_ok-tag.tag ≡ Some c.in-Some.kind = sym c.kind_of.ensures ∙ c.in-Some.is in
-    rw (p.1, p.2) (pairs_fail c.in_err-value.field-0.0 (value_with (document_at c.args.depth) c.in-Some.kind c.in_ok-name.after.now) c.args.depth (document_view c.elements.found) c.elements.rest.now _ i
+    rw (p.1, p.2) (pairs_fail c.in_err-value.field-0.0 (value_with (document_at c.args.depth) c.in-Some.kind c.in_ok-name.after.now) c.args.depth c.elements.found.items c.elements.rest.now _ i
     (λ f e. bad_value c.args.depth i.turns c.elements.rest.now c.in_ok-tag.tag c.in_ok-tag.after.now c.in-Some.kind c.in_ok-name.name.now c.in_ok-name.after.now f i.enough c.in_ok-tag.ensures.given c.if-tag-eq0.false k c.in_ok-name.ensures.given e)
     c.in_err-value.ensures.given)
-
-pub list_at-elements-init : goal.list_at-elements-init
-list_at-elements-init t c = (pairs_start c.args.depth (document_view c.new-found.result) c.args.bytes.now (document_view-new c.new-found.result c.new-found.ensures), omega arith)
 
 pub list_at-elements-preserved : goal.list_at-elements-preserved
 list_at-elements-preserved t c =
@@ -60,9 +57,8 @@ list_at-elements-preserved t c =
     let copied : string_bytes c.in_ok-key.key ≡ c.in_ok-name.name.now = c.in_ok-key.ensures.ok in
     let name = c.in_ok-name.ensures.given in
     let shorter : length c.in_ok-value.after.now + 1 ≤ length c.elements.rest.now = omega (arith, c.in_ok-tag.ensures.shorter, c.in_ok-name.ensures.shorter, c.in_ok-value.ensures.shorter) in (
-      pairs_more c.args.depth (document_view c.elements.found) (document_view c.insert.new.self) c.elements.rest.now _ c.in_ok-tag.tag c.in_ok-tag.after.now c.in-Some.kind (string_bytes c.in_ok-key.key) c.in_ok-name.after.now (bson_view c.in_ok-value.value) c.in_ok-value.after.now i
-          (document_view-put c.elements.found c.insert.new.self (string_bytes c.in_ok-key.key) c.in_ok-value.value c.in_ok-insert.ensures.put)
-          (omega arith) c.in_ok-tag.ensures.given c.if-tag-eq0.false k (rw copied name) c.in_ok-value.ensures.given,
+      rw c.in_ok-push.ensures.items (pairs_more c.args.depth c.elements.found.items c.elements.rest.now _ c.in_ok-tag.tag c.in_ok-tag.after.now c.in-Some.kind (record { key = c.in_ok-key.key; value = c.in_ok-value.value }) c.in_ok-name.after.now c.in_ok-value.after.now i
+          (omega arith) c.in_ok-tag.ensures.given c.if-tag-eq0.false k (rw copied name) c.in_ok-value.ensures.given),
       omega (arith, shorter, c.elements.invariant.1),
     )
 
@@ -127,21 +123,22 @@ document_at-returns-in_err-size-clause-given t c =
     rw (p.1, p.2) (mapped_fault (settle no_pairs) _ _
     (bad_size c.args.depth c.args.bytes.now _ c.if-depth-eq0.false c.in_err-size.ensures.given))
 
-pub document_at-returns-in_err-pairs-clause-given : goal.document_at-returns-in_err-pairs-clause-given
-document_at-returns-in_err-pairs-clause-given t c =
-    let p = err_from_is_err_and c.from_residual-in_err-pairs.result c.from_residual-in_err-pairs.ensures.1 in
-    rw (p.1, p.2) (mapped_stop (settle no_pairs) c.in_err-pairs.field-0.0 c.args.depth c.args.bytes.now c.in_ok-size.size
-    c.in_ok-size.list.now c.if-depth-eq0.false c.in_ok-size.ensures.given c.in_err-pairs.ensures.given)
+pub document_at-returns-in_err-entries-clause-given : goal.document_at-returns-in_err-entries-clause-given
+document_at-returns-in_err-entries-clause-given t c =
+    let p = err_from_is_err_and c.from_residual-in_err-entries.result c.from_residual-in_err-entries.ensures.1 in
+    rw (p.1, p.2) (list_stop (settle no_pairs) c.in_err-entries.field-0.0 c.args.depth c.args.bytes.now c.in_ok-size.size
+    c.in_ok-size.list.now c.if-depth-eq0.false c.in_ok-size.ensures.given c.in_err-entries.ensures.given)
 
 pub document_at-returns-then-bytes-rest-clause-given : goal.document_at-returns-then-bytes-rest-clause-given
 document_at-returns-then-bytes-rest-clause-given t c =
-    rw c.fault_at-then-bytes-rest.ensures (mapped_wrong (settle no_pairs) c.args.depth c.args.bytes.now c.in_ok-size.size c.in_ok-size.list.now _ c.in_ok-pairs.rest.now c.if-depth-eq0.false c.in_ok-size.ensures.given c.in_ok-pairs.ensures.given
-    (λ e. c.if-bytes-rest.true (omega (arith, e, c.in_ok-size.ensures.shorter, c.in_ok-pairs.ensures.shorter))))
+    rw c.fault_at-then-bytes-rest.ensures (mapped_wrong (settle no_pairs) c.args.depth c.args.bytes.now c.in_ok-size.size c.in_ok-size.list.now _ c.in_ok-entries.rest.now c.if-depth-eq0.false c.in_ok-size.ensures.given (ap (mapped (settle no_pairs)) c.in_ok-entries.ensures.given)
+    (λ e. c.if-bytes-rest.true (omega (arith, e, c.in_ok-size.ensures.shorter, c.in_ok-entries.ensures.shorter))))
 
 pub document_at-returns-clause-given : goal.document_at-returns-clause-given
 document_at-returns-clause-given t c =
-    mapped_done (settle no_pairs) c.args.depth c.args.bytes.now c.in_ok-size.size c.in_ok-size.list.now _ c.in_ok-pairs.rest.now c.if-depth-eq0.false c.in_ok-size.ensures.given c.in_ok-pairs.ensures.given
-    (omega (arith, c.if-bytes-rest.false, c.in_ok-size.ensures.shorter, c.in_ok-pairs.ensures.shorter))
+    entries_done c.in_ok-document.document c.in_ok-entries.entries.items c.in_ok-entries.rest.now _ c.in_ok-document.ensures
+    (mapped_done (settle no_pairs) c.args.depth c.args.bytes.now c.in_ok-size.size c.in_ok-size.list.now _ c.in_ok-entries.rest.now c.if-depth-eq0.false c.in_ok-size.ensures.given (ap (mapped (settle no_pairs)) c.in_ok-entries.ensures.given)
+    (omega (arith, c.if-bytes-rest.false, c.in_ok-size.ensures.shorter, c.in_ok-entries.ensures.shorter)))
 
 pub values_at-returns-then-depth-eq0-clause-given : goal.values_at-returns-then-depth-eq0-clause-given
 values_at-returns-then-depth-eq0-clause-given t c = rw c.fault_at.ensures (ap (mapped values) (too_deep c.args.depth c.args.bytes.now c.if-depth-eq0.true))

@@ -1,9 +1,7 @@
 use Rattle.std.proofs.Common.{◌+◌, ◌*◌, ◌≤◌, length}
 use Rattle.bson_bytes.specs.Grammar.{values}
-use Rattle.bson_bytes.specs.Reading.{mapped, settled}
+use Rattle.bson_bytes.specs.Reading.{mapped}
 use Rattle.bson_bytes.proofs.Offered.{elements}
-use Rattle.bson_model.specs.Value.{no_pairs}
-use Rattle.bson.specs.View.{document_view}
 use Rattle.bson_codec.proofs.Loop.{PairsLeft, ValuesLeft}
 use Rattle.bson_codec.proofs.read.+read.Given as goal
 
@@ -29,7 +27,7 @@ abbrev pub decreases-items_at-elements : goal.decreases-items_at-elements
 decreases-items_at-elements l = length l.rest
 
 abbrev pub invariant-list_at-elements : goal.invariant-list_at-elements
-invariant-list_at-elements l = PairsLeft l.depth (document_view l.found) l.rest (settled no_pairs (elements l.depth (length l.bytes) l.bytes)) × (length l.rest ≤ length l.bytes)
+invariant-list_at-elements l = PairsLeft l.depth l.found.items l.rest (elements l.depth (length l.bytes) l.bytes) × (length l.rest ≤ length l.bytes)
 
 abbrev pub decreases-list_at-elements : goal.decreases-list_at-elements
 decreases-list_at-elements l = length l.rest

@@ -31,11 +31,11 @@ returns-clause-ok c =
     (told_ok ps c.put_document.new.out.items (ap (put_document ps) (sym c.new-out.ensures.items) ∙ c.in_ok-put_document.ensures.put)).1
 
 pub returns-clause-back : goal.returns-clause-back
-returns-clause-back c = λ d typed nests.
+returns-clause-back c = λ d nests.
     let ps = document_view c.args.document.now in
     let put = ap (put_document ps) (sym c.new-out.ensures.items) ∙ c.in_ok-put_document.ensures.put in
     let told = told_ok ps c.put_document.new.out.items put in
-    subst (λ (out : List ℕ). IsRead (suc d) out (as_written ps)) (sym told.1) (written_read d ps told.0 typed nests)
+    subst (λ (out : List ℕ). IsRead (suc d) out (as_written ps)) (sym told.1) (written_read d ps told.0 c.in_ok-put_document.ensures.typed nests)
 
 pub returns-clause-fits : goal.returns-clause-fits
 returns-clause-fits c =

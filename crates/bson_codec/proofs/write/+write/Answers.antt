@@ -4,13 +4,15 @@ use Rattle.std.proofs.lemmas.Result.{err_from_is_err_and}
 use Rattle.bson_bytes.specs.Putting.{Put, put_end}
 use Rattle.bson_bytes.specs.Writing.{name_bytes}
 use Rattle.bson.specs.Iter.{pairs_left}
-use Rattle.bson.specs.View.{bson_view, values_view, pairs_view}
+use Rattle.bson.specs.View.{bson_view, values_view, pairs_view, contents}
 use Rattle.bson.specs.declared.bson.Bson.{Bson}
 use Rattle.bson_codec.specs.Writing.{Puts}
 use Rattle.bson_codec.proofs.Elements.{array_bad, array_next, array_end, named, left_is, key_stops, key_put}
 use Rattle.bson_codec.proofs.Elements.{value_stops}
 use Rattle.bson_codec.proofs.Elements.{document_end, next_pair}
 use Rattle.bson_codec.proofs.Seen.{scoped_seen}
+use Rattle.bson_codec.proofs.Typed.{string_utf8, pairs_typed, document_typed, items_typed, on_ok, string_typed}
+use Rattle.bson_codec.proofs.Typed.{code_typed, symbol_typed, regex_typed, scope_typed}
 use Rattle.bson_codec.proofs.Weights.{weight, weight_items, weight_pairs, lighter_item}
 use Rattle.bson_codec.proofs.write.+write.Goals as goal
 
@@ -56,6 +58,8 @@ put_array-loop-i-preserved t c =
       put = array_next c.deref-value-items.result.now c.loop-i.i v out c.put_name.new.out.items c.put_value.new.out.items _
           (omega (arith, c.loop-i-test.true)) c.value-item.is c.loop-i.invariant.put name c.in_ok-put_value.ensures.put;
       room = omega (arith, c.loop-i.invariant.room, longer, c.in_ok-put_value.ensures.grows);
+      typed = items_typed c.deref-value-items.result.now c.loop-i.i v (omega (arith, c.loop-i-test.true)) c.value-item.is
+          c.loop-i.invariant.typed c.in_ok-put_value.ensures.typed;
     }
 
 pub put_array-returns-clause-put : goal.put_array-returns-clause-put
@@ -76,8 +80,8 @@ put_document-returns-in_err-put_key-clause-put t c =
     let p = err_from_is_err_and c.from_residual-in_err-put_key.result c.from_residual-in_err-put_key.ensures.1 in
     rw (p.1, p.2) (key_stops c.in_err-put_key.field-0.0 c.args.document.now (pairs_left c.elements.pairs)
     (pairs_left c.next.new.self) (string_bytes c.in-Some.key.now) c.as_str.result.now c.in-Some.value.now c.type_of.result
-    c.args.out.now.items c.extend_from_slice.new.self.items c.elements.out.items c.in-Some.ensures.steps
-    c.in_ok-extend_from_slice.ensures.items c.elements.invariant.put c.type_of.ensures c.as_str.ensures.value
+    c.args.out.now.items c.make_room.new.out.items c.elements.out.items c.in-Some.ensures.steps
+    c.in_ok-make_room.ensures.room c.elements.invariant.put c.type_of.ensures c.as_str.ensures.value
     c.in_err-put_key.ensures.put)
 
 pub put_document-returns-in_err-put_value-clause-put : goal.put_document-returns-in_err-put_value-clause-put
@@ -88,8 +92,8 @@ put_document-returns-in_err-put_value-clause-put t c =
     let name = key_put k c.as_str.result.now v c.type_of.result c.elements.out.items c.put_key.new.out.items
     c.type_of.ensures c.as_str.ensures.value c.in_ok-put_key.ensures.put in
     rw (p.1, p.2) (value_stops c.in_err-put_value.field-0.0 c.args.document.now (pairs_left c.elements.pairs)
-    (pairs_left c.next.new.self) k v c.args.out.now.items c.extend_from_slice.new.self.items c.elements.out.items
-    c.put_key.new.out.items c.in-Some.ensures.steps c.in_ok-extend_from_slice.ensures.items c.elements.invariant.put name
+    (pairs_left c.next.new.self) k v c.args.out.now.items c.make_room.new.out.items c.elements.out.items
+    c.put_key.new.out.items c.in-Some.ensures.steps c.in_ok-make_room.ensures.room c.elements.invariant.put name
     c.in_err-put_value.ensures.put)
 
 pub put_document-elements-preserved : goal.put_document-elements-preserved
@@ -107,14 +111,44 @@ put_document-elements-preserved t c =
           c.in_ok-put_value.ensures.put;
       lighter = omega (arith, lighter, c.elements.invariant.lighter);
       room = omega (arith, c.elements.invariant.room, c.in_ok-put_key.ensures.grows, c.in_ok-put_value.ensures.grows);
+      typed = pairs_typed (pairs_left c.elements.pairs) rest (contents c.args.document.now) k v c.in-Some.ensures.steps
+          c.elements.invariant.typed (string_utf8 c.in-Some.key.now) c.in_ok-put_value.ensures.typed;
     }
 
 pub put_document-returns-clause-put : goal.put_document-returns-clause-put
 put_document-returns-clause-put t c =
     let old = c.args.out.now.items in
     let start : c.len-start.result ≡ length old = omega (arith, c.len-start.ensures, c.args.out.now.ok) in
-    let ended = document_end c.args.document.now (pairs_left c.elements.pairs) old c.extend_from_slice.new.self.items
-    c.elements.out.items c.in_default.ensures.steps.0 c.in_ok-extend_from_slice.ensures.items c.elements.invariant.put in
+    let ended = document_end c.args.document.now (pairs_left c.elements.pairs) old c.make_room.new.out.items
+    c.elements.out.items c.in_default.ensures.steps.0 c.in_ok-make_room.ensures.room c.elements.invariant.put in
     subst (λ (r : Put). Puts c.put_end.result c.put_end.new.out.items r) (sym ended)
     (subst (λ (n : ℕ). Puts c.put_end.result c.put_end.new.out.items (put_end n c.elements.out.items)) start
     c.put_end.ensures.put)
+
+pub put_document-returns-clause-typed : goal.put_document-returns-clause-typed
+put_document-returns-clause-typed t c =
+    on_ok c.put_end.result
+    (document_typed c.args.document.now (pairs_left c.elements.pairs) c.in_default.ensures.steps.0
+    c.elements.invariant.typed c.make_room.ensures.distinct)
+
+-- ---- values
+
+pub put_value-returns-in-String-clause-typed : goal.put_value-returns-in-String-clause-typed
+put_value-returns-in-String-clause-typed t c =
+    on_ok c.put_text.result (string_typed c.args.value.now c.in-String.text c.in-String.is)
+
+pub put_value-returns-in-RegularExpression-clause-typed : goal.put_value-returns-in-RegularExpression-clause-typed
+put_value-returns-in-RegularExpression-clause-typed t c =
+    on_ok c.put_regex.result (regex_typed c.args.value.now c.in-RegularExpression.regex c.in-RegularExpression.is)
+
+pub put_value-returns-in-JavaScriptCode-clause-typed : goal.put_value-returns-in-JavaScriptCode-clause-typed
+put_value-returns-in-JavaScriptCode-clause-typed t c =
+    on_ok c.put_text-in-JavaScriptCode.result (code_typed c.args.value.now c.in-JavaScriptCode.code c.in-JavaScriptCode.is)
+
+pub put_value-returns-in-Symbol-clause-typed : goal.put_value-returns-in-Symbol-clause-typed
+put_value-returns-in-Symbol-clause-typed t c =
+    on_ok c.put_text-in-Symbol.result (symbol_typed c.args.value.now c.in-Symbol.symbol c.in-Symbol.is)
+
+pub put_scoped-returns-clause-typed : goal.put_scoped-returns-clause-typed
+put_scoped-returns-clause-typed t c =
+    on_ok c.put_length.result (scope_typed c.args.scoped.now c.in_ok-put_document.ensures.typed)

@@ -1,5 +1,6 @@
+use Rattle.bson_wrapper.specs.declared.form.Doubles.TheVariants.{Special}
 use Rattle.bson_model.proofs.ComesBack.{comes_back}
 use Rattle.bson_model.proofs.laws.values_come_back.Goals as goal
 
 pub returns : goal.returns
-returns c = comes_back
+returns c = comes_back Special

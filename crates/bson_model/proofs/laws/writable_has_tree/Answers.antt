@@ -1,5 +1,6 @@
+use Rattle.bson_wrapper.specs.declared.form.Doubles.TheVariants.{Special}
 use Rattle.bson_model.proofs.ComesBack.{has_tree}
 use Rattle.bson_model.proofs.laws.writable_has_tree.Goals as goal
 
 pub returns : goal.returns
-returns c = has_tree
+returns c = has_tree Special

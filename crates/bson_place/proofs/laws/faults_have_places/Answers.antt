@@ -1,5 +1,6 @@
+use Rattle.bson_wrapper.specs.declared.form.Doubles.TheVariants.{Special}
 use Rattle.bson_place.proofs.Everywhere.{has_fault}
 use Rattle.bson_place.proofs.laws.faults_have_places.Goals as goal
 
 pub returns : goal.returns
-returns c = λ t nothing. has_fault t nothing
+returns c = λ t nothing. has_fault Special t nothing

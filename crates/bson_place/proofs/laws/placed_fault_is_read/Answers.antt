@@ -1,5 +1,6 @@
+use Rattle.bson_wrapper.specs.declared.form.Doubles.TheVariants.{Special}
 use Rattle.bson_place.proofs.Agrees.{fault_to}
 use Rattle.bson_place.proofs.laws.placed_fault_is_read.Goals as goal
 
 pub returns : goal.returns
-returns c = λ f t way m. fault_to m
+returns c = λ f t way m. fault_to Special m

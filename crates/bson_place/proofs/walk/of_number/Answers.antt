@@ -1,12 +1,14 @@
-use Rattle.std.proofs.Common.{refl, sym, ◌∙◌, subst, IsSome}
 use Rattle.serde_json.specs.View.{number_view}
-use Rattle.bson_place.proofs.Steps.{number_value, no_number, at_once}
+use Rattle.bson_wrapper.specs.Reading.{number_read_in}
+use Rattle.bson_wrapper.specs.View.{scalar_view}
+use Rattle.bson_place.proofs.Steps.{number_value, number_place}
 use Rattle.bson_place.proofs.walk.of_number.Goals as goal
 
-pub returns-in-Some : goal.returns-in-Some
-returns-in-Some c = number_value (number_view c.args.n) (subst IsSome (sym c.in-Some.is ∙ c.as_i64.ensures) refl)
+pub returns-in-Ok : goal.returns-in-Ok
+returns-in-Ok c = number_value c.args.doubles (number_view c.args.n.now) (scalar_view c.in-Ok.field-0) c.in-Ok.ensures
 
-pub returns-in-None : goal.returns-in-None
-returns-in-None c =
-    at_once c.here.result c.here.ensures.reason c.here.ensures.way
-    (no_number (number_view c.args.n) (sym c.as_i64.ensures ∙ c.in-None.is))
+pub returns : goal.returns
+returns c =
+    let n = number_view c.args.n.now in
+    let is = c.in_ok-reason_of-in-Err.ensures (number_read_in c.args.doubles n) c.in-Err.ensures in
+    number_place c.args.doubles n is.0 _ c.at.result is.1 is.2 c.at.ensures.way c.at.ensures.reason

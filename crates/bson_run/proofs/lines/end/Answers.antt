@@ -8,8 +8,8 @@ returns-in_err-write_out-clause-fails g c =
     let cut = c.in_err-write_out.ensures in
     rw (p.1, p.2) (λ before after had told running at_end.
     end_cut c.take_last-step.result c.in_err-write_out.field-0.0 c.args.gathered.now c.take_last-step.new.self
-    c.write_out.new.gathered c.take_last-step.ensures.ok c.take_last-step.ensures.fault cut.fault
-    before after had _ _ told _ _ cut.cut cut.cut_report running at_end)
+    c.write_out.new.gathered c.take_last-step.ensures.ok c.take_last-step.ensures.fault cut.fault cut.same
+    before after had _ _ told _ _ cut.cut running at_end)
 
 pub returns-in_err-step-clause-fails : goal.returns-in_err-step-clause-fails
 returns-in_err-step-clause-fails g c =
@@ -17,7 +17,7 @@ returns-in_err-step-clause-fails g c =
     let e = c.in_err-step.field-0.0 in
     let out = c.in_ok-write_out.ensures in
     rw (p.1, p.2) (λ before after had told running at_end.
-    end_fails e.fault e.line c.args.gathered.now c.take_last-step.new.self c.write_out.new.gathered before after had _ _
+    end_fails e c.args.gathered.now c.take_last-step.new.self c.write_out.new.gathered before after had _ _
     told _ _ c.in_err-step.ensures.fault out.ok out.written out.reported running at_end)
 
 pub returns-clause-done : goal.returns-clause-done

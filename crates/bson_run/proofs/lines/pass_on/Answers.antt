@@ -9,8 +9,8 @@ returns-in_err-write_out-clause-fails g c =
     let cut = c.in_err-write_out.ensures in
     rw (p.1, p.2) (λ before given after had told running consumed.
     block_cut c.take-step.result c.in_err-write_out.field-0.0 c.args.block.now c.args.gathered.now
-    c.take-step.new.self c.write_out.new.gathered c.take-step.ensures.ok c.take-step.ensures.fault cut.fault
-    before given after had _ _ told _ _ cut.cut cut.cut_report running consumed)
+    c.take-step.new.self c.write_out.new.gathered c.take-step.ensures.ok c.take-step.ensures.fault cut.fault cut.same
+    before given after had _ _ told _ _ cut.cut running consumed)
 
 pub returns-clause-ok : goal.returns-clause-ok
 returns-clause-ok g c =
@@ -23,5 +23,5 @@ pub returns-clause-fails : goal.returns-clause-fails
 returns-clause-fails g c =
     let out = c.in_ok-write_out.ensures in
     errs_alone c.take-step.result c.take-step.ensures.fault (λ e stops before given after had told running consumed.
-    block_fails e.fault e.line c.args.block.now c.args.gathered.now c.take-step.new.self c.write_out.new.gathered before
+    block_fails e c.args.block.now c.args.gathered.now c.take-step.new.self c.write_out.new.gathered before
     given after had _ _ told _ _ stops out.ok out.written out.reported running consumed)

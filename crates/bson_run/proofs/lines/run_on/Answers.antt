@@ -13,9 +13,7 @@ loop-init g c = record {
 
 pub returns-in_default-clause-fails : goal.returns-in_default-clause-fails
 returns-in_default-clause-fails g c =
-    rw c.stopped.ensures.fault
-    (unread c.stopped.result.line _ _ _ _ _ _ _ c.loop.gathered c.stopped.ensures.line c.in_default.ensures.bytes
-    c.loop.invariant.running)
+    unread _ _ _ _ _ _ _ c.loop.gathered c.in_default.ensures.bytes c.loop.invariant.running
 
 pub returns-then-count-eq0-clause-done : goal.returns-then-count-eq0-clause-done
 returns-then-count-eq0-clause-done g c =
@@ -40,6 +38,4 @@ loop-preserved g c = record {
 
 pub returns-clause-fails : goal.returns-clause-fails
 returns-clause-fails g c =
-    rw c.stopped-2.ensures.fault
-    (unread c.stopped-2.result.line _ _ _ _ _ _ _ c.loop.gathered c.stopped-2.ensures.line
-    (Keeps-refl (g.R.Read.remaining c.loop.reader)) c.loop.invariant.running)
+    unread _ _ _ _ _ _ _ c.loop.gathered (Keeps-refl (g.R.Read.remaining c.loop.reader)) c.loop.invariant.running

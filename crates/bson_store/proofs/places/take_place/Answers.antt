@@ -53,10 +53,10 @@ pub returns-in-None : goal.returns-in-None
 returns-in-None g c =
     let ps = c.requires.0 in
     let qs = stored_pairs c.args.pairs.now.items in
-    let was : 8 < length ps → KeysAscend ps = subst (IsPlaced ps) c.in-None.is c.requires.4.1 in
+    let was : 16 < length ps → KeysAscend ps = subst (IsPlaced ps) c.in-None.is c.requires.4.1 in
     let shorter =
     length-remove ps c.args.at (slice_get_within ps c.args.at (c.args.key.now, c.requires.1) c.requires.2) in
-    let still : 8 < length qs → KeysAscend qs =
+    let still : 16 < length qs → KeysAscend qs =
     λ more. subst KeysAscend (sym c.requires.3)
     (ascend-remove ps c.args.at (was (omega (arith, more, shorter, ap length c.requires.3)))) in (
       subst HasDistinctKeys (sym c.requires.3) (distinct-remove ps c.args.at c.requires.4.0),

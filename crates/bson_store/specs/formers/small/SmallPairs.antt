@@ -90,15 +90,15 @@ module _ {X Y : Type 0} (h : X → Y) where
   placed-on : (ps : List (List ℕ × X)) (o : Index) → IsPlaced ps o → IsPlaced (map (on_value h) ps) o
   placed-on ps None p =
       λ more. subst (IsStrictlySortedBy key_cmp) (sym (keys-on h ps))
-      (p (subst (λ n. 8 < n) (length-map ps (on_value h)) more))
+      (p (subst (λ n. 16 < n) (length-map ps (on_value h)) more))
   placed-on ps (Some m) p =
-      (subst (λ n. 8 < n) (sym (length-map ps (on_value h))) p.0, λ k. p.1 k ∙ sym (place-on h k ps))
+      (subst (λ n. 16 < n) (sym (length-map ps (on_value h))) p.0, λ k. p.1 k ∙ sym (place-on h k ps))
 
   placed-back : (ps : List (List ℕ × X)) (o : Index) → IsPlaced (map (on_value h) ps) o → IsPlaced ps o
   placed-back ps None p =
       λ more. subst (IsStrictlySortedBy key_cmp) (keys-on h ps)
-      (p (subst (λ n. 8 < n) (sym (length-map ps (on_value h))) more))
-  placed-back ps (Some m) p = (subst (λ n. 8 < n) (length-map ps (on_value h)) p.0, λ k. p.1 k ∙ place-on h k ps)
+      (p (subst (λ n. 16 < n) (sym (length-map ps (on_value h))) more))
+  placed-back ps (Some m) p = (subst (λ n. 16 < n) (length-map ps (on_value h)) p.0, λ k. p.1 k ∙ place-on h k ps)
 
   indexed-on : (ps : List (Pair X)) (o : Index) → IsIndexed (stored_pairs ps) o
       → IsIndexed (stored_pairs (map (one.map X Y h) ps)) o

@@ -1,9 +1,10 @@
+use Rattle.bson_wrapper.specs.declared.form.Doubles.TheVariants.{Special}
 use Rattle.bson_wrapper.proofs.ScalarLaws.{scalar_from, scalar_to, scalar_one, scalar_form}
 use Rattle.bson_wrapper.proofs.laws.reading.Goals as goal
 
 pub returns : goal.returns
 returns c = record {
-  meaning = λ t x. (scalar_from t x, λ m. scalar_to m);
-  one = scalar_one;
-  form = λ t x m. scalar_form m;
+  meaning = λ t x. (scalar_from Special t x, scalar_to Special t x);
+  one = scalar_one Special;
+  form = scalar_form Special;
 }

@@ -1,13 +1,14 @@
 use Rattle.std.proofs.Common.{◌≡◌, Some, Ok, string_bytes, subst}
 use Rattle.std.specs.Prelude.{IfSome}
 use Rattle.serde_json.specs.Read.{read}
-use Rattle.bson_model.proofs.Offered.{value_read}
+use Rattle.bson_model.proofs.Offered.{value_read_in}
 use Rattle.bson.specs.Converted.{TextConverted}
 use Rattle.bson.proofs.extjson.convert.convert.Goals as goal
 
 pub returns-in-Ok-Some-clause-ok : goal.returns-in-Ok-Some-clause-ok
 returns-in-Ok-Some-clause-ok c =
-    let done = subst (λ o. IfSome o (λ written. TextConverted c.args.form c.in-Ok.text.now (string_bytes written)))
+    let done = subst (λ o. IfSome o (λ written. TextConverted c.args.doubles c.args.form c.in-Ok.text.now
+    (string_bytes written)))
     c.in-Ok-Some.field-0-is c.in-Ok-Some.ensures in
     let m = done.1 in
     let same = c.in-Ok.ensures.cases in (
@@ -15,7 +16,7 @@ returns-in-Ok-Some-clause-ok c =
       record {
         tree = m.0;
         text = record { utf8 = same.1; tree_read = subst (λ s. read s ≡ Some m.0) same.0 m.1 };
-        meaning = (value_read (λ v. v) m.0 (Ok done.0) m.2).ok;
+        meaning = (value_read_in c.args.doubles (λ v. v) m.0 (Ok done.0) m.2).ok;
       },
       done.2,
     )

@@ -12,7 +12,9 @@ returns c =
     let old = c.new-out.result.tokens in
     let new = c.convert_root.new.out.tokens in
     let last : rest ≡ [] = grind arith in
-    let done = subst (λ ts. TreeConverted f (converted of_json (value 127 ts)) rest old new) c.in_ok-reader.ensures.ok
+    let done = subst (λ ts. TreeConverted c.args.doubles f (converted of_json (value 127 ts)) rest old new)
+    c.in_ok-reader.ensures.ok
     c.in_ok-convert_root.ensures.ok in
-    text_converted f c.args.text.now (string_bytes c.finished.result) rest old new done last c.new-out.ensures.tokens
+    text_converted c.args.doubles f c.args.text.now (string_bytes c.finished.result) rest old new done last
+    c.new-out.ensures.tokens
     c.finished.ensures

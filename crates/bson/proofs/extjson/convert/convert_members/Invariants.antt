@@ -4,7 +4,7 @@ use Rattle.bson.proofs.extjson.convert.convert_members.Given as goal
 
 abbrev pub invariant-members : goal.invariant-members
 invariant-members l = record {
-  passed : MembersPass l.form l.depth l.initial.reader l.reader l.initial.out.tokens l.out.tokens
+  passed : MembersPass l.doubles l.form l.depth l.initial.reader l.reader l.initial.out.tokens l.out.tokens
       (option_map (λ s. s.now) l.last);
   before : l.out.before ≡ l.initial.out.before;
 }

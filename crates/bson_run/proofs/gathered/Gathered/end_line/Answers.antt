@@ -1,5 +1,5 @@
 use Rattle.std.proofs.Common.{◌≡◌, ℕ, Vec, Global, IfSome, ◌+◌, ◌++◌, Ok, ap, sym, ◌∙◌, subst}
-use Rattle.bson_run.specs.Lines.{text_of, IsBlank, Writes}
+use Rattle.bson_run.specs.Lines.{text_of, IsBlank, WritesIn}
 use Rattle.bson_run.specs.LinesSteps.{IsJudged, IsTold}
 use Rattle.bson_run.specs.declared.gathered.Gathered.{Gathered}
 use Rattle.bson_run.proofs.LinesLaws.{blank_taken, written_taken, told_taken, judged_bad}
@@ -27,17 +27,16 @@ returns-clause-ok c =
           ∙ ap (λ (v : Vec ℕ Global). self.output.items ++ v.items) w.in-Ok-Some.output-is)
           (ap (λ (s : Gathered). s.told.items) w.self-is ∙ ap (λ v. v.items) added.same.1)
           (ap (λ (s : Gathered). s.refused) w.self-is ∙ added.same.3)
-          (subst (λ x. Writes c.args.task x w.in-Ok-Some.output.items) text
-          (subst (λ some. IfSome some (λ output. Writes c.args.task c.text.result.now output.items))
+          (subst (λ x. WritesIn c.args.options c.args.task x w.in-Ok-Some.output.items) text
+          (subst (λ some. IfSome some (λ output. WritesIn c.args.options c.args.task c.text.result.now output.items))
           w.in-Ok-Some.field-0-is w.in-Ok-Some.ensures.ok))
       | in-Err+in_ok-refuse-in-Err w ↦
           let refused = w.in_ok-refuse-in-Err.ensures in
           told_taken self _ w.in-Err.fault c.clear.ensures.items
           (ap (λ (s : Gathered). s.lines + 1) w.self-is ∙ ap (λ n. n + 1) refused.same.2)
           (ap (λ (s : Gathered). s.output.items) w.self-is ∙ ap (λ v. v.items) refused.same.1)
-          (ap (λ (s : Gathered). s.refused) w.self-is ∙ refused.ok.1)
-          (judged_bad w.in-Err.fault _ (subst (IsJudged w.in-Err.fault) text w.in-Err.ensures.fault) refused.ok.0)
-          (subst (IsTold c.args.on_refusal (self.lines + 1) w.in-Err.fault
-          (text_of self.lines self.line.items) self.told.items)
-          (sym (ap (λ (s : Gathered). s.told.items) w.self-is)) refused.ok.2)
+          (ap (λ (s : Gathered). s.refused) w.self-is ∙ refused.ok.2) refused.ok.1
+          (judged_bad c.args.options w.in-Err.fault _ (subst (IsJudged c.args.options w.in-Err.fault) text w.in-Err.ensures.fault) refused.ok.0)
+          (subst (IsTold c.args.options (self.lines + 1) w.in-Err.fault (text_of self.lines self.line.items) self.told.items)
+          (sym (ap (λ (s : Gathered). s.told.items) w.self-is)) (refused.ok.3 c.args.options))
     ]

@@ -1,4 +1,4 @@
-use Rattle.std.proofs.Common.{ap, ◌++◌, ◌∷◌, [], take, ◌∙◌}
+use Rattle.std.proofs.Common.{◌++◌, ◌∷◌, [], take, ◌∙◌}
 use Rattle.std.proofs.lemmas.Result.{err_from_is_err_and}
 use Rattle.bson_run.proofs.LinesLaws.{errs_alone, line_taken, line_stops_in, memory_stops, regrouped, take_more}
 use Rattle.bson_run.proofs.LinesLaws.{whole_stops}
@@ -10,10 +10,10 @@ returns-in_err-extend_line-clause-fault c =
     let inv = c.loop-at.invariant.1 in
     let e = c.in_err-extend_line.field-0.0 in
     rw (p.1, p.2)
-    (whole_stops c.args.bytes.now inv.0 c.loop-at.rest.now e.fault e.line c.args.self.now c.loop-at.self
-    c.extend_line.new.self inv.1 inv.2
-    (memory_stops c.loop-at.rest.now e.fault e.line c.loop-at.self c.extend_line.new.self
-    c.in_err-extend_line.ensures.fault.0 c.in_err-extend_line.ensures.fault.1 c.extend_line.ensures.same))
+    (whole_stops c.args.bytes.now inv.0 c.loop-at.rest.now e c.args.self.now c.loop-at.self c.extend_line.new.self
+    inv.1 inv.2
+    (memory_stops c.loop-at.rest.now e c.loop-at.self c.extend_line.new.self c.in_err-extend_line.ensures.fault
+    c.extend_line.ensures.same))
 
 pub returns-in_err-end_line-clause-fault : goal.returns-in_err-end_line-clause-fault
 returns-in_err-end_line-clause-fault c =
@@ -22,22 +22,19 @@ returns-in_err-end_line-clause-fault c =
     let e = c.in_err-end_line.field-0.0 in
     let found = c.in-Some.ensures in
     rw (p.1, p.2)
-    (whole_stops c.args.bytes.now inv.0 c.loop-at.rest.now e.fault e.line c.args.self.now c.loop-at.self
-    c.end_line.new.self inv.1 inv.2
-    (line_stops_in c.loop-at.rest.now c.in-Some.at e.fault e.line c.loop-at.self c.extend_line.new.self
-    c.end_line.new.self found.0 found.1 found.2
-    c.in_ok-extend_line.ensures.ok c.extend_line.ensures.same c.in_err-end_line.ensures.fault.0
-    c.in_err-end_line.ensures.fault.1 c.in_err-end_line.ensures.same.0
-    (ap (λ v. v.items) c.in_err-end_line.ensures.same.1)))
+    (whole_stops c.args.bytes.now inv.0 c.loop-at.rest.now e c.args.self.now c.loop-at.self c.end_line.new.self inv.1
+    inv.2
+    (line_stops_in c.loop-at.rest.now c.in-Some.at e c.loop-at.self c.extend_line.new.self c.end_line.new.self found.0
+    found.1 found.2 c.in_ok-extend_line.ensures.ok c.extend_line.ensures.same c.in_err-end_line.ensures.fault
+    c.in_err-end_line.ensures.same))
 
 pub returns-clause-fault : goal.returns-clause-fault
 returns-clause-fault c =
     let inv = c.loop-at.invariant.1 in
     errs_alone c.extend_line-2.result c.extend_line-2.ensures.fault (λ e p.
-    whole_stops c.args.bytes.now inv.0 c.loop-at.rest.now e.fault e.line c.args.self.now c.loop-at.self
-    c.extend_line-2.new.self inv.1 inv.2
-    (memory_stops c.loop-at.rest.now e.fault e.line c.loop-at.self c.extend_line-2.new.self p.0 p.1
-    c.extend_line-2.ensures.same))
+    whole_stops c.args.bytes.now inv.0 c.loop-at.rest.now e c.args.self.now c.loop-at.self c.extend_line-2.new.self
+    inv.1 inv.2
+    (memory_stops c.loop-at.rest.now e c.loop-at.self c.extend_line-2.new.self p c.extend_line-2.ensures.same))
 
 pub loop-at-preserved : goal.loop-at-preserved
 loop-at-preserved c =

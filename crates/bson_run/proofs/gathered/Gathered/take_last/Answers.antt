@@ -1,4 +1,4 @@
-use Rattle.std.proofs.Common.{◌<◌, length, ap, arith}
+use Rattle.std.proofs.Common.{◌<◌, length, arith}
 use Rattle.std.proofs.lemmas.Grind.{common_steps}
 use Rattle.bson_run.proofs.LinesLaws.{no_last, last_taken, last_stops, errs, oks}
 use Rattle.bson_run.proofs.gathered.Gathered.take_last.Goals as goal
@@ -15,5 +15,4 @@ pub returns-clause-fault : goal.returns-clause-fault
 returns-clause-fault c =
     let some : 0 < length c.args.self.now.line.items = grind (arith, common_steps) in
     errs c.end_line.result c.end_line.ensures.same c.end_line.ensures.fault
-    (λ e same p. last_stops e.fault e.line c.args.self.now c.end_line.new.self some p.0 p.1 same.0
-    (ap (λ v. v.items) same.1))
+    (λ e same p. last_stops e c.args.self.now c.end_line.new.self some p same)

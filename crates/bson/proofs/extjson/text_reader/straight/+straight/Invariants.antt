@@ -3,8 +3,8 @@ use Rattle.serde_json.specs.Data.{Items, Members, no_members}
 use Rattle.serde_json.specs.View.{view}
 use Rattle.bson_wrapper.specs.Table.{has_wrapper}
 use Rattle.bson_model.specs.Sorted.{KeysAscend}
-use Rattle.bson.proofs.Elements.{Lists}
-use Rattle.bson.proofs.Gathering.{Gathers}
+use Rattle.bson_tokens.proofs.Offered.{Lists}
+use Rattle.bson_tokens.proofs.Offered.{Gathers}
 use Rattle.bson.proofs.Listed.{Listed}
 use Rattle.bson.proofs.Wrapped.{IsBegun, CodeSoFar}
 use Rattle.bson.specs.View.{bson_view, document_view}
@@ -42,7 +42,7 @@ decreases-read_object l = 8 * l.depth + 5
 -- what was read stands before what is left
 abbrev pub invariant-read_array-items : goal.invariant-read_array-items
 invariant-read_array-items l = (front : Items → Items) × Lists l.depth l.initial.reader l.reader front
-    × Listed l.has_meaning front (map bson_view l.found.items)
+    × Listed l.doubles l.has_meaning front (map bson_view l.found.items)
 
 abbrev pub decreases-read_array-items : goal.decreases-read_array-items
 decreases-read_array-items l = length l.reader
@@ -51,7 +51,7 @@ decreases-read_array-items l = length l.reader
 abbrev pub invariant-read_object-members : goal.invariant-read_object-members
 invariant-read_object-members l =
     (so_far : Members) × Gathers l.depth no_members l.initial.reader l.reader so_far
-    × (gathered l.found ≡ marked_members so_far) × KeysAscend (gathered l.found)
+    × (gathered l.found ≡ marked_members l.doubles so_far) × KeysAscend (gathered l.found)
     × (has_wrapper so_far ≡ not l.is_document) × IsBegun l.is_first so_far
 
 abbrev pub decreases-read_object-members : goal.decreases-read_object-members
@@ -60,13 +60,13 @@ decreases-read_object-members l = length l.reader
 abbrev pub invariant-read_pairs-members : goal.invariant-read_pairs-members
 invariant-read_pairs-members l =
     (so_far : Members) × Gathers l.depth no_members l.initial.reader l.reader so_far
-    × (gathered l.found ≡ marked_members so_far) × KeysAscend (gathered l.found)
+    × (gathered l.found ≡ marked_members l.doubles so_far) × KeysAscend (gathered l.found)
 
 abbrev pub decreases-read_pairs-members : goal.decreases-read_pairs-members
 decreases-read_pairs-members l = length l.reader
 
 abbrev pub invariant-read_code-members : goal.invariant-read_code-members
-invariant-read_code-members l = CodeSoFar l.depth (view l.fn.held) l.fn.reader l.reader l.is_code
+invariant-read_code-members l = CodeSoFar l.doubles l.depth (view l.fn.held) l.fn.reader l.reader l.is_code
     (view l.code) (option_map (λ d. option_map document_view d) l.scope)
 
 abbrev pub decreases-read_code-members : goal.decreases-read_code-members

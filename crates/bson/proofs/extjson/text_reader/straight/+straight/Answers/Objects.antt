@@ -7,9 +7,8 @@ use Rattle.json.specs.Json.{read_key}
 use Rattle.json.proofs.Grammar.{read_key-shorter}
 use Rattle.serde_json.specs.Data.{no_members, put}
 use Rattle.serde_json.specs.View.{members_view}
-use Rattle.bson_wrapper.specs.Scalar as scalars
 use Rattle.bson_wrapper.proofs.Offered.{on_ok}
-use Rattle.bson_model.specs.Reading.{reads}
+use Rattle.bson_model.specs.Reading.{reads_in}
 use Rattle.bson_model.specs.Sorted.{put_pair, KeysAscend}
 use Rattle.bson_model.specs.Value as model
 use Rattle.bson.specs.View.{bson_view, document_view}
@@ -18,11 +17,12 @@ use Rattle.bson.specs.Straight.{marked, unless_nothing, ObjectReads}
 use Rattle.bson.specs.declared.bson.Bson.{the_lemmas}
 use Rattle.bson.specs.declared.bson.Bson.TheVariants as bson
 use Rattle.bson.specs.declared.document.Document.{Document}
-use Rattle.bson.proofs.Gathering.{none_yet, one_gathered, all_gathered, from_first}
+use Rattle.bson_tokens.proofs.Offered.{none_yet, one_gathered, all_gathered}
+use Rattle.bson.proofs.Gathering.{from_first}
 use Rattle.bson.proofs.Keys.{is_wrapper, is_scope, strange_refused}
 use Rattle.bson.proofs.Marks.{put_marked, reads_marked}
 use Rattle.bson.proofs.PutReads.{put_ascends}
-use Rattle.bson.proofs.Turns.{if_ok, if_err, no_key, no_member}
+use Rattle.bson_tokens.proofs.Offered.{if_ok, if_err, no_key, no_member}
 use Rattle.bson.proofs.Wrapped.{IsBegun, begun, still_plain}
 use Rattle.bson.proofs.Held.{held_value, ordinary_key, document_given, not_begun}
 use Rattle.bson.proofs.extjson.text_reader.straight.+straight.Goals.{read_object-else-is_first-via-then-is_first+else-is_scope}
@@ -44,7 +44,8 @@ read_member-returns-clause-ok t c =
       read.1,
       c.in_ok-put.ensures ∙ ap (λ q. put_pair q (bson_view c.unwrap_or-member.result) (gathered c.args.found)) copied
           ∙ ap (λ v. put_pair c.args.name.now v (gathered c.args.found))
-          (ap bson_view c.unwrap_or-member.ensures ∙ held_value (reads read.0) c.in_ok-read_value.field-0 read.2),
+          (ap bson_view c.unwrap_or-member.ensures ∙ held_value (reads_in c.args.doubles read.0)
+          c.in_ok-read_value.field-0 read.2),
     )
 
 pub read_object-members-init : goal.read_object-members-init
@@ -83,9 +84,10 @@ read_object-returns-then-is_scope-clause-ok t c =
     let none : l.invariant.0 ≡ no_members = subst (λ b. IsBegun b l.invariant.0) c.if-is_first.true l.invariant.5 in
     let empty : members_view c.new.result.entries ≡ no_members = ap members_view c.new.ensures.empty in
     if_ok c.read_small.result c.read_small.ensures.ok (λ v m.
-    from_first c.args.depth k c.args.reader.now l.reader s c.read_small.new.reader l.invariant.0
+    from_first c.args.doubles c.args.depth k c.args.reader.now l.reader s c.read_small.new.reader l.invariant.0
     (option_map bson_view v) l.invariant.1 none named
-    (subst (λ ms. ObjectReads c.args.depth ms k s (option_map bson_view v) c.read_small.new.reader) empty m))
+    (subst (λ ms. ObjectReads c.args.doubles c.args.depth ms k s (option_map bson_view v) c.read_small.new.reader)
+    empty m))
 
 pub read_object-returns-then-is_scope-clause-broken : goal.read_object-returns-then-is_scope-clause-broken
 read_object-returns-then-is_scope-clause-broken t c =
@@ -111,7 +113,7 @@ read_object-returns-then-is_wrapper-clause-ok t c =
     let named : read_key l.reader ≡ Some (Some k, s) = grind arith in
     let none : l.invariant.0 ≡ no_members = subst (λ b. IsBegun b l.invariant.0) c.if-is_first-2.true l.invariant.5 in
     if_ok c.read_wrapped.result c.read_wrapped.ensures.ok (λ v m.
-    from_first c.args.depth k c.args.reader.now l.reader s c.read_wrapped.new.reader l.invariant.0
+    from_first c.args.doubles c.args.depth k c.args.reader.now l.reader s c.read_wrapped.new.reader l.invariant.0
     (option_map bson_view v) l.invariant.1 none named m)
 
 pub read_object-returns-then-is_wrapper-clause-broken : goal.read_object-returns-then-is_wrapper-clause-broken
@@ -140,7 +142,7 @@ read_object-members-preserved t c =
     let done = c.in_ok-found.ensures in
     let d = done.ok.0 in
     let so_far = l.invariant.0 in
-    let now = done.ok.2 ∙ ap (put_pair k (marked (reads d))) l.invariant.2 in
+    let now = done.ok.2 ∙ ap (put_pair k (marked (reads_in c.args.doubles d))) l.invariant.2 in
     let other : l.is_first ≡ true → is_scope k ≡ false = elim c.else-is_first.branch [
       | read_object-else-is_first-via-then-is_first+else-is_scope w ↦ λ first. sym w.if-is_scope.ensures
       | read_object-else-is_first-via-else-is_first w ↦ λ first. let no = w.if-is_first.false in cc
@@ -153,8 +155,9 @@ read_object-members-preserved t c =
       put k d so_far,
       one_gathered c.args.depth no_members k c.args.reader.now l.reader s c.read_member.new.reader so_far d
           l.invariant.1 named done.ok.1 done.shorter,
-      now ∙ sym (put_marked k d so_far),
-      subst KeysAscend (sym done.ok.2) (put_ascends k (marked (reads d)) (gathered l.found) l.invariant.3),
+      now ∙ sym (put_marked c.args.doubles k d so_far),
+      subst KeysAscend (sym done.ok.2) (put_ascends k (marked (reads_in c.args.doubles d)) (gathered l.found)
+          l.invariant.3),
       still_plain l.is_document k d so_far l.invariant.4 ∙ ap (λ w. not (l.is_document && not w))
           (ap is_some (sym c.named.ensures) ∙ sym c.is_some-is_wrapper.ensures),
       begun l.is_first k d so_far (λ first. ordinary_key k (plain first) (other first)) l.invariant.5,
@@ -169,8 +172,8 @@ read_object-returns-then-not-is_document-clause-ok t c =
       so_far,
       all_gathered c.args.depth no_members c.args.reader.now l.reader c.next_key.new.self so_far l.invariant.1 ended
           (length c.args.reader.now) (omega arith),
-      strange_refused so_far (l.invariant.4 ∙ ap not no) (not_begun l.is_first so_far (l.invariant.4 ∙ ap not no)
-          l.invariant.5),
+      strange_refused c.args.doubles so_far (l.invariant.4 ∙ ap not no)
+          (not_begun l.is_first so_far (l.invariant.4 ∙ ap not no) l.invariant.5),
     )
 
 pub read_object-returns-in-Some-2-clause-ok : goal.read_object-returns-in-Some-2-clause-ok
@@ -185,8 +188,8 @@ read_object-returns-in-Some-2-clause-ok t c =
       so_far,
       all_gathered c.args.depth no_members c.args.reader.now l.reader c.next_key.new.self so_far l.invariant.1 ended
           (length c.args.reader.now) (omega arith),
-      document_given so_far (Some (document_view d)) (l.invariant.4 ∙ ap not yes)
-          (reads_marked so_far ∙ ap unless_nothing (sym l.invariant.2) ∙ sym seen)
+      document_given c.args.doubles so_far (Some (document_view d)) (l.invariant.4 ∙ ap not yes)
+          (reads_marked c.args.doubles so_far ∙ ap unless_nothing (sym l.invariant.2) ∙ sym seen)
           ∙ ap Some (sym (bson_view-Document d)),
     )
 
@@ -201,8 +204,8 @@ read_object-returns-in-None-clause-ok t c =
       so_far,
       all_gathered c.args.depth no_members c.args.reader.now l.reader c.next_key.new.self so_far l.invariant.1 ended
           (length c.args.reader.now) (omega arith),
-      document_given so_far None (l.invariant.4 ∙ ap not yes)
-          (reads_marked so_far ∙ ap unless_nothing (sym l.invariant.2) ∙ sym seen),
+      document_given c.args.doubles so_far None (l.invariant.4 ∙ ap not yes)
+          (reads_marked c.args.doubles so_far ∙ ap unless_nothing (sym l.invariant.2) ∙ sym seen),
     )
 
 pub read_pairs-members-init : goal.read_pairs-members-init
@@ -235,12 +238,13 @@ read_pairs-members-preserved t c =
     let done = c.in_ok-found.ensures in
     let d = done.ok.0 in
     let so_far = l.invariant.0 in
-    let now = done.ok.2 ∙ ap (put_pair k (marked (reads d))) l.invariant.2 in (
+    let now = done.ok.2 ∙ ap (put_pair k (marked (reads_in c.args.doubles d))) l.invariant.2 in (
       put k d so_far,
       one_gathered c.args.depth no_members k c.args.reader.now l.reader s c.read_member.new.reader so_far d
           l.invariant.1 named done.ok.1 done.shorter,
-      now ∙ sym (put_marked k d so_far),
-      subst KeysAscend (sym done.ok.2) (put_ascends k (marked (reads d)) (gathered l.found) l.invariant.3),
+      now ∙ sym (put_marked c.args.doubles k d so_far),
+      subst KeysAscend (sym done.ok.2) (put_ascends k (marked (reads_in c.args.doubles d)) (gathered l.found)
+          l.invariant.3),
     )
 
 pub read_pairs-returns-clause-ok : goal.read_pairs-returns-clause-ok
@@ -251,5 +255,5 @@ read_pairs-returns-clause-ok t c =
       so_far,
       all_gathered c.args.depth no_members c.args.reader.now l.reader c.next_key.new.self so_far l.invariant.1 ended
           (length c.args.reader.now) (omega arith),
-      reads_marked so_far ∙ ap unless_nothing (sym l.invariant.2) ∙ sym c.in_ok-document_of.ensures,
+      reads_marked c.args.doubles so_far ∙ ap unless_nothing (sym l.invariant.2) ∙ sym c.in_ok-document_of.ensures,
     )

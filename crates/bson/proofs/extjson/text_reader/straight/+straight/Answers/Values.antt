@@ -10,18 +10,17 @@ use Rattle.json.proofs.Grammar.{value_is}
 use Rattle.serde_json.specs.Data.{null, boolean, number, string, array, object, item, no_items, no_members}
 use Rattle.serde_json.specs.Read.{of_json, converted}
 use Rattle.serde_json.specs.View.{number_view}
-use Rattle.bson_wrapper.specs.Reading.{number_read}
+use Rattle.bson_wrapper.specs.Reading.{number_read_in}
 use Rattle.bson_wrapper.specs.Scalar as scalars
 use Rattle.bson_model.specs.Reading.{scalar_value}
 use Rattle.bson_model.specs.Value as model
 use Rattle.bson.specs.View.{bson_view, values_view}
-use Rattle.bson.specs.Straight.{given}
 use Rattle.bson.specs.declared.bson.Bson.{Bson, the_lemmas}
 use Rattle.bson.specs.declared.bson.Bson.TheVariants as bson
-use Rattle.bson.proofs.Elements.{none_listed, one_listed, all_listed}
+use Rattle.bson_tokens.proofs.Offered.{none_listed, one_listed, all_listed}
 use Rattle.bson.proofs.Listed.{Listed, one_more, none_more, list_given, list_not_given}
-use Rattle.bson.proofs.Turns.{array_opened, object_opened, if_ok, if_err, no_item, none_begins}
-use Rattle.bson.proofs.Turns.{too_deep_array, too_deep_object}
+use Rattle.bson_tokens.proofs.Offered.{array_opened, object_opened, if_ok, if_err, no_item, none_begins}
+use Rattle.bson_tokens.proofs.Offered.{too_deep_array, too_deep_object}
 use Rattle.bson.proofs.extjson.text_reader.straight.+straight.Goals as goal
 
 bson_view-Array : (v : Vec Bson Global) → bson_view (bson.Array v) ≡ model.array (values_view v.items)
@@ -72,7 +71,7 @@ read_begun-returns-in_ok-meant-in-Some-clause-ok t c =
     ap (λ k. token_of k ∷ c.args.reader.now) c.in-Number.is in (
       number n,
       ap (converted of_json) (ap (value c.args.depth) is ∙ value_is c.args.depth _) ∙ rw (← c.in-Some.ensures) refl,
-      c.in_ok-meant-in-Some.ensures (scalar_value (number_read n)) c.read_number.ensures.given,
+      c.in_ok-meant-in-Some.ensures (scalar_value (number_read_in c.args.doubles n)) c.number_value.ensures.given,
     )
 
 pub read_begun-returns-in-None-clause-broken : goal.read_begun-returns-in-None-clause-broken
@@ -132,7 +131,7 @@ pub read_array-items-init : goal.read_array-items-init
 read_array-items-init t c = (
   λ ds. ds,
   none_listed c.args.depth c.args.reader.now,
-  subst (λ vs. Listed true (λ ds. ds) (map bson_view vs)) (sym c.new-found.ensures.items) (λ ds. refl),
+  subst (λ vs. Listed c.args.doubles true (λ ds. ds) (map bson_view vs)) (sym c.new-found.ensures.items) (λ ds. refl),
 )
 
 pub read_array-returns-in_err-item-clause-broken : goal.read_array-returns-in_err-item-clause-broken
@@ -156,9 +155,9 @@ read_array-items-preserved t c =
       λ ds. front (item d ds),
       one_listed c.args.depth c.args.reader.now l.reader s c.read_value.new.reader front d l.invariant.1 ended.0 ended.1
           done.ok.1 done.shorter,
-      subst (λ vs. Listed l.has_meaning (λ ds. front (item d ds)) vs)
+      subst (λ vs. Listed c.args.doubles l.has_meaning (λ ds. front (item d ds)) vs)
           (sym (map-append bson_view l.found.items (v ∷ [])) ∙ ap (map bson_view) (sym c.in_ok-push.ensures.items))
-          (one_more l.has_meaning front (map bson_view l.found.items) d (bson_view v)
+          (one_more c.args.doubles l.has_meaning front (map bson_view l.found.items) d (bson_view v)
           (done.ok.2 ∙ ap (option_map bson_view) c.in-Some.is) l.invariant.2),
     )
 
@@ -173,7 +172,7 @@ read_array-items-preserved-in_default t c =
       λ ds. front (item d ds),
       one_listed c.args.depth c.args.reader.now l.reader s c.read_value.new.reader front d l.invariant.1 ended.0 ended.1
           done.ok.1 done.shorter,
-      none_more l.has_meaning front (map bson_view l.found.items) d
+      none_more c.args.doubles l.has_meaning front (map bson_view l.found.items) d
           (done.ok.2 ∙ ap (option_map bson_view) c.in_default.is) l.invariant.2,
     )
 
@@ -184,8 +183,8 @@ read_array-returns-then-not-has_meaning-clause-ok t c =
       l.invariant.0 no_items,
       all_listed c.args.depth c.args.reader.now l.reader c.take_end_array.new.self l.invariant.0 l.invariant.1
           (grind arith),
-      list_not_given l.invariant.0 (map bson_view l.found.items)
-          (subst (λ b. Listed b l.invariant.0 (map bson_view l.found.items)) none l.invariant.2),
+      list_not_given c.args.doubles l.invariant.0 (map bson_view l.found.items)
+          (subst (λ b. Listed c.args.doubles b l.invariant.0 (map bson_view l.found.items)) none l.invariant.2),
     )
 
 pub read_array-returns-clause-ok : goal.read_array-returns-clause-ok
@@ -195,8 +194,8 @@ read_array-returns-clause-ok t c =
       l.invariant.0 no_items,
       all_listed c.args.depth c.args.reader.now l.reader c.take_end_array.new.self l.invariant.0 l.invariant.1
           (grind arith),
-      list_given l.invariant.0 (map bson_view l.found.items)
-          (subst (λ b. Listed b l.invariant.0 (map bson_view l.found.items)) all l.invariant.2)
+      list_given c.args.doubles l.invariant.0 (map bson_view l.found.items)
+          (subst (λ b. Listed c.args.doubles b l.invariant.0 (map bson_view l.found.items)) all l.invariant.2)
           ∙ ap Some (ap (λ vs. model.array (values_view vs)) (sym c.shrink_to_fit.ensures.items)
           ∙ sym (bson_view-Array c.shrink_to_fit.new.self)),
     )

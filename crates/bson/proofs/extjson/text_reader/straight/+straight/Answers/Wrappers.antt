@@ -12,18 +12,16 @@ use Rattle.json.proofs.Grammar.{value_is, read_key-shorter}
 use Rattle.serde_json.specs.Data.{null, object, no_members, put}
 use Rattle.serde_json.specs.Read.{of_json, converted}
 use Rattle.serde_json.specs.View.{view}
-use Rattle.bson_wrapper.specs.Reading.{single_at}
-use Rattle.bson_wrapper.specs.Scalar as scalars
+use Rattle.bson_wrapper.specs.Reading.{single_at_in}
 use Rattle.bson_wrapper.specs.Table.{wrapper_of}
 use Rattle.bson_wrapper.proofs.Offered.{on_ok}
-use Rattle.bson_model.specs.Reading.{reads_members, scalar_value}
-use Rattle.bson_model.specs.Value as model
+use Rattle.bson_model.specs.Reading.{reads_members_in, scalar_value}
 use Rattle.bson.specs.View.{bson_view, document_view}
-use Rattle.bson.specs.Straight.{given, NoObject, ObjectReads}
-use Rattle.bson.specs.declared.bson.Bson.TheVariants as bson
+use Rattle.bson_tokens.specs.Parts.{NoObject}
+use Rattle.bson.specs.Straight.{ObjectReads}
 use Rattle.bson.proofs.Marks.{given_map}
-use Rattle.bson.proofs.Turns.{object_opened, if_ok, if_err, no_key, no_member}
-use Rattle.bson.proofs.Turns.{too_deep_object, no_more_members}
+use Rattle.bson_tokens.proofs.Offered.{object_opened, if_ok, if_err, no_key, no_member}
+use Rattle.bson_tokens.proofs.Offered.{too_deep_object, no_more_members}
 use Rattle.bson.proofs.Wrapped.{alone, second, no_second, no_first, no_key_behind}
 use Rattle.bson.proofs.Wrapped.{code_begun, code_more, scope_again, code_again, code_read, code_refused, IsCode}
 use Rattle.bson.proofs.Held.{code_keys, other_scope}
@@ -69,7 +67,7 @@ read_scope-returns-in-Some-clause-ok t c =
     let read = c.in_ok-scope-in-BeginObject.ensures.ok in (
       object read.0,
       opened ∙ ap (parse_map object) read.1,
-      given_map Some (reads_members read.0)
+      given_map Some (reads_members_in c.args.doubles read.0)
           ∙ ap (option_map Some) (read.2 ∙ ap (option_map document_view) c.in-Some.is),
     )
 
@@ -81,7 +79,7 @@ read_scope-returns-in-None-clause-ok t c =
     let read = c.in_ok-scope-in-BeginObject.ensures.ok in (
       object read.0,
       opened ∙ ap (parse_map object) read.1,
-      given_map Some (reads_members read.0)
+      given_map Some (reads_members_in c.args.doubles read.0)
           ∙ ap (option_map Some) (read.2 ∙ ap (option_map document_view) c.in-None.is),
     )
 
@@ -96,7 +94,8 @@ read_code-returns-in_err-scope-clause-broken t c =
 pub read_code-members-init : goal.read_code-members-init
 read_code-members-init t c =
     let read = c.in_ok-scope.ensures in
-    code_begun c.args.depth (view c.args.held) c.args.reader.now c.read_scope.new.reader (view c.args.held) read.ok.0
+    code_begun c.args.doubles c.args.depth (view c.args.held) c.args.reader.now c.read_scope.new.reader
+    (view c.args.held) read.ok.0
     (option_map (λ d. option_map document_view d) c.in_ok-scope.scope) refl read.ok.1 read.ok.2 read.shorter
 
 pub read_code-returns-in_err-name-clause-broken : goal.read_code-returns-in_err-name-clause-broken
@@ -135,10 +134,12 @@ read_code-members-preserved-then-is_scope t c =
     let same : k ≡ codes "$scope" = (bytes_eq-Decides k (codes "$scope")).0 (sym c.if-is_scope.ensures) in
     let old = option_map (λ d. option_map document_view d) l.scope in
     let new = option_map (λ d. option_map document_view d) c.in_ok-scope-2.scope in
-    code_more c.args.depth (view c.args.held) c.args.reader.now k l.reader s c.read_scope-then-is_scope.new.reader
+    code_more c.args.doubles c.args.depth (view c.args.held) c.args.reader.now k l.reader s
+    c.read_scope-then-is_scope.new.reader
     read.ok.0
     (view l.code) (view l.code) l.is_code l.is_code old new l.invariant named read.ok.1 read.shorter
-    (scope_again l.is_code k read.ok.0 (view l.code) old new l.invariant.so_far same read.ok.2 l.invariant.shape)
+    (scope_again c.args.doubles l.is_code k read.ok.0 (view l.code) old new l.invariant.so_far same read.ok.2
+    l.invariant.shape)
 
 pub read_code-members-preserved : goal.read_code-members-preserved
 read_code-members-preserved t c =
@@ -150,13 +151,13 @@ read_code-members-preserved t c =
     let tree = view c.in_ok-code.code in
     let scope = option_map (λ d. option_map document_view d) l.scope in
     let other : bytes_eq k (codes "$scope") ≡ false = sym c.if-is_scope.ensures in
-    code_more c.args.depth (view c.args.held) c.args.reader.now k l.reader s c.read_tree.new.reader tree
+    code_more c.args.doubles c.args.depth (view c.args.held) c.args.reader.now k l.reader s c.read_tree.new.reader tree
     (view l.code) tree l.is_code (l.is_code && c.is_code_with_scope-is_code.result) scope scope l.invariant named
     read.ok
     read.shorter
-    (subst (λ b. IsCode (l.is_code && b) tree scope (put k tree l.invariant.so_far))
+    (subst (λ b. IsCode c.args.doubles (l.is_code && b) tree scope (put k tree l.invariant.so_far))
     (sym c.is_code_with_scope-is_code.ensures)
-    (code_again l.is_code k tree (view l.code) scope l.invariant.so_far other l.invariant.shape))
+    (code_again c.args.doubles l.is_code k tree (view l.code) scope l.invariant.so_far other l.invariant.shape))
 
 pub read_code-returns-then-not-is_code-clause-ok : goal.read_code-returns-then-not-is_code-clause-ok
 read_code-returns-then-not-is_code-clause-ok t c =
@@ -166,8 +167,8 @@ read_code-returns-then-not-is_code-clause-ok t c =
       l.invariant.so_far,
       l.invariant.all l.invariant.so_far c.next_key.new.self
           (no_more_members c.args.depth l.reader c.next_key.new.self l.invariant.so_far (grind arith)),
-      code_refused (view l.code) scope l.invariant.so_far
-          (subst (λ b. IsCode b (view l.code) scope l.invariant.so_far) no l.invariant.shape),
+      code_refused c.args.doubles (view l.code) scope l.invariant.so_far
+          (subst (λ b. IsCode c.args.doubles b (view l.code) scope l.invariant.so_far) no l.invariant.shape),
     )
 
 pub read_code-returns-clause-ok : goal.read_code-returns-clause-ok
@@ -178,8 +179,8 @@ read_code-returns-clause-ok t c =
       l.invariant.so_far,
       l.invariant.all l.invariant.so_far c.next_key.new.self
           (no_more_members c.args.depth l.reader c.next_key.new.self l.invariant.so_far (grind arith)),
-      code_read (view l.code) scope l.invariant.so_far
-          (subst (λ b. IsCode b (view l.code) scope l.invariant.so_far) yes l.invariant.shape)
+      code_read c.args.doubles (view l.code) scope l.invariant.so_far
+          (subst (λ b. IsCode c.args.doubles b (view l.code) scope l.invariant.so_far) yes l.invariant.shape)
           ∙ sym c.coded.ensures,
     )
 
@@ -208,9 +209,11 @@ read_wrapped-returns-in_ok-meant-in-None-clause-ok t c =
     let d = view c.in_ok-held.held in
     let ended : read_key s ≡ Some (None, rest) = grind arith in
     let wrapper : is_some (wrapper_of k) ≡ true = grind arith in
-    alone c.args.depth k c.args.reader.now s rest d (option_map bson_view c.in_ok-meant-in-None.field-0) held.ok
+    alone c.args.doubles c.args.depth k c.args.reader.now s rest d
+    (option_map bson_view c.in_ok-meant-in-None.field-0) held.ok
     held.shorter ended wrapper
-    (c.in_ok-meant-in-None.ensures (scalar_value (single_at (wrapper_of k) d)) c.single_value.ensures.given)
+    (c.in_ok-meant-in-None.ensures (scalar_value (single_at_in c.args.doubles (wrapper_of k) d))
+    c.single_value.ensures.given)
 
 pub read_wrapped-returns-then-is_code_with_scope-clause-ok : goal.read_wrapped-returns-then-is_code_with_scope-clause-ok
 read_wrapped-returns-then-is_code_with_scope-clause-ok t c =
@@ -224,9 +227,12 @@ read_wrapped-returns-then-is_code_with_scope-clause-ok t c =
     let named : read_key s ≡ Some (Some l, us) = grind arith in
     let keys = code_keys k l (sym c.if-is_code_with_scope.ensures) in
     if_ok c.read_code.result c.read_code.ensures.ok (λ v m.
-    second c.args.depth k l c.args.reader.now s us rest d (option_map bson_view v) held.ok held.shorter named
-    (subst (λ x. ObjectReads c.args.depth (put x d no_members) l us (option_map bson_view v) rest) (sym keys.0)
-    (subst (λ y. ObjectReads c.args.depth (put (codes "$code") d no_members) y us (option_map bson_view v) rest)
+    second c.args.doubles c.args.depth k l c.args.reader.now s us rest d (option_map bson_view v) held.ok held.shorter
+    named
+    (subst (λ x. ObjectReads c.args.doubles c.args.depth (put x d no_members) l us (option_map bson_view v) rest)
+    (sym keys.0)
+    (subst (λ y. ObjectReads c.args.doubles c.args.depth (put (codes "$code") d no_members) y us
+    (option_map bson_view v) rest)
     (sym keys.1) m)))
 
 pub read_wrapped-returns-then-is_code_with_scope-clause-broken :
@@ -263,8 +269,10 @@ read_wrapped-returns-in_ok-found-in-Some-clause-ok t c =
     let held = c.in_ok-held.ensures in
     let named : read_key s ≡ Some (Some l, us) = grind arith in
     if_ok c.read_small.result c.read_small.ensures.ok (λ v m.
-    second c.args.depth k l c.args.reader.now s us rest d (option_map bson_view v) held.ok held.shorter named
-    (subst (λ ms. ObjectReads c.args.depth ms l us (option_map bson_view v) rest) c.in_ok-found-in-Some.ensures m))
+    second c.args.doubles c.args.depth k l c.args.reader.now s us rest d (option_map bson_view v) held.ok held.shorter
+    named
+    (subst (λ ms. ObjectReads c.args.doubles c.args.depth ms l us (option_map bson_view v) rest)
+    c.in_ok-found-in-Some.ensures m))
 
 pub read_wrapped-returns-in_ok-found-in-Some-clause-broken : goal.read_wrapped-returns-in_ok-found-in-Some-clause-broken
 read_wrapped-returns-in_ok-found-in-Some-clause-broken t c =
@@ -298,7 +306,8 @@ read_scope-returns-in_ok-read_begun-in_default t c =
       ok = (
         read.ok.0,
         tree,
-        other_scope c.args.depth c.in_ok-token.token c.args.reader.now c.next.new.self c.read_begun.new.reader
+        other_scope c.args.doubles c.args.depth c.in_ok-token.token c.args.reader.now c.next.new.self
+            c.read_begun.new.reader
             read.ok.0 first c.in_default.not-BeginObject c.in_default.not-Null tree,
       );
       broken = tt;

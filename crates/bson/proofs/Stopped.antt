@@ -1,0 +1,41 @@
+-- Where finite doubles are written, nothing but want of memory stops a writer.
+use Rattle.std.proofs.Common.{◌≡◌, true, Result, Ok, Err, List, sym, ap, ◌∙◌}
+use Rattle.std.specs.Prelude.{IfErr, is_ok}
+use Rattle.json.specs.Token.{Token}
+use Rattle.serde_json.specs.Data.{Data}
+use Rattle.bson_wrapper.specs.Normal.{writable_scalar_in}
+use Rattle.bson_wrapper.specs.Scalar.{Scalar}
+use Rattle.bson_wrapper.specs.Tokens.{Puts}
+use Rattle.bson_wrapper.specs.Written.{Stops, Writes, writes_scalar_in}
+use Rattle.bson_wrapper.specs.declared.form.Doubles.{Doubles}
+use Rattle.bson_wrapper.specs.declared.form.Doubles.TheVariants.{Special, Finite}
+use Rattle.bson_wrapper.specs.declared.form.Form.{Form}
+use Rattle.bson_wrapper.specs.declared.write_error.WriteError.{WriteError}
+use Rattle.bson_wrapper.specs.declared.write_error.WriteError.TheVariants.{FiniteDouble, OutOfMemory}
+use Rattle.bson_wrapper.proofs.Offered.{writable_is}
+use Rattle.bson.specs.Texts.{MayStop}
+
+-- a scalar that has a text where finite doubles are written stops no writer there
+stopped : (D : Doubles) (f : Form) (x : Scalar) (e : WriteError) → writable_scalar_in Finite x ≡ true
+    → Stops e (writes_scalar_in D f x) → MayStop D e
+stopped D f x OutOfMemory some h = tt
+stopped Special f x FiniteDouble some h = tt
+stopped Finite f x FiniteDouble some h =
+    let is = sym (ap is_ok h) ∙ writable_is Finite f x ∙ some in cc
+
+pub written_stopped : (D : Doubles) (f : Form) (x : Scalar) {X : Type 0} (see : X → Data) (r : Result X WriteError)
+    → writable_scalar_in Finite x ≡ true → Writes see r (writes_scalar_in D f x) → IfErr r (MayStop D)
+written_stopped D f x see (Ok t) some h = tt
+written_stopped D f x see (Err e) some h = stopped D f x e some h
+
+pub put_stopped : (D : Doubles) (f : Form) (x : Scalar) (old new : List Token) (r : Result (Unit {0}) WriteError)
+    → writable_scalar_in Finite x ≡ true → Puts r (writes_scalar_in D f x) old new → IfErr r (MayStop D)
+put_stopped D f x old new (Ok done) some h = tt
+put_stopped D f x old new (Err e) some h = stopped D f x e some h
+
+pub never_finite : (D : Doubles) {X : Type 0} (r : Result X WriteError) → IfErr r (MayStop D) → D ≡ Finite
+    → r ≡ Err FiniteDouble → ⊥
+never_finite D (Ok t) h finite is = cc
+never_finite D (Err OutOfMemory) h finite is = cc
+never_finite Special (Err FiniteDouble) h finite is = cc
+never_finite Finite (Err FiniteDouble) h finite is = h

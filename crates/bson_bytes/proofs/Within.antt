@@ -1,0 +1,266 @@
+-- What was read leaves no more bytes than there were, and a fault stands in those bytes or at their end.
+use Rattle.std.proofs.Common.{◌≡◌, ℕ, zero, suc, ◌+◌, ◌-◌, ◌^◌, ◌≤◌, Bool, true, false, cond, ltb, eqb, List, [], ◌∷◌, length}
+use Rattle.std.proofs.Common.{take, drop, Option, Some, None, Result, Ok, Err, refl, subst, ap, arith}
+use Rattle.std.specs.Int.{Width, w32, w64, byte_len, from_le_bytes, cast_signed}
+use Rattle.std.specs.Str.{is_utf8}
+use Rattle.std.proofs.lemmas.List.{length-append, length-drop}
+use Rattle.bson_scalar.specs.declared.spec.ElementType.{ElementType}
+use Rattle.bson_scalar.specs.declared.spec.ElementType.TheVariants as tag
+use Rattle.bson_scalar.specs.Subtype.{subtype_of}
+use Rattle.bson_wrapper.specs.Scalar as kind
+use Rattle.bson_model.specs.Value.{Value, Pairs, no_pairs, pair, scalar, code_scope, array, document}
+use Rattle.bson_bytes.specs.declared.fault.Fault.{Fault}
+use Rattle.bson_bytes.specs.declared.fault.FaultKind.{FaultKind}
+use Rattle.bson_bytes.specs.declared.fault.FaultKind.TheVariants.{Short, Length, Tag, Utf8, Boolean, End}
+use Rattle.bson_bytes.specs.declared.fault.FaultKind.TheVariants.{Trailing}
+use Rattle.bson_bytes.specs.Fault.{at, ◌>>=◌, or_fault}
+use Rattle.bson_bytes.specs.Grammar.{settle, values}
+use Rattle.bson_bytes.specs.Reading.{byte_at, bytes_at, number_at, size_at, zero_at, split_zero, utf8_at, name_at}
+use Rattle.bson_bytes.specs.Reading.{text_at, old_binary_at, plain_binary_at, binary_at, boolean_at, regex_at}
+use Rattle.bson_bytes.specs.Reading.{pointer_at, timestamp_at, mapped, settled, scope_at, value_with, list_at, sized}
+use Rattle.bson_bytes.specs.Reading.{document_at, reads}
+use Rattle.bson_bytes.specs.Tags.{kind_of}
+use Rattle.bson_bytes.proofs.PartLaws.{split_takes}
+
+-- no more than n by size is left, or the fault stands at most n before the end
+abbrev pub Within : {A : Type 0} → (A → ℕ) → ℕ → Result A Fault → Type 0
+Within size n (Ok x) = size x ≤ n
+Within size n (Err f) = f.left ≤ n
+
+abbrev pub left_by : {A : Type 0} → A × List ℕ → ℕ
+left_by x = length x.1
+
+abbrev pub none : {A : Type 0} → A → ℕ
+none x = 0
+
+-- ---- steps
+
+step : {A B : Type 0} (size : A → ℕ) (goal : B → ℕ) (n : ℕ) (r : Result A Fault) (f : A → Result B Fault)
+    → Within size n r → ((x : A) → size x ≤ n → Within goal n (f x)) → Within goal n (r >>= f)
+step size goal n (Ok x) f h g = g x h
+step size goal n (Err e) f h g = h
+
+either_way : {A : Type 0} (size : A → ℕ) (n : ℕ) (b : Bool) (r q : Result A Fault) → Within size n r
+    → Within size n q → Within size n (cond b r q)
+either_way size n true r q h g = h
+either_way size n false r q h g = g
+
+-- what was read, by f
+onto : {A B : Type 0} (n : ℕ) (r : Result (A × List ℕ) Fault) (f : A → B) → Within left_by n r
+    → Within left_by n (r >>= λ x. Ok (f x.0, x.1))
+onto n (Ok x) f h = h
+onto n (Err e) f h = h
+
+or_within : {A : Type 0} (size : A → ℕ) (n : ℕ) (o : Option A) (w : FaultKind) (bytes : List ℕ) → length bytes ≤ n
+    → ((x : A) → o ≡ Some x → size x ≤ n) → Within size n (or_fault o w bytes)
+or_within size n (Some x) w bytes le h = h x refl
+or_within size n None w bytes le h = le
+
+-- ---- parts
+
+byte_within : (n : ℕ) (bytes : List ℕ) → length bytes ≤ n → Within left_by n (byte_at bytes)
+byte_within n [] le = le
+byte_within n (b ∷ bytes) le = omega (arith, le)
+
+bytes_within : (n k : ℕ) (bytes : List ℕ) → length bytes ≤ n → Within left_by n (bytes_at k bytes)
+bytes_within n k bytes le =
+    either_way left_by n (ltb (length bytes) k) (Err (at Short bytes)) (Ok (take k bytes, drop k bytes)) le
+    (omega (arith, le, length-drop k bytes))
+
+number_within : (n : ℕ) (w : Width) (bytes : List ℕ) → length bytes ≤ n → Within left_by n (number_at w bytes)
+number_within n w bytes le =
+    either_way left_by n (ltb (length bytes) (byte_len w)) (Err (at Short bytes))
+    (Ok (from_le_bytes w (take (byte_len w) bytes), drop (byte_len w) bytes)) le
+    (omega (arith, le, length-drop (byte_len w) bytes))
+
+size_within : (n : ℕ) (bytes : List ℕ) → length bytes ≤ n → Within left_by n (size_at bytes)
+unfolding size_at
+size_within n bytes le =
+    step left_by left_by n (number_at w32 bytes) (λ k. cond (ltb k.0 (2 ^ 31)) (Ok k) (Err (at Length bytes)))
+    (number_within n w32 bytes le)
+    (λ k h. either_way left_by n (ltb k.0 (2 ^ 31)) (Ok k) (Err (at Length bytes)) h le)
+
+zero_within : (n : ℕ) (bytes : List ℕ) → length bytes ≤ n → Within length n (zero_at bytes)
+zero_within n [] le = le
+zero_within n (b ∷ bytes) le =
+    either_way length n (eqb b 0) (Ok bytes) (Err (at End (b ∷ bytes))) (omega (arith, le)) le
+
+utf8_within : (n : ℕ) (s bytes : List ℕ) → length bytes ≤ n → Within none n (utf8_at s bytes)
+utf8_within n s bytes le = either_way none n (is_utf8 s) (Ok s) (Err (at Utf8 bytes)) (omega arith) le
+
+split_shorter : (bytes : List ℕ) (p : List ℕ × List ℕ) → split_zero bytes ≡ Some p → length p.1 ≤ length bytes
+split_shorter bytes p e =
+    omega (arith, ap length (split_takes bytes p.0 p.1 e).1, length-append p.0 (0 ∷ p.1))
+
+name_within : (n : ℕ) (bytes : List ℕ) → length bytes ≤ n → Within left_by n (name_at bytes)
+unfolding name_at
+name_within n bytes le =
+    step left_by left_by n (or_fault (split_zero bytes) Short bytes) (λ p. utf8_at p.0 bytes >>= λ s. Ok (s, p.1))
+    (or_within left_by n (split_zero bytes) Short bytes le (λ p e. omega (arith, le, split_shorter bytes p e)))
+    (λ p h. step none left_by n (utf8_at p.0 bytes) (λ s. Ok (s, p.1)) (utf8_within n p.0 bytes le) (λ s i. h))
+
+text_within : (n : ℕ) (bytes : List ℕ) → length bytes ≤ n → Within left_by n (text_at bytes)
+unfolding text_at
+text_within n bytes le =
+    let held = λ (k : ℕ × List ℕ).
+    bytes_at (k.0 - 1) k.1 >>= λ s. zero_at s.1 >>= λ rest. utf8_at s.0 k.1 >>= λ t. Ok (t, rest) in
+    step left_by left_by n (size_at bytes) (λ k. cond (eqb k.0 0) (Err (at Length bytes)) (held k)) (size_within n bytes le)
+    (λ k h. either_way left_by n (eqb k.0 0) (Err (at Length bytes)) (held k) le
+    (step left_by left_by n (bytes_at (k.0 - 1) k.1)
+    (λ s. zero_at s.1 >>= λ rest. utf8_at s.0 k.1 >>= λ t. Ok (t, rest)) (bytes_within n (k.0 - 1) k.1 h)
+    (λ s i. step length left_by n (zero_at s.1) (λ rest. utf8_at s.0 k.1 >>= λ t. Ok (t, rest)) (zero_within n s.1 i)
+    (λ rest j. step none left_by n (utf8_at s.0 k.1) (λ t. Ok (t, rest)) (utf8_within n s.0 k.1 h) (λ t u. j)))))
+
+-- ---- values of several parts
+
+old_binary_within : (n size : ℕ) (bytes : List ℕ) → length bytes ≤ n → Within left_by n (old_binary_at size bytes)
+old_binary_within n size bytes le =
+    let held = λ (k : ℕ × List ℕ). bytes_at k.0 k.1 >>= λ s. Ok (scalar (kind.binary (subtype_of 2) s.0), s.1) in
+    step left_by left_by n (size_at bytes) (λ k. cond (eqb (k.0 + 4) size) (held k) (Err (at Length bytes)))
+    (size_within n bytes le)
+    (λ k h. either_way left_by n (eqb (k.0 + 4) size) (held k) (Err (at Length bytes))
+    (onto n (bytes_at k.0 k.1) (λ s. scalar (kind.binary (subtype_of 2) s)) (bytes_within n k.0 k.1 h)) le)
+
+binary_within : (n : ℕ) (bytes : List ℕ) → length bytes ≤ n → Within left_by n (binary_at bytes)
+unfolding binary_at
+binary_within n bytes le =
+    let held = λ (k b : ℕ × List ℕ). cond (eqb b.0 2) (old_binary_at k.0 b.1) (plain_binary_at b.0 k.0 b.1) in
+    step left_by left_by n (size_at bytes) (λ k. byte_at k.1 >>= held k) (size_within n bytes le)
+    (λ k h. step left_by left_by n (byte_at k.1) (held k) (byte_within n k.1 h)
+    (λ b i. either_way left_by n (eqb b.0 2) (old_binary_at k.0 b.1) (plain_binary_at b.0 k.0 b.1)
+    (old_binary_within n k.0 b.1 i)
+    (onto n (bytes_at k.0 b.1) (λ s. scalar (kind.binary (subtype_of b.0) s)) (bytes_within n k.0 b.1 i))))
+
+boolean_within : (n : ℕ) (bytes : List ℕ) → length bytes ≤ n → Within left_by n (boolean_at bytes)
+unfolding boolean_at
+boolean_within n bytes le =
+    let yes = λ (b : ℕ × List ℕ). cond (eqb b.0 1) (Ok (scalar (kind.boolean true), b.1)) (Err (at Boolean bytes)) in
+    step left_by left_by n (byte_at bytes) (λ b. cond (eqb b.0 0) (Ok (scalar (kind.boolean false), b.1)) (yes b))
+    (byte_within n bytes le)
+    (λ b h. either_way left_by n (eqb b.0 0) (Ok (scalar (kind.boolean false), b.1)) (yes b) h
+    (either_way left_by n (eqb b.0 1) (Ok (scalar (kind.boolean true), b.1)) (Err (at Boolean bytes)) h le))
+
+regex_within : (n : ℕ) (bytes : List ℕ) → length bytes ≤ n → Within left_by n (regex_at bytes)
+unfolding regex_at
+regex_within n bytes le =
+    step left_by left_by n (name_at bytes) (λ p. name_at p.1 >>= λ o. Ok (scalar (kind.regex p.0 o.0), o.1))
+    (name_within n bytes le) (λ p h. onto n (name_at p.1) (λ o. scalar (kind.regex p.0 o)) (name_within n p.1 h))
+
+pointer_within : (n : ℕ) (bytes : List ℕ) → length bytes ≤ n → Within left_by n (pointer_at bytes)
+unfolding pointer_at
+pointer_within n bytes le =
+    step left_by left_by n (text_at bytes) (λ s. bytes_at 12 s.1 >>= λ id. Ok (scalar (kind.db_pointer s.0 id.0), id.1))
+    (text_within n bytes le)
+    (λ s h. onto n (bytes_at 12 s.1) (λ id. scalar (kind.db_pointer s.0 id)) (bytes_within n 12 s.1 h))
+
+timestamp_within : (n : ℕ) (bytes : List ℕ) → length bytes ≤ n → Within left_by n (timestamp_at bytes)
+unfolding timestamp_at
+timestamp_within n bytes le =
+    step left_by left_by n (number_at w32 bytes) (λ i. number_at w32 i.1 >>= λ t. Ok (scalar (kind.timestamp t.0 i.0), t.1))
+    (number_within n w32 bytes le)
+    (λ i h. onto n (number_at w32 i.1) (λ t. scalar (kind.timestamp t i.0)) (number_within n w32 i.1 h))
+
+-- ---- documents
+
+abbrev DocumentWithin : ℕ → Type 0
+DocumentWithin d = (n : ℕ) (bytes : List ℕ) → length bytes ≤ n → Within left_by n (document_at d bytes)
+
+scope_within : (d : ℕ) → DocumentWithin d → (n : ℕ) (bytes : List ℕ) → length bytes ≤ n
+    → Within left_by n (scope_at (document_at d) bytes)
+unfolding scope_at
+scope_within d doc n bytes le =
+    let held = λ (k : ℕ × List ℕ) (s : List ℕ × List ℕ) (x : Pairs × List ℕ).
+    cond (eqb (k.0 + length x.1) (length bytes)) (Ok (code_scope s.0 x.0, x.1)) (Err (at Length bytes)) in
+    step left_by left_by n (size_at bytes) (λ k. text_at k.1 >>= λ s. settled no_pairs (document_at d s.1) >>= held k s)
+    (size_within n bytes le)
+    (λ k h. step left_by left_by n (text_at k.1) (λ s. settled no_pairs (document_at d s.1) >>= held k s)
+    (text_within n k.1 h)
+    (λ s i. step left_by left_by n (settled no_pairs (document_at d s.1)) (held k s)
+    (onto n (document_at d s.1) (settle no_pairs) (doc n s.1 i))
+    (λ x j. either_way left_by n (eqb (k.0 + length x.1) (length bytes)) (Ok (code_scope s.0 x.0, x.1))
+    (Err (at Length bytes)) j le)))
+
+value_within : (d : ℕ) → DocumentWithin d → (t : ElementType) (n : ℕ) (bytes : List ℕ) → length bytes ≤ n
+    → Within left_by n (value_with (document_at d) t bytes)
+unfolding value_with
+value_within d doc tag.Double n bytes le =
+    onto n (number_at w64 bytes) (λ k. scalar (kind.double k)) (number_within n w64 bytes le)
+value_within d doc tag.String n bytes le = onto n (text_at bytes) (λ s. scalar (kind.text s)) (text_within n bytes le)
+value_within d doc tag.EmbeddedDocument n bytes le =
+    onto n (settled no_pairs (document_at d bytes)) (λ ps. document ps)
+    (onto n (document_at d bytes) (settle no_pairs) (doc n bytes le))
+value_within d doc tag.Array n bytes le =
+    onto n (mapped values (document_at d bytes)) (λ vs. array vs) (onto n (document_at d bytes) values (doc n bytes le))
+value_within d doc tag.Binary n bytes le = binary_within n bytes le
+value_within d doc tag.Undefined n bytes le = le
+value_within d doc tag.ObjectId n bytes le =
+    onto n (bytes_at 12 bytes) (λ s. scalar (kind.object_id s)) (bytes_within n 12 bytes le)
+value_within d doc tag.Boolean n bytes le = boolean_within n bytes le
+value_within d doc tag.DateTime n bytes le =
+    onto n (number_at w64 bytes) (λ k. scalar (kind.date (cast_signed w64 k))) (number_within n w64 bytes le)
+value_within d doc tag.Null n bytes le = le
+value_within d doc tag.RegularExpression n bytes le = regex_within n bytes le
+value_within d doc tag.DbPointer n bytes le = pointer_within n bytes le
+value_within d doc tag.JavaScriptCode n bytes le =
+    onto n (text_at bytes) (λ s. scalar (kind.code s)) (text_within n bytes le)
+value_within d doc tag.Symbol n bytes le = onto n (text_at bytes) (λ s. scalar (kind.symbol s)) (text_within n bytes le)
+value_within d doc tag.JavaScriptCodeWithScope n bytes le = scope_within d doc n bytes le
+value_within d doc tag.Int32 n bytes le =
+    onto n (number_at w32 bytes) (λ k. scalar (kind.int32 (cast_signed w32 k))) (number_within n w32 bytes le)
+value_within d doc tag.Timestamp n bytes le = timestamp_within n bytes le
+value_within d doc tag.Int64 n bytes le =
+    onto n (number_at w64 bytes) (λ k. scalar (kind.int64 (cast_signed w64 k))) (number_within n w64 bytes le)
+value_within d doc tag.Decimal128 n bytes le =
+    onto n (bytes_at 16 bytes) (λ s. scalar (kind.decimal s)) (bytes_within n 16 bytes le)
+value_within d doc tag.MaxKey n bytes le = le
+value_within d doc tag.MinKey n bytes le = le
+
+list_within : (d : ℕ) → DocumentWithin d → (m n : ℕ) (bytes : List ℕ) → length bytes ≤ n
+    → Within left_by n (list_at (value_with (document_at d)) m bytes)
+unfolding list_at
+list_within d doc zero n bytes le = le
+list_within d doc (suc m) n bytes le =
+    let element = value_with (document_at d) in
+    let others = λ (s : List ℕ × List ℕ) (v : Value × List ℕ).
+    list_at element m v.1 >>= λ x. Ok (pair s.0 v.0 x.0, x.1) in
+    let named = λ (t : ℕ × List ℕ) (k : ElementType). name_at t.1 >>= λ s. element k s.1 >>= others s in
+    let typed = λ (t : ℕ × List ℕ). or_fault (kind_of t.0) Tag bytes >>= named t in
+    step left_by left_by n (byte_at bytes) (λ t. cond (eqb t.0 0) (Ok (no_pairs, t.1)) (typed t)) (byte_within n bytes le)
+    (λ t h. either_way left_by n (eqb t.0 0) (Ok (no_pairs, t.1)) (typed t) h
+    (step none left_by n (or_fault (kind_of t.0) Tag bytes) (named t)
+    (or_within none n (kind_of t.0) Tag bytes le (λ k e. omega arith))
+    (λ k z. step left_by left_by n (name_at t.1) (λ s. element k s.1 >>= others s) (name_within n t.1 h)
+    (λ s i. step left_by left_by n (element k s.1) (others s) (value_within d doc k n s.1 i)
+    (λ v j. onto n (list_at element m v.1) (λ ps. pair s.0 v.0 ps) (list_within d doc m n v.1 j))))))
+
+pub document_within : (d n : ℕ) (bytes : List ℕ) → length bytes ≤ n → Within left_by n (document_at d bytes)
+unfolding document_at
+document_within zero n bytes le = le
+document_within (suc d) n bytes le =
+    let element = value_with (document_at d) in
+    step left_by left_by n (size_at bytes) (λ k. list_at element (length k.1) k.1 >>= sized k.0 bytes) (size_within n bytes le)
+    (λ k h. step left_by left_by n (list_at element (length k.1) k.1) (sized k.0 bytes)
+    (list_within d (document_within d) (length k.1) n k.1 h)
+    (λ x i. either_way left_by n (eqb (k.0 + length x.1) (length bytes)) (Ok x) (Err (at Length bytes)) i le))
+
+settled_within : (d : ℕ) (bytes : List ℕ) → Within left_by (length bytes) (settled no_pairs (document_at d bytes))
+settled_within d bytes =
+    onto (length bytes) (document_at d bytes) (settle no_pairs) (document_within d (length bytes) bytes (omega arith))
+
+-- ---- the place of a fault
+
+placed : {A : Type 0} (size : A → ℕ) (n : ℕ) (r : Result A Fault) (f : Fault) → Within size n r → r ≡ Err f → f.left ≤ n
+placed size n r f h e = subst (Within size n) e h
+
+pub front_fault : (d : ℕ) (bytes : List ℕ) (f : Fault) → settled no_pairs (document_at d bytes) ≡ Err f
+    → f.left ≤ length bytes
+front_fault d bytes f e = placed left_by (length bytes) (settled no_pairs (document_at d bytes)) f (settled_within d bytes) e
+
+pub fault_stands : (d : ℕ) (bytes : List ℕ) (f : Fault) → reads d bytes ≡ Err f → f.left ≤ length bytes
+unfolding reads
+fault_stands d bytes f e =
+    let n = length bytes in
+    let test = λ (x : Pairs × List ℕ). cond (eqb (length x.1) 0) (Ok x.0) (Err (at Trailing x.1)) in
+    placed none n (settled no_pairs (document_at d bytes) >>= test) f
+    (step left_by none n (settled no_pairs (document_at d bytes)) test (settled_within d bytes)
+    (λ x h. either_way none n (eqb (length x.1) 0) (Ok x.0) (Err (at Trailing x.1)) (omega arith) h)) e

@@ -1,0 +1,63 @@
+-- What reading a document from a reader takes, and writing one to a writer does.
+use Rattle.std.specs.Prelude.{◌≡◌, ℕ, List, ◌++◌, Option, Result, Ok, Err, length, cond, nat_lt}
+use Rattle.std.specs.Io.{StartsWith}
+use Rattle.std.specs.Io.KnownBytes.{Appends, Consumes, Keeps}
+use Rattle.bson_model.specs.Value.{Pairs}
+use Rattle.bson_bytes.specs.declared.fault.Fault.{Fault}
+use Rattle.bson_bytes.specs.Reading.{reads, size_at}
+use Rattle.bson_bytes.specs.Writing.{document_bytes, FitsDocument}
+use Rattle.bson_codec.specs.Errors.{IsPlacedFault}
+use Rattle.bson_codec.specs.Writing.{IsRefusal}
+use Rattle.bson_codec.specs.declared.ser.Error.TheVariants as errors
+use Rattle.bson_codec.specs.declared.stream.ReaderError.{ReaderError}
+use Rattle.bson_codec.specs.declared.stream.ReaderError.TheVariants as read_errors
+use Rattle.bson_codec.specs.declared.stream.WriterError.{WriterError}
+use Rattle.bson_codec.specs.declared.stream.WriterError.TheVariants as write_errors
+
+-- a beginning of the bytes was written
+pub record WritesBeginning (had holds : Option (List ℕ)) (bytes : List ℕ) : Type 0 where
+  pub beginning : List ℕ
+  pub starts : StartsWith bytes beginning
+  pub written : Appends had holds beginning
+
+-- ---- reading
+
+-- the reader or memory is wanting
+abbrev pub IsHindrance : ReaderError → Type 0
+IsHindrance read_errors.CannotRead = Unit {0}
+IsHindrance read_errors.OutOfMemory = Unit {0}
+IsHindrance (read_errors.Malformed k n) = ⊥
+
+-- the fault is that of the bytes that were taken; or the reader or memory is wanting
+abbrev pub IsRefusedInput : ℕ → (before after : Option (List ℕ)) → ReaderError → Type 0
+IsRefusedInput d before after read_errors.CannotRead = Unit {0}
+IsRefusedInput d before after read_errors.OutOfMemory = Unit {0}
+IsRefusedInput d before after (read_errors.Malformed k n) =
+    (bytes : List ℕ) × Consumes before after bytes × IsPlacedFault k n bytes (reads d bytes)
+
+-- ---- writing
+
+-- the writer or memory is wanting
+abbrev pub IsKept : WriterError → Type 0
+IsKept write_errors.CannotWrite = Unit {0}
+IsKept (write_errors.NoBytes e) = e ≡ errors.OutOfMemory
+
+-- a document that has no bytes writes none; a writer that fails took a beginning
+abbrev pub IsUnwritten : WriterError → Pairs → (had holds : Option (List ℕ)) → Type 0
+IsUnwritten (write_errors.NoBytes e) ps had holds = IsRefusal e ps × Keeps had holds
+IsUnwritten write_errors.CannotWrite ps had holds = FitsDocument ps × WritesBeginning had holds (document_bytes ps)
+
+-- ---- for private clauses
+
+-- the bytes that were taken from the reader were added
+abbrev pub IsTaken : (before after : Option (List ℕ)) (old new : List ℕ) → Type 0
+IsTaken before after old new = (more : List ℕ) × (new ≡ old ++ more) × Consumes before after more
+
+-- the length, where it is more than the bytes have
+abbrev pub most : ℕ → Result (ℕ × List ℕ) Fault → ℕ
+most n (Ok x) = cond (nat_lt x.0 n) n x.0
+most n (Err f) = n
+
+-- how many bytes the document has that begins with these, no fewer than they are
+abbrev pub promised : List ℕ → ℕ
+promised bytes = most (length bytes) (size_at bytes)

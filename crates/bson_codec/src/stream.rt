@@ -1,0 +1,209 @@
+//! Documents from readers, and to writers.
+ghost use Rattle.std.specs.Prelude.{◌≡◌, ◌≤◌, ◌⊎◌, ℕ, List, [], Some, length, vec_len, IfOk, IfErr, OnOk};
+ghost use Rattle.std.specs.Io.KnownBytes.{Appends, Consumes, IsAtEnd};
+ghost use Rattle.bson_model.specs.Value.{Pairs};
+ghost use Rattle.bson_bytes.specs.Laws.{IsRead, IsFront};
+ghost use Rattle.bson_bytes.specs.Writing.{document_bytes, FitsDocument};
+ghost use Rattle.bson.specs.View.{document_view};
+ghost use Rattle.bson_codec.specs.Streams.{IsRefusedInput, IsHindrance, IsUnwritten, IsKept, IsTaken, WritesBeginning};
+ghost use Rattle.bson_codec.specs.Streams.{promised};
+ghost use Rattle.bson_codec.specs.declared.stream.ReaderError.TheVariants as read_errors;
+ghost use Rattle.bson_codec.specs.declared.stream.WriterError.TheVariants as write_errors;
+
+use crate::de::{Error, from_slice};
+use crate::ser;
+use crate::ser::to_vec;
+use bson::Document;
+use bson_bytes::fault::FaultKind;
+use bson_bytes::parts::size_at;
+use std::alloc::Global;
+use std::io::{Read, Write};
+
+/// As much as is asked of a reader at once.
+const BLOCK: usize = 65536;
+
+/// The length that begins a document.
+const LENGTH: usize = 4;
+
+/// Why a reader gives no document.
+///
+/// ```
+/// let mut input: &[u8] = b"\x06\0\0\0";
+/// if let Err(error) = from_reader(alloc, &mut input, DEPTH) {
+///     println!(rt; "{error}")?; // no BSON document, by the byte at 4
+/// }
+/// ```
+#[derive(Debug, Drop, thiserror::Error)]
+pub enum ReaderError {
+    /// The bytes that were read are no document of BSON 1.1, for their first fault.
+    #[error("no BSON document, by the byte at {offset}")]
+    Malformed {
+        /// What is wrong.
+        kind: FaultKind,
+        /// The number of bytes before its place.
+        offset: usize,
+    },
+
+    /// The reader failed.
+    #[error("cannot read")]
+    CannotRead,
+
+    /// A request for memory was refused.
+    #[error("out of memory")]
+    OutOfMemory,
+}
+
+/// Why a document was not written.
+///
+/// ```
+/// let mut document = Document::new(alloc);
+/// drop(document.insert(String::from_str(alloc, "a\0b")?, Bson::Null)?);
+/// let mut output = Vec::new(alloc);
+/// if let Err(error) = to_writer(alloc, &document, &mut output) {
+///     println!(rt; "{error}")?; // a key has a 0 byte in it
+/// }
+/// ```
+#[derive(Clone, Copy, Debug, Drop, PartialEq, Eq, thiserror::Error)]
+pub enum WriterError {
+    /// The document has no bytes, or a request for memory was refused.
+    #[error("{0}")]
+    NoBytes(ser::Error),
+
+    /// The writer failed, or took no byte.
+    #[error("cannot write")]
+    CannotWrite,
+}
+
+/// The document that stands at the front of what the reader has, as [`from_slice`] reads it. No
+/// byte behind the document is taken from the reader.
+///
+/// The length is read first, then as many bytes as it says, in pieces as they come: memory is that
+/// of the bytes that came, whatever the length says. A reader that ends before is the fault of
+/// what came. Any error of the reader, Interrupted too, is `CannotRead`; at each error the reader
+/// may have been read from.
+pub fn from_reader<R: Read>(
+    alloc: Global,
+    reader: &mut R,
+    depth: usize,
+) -> Result<Document, ReaderError>
+    // What was taken from the reader is in the grammar.
+    ensures ok { IfOk result (λ d. (bytes : List ℕ) × Consumes (R.remaining reader.old) (R.remaining reader.new) bytes
+        × IsRead depth bytes (document_view d)) }
+    // What is in the grammar at the front is read as its one document, and nothing else is taken.
+    ensures only { (all : List ℕ) (ps : Pairs) (rest : List ℕ) → R.remaining reader.old ≡ Some all
+        → IsFront depth all ps rest → IfErr result (λ e. IsHindrance e) }
+    // Which fault it is of what was taken, and where.
+    ensures fault { IfErr result
+        (λ e. IsRefusedInput depth (R.remaining reader.old) (R.remaining reader.new) e) }
+{
+    let mut bytes = Vec::new(alloc);
+    take_document(reader, &mut bytes)?;
+    match from_slice(alloc, bytes.as_slice(), depth) {
+        Ok(document) => Ok(document),
+        Err(Error::Malformed { kind, offset }) => Err(ReaderError::Malformed { kind, offset }),
+        Err(Error::OutOfMemory) => Err(ReaderError::OutOfMemory),
+    }
+}
+
+/// Writes the bytes of the document, as [`to_vec`] gives them; a document that has none writes
+/// nothing. Any error of the writer, Interrupted too, is `CannotWrite`, and so is a write that
+/// takes no byte; then no more than a beginning was written.
+pub fn to_writer<W: Write>(
+    alloc: Global,
+    document: &Document,
+    writer: &mut W,
+) -> Result<(), WriterError>
+    // The canonical bytes, and each part fits.
+    ensures ok { OnOk result
+        (Appends (W.contents writer.old) (W.contents writer.new) (document_bytes (document_view document.now))) }
+    ensures fits { OnOk result (FitsDocument (document_view document.now)) }
+    // Where each part fits, memory or the writer is wanting.
+    ensures only { FitsDocument (document_view document.now) → IfErr result (λ e. IsKept e) }
+    // Why, and what was written.
+    ensures cause { IfErr result (λ e. IsUnwritten e (document_view document.now) (W.contents writer.old)
+        (W.contents writer.new)) }
+{
+    match to_vec(alloc, document) {
+        Ok(bytes) => write_whole(writer, bytes.as_slice()),
+        Err(error) => Err(WriterError::NoBytes(error)),
+    }
+}
+
+/// Takes a document, as long as its length says, or what came of it.
+pub(crate) fn take_document<R: Read>(reader: &mut R, bytes: &mut Vec<u8>) -> Result<(), ReaderError>
+    ensures taken { OnOk result (Consumes (R.remaining reader.old) (R.remaining reader.new) bytes.new.items) }
+    ensures front { (d : ℕ) (all : List ℕ) (ps : Pairs) (rest : List ℕ) → R.remaining reader.old ≡ Some all
+        → IsFront d all ps rest → OnOk result (IsRead d bytes.new.items ps) }
+    ensures end { OnOk result (bytes.new.items ≡ [] → IsAtEnd (R.remaining reader.new)) }
+    ensures some { (more : List ℕ) × Consumes (R.remaining reader.old) (R.remaining reader.new) more }
+    ensures fault { IfErr result (λ e. (e ≡ read_errors.CannotRead) ⊎ (e ≡ read_errors.OutOfMemory)) }
+{
+    bytes.clear();
+    fill(reader, bytes, LENGTH)?;
+    if bytes.len() < LENGTH {
+        return Ok(());
+    }
+    let size = promised(bytes.as_slice());
+    fill(reader, bytes, size)
+}
+
+// Takes bytes until there are `count` of them, or the reader has no more.
+fn fill<R: Read>(reader: &mut R, bytes: &mut Vec<u8>, count: usize) -> Result<(), ReaderError>
+    requires { vec_len bytes.old ≤ count }
+    ensures taken { OnOk result
+        (IsTaken (R.remaining reader.old) (R.remaining reader.new) bytes.old.items bytes.new.items) }
+    ensures end { OnOk result ((length bytes.new.items ≡ count) ⊎ IsAtEnd (R.remaining reader.new)) }
+    ensures bound { OnOk result (length bytes.new.items ≤ count) }
+    ensures some { (more : List ℕ) × Consumes (R.remaining reader.old) (R.remaining reader.new) more }
+    ensures fault { IfErr result (λ e. (e ≡ read_errors.CannotRead) ⊎ (e ≡ read_errors.OutOfMemory)) }
+{
+    let mut block = [0u8; BLOCK];
+    while bytes.len() < count {
+        let wanted = count - bytes.len();
+        let room = if wanted < BLOCK { wanted } else { BLOCK };
+        let piece = &mut block[..room];
+        let Ok(given) = reader.read(piece) else {
+            return Err(ReaderError::CannotRead);
+        };
+        if given == 0 {
+            return Ok(());
+        }
+        let Ok(()) = bytes.extend_from_slice(&piece[..given]) else {
+            return Err(ReaderError::OutOfMemory);
+        };
+    }
+    Ok(())
+}
+
+// How many bytes the document has that begins with these, no fewer than they are.
+fn promised(bytes: &[u8]) -> usize
+    ensures value { result ≡ promised bytes.now }
+    ensures least { length bytes.now ≤ result }
+{
+    match size_at(bytes) {
+        Ok((size, _)) => {
+            if size < bytes.len() {
+                bytes.len()
+            } else {
+                size
+            }
+        }
+        Err(_) => bytes.len(),
+    }
+}
+
+// Writes all bytes.
+pub(crate) fn write_whole<W: Write>(writer: &mut W, bytes: &[u8]) -> Result<(), WriterError>
+    ensures ok { OnOk result (Appends (W.contents writer.old) (W.contents writer.new) bytes.now) }
+    ensures cut { IfErr result (λ e. WritesBeginning (W.contents writer.old) (W.contents writer.new) bytes.now) }
+    ensures fault { IfErr result (λ e. e ≡ write_errors.CannotWrite) }
+{
+    let mut at = 0;
+    while at < bytes.len() {
+        match writer.write(&bytes[at..]) {
+            Ok(0) | Err(_) => return Err(WriterError::CannotWrite),
+            Ok(count) => at += count,
+        }
+    }
+    Ok(())
+}

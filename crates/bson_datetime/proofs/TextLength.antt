@@ -1,0 +1,44 @@
+-- How long the text of a moment is.
+use Rattle.std.proofs.Common.{◌≡◌, ℕ, ◌%◌, ◌≤◌, ◌==◌, inl, inr, arith, List, [], ◌++◌, length}
+use Rattle.std.proofs.Common.{length-append, ℤ, pos}
+use Rattle.std.specs.Prelude.{codes, if◌then◌else◌}
+use Rattle.std.proofs.lemmas.Bool.{cases_Bool}
+use Rattle.jiff.proofs.SpanFacts.{signed_arith}
+use Rattle.bson_datetime.specs.Moment.{Civil, IsRfcMillis}
+use Rattle.bson_datetime.specs.Displayed.{thousandths_text, rfc, rfc_text}
+use Rattle.bson_datetime.proofs.DisplayedLemmas.{civil_of-jiff}
+use Rattle.bson_datetime.proofs.MomentExists.{moment_at}
+use Rattle.bson_datetime.proofs.MomentLemmas.{moment-not_negative}
+
+thousandths_text-length : (n : ℕ) → length (thousandths_text n) ≤ 3
+thousandths_text-length n =
+    elim (cases_Bool (n % 100 == 0)) [
+      | inl a ↦ rw a (omega arith)
+      | inr a ↦ elim (cases_Bool (n % 10 == 0)) [
+        | inl b ↦ rw (a, b) (omega arith)
+        | inr b ↦ rw (a, b) (omega arith)
+      ]
+    ]
+
+-- the fraction of a second
+abbrev fraction : ℕ → List ℕ
+fraction n = if n == 0 then [] else codes "." ++ thousandths_text n
+
+fraction-length : (n : ℕ) → length (fraction n) ≤ 4
+fraction-length n =
+    elim (cases_Bool (n == 0)) [
+      | inl a ↦ rw a (omega arith)
+      | inr a ↦ rw a (omega (arith, thousandths_text-length n))
+    ]
+
+rfc_text-length : (c : Civil) (y : ℕ) → c.year ≡ pos y → length (rfc_text c) ≤ 24
+rfc_text-length c y year =
+    rw year (omega (arith, length-append (fraction c.millisecond) (codes "Z"), fraction-length c.millisecond))
+
+-- the text of a moment of the years 0000 to 9999 has at most 24 bytes
+pub rfc-length : (ms : ℤ) → IsRfcMillis ms → length (rfc ms) ≤ 24
+unfolding rfc
+rfc-length ms h =
+    let at = moment_at ms (omega (arith, signed_arith, h.0), h.1) in
+    let year = moment-not_negative ms at.0 at.1 h.0 in
+    rw (civil_of-jiff ms at.0 at.1) (rfc_text-length _ year.0 year.1)

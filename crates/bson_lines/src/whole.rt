@@ -1,0 +1,92 @@
+//! A run over one text, on any number of lines.
+use crate::order::Order;
+use bson_run::convert::convert_with;
+use bson_run::explain::explain;
+use bson_run::fault::Fault;
+use bson_run::mode::Mode;
+use bson_run::order::Task;
+use bson_run::refusal::Refusal;
+use serde_json::Value;
+use std::alloc::{AllocError, Global};
+use std::io::{Read, Write};
+
+/// Converts the one text that the reader has. A refusal has the line of what is no JSON, and no
+/// line (0) for any other fault.
+pub fn convert_whole<R: Read, W: Write>(
+    alloc: Global,
+    order: &Order,
+    reader: &mut R,
+    writer: &mut W,
+) -> Result<(), Refusal> {
+    let bytes = match read_all(alloc, reader) {
+        Ok(bytes) => bytes,
+        Err(fault) => return Err(told(alloc, fault, b"")),
+    };
+    match given(alloc, order, &bytes) {
+        Ok(output) => match writer.write_all(&output) {
+            Ok(()) => Ok(()),
+            Err(_) => Err(told(alloc, Fault::CannotWrite, b"")),
+        },
+        Err(fault) => Err(told(alloc, fault, &bytes)),
+    }
+}
+
+fn read_all<R: Read>(alloc: Global, reader: &mut R) -> Result<Vec<u8>, Fault> {
+    let mut bytes = Vec::new(alloc);
+    let mut block = [0u8; 65536];
+    for _ in 0..u64::MAX {
+        let Ok(count) = reader.read(&mut block) else {
+            return Err(Fault::CannotRead);
+        };
+        if count == 0 {
+            return Ok(bytes);
+        }
+        match bytes.extend_from_slice(&block[..count]) {
+            Ok(()) => {}
+            Err(_) => return Err(Fault::OutOfMemory),
+        }
+    }
+    Err(Fault::CannotRead)
+}
+
+// What is written of the text.
+fn given(alloc: Global, order: &Order, bytes: &[u8]) -> Result<Vec<u8>, Fault> {
+    let bytes = bytes.strip_prefix(b"\xef\xbb\xbf").unwrap_or(bytes);
+    match order.task {
+        Task::Write(mode) => convert_with(alloc, order.options, mode, bytes),
+        Task::Check => {
+            convert_with(alloc, order.options, Mode::Canonical, bytes)?;
+            Ok(Vec::new(alloc))
+        }
+    }
+}
+
+// Why the text was refused, and where.
+fn told(alloc: Global, fault: Fault, bytes: &[u8]) -> Refusal {
+    match placed(alloc, &fault, bytes) {
+        Ok((line, place)) => Refusal { line, fault, place },
+        Err(_) => Refusal {
+            line: 0,
+            fault: Fault::OutOfMemory,
+            place: String::new(alloc),
+        },
+    }
+}
+
+fn placed(alloc: Global, fault: &Fault, bytes: &[u8]) -> Result<(u64, String), AllocError> {
+    let bytes = bytes.strip_prefix(b"\xef\xbb\xbf").unwrap_or(bytes);
+    let line = match fault {
+        Fault::NotJson => line_of_fault(alloc, bytes)?,
+        _ => 0,
+    };
+    Ok((line, explain(alloc, fault, bytes)?))
+}
+
+// The line at which the bytes are no JSON, counted from 1.
+fn line_of_fault(alloc: Global, bytes: &[u8]) -> Result<u64, AllocError> {
+    match Value::from_slice(alloc, bytes) {
+        Ok(_) => Ok(0),
+        Err(error) if error.is_memory() => Err(AllocError),
+        Err(error) => Ok(error.line() as u64),
+    }
+}

@@ -1,0 +1,16 @@
+use Rattle.bson_model.proofs.Ascending.{is_sorted}
+use Rattle.bson_model.proofs.ComesBack.{read_comes_back}
+use Rattle.bson_model.proofs.MeansLaws.{means_from, means_to, means_one}
+use Rattle.bson_model.proofs.RangeLaws.{in_range}
+use Rattle.bson_model.proofs.ReadForm.{form}
+use Rattle.bson_model.proofs.laws.reading_in_each_mode.Goals as goal
+
+pub returns : goal.returns
+returns c = record {
+  one = means_one;
+  read = λ D t v. (means_from D t v, λ m. means_to D m);
+  form = λ D t v m. form D m;
+  ranged = λ D t v is m. in_range D m is;
+  ascends = λ D t v is m. is_sorted D m is;
+  back = read_comes_back;
+}

@@ -1,0 +1,17 @@
+pub mod Options
+pub mod Forgetting
+pub mod KeptTrees
+pub mod KeptTexts
+pub mod FirstPlaces
+pub mod Scalars
+pub mod Settled
+pub mod SortedKeys
+pub mod Forgets
+pub mod Complete
+pub mod MeansLaws
+pub mod ReadForm
+pub mod OneOrder
+pub mod WriteLaws
+pub mod OrderedTexts
+pub mod TextMeaning
+pub mod Offered

@@ -1,0 +1,79 @@
+//! BSON bytes to texts and texts to BSON bytes, told from the public contracts of `bson` and
+//! `bson_codec` alone.
+ghost use Rattle.std.specs.Prelude.{◌≡◌, ℕ, suc, IfOk, IfErr, true, string_bytes};
+ghost use Rattle.bson.specs.Form.TheVariants.{Canonical};
+ghost use Rattle.bson.specs.Normal.{writable};
+ghost use Rattle.bson.specs.TextMeaning.{HasTextMeaning};
+ghost use Rattle.bson.specs.Texts.{IsTextIn};
+ghost use Rattle.bson.specs.Value.{Pairs, document};
+ghost use Rattle.bson_codec.specs.Canonical.{document_bytes, as_written, NestsPairs};
+ghost use Rattle.bson_codec.specs.Laws.{IsRead};
+ghost use Rattle.bson_pairs.specs.Bytes.{IsWantOfMemory};
+
+use bson::Bson;
+use bson::extjson::WriteError;
+use bson::extjson::de::TextError;
+use bson_codec::{de, from_slice, ser, to_vec};
+use std::alloc::Global;
+
+/// Why bytes give no text.
+#[derive(Debug, Drop)]
+pub enum NoText {
+    /// They are no document.
+    NoDocument(de::Error),
+    /// The document has a finite double other than zero, and so no text.
+    FiniteDouble,
+    /// A request for memory was refused.
+    OutOfMemory,
+}
+
+/// The canonical text of the document that the bytes are.
+pub fn text_of_bytes(alloc: Global, bytes: &[u8], depth: usize) -> Result<String, NoText>
+    // It is the text of the one document that they are in the grammar.
+    ensures ok { IfOk result (λ text. (ps : Pairs) × IsRead depth bytes.now ps
+        × IsTextIn Canonical (document ps) (string_bytes text)) }
+    // Where they are a document with no finite double but zeros, memory alone is wanting.
+    ensures only { (ps : Pairs) → IsRead depth bytes.now ps → writable (document ps) ≡ true
+        → IfErr result (λ e. IsWantOfMemory e) }
+{
+    let document = match from_slice(alloc, bytes, depth) {
+        Ok(document) => document,
+        Err(error) => return Err(NoText::NoDocument(error)),
+    };
+    match Bson::Document(document).into_canonical_text(alloc) {
+        Ok(text) => Ok(text),
+        Err(WriteError::FiniteDouble) => Err(NoText::FiniteDouble),
+        Err(WriteError::OutOfMemory) => Err(NoText::OutOfMemory),
+    }
+}
+
+/// Why a text gives no bytes.
+#[derive(Debug, Drop)]
+pub enum NoBytes {
+    /// It means no value.
+    NoValue(TextError),
+    /// It means a value that is no document.
+    NoDocument,
+    /// The document has no bytes.
+    NoBytes(ser::Error),
+}
+
+/// The bytes of the document that the text means.
+pub fn bytes_of_text(alloc: Global, text: &[u8]) -> Result<Vec<u8>, NoBytes>
+    // They are the canonical bytes of a document that the text means, and are read back as it.
+    ensures ok { IfOk result (λ out. (ps : Pairs) × HasTextMeaning text.now (document ps)
+        × (out.items ≡ document_bytes ps)
+        × ((d : ℕ) → NestsPairs ps d → IsRead (suc d) out.items (as_written ps))) }
+{
+    let value = match Bson::try_from_text(alloc, text) {
+        Ok(value) => value,
+        Err(error) => return Err(NoBytes::NoValue(error)),
+    };
+    let Bson::Document(document) = value else {
+        return Err(NoBytes::NoDocument);
+    };
+    match to_vec(alloc, &document) {
+        Ok(bytes) => Ok(bytes),
+        Err(error) => Err(NoBytes::NoBytes(error)),
+    }
+}

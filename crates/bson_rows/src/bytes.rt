@@ -1,0 +1,129 @@
+//! `bytes CALL ARGS`: documents from BSON bytes and to them.
+use crate::answer::Answer;
+use crate::held::document;
+use crate::stop::{Outcome, Stop};
+use crate::words::{bytes_of, cut, number};
+use bson::Document;
+use bson_codec::de::{DEPTH, Result as Read, is_canonical, is_document};
+use bson_codec::documents::{RunFault, run_documents};
+use bson_codec::ser::Result as Written;
+use bson_codec::stream::{from_reader, to_writer};
+use bson_codec::{from_slice, front, to_vec};
+use std::alloc::Global;
+
+/// Of a writer, so that it takes no memory.
+const ROOM: usize = 4096;
+
+/// `bytes read BYTES`, `bytes nested DEPTH BYTES`, `bytes front BYTES`, `bytes again BYTES`, `bytes
+/// check BYTES`, `bytes canonical BYTES`, `bytes from BYTES`, `bytes run BYTES`, `bytes run_on
+/// BYTES`, `bytes write DOCUMENT`, `bytes to DOCUMENT`.
+pub(crate) fn call(alloc: Global, rest: &str, out: &mut Answer) -> Outcome {
+    let (name, text) = cut(rest);
+    match name {
+        "write" => write(alloc, text, out),
+        "to" => to(alloc, text, out),
+        "nested" => nested(alloc, text, out),
+        _ => of_bytes(alloc, name, bytes_of(alloc, text)?, out),
+    }
+}
+
+/// The bytes of the document that the text names.
+fn write(alloc: Global, text: &str, out: &mut Answer) -> Outcome {
+    let document = document(alloc, text)?;
+    put_bytes(to_vec(alloc, &document), out);
+    Ok(())
+}
+
+fn put_bytes(written: Written<Vec<u8>>, out: &mut Answer) {
+    match written {
+        Ok(bytes) => out.hex(bytes.as_slice()),
+        Err(error) => out.refuse(&error),
+    }
+}
+
+/// `DEPTH BYTES`: the document, in which so many levels are allowed.
+fn nested(alloc: Global, text: &str, out: &mut Answer) -> Outcome {
+    let (depth, bytes) = cut(text);
+    let depth = number::<usize>(depth)?;
+    let bytes = bytes_of(alloc, bytes)?;
+    out.result(from_slice(alloc, bytes.as_slice(), depth));
+    Ok(())
+}
+
+fn of_bytes(alloc: Global, name: &str, bytes: Vec<u8>, out: &mut Answer) -> Outcome {
+    let bytes = bytes.as_slice();
+    match name {
+        "read" => out.result(from_slice(alloc, bytes, DEPTH)),
+        "front" => put_front(front(alloc, bytes, DEPTH), out),
+        "again" => put_again(alloc, from_slice(alloc, bytes, DEPTH), out),
+        "check" => put_checked(is_document(bytes, DEPTH), out),
+        "canonical" => out.result(is_canonical(alloc, bytes, DEPTH)),
+        "from" => from(alloc, bytes, out),
+        "run" => return run(alloc, bytes, false, out),
+        "run_on" => return run(alloc, bytes, true, out),
+        _ => return Err(Stop::NotUnderstood),
+    }
+    Ok(())
+}
+
+fn put_checked(checked: Read<()>, out: &mut Answer) {
+    match checked {
+        Ok(()) => out.text("Ok"),
+        Err(error) => out.refuse(&error),
+    }
+}
+
+/// The document that a reader of the bytes gives, and behind a `+` the bytes that it has left.
+fn from(alloc: Global, bytes: &[u8], out: &mut Answer) {
+    let mut reader = bytes;
+    out.result(from_reader(alloc, &mut reader, DEPTH));
+    out.word("+");
+    out.hex(reader);
+}
+
+/// The bytes that a writer is given of the document, or why it was given none.
+fn to(alloc: Global, text: &str, out: &mut Answer) -> Outcome {
+    let document = document(alloc, text)?;
+    let mut written = Vec::with_capacity(alloc, ROOM)?;
+    match to_writer(alloc, &document, &mut written) {
+        Ok(()) => out.hex(written.as_slice()),
+        Err(error) => out.refuse(&error),
+    }
+    Ok(())
+}
+
+/// What a run over the documents wrote, and how it ended.
+fn run(alloc: Global, bytes: &[u8], keep_going: bool, out: &mut Answer) -> Outcome {
+    let mut reader = bytes;
+    let mut written = Vec::with_capacity(alloc, ROOM)?;
+    let ended = run_documents(alloc, DEPTH, keep_going, &mut reader, &mut written);
+    if let Ok(text) = std::str::from_utf8(written.as_slice()) {
+        out.text(text);
+    }
+    match ended {
+        Ok(counts) => out.debug(&counts),
+        Err(end) if end.fault == RunFault::OutOfMemory => return Err(Stop::OutOfMemory),
+        Err(end) => out.debug(&end),
+    }
+    Ok(())
+}
+
+/// Puts the document, and behind a `+` the bytes behind it.
+fn put_front(read: Read<(Document, &[u8])>, out: &mut Answer) {
+    match read {
+        Ok((document, rest)) => {
+            out.show(&document);
+            out.word("+");
+            out.hex(rest);
+        }
+        Err(error) => out.refuse(&error),
+    }
+}
+
+/// Puts the bytes that the document is written as.
+fn put_again(alloc: Global, read: Read<Document>, out: &mut Answer) {
+    match read {
+        Ok(document) => put_bytes(to_vec(alloc, &document), out),
+        Err(error) => out.refuse(&error),
+    }
+}

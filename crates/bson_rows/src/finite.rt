@@ -1,0 +1,120 @@
+//! `finite CALL VALUE`: trees and texts that are read, and values that are written, where finite
+//! doubles are.
+use crate::answer::Answer;
+use crate::extended_json::{put_written, text_of};
+use crate::held::tree;
+use crate::steps;
+use crate::stop::{Outcome, Stop};
+use crate::words::cut;
+use bson::extjson::convert::Converted;
+use bson::extjson::de::{Result as Read, TextError};
+use bson::extjson::{Doubles, Form, Options};
+use bson::{Bson, Document};
+use serde_json::Value;
+use std::alloc::Global;
+
+fn finite() -> Options {
+    Options {
+        doubles: Doubles::Finite,
+    }
+}
+
+/// `canonical VALUE` and `relaxed VALUE`: the value is read or made, and written. `read TEXT`: what
+/// the text means. `converted TEXT`: the relaxed text of that. `map MAP` and `own MAP`, as the call
+/// `map` has them.
+pub(crate) fn call(alloc: Global, rest: &str, out: &mut Answer) -> Outcome {
+    let (name, rest) = cut(rest);
+    match name {
+        "canonical" => written(alloc, Form::Canonical, rest, out),
+        "relaxed" => written(alloc, Form::Relaxed, rest, out),
+        "read" => read(alloc, rest, out),
+        "converted" => converted(alloc, rest, out),
+        "map" => map(alloc, rest, out),
+        "own" => own(alloc, rest, out),
+        _ => Err(Stop::NotUnderstood),
+    }
+}
+
+fn written(alloc: Global, form: Form, rest: &str, out: &mut Answer) -> Outcome {
+    match rest.strip_prefix("made ") {
+        Some(made) => put_value(alloc, form, steps::made(alloc, made)?, out),
+        None => {
+            let tree = tree(alloc, rest)?;
+            put_read(
+                alloc,
+                form,
+                Bson::try_from_value_with(alloc, finite(), tree),
+                out,
+            )
+        }
+    }
+}
+
+fn put_read(alloc: Global, form: Form, read: Read<Bson>, out: &mut Answer) -> Outcome {
+    match read {
+        Ok(value) => put_value(alloc, form, value, out),
+        Err(error) => {
+            out.refuse(&error);
+            Ok(())
+        }
+    }
+}
+
+fn put_value(alloc: Global, form: Form, value: Bson, out: &mut Answer) -> Outcome {
+    let lent = value.to_text_with(alloc, finite(), form);
+    let copy = value.clone(alloc)?;
+    let tree = text_of(alloc, copy.into_extjson_with(alloc, finite(), form));
+    put_written(value.into_text_with(alloc, finite(), form), lent, tree, out)
+}
+
+fn put_fault(fault: TextError, out: &mut Answer) -> Outcome {
+    if let TextError::OutOfMemory = fault {
+        return Err(Stop::OutOfMemory);
+    }
+    out.put(&fault);
+    Ok(())
+}
+
+fn read(alloc: Global, text: &str, out: &mut Answer) -> Outcome {
+    match Bson::try_from_text_with(alloc, finite(), text.as_bytes()) {
+        Ok(value) => out.show(&value),
+        Err(fault) => return put_fault(fault, out),
+    }
+    Ok(())
+}
+
+fn converted(alloc: Global, text: &str, out: &mut Answer) -> Outcome {
+    match Bson::convert_text_with(alloc, finite(), Form::Relaxed, text.as_bytes()) {
+        Ok(Converted::Text(text)) => {
+            out.text(text.as_str());
+            Ok(())
+        }
+        Ok(Converted::Value(value)) => put_value(alloc, Form::Relaxed, value, out),
+        Err(fault) => put_fault(fault, out),
+    }
+}
+
+fn map(alloc: Global, text: &str, out: &mut Answer) -> Outcome {
+    let Value::Object(map) = tree(alloc, text)? else {
+        return Err(Stop::NotUnderstood);
+    };
+    put_read(
+        alloc,
+        Form::Canonical,
+        Bson::try_from_map_with(alloc, finite(), map),
+        out,
+    )
+}
+
+fn own(alloc: Global, text: &str, out: &mut Answer) -> Outcome {
+    let Value::Object(map) = tree(alloc, text)? else {
+        return Err(Stop::NotUnderstood);
+    };
+    match Document::try_from_map_with(alloc, finite(), map) {
+        Ok(document) => put_value(alloc, Form::Canonical, Bson::Document(document), out),
+        Err(error) => {
+            out.refuse(&error);
+            Ok(())
+        }
+    }
+}

@@ -1,0 +1,81 @@
+-- Rows of tables that no law rests on: the names, the words and the bytes that a run over lines goes by. A definition
+-- that is changed together with its code is refused here.
+use Rattle.std.proofs.Common.{◌≡◌, zero, suc, [], ◌∷◌, inl, inr, refl, arith}
+use Rattle.std.specs.Prelude.{codes}
+use Rattle.bson_place.specs.declared.place.Reason.{Reason}
+use Rattle.bson_place.specs.declared.place.Reason.TheVariants as reason
+use Rattle.bson_run.specs.Lines.{lines, text_of, IsBlank}
+use Rattle.bson_run.specs.Words.{name_of, task_name, words_for, words_of, line_of}
+use Rattle.bson_run.specs.declared.mode.Mode.TheVariants as mode
+use Rattle.bson_run.specs.declared.order.Task.TheVariants.{Check}
+use Rattle.bson_run.specs.declared.fault.Fault.TheVariants as fault
+
+-- ---- names of modes
+
+canonical_named : name_of mode.Canonical ≡ codes "canonical"
+canonical_named = refl
+
+relaxed_named : name_of mode.Relaxed ≡ codes "relaxed"
+relaxed_named = refl
+
+show_named : name_of mode.Show ≡ codes "show"
+show_named = refl
+
+check_named : task_name Check ≡ codes "check"
+check_named = refl
+
+-- ---- words of faults
+
+cannot_read_told : words_of fault.CannotRead ≡ codes "cannot read"
+cannot_read_told = refl
+
+not_json_told : words_of fault.NotJson ≡ codes "not JSON"
+not_json_told = refl
+
+abbrev IsTold : Reason → Type 0
+IsTold (reason.BadObjectId e) = words_for (reason.BadObjectId e) ≡ codes "bad object id"
+IsTold (reason.WrongShape message) = words_for (reason.WrongShape message) ≡ codes "not Extended JSON"
+
+reasons_told : (why : Reason) → IsTold why
+reasons_told (reason.BadObjectId e) = refl
+reasons_told (reason.WrongShape message) = refl
+
+out_of_memory_told : words_of fault.OutOfMemory ≡ codes "out of memory"
+out_of_memory_told = refl
+
+cannot_write_told : words_of fault.CannotWrite ≡ codes "cannot write"
+cannot_write_told = refl
+
+line_told : line_of fault.NotJson ≡ codes "bson_cli: not JSON"
+line_told = refl
+
+-- ---- lines
+
+lines_cut : lines (53 ∷ 10 ∷ 10 ∷ 54 ∷ []) ≡ (53 ∷ []) ∷ [] ∷ (54 ∷ []) ∷ []
+lines_cut = refl
+
+no_line_behind_the_last_newline : lines (53 ∷ 10 ∷ []) ≡ (53 ∷ []) ∷ []
+no_line_behind_the_last_newline = refl
+
+-- a space, a tab and a carriage return
+blank_bytes : IsBlank (32 ∷ 9 ∷ 13 ∷ [])
+blank_bytes zero d h = inl refl
+blank_bytes (suc zero) d h = inr (inl refl)
+blank_bytes (suc (suc zero)) d h = inr (inr refl)
+blank_bytes (suc (suc (suc k))) d h = absurd (omega arith)
+
+form_feed_not_blank : ¬ (IsBlank (12 ∷ []))
+form_feed_not_blank h =
+    elim (h 0 0 (omega arith)) [
+      | inl e ↦ absurd (omega (arith, e))
+      | inr more ↦ elim more [
+        | inl e ↦ absurd (omega (arith, e))
+        | inr e ↦ absurd (omega (arith, e))
+      ]
+    ]
+
+byte_order_mark_passed_over : text_of 0 (239 ∷ 187 ∷ 191 ∷ 53 ∷ []) ≡ 53 ∷ []
+byte_order_mark_passed_over = refl
+
+byte_order_mark_of_a_later_line : text_of 1 (239 ∷ 187 ∷ 191 ∷ 53 ∷ []) ≡ 239 ∷ 187 ∷ 191 ∷ 53 ∷ []
+byte_order_mark_of_a_later_line = refl

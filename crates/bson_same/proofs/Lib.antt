@@ -1,0 +1,4 @@
+pub mod Weights
+pub mod Seen
+pub mod SameLaws
+pub mod Steps

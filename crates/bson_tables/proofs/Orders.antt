@@ -1,0 +1,159 @@
+-- The order of keys, a row each: what a text means in its own order, and what a value is written as in its own.
+use Rattle.std.proofs.Common.{◌≡◌, ℕ, List, true, false, Some, Err, refl}
+use Rattle.std.specs.Prelude.{codes}
+use Rattle.json.specs.Json as json
+use Rattle.serde_json.specs.Data.{Data, Members, no_members, member, no_items, item}
+use Rattle.serde_json.specs.Data as tree
+use Rattle.serde_json.specs.Written.{compact_text}
+use Rattle.bson_scalar.specs.Regex.{sorted_text}
+use Rattle.bson_wrapper.specs.Faults.{wrong_shape}
+use Rattle.bson_wrapper.specs.Scalar.{null, boolean, text, code, timestamp, regex}
+use Rattle.bson_wrapper.specs.Shapes.{object_of_one, object_of_two}
+use Rattle.bson_wrapper.specs.declared.form.Form.{Form}
+use Rattle.bson_model.specs.Normal.{normal_form}
+use Rattle.bson_model.specs.Value.{Value, scalar, code_scope, array, document, no_values, value, no_pairs, pair}
+use Rattle.bson_order.specs.Kept.{kept, read_kept}
+use Rattle.bson_order.specs.Means.{MeansInOrder}
+use Rattle.bson_order.specs.Reading.{reads_in_order}
+use Rattle.bson_order.specs.Written.{WrittenInOrder}
+use Rattle.bson_order.proofs.Offered.{means_from, written_from}
+use Rattle.bson_tables.proofs.Shapes.{whole}
+
+-- ---- a key that stands twice: the last value at the first place (`IndexMap::insert`; Python's `dict`; `JSON.parse`)
+
+abbrev b_then_a : Data → Data → Data
+b_then_a d e = object_of_two (codes "b") d (codes "a") e
+
+double_key : kept (json.object
+    (json.member (codes "b") json.null
+    (json.member (codes "a") (json.boolean true)
+    (json.member (codes "b") (json.boolean false) json.no_members))))
+    ≡ Some (b_then_a (tree.boolean false) (tree.boolean true))
+double_key = refl
+
+double_key_of_text : read_kept (codes "{\"b\":null,\"a\":true,\"b\":false}")
+    ≡ Some (b_then_a (tree.boolean false) (tree.boolean true))
+unfolding json.value Rattle.json.specs.Lex.punctuate Rattle.json.specs.Lex.lex Rattle.json.specs.Text.content
+    Rattle.json.specs.Word.word
+double_key_of_text = refl
+
+-- at each depth
+double_key_within : read_kept (codes "{\"z\":[{\"b\":null,\"a\":true,\"b\":{\"y\":true,\"x\":null}}]}")
+    ≡ Some (object_of_one (codes "z") (tree.array (item (b_then_a
+    (object_of_two (codes "y") (tree.boolean true) (codes "x") tree.null) (tree.boolean true)) no_items)))
+unfolding json.value Rattle.json.specs.Lex.punctuate Rattle.json.specs.Lex.lex Rattle.json.specs.Text.content
+    Rattle.json.specs.Word.word
+double_key_within = refl
+
+-- a wrapper's key twice is that wrapper, of its last value
+double_wrapper : read_kept (codes "{\"$symbol\":\"a\",\"$symbol\":\"b\"}")
+    ≡ Some (object_of_one (codes "$symbol") (tree.string (codes "b")))
+unfolding json.value Rattle.json.specs.Lex.punctuate Rattle.json.specs.Lex.lex Rattle.json.specs.Text.content
+    Rattle.json.specs.Word.word
+double_wrapper = refl
+
+-- ---- documents
+
+-- the parts of a reference to another document (DBRef), whose order counts
+abbrev reference : Value
+reference = document
+    (pair (codes "$ref") (scalar (text (codes "c"))) (pair (codes "$id") (scalar null)
+    (pair (codes "$db") (scalar (text (codes "d"))) no_pairs)))
+
+abbrev reference_tree : Data
+reference_tree = tree.object
+    (member (codes "$ref") (tree.string (codes "c")) (member (codes "$id") tree.null
+    (member (codes "$db") (tree.string (codes "d")) no_members)))
+
+reference_read : MeansInOrder reference_tree reference
+reference_read = means_from reference_tree reference refl
+
+reference_written : (f : Form) → WrittenInOrder f (normal_form reference) reference_tree
+reference_written f = written_from f reference reference_tree refl
+
+reference_text : compact_text reference_tree ≡ codes "{\"$ref\":\"c\",\"$id\":null,\"$db\":\"d\"}"
+unfolding Rattle.json.specs.Print.escape_byte
+reference_text = refl
+
+-- the order at each depth, and that of a list's elements
+abbrev nested : Value
+nested = document
+    (pair (codes "z") (array (value (document
+    (pair (codes "b") (scalar null) (pair (codes "a") (scalar (boolean true)) no_pairs))) no_values))
+    (pair (codes "y") (scalar null) no_pairs))
+
+abbrev nested_tree : Data
+nested_tree = object_of_two (codes "z")
+    (tree.array (item (b_then_a tree.null (tree.boolean true)) no_items)) (codes "y") tree.null
+
+nested_read : MeansInOrder nested_tree nested
+nested_read = means_from nested_tree nested refl
+
+nested_written : (f : Form) → WrittenInOrder f (normal_form nested) nested_tree
+nested_written f = written_from f nested nested_tree refl
+
+nested_text : compact_text nested_tree ≡ codes "{\"z\":[{\"b\":null,\"a\":true}],\"y\":null}"
+unfolding Rattle.json.specs.Print.escape_byte
+nested_text = refl
+
+-- ---- code with its scope: either order means it, it is written code first, and the scope keeps its own order
+
+abbrev scoped : Value
+scoped = code_scope (codes "x")
+    (pair (codes "z") (scalar null) (pair (codes "a") (scalar (boolean true)) no_pairs))
+
+abbrev scope_tree : Data
+scope_tree = object_of_two (codes "z") tree.null (codes "a") (tree.boolean true)
+
+code_first : MeansInOrder (object_of_two (codes "$code") (tree.string (codes "x")) (codes "$scope") scope_tree) scoped
+code_first = means_from _ _ refl
+
+scope_first : MeansInOrder (object_of_two (codes "$scope") scope_tree (codes "$code") (tree.string (codes "x"))) scoped
+scope_first = means_from _ _ refl
+
+scoped_written : (f : Form)
+    → WrittenInOrder f (normal_form scoped)
+    (object_of_two (codes "$code") (tree.string (codes "x")) (codes "$scope") scope_tree)
+scoped_written f = written_from f scoped _ refl
+
+-- the keys of a scope are not tested
+keys_of_a_scope : MeansInOrder
+    (object_of_two (codes "$scope") (object_of_two (codes "$oid") tree.null (codes "$date") (tree.boolean true))
+    (codes "$code") (tree.string (codes "x")))
+    (code_scope (codes "x")
+    (pair (codes "$oid") (scalar null) (pair (codes "$date") (scalar (boolean true)) no_pairs)))
+keys_of_a_scope = means_from _ _ refl
+
+scope_that_is_null : MeansInOrder
+    (object_of_two (codes "$scope") tree.null (codes "$code") (tree.string (codes "x"))) (scalar (code (codes "x")))
+scope_that_is_null = means_from _ _ refl
+
+-- ---- inside any other wrapper the order says nothing, and is the form's own where it is written
+
+timestamp_as_specified : MeansInOrder
+    (object_of_one (codes "$timestamp") (object_of_two (codes "t") (whole 1) (codes "i") (whole 2)))
+    (scalar (timestamp 1 2))
+timestamp_as_specified = means_from _ _ refl
+
+timestamp_ascending : MeansInOrder
+    (object_of_one (codes "$timestamp") (object_of_two (codes "i") (whole 2) (codes "t") (whole 1)))
+    (scalar (timestamp 1 2))
+timestamp_ascending = means_from _ _ refl
+
+timestamp_written : (f : Form)
+    → WrittenInOrder f (normal_form (scalar (timestamp 1 2)))
+    (object_of_one (codes "$timestamp") (object_of_two (codes "i") (whole 2) (codes "t") (whole 1)))
+timestamp_written f = written_from f (scalar (timestamp 1 2)) _ refl
+
+regex_as_specified : (p o : List ℕ)
+    → MeansInOrder
+    (object_of_one (codes "$regularExpression")
+    (object_of_two (codes "pattern") (tree.string p) (codes "options") (tree.string o)))
+    (scalar (regex p (sorted_text o)))
+regex_as_specified p o = means_from _ _ refl
+
+-- ---- a wrapper's key beside others means nothing, wherever it stands
+
+wrapper_key_later : reads_in_order (object_of_two (codes "a") tree.null (codes "$symbol") (tree.string (codes "s")))
+    ≡ Err wrong_shape
+wrapper_key_later = refl

@@ -1,0 +1,154 @@
+-- Keys of a map, whether there is one of a kind.
+use Rattle.std.proofs.Common.{◌≡◌, ℕ, List, Bool, true, false, not, ◌&&◌, ◌||◌, codes, cond}
+use Rattle.std.proofs.Common.{Ordering, Less, Equal, Greater, nat_cmp, inl, inr, ◌⊎◌, refl, sym, ap, ◌∙◌}
+use Rattle.std.proofs.lemmas.Bool.{both_ways, not-true, or_left, or_right, or_cases, and_parts}
+use Rattle.std.proofs.lemmas.Bool.{and_left, and_right}
+use Rattle.std.proofs.lemmas.Slice.Eq.{bytes_eq-Decides}
+use Rattle.std.specs.Cmp.Lexicographic.{slice_cmp}
+use Rattle.std.specs.Ordering.{match_ordering}
+use Rattle.std.specs.Prelude.{is_some}
+use Rattle.std.specs.Str.{bytes_eq}
+use Rattle.serde_json.specs.Data.{Data, Members, no_members, member, object, put}
+use Rattle.bson_wrapper.specs.Table.{wrapper_of, has_wrapper}
+use Rattle.bson_wrapper.specs.declared.form.Doubles.{Doubles}
+use Rattle.bson_model.proofs.Offered.{equal_keys}
+use Rattle.bson_tokens.specs.Found.{found, found_wrapper, found_members, here}
+
+abbrev pub any_key : (List ℕ → Bool) → Members → Bool
+any_key f no_members = false
+any_key f (member k d ms) = f k || any_key f ms
+
+abbrev pub is_wrapper : List ℕ → Bool
+is_wrapper k = is_some (wrapper_of k)
+
+abbrev pub is_code : List ℕ → Bool
+is_code k = bytes_eq k (codes "$code")
+
+abbrev pub is_scope : List ℕ → Bool
+is_scope k = bytes_eq k (codes "$scope")
+
+-- a key that stands beside no wrapper's
+abbrev pub is_ordinary : List ℕ → Bool
+is_ordinary k = not (is_wrapper k) && not (is_scope k)
+
+pub wrapper_key : (ms : Members) → has_wrapper ms ≡ any_key is_wrapper ms
+wrapper_key no_members = refl
+wrapper_key (member k d ms) = ap (λ b. is_wrapper k || b) (wrapper_key ms)
+
+-- ---- one more member
+
+or_from : (a b c d : Bool) → (a ≡ true → c ≡ true) → (b ≡ true → d ≡ true) → (a || b) ≡ true → (c || d) ≡ true
+or_from true b c d f g h = or_left c d (f refl)
+or_from false b c d f g h = or_right c d (g h)
+
+module _ (f : List ℕ → Bool) (k : List ℕ) (d : Data) where
+  new_at : (o : Ordering) (l : List ℕ) (e : Data) (ms : Members) → slice_cmp nat_cmp k l ≡ o → f k ≡ true
+      → any_key f (put k d ms) ≡ true
+      → any_key f (match_ordering o (member k d (member l e ms)) (member l d ms) (member l e (put k d ms))) ≡ true
+  new_at Less l e ms at h more = or_left (f k) (any_key f (member l e ms)) h
+  new_at Equal l e ms at h more = or_left (f l) (any_key f ms) (ap f (sym (equal_keys k l at)) ∙ h)
+  new_at Greater l e ms at h more = or_right (f l) (any_key f (put k d ms)) more
+
+  pub any_new : (ms : Members) → f k ≡ true → any_key f (put k d ms) ≡ true
+  any_new no_members h = or_left (f k) false h
+  any_new (member l e ms) h = new_at (slice_cmp nat_cmp k l) l e ms refl h (any_new ms h)
+
+  kept_at : (o : Ordering) (l : List ℕ) (e : Data) (ms : Members)
+      → (any_key f ms ≡ true → any_key f (put k d ms) ≡ true) → any_key f (member l e ms) ≡ true
+      → any_key f (match_ordering o (member k d (member l e ms)) (member l d ms) (member l e (put k d ms))) ≡ true
+  kept_at Less l e ms more h = or_right (f k) (any_key f (member l e ms)) h
+  kept_at Equal l e ms more h = h
+  kept_at Greater l e ms more h = or_from (f l) (any_key f ms) (f l) (any_key f (put k d ms)) (λ e. e) more h
+
+  pub any_kept : (ms : Members) → any_key f ms ≡ true → any_key f (put k d ms) ≡ true
+  any_kept no_members h = cc
+  any_kept (member l e ms) h = kept_at (slice_cmp nat_cmp k l) l e ms (any_kept ms) h
+
+  other_at : (o : Ordering) (l : List ℕ) (e : Data) (ms : Members) → f k ≡ false
+      → any_key f (put k d ms) ≡ any_key f ms
+      → any_key f (match_ordering o (member k d (member l e ms)) (member l d ms) (member l e (put k d ms)))
+      ≡ any_key f (member l e ms)
+  other_at Less l e ms h is = ap (λ b. b || any_key f (member l e ms)) h
+  other_at Equal l e ms h is = refl
+  other_at Greater l e ms h is = ap (λ b. f l || b) is
+
+  pub any_other : (ms : Members) → f k ≡ false → any_key f (put k d ms) ≡ any_key f ms
+  any_other no_members h = ap (λ b. b || false) h
+  any_other (member l e ms) h = other_at (slice_cmp nat_cmp k l) l e ms h (any_other ms h)
+
+-- ---- a wrapper's key beside an ordinary one
+
+one_true : (a : Bool) → (a || false) ≡ true → a ≡ true
+one_true true h = refl
+one_true false h = h
+
+not_wrapper : (k : List ℕ) → is_ordinary k ≡ true → is_wrapper k ≡ false
+not_wrapper k h = not-true (is_wrapper k) (and_parts (not (is_wrapper k)) (not (is_scope k)) h).0
+
+not_scope : (k : List ℕ) → is_ordinary k ≡ true → is_scope k ≡ false
+not_scope k h = not-true (is_scope k) (and_parts (not (is_wrapper k)) (not (is_scope k)) h).1
+
+no_code : (k : List ℕ) (b : Bool) → is_code k ≡ b → is_wrapper k ≡ false → b ≡ false
+no_code k true is h = absurd (both_ways (is_wrapper k) h (ap is_wrapper ((bytes_eq-Decides k (codes "$code")).0 is)))
+no_code k false is h = refl
+
+not_both : (k l : List ℕ) → (is_ordinary k ≡ true) ⊎ (is_ordinary l ≡ true) → (is_code k && is_scope l) ≡ false
+not_both k l (inl h) = and_left (is_code k) (is_scope l) (no_code k (is_code k) refl (not_wrapper k h))
+not_both k l (inr h) = and_right (is_code k) (is_scope l) (not_scope l h)
+
+strange : (D : Doubles) (ms : Members) → any_key is_wrapper ms ≡ true → any_key is_ordinary ms ≡ true
+    → found_wrapper D ms ≡ here
+strange D no_members h i = refl
+strange D (member k d no_members) h i =
+    absurd (both_ways (is_wrapper k) (not_wrapper k (one_true (is_ordinary k) i)) (one_true (is_wrapper k) h))
+strange D (member k d (member l e no_members)) h i =
+    rw (not_both k l (by (or_cases (is_ordinary k) (is_ordinary l || false) i))) refl
+  where
+    by : (is_ordinary k ≡ true) ⊎ ((is_ordinary l || false) ≡ true) → (is_ordinary k ≡ true) ⊎ (is_ordinary l ≡ true)
+    by (inl is) = inl is
+    by (inr is) = inr (one_true (is_ordinary l) is)
+strange D (member k d (member l e (member m c ms))) h i = refl
+
+pub strange_here : (D : Doubles) (ms : Members) → has_wrapper ms ≡ true → any_key is_ordinary ms ≡ true
+    → found D (object ms) ≡ here
+strange_here D ms h i = ap (λ b. cond b (found_wrapper D ms) (found_members D ms)) h
+    ∙ strange D ms (sym (wrapper_key ms) ∙ h) i
+
+pub plain_found : (D : Doubles) (ms : Members) → has_wrapper ms ≡ false → found D (object ms) ≡ found_members D ms
+plain_found D ms h = ap (λ b. cond b (found_wrapper D ms) (found_members D ms)) h
+
+-- ---- the first key
+
+-- no member was read yet, or one whose key is neither a wrapper's nor `$scope`
+abbrev pub IsBegun : Bool → Members → Type 0
+IsBegun true ms = ms ≡ no_members
+IsBegun false ms = any_key is_ordinary ms ≡ true
+
+pub begun : (b : Bool) (k : List ℕ) (d : Data) (ms : Members) → (b ≡ true → is_ordinary k ≡ true) → IsBegun b ms
+    → any_key is_ordinary (put k d ms) ≡ true
+begun true k d ms first is = any_new is_ordinary k d ms (first refl)
+begun false k d ms first is = any_kept is_ordinary k d ms is
+
+wrapper_at : (b : Bool) (k : List ℕ) (d : Data) (ms : Members) → is_wrapper k ≡ b
+    → any_key is_wrapper (put k d ms) ≡ (b || any_key is_wrapper ms)
+wrapper_at true k d ms is = any_new is_wrapper k d ms is
+wrapper_at false k d ms is = any_other is_wrapper k d ms is
+
+pub wrapper_put : (k : List ℕ) (d : Data) (ms : Members)
+    → has_wrapper (put k d ms) ≡ (is_some (wrapper_of k) || has_wrapper ms)
+wrapper_put k d ms = wrapper_key (put k d ms) ∙ wrapper_at (is_wrapper k) k d ms refl
+    ∙ ap (λ b. is_wrapper k || b) (sym (wrapper_key ms))
+
+neither : (a b : Bool) → (a || b) ≡ false → (not a && not b) ≡ true
+neither true b h = cc
+neither false true h = cc
+neither false false h = refl
+
+-- a first key that may begin no wrapper
+pub ordinary_from : (k : List ℕ) → (is_wrapper k || is_scope k) ≡ false → is_ordinary k ≡ true
+ordinary_from k h = neither (is_wrapper k) (is_scope k) h
+
+-- a map with a wrapper's key behind its first has that first key
+pub not_begun : (b : Bool) (ms : Members) → has_wrapper ms ≡ true → IsBegun b ms → any_key is_ordinary ms ≡ true
+not_begun true ms some none = let never : has_wrapper ms ≡ false = ap has_wrapper none in cc
+not_begun false ms some is = is

@@ -1,0 +1,10 @@
+pub mod Turns
+pub mod Elements
+pub mod Gathering
+pub mod Trees
+pub mod Keys
+pub mod Faulty
+pub mod Entered
+pub mod Verdicts
+pub mod Found
+pub mod Offered

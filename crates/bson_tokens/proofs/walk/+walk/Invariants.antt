@@ -1,0 +1,38 @@
+use Rattle.std.proofs.Common.{◌≡◌, ◌+◌, ◌*◌, length, is_some}
+use Rattle.serde_json.specs.Data.{Items, Members, no_members}
+use Rattle.bson_model.specs.Texts.{Ascends}
+use Rattle.bson_wrapper.specs.Table.{has_wrapper}
+use Rattle.bson_tokens.specs.Found.{Verdict, found_items, or, faults}
+use Rattle.bson_tokens.specs.Told.{Tells, AreTold}
+use Rattle.bson_tokens.proofs.Elements.{Lists}
+use Rattle.bson_tokens.proofs.Gathering.{Gathers}
+use Rattle.bson_tokens.proofs.Keys.{IsBegun}
+use Rattle.bson_tokens.proofs.walk.+walk.Given as goal
+
+abbrev pub decreases-walk_value : goal.decreases-walk_value
+decreases-walk_value l = 2 * l.depth
+
+abbrev pub decreases-walk_items : goal.decreases-walk_items
+decreases-walk_items l = 2 * l.depth + 1
+
+abbrev pub decreases-walk_members : goal.decreases-walk_members
+decreases-walk_members l = 2 * l.depth + 1
+
+-- what was read stands before what is left, and so does its verdict
+abbrev pub invariant-walk_items-items : goal.invariant-walk_items-items
+invariant-walk_items-items l = (front : Items → Items) × Lists l.depth l.initial.reader l.reader front
+    × (v : Verdict) × Tells v l.first × ((ds : Items) → found_items l.doubles 0 (front ds) ≡ or v
+    (found_items l.doubles l.at ds))
+
+abbrev pub decreases-walk_items-items : goal.decreases-walk_items-items
+decreases-walk_items-items l = length l.reader
+
+-- no map is built, but there is one: the members so far
+abbrev pub invariant-walk_members-members : goal.invariant-walk_members-members
+invariant-walk_members-members l = (so_far : Members)
+    × Gathers l.depth no_members l.initial.reader l.reader so_far × Ascends so_far
+    × AreTold (faults l.doubles so_far) l.faults.entries × (is_some l.wrapper ≡ has_wrapper so_far)
+    × IsBegun l.is_first so_far
+
+abbrev pub decreases-walk_members-members : goal.decreases-walk_members-members
+decreases-walk_members-members l = length l.reader

@@ -1,0 +1,6 @@
+pub mod Found
+pub mod Parts
+pub mod Told
+-- what public clauses cite of the crates below, so that a caller names this crate alone
+pub use Rattle.bson_place.specs.Place
+pub use Rattle.serde_json.specs.Read

@@ -1,0 +1,99 @@
+//! The faulty members of an object.
+ghost use Rattle.std.specs.Prelude.{IfOk, OnOk, IsTrue, ◌++◌, ◌∷◌, [], ◌≡◌, Some};
+ghost use Rattle.bson_wrapper.specs.Faults.{Fault, wrong_shape};
+ghost use Rattle.bson_place.specs.Place.{way_of, turn_of, IsPlace, IsReason};
+ghost use Rattle.bson_tokens.specs.Found.{Faults, Verdict, enter, least};
+ghost use Rattle.bson_tokens.specs.Told.{Tells, AreTold, IsKept};
+
+use bson_place::place::{Place, Reason, Step};
+use bson_place::shape::NUMBER;
+use std::alloc::{AllocError, Global};
+use std::collections::BTreeMap;
+
+// The place behind one more step.
+pub(crate) fn inside(place: Place, step: Step) -> Result<Place, AllocError>
+    ensures way { IfOk result (λ p. way_of p ≡ way_of place ++ turn_of step ∷ []) }
+    ensures reason { IfOk result (λ p. p.reason ≡ place.reason) }
+{
+    let Place { reason, mut steps } = place;
+    steps.push(step)?;
+    Ok(Place { reason, steps })
+}
+
+// Notes what was found of the last value of the key so far.
+pub(crate) fn enter<'a>(
+    alloc: Global,
+    faults: &mut BTreeMap<&'a str, Option<Box<Place>>>,
+    key: &'a str,
+    member: Option<Place>,
+) -> Result<(), AllocError>
+    ensures { OnOk result ((fs : Faults) (v : Verdict) → AreTold fs faults.old.entries → Tells v member
+        → AreTold (enter key.now v fs) faults.new.entries) }
+{
+    match member {
+        None => drop(faults.remove(key)),
+        Some(place) => {
+            let kept = keep(alloc, place)?;
+            drop(faults.insert(key, kept)?);
+        }
+    }
+    Ok(())
+}
+
+// What is kept of a faulty member: nothing where its value is a number that is no i64.
+fn keep(alloc: Global, place: Place) -> Result<Option<Box<Place>>, AllocError>
+    ensures { IfOk result (λ kept. (v : Verdict) → IsPlace (λ f way. v ≡ Some (f, way)) place → IsKept v kept) }
+{
+    let Place { reason, mut steps } = place;
+    if steps.is_empty() && is_of_number(&reason) {
+        return Ok(None);
+    }
+    steps.shrink_to_fit();
+    Ok(Some(Box::new(alloc, Place { reason, steps })?))
+}
+
+fn is_of_number(reason: &Reason) -> bool
+    ensures { IsTrue result → (f : Fault) → IsReason f reason.now → f ≡ wrong_shape }
+{
+    match reason {
+        Reason::WrongShape(message) => *message == NUMBER,
+        Reason::BadObjectId(_) => false,
+    }
+}
+
+// The fault at the least key.
+pub(crate) fn least(
+    alloc: Global,
+    mut faults: BTreeMap<&str, Option<Box<Place>>>,
+) -> Result<Option<Place>, AllocError>
+    ensures { IfOk result (λ p. (fs : Faults) → AreTold fs faults.entry.entries → Tells (least fs) p) }
+{
+    match faults.pop_first() {
+        None => Ok(None),
+        Some((key, kept)) => {
+            let key = String::from_str(alloc, key)?;
+            Ok(Some(inside(place_of(alloc, kept), Step::Key(key))?))
+        }
+    }
+}
+
+// The place that was kept.
+fn place_of(alloc: Global, kept: Option<Box<Place>>) -> Place
+    ensures { (v : Verdict) → IsKept v kept → IsPlace (λ f way. v ≡ Some (f, way)) result }
+{
+    match kept {
+        None => here(alloc, NUMBER),
+        Some(place) => Box::into_inner(place),
+    }
+}
+
+// The place at the value itself.
+pub(crate) fn here(alloc: Global, message: &'static str) -> Place
+    ensures reason { IsReason wrong_shape result.reason }
+    ensures way { way_of result ≡ [] }
+{
+    Place {
+        reason: Reason::WrongShape(message),
+        steps: Vec::new(alloc),
+    }
+}

@@ -1,0 +1,54 @@
+//! The number of a token.
+ghost use Rattle.std.specs.Prelude.{◌≡◌, ◌<◌, ◌==◌, length, slice_index, option_map, MatchOption, Some};
+ghost use Rattle.std.specs.Prelude.{IsTrue};
+ghost use Rattle.serde_json.specs.Read.{number_of, number_from, float_of};
+ghost use Rattle.serde_json.specs.View.{number_view};
+
+use fast_float::Numeral;
+use serde_json::Number;
+
+/// The number that a token of JSON stands for: an integer where it is one of 64 bits, and else the
+/// nearest double. None where that is not finite.
+pub fn number(text: &str) -> Option<Number>
+    ensures { option_map number_view result ≡ number_of text.now }
+{
+    let bytes = text.as_bytes();
+    if begins_with_minus(bytes) {
+        number_of_sign(true, &Numeral::scan(&bytes[1..]))
+    } else {
+        number_of_sign(false, &Numeral::scan(bytes))
+    }
+}
+
+fn begins_with_minus(bytes: &[u8]) -> bool
+    ensures value { result ≡ (slice_index bytes.now 0 == 45) }
+    ensures some { IsTrue result → 0 < length bytes.now }
+{
+    !bytes.is_empty() && bytes[0] == b'-'
+}
+
+fn number_of_sign(is_negative: bool, numeral: &Numeral<'_>) -> Option<Number>
+    ensures { option_map number_view result ≡ number_from is_negative numeral.now }
+{
+    match integer(is_negative, numeral) {
+        Some(n) => Some(n),
+        None => Number::from_f64(numeral.to_float::<f64>(is_negative)),
+    }
+}
+
+// The integer, if it is one of 64 bits; `-0` is a double.
+fn integer(is_negative: bool, numeral: &Numeral<'_>) -> Option<Number>
+    ensures { MatchOption result (number_from is_negative numeral.now ≡ float_of is_negative numeral.now)
+        (λ n. number_from is_negative numeral.now ≡ Some (number_view n)) }
+{
+    if !is_negative {
+        return match numeral.to_u64() {
+            Some(n) => Some(Number::from(n)),
+            None => None,
+        };
+    }
+    match numeral.to_i64(true) {
+        Some(n) if n < 0 => Some(Number::from(n)),
+        _ => None,
+    }
+}

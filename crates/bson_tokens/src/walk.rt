@@ -1,0 +1,226 @@
+//! How the first fault of a text is found.
+ghost use Rattle.std.specs.Prelude.{◌≡◌, ◌<◌, ◌&&◌, ◌||◌, codes, length, IfOk, IfErr, OnOk, is_some};
+ghost use Rattle.std.specs.Str.{bytes_eq};
+ghost use Rattle.json.specs.Json.{value, items, members};
+ghost use Rattle.serde_json.specs.Data.{no_members, object};
+ghost use Rattle.serde_json.specs.Read.{of_json, of_items, of_members, converted, number_of, read};
+ghost use Rattle.serde_json.specs.View.{members_view};
+ghost use Rattle.bson_wrapper.specs.Table.{wrapper_of};
+ghost use Rattle.bson_place.specs.Place.{element};
+ghost use Rattle.bson_tokens.specs.Found.{Verdict, found, found_items, or, within};
+ghost use Rattle.bson_tokens.specs.Parts.{IsBroken, NoMembers, NoObject};
+ghost use Rattle.bson_tokens.specs.Told.{Tells, Finds, FindsNumber, ObjectFinds, IsPlaceIn, IsTextPlaceIn};
+ghost use Rattle.bson_tokens.specs.declared.unread.Unread.TheVariants.{OutOfMemory, Broken};
+
+use crate::faults::{enter, here, inside, least};
+use crate::number::number;
+use crate::tree::read_from;
+use crate::unread::Unread;
+use bson_place::place::{Place, Step};
+use bson_place::shape::beside_others;
+use bson_place::walk::place_of_fault_in;
+use bson_wrapper::code::is_scope;
+use bson_wrapper::form::Doubles;
+use bson_wrapper::wrapper::{Wrapper, named};
+use json::{Reader, Scratch, Token};
+use serde_json::{Map, Value};
+use std::alloc::{AllocError, Global};
+use std::collections::BTreeMap;
+
+/// How deep arrays and objects may nest.
+const MAX_DEPTH: usize = 127;
+
+/// The first fault of the text's tree and the path to it, or nothing where the tree has a meaning
+/// in MongoDB Extended JSON v2.
+///
+/// It is the place that `place_of_fault` finds in the tree, and no tree of the whole is made: of a
+/// list the first fault is kept, of an object the faults by key, since a later value of a key takes
+/// the place of an earlier one. Only an object that begins with a wrapper's key, or with `$scope`,
+/// is read as a tree. `Broken` is answered where the text as a whole has no tree.
+pub fn first_fault(alloc: Global, text: &str) -> Result<Option<Place>, Unread>
+    ensures place { IfOk result (λ found. IsPlaceIn text.now found) }
+    ensures broken { IfErr result (IsBroken (read text.now)) }
+{
+    first_fault_in(alloc, Doubles::Special, text)
+}
+
+/// The first fault of the text's tree, as `first_fault` finds it, in either mode of doubles.
+pub fn first_fault_in(alloc: Global, doubles: Doubles, text: &str) -> Result<Option<Place>, Unread>
+    ensures place { IfOk result (λ found. IsTextPlaceIn doubles text.now found) }
+    ensures broken { IfErr result (IsBroken (read text.now)) }
+{
+    let mut scratch = Scratch::new(alloc);
+    let mut reader = Reader::new(text, &mut scratch)?;
+    let found = walk_value(alloc, doubles, &mut reader, MAX_DEPTH)?;
+    if reader.next().is_some() {
+        return Err(Unread::Broken);
+    }
+    Ok(found)
+}
+
+fn of_number(alloc: Global, doubles: Doubles, text: &str) -> Result<Option<Place>, Unread>
+    ensures ok { IfOk result (λ found. FindsNumber doubles text.now found) }
+    ensures broken { IfErr result (IsBroken (number_of text.now)) }
+{
+    match number(text) {
+        Some(n) => Ok(place_of_fault_in(alloc, doubles, &Value::Number(n))?),
+        None => Err(Unread::Broken),
+    }
+}
+
+#[cycle(walk)]
+fn walk_value(
+    alloc: Global,
+    doubles: Doubles,
+    reader: &mut Reader<'_>,
+    depth: usize,
+) -> Result<Option<Place>, Unread>
+    ensures ok { IfOk result
+        (λ p. Finds (found doubles) (converted of_json (value depth reader.old)) p reader.new) }
+    ensures broken { IfErr result (IsBroken (converted of_json (value depth reader.old))) }
+    ensures shorter { OnOk result (length reader.new < length reader.old) }
+{
+    let token = reader.next().ok_or(Unread::Broken)?;
+    match token {
+        Token::String(_) => Ok(None),
+        Token::Number(text) => Ok(of_number(alloc, doubles, text)?),
+        Token::Bool(_) => Ok(None),
+        Token::Null => Ok(None),
+        Token::EndObject | Token::EndArray | Token::Key(_) | Token::Bad => Err(Unread::Broken),
+        Token::BeginArray => {
+            if depth == 0 {
+                return Err(Unread::Broken);
+            }
+            Ok(walk_items(alloc, doubles, reader, depth - 1)?)
+        }
+        Token::BeginObject => {
+            if depth == 0 {
+                return Err(Unread::Broken);
+            }
+            Ok(walk_members(alloc, doubles, reader, depth - 1)?)
+        }
+    }
+}
+
+// The elements of a list whose bracket was read.
+#[cycle(walk)]
+fn walk_items(
+    alloc: Global,
+    doubles: Doubles,
+    reader: &mut Reader<'_>,
+    depth: usize,
+) -> Result<Option<Place>, Unread>
+    ensures ok { IfOk result
+        (λ p. Finds (found_items doubles 0) (converted of_items (items (value depth) (length reader.old) reader.old))
+        p reader.new) }
+    ensures broken { IfErr result
+        (IsBroken (converted of_items (items (value depth) (length reader.old) reader.old))) }
+    ensures shorter { OnOk result (length reader.new < length reader.old) }
+{
+    let mut at = 0usize;
+    let mut first: Option<Place> = None;
+    'items: while !reader.take_end_array() {
+        let item = walk_value(alloc, doubles, reader, depth)?;
+        first = or_at(first, item, at)?;
+        at = at.checked_add(1).ok_or(Unread::OutOfMemory)?;
+    }
+    Ok(first)
+}
+
+// The first fault so far, or that of the element.
+fn or_at(first: Option<Place>, item: Option<Place>, at: usize) -> Result<Option<Place>, Unread>
+    ensures ok { IfOk result (λ p. (v w : Verdict) → Tells v first → Tells w item
+        → Tells (or v (within (element at) w)) p) }
+    ensures broken { IfErr result (λ e. e ≡ OutOfMemory) }
+{
+    if first.is_some() {
+        return Ok(first);
+    }
+    match item {
+        Some(place) => Ok(Some(inside(place, Step::Element(at))?)),
+        None => Ok(None),
+    }
+}
+
+// The members of an object whose brace was read.
+#[cycle(walk)]
+fn walk_members(
+    alloc: Global,
+    doubles: Doubles,
+    reader: &mut Reader<'_>,
+    depth: usize,
+) -> Result<Option<Place>, Unread>
+    ensures ok { IfOk result
+        (λ p. Finds (λ ms. found doubles (object ms))
+        (converted (λ js. of_members js no_members) (members (value depth) (length reader.old) reader.old))
+        p reader.new) }
+    ensures broken { IfErr result (λ e. e ≡ Broken → NoMembers depth reader.old) }
+    ensures shorter { OnOk result (length reader.new < length reader.old) }
+{
+    let mut faults = BTreeMap::new(alloc);
+    let mut is_first = true;
+    let mut wrapper: Option<(&str, Wrapper)> = None;
+    'members: while let Some(name) = reader.next_key()? {
+        if may_be_wrapper(is_first, name) {
+            return walk_tree(alloc, doubles, reader, depth, name);
+        }
+        is_first = false;
+        wrapper = lesser(wrapper, name);
+        let member = walk_value(alloc, doubles, reader, depth)?;
+        enter(alloc, &mut faults, name, member)?;
+    }
+    match wrapper {
+        Some((_, wrapper)) => Ok(Some(here(alloc, beside_others(wrapper)))),
+        None => Ok(least(alloc, faults)?),
+    }
+}
+
+// Whether the key is the first of an object that may be a wrapper. Any other object that has a
+// wrapper's key is none, whatever it holds.
+fn may_be_wrapper(is_first: bool, key: &str) -> bool
+    ensures { result ≡ (is_first && (is_some (wrapper_of key.now) || bytes_eq key.now (codes "$scope"))) }
+{
+    is_first && (named(key).is_some() || is_scope(key))
+}
+
+// The lesser of the keys of wrappers so far.
+fn lesser<'a>(first: Option<(&'a str, Wrapper)>, key: &'a str) -> Option<(&'a str, Wrapper)>
+    ensures { is_some result ≡ (is_some (wrapper_of key.now) || is_some first.entry) }
+{
+    let Some(wrapper) = named(key) else {
+        return first;
+    };
+    match first {
+        Some((least, known)) if least < key => Some((least, known)),
+        _ => Some((key, wrapper)),
+    }
+}
+
+// An object whose first key was read, by a tree of its own.
+#[inline(never)]
+fn walk_tree(
+    alloc: Global,
+    doubles: Doubles,
+    reader: &mut Reader<'_>,
+    depth: usize,
+    key: &str,
+) -> Result<Option<Place>, Unread>
+    ensures ok { IfOk result (λ p. ObjectFinds doubles depth key.now reader.old p reader.new) }
+    ensures broken { IfErr result (λ e. e ≡ Broken → NoObject depth key.now reader.old) }
+    ensures shorter { OnOk result (length reader.new < length reader.old) }
+{
+    let members = read_from(alloc, reader, depth, key, Map::new(alloc))?;
+    Ok(place_in(alloc, doubles, members)?)
+}
+
+// The first fault of an object.
+fn place_in(
+    alloc: Global,
+    doubles: Doubles,
+    members: Map<String, Value>,
+) -> Result<Option<Place>, AllocError>
+    ensures { IfOk result (λ p. Tells (found doubles (object (members_view members.entries))) p) }
+{
+    let tree = Value::Object(members);
+    place_of_fault_in(alloc, doubles, &tree)
+}

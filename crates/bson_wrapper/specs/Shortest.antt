@@ -1,0 +1,45 @@
+-- The shortest decimal of a finite double as a function, for the proofs. `IsShortest` is what it is.
+use Rattle.std.specs.Prelude.{◌+◌, ◌*◌, ◌/◌, ◌%◌, ◌^◌, ◌==◌, ◌&&◌, ◌||◌, nat_lt, nat_le, ℕ, zero, suc, Bool, List, ◌++◌}
+use Rattle.std.specs.Prelude.{codes, if◌then◌else◌, Option, Some, None, to_bits}
+use Rattle.std.specs.Float.{binary64}
+use Rattle.std.specs.Fmt.{sign_text}
+use Rattle.bson_double.specs.Doubles.{is_finite}
+use Rattle.bson_double.specs.Shortest.{nearest_to, whole_of, step_of}
+use Rattle.bson_double.specs.Text.{decimal_text}
+
+-- whether d multiples of the power k are read as the double
+abbrev pub is_read : ℕ → ℕ → ℕ → Bool
+is_read p d k = to_bits binary64 (nearest_to d k) == p
+
+-- the multiple at the double or below it
+abbrev pub multiple_below : ℕ → ℕ → ℕ
+multiple_below p k = whole_of p / step_of k
+
+-- whether it is read as the double, or the next one
+abbrev pub is_some_read : ℕ → ℕ → Bool
+is_some_read p k = is_read p (multiple_below p k) k || is_read p (multiple_below p k + 1) k
+
+-- the highest power below n at which one is
+unfoldable pub top_power : ℕ → ℕ → ℕ
+top_power p zero = zero
+top_power p (suc n) = if is_some_read p n then n else top_power p n
+
+-- of f and the next the one nearer to the double, of two as near the even one
+abbrev pub nearer : ℕ → ℕ → ℕ → ℕ
+nearer p k f =
+    if nat_lt (2 * whole_of p) ((2 * f + 1) * step_of k) then f
+    else (if (2 * whole_of p == (2 * f + 1) * step_of k && f % 2 == 0) then f else f + 1)
+
+abbrev pub read_one : Bool → Bool → ℕ → ℕ → ℕ → ℕ
+read_one low high p k f = if low then (if high then nearer p k f else f) else f + 1
+
+unfoldable pub digits_at : ℕ → ℕ → ℕ
+digits_at p k = read_one (is_read p (multiple_below p k) k) (is_read p (multiple_below p k + 1) k) p k (multiple_below p k)
+
+-- the text of a double without its sign
+unfoldable pub unsigned_text : ℕ → List ℕ
+unsigned_text p = if p == 0 then codes "0.0" else decimal_text (digits_at p (top_power p 1500)) (top_power p 1500)
+
+-- the text of a finite pattern
+unfoldable pub finite_text : ℕ → Option (List ℕ)
+finite_text p = if is_finite p then Some (sign_text (nat_le (2 ^ 63) p) ++ unsigned_text (p % 2 ^ 63)) else None

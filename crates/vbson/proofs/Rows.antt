@@ -1,0 +1,38 @@
+-- Rows of the numbers that a caller in C writes and reads (languages/c/vbson.h has them). A definition that is changed
+-- together with its code is refused here.
+use Rattle.std.proofs.Common.{◌≡◌, Some, None, refl}
+use Rattle.bson_place.specs.declared.place.Reason.{Reason}
+use Rattle.bson_place.specs.declared.place.Reason.TheVariants.{BadObjectId, WrongShape}
+use Rattle.bson_run.specs.declared.mode.Mode.TheVariants as mode
+use Rattle.bson_run.specs.declared.fault.Fault.TheVariants as fault
+use Rattle.vbson.specs.Convert.{mode_at, status_for, status_of}
+
+-- ---- modes
+
+canonical_numbered : mode_at 0 ≡ Some mode.Canonical
+canonical_numbered = refl
+
+relaxed_numbered : mode_at 1 ≡ Some mode.Relaxed
+relaxed_numbered = refl
+
+show_numbered : mode_at 2 ≡ Some mode.Show
+show_numbered = refl
+
+no_further_mode : mode_at 3 ≡ None
+no_further_mode = refl
+
+-- ---- statuses
+
+not_json_numbered : status_of fault.NotJson ≡ 2
+not_json_numbered = refl
+
+abbrev IsNumbered : Reason → Type 0
+IsNumbered (BadObjectId e) = status_for (BadObjectId e) ≡ 3
+IsNumbered (WrongShape message) = status_for (WrongShape message) ≡ 4
+
+reasons_numbered : (why : Reason) → IsNumbered why
+reasons_numbered (BadObjectId e) = refl
+reasons_numbered (WrongShape message) = refl
+
+out_of_memory_numbered : status_of fault.OutOfMemory ≡ 5
+out_of_memory_numbered = refl

@@ -1,0 +1,23 @@
+# Completions of bash for bson.
+_bson() {
+    local word=${COMP_WORDS[COMP_CWORD]} before=${COMP_WORDS[COMP_CWORD - 1]} it mode='' options='--doubles --output --help --version'
+    local modes='canonical relaxed show'
+    for it in "${COMP_WORDS[@]:1:COMP_CWORD-1}"; do
+        case $it in
+            lines) modes='canonical relaxed show check' options+=' --keep-going --jobs' ;;
+            canonical | relaxed | show | check) mode=$it ;;
+        esac
+    done
+    [[ $options == *--jobs || -n $mode ]] || modes+=' lines'
+    compopt -o filenames 2>/dev/null
+    if [[ $before == --jobs ]]; then
+        COMPREPLY=($(compgen -W "$(nproc)" -- "$word"))
+    elif [[ $word == -* ]]; then
+        COMPREPLY=($(compgen -W "$options" -- "$word"))
+    elif [[ -n $mode || $before == -o || $before == --output ]]; then
+        mapfile -t COMPREPLY < <(compgen -f -- "$word")
+    else
+        COMPREPLY=($(compgen -W "$modes" -- "$word"))
+    fi
+}
+complete -F _bson bson
