@@ -14,6 +14,9 @@ use std::fs::{File, Metadata};
 use std::io::{Error, IsTerminal};
 use std::os::unix::fs::MetadataExt;
 
+/// What may stand before the one text of a named file.
+const BYTE_ORDER_MARK: &[u8] = b"\xef\xbb\xbf";
+
 /// Why a run could not go on, with the name of the file that it happened at; `-` is a standard
 /// stream.
 #[derive(Drop)]
@@ -126,7 +129,12 @@ fn run_text<'a>(
     reader: &mut Counted<'_, Source>,
     sink: &mut Sink,
 ) -> Result<Counts, Stop<'a>> {
-    match convert_whole(rt.alloc(), order, reader, sink) {
+    let mark = if name == STANDARD {
+        b"".as_slice()
+    } else {
+        BYTE_ORDER_MARK
+    };
+    match convert_whole(rt.alloc(), order, mark, reader, sink) {
         Ok(()) => Ok(Counts {
             lines: 1,
             refused: 0,

@@ -10,11 +10,12 @@ use serde_json::Value;
 use std::alloc::{AllocError, Global};
 use std::io::{Read, Write};
 
-/// Converts the one text that the reader has. A refusal has the line of what is no JSON, and no
-/// line (0) for any other fault.
+/// Converts the one text that the reader has behind this mark, or without it. A refusal has the
+/// line of what is no JSON, and no line (0) for any other fault.
 pub fn convert_whole<R: Read, W: Write>(
     alloc: Global,
     order: &Order,
+    mark: &[u8],
     reader: &mut R,
     writer: &mut W,
 ) -> Result<(), Refusal> {
@@ -22,12 +23,13 @@ pub fn convert_whole<R: Read, W: Write>(
         Ok(bytes) => bytes,
         Err(fault) => return Err(told(alloc, fault, b"")),
     };
-    match given(alloc, order, &bytes) {
+    let text = bytes.strip_prefix(mark).unwrap_or(&bytes);
+    match given(alloc, order, text) {
         Ok(output) => match writer.write_all(&output) {
             Ok(()) => Ok(()),
             Err(_) => Err(told(alloc, Fault::CannotWrite, b"")),
         },
-        Err(fault) => Err(told(alloc, fault, &bytes)),
+        Err(fault) => Err(told(alloc, fault, text)),
     }
 }
 
@@ -51,7 +53,6 @@ fn read_all<R: Read>(alloc: Global, reader: &mut R) -> Result<Vec<u8>, Fault> {
 
 // What is written of the text.
 fn given(alloc: Global, order: &Order, bytes: &[u8]) -> Result<Vec<u8>, Fault> {
-    let bytes = bytes.strip_prefix(b"\xef\xbb\xbf").unwrap_or(bytes);
     match order.task {
         Task::Write(mode) => convert_with(alloc, order.options, mode, bytes),
         Task::Check => {
@@ -74,7 +75,6 @@ fn told(alloc: Global, fault: Fault, bytes: &[u8]) -> Refusal {
 }
 
 fn placed(alloc: Global, fault: &Fault, bytes: &[u8]) -> Result<(u64, String), AllocError> {
-    let bytes = bytes.strip_prefix(b"\xef\xbb\xbf").unwrap_or(bytes);
     let line = match fault {
         Fault::NotJson => line_of_fault(alloc, bytes)?,
         _ => 0,

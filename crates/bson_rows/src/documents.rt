@@ -30,8 +30,13 @@ pub(crate) fn entries(alloc: Global, rest: &str, out: &mut Answer) -> Outcome {
         let value = Bson::Int32(number::<i32>(value)?);
         entries.push(Pair { key, value })?;
     }
-    out.show(&Document::from_entries(alloc, entries)?);
-    Ok(())
+    match Document::from_entries(alloc, entries) {
+        Ok(document) => {
+            out.show(&document);
+            Ok(())
+        }
+        Err(_) => Err(Stop::OutOfMemory),
+    }
 }
 
 fn run_all(alloc: Global, document: &mut Document, rest: &str, out: &mut Answer) -> Outcome {
