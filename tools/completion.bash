@@ -5,10 +5,11 @@ _bson() {
     for it in "${COMP_WORDS[@]:1:COMP_CWORD-1}"; do
         case $it in
             lines) modes='canonical relaxed show check' options+=' --keep-going --jobs' ;;
+            decode) modes='canonical relaxed show check' options='--sort-keys --keep-going --output --help --version' ;;
             canonical | relaxed | show | check) mode=$it ;;
         esac
     done
-    [[ $options == *--jobs || -n $mode ]] || modes+=' lines'
+    [[ $options == *--keep-going* || -n $mode ]] || modes+=' lines decode'
     compopt -o filenames 2>/dev/null
     if [[ $before == --jobs ]]; then
         COMPREPLY=($(compgen -W "$(nproc)" -- "$word"))

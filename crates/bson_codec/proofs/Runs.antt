@@ -1,21 +1,24 @@
 -- How a run over documents goes on and ends.
-use Rattle.std.proofs.Common.{◌≡◌, inl, inr, ℕ, ◌+◌, ◌≤◌, List, [], ◌++◌, length, Bool, Option, None, Some, refl}
+use Rattle.std.proofs.Common.{◌≡◌, inl, inr, ℕ, ◌+◌, ◌≤◌, List, [], ◌++◌, length, Option, None, Some, refl}
 use Rattle.std.proofs.Common.{sym, subst, ◌∙◌, arith}
 use Rattle.std.specs.Io.KnownBytes.{Appends, Consumes, IsAtEnd, Keeps}
 use Rattle.std.proofs.KnownBytes.{Appends-nil, Appends-trans, Consumes-nil, Consumes-trans}
 use Rattle.std.proofs.lemmas.List.{append-nil, length-append}
-use Rattle.bson_codec.specs.Documents.{Dump, none, written, passed_over}
-use Rattle.bson_codec.specs.Documents.{DoneDocuments, EndsFor, EndsAt, IsGiven, Running}
-use Rattle.bson_codec.specs.declared.documents.RunFault.{RunFault}
+use Rattle.bson_codec.specs.Documents.{Dump, none, written, passed_over, verdict}
+use Rattle.bson_codec.specs.Documents.{DoneDocuments, EndsFor, EndsAt, IsGiven, IsUngiven, Running}
+use Rattle.bson_codec.specs.declared.documents.Run.{Run}
+use Rattle.bson_codec.specs.declared.told.RunFault.{RunFault}
 
-pub run_begins : (d : ℕ) (keep : Bool) (before had : Option (List ℕ)) → Running d keep before before had had 0 0 0
-run_begins d keep before had = record {
+pub run_begins : (run : Run) (before had told : Option (List ℕ)) → Running run before before had had told told 0 0 0
+run_begins run before had told = record {
   done = [];
   output = [];
+  verdicts = [];
   given = Consumes-nil before;
   documents = none;
   place = refl;
   written = Appends-nil had;
+  reported = Appends-nil told;
 }
 
 appends_kept : (a b c : Option (List ℕ)) (bs : List ℕ) → Appends a b bs → Keeps b c → Appends a c bs
@@ -24,62 +27,74 @@ appends_kept (Some x) None c bs p q = absurd p
 appends_kept (Some x) (Some y) None bs p q = absurd q
 appends_kept (Some x) (Some y) (Some z) bs p q = q ∙ p
 
-pub run_goes_on : (d : ℕ) (keep : Bool) (before mid after had holds after_holds : Option (List ℕ))
-    (number refused start n behind : ℕ) (bytes : List ℕ) → Running d keep before mid had holds number refused start
-    → Consumes mid after bytes → IsGiven n d keep bytes holds after_holds → behind ≡ start + length bytes
-    → Running d keep before after had after_holds (number + 1) (refused + n) behind
-run_goes_on d keep before mid after had holds after_holds number refused start n behind bytes r taken (inl g) place =
-    let line = g.1.0 in
+pub run_goes_on : (run : Run) (before mid after had holds after_holds told tells after_tells : Option (List ℕ))
+    (number refused start n behind : ℕ) (bytes : List ℕ)
+    → Running run before mid had holds told tells number refused start → Consumes mid after bytes
+    → IsGiven n run (number + 1) start bytes holds after_holds tells after_tells → behind ≡ start + length bytes
+    → Running run before after had after_holds told after_tells (number + 1) (refused + n) behind
+run_goes_on run before mid after had holds after_holds told tells after_tells number refused start n behind bytes r taken (inl g) place =
+    let line = g.1.0.0 in
     let same : refused + n ≡ refused = omega (arith, g.0) in
     record {
       done = r.done ++ bytes;
       output = r.output ++ line;
+      verdicts = r.verdicts;
       given = Consumes-trans before mid after r.done bytes r.given taken;
-      documents = subst (λ (k : ℕ). Dump d keep (r.done ++ bytes) (r.output ++ line) (number + 1) k) (sym same)
-          (written bytes line r.documents g.1.1);
+      documents = subst (λ (k : ℕ). Dump run (r.done ++ bytes) (r.output ++ line) r.verdicts (number + 1) k) (sym same)
+          (written bytes line r.documents g.1.0.1.0);
       place = omega (arith, place, r.place, length-append r.done bytes);
-      written = Appends-trans had holds after_holds r.output line r.written g.1.2;
+      written = Appends-trans had holds after_holds r.output line r.written g.1.0.1.1;
+      reported = appends_kept told tells after_tells r.verdicts r.reported g.1.1;
     }
-run_goes_on d keep before mid after had holds after_holds number refused start n behind bytes r taken (inr g) place =
+run_goes_on run before mid after had holds after_holds told tells after_tells number refused start n behind bytes r taken (inr g) place =
+    let fault = g.1.1.0.0 in
     let one : refused + n ≡ refused + 1 = omega (arith, g.0) in
+    let said = verdict (number + 1) (length r.done) fault in
     record {
       done = r.done ++ bytes;
       output = r.output;
+      verdicts = r.verdicts ++ said;
       given = Consumes-trans before mid after r.done bytes r.given taken;
-      documents = subst (λ (k : ℕ). Dump d keep (r.done ++ bytes) r.output (number + 1) k) (sym one)
-          (passed_over bytes g.1.1.0.0 r.documents g.1.0 g.1.1.0.1 g.1.1.1.0);
+      documents = subst (λ (k : ℕ). Dump run (r.done ++ bytes) r.output (r.verdicts ++ said) (number + 1) k) (sym one)
+          (passed_over bytes fault r.documents g.1.0 g.1.1.0.1.0 g.1.1.1.0);
       place = omega (arith, place, r.place, length-append r.done bytes);
       written = appends_kept had holds after_holds r.output r.written g.1.1.1.1;
+      reported = Appends-trans told tells after_tells r.verdicts said r.reported
+          (subst (λ (s : ℕ). Appends tells after_tells (verdict (number + 1) s fault)) r.place g.1.1.0.1.1);
     }
 
-pub one_at_most : (n d : ℕ) (keep : Bool) (bytes : List ℕ) (had holds : Option (List ℕ))
-    → IsGiven n d keep bytes had holds → n ≤ 1
-one_at_most n d keep bytes had holds (inl g) = omega (arith, g.0)
-one_at_most n d keep bytes had holds (inr g) = omega (arith, g.0)
+pub one_at_most : (n : ℕ) (run : Run) (number start : ℕ) (bytes : List ℕ) (had holds told tells : Option (List ℕ))
+    → IsGiven n run number start bytes had holds told tells → n ≤ 1
+one_at_most n run number start bytes had holds told tells (inl g) = omega (arith, g.0)
+one_at_most n run number start bytes had holds told tells (inr g) = omega (arith, g.0)
 
-pub run_is_done : (d : ℕ) (keep : Bool) (before mid after had holds : Option (List ℕ)) (number refused start : ℕ)
-    (bytes : List ℕ) → Running d keep before mid had holds number refused start → Consumes mid after bytes
-    → bytes ≡ [] → IsAtEnd after → DoneDocuments d keep before after had holds number refused
-run_is_done d keep before mid after had holds number refused start bytes r taken nothing end = record {
+pub run_is_done : (run : Run) (before mid after had holds told tells : Option (List ℕ)) (number refused start : ℕ)
+    (bytes : List ℕ) → Running run before mid had holds told tells number refused start → Consumes mid after bytes
+    → bytes ≡ [] → IsAtEnd after → DoneDocuments run before after had holds told tells number refused
+run_is_done run before mid after had holds told tells number refused start bytes r taken nothing end = record {
   bytes = r.done;
   output = r.output;
+  verdicts = r.verdicts;
   given = subst (Consumes before after) (append-nil r.done)
       (Consumes-trans before mid after r.done [] r.given (subst (Consumes mid after) nothing taken));
   at_end = end;
   documents = r.documents;
   written = r.written;
+  reported = r.reported;
 }
 
-pub run_ends : (d : ℕ) (keep : Bool) (before mid after had holds after_holds : Option (List ℕ))
-    (count refused start number : ℕ) (fault : RunFault) (taken more : List ℕ)
-    → Running d keep before mid had holds count refused start → Consumes mid after taken → number ≡ count + 1
-    → EndsFor fault d taken more → Appends holds after_holds more
-    → EndsAt d keep before after had after_holds fault number start
-run_ends d keep before mid after had holds after_holds count refused start number fault taken more r given next why w = record {
+pub run_ends : (run : Run) (before mid after had holds after_holds told tells after_tells : Option (List ℕ))
+    (count refused start number : ℕ) (fault : RunFault) (taken : List ℕ)
+    → Running run before mid had holds told tells count refused start → Consumes mid after taken → number ≡ count + 1
+    → IsUngiven fault run number start taken holds after_holds tells after_tells
+    → EndsAt run before after had after_holds told after_tells fault number start
+run_ends run before mid after had holds after_holds told tells after_tells count refused start number fault taken r given next (more, (said, (why, (w, t)))) = record {
   done = r.done;
   taken = taken;
   output = r.output;
   more = more;
+  verdicts = r.verdicts;
+  said = said;
   count = count;
   refused = refused;
   given = Consumes-trans before mid after r.done taken r.given given;
@@ -88,18 +103,19 @@ run_ends d keep before mid after had holds after_holds count refused start numbe
   place = r.place;
   reason = why;
   written = Appends-trans had holds after_holds r.output more r.written w;
+  reported = Appends-trans told tells after_tells r.verdicts said r.reported t;
 }
 
-pub run_ends_unwritten : (d : ℕ) (keep : Bool) (before mid after had holds : Option (List ℕ))
+pub run_ends_unwritten : (run : Run) (before mid after had holds told tells : Option (List ℕ))
     (count refused start number : ℕ) (fault : RunFault) (taken : List ℕ)
-    → Running d keep before mid had holds count refused start → Consumes mid after taken → number ≡ count + 1
-    → EndsFor fault d taken [] → EndsAt d keep before after had holds fault number start
-run_ends_unwritten d keep before mid after had holds count refused start number fault taken r given next why =
-    run_ends d keep before mid after had holds holds count refused start number fault taken [] r given next why
-    (Appends-nil holds)
+    → Running run before mid had holds told tells count refused start → Consumes mid after taken → number ≡ count + 1
+    → EndsFor fault run number start taken [] [] → EndsAt run before after had holds told tells fault number start
+run_ends_unwritten run before mid after had holds told tells count refused start number fault taken r given next why =
+    run_ends run before mid after had holds holds told tells tells count refused start number fault taken r given next
+    ([], ([], (why, (Appends-nil holds, Appends-nil tells))))
 
-pub run_stops_between : (d : ℕ) (keep : Bool) (before mid had holds : Option (List ℕ)) (count refused start number : ℕ)
-    (fault : RunFault) → Running d keep before mid had holds count refused start → number ≡ count + 1
-    → EndsFor fault d [] [] → EndsAt d keep before mid had holds fault number start
-run_stops_between d keep before mid had holds count refused start number fault r next why =
-    run_ends_unwritten d keep before mid mid had holds count refused start number fault [] r (Consumes-nil mid) next why
+pub run_stops_between : (run : Run) (before mid had holds told tells : Option (List ℕ))
+    (count refused start number : ℕ) (fault : RunFault) → Running run before mid had holds told tells count refused start
+    → number ≡ count + 1 → EndsFor fault run number start [] [] [] → EndsAt run before mid had holds told tells fault number start
+run_stops_between run before mid had holds told tells count refused start number fault r next why =
+    run_ends_unwritten run before mid mid had holds told tells count refused start number fault [] r (Consumes-nil mid) next why

@@ -1,115 +1,174 @@
 -- What a run over documents does: its input is documents one behind the other.
-use Rattle.std.specs.Prelude.{◌≡◌, ◌⊎◌, ◌+◌, ℕ, List, [], ◌∷◌, ◌++◌, Bool, true, false, Option, Ok, length}
+use Rattle.std.specs.Prelude.{◌≡◌, ◌⊎◌, ◌+◌, ℕ, List, [], ◌∷◌, ◌++◌, true, false, Option, Ok, length}
 use Rattle.std.specs.Io.{StartsWith}
 use Rattle.std.specs.Io.KnownBytes.{Appends, Consumes, IsAtEnd, Keeps}
-use Rattle.bson.specs.Form.TheVariants.{Canonical}
-use Rattle.bson.specs.Normal.{writable}
-use Rattle.bson.specs.Texts.{IsTextIn}
+use Rattle.bson.specs.declared.extjson.options.Options.{Options}
+use Rattle.bson.specs.Texts.{IsTextUnder}
+use Rattle.bson_wrapper.specs.declared.form.Form.{Form}
+use Rattle.bson_model.specs.Displayed.{display_text}
+use Rattle.bson_model.specs.Normal.{writable_in}
 use Rattle.bson_model.specs.Value.{Pairs, document}
 use Rattle.bson_bytes.specs.Laws.{IsRead}
 use Rattle.bson_bytes.specs.Reading.{reads, size_at}
 use Rattle.bson_codec.specs.Errors.{IsPlacedFault}
-use Rattle.bson_codec.specs.declared.documents.RunFault.{RunFault}
-use Rattle.bson_codec.specs.declared.documents.RunFault.TheVariants.{Malformed, FiniteDouble, CannotRead, CannotWrite}
-use Rattle.bson_codec.specs.declared.documents.RunFault.TheVariants.{OutOfMemory}
+use Rattle.bson_codec.specs.Told.{told_of}
+use Rattle.bson_codec.specs.declared.documents.Line.{Line}
+use Rattle.bson_codec.specs.declared.documents.Line.TheVariants.{Text, Shown, Nothing}
+use Rattle.bson_codec.specs.declared.documents.Run.{Run}
+use Rattle.bson_codec.specs.declared.told.RunFault.{RunFault}
+use Rattle.bson_codec.specs.declared.told.RunFault.TheVariants.{Malformed, FiniteDouble, CannotRead, CannotWrite}
+use Rattle.bson_codec.specs.declared.told.RunFault.TheVariants.{OutOfMemory}
+
+abbrev pub newline : List ℕ
+newline = 10 ∷ []
 
 -- ---- a document
 
--- the canonical text of the document that the bytes are, and a newline
-pub record IsLine (d : ℕ) (bytes line : List ℕ) : Type 0 where
-  pub pairs : Pairs
-  pub text : List ℕ
-  pub read : IsRead d bytes pairs
-  pub is_text : IsTextIn Canonical (document pairs) text
-  pub ended : line ≡ text ++ 10 ∷ []
+-- what is written of the document: a text and a newline, or nothing
+abbrev pub WritesLine : Options → Line → Pairs → List ℕ → Type 0
+WritesLine o (Text f) ps line =
+    (text : List ℕ) × IsTextUnder o.doubles f (document ps) text × (line ≡ text ++ newline)
+WritesLine o Shown ps line = line ≡ display_text (document ps) ++ newline
+WritesLine o Nothing ps line = line ≡ []
 
--- the bytes have no such line, for the fault
-abbrev pub HasNoLine : RunFault → ℕ → List ℕ → Type 0
-HasNoLine (Malformed k n) d bytes = IsPlacedFault k n bytes (reads d bytes)
-HasNoLine FiniteDouble d bytes = (ps : Pairs) × IsRead d bytes ps × (writable (document ps) ≡ false)
-HasNoLine CannotRead d bytes = ⊥
-HasNoLine CannotWrite d bytes = ⊥
-HasNoLine OutOfMemory d bytes = ⊥
+-- what is written of the document that the bytes are
+pub record IsLine (run : Run) (bytes line : List ℕ) : Type 0 where
+  pub pairs : Pairs
+  pub read : IsRead run.depth bytes pairs
+  pub written : WritesLine run.options run.line pairs line
+
+-- the document has no text in a form
+abbrev pub IsUnwritable : Options → Line → Pairs → Type 0
+IsUnwritable o (Text f) ps = writable_in o.doubles (document ps) ≡ false
+IsUnwritable o Shown ps = ⊥
+IsUnwritable o Nothing ps = ⊥
+
+-- of the bytes nothing can be written, for the fault
+abbrev pub HasNoLine : RunFault → Run → List ℕ → Type 0
+HasNoLine (Malformed k n) run bytes = IsPlacedFault k n bytes (reads run.depth bytes)
+HasNoLine FiniteDouble run bytes = (ps : Pairs) × IsRead run.depth bytes ps × IsUnwritable run.options run.line ps
+HasNoLine CannotRead run bytes = ⊥
+HasNoLine CannotWrite run bytes = ⊥
+HasNoLine OutOfMemory run bytes = ⊥
 
 -- the bytes begin with their length
 abbrev pub BeginsWithLength : List ℕ → Type 0
 BeginsWithLength bytes = (rest : List ℕ) × (size_at bytes ≡ Ok (length bytes, rest))
 
+-- what is told of a document that is passed over: a line
+abbrev pub verdict : ℕ → ℕ → RunFault → List ℕ
+verdict number start fault = told_of number start fault ++ newline
+
 -- ---- documents one behind the other
 
--- these bytes are so many documents that give this output, of which so many were refused and passed over
-pub data Dump (d : ℕ) (keep_going : Bool) : List ℕ → List ℕ → ℕ → ℕ → Type 0 where
-  none : Dump d keep_going [] [] 0 0
-  written : {before output : List ℕ} {number refused : ℕ} (bytes line : List ℕ)
-      → Dump d keep_going before output number refused → IsLine d bytes line
-      → Dump d keep_going (before ++ bytes) (output ++ line) (number + 1) refused
-  passed_over : {before output : List ℕ} {number refused : ℕ} (bytes : List ℕ) (fault : RunFault)
-      → Dump d keep_going before output number refused → keep_going ≡ true → HasNoLine fault d bytes
-      → BeginsWithLength bytes → Dump d keep_going (before ++ bytes) output (number + 1) (refused + 1)
+-- these bytes are so many documents that give this output, of which so many were refused, passed over and told so
+pub data Dump (run : Run) : List ℕ → List ℕ → List ℕ → ℕ → ℕ → Type 0 where
+  none : Dump run [] [] [] 0 0
+  written : {before output told : List ℕ} {number refused : ℕ} (bytes line : List ℕ)
+      → Dump run before output told number refused → IsLine run bytes line
+      → Dump run (before ++ bytes) (output ++ line) told (number + 1) refused
+  passed_over : {before output told : List ℕ} {number refused : ℕ} (bytes : List ℕ) (fault : RunFault)
+      → Dump run before output told number refused → run.keep_going ≡ true → HasNoLine fault run bytes
+      → BeginsWithLength bytes
+      → Dump run (before ++ bytes) output (told ++ verdict (number + 1) (length before) fault) (number + 1) (refused + 1)
 
 -- ---- a run
 --
 -- Of a run, before and after are the bytes that the reader had left and has left, had and holds what the writer held
--- and holds: None where that is not known.
+-- and holds, told and tells what the writer of verdicts held and holds: None where that is not known.
 
--- all that the reader had are documents, and what they give was written
-pub record DoneDocuments (d : ℕ) (keep_going : Bool) (before after had holds : Option (List ℕ)) (number refused : ℕ)
+-- all that the reader had are documents, and what they give was written and told
+pub record DoneDocuments (run : Run) (before after had holds told tells : Option (List ℕ)) (number refused : ℕ)
     : Type 0 where
   pub bytes : List ℕ
   pub output : List ℕ
+  pub verdicts : List ℕ
   pub given : Consumes before after bytes
   pub at_end : IsAtEnd after
-  pub documents : Dump d keep_going bytes output number refused
+  pub documents : Dump run bytes output verdicts number refused
   pub written : Appends had holds output
+  pub reported : Appends told tells verdicts
 
--- why a run ends at the bytes that were taken of a document, and what was written of its line
-abbrev pub EndsFor : RunFault → ℕ → List ℕ → List ℕ → Type 0
-EndsFor (Malformed k n) d taken more = HasNoLine (Malformed k n) d taken × (more ≡ [])
-EndsFor FiniteDouble d taken more = HasNoLine FiniteDouble d taken × (more ≡ [])
-EndsFor CannotRead d taken more = more ≡ []
-EndsFor CannotWrite d taken more = (line : List ℕ) × IsLine d taken line × StartsWith line more
-EndsFor OutOfMemory d taken more = more ≡ []
+-- a writer took no more than a beginning of the line, or of the verdict
+abbrev pub IsCutShort : Run → (number start : ℕ) → (taken more said : List ℕ) → Type 0
+IsCutShort run number start taken more said =
+    (((line : List ℕ) × IsLine run taken line × StartsWith line more) × (said ≡ []))
+    ⊎ (((fault : RunFault) × HasNoLine fault run taken × StartsWith (verdict number start fault) said) × (more ≡ []))
+
+-- why a run ends at the bytes that were taken of the document of this number, which begins behind so many bytes, what
+-- was written of its line, and what was told
+abbrev pub EndsFor : RunFault → Run → (number start : ℕ) → (taken more said : List ℕ) → Type 0
+EndsFor (Malformed k n) run number start taken more said = HasNoLine (Malformed k n) run taken × (more ≡ []) × (said ≡ [])
+EndsFor FiniteDouble run number start taken more said = HasNoLine FiniteDouble run taken × (more ≡ []) × (said ≡ [])
+EndsFor CannotRead run number start taken more said = (more ≡ []) × (said ≡ [])
+EndsFor CannotWrite run number start taken more said = IsCutShort run number start taken more said
+EndsFor OutOfMemory run number start taken more said = (more ≡ []) × (said ≡ [])
 
 -- the documents before the one of this number, which begins behind so many bytes, were done, and what they give was
--- written; at that one the run ended for the fault
-pub record EndsAt (d : ℕ) (keep_going : Bool) (before after had holds : Option (List ℕ)) (fault : RunFault)
+-- written and told; at that one the run ended for the fault
+pub record EndsAt (run : Run) (before after had holds told tells : Option (List ℕ)) (fault : RunFault)
     (number start : ℕ) : Type 0 where
   pub done : List ℕ
   pub taken : List ℕ
   pub output : List ℕ
   pub more : List ℕ
+  pub verdicts : List ℕ
+  pub said : List ℕ
   pub count : ℕ
   pub refused : ℕ
   pub given : Consumes before after (done ++ taken)
-  pub documents : Dump d keep_going done output count refused
+  pub documents : Dump run done output verdicts count refused
   pub counted : number ≡ count + 1
   pub place : start ≡ length done
-  pub reason : EndsFor fault d taken more
+  pub reason : EndsFor fault run number start taken more said
   pub written : Appends had holds (output ++ more)
+  pub reported : Appends told tells (verdicts ++ said)
 
 -- ---- for private clauses
 
 -- why the bytes gave no line, or memory ran out
-abbrev pub IsJudged : RunFault → ℕ → List ℕ → Type 0
-IsJudged (Malformed k n) d bytes = HasNoLine (Malformed k n) d bytes
-IsJudged FiniteDouble d bytes = HasNoLine FiniteDouble d bytes
-IsJudged CannotRead d bytes = ⊥
-IsJudged CannotWrite d bytes = ⊥
-IsJudged OutOfMemory d bytes = Unit {0}
+abbrev pub IsJudged : RunFault → Run → List ℕ → Type 0
+IsJudged (Malformed k n) run bytes = HasNoLine (Malformed k n) run bytes
+IsJudged FiniteDouble run bytes = HasNoLine FiniteDouble run bytes
+IsJudged CannotRead run bytes = ⊥
+IsJudged CannotWrite run bytes = ⊥
+IsJudged OutOfMemory run bytes = Unit {0}
 
--- the line was written; or the document was refused and passed over, which counts as 1
-abbrev pub IsGiven : ℕ → ℕ → Bool → List ℕ → (had holds : Option (List ℕ)) → Type 0
-IsGiven n d keep_going bytes had holds =
-    ((n ≡ 0) × ((line : List ℕ) × IsLine d bytes line × Appends had holds line))
-    ⊎ ((n ≡ 1) × ((keep_going ≡ true)
-    × (((fault : RunFault) × HasNoLine fault d bytes) × (BeginsWithLength bytes × Keeps had holds))))
+-- why the document has no text in the form, or memory ran out
+abbrev pub IsUnwritten : RunFault → Options → Form → Pairs → Type 0
+IsUnwritten (Malformed k n) o f ps = ⊥
+IsUnwritten FiniteDouble o f ps = IsUnwritable o (Text f) ps
+IsUnwritten CannotRead o f ps = ⊥
+IsUnwritten CannotWrite o f ps = ⊥
+IsUnwritten OutOfMemory o f ps = Unit {0}
+
+-- the line was written; or the document was refused, passed over and told so, which counts as 1
+abbrev pub IsGiven : ℕ → Run → (number start : ℕ) → List ℕ → (had holds told tells : Option (List ℕ)) → Type 0
+IsGiven n run number start bytes had holds told tells =
+    ((n ≡ 0) × (((line : List ℕ) × IsLine run bytes line × Appends had holds line) × Keeps told tells))
+    ⊎ ((n ≡ 1) × ((run.keep_going ≡ true)
+    × (((fault : RunFault) × HasNoLine fault run bytes × Appends told tells (verdict number start fault))
+    × (BeginsWithLength bytes × Keeps had holds))))
+
+-- the run ends for the fault, and this was written of the line and told
+abbrev pub IsUngiven : RunFault → Run → (number start : ℕ) → List ℕ → (had holds told tells : Option (List ℕ)) → Type 0
+IsUngiven e run number start bytes had holds told tells = (more : List ℕ) × (said : List ℕ)
+    × EndsFor e run number start bytes more said × (Appends had holds more × Appends told tells said)
+
+-- the verdict was not told whole
+abbrev pub IsUntold : RunFault → (number start : ℕ) → RunFault → (told tells : Option (List ℕ)) → Type 0
+IsUntold e number start fault told tells =
+    ((e ≡ OutOfMemory) × Keeps told tells)
+    ⊎ ((e ≡ CannotWrite) × ((said : List ℕ) × StartsWith (verdict number start fault) said × Appends told tells said))
 
 -- how far a run has come
-pub record Running (d : ℕ) (keep_going : Bool) (before after had holds : Option (List ℕ)) (number refused start : ℕ)
+pub record Running (run : Run) (before after had holds told tells : Option (List ℕ)) (number refused start : ℕ)
     : Type 0 where
   pub done : List ℕ
   pub output : List ℕ
+  pub verdicts : List ℕ
   pub given : Consumes before after done
-  pub documents : Dump d keep_going done output number refused
+  pub documents : Dump run done output verdicts number refused
   pub place : start ≡ length done
   pub written : Appends had holds output
+  pub reported : Appends told tells verdicts

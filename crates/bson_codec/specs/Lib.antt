@@ -2,6 +2,7 @@ pub mod Reading
 pub mod Errors
 pub mod Writing
 pub mod Streams
+pub mod Told
 pub mod Documents
 -- what public clauses cite of the crates below, so that a caller names this crate alone
 pub use Rattle.bson_bytes.specs.Grammar

@@ -1,14 +1,22 @@
 //! Documents one behind the other, as dumps have them.
-ghost use Rattle.std.specs.Prelude.{ℕ, List, [], IfOk, IfErr, IsTrue};
+ghost use Rattle.std.specs.Prelude.{◌≡◌, ℕ, List, [], ◌++◌, IfOk, IfErr, OnOk, IsTrue, string_bytes};
 ghost use Rattle.std.specs.Io.KnownBytes.{Appends};
-ghost use Rattle.bson_codec.specs.Documents.{DoneDocuments, EndsAt, EndsFor, IsGiven, IsLine, IsJudged, HasNoLine};
-ghost use Rattle.bson_codec.specs.Documents.{BeginsWithLength};
+ghost use Rattle.bson_model.specs.Displayed.{display_text};
+ghost use Rattle.bson_model.specs.Value as model;
+ghost use Rattle.bson_bytes.specs.Laws.{IsRead};
+ghost use Rattle.bson.specs.View.{document_view};
+ghost use Rattle.bson_codec.specs.Documents.{BeginsWithLength, DoneDocuments, EndsAt, EndsFor, HasNoLine, IsGiven};
+ghost use Rattle.bson_codec.specs.Documents.{IsJudged, IsLine, IsUngiven, IsUntold, IsUnwritten, WritesLine, newline};
+ghost use Rattle.bson_codec.specs.Documents.{verdict};
+ghost use Rattle.bson_codec.specs.declared.documents.Line.TheVariants.{Text};
+ghost use Rattle.bson_codec.specs.declared.documents.Run.{Run};
+ghost use Rattle.bson_codec.specs.declared.told.RunFault.TheVariants.{OutOfMemory};
 
-use crate::de::{Error, from_slice};
+use crate::de::{DEPTH, Error, from_slice, is_document};
 use crate::stream::{ReaderError, take_document, write_whole};
-use bson::Bson;
-use bson::extjson::WriteError;
-use bson_bytes::fault::FaultKind;
+use crate::told::{RunEnd, RunFault};
+use bson::extjson::{Form, Options, WriteError};
+use bson::{Bson, Document};
 use bson_bytes::parts::size_at;
 use std::alloc::Global;
 use std::io::{Read, Write};
@@ -16,12 +24,67 @@ use std::io::{Read, Write};
 /// As many documents as a run counts.
 const MOST: u64 = u64::MAX - 1;
 
+/// What a run over documents writes of each.
+///
+/// ```
+/// let run = Run {
+///     line: Line::Text(Form::Relaxed),
+///     ..Run::default()
+/// };
+/// let mut input: &[u8] = b"\x0c\0\0\0\x10n\0\x05\0\0\0\0";
+/// let (mut output, mut told) = (Vec::new(alloc), Vec::new(alloc));
+/// drop(run_documents(alloc, run, &mut input, &mut output, &mut told));
+/// rt.print(str::from_utf8(&output)?)?; // {"n":5}
+/// ```
+#[derive(Clone, Copy, PartialEq, Eq, Debug)]
+pub enum Line {
+    /// Its text in a form of Extended JSON, and a newline.
+    Text(Form),
+    /// The text of its `Display`, and a newline.
+    Shown,
+    /// Nothing: it is only looked at.
+    Nothing,
+}
+
+/// What is asked of a run over documents.
+///
+/// ```
+/// let run = Run {
+///     keep_going: true,
+///     ..Run::default()
+/// };
+/// println!(rt; "{} {:?}", run.depth, run.line)?; // 100 Text(Canonical)
+/// ```
+#[derive(Clone, Copy, PartialEq, Eq, Debug)]
+pub struct Run {
+    /// How deep documents, arrays and scopes may nest.
+    pub depth: usize,
+    /// Which values have a text.
+    pub options: Options,
+    /// What is written of each document.
+    pub line: Line,
+    /// Whether a document that is refused is told and passed over, and the run goes on.
+    pub keep_going: bool,
+}
+
+/// Canonical lines of documents that nest at most [`DEPTH`] deep, up to the first that is refused.
+impl Default for Run {
+    fn default() -> Run {
+        Run {
+            depth: DEPTH,
+            options: Options::default(),
+            line: Line::Text(Form::Canonical),
+            keep_going: false,
+        }
+    }
+}
+
 /// How many documents there were.
 ///
 /// ```
 /// let mut input: &[u8] = b"\x05\0\0\0\0\x05\0\0\0\0";
-/// let mut output = Vec::new(alloc);
-/// let counts = run_documents(alloc, DEPTH, false, &mut input, &mut output);
+/// let (mut output, mut told) = (Vec::new(alloc), Vec::new(alloc));
+/// let counts = run_documents(alloc, Run::default(), &mut input, &mut output, &mut told);
 /// println!(rt; "{counts:?}")?; // Ok(DocumentCounts { documents: 2, refused: 0 })
 /// ```
 #[derive(Clone, Copy, PartialEq, Eq, Debug)]
@@ -32,71 +95,26 @@ pub struct DocumentCounts {
     pub refused: u64,
 }
 
-/// Why a run over documents ended.
+/// Reads documents one behind the other until the reader has nothing left, and writes a line of
+/// each, in their order.
 ///
-/// ```
-/// let mut input: &[u8] = b"\x05\0\0\0\0\x01";
-/// let mut output = Vec::new(alloc);
-/// if let Err(end) = run_documents(alloc, DEPTH, true, &mut input, &mut output) {
-///     println!(rt; "{:?}", end.fault)?; // Malformed { kind: Short, offset: 0 }
-/// }
-/// ```
-#[derive(Clone, Copy, PartialEq, Eq, Debug)]
-pub enum RunFault {
-    /// A document is none of BSON 1.1, for its first fault.
-    Malformed {
-        /// What is wrong.
-        kind: FaultKind,
-        /// The number of bytes of the document before its place.
-        offset: usize,
-    },
-    /// A document has a finite double other than zero, and so no text.
-    FiniteDouble,
-    /// The reader failed.
-    CannotRead,
-    /// The writer failed, or took no byte.
-    CannotWrite,
-    /// A request for memory was refused.
-    OutOfMemory,
-}
-
-/// Why a run over documents ended, and where.
-///
-/// ```
-/// let mut input: &[u8] = b"\x05\0\0\0\0\x05\0\0";
-/// let mut output = Vec::new(alloc);
-/// if let Err(end) = run_documents(alloc, DEPTH, true, &mut input, &mut output) {
-///     println!(rt; "{} {}", end.number, end.start)?; // 2 5
-/// }
-/// ```
-#[derive(Clone, Copy, PartialEq, Eq, Debug)]
-pub struct RunEnd {
-    /// Why.
-    pub fault: RunFault,
-    /// The number of the document, from 1.
-    pub number: u64,
-    /// The number of bytes before the document.
-    pub start: u64,
-}
-
-/// Reads documents one behind the other until the reader has nothing left, and writes the canonical
-/// text of each and a newline, in their order. They nest as [`from_slice`] says.
-///
-/// A document that is refused ends the run; with `keep_going` it is passed over and counted where
-/// the bytes that came are as many as its length says, since the next one begins behind them. All
-/// that the documents before gave was written, and nothing of the one at which the run ended, but
-/// at `CannotWrite` a beginning. Memory is that of the largest document and its text.
-pub fn run_documents<R: Read, W: Write>(
+/// A document that is refused ends the run; with `keep_going` it is told and passed over where the
+/// bytes that came are as many as its length says, since the next one begins behind them. All that
+/// the documents before gave was written and told, and nothing of the one at which the run ended,
+/// but at `CannotWrite` a beginning. Memory is that of the largest document and its text.
+pub fn run_documents<R: Read, W: Write, T: Write>(
     alloc: Global,
-    depth: usize,
-    keep_going: bool,
+    run: Run,
     reader: &mut R,
     writer: &mut W,
+    report: &mut T,
 ) -> Result<DocumentCounts, RunEnd>
-    ensures done { IfOk result (λ counts. DoneDocuments depth keep_going (R.remaining reader.old)
-        (R.remaining reader.new) (W.contents writer.old) (W.contents writer.new) counts.documents counts.refused) }
-    ensures fails { IfErr result (λ e. EndsAt depth keep_going (R.remaining reader.old) (R.remaining reader.new)
-        (W.contents writer.old) (W.contents writer.new) e.fault e.number e.start) }
+    ensures done { IfOk result (λ counts. DoneDocuments run (R.remaining reader.old) (R.remaining reader.new)
+        (W.contents writer.old) (W.contents writer.new) (T.contents report.old) (T.contents report.new)
+        counts.documents counts.refused) }
+    ensures fails { IfErr result (λ e. EndsAt run (R.remaining reader.old) (R.remaining reader.new)
+        (W.contents writer.old) (W.contents writer.new) (T.contents report.old) (T.contents report.new)
+        e.fault e.number e.start) }
 {
     let mut bytes = Vec::new(alloc);
     let mut refused: u64 = 0;
@@ -121,7 +139,8 @@ pub fn run_documents<R: Read, W: Write>(
                 start,
             });
         };
-        let passed = match give(alloc, depth, keep_going, bytes.as_slice(), writer) {
+        let bytes = bytes.as_slice();
+        let passed = match give(alloc, run, number, start, bytes, writer, report) {
             Ok(passed) => passed,
             Err(fault) => {
                 return Err(RunEnd {
@@ -142,19 +161,22 @@ pub fn run_documents<R: Read, W: Write>(
     })
 }
 
-// Writes the line of a document; or answers 1 for one that is refused and passed over.
-fn give<W: Write>(
+// Writes the line of a document; or answers 1 for one that is refused, told and passed over.
+fn give<W: Write, T: Write>(
     alloc: Global,
-    depth: usize,
-    keep_going: bool,
+    run: Run,
+    number: u64,
+    start: u64,
     bytes: &[u8],
     writer: &mut W,
+    report: &mut T,
 ) -> Result<u64, RunFault>
-    ensures ok { IfOk result (λ n. IsGiven n depth keep_going bytes.now (W.contents writer.old) (W.contents writer.new)) }
-    ensures fault { IfErr result
-        (λ e. (more : List ℕ) × EndsFor e depth bytes.now more × Appends (W.contents writer.old) (W.contents writer.new) more) }
+    ensures ok { IfOk result (λ n. IsGiven n run number start bytes.now (W.contents writer.old)
+        (W.contents writer.new) (T.contents report.old) (T.contents report.new)) }
+    ensures fault { IfErr result (λ e. IsUngiven e run number start bytes.now (W.contents writer.old)
+        (W.contents writer.new) (T.contents report.old) (T.contents report.new)) }
 {
-    match line_of(alloc, bytes, depth) {
+    match line_of(alloc, run, bytes) {
         Ok(line) => {
             let Ok(()) = write_whole(writer, line.as_slice()) else {
                 return Err(RunFault::CannotWrite);
@@ -162,7 +184,8 @@ fn give<W: Write>(
             Ok(0)
         }
         Err(fault) => {
-            if keep_going && may_pass(fault, bytes) {
+            if run.keep_going && may_pass(fault, bytes) {
+                tell(alloc, number, start, fault, report)?;
                 return Ok(1);
             }
             Err(fault)
@@ -170,23 +193,62 @@ fn give<W: Write>(
     }
 }
 
-// The canonical text of the document that the bytes are, and a newline.
-fn line_of(alloc: Global, bytes: &[u8], depth: usize) -> Result<Vec<u8>, RunFault>
-    ensures ok { IfOk result (λ line. IsLine depth bytes.now line.items) }
-    ensures fault { IfErr result (λ e. IsJudged e depth bytes.now) }
+// What is written of the document that the bytes are.
+fn line_of(alloc: Global, run: Run, bytes: &[u8]) -> Result<Vec<u8>, RunFault>
+    ensures ok { IfOk result (λ line. IsLine run bytes.now line.items) }
+    ensures fault { IfErr result (λ e. IsJudged e run bytes.now) }
 {
-    let document = match from_slice(alloc, bytes, depth) {
-        Ok(document) => document,
-        Err(Error::Malformed { kind, offset }) => {
-            return Err(RunFault::Malformed { kind, offset });
-        }
-        Err(Error::OutOfMemory) => return Err(RunFault::OutOfMemory),
-    };
-    let text = match Bson::Document(document).into_canonical_text(alloc) {
-        Ok(text) => text,
-        Err(WriteError::FiniteDouble) => return Err(RunFault::FiniteDouble),
-        Err(WriteError::OutOfMemory) => return Err(RunFault::OutOfMemory),
-    };
+    match run.line {
+        Line::Text(form) => text_line(alloc, run, form, read(alloc, run, bytes)?),
+        Line::Shown => shown_line(alloc, read(alloc, run, bytes)?),
+        Line::Nothing => match is_document(bytes, run.depth) {
+            Ok(()) => Ok(Vec::new(alloc)),
+            Err(Error::Malformed { kind, offset }) => Err(RunFault::Malformed { kind, offset }),
+            Err(Error::OutOfMemory) => Err(RunFault::OutOfMemory),
+        },
+    }
+}
+
+// The document that the bytes are.
+fn read(alloc: Global, run: Run, bytes: &[u8]) -> Result<Document, RunFault>
+    ensures ok { IfOk result (λ document. IsRead run.depth bytes.now (document_view document)) }
+    ensures fault { IfErr result (λ e. IsJudged e run bytes.now) }
+{
+    match from_slice(alloc, bytes, run.depth) {
+        Ok(document) => Ok(document),
+        Err(Error::Malformed { kind, offset }) => Err(RunFault::Malformed { kind, offset }),
+        Err(Error::OutOfMemory) => Err(RunFault::OutOfMemory),
+    }
+}
+
+// The document's text in the form, and a newline.
+fn text_line(alloc: Global, run: Run, form: Form, document: Document) -> Result<Vec<u8>, RunFault>
+    ensures ok { IfOk result (λ line. WritesLine run.options (Text form) (document_view document) line.items) }
+    ensures fault { IfErr result (λ e. IsUnwritten e run.options form (document_view document)) }
+{
+    match Bson::Document(document).into_text_with(alloc, run.options, form) {
+        Ok(text) => ended(text),
+        Err(WriteError::FiniteDouble) => Err(RunFault::FiniteDouble),
+        Err(WriteError::OutOfMemory) => Err(RunFault::OutOfMemory),
+    }
+}
+
+// The text that shows the document, and a newline.
+fn shown_line(alloc: Global, document: Document) -> Result<Vec<u8>, RunFault>
+    ensures ok { IfOk result (λ line. line.items ≡ display_text (model.document (document_view document)) ++ newline) }
+    ensures fault { IfErr result (λ e. e ≡ OutOfMemory) }
+{
+    match format!(in alloc; "{document}\n") {
+        Ok(line) => Ok(line.into_bytes()),
+        Err(_) => Err(RunFault::OutOfMemory),
+    }
+}
+
+// The text, and a newline.
+fn ended(text: String) -> Result<Vec<u8>, RunFault>
+    ensures ok { IfOk result (λ line. line.items ≡ string_bytes text ++ newline) }
+    ensures fault { IfErr result (λ e. e ≡ OutOfMemory) }
+{
     let mut line = text.into_bytes();
     match line.push(b'\n') {
         Ok(()) => Ok(line),
@@ -194,9 +256,35 @@ fn line_of(alloc: Global, bytes: &[u8], depth: usize) -> Result<Vec<u8>, RunFaul
     }
 }
 
+// Tells of a document that is passed over.
+fn tell<T: Write>(
+    alloc: Global,
+    number: u64,
+    start: u64,
+    fault: RunFault,
+    report: &mut T,
+) -> Result<(), RunFault>
+    ensures ok { OnOk result (Appends (T.contents report.old) (T.contents report.new) (verdict number start fault)) }
+    ensures fault { IfErr result (λ e. IsUntold e number start fault (T.contents report.old) (T.contents report.new)) }
+{
+    let end = RunEnd {
+        fault,
+        number,
+        start,
+    };
+    let line = match end.told(alloc) {
+        Ok(told) => ended(told)?,
+        Err(_) => return Err(RunFault::OutOfMemory),
+    };
+    match write_whole(report, line.as_slice()) {
+        Ok(()) => Ok(()),
+        Err(_) => Err(RunFault::CannotWrite),
+    }
+}
+
 // Whether a document that was refused may be passed over.
 fn may_pass(fault: RunFault, bytes: &[u8]) -> bool
-    ensures { IsTrue result → (d : ℕ) → IsJudged fault d bytes.now → HasNoLine fault d bytes.now
+    ensures { IsTrue result → (run : Run) → IsJudged fault run bytes.now → HasNoLine fault run bytes.now
         × BeginsWithLength bytes.now }
 {
     match fault {
@@ -220,7 +308,7 @@ fn has_length(bytes: &[u8]) -> bool
 
 // Why no bytes of a document came.
 fn unread(error: ReaderError) -> RunFault
-    ensures { (d : ℕ) (taken : List ℕ) → EndsFor result d taken [] }
+    ensures { (run : Run) (number start : ℕ) (taken : List ℕ) → EndsFor result run number start taken [] [] }
 {
     match error {
         ReaderError::OutOfMemory => RunFault::OutOfMemory,

@@ -10,6 +10,7 @@ mod scalars;
 pub mod ser;
 mod stopped;
 pub mod stream;
+pub mod told;
 mod write;
 
 pub use de::{from_slice, front, is_canonical, is_document};

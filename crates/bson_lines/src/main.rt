@@ -2,10 +2,11 @@
 //! each on a line of its own, in constant memory.
 //!
 //! The library `bson_run` goes the whole way; here stand the arguments (`order`), the files
-//! (`run`, `streams`, `output`; `whole` for one text), the line of progress (`progress`), and the lines on standard error
+//! (`run`, `streams`, `output`; `whole` for one text, `dump` for BSON documents), the line of progress (`progress`), and the lines on standard error
 //! (`messages`, `words`) and the statuses.
 #![tactic(auto)]
 
+mod dump;
 mod messages;
 mod order;
 mod output;
@@ -56,7 +57,7 @@ fn given(rt: &HostRuntime) -> Result<Asked, Fault> {
 fn done(rt: &HostRuntime, order: &Order) -> ExitCode {
     match run(rt, order) {
         Ok(counts) if counts.refused == 0 => ExitCode::SUCCESS,
-        Ok(counts) => told(rt, summary(rt.alloc(), counts)),
+        Ok(counts) => told(rt, summary(rt.alloc(), order.input, counts)),
         Err(Stop::Output(_, Some(error))) if error.kind() == ErrorKind::BrokenPipe => {
             ExitCode::from(NO_READER)
         }

@@ -1,6 +1,7 @@
 //! The lines on standard error.
-use crate::order::STANDARD;
+use crate::order::{Input, STANDARD};
 use crate::run::Stop;
+use bson_codec::told::{RunEnd, RunFault};
 use bson_run::fault::Fault;
 use bson_run::lines::Counts;
 use bson_run::refusal::Refusal;
@@ -10,10 +11,14 @@ use std::io::Error;
 /// What a verdict begins with, before its line's number.
 const HEAD: &[u8] = b"bson_lines: line ";
 
-/// How many lines there were, and how many were refused.
-pub fn summary(alloc: Global, counts: Counts) -> Result<String, AllocError> {
+/// How many lines or documents there were, and how many were refused.
+pub fn summary(alloc: Global, input: Input, counts: Counts) -> Result<String, AllocError> {
+    let what = match input {
+        Input::Lines | Input::Text => "lines",
+        Input::Documents => "documents",
+    };
     format!(in alloc;
-        "bson_lines: {} lines, {} refused",
+        "bson_lines: {} {what}, {} refused",
         counts.lines, counts.refused
     )
 }
@@ -35,7 +40,21 @@ pub fn line_of(alloc: Global, stop: Stop<'_>) -> Result<String, AllocError> {
         }
         Stop::Line(name, refusal) => at_line(alloc, name, refusal),
         Stop::Text(name, refusal) => at_text(alloc, name, refusal),
+        Stop::Document(name, end) => at_document(alloc, name, end),
     }
+}
+
+// At which document the run stopped, and why.
+fn at_document(alloc: Global, name: &str, end: RunEnd) -> Result<String, AllocError> {
+    let words = match end.fault {
+        RunFault::CannotRead | RunFault::CannotWrite => String::from_str(alloc, end.fault.words())?,
+        _ => end.told(alloc)?,
+    };
+    if name == STANDARD {
+        return format!(in alloc; "bson_lines: {words}");
+    }
+    let name = escaped(alloc, name)?;
+    format!(in alloc; "{name}: {words}")
 }
 
 // What stopped the run, at which line and where in it.
@@ -99,17 +118,21 @@ fn cause_of(alloc: Global, error: Option<Error>) -> Result<String, AllocError> {
     }
 }
 
-/// Verdicts, with a file's name and the line's number in front, as editors and grep have them.
+/// Verdicts on lines, with a file's name and the line's number in front, as editors and grep have
+/// them; on documents, with the name in front.
 pub fn named(alloc: Global, name: &str, verdicts: &[u8]) -> Result<Vec<u8>, AllocError> {
     let mut named = Vec::new(alloc);
     for verdict in verdicts.split_inclusive(|byte| *byte == b'\n') {
+        named.extend_from_slice(name.as_bytes())?;
         match verdict.strip_prefix(HEAD) {
             Some(rest) => {
-                named.extend_from_slice(name.as_bytes())?;
                 named.push(b':')?;
                 named.extend_from_slice(rest)?;
             }
-            None => named.extend_from_slice(verdict)?,
+            None => {
+                named.extend_from_slice(b": ")?;
+                named.extend_from_slice(verdict)?;
+            }
         }
     }
     Ok(named)

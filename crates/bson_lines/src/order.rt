@@ -19,17 +19,28 @@ pub enum Asked {
     Nothing,
 }
 
-/// A run over the lines of files.
+/// What the input is.
+#[derive(Clone, Copy, PartialEq, Eq)]
+pub enum Input {
+    /// A text a line.
+    Lines,
+    /// One text, on any number of lines.
+    Text,
+    /// BSON documents, one behind the other.
+    Documents,
+}
+
+/// A run over files.
 #[derive(Drop)]
 pub struct Order {
-    /// What is done with each line.
+    /// What is done with each line, or each document.
     pub task: Task,
     /// Which texts have a meaning, and which values a text.
     pub options: Options,
-    /// What becomes of the run at a line that is refused.
+    /// What becomes of the run at a line or a document that is refused.
     pub on_refusal: OnRefusal,
-    /// Whether the input is one text, and not one a line.
-    pub is_whole: bool,
+    /// What the input is.
+    pub input: Input,
     /// The file that the output goes to, or `-`.
     pub output: String,
     /// The files that are read, in this order; `-` is standard input.
@@ -44,7 +55,7 @@ pub fn asked_by(alloc: Global, words: Vec<String>) -> Result<Asked, AllocError> 
         task: None,
         options: Options::default(),
         keeps_going: false,
-        is_whole: false,
+        input: Input::Lines,
         output: None,
         inputs: Vec::new(alloc),
         next: Next::Any,
@@ -67,7 +78,7 @@ struct Given {
     task: Option<Task>,
     options: Options,
     keeps_going: bool,
-    is_whole: bool,
+    input: Input,
     output: Option<String>,
     inputs: Vec<String>,
     next: Next,
@@ -118,11 +129,8 @@ impl Given {
                 self.keeps_going = true;
                 Ok(once(is_first))
             }
-            "--whole" => {
-                let is_first = !self.is_whole;
-                self.is_whole = true;
-                Ok(once(is_first))
-            }
+            "--whole" => self.take_input(Input::Text),
+            "--bson" => self.take_input(Input::Documents),
             "--doubles" => {
                 let is_first = self.options.doubles == Doubles::Special;
                 self.options.doubles = Doubles::Finite;
@@ -135,6 +143,13 @@ impl Given {
                 None => self.take_name(word),
             },
         }
+    }
+
+    // The input is this, and nothing else was said of it.
+    fn take_input(&mut self, input: Input) -> Result<Taken, AllocError> {
+        let is_first = self.input == Input::Lines;
+        self.input = input;
+        Ok(once(is_first))
     }
 
     // The next word is taken for this.
@@ -172,7 +187,7 @@ impl Given {
             task,
             options,
             keeps_going,
-            is_whole,
+            input,
             output,
             inputs,
             next,
@@ -180,7 +195,7 @@ impl Given {
         let Some(task) = task else {
             return Ok(Asked::Nothing);
         };
-        if is_whole && (keeps_going || inputs.len() > 1) {
+        if input == Input::Text && (keeps_going || inputs.len() > 1) {
             return Ok(Asked::Nothing);
         }
         if next == Next::Output || (task == Task::Check && output.is_some()) {
@@ -198,7 +213,7 @@ impl Given {
             } else {
                 OnRefusal::Stop
             },
-            is_whole,
+            input,
             output,
             inputs: inputs_of(alloc, inputs)?,
         }))

@@ -18,6 +18,8 @@ pub struct Progress<'a> {
     rt: &'a HostRuntime,
     /// How many bytes the files have; none where no progress is told.
     total: Option<u64>,
+    /// Whether they have lines.
+    has_lines: bool,
     read: Cell<u64>,
     lines: Cell<u64>,
     refused: Cell<u64>,
@@ -26,10 +28,11 @@ pub struct Progress<'a> {
 }
 
 impl<'a> Progress<'a> {
-    pub fn new(rt: &'a HostRuntime, total: Option<u64>) -> Progress<'a> {
+    pub fn new(rt: &'a HostRuntime, total: Option<u64>, has_lines: bool) -> Progress<'a> {
         Progress {
             rt,
             total,
+            has_lines,
             read: Cell::new(0),
             lines: Cell::new(0),
             refused: Cell::new(0),
@@ -62,8 +65,13 @@ impl<'a> Progress<'a> {
         self.renewed.set(Some(now));
         self.stands.set(true);
         let (read, of) = (self.read.get() / 1_000_000, total / 1_000_000);
-        let (lines, refused) = (self.lines.get(), self.refused.get());
-        let _ = eprint!(self.rt; "\r{read} of {of} MB, {lines} lines, {refused} refused\x1b[K");
+        let refused = self.refused.get();
+        if self.has_lines {
+            let lines = self.lines.get();
+            let _ = eprint!(self.rt; "\r{read} of {of} MB, {lines} lines, {refused} refused\x1b[K");
+        } else {
+            let _ = eprint!(self.rt; "\r{read} of {of} MB, {refused} refused\x1b[K");
+        }
     }
 
     /// Takes the line away, where it stands.

@@ -1,10 +1,12 @@
 //! A run over files: what is opened, and what is told where that can't be done.
+use crate::dump::run_dump;
 use crate::messages::escaped;
-use crate::order::{Order, STANDARD};
+use crate::order::{Input, Order, STANDARD};
 use crate::output::Output;
 use crate::progress::{Counted, Progress, Verdicts};
 use crate::streams::{Sink, Source};
 use crate::whole::convert_whole;
+use bson_codec::told::RunEnd;
 use bson_run::fault::Fault;
 use bson_run::lines::{Counts, run_lines_with};
 use bson_run::order::Task;
@@ -13,6 +15,7 @@ use std::fs;
 use std::fs::{File, Metadata};
 use std::io::{Error, IsTerminal};
 use std::os::unix::fs::MetadataExt;
+use std::rt::Stderr;
 
 /// What may stand before the one text of a named file.
 const BYTE_ORDER_MARK: &[u8] = b"\xef\xbb\xbf";
@@ -31,6 +34,8 @@ pub enum Stop<'a> {
     Line(&'a str, Refusal),
     /// At the one text of the file.
     Text(&'a str, Refusal),
+    /// At a document of the file.
+    Document(&'a str, RunEnd),
 }
 
 /// Converts the lines of all files in their order. It stops where a file can't be read or written,
@@ -45,7 +50,7 @@ pub fn run<'a>(rt: &HostRuntime, order: &'a Order) -> Result<Counts, Stop<'a>> {
         Ok(output) => output,
         Err(error) => return Err(Stop::Output(name, Some(error))),
     };
-    let progress = Progress::new(rt, total(rt, order));
+    let progress = Progress::new(rt, total(rt, order), order.input != Input::Documents);
     let counts = run_all(rt, order, &mut output.sink, &progress);
     progress.clear();
     match counts {
@@ -91,33 +96,52 @@ fn run_one<'a>(
         progress,
         error: None,
     };
-    if order.is_whole {
-        return run_text(rt, order, name, &mut reader, sink);
-    }
     let mut report = Verdicts {
         alloc: rt.alloc(),
         writer: rt.stderr(),
-        name: title(rt, name)?,
+        name: title(rt, order, name)?,
         progress,
         error: None,
     };
+    match order.input {
+        Input::Lines => run_each(rt, order, name, &mut reader, sink, &mut report),
+        Input::Text => run_text(rt, order, name, &mut reader, sink),
+        Input::Documents => run_dump(rt, order, name, &mut reader, sink, &mut report),
+    }
+}
+
+// Converts each line of a file.
+fn run_each<'a>(
+    rt: &HostRuntime,
+    order: &'a Order,
+    name: &'a str,
+    reader: &mut Counted<'_, Source>,
+    sink: &mut Sink,
+    report: &mut Verdicts<'_, Stderr>,
+) -> Result<Counts, Stop<'a>> {
     match run_lines_with(
         rt.alloc(),
         order.options,
         order.task,
         order.on_refusal,
-        &mut reader,
+        reader,
         sink,
-        &mut report,
+        report,
     ) {
         Ok(counts) => Ok(counts),
-        Err(refusal) => {
-            let output = match report.error {
-                Some(error) => Stop::Output(STANDARD, Some(error)),
-                None => Stop::Output(order.output.as_str(), sink.error),
-            };
-            Err(stopped(refusal, name, Stop::Input(name, reader.error), output))
-        }
+        Err(refusal) => Err(match refusal.fault {
+            Fault::CannotRead => Stop::Input(name, reader.error),
+            Fault::CannotWrite => unwritten(order, sink, report),
+            _ => Stop::Line(name, refusal),
+        }),
+    }
+}
+
+/// What could not be written: verdicts, or else the output.
+pub fn unwritten<'a>(order: &'a Order, sink: &Sink, report: &Verdicts<'_, Stderr>) -> Stop<'a> {
+    match report.error {
+        Some(error) => Stop::Output(STANDARD, Some(error)),
+        None => Stop::Output(order.output.as_str(), sink.error),
     }
 }
 
@@ -147,16 +171,6 @@ fn run_text<'a>(
     }
 }
 
-// Why a run ended: the file that could not be read, or the one that could not be written, or else
-// a line of the file.
-fn stopped<'a>(refusal: Refusal, name: &'a str, input: Stop<'a>, output: Stop<'a>) -> Stop<'a> {
-    match refusal.fault {
-        Fault::CannotRead => input,
-        Fault::CannotWrite => output,
-        _ => Stop::Line(name, refusal),
-    }
-}
-
 // What is read by the name.
 fn source<'a>(rt: &HostRuntime, name: &'a str) -> Result<Source, Stop<'a>> {
     if name == STANDARD {
@@ -168,11 +182,15 @@ fn source<'a>(rt: &HostRuntime, name: &'a str) -> Result<Source, Stop<'a>> {
     }
 }
 
-// The name that stands before verdicts.
-fn title<'a>(rt: &HostRuntime, name: &'a str) -> Result<Option<String>, Stop<'a>> {
-    if name == STANDARD {
+// The name that stands before verdicts, but those on lines of standard input.
+fn title<'a>(rt: &HostRuntime, order: &Order, name: &'a str) -> Result<Option<String>, Stop<'a>> {
+    let name = if name != STANDARD {
+        name
+    } else if order.input == Input::Documents {
+        "bson_lines"
+    } else {
         return Ok(None);
-    }
+    };
     match escaped(rt.alloc(), name) {
         Ok(title) => Ok(Some(title)),
         Err(error) => Err(Stop::Input(name, Some(Error::from(error)))),

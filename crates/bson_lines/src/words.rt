@@ -2,7 +2,7 @@
 
 /// Where the arguments ask for nothing that it does.
 pub const USAGE: &str =
-    "usage: bson_lines canonical|relaxed|show|check [--doubles] [--keep-going|--whole] [-o FILE] [FILE ..]
+    "usage: bson_lines canonical|relaxed|show|check [--doubles] [--bson] [--keep-going|--whole] [-o FILE] [FILE ..]
 see bson_lines --help";
 
 /// What stands on standard error where there is no memory for anything else.
@@ -11,7 +11,7 @@ pub const OUT_OF_MEMORY: &str = "bson_lines: out of memory";
 pub const VERSION: &str = "bson_lines 0.2.0";
 
 pub const HELP: &str =
-    "usage: bson_lines canonical|relaxed|show|check [--doubles] [--keep-going|--whole] [-o FILE] [FILE ..]
+    "usage: bson_lines canonical|relaxed|show|check [--doubles] [--bson] [--keep-going|--whole] [-o FILE] [FILE ..]
 
 Reads MongoDB Extended JSON v2, a document a line, from the files or from standard input, and writes of each line:
   canonical   its canonical form, which keeps every type
@@ -22,6 +22,8 @@ Reads MongoDB Extended JSON v2, a document a line, from the files or from standa
   --doubles               finite doubles are taken: a number that is no whole one of 64 bits is read as the double
                           nearest to it, and a double is written as its shortest decimal; without it they are refused
   --keep-going            a refused line is told and left out, and the run goes on; without it the run ends there
+  --bson                  the input is documents of BSON 1.1, one behind the other, as in a dump, and a line is written
+                          of each: in both forms with keys in ascending order; check only looks at them
   --whole                 the input, one file at most, is one text on any number of lines, and not a text a line
   -o FILE, --output FILE  the output goes to FILE, and not to standard output: whole at the end, or not at all
   -h, --help; -v, --version
@@ -32,7 +34,9 @@ stays as it was, and the part is removed (but not where a signal ends the progra
 
 Blank lines give nothing and count. A byte order mark at the start of a file is passed over. Lines are numbered from 1
 in each file, and told as FILE:LINE: where they come from a file. Columns count bytes from 1. Memory is that of the
-longest line. On a terminal a line of progress stands below while files are read.
+longest line. Of BSON, a refused document is told with its number from 1 and the number of bytes before it, and with
+--keep-going passed over where all bytes of its length are there; else, or without it, the run ends. It may nest 100
+deep. Memory is that of the largest document. On a terminal a line of progress stands below while files are read.
 
 Status: 0 done, and no line was refused; 1 a line was refused, or the run could not go on, as standard error tells: the
 lines before it were written, and with --keep-going all others; 2 other arguments, and nothing was read; 141 nobody

@@ -4,10 +4,12 @@ use crate::held::document;
 use crate::stop::{Outcome, Stop};
 use crate::words::{bytes_of, cut, number};
 use bson::Document;
+use bson::extjson::{Doubles, Form, Options};
 use bson_codec::de::{DEPTH, Result as Read, is_canonical, is_document};
-use bson_codec::documents::{RunFault, run_documents};
+use bson_codec::documents::{Line, Run, run_documents};
 use bson_codec::ser::Result as Written;
 use bson_codec::stream::{from_reader, to_writer};
+use bson_codec::told::RunFault;
 use bson_codec::{from_slice, front, to_vec};
 use std::alloc::Global;
 
@@ -16,13 +18,14 @@ const ROOM: usize = 4096;
 
 /// `bytes read BYTES`, `bytes nested DEPTH BYTES`, `bytes front BYTES`, `bytes again BYTES`, `bytes
 /// check BYTES`, `bytes canonical BYTES`, `bytes from BYTES`, `bytes run BYTES`, `bytes run_on
-/// BYTES`, `bytes write DOCUMENT`, `bytes to DOCUMENT`.
+/// BYTES`, `bytes dump LINE BYTES`, `bytes write DOCUMENT`, `bytes to DOCUMENT`.
 pub(crate) fn call(alloc: Global, rest: &str, out: &mut Answer) -> Outcome {
     let (name, text) = cut(rest);
     match name {
         "write" => write(alloc, text, out),
         "to" => to(alloc, text, out),
         "nested" => nested(alloc, text, out),
+        "dump" => dump(alloc, text, out),
         _ => of_bytes(alloc, name, bytes_of(alloc, text)?, out),
     }
 }
@@ -59,8 +62,8 @@ fn of_bytes(alloc: Global, name: &str, bytes: Vec<u8>, out: &mut Answer) -> Outc
         "check" => put_checked(is_document(bytes, DEPTH), out),
         "canonical" => out.result(is_canonical(alloc, bytes, DEPTH)),
         "from" => from(alloc, bytes, out),
-        "run" => return run(alloc, bytes, false, out),
-        "run_on" => return run(alloc, bytes, true, out),
+        "run" => return run(alloc, Run::default(), bytes, out),
+        "run_on" => return run(alloc, going_on(), bytes, out),
         _ => return Err(Stop::NotUnderstood),
     }
     Ok(())
@@ -92,13 +95,45 @@ fn to(alloc: Global, text: &str, out: &mut Answer) -> Outcome {
     Ok(())
 }
 
-/// What a run over the documents wrote, and how it ended.
-fn run(alloc: Global, bytes: &[u8], keep_going: bool, out: &mut Answer) -> Outcome {
+fn going_on() -> Run {
+    Run {
+        keep_going: true,
+        ..Run::default()
+    }
+}
+
+/// `LINE BYTES`: a run that goes on, with finite doubles, and writes this of each document.
+fn dump(alloc: Global, text: &str, out: &mut Answer) -> Outcome {
+    let (line, bytes) = cut(text);
+    let line = match line {
+        "canonical" => Line::Text(Form::Canonical),
+        "relaxed" => Line::Text(Form::Relaxed),
+        "show" => Line::Shown,
+        "check" => Line::Nothing,
+        _ => return Err(Stop::NotUnderstood),
+    };
+    let options = Options {
+        doubles: Doubles::Finite,
+    };
+    let run_of_it = Run {
+        options,
+        line,
+        ..going_on()
+    };
+    let bytes = bytes_of(alloc, bytes)?;
+    run(alloc, run_of_it, bytes.as_slice(), out)
+}
+
+/// What a run over the documents wrote and told, and how it ended.
+fn run(alloc: Global, run: Run, bytes: &[u8], out: &mut Answer) -> Outcome {
     let mut reader = bytes;
     let mut written = Vec::with_capacity(alloc, ROOM)?;
-    let ended = run_documents(alloc, DEPTH, keep_going, &mut reader, &mut written);
-    if let Ok(text) = std::str::from_utf8(written.as_slice()) {
-        out.text(text);
+    let mut told = Vec::with_capacity(alloc, ROOM)?;
+    let ended = run_documents(alloc, run, &mut reader, &mut written, &mut told);
+    for text in [written.as_slice(), told.as_slice()] {
+        if let Ok(text) = std::str::from_utf8(text) {
+            out.text(text);
+        }
     }
     match ended {
         Ok(counts) => out.debug(&counts),

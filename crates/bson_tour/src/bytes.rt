@@ -1,7 +1,9 @@
 //! Documents from BSON bytes, and to them.
+use bson::extjson::Form;
 use bson::{Bson, Document};
 use bson_codec::de::{DEPTH, Error};
-use bson_codec::{from_reader, from_slice, is_document, run_documents, to_vec, to_writer};
+use bson_codec::documents::{Line, Run, run_documents};
+use bson_codec::{from_reader, from_slice, is_document, to_vec, to_writer};
 use std::alloc::Global;
 
 pub(crate) fn print(rt: &impl Print, alloc: Global) -> anyhow::Result<()> {
@@ -13,6 +15,8 @@ pub(crate) fn print(rt: &impl Print, alloc: Global) -> anyhow::Result<()> {
     reader_error(rt, alloc)?;
     writer_error(rt, alloc)?;
     counts(rt, alloc)?;
+    run_line(rt, alloc)?;
+    run_asked(rt)?;
     run_fault(rt, alloc)?;
     run_end(rt, alloc)
 }
@@ -74,16 +78,38 @@ fn writer_error(rt: &impl Print, alloc: Global) -> anyhow::Result<()> {
 
 fn counts(rt: &impl Print, alloc: Global) -> anyhow::Result<()> {
     let mut input: &[u8] = b"\x05\0\0\0\0\x05\0\0\0\0";
-    let mut output = Vec::new(alloc);
-    let counts = run_documents(alloc, DEPTH, false, &mut input, &mut output);
+    let (mut output, mut told) = (Vec::new(alloc), Vec::new(alloc));
+    let counts = run_documents(alloc, Run::default(), &mut input, &mut output, &mut told);
     println!(rt; "{counts:?}")?; // Ok(DocumentCounts { documents: 2, refused: 0 })
+    Ok(())
+}
+
+fn run_line(rt: &impl Print, alloc: Global) -> anyhow::Result<()> {
+    let run = Run {
+        line: Line::Text(Form::Relaxed),
+        ..Run::default()
+    };
+    let mut input: &[u8] = b"\x0c\0\0\0\x10n\0\x05\0\0\0\0";
+    let (mut output, mut told) = (Vec::new(alloc), Vec::new(alloc));
+    drop(run_documents(alloc, run, &mut input, &mut output, &mut told));
+    rt.print(str::from_utf8(&output)?)?; // {"n":5}
+    Ok(())
+}
+
+fn run_asked(rt: &impl Print) -> anyhow::Result<()> {
+    let run = Run {
+        keep_going: true,
+        ..Run::default()
+    };
+    println!(rt; "{} {:?}", run.depth, run.line)?; // 100 Text(Canonical)
     Ok(())
 }
 
 fn run_fault(rt: &impl Print, alloc: Global) -> anyhow::Result<()> {
     let mut input: &[u8] = b"\x05\0\0\0\0\x01";
-    let mut output = Vec::new(alloc);
-    if let Err(end) = run_documents(alloc, DEPTH, true, &mut input, &mut output) {
+    let (mut output, mut told) = (Vec::new(alloc), Vec::new(alloc));
+    let run = Run::default();
+    if let Err(end) = run_documents(alloc, run, &mut input, &mut output, &mut told) {
         println!(rt; "{:?}", end.fault)?; // Malformed { kind: Short, offset: 0 }
     }
     Ok(())
@@ -91,9 +117,10 @@ fn run_fault(rt: &impl Print, alloc: Global) -> anyhow::Result<()> {
 
 fn run_end(rt: &impl Print, alloc: Global) -> anyhow::Result<()> {
     let mut input: &[u8] = b"\x05\0\0\0\0\x05\0\0";
-    let mut output = Vec::new(alloc);
-    if let Err(end) = run_documents(alloc, DEPTH, true, &mut input, &mut output) {
-        println!(rt; "{} {}", end.number, end.start)?; // 2 5
+    let (mut output, mut told) = (Vec::new(alloc), Vec::new(alloc));
+    let run = Run::default();
+    if let Err(end) = run_documents(alloc, run, &mut input, &mut output, &mut told) {
+        println!(rt; "{}", end.told(alloc)?)?; // document 2 at byte 5: ends too early at its byte 0
     }
     Ok(())
 }

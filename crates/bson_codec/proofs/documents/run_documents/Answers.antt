@@ -6,29 +6,36 @@ use Rattle.bson_codec.proofs.documents.run_documents.Goals as goal
 pub loop-documents-init : goal.loop-documents-init
 loop-documents-init g c = (
   omega arith,
-  run_begins c.args.depth c.args.keep_going (g.R.Read.remaining c.args.reader.now) (g.W.Write.contents c.args.writer.now),
+  run_begins c.args.run (g.R.Read.remaining c.args.reader.now) (g.W.Write.contents c.args.writer.now)
+      (g.T.Write.contents c.args.report.now),
 )
 
 pub returns-in-Err-clause-fails : goal.returns-in-Err-clause-fails
 returns-in-Err-clause-fails g c =
     let some = c.take_document.ensures.some in
-    run_ends_unwritten c.args.depth c.args.keep_going (g.R.Read.remaining c.args.reader.now)
+    let number = c.loop-documents.documents + 1 in
+    run_ends_unwritten c.args.run (g.R.Read.remaining c.args.reader.now)
     (g.R.Read.remaining c.loop-documents.reader) (g.R.Read.remaining c.take_document.new.reader)
-    (g.W.Write.contents c.args.writer.now) (g.W.Write.contents c.loop-documents.writer) c.loop-documents.documents
-    c.loop-documents.refused c.loop-documents.start (c.loop-documents.documents + 1) c.unread-fault.result some.0
-    c.loop-documents.invariant.1 some.1 refl (c.unread-fault.ensures c.args.depth some.0)
+    (g.W.Write.contents c.args.writer.now) (g.W.Write.contents c.loop-documents.writer)
+    (g.T.Write.contents c.args.report.now) (g.T.Write.contents c.loop-documents.report) c.loop-documents.documents
+    c.loop-documents.refused c.loop-documents.start number c.unread-fault.result some.0
+    c.loop-documents.invariant.1 some.1 refl (c.unread-fault.ensures c.args.run number c.loop-documents.start some.0)
 
 pub loop-documents-preserved : goal.loop-documents-preserved
 loop-documents-preserved g c =
     let bytes = c.take_document.new.bytes.items in
+    let number = c.loop-documents.documents + 1 in
     let before = g.W.Write.contents c.loop-documents.writer in
     let after = g.W.Write.contents c.give.new.writer in
-    let given = subst (λ (b : List ℕ). IsGiven c.in-Ok.passed c.args.depth c.args.keep_going b before after)
+    let tells = g.T.Write.contents c.loop-documents.report in
+    let after_tells = g.T.Write.contents c.give.new.report in
+    let given = subst (λ (b : List ℕ). IsGiven c.in-Ok.passed c.args.run number c.loop-documents.start b before after tells after_tells)
     c.as_slice.ensures.value c.in-Ok.ensures.ok in (
-      omega (arith, c.loop-documents.invariant.0, one_at_most c.in-Ok.passed c.args.depth c.args.keep_going bytes before after given),
-      run_goes_on c.args.depth c.args.keep_going (g.R.Read.remaining c.args.reader.now)
+      omega (arith, c.loop-documents.invariant.0, one_at_most c.in-Ok.passed c.args.run number c.loop-documents.start bytes before after tells after_tells given),
+      run_goes_on c.args.run (g.R.Read.remaining c.args.reader.now)
           (g.R.Read.remaining c.loop-documents.reader) (g.R.Read.remaining c.take_document.new.reader)
-          (g.W.Write.contents c.args.writer.now) before after c.loop-documents.documents c.loop-documents.refused
+          (g.W.Write.contents c.args.writer.now) before after (g.T.Write.contents c.args.report.now) tells after_tells
+          c.loop-documents.documents c.loop-documents.refused
           c.loop-documents.start c.in-Ok.passed c.in-Some.behind bytes c.loop-documents.invariant.1
           c.in_default.ensures.taken given
           (omega (arith, c.in-Some.ensures, c.len.ensures, c.take_document.new.bytes.ok)),

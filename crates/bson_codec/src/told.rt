@@ -1,0 +1,115 @@
+//! Why a run over documents ends, or passes a document over, and what is told of it.
+ghost use Rattle.std.specs.Prelude.{◌≡◌, IfOk, string_bytes};
+ghost use Rattle.bson_codec.specs.Told.{place_of, told_of, words_for, words_of};
+
+use bson_bytes::fault::FaultKind;
+use std::alloc::{AllocError, Global};
+
+/// Why a run over documents ended.
+///
+/// ```
+/// let mut input: &[u8] = b"\x05\0\0\0\0\x01";
+/// let (mut output, mut told) = (Vec::new(alloc), Vec::new(alloc));
+/// let run = Run::default();
+/// if let Err(end) = run_documents(alloc, run, &mut input, &mut output, &mut told) {
+///     println!(rt; "{:?}", end.fault)?; // Malformed { kind: Short, offset: 0 }
+/// }
+/// ```
+#[derive(Clone, Copy, PartialEq, Eq, Debug)]
+pub enum RunFault {
+    /// A document is none of BSON 1.1, for its first fault.
+    Malformed {
+        /// What is wrong.
+        kind: FaultKind,
+        /// The number of bytes of the document before its place.
+        offset: usize,
+    },
+    /// A document has a finite double other than zero, where those have no text.
+    FiniteDouble,
+    /// The reader failed.
+    CannotRead,
+    /// A writer failed, or took no byte.
+    CannotWrite,
+    /// A request for memory was refused.
+    OutOfMemory,
+}
+
+/// Why a run over documents ended, and where.
+///
+/// ```
+/// let mut input: &[u8] = b"\x05\0\0\0\0\x05\0\0";
+/// let (mut output, mut told) = (Vec::new(alloc), Vec::new(alloc));
+/// let run = Run::default();
+/// if let Err(end) = run_documents(alloc, run, &mut input, &mut output, &mut told) {
+///     println!(rt; "{}", end.told(alloc)?)?; // document 2 at byte 5: ends too early at its byte 0
+/// }
+/// ```
+#[derive(Clone, Copy, PartialEq, Eq, Debug)]
+pub struct RunEnd {
+    /// Why.
+    pub fault: RunFault,
+    /// The number of the document, from 1.
+    pub number: u64,
+    /// The number of bytes before the document.
+    pub start: u64,
+}
+
+impl RunEnd {
+    /// The document and its fault, in words for people, on one line.
+    pub fn told(&self, alloc: Global) -> Result<String, AllocError>
+        ensures { IfOk result (λ told. string_bytes told ≡ told_of self.now.number self.now.start self.now.fault) }
+    {
+        let RunEnd {
+            fault,
+            number,
+            start,
+        } = *self;
+        let place = fault.place(alloc)?;
+        let words = fault.words();
+        format!(in alloc; "document {number} at byte {start}: {words}{place}")
+    }
+}
+
+impl RunFault {
+    /// What is wrong, in words for people.
+    pub fn words(self) -> &'static str
+        ensures { result.now ≡ words_of self }
+    {
+        match self {
+            RunFault::Malformed { kind, .. } => words_for(kind),
+            RunFault::FiniteDouble => "a finite double",
+            RunFault::CannotRead => "cannot read",
+            RunFault::CannotWrite => "cannot write",
+            RunFault::OutOfMemory => "out of memory",
+        }
+    }
+
+    // Where in the document.
+    fn place(self, alloc: Global) -> Result<String, AllocError>
+        ensures { IfOk result (λ place. string_bytes place ≡ place_of self) }
+    {
+        match self {
+            RunFault::Malformed { offset, .. } => format!(in alloc; " at its byte {offset}"),
+            RunFault::FiniteDouble
+            | RunFault::CannotRead
+            | RunFault::CannotWrite
+            | RunFault::OutOfMemory => Ok(String::new(alloc)),
+        }
+    }
+}
+
+// What is wrong with bytes.
+fn words_for(kind: FaultKind) -> &'static str
+    ensures { result.now ≡ words_for kind }
+{
+    match kind {
+        FaultKind::Depth => "nests too deep",
+        FaultKind::Short => "ends too early",
+        FaultKind::Length => "a wrong length",
+        FaultKind::Tag => "no type of BSON",
+        FaultKind::End => "no 0 behind a text",
+        FaultKind::Utf8 => "no UTF-8",
+        FaultKind::Boolean => "a boolean is neither 0 nor 1",
+        FaultKind::Trailing => "bytes behind the document",
+    }
+}
