@@ -4,10 +4,15 @@ use Rattle.std.proofs.Common.{sym, subst, ◌∙◌, arith}
 use Rattle.std.specs.Io.KnownBytes.{Appends, Consumes, IsAtEnd, Keeps}
 use Rattle.std.proofs.KnownBytes.{Appends-nil, Appends-trans, Consumes-nil, Consumes-trans}
 use Rattle.std.proofs.lemmas.List.{append-nil, length-append}
-use Rattle.bson_codec.specs.Documents.{Dump, none, written, passed_over, verdict}
-use Rattle.bson_codec.specs.Documents.{DoneDocuments, EndsFor, EndsAt, IsGiven, IsUngiven, Running}
+use Rattle.bson_codec.specs.Documents.{Dump, none, written, passed_over}
+use Rattle.bson_codec.specs.Documents.{DoneDocuments, EndsFor, EndsAt, HasNoLine, IsGiven, IsJudged, IsLine}
+use Rattle.bson_codec.specs.Documents.{IsUngiven, IsUntold, Running}
+use Rattle.bson_codec.specs.Streams.{WritesBeginning}
+use Rattle.bson_codec.specs.Told.{told_of}
 use Rattle.bson_codec.specs.declared.documents.Run.{Run}
 use Rattle.bson_codec.specs.declared.told.RunFault.{RunFault}
+use Rattle.bson_codec.specs.declared.told.RunFault.TheVariants.{Malformed, FiniteDouble, CannotRead, CannotWrite}
+use Rattle.bson_codec.specs.declared.told.RunFault.TheVariants.{OutOfMemory}
 
 pub run_begins : (run : Run) (before had told : Option (List ℕ)) → Running run before before had had told told 0 0 0
 run_begins run before had told = record {
@@ -41,27 +46,56 @@ run_goes_on run before mid after had holds after_holds told tells after_tells nu
       verdicts = r.verdicts;
       given = Consumes-trans before mid after r.done bytes r.given taken;
       documents = subst (λ (k : ℕ). Dump run (r.done ++ bytes) (r.output ++ line) r.verdicts (number + 1) k) (sym same)
-          (written bytes line r.documents g.1.0.1.0);
+          (written bytes line r.documents g.1.0.1);
       place = omega (arith, place, r.place, length-append r.done bytes);
-      written = Appends-trans had holds after_holds r.output line r.written g.1.0.1.1;
+      written = Appends-trans had holds after_holds r.output line r.written g.1.0.2;
       reported = appends_kept told tells after_tells r.verdicts r.reported g.1.1;
     }
 run_goes_on run before mid after had holds after_holds told tells after_tells number refused start n behind bytes r taken (inr g) place =
     let fault = g.1.1.0.0 in
     let one : refused + n ≡ refused + 1 = omega (arith, g.0) in
-    let said = verdict (number + 1) (length r.done) fault in
+    let said = told_of (number + 1) (length r.done) fault in
     record {
       done = r.done ++ bytes;
       output = r.output;
       verdicts = r.verdicts ++ said;
       given = Consumes-trans before mid after r.done bytes r.given taken;
       documents = subst (λ (k : ℕ). Dump run (r.done ++ bytes) r.output (r.verdicts ++ said) (number + 1) k) (sym one)
-          (passed_over bytes fault r.documents g.1.0 g.1.1.0.1.0 g.1.1.1.0);
+          (passed_over bytes fault r.documents g.1.0 g.1.1.0.1 g.1.1.1.0);
       place = omega (arith, place, r.place, length-append r.done bytes);
       written = appends_kept had holds after_holds r.output r.written g.1.1.1.1;
       reported = Appends-trans told tells after_tells r.verdicts said r.reported
-          (subst (λ (s : ℕ). Appends tells after_tells (verdict (number + 1) s fault)) r.place g.1.1.0.1.1);
+          (subst (λ (s : ℕ). Appends tells after_tells (told_of (number + 1) s fault)) r.place g.1.1.0.2);
     }
+
+-- ---- a document that was not given
+
+pub cut_line : (run : Run) (number start : ℕ) (bytes line : List ℕ) (had holds tells : Option (List ℕ))
+    → IsLine run bytes line → WritesBeginning had holds line
+    → IsUngiven CannotWrite run number start bytes had holds tells tells
+cut_line run number start bytes line had holds tells is cut =
+    (cut.beginning, [], inl ((line, is, cut.starts), refl), (cut.written, Appends-nil tells))
+
+pub untold : (e : RunFault) (run : Run) (number start : ℕ) (bytes : List ℕ) (fault : RunFault)
+    (had told tells : Option (List ℕ)) → HasNoLine fault run bytes → IsUntold e number start fault told tells
+    → IsUngiven e run number start bytes had had told tells
+untold e run number start bytes fault had told tells bad (inl p) =
+    subst (λ (it : RunFault). IsUngiven it run number start bytes had had told tells) (sym p.0)
+    ([], [], (refl, refl), (Appends-nil had, appends_kept told told tells [] (Appends-nil told) p.1))
+untold e run number start bytes fault had told tells bad (inr p) =
+    subst (λ (it : RunFault). IsUngiven it run number start bytes had had told tells) (sym p.0)
+    ([], p.1.0, inr ((fault, bad, p.1.1), refl), (Appends-nil had, p.1.2))
+
+pub judged_ends : (e : RunFault) (run : Run) (number start : ℕ) (bytes : List ℕ) (had told : Option (List ℕ))
+    → IsJudged e run bytes → IsUngiven e run number start bytes had had told told
+judged_ends (Malformed k n) run number start bytes had told p =
+    ([], [], (p, refl, refl), (Appends-nil had, Appends-nil told))
+judged_ends FiniteDouble run number start bytes had told p =
+    ([], [], (p, refl, refl), (Appends-nil had, Appends-nil told))
+judged_ends CannotRead run number start bytes had told p = absurd p
+judged_ends CannotWrite run number start bytes had told p = absurd p
+judged_ends OutOfMemory run number start bytes had told p =
+    ([], [], (refl, refl), (Appends-nil had, Appends-nil told))
 
 pub one_at_most : (n : ℕ) (run : Run) (number start : ℕ) (bytes : List ℕ) (had holds told tells : Option (List ℕ))
     → IsGiven n run number start bytes had holds told tells → n ≤ 1
@@ -88,7 +122,7 @@ pub run_ends : (run : Run) (before mid after had holds after_holds told tells af
     → Running run before mid had holds told tells count refused start → Consumes mid after taken → number ≡ count + 1
     → IsUngiven fault run number start taken holds after_holds tells after_tells
     → EndsAt run before after had after_holds told after_tells fault number start
-run_ends run before mid after had holds after_holds told tells after_tells count refused start number fault taken r given next (more, (said, (why, (w, t)))) = record {
+run_ends run before mid after had holds after_holds told tells after_tells count refused start number fault taken r given next (more, said, why, (w, t)) = record {
   done = r.done;
   taken = taken;
   output = r.output;
@@ -112,7 +146,7 @@ pub run_ends_unwritten : (run : Run) (before mid after had holds told tells : Op
     → EndsFor fault run number start taken [] [] → EndsAt run before after had holds told tells fault number start
 run_ends_unwritten run before mid after had holds told tells count refused start number fault taken r given next why =
     run_ends run before mid after had holds holds told tells tells count refused start number fault taken r given next
-    ([], ([], (why, (Appends-nil holds, Appends-nil tells))))
+    ([], [], why, (Appends-nil holds, Appends-nil tells))
 
 pub run_stops_between : (run : Run) (before mid had holds told tells : Option (List ℕ))
     (count refused start number : ℕ) (fault : RunFault) → Running run before mid had holds told tells count refused start

@@ -1,5 +1,5 @@
 -- What a run over documents does: its input is documents one behind the other.
-use Rattle.std.specs.Prelude.{◌≡◌, ◌⊎◌, ◌+◌, ℕ, List, [], ◌∷◌, ◌++◌, true, false, Option, Ok, length}
+use Rattle.std.specs.Prelude.{◌≡◌, ◌⊎◌, ◌+◌, ℕ, List, [], ◌++◌, true, false, Option, Ok, length}
 use Rattle.std.specs.Io.{StartsWith}
 use Rattle.std.specs.Io.KnownBytes.{Appends, Consumes, IsAtEnd, Keeps}
 use Rattle.bson.specs.declared.extjson.options.Options.{Options}
@@ -11,16 +11,13 @@ use Rattle.bson_model.specs.Value.{Pairs, document}
 use Rattle.bson_bytes.specs.Laws.{IsRead}
 use Rattle.bson_bytes.specs.Reading.{reads, size_at}
 use Rattle.bson_codec.specs.Errors.{IsPlacedFault}
-use Rattle.bson_codec.specs.Told.{told_of}
+use Rattle.bson_codec.specs.Told.{newline, told_of}
 use Rattle.bson_codec.specs.declared.documents.Line.{Line}
 use Rattle.bson_codec.specs.declared.documents.Line.TheVariants.{Text, Shown, Nothing}
 use Rattle.bson_codec.specs.declared.documents.Run.{Run}
 use Rattle.bson_codec.specs.declared.told.RunFault.{RunFault}
 use Rattle.bson_codec.specs.declared.told.RunFault.TheVariants.{Malformed, FiniteDouble, CannotRead, CannotWrite}
 use Rattle.bson_codec.specs.declared.told.RunFault.TheVariants.{OutOfMemory}
-
-abbrev pub newline : List ℕ
-newline = 10 ∷ []
 
 -- ---- a document
 
@@ -55,10 +52,6 @@ HasNoLine OutOfMemory run bytes = ⊥
 abbrev pub BeginsWithLength : List ℕ → Type 0
 BeginsWithLength bytes = (rest : List ℕ) × (size_at bytes ≡ Ok (length bytes, rest))
 
--- what is told of a document that is passed over: a line
-abbrev pub verdict : ℕ → ℕ → RunFault → List ℕ
-verdict number start fault = told_of number start fault ++ newline
-
 -- ---- documents one behind the other
 
 -- these bytes are so many documents that give this output, of which so many were refused, passed over and told so
@@ -70,7 +63,7 @@ pub data Dump (run : Run) : List ℕ → List ℕ → List ℕ → ℕ → ℕ �
   passed_over : {before output told : List ℕ} {number refused : ℕ} (bytes : List ℕ) (fault : RunFault)
       → Dump run before output told number refused → run.keep_going ≡ true → HasNoLine fault run bytes
       → BeginsWithLength bytes
-      → Dump run (before ++ bytes) output (told ++ verdict (number + 1) (length before) fault) (number + 1) (refused + 1)
+      → Dump run (before ++ bytes) output (told ++ told_of (number + 1) (length before) fault) (number + 1) (refused + 1)
 
 -- ---- a run
 --
@@ -93,7 +86,7 @@ pub record DoneDocuments (run : Run) (before after had holds told tells : Option
 abbrev pub IsCutShort : Run → (number start : ℕ) → (taken more said : List ℕ) → Type 0
 IsCutShort run number start taken more said =
     (((line : List ℕ) × IsLine run taken line × StartsWith line more) × (said ≡ []))
-    ⊎ (((fault : RunFault) × HasNoLine fault run taken × StartsWith (verdict number start fault) said) × (more ≡ []))
+    ⊎ (((fault : RunFault) × HasNoLine fault run taken × StartsWith (told_of number start fault) said) × (more ≡ []))
 
 -- why a run ends at the bytes that were taken of the document of this number, which begins behind so many bytes, what
 -- was written of its line, and what was told
@@ -147,7 +140,7 @@ abbrev pub IsGiven : ℕ → Run → (number start : ℕ) → List ℕ → (had 
 IsGiven n run number start bytes had holds told tells =
     ((n ≡ 0) × (((line : List ℕ) × IsLine run bytes line × Appends had holds line) × Keeps told tells))
     ⊎ ((n ≡ 1) × ((run.keep_going ≡ true)
-    × (((fault : RunFault) × HasNoLine fault run bytes × Appends told tells (verdict number start fault))
+    × (((fault : RunFault) × HasNoLine fault run bytes × Appends told tells (told_of number start fault))
     × (BeginsWithLength bytes × Keeps had holds))))
 
 -- the run ends for the fault, and this was written of the line and told
@@ -159,7 +152,7 @@ IsUngiven e run number start bytes had holds told tells = (more : List ℕ) × (
 abbrev pub IsUntold : RunFault → (number start : ℕ) → RunFault → (told tells : Option (List ℕ)) → Type 0
 IsUntold e number start fault told tells =
     ((e ≡ OutOfMemory) × Keeps told tells)
-    ⊎ ((e ≡ CannotWrite) × ((said : List ℕ) × StartsWith (verdict number start fault) said × Appends told tells said))
+    ⊎ ((e ≡ CannotWrite) × ((said : List ℕ) × StartsWith (told_of number start fault) said × Appends told tells said))
 
 -- how far a run has come
 pub record Running (run : Run) (before after had holds told tells : Option (List ℕ)) (number refused start : ℕ)

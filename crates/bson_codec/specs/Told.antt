@@ -7,6 +7,9 @@ use Rattle.bson_codec.specs.declared.told.RunFault.{RunFault}
 use Rattle.bson_codec.specs.declared.told.RunFault.TheVariants.{Malformed, FiniteDouble, CannotRead, CannotWrite}
 use Rattle.bson_codec.specs.declared.told.RunFault.TheVariants.{OutOfMemory}
 
+abbrev pub newline : List ℕ
+newline = 10 ∷ []
+
 abbrev pub words_for : FaultKind → List ℕ
 words_for kind.Depth = codes "nests too deep"
 words_for kind.Short = codes "ends too early"
@@ -24,6 +27,11 @@ words_of CannotRead = codes "cannot read"
 words_of CannotWrite = codes "cannot write"
 words_of OutOfMemory = codes "out of memory"
 
+abbrev pub told_with : ℕ → ℕ → RunFault → List ℕ → List ℕ
+told_with number start fault place =
+    codes "document " ++ decimal number ++ codes " at byte " ++ decimal start ++ codes ": " ++ words_of fault ++ place
+    ++ newline
+
 -- where in the document
 abbrev pub place_of : RunFault → List ℕ
 place_of (Malformed k n) = codes " at its byte " ++ decimal n
@@ -32,8 +40,6 @@ place_of CannotRead = []
 place_of CannotWrite = []
 place_of OutOfMemory = []
 
--- the document of this number, which begins behind so many bytes, and its fault
+-- a line on the document of this number, which begins behind so many bytes, and its fault
 abbrev pub told_of : ℕ → ℕ → RunFault → List ℕ
-told_of number start fault =
-    codes "document " ++ decimal number ++ codes " at byte " ++ decimal start ++ codes ": " ++ words_of fault
-    ++ place_of fault
+told_of number start fault = told_with number start fault (place_of fault)

@@ -6,8 +6,8 @@ ghost use Rattle.bson_model.specs.Value as model;
 ghost use Rattle.bson_bytes.specs.Laws.{IsRead};
 ghost use Rattle.bson.specs.View.{document_view};
 ghost use Rattle.bson_codec.specs.Documents.{BeginsWithLength, DoneDocuments, EndsAt, EndsFor, HasNoLine, IsGiven};
-ghost use Rattle.bson_codec.specs.Documents.{IsJudged, IsLine, IsUngiven, IsUntold, IsUnwritten, WritesLine, newline};
-ghost use Rattle.bson_codec.specs.Documents.{verdict};
+ghost use Rattle.bson_codec.specs.Documents.{IsJudged, IsLine, IsUngiven, IsUntold, IsUnwritten, WritesLine};
+ghost use Rattle.bson_codec.specs.Told.{newline, told_of};
 ghost use Rattle.bson_codec.specs.declared.documents.Line.TheVariants.{Text};
 ghost use Rattle.bson_codec.specs.declared.documents.Run.{Run};
 ghost use Rattle.bson_codec.specs.declared.told.RunFault.TheVariants.{OutOfMemory};
@@ -185,8 +185,10 @@ fn give<W: Write, T: Write>(
         }
         Err(fault) => {
             if run.keep_going && may_pass(fault, bytes) {
-                tell(alloc, number, start, fault, report)?;
-                return Ok(1);
+                return match tell(alloc, number, start, fault, report) {
+                    Ok(()) => Ok(1),
+                    Err(error) => Err(error),
+                };
             }
             Err(fault)
         }
@@ -264,7 +266,7 @@ fn tell<T: Write>(
     fault: RunFault,
     report: &mut T,
 ) -> Result<(), RunFault>
-    ensures ok { OnOk result (Appends (T.contents report.old) (T.contents report.new) (verdict number start fault)) }
+    ensures ok { OnOk result (Appends (T.contents report.old) (T.contents report.new) (told_of number start fault)) }
     ensures fault { IfErr result (λ e. IsUntold e number start fault (T.contents report.old) (T.contents report.new)) }
 {
     let end = RunEnd {
@@ -272,11 +274,10 @@ fn tell<T: Write>(
         number,
         start,
     };
-    let line = match end.told(alloc) {
-        Ok(told) => ended(told)?,
-        Err(_) => return Err(RunFault::OutOfMemory),
+    let Ok(told) = end.told(alloc) else {
+        return Err(RunFault::OutOfMemory);
     };
-    match write_whole(report, line.as_slice()) {
+    match write_whole(report, told.as_bytes()) {
         Ok(()) => Ok(()),
         Err(_) => Err(RunFault::CannotWrite),
     }

@@ -1,6 +1,6 @@
 //! Why a run over documents ends, or passes a document over, and what is told of it.
 ghost use Rattle.std.specs.Prelude.{◌≡◌, IfOk, string_bytes};
-ghost use Rattle.bson_codec.specs.Told.{place_of, told_of, words_for, words_of};
+ghost use Rattle.bson_codec.specs.Told.{place_of, told_of, told_with, words_for, words_of};
 
 use bson_bytes::fault::FaultKind;
 use std::alloc::{AllocError, Global};
@@ -41,7 +41,7 @@ pub enum RunFault {
 /// let (mut output, mut told) = (Vec::new(alloc), Vec::new(alloc));
 /// let run = Run::default();
 /// if let Err(end) = run_documents(alloc, run, &mut input, &mut output, &mut told) {
-///     println!(rt; "{}", end.told(alloc)?)?; // document 2 at byte 5: ends too early at its byte 0
+///     rt.print(&end.told(alloc)?)?; // document 2 at byte 5: ends too early at its byte 0
 /// }
 /// ```
 #[derive(Clone, Copy, PartialEq, Eq, Debug)]
@@ -55,19 +55,27 @@ pub struct RunEnd {
 }
 
 impl RunEnd {
-    /// The document and its fault, in words for people, on one line.
+    /// The document and its fault, in words for people, and a newline.
     pub fn told(&self, alloc: Global) -> Result<String, AllocError>
         ensures { IfOk result (λ told. string_bytes told ≡ told_of self.now.number self.now.start self.now.fault) }
     {
-        let RunEnd {
-            fault,
-            number,
-            start,
-        } = *self;
-        let place = fault.place(alloc)?;
-        let words = fault.words();
-        format!(in alloc; "document {number} at byte {start}: {words}{place}")
+        let place = self.fault.place(alloc)?;
+        at_place(alloc, self.number, self.start, self.fault, place.as_str())
     }
+}
+
+// The document, the words for the fault, and its place.
+fn at_place(
+    alloc: Global,
+    number: u64,
+    start: u64,
+    fault: RunFault,
+    place: &str,
+) -> Result<String, AllocError>
+    ensures { IfOk result (λ told. string_bytes told ≡ told_with number start fault place.now) }
+{
+    let words = fault.words();
+    format!(in alloc; "document {number} at byte {start}: {words}{place}\n")
 }
 
 impl RunFault {

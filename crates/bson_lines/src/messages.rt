@@ -50,6 +50,7 @@ fn at_document(alloc: Global, name: &str, end: RunEnd) -> Result<String, AllocEr
         RunFault::CannotRead | RunFault::CannotWrite => String::from_str(alloc, end.fault.words())?,
         _ => end.told(alloc)?,
     };
+    let words = words.trim_end();
     if name == STANDARD {
         return format!(in alloc; "bson_lines: {words}");
     }

@@ -1,6 +1,6 @@
 use Rattle.std.proofs.Common.{◌+◌, List, ℕ, arith, refl, subst}
-use Rattle.bson_codec.specs.Documents.{IsGiven}
-use Rattle.bson_codec.proofs.Runs.{run_begins, run_goes_on, run_ends_unwritten, one_at_most}
+use Rattle.bson_codec.specs.Documents.{IsGiven, IsUngiven}
+use Rattle.bson_codec.proofs.Runs.{run_begins, run_goes_on, run_ends, run_ends_unwritten, one_at_most}
 use Rattle.bson_codec.proofs.documents.run_documents.Goals as goal
 
 pub loop-documents-init : goal.loop-documents-init
@@ -30,7 +30,7 @@ loop-documents-preserved g c =
     let tells = g.T.Write.contents c.loop-documents.report in
     let after_tells = g.T.Write.contents c.give.new.report in
     let given = subst (λ (b : List ℕ). IsGiven c.in-Ok.passed c.args.run number c.loop-documents.start b before after tells after_tells)
-    c.as_slice.ensures.value c.in-Ok.ensures.ok in (
+    c.as_slice-bytes.ensures.value c.in-Ok.ensures.ok in (
       omega (arith, c.loop-documents.invariant.0, one_at_most c.in-Ok.passed c.args.run number c.loop-documents.start bytes before after tells after_tells given),
       run_goes_on c.args.run (g.R.Read.remaining c.args.reader.now)
           (g.R.Read.remaining c.loop-documents.reader) (g.R.Read.remaining c.take_document.new.reader)
@@ -40,3 +40,18 @@ loop-documents-preserved g c =
           c.in_default.ensures.taken given
           (omega (arith, c.in-Some.ensures, c.len.ensures, c.take_document.new.bytes.ok)),
     )
+
+pub returns-in-Err-give-clause-fails : goal.returns-in-Err-give-clause-fails
+returns-in-Err-give-clause-fails g c =
+    let bytes = c.take_document.new.bytes.items in
+    let number = c.loop-documents.documents + 1 in
+    let before = g.W.Write.contents c.loop-documents.writer in
+    let after = g.W.Write.contents c.give.new.writer in
+    let tells = g.T.Write.contents c.loop-documents.report in
+    let after_tells = g.T.Write.contents c.give.new.report in
+    run_ends c.args.run (g.R.Read.remaining c.args.reader.now) (g.R.Read.remaining c.loop-documents.reader)
+    (g.R.Read.remaining c.take_document.new.reader) (g.W.Write.contents c.args.writer.now) before after
+    (g.T.Write.contents c.args.report.now) tells after_tells c.loop-documents.documents c.loop-documents.refused
+    c.loop-documents.start number c.in-Err-give.fault bytes c.loop-documents.invariant.1 c.in_default.ensures.taken refl
+    (subst (λ (b : List ℕ). IsUngiven c.in-Err-give.fault c.args.run number c.loop-documents.start b before after tells after_tells)
+    c.as_slice-bytes.ensures.value c.in-Err-give.ensures.fault)

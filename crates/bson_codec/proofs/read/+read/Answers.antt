@@ -6,7 +6,6 @@ use Rattle.bson_bytes.specs.Reading.{mapped, value_with, document_at}
 use Rattle.bson_bytes.specs.Tags.{kind_of}
 use Rattle.bson_bytes.proofs.Offered.{elements, bad_byte, bad_tag, bad_name, bad_value, too_deep, bad_size, mapped_done}
 use Rattle.bson_bytes.proofs.Offered.{mapped_wrong, scope_done}
-use Rattle.bson.specs.View.{bson_view}
 use Rattle.bson_codec.proofs.Loop.{pairs_fail, values_fail, pairs_end, pairs_more, values_end, values_more}
 use Rattle.bson_codec.proofs.Loop.{pairs_fault, values_fault, entries_done, mapped_fault, mapped_stop}
 use Rattle.bson_codec.proofs.Loop.{list_stop}

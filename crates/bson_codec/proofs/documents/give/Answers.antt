@@ -1,0 +1,37 @@
+use Rattle.std.proofs.Common.{ℕ, Result, IfErr, refl, subst, sym}
+use Rattle.bson_codec.specs.Documents.{IsUngiven}
+use Rattle.bson_codec.specs.Streams.{WritesBeginning}
+use Rattle.bson_codec.specs.declared.told.RunFault.{RunFault}
+use Rattle.bson_codec.proofs.Runs.{cut_line, judged_ends, untold}
+use Rattle.bson_codec.proofs.documents.give.Goals as goal
+use Rattle.bson_codec.proofs.documents.give.Goals.{in-Ok-tell, in-Err-tell}
+
+pub returns-in_default-clause-fault : goal.returns-in_default-clause-fault
+returns-in_default-clause-fault g c =
+    let had = g.W.Write.contents c.args.writer.now in
+    let holds = g.W.Write.contents c.write_whole.new.writer in
+    cut_line c.args.run c.args.number c.args.start c.args.bytes.now c.in-Ok.line.items had holds
+    (g.T.Write.contents c.args.report.now) c.in-Ok.ensures.ok
+    (subst (WritesBeginning had holds) c.as_slice.ensures.value c.in_default.ensures.cut)
+
+pub returns-then-may_pass-clause-fault : goal.returns-then-may_pass-clause-fault
+returns-then-may_pass-clause-fault g c =
+    let had = g.W.Write.contents c.args.writer.now in
+    let told = g.T.Write.contents c.args.report.now in
+    let tells = g.T.Write.contents c.tell.new.report in
+    let bytes = c.args.bytes.now in
+    elim c.match-tell.branch [
+      | in-Ok-tell w ↦ subst
+          (λ (r : Result ℕ RunFault). IfErr r (λ e. IsUngiven e c.args.run c.args.number c.args.start bytes had had told tells))
+          (sym w.result-is) tt
+      | in-Err-tell w ↦ subst
+          (λ (r : Result ℕ RunFault). IfErr r (λ e. IsUngiven e c.args.run c.args.number c.args.start bytes had had told tells))
+          (sym w.result-is)
+          (untold w.in-Err-tell.error c.args.run c.args.number c.args.start bytes c.in-Err.fault had told tells
+          (c.if-may_pass.ensures refl c.args.run c.in-Err.ensures.fault).0 w.in-Err-tell.ensures.fault)
+    ]
+
+pub returns-else-run-clause-fault : goal.returns-else-run-clause-fault
+returns-else-run-clause-fault g c =
+    judged_ends c.in-Err.fault c.args.run c.args.number c.args.start c.args.bytes.now
+    (g.W.Write.contents c.args.writer.now) (g.T.Write.contents c.args.report.now) c.in-Err.ensures.fault
