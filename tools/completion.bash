@@ -5,7 +5,7 @@ _bson() {
     for it in "${COMP_WORDS[@]:1:COMP_CWORD-1}"; do
         case $it in
             lines) modes='canonical relaxed show check' options+=' --keep-going --jobs' ;;
-            decode) modes='canonical relaxed show check' options='--sort-keys --keep-going --output --help --version' ;;
+            decode) modes='canonical relaxed show check' options='--sort-keys --keep-going --jobs --output --help --version' ;;
             canonical | relaxed | show | check) mode=$it ;;
         esac
     done
