@@ -14,4 +14,5 @@ pub mod OneOrder
 pub mod WriteLaws
 pub mod OrderedTexts
 pub mod TextMeaning
+pub mod Modes
 pub mod Offered

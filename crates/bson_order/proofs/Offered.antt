@@ -1,7 +1,16 @@
--- The laws that the crates above use. No other file of these proofs is cited from outside.
+-- The laws that the crates above use, in each mode of doubles. No other file of these proofs is cited from outside.
+
+-- ---- for readers: `reads_in_order` gives just what `MeansInOrder` says, part by part
 pub use Rattle.bson_order.proofs.Forgets.{forgets}
 pub use Rattle.bson_order.proofs.Forgetting.{read_forgotten}
-pub use Rattle.bson_order.proofs.MeansLaws.{means_from, means_in, meant_in_order}
-pub use Rattle.bson_order.proofs.OrderedTexts.{ordered_text}
-pub use Rattle.bson_order.proofs.TextMeaning.{text_means}
-pub use Rattle.bson_order.proofs.WriteLaws.{written_from}
+pub use Rattle.bson_order.proofs.KeptTrees.{read_is_kept}
+pub use Rattle.bson_order.proofs.MeansLaws.{means_from, means_in, items_from, items_in, document_from, document_in}
+pub use Rattle.bson_order.proofs.MeansLaws.{one_in_order, meant_in_order}
+pub use Rattle.bson_order.proofs.ReadForm.{form, in_range, distinct}
+pub use Rattle.bson_order.proofs.TextMeaning.{text_means, meant_by_text}
+-- ---- for writers: `writes_in_order` gives just what `WrittenInOrder` says, part by part
+pub use Rattle.bson_order.proofs.KeptTexts.{own_text}
+pub use Rattle.bson_order.proofs.OrderedTexts.{ordered_text, comes_back}
+pub use Rattle.bson_order.proofs.WriteLaws.{written_from, written_to, one_written, writable_is, default_written}
+pub use Rattle.bson_order.proofs.WriteLaws.{items_from as items_written_from, items_to as items_written_to}
+pub use Rattle.bson_order.proofs.WriteLaws.{pairs_from as pairs_written_from, pairs_to as pairs_written_to}

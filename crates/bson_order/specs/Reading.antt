@@ -5,45 +5,46 @@ use Rattle.std.specs.Str.{bytes_eq}
 use Rattle.serde_json.specs.Data.{Data, Items, no_items, item, Members, no_members, member}
 use Rattle.serde_json.specs.Data as tree
 use Rattle.bson_wrapper.specs.Faults.{Fault, wrong_shape, ◌>>=◌}
-use Rattle.bson_wrapper.specs.Reading.{number_read, single_at}
+use Rattle.bson_wrapper.specs.Reading.{number_read_in, single_at_in}
 use Rattle.bson_wrapper.specs.Scalar.{null, boolean, text}
 use Rattle.bson_wrapper.specs.Table.{wrapper_of, has_wrapper}
+use Rattle.bson_wrapper.specs.declared.form.Doubles.{Doubles}
 use Rattle.bson_model.specs.Reading.{scalar_value, code_at}
 use Rattle.bson_model.specs.Value.{Value, scalar, array, document, Values, no_values, value, Pairs}
 use Rattle.bson_model.specs.Value.{no_pairs, pair}
 use Rattle.bson_order.specs.Kept.{unordered}
 
 abbrev mutual
-  pub reads_in_order : Data → Result Value Fault
-  reads_in_order tree.null = Ok (scalar null)
-  reads_in_order (tree.boolean b) = Ok (scalar (boolean b))
-  reads_in_order (tree.number n) = scalar_value (number_read n)
-  reads_in_order (tree.string s) = Ok (scalar (text s))
-  reads_in_order (tree.array ds) = items_in_order ds >>= λ vs. Ok (array vs)
-  reads_in_order (tree.object ms) =
-      if has_wrapper ms then wrapper_in_order ms else (members_in_order ms >>= λ ps. Ok (document ps))
+  pub reads_in_order : Doubles → Data → Result Value Fault
+  reads_in_order D tree.null = Ok (scalar null)
+  reads_in_order D (tree.boolean b) = Ok (scalar (boolean b))
+  reads_in_order D (tree.number n) = scalar_value (number_read_in D n)
+  reads_in_order D (tree.string s) = Ok (scalar (text s))
+  reads_in_order D (tree.array ds) = items_in_order D ds >>= λ vs. Ok (array vs)
+  reads_in_order D (tree.object ms) =
+      if has_wrapper ms then wrapper_in_order D ms else (members_in_order D ms >>= λ ps. Ok (document ps))
 
-  pub items_in_order : Items → Result Values Fault
-  items_in_order no_items = Ok no_values
-  items_in_order (item d ds) = reads_in_order d >>= λ v. items_in_order ds >>= λ vs. Ok (value v vs)
+  pub items_in_order : Doubles → Items → Result Values Fault
+  items_in_order D no_items = Ok no_values
+  items_in_order D (item d ds) = reads_in_order D d >>= λ v. items_in_order D ds >>= λ vs. Ok (value v vs)
 
-  pub members_in_order : Members → Result Pairs Fault
-  members_in_order no_members = Ok no_pairs
-  members_in_order (member k d ms) = reads_in_order d >>= λ v. members_in_order ms >>= λ ps. Ok (pair k v ps)
+  pub members_in_order : Doubles → Members → Result Pairs Fault
+  members_in_order D no_members = Ok no_pairs
+  members_in_order D (member k d ms) = reads_in_order D d >>= λ v. members_in_order D ms >>= λ ps. Ok (pair k v ps)
 
   -- an object with a wrapper key: only code with its scope holds a document, and its two keys stand either way
-  pub wrapper_in_order : Members → Result Value Fault
-  wrapper_in_order no_members = Err wrong_shape
-  wrapper_in_order (member k d no_members) = scalar_value (single_at (wrapper_of k) (unordered d))
-  wrapper_in_order (member k d (member l e no_members)) =
-      if bytes_eq k (codes "$scope") then code_at l (unordered e) k (scope_in_order d)
-      else code_at k (unordered d) l (scope_in_order e)
-  wrapper_in_order (member k d (member l e (member m f ms))) = Err wrong_shape
+  pub wrapper_in_order : Doubles → Members → Result Value Fault
+  wrapper_in_order D no_members = Err wrong_shape
+  wrapper_in_order D (member k d no_members) = scalar_value (single_at_in D (wrapper_of k) (unordered d))
+  wrapper_in_order D (member k d (member l e no_members)) =
+      if bytes_eq k (codes "$scope") then code_at l (unordered e) k (scope_in_order D d)
+      else code_at k (unordered d) l (scope_in_order D e)
+  wrapper_in_order D (member k d (member l e (member m f ms))) = Err wrong_shape
 
-  pub scope_in_order : Data → Result (Option Pairs) Fault
-  scope_in_order tree.null = Ok None
-  scope_in_order (tree.boolean b) = Err wrong_shape
-  scope_in_order (tree.number n) = Err wrong_shape
-  scope_in_order (tree.string s) = Err wrong_shape
-  scope_in_order (tree.array ds) = Err wrong_shape
-  scope_in_order (tree.object ms) = members_in_order ms >>= λ ps. Ok (Some ps)
+  pub scope_in_order : Doubles → Data → Result (Option Pairs) Fault
+  scope_in_order D tree.null = Ok None
+  scope_in_order D (tree.boolean b) = Err wrong_shape
+  scope_in_order D (tree.number n) = Err wrong_shape
+  scope_in_order D (tree.string s) = Err wrong_shape
+  scope_in_order D (tree.array ds) = Err wrong_shape
+  scope_in_order D (tree.object ms) = members_in_order D ms >>= λ ps. Ok (Some ps)

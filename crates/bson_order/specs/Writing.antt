@@ -1,24 +1,26 @@
--- What a value is written as in its own order, as a function: for the proofs. `WrittenInOrder` is the grammar.
+-- What a value is written as in its own order, as a function: for the proofs. `WrittenInOrder` is the grammar, and the
+-- law `writing_is_written_in_order` joins the two.
 use Rattle.std.specs.Prelude.{Result, Ok}
 use Rattle.serde_json.specs.Data.{Data, Items, no_items, item, Members, no_members, member}
 use Rattle.serde_json.specs.Data as tree
-use Rattle.bson_wrapper.specs.Written.{writes_scalar, Refusal, ◌>>=◌}
+use Rattle.bson_wrapper.specs.Written.{writes_scalar_in, Refusal, ◌>>=◌}
+use Rattle.bson_wrapper.specs.declared.form.Doubles.{Doubles}
 use Rattle.bson_wrapper.specs.declared.form.Form.{Form}
 use Rattle.bson_model.specs.Value.{Value, scalar, code_scope, array, document, Values, no_values, value, Pairs}
 use Rattle.bson_model.specs.Value.{no_pairs, pair}
 use Rattle.bson_model.specs.Writing.{with_scope}
 
 abbrev mutual
-  pub writes_in_order : Form → Value → Result Data Refusal
-  writes_in_order f (scalar x) = writes_scalar f x
-  writes_in_order f (code_scope s ps) = pairs_in_order f ps >>= λ ms. Ok (with_scope s ms)
-  writes_in_order f (array vs) = values_in_order f vs >>= λ ds. Ok (tree.array ds)
-  writes_in_order f (document ps) = pairs_in_order f ps >>= λ ms. Ok (tree.object ms)
+  pub writes_in_order : Doubles → Form → Value → Result Data Refusal
+  writes_in_order D f (scalar x) = writes_scalar_in D f x
+  writes_in_order D f (code_scope s ps) = pairs_in_order D f ps >>= λ ms. Ok (with_scope s ms)
+  writes_in_order D f (array vs) = values_in_order D f vs >>= λ ds. Ok (tree.array ds)
+  writes_in_order D f (document ps) = pairs_in_order D f ps >>= λ ms. Ok (tree.object ms)
 
-  pub values_in_order : Form → Values → Result Items Refusal
-  values_in_order f no_values = Ok no_items
-  values_in_order f (value v vs) = writes_in_order f v >>= λ d. values_in_order f vs >>= λ ds. Ok (item d ds)
+  pub values_in_order : Doubles → Form → Values → Result Items Refusal
+  values_in_order D f no_values = Ok no_items
+  values_in_order D f (value v vs) = writes_in_order D f v >>= λ d. values_in_order D f vs >>= λ ds. Ok (item d ds)
 
-  pub pairs_in_order : Form → Pairs → Result Members Refusal
-  pairs_in_order f no_pairs = Ok no_members
-  pairs_in_order f (pair k v ps) = writes_in_order f v >>= λ d. pairs_in_order f ps >>= λ ms. Ok (member k d ms)
+  pub pairs_in_order : Doubles → Form → Pairs → Result Members Refusal
+  pairs_in_order D f no_pairs = Ok no_members
+  pairs_in_order D f (pair k v ps) = writes_in_order D f v >>= λ d. pairs_in_order D f ps >>= λ ms. Ok (member k d ms)

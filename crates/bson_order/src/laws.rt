@@ -4,19 +4,23 @@ ghost use Rattle.json.specs.Json as json;
 ghost use Rattle.serde_json.specs.Data.{Data, Members};
 ghost use Rattle.serde_json.specs.Read.{read};
 ghost use Rattle.serde_json.specs.Written.{has_float};
+ghost use Rattle.bson_wrapper.specs.declared.form.Doubles.{Doubles};
+ghost use Rattle.bson_wrapper.specs.declared.form.Doubles.TheVariants.{Special, Finite};
 ghost use Rattle.bson_wrapper.specs.declared.form.Form.{Form};
-ghost use Rattle.bson_model.specs.Means.{Means};
-ghost use Rattle.bson_model.specs.Normal.{InRange, normal_form, plain, writable};
+ghost use Rattle.bson_model.specs.Means.{MeansIn};
+ghost use Rattle.bson_model.specs.Normal.{InRange, normal_form, plain, writable_in};
 ghost use Rattle.bson_model.specs.Sorted.{sorted};
 ghost use Rattle.bson_model.specs.Texts.{IsTree};
 ghost use Rattle.bson_model.specs.Value.{Value};
-ghost use Rattle.bson_model.specs.Written.{Written};
+ghost use Rattle.bson_model.specs.Written.{WrittenIn};
 ghost use Rattle.bson_order.specs.Distinct.{AllDistinct};
 ghost use Rattle.bson_order.specs.Kept.{kept_members, read_kept, unordered, IsKeptTree};
 ghost use Rattle.bson_order.specs.Means.{MeansInOrder};
 ghost use Rattle.bson_order.specs.Places.{HasFirstPlaces};
 ghost use Rattle.bson_order.specs.Reading.{reads_in_order};
-ghost use Rattle.bson_order.specs.Texts.{HasOwnTextInOrder, HasMeaningInOrder, MeansByDefault, IsOrderedTextOf, ComesBackInOrder};
+ghost use Rattle.bson_order.specs.Texts.{HasOwnTextInOrder, HasMeaningInOrder, MeansByDefault};
+ghost use Rattle.bson_order.specs.Texts.{IsOrderedTextOf, ComesBackInOrder};
+ghost use Rattle.bson_order.specs.Writing.{writes_in_order};
 ghost use Rattle.bson_order.specs.Written.{WrittenInOrder};
 
 /// With its order forgotten, the tree of a text is `serde_json`'s. So the same texts have one.
@@ -43,63 +47,86 @@ pub fn kept_texts_read_back()
 
 /// A tree with each key once means at most one value in order.
 pub fn one_meaning_in_order()
-    ensures { (t : Data) (v w : Value) → IsKeptTree t → MeansInOrder t v → MeansInOrder t w → v ≡ w }
+    ensures { (D : Doubles) (t : Data) (v w : Value) → IsKeptTree t → MeansInOrder D t v → MeansInOrder D t w → v ≡ w }
 {}
 
 /// A tree with each key once means a value in order just if reading it in order gives that value.
 pub fn reading_is_meaning_in_order()
-    ensures { (t : Data) (v : Value) → IsKeptTree t → ((reads_in_order t ≡ Ok v) ↔ MeansInOrder t v) }
+    ensures { (D : Doubles) (t : Data) (v : Value) → IsKeptTree t
+        → ((reads_in_order D t ≡ Ok v) ↔ MeansInOrder D t v) }
 {}
 
 /// A value that a tree means in order is, with the keys of each document in ascending order, what
 /// the tree means with its order forgotten.
 pub fn meaning_forgets_order()
-    ensures { (t : Data) (v : Value) → MeansInOrder t v → Means (unordered t) (sorted v) }
+    ensures { (D : Doubles) (t : Data) (v : Value) → MeansInOrder D t v → MeansIn D (unordered t) (sorted v) }
 {}
 
 /// A tree with each key once that means a value with its order forgotten means it in order too.
 pub fn meaning_has_an_order()
-    ensures { (t : Data) (w : Value) → IsKeptTree t → Means (unordered t) w
-        → (v : Value) × MeansInOrder t v × (sorted v ≡ w) }
+    ensures { (D : Doubles) (t : Data) (w : Value) → IsKeptTree t → MeansIn D (unordered t) w
+        → (v : Value) × MeansInOrder D t v × (sorted v ≡ w) }
 {}
 
 /// Where the keys of a tree ascend, the meaning in order is the meaning by default.
 pub fn sorted_trees_mean_alike()
-    ensures { (t : Data) (v : Value) → IsTree t → (MeansInOrder t v ↔ Means t v) }
+    ensures { (D : Doubles) (t : Data) (v : Value) → IsTree t → (MeansInOrder D t v ↔ MeansIn D t v) }
 {}
 
 /// A text whose tree means a value in order means that value, and by default the same, sorted.
 pub fn texts_mean_in_order()
-    ensures { (text : List ℕ) (t : Data) (v : Value) → read_kept text ≡ Some t → MeansInOrder t v
-        → HasMeaningInOrder text v }
+    ensures { (D : Doubles) (text : List ℕ) (t : Data) (v : Value) → read_kept text ≡ Some t → MeansInOrder D t v
+        → HasMeaningInOrder D text v }
 {}
 
 /// A text that means a value by default means it in order too, so the same texts are accepted.
 pub fn accepted_in_either_order()
-    ensures { (text : List ℕ) (w : Value) → MeansByDefault text w
-        → (v : Value) × HasMeaningInOrder text v × (sorted v ≡ w) }
+    ensures { (D : Doubles) (text : List ℕ) (w : Value) → MeansByDefault D text w
+        → (v : Value) × HasMeaningInOrder D text v × (sorted v ≡ w) }
+{}
+
+/// A value has a tree in its own order just if writing it in order gives that tree.
+pub fn writing_is_written_in_order()
+    ensures { (D : Doubles) (f : Form) (v : Value) (t : Data)
+        → ((writes_in_order D f v ≡ Ok t) ↔ WrittenInOrder D f (normal_form v) t) }
 {}
 
 /// A writable value has a tree in its own order in each form.
 pub fn writable_has_ordered_tree()
-    ensures { (f : Form) (v : Value) → writable v ≡ true → (t : Data) × WrittenInOrder f (normal_form v) t }
+    ensures { (D : Doubles) (f : Form) (v : Value) → writable_in D v ≡ true
+        → (t : Data) × WrittenInOrder D f (normal_form v) t }
 {}
 
 /// The tree of a value in its own order is, with the order forgotten, the tree by default.
 pub fn written_forgets_order()
-    ensures { (f : Form) (v : Value) (t : Data) → WrittenInOrder f (normal_form v) t → InRange v
-        → Written f (normal_form v) (unordered t) }
+    ensures { (D : Doubles) (f : Form) (v : Value) (t : Data) → WrittenInOrder D f (normal_form v) t → InRange v
+        → WrittenIn D f (normal_form v) (unordered t) }
 {}
 
 /// The tree and text of a plain value in its own order are read as the very value in normal form,
 /// settled, and two such texts are equal just if the normal forms are, order included.
 pub fn ordered_texts()
-    ensures { (f : Form) (v : Value) (t : Data) → WrittenInOrder f (normal_form v) t → plain v ≡ true → InRange v
-        → AllDistinct v → IsOrderedTextOf f v t }
+    ensures { (D : Doubles) (f : Form) (v : Value) (t : Data) → WrittenInOrder D f (normal_form v) t → plain v ≡ true
+        → InRange v → AllDistinct v → IsOrderedTextOf D f v t }
 {}
 
 /// What a text means in order comes back: it is written in both forms in that order, and each text
 /// is read as the very value again.
 pub fn read_values_come_back_in_order()
-    ensures { (text : List ℕ) (v : Value) → HasMeaningInOrder text v → ComesBackInOrder v }
+    ensures { (D : Doubles) (text : List ℕ) (v : Value) → HasMeaningInOrder D text v → ComesBackInOrder D v }
+{}
+
+/// Where finite doubles are written every value in range has a tree in its own order in
+/// each form.
+pub fn every_value_has_ordered_tree()
+    ensures { (f : Form) (v : Value) → InRange v → (t : Data) × WrittenInOrder Finite f (normal_form v) t }
+{}
+
+/// Where finite doubles are read and written a tree or a text means in order what it means without
+/// them, and a value that has a tree in its own order without them has that tree.
+pub fn finite_is_wider_in_order()
+    ensures means { (t : Data) (v : Value) → MeansInOrder Special t v → MeansInOrder Finite t v }
+    ensures texts { (text : List ℕ) (v : Value) → HasMeaningInOrder Special text v
+        → HasMeaningInOrder Finite text v }
+    ensures written { (f : Form) (v : Value) (t : Data) → WrittenInOrder Special f v t → WrittenInOrder Finite f v t }
 {}

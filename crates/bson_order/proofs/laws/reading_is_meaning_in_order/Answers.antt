@@ -2,4 +2,4 @@ use Rattle.bson_order.proofs.MeansLaws.{means_from, means_in}
 use Rattle.bson_order.proofs.laws.reading_is_meaning_in_order.Goals as goal
 
 pub returns : goal.returns
-returns c = λ t v is. (means_from t v, λ m. means_in m is)
+returns c = λ D t v is. (means_from D t v, λ m. means_in D m is)
