@@ -7,4 +7,5 @@ pub mod Dates
 pub mod Words
 pub mod Displays
 pub mod Spellings
+pub mod Decimals
 pub mod Orders

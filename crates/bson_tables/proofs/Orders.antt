@@ -1,22 +1,31 @@
--- The order of keys, a row each: what a text means in its own order, and what a value is written as in its own.
-use Rattle.std.proofs.Common.{◌≡◌, ℕ, List, true, false, Some, Err, refl}
+-- The order of keys, a row each: what a text means in its own order, and what a value is written as in its own. A row
+-- that names no mode of doubles is of both.
+use Rattle.std.proofs.Common.{◌≡◌, ℕ, negsuc, List, true, false, Some, Err, refl}
 use Rattle.std.specs.Prelude.{codes}
+use Rattle.std.specs.Float.{fin}
 use Rattle.json.specs.Json as json
-use Rattle.serde_json.specs.Data.{Data, Members, no_members, member, no_items, item}
+use Rattle.serde_json.specs.Data.{Data, float, Members, no_members, member, no_items, item}
 use Rattle.serde_json.specs.Data as tree
 use Rattle.serde_json.specs.Written.{compact_text}
 use Rattle.bson_scalar.specs.Regex.{sorted_text}
 use Rattle.bson_wrapper.specs.Faults.{wrong_shape}
-use Rattle.bson_wrapper.specs.Scalar.{null, boolean, text, code, timestamp, regex}
+use Rattle.bson_wrapper.specs.Doubles.{double_tree}
+use Rattle.bson_wrapper.specs.Scalar.{null, boolean, double, text, code, timestamp, regex}
 use Rattle.bson_wrapper.specs.Shapes.{object_of_one, object_of_two}
+use Rattle.bson_wrapper.specs.Written as scalar_tree
+use Rattle.bson_wrapper.specs.declared.form.Doubles.{Doubles}
+use Rattle.bson_wrapper.specs.declared.form.Doubles.TheVariants.{Special, Finite}
 use Rattle.bson_wrapper.specs.declared.form.Form.{Form}
 use Rattle.bson_model.specs.Normal.{normal_form}
 use Rattle.bson_model.specs.Value.{Value, scalar, code_scope, array, document, no_values, value, no_pairs, pair}
 use Rattle.bson_order.specs.Kept.{kept, read_kept}
 use Rattle.bson_order.specs.Means.{MeansInOrder}
 use Rattle.bson_order.specs.Reading.{reads_in_order}
+use Rattle.bson_order.specs.Texts.{HasMeaningInOrder}
+use Rattle.bson_order.specs.Writing.{writes_in_order}
 use Rattle.bson_order.specs.Written.{WrittenInOrder}
-use Rattle.bson_order.proofs.Offered.{means_from, written_from}
+use Rattle.bson_order.proofs.Offered.{means_from, text_means, written_from}
+use Rattle.bson_tables.proofs.Decimals.{one_and_a_half}
 use Rattle.bson_tables.proofs.Shapes.{whole}
 
 -- ---- a key that stands twice: the last value at the first place (`IndexMap::insert`; Python's `dict`; `JSON.parse`)
@@ -65,11 +74,11 @@ reference_tree = tree.object
     (member (codes "$ref") (tree.string (codes "c")) (member (codes "$id") tree.null
     (member (codes "$db") (tree.string (codes "d")) no_members)))
 
-reference_read : MeansInOrder reference_tree reference
-reference_read = means_from reference_tree reference refl
+reference_read : (D : Doubles) → MeansInOrder D reference_tree reference
+reference_read D = means_from D reference_tree reference refl
 
-reference_written : (f : Form) → WrittenInOrder f (normal_form reference) reference_tree
-reference_written f = written_from f reference reference_tree refl
+reference_written : (D : Doubles) (f : Form) → WrittenInOrder D f (normal_form reference) reference_tree
+reference_written D f = written_from D f reference reference_tree refl
 
 reference_text : compact_text reference_tree ≡ codes "{\"$ref\":\"c\",\"$id\":null,\"$db\":\"d\"}"
 unfolding Rattle.json.specs.Print.escape_byte
@@ -86,11 +95,11 @@ abbrev nested_tree : Data
 nested_tree = object_of_two (codes "z")
     (tree.array (item (b_then_a tree.null (tree.boolean true)) no_items)) (codes "y") tree.null
 
-nested_read : MeansInOrder nested_tree nested
-nested_read = means_from nested_tree nested refl
+nested_read : (D : Doubles) → MeansInOrder D nested_tree nested
+nested_read D = means_from D nested_tree nested refl
 
-nested_written : (f : Form) → WrittenInOrder f (normal_form nested) nested_tree
-nested_written f = written_from f nested nested_tree refl
+nested_written : (D : Doubles) (f : Form) → WrittenInOrder D f (normal_form nested) nested_tree
+nested_written D f = written_from D f nested nested_tree refl
 
 nested_text : compact_text nested_tree ≡ codes "{\"z\":[{\"b\":null,\"a\":true}],\"y\":null}"
 unfolding Rattle.json.specs.Print.escape_byte
@@ -105,55 +114,103 @@ scoped = code_scope (codes "x")
 abbrev scope_tree : Data
 scope_tree = object_of_two (codes "z") tree.null (codes "a") (tree.boolean true)
 
-code_first : MeansInOrder (object_of_two (codes "$code") (tree.string (codes "x")) (codes "$scope") scope_tree) scoped
-code_first = means_from _ _ refl
+code_first : (D : Doubles)
+    → MeansInOrder D (object_of_two (codes "$code") (tree.string (codes "x")) (codes "$scope") scope_tree) scoped
+code_first D = means_from D _ _ refl
 
-scope_first : MeansInOrder (object_of_two (codes "$scope") scope_tree (codes "$code") (tree.string (codes "x"))) scoped
-scope_first = means_from _ _ refl
+scope_first : (D : Doubles)
+    → MeansInOrder D (object_of_two (codes "$scope") scope_tree (codes "$code") (tree.string (codes "x"))) scoped
+scope_first D = means_from D _ _ refl
 
-scoped_written : (f : Form)
-    → WrittenInOrder f (normal_form scoped)
+scoped_written : (D : Doubles) (f : Form)
+    → WrittenInOrder D f (normal_form scoped)
     (object_of_two (codes "$code") (tree.string (codes "x")) (codes "$scope") scope_tree)
-scoped_written f = written_from f scoped _ refl
+scoped_written D f = written_from D f scoped _ refl
 
 -- the keys of a scope are not tested
-keys_of_a_scope : MeansInOrder
+keys_of_a_scope : (D : Doubles)
+    → MeansInOrder D
     (object_of_two (codes "$scope") (object_of_two (codes "$oid") tree.null (codes "$date") (tree.boolean true))
     (codes "$code") (tree.string (codes "x")))
     (code_scope (codes "x")
     (pair (codes "$oid") (scalar null) (pair (codes "$date") (scalar (boolean true)) no_pairs)))
-keys_of_a_scope = means_from _ _ refl
+keys_of_a_scope D = means_from D _ _ refl
 
-scope_that_is_null : MeansInOrder
+scope_that_is_null : (D : Doubles)
+    → MeansInOrder D
     (object_of_two (codes "$scope") tree.null (codes "$code") (tree.string (codes "x"))) (scalar (code (codes "x")))
-scope_that_is_null = means_from _ _ refl
+scope_that_is_null D = means_from D _ _ refl
 
 -- ---- inside any other wrapper the order says nothing, and is the form's own where it is written
 
-timestamp_as_specified : MeansInOrder
+timestamp_as_specified : (D : Doubles)
+    → MeansInOrder D
     (object_of_one (codes "$timestamp") (object_of_two (codes "t") (whole 1) (codes "i") (whole 2)))
     (scalar (timestamp 1 2))
-timestamp_as_specified = means_from _ _ refl
+timestamp_as_specified D = means_from D _ _ refl
 
-timestamp_ascending : MeansInOrder
+timestamp_ascending : (D : Doubles)
+    → MeansInOrder D
     (object_of_one (codes "$timestamp") (object_of_two (codes "i") (whole 2) (codes "t") (whole 1)))
     (scalar (timestamp 1 2))
-timestamp_ascending = means_from _ _ refl
+timestamp_ascending D = means_from D _ _ refl
 
-timestamp_written : (f : Form)
-    → WrittenInOrder f (normal_form (scalar (timestamp 1 2)))
+timestamp_written : (D : Doubles) (f : Form)
+    → WrittenInOrder D f (normal_form (scalar (timestamp 1 2)))
     (object_of_one (codes "$timestamp") (object_of_two (codes "i") (whole 2) (codes "t") (whole 1)))
-timestamp_written f = written_from f (scalar (timestamp 1 2)) _ refl
+timestamp_written D f = written_from D f (scalar (timestamp 1 2)) _ refl
 
-regex_as_specified : (p o : List ℕ)
-    → MeansInOrder
+regex_as_specified : (D : Doubles) (p o : List ℕ)
+    → MeansInOrder D
     (object_of_one (codes "$regularExpression")
     (object_of_two (codes "pattern") (tree.string p) (codes "options") (tree.string o)))
     (scalar (regex p (sorted_text o)))
-regex_as_specified p o = means_from _ _ refl
+regex_as_specified D p o = means_from D _ _ refl
 
 -- ---- a wrapper's key beside others means nothing, wherever it stands
 
-wrapper_key_later : reads_in_order (object_of_two (codes "a") tree.null (codes "$symbol") (tree.string (codes "s")))
+wrapper_key_later : (D : Doubles)
+    → reads_in_order D (object_of_two (codes "a") tree.null (codes "$symbol") (tree.string (codes "s")))
     ≡ Err wrong_shape
-wrapper_key_later = refl
+wrapper_key_later D = refl
+
+-- ---- a finite double where the mode has them, in a document in order
+
+abbrev finite : Value
+finite = document
+    (pair (codes "z") (scalar (double 0x3FF8000000000000)) (pair (codes "a") (scalar null) no_pairs))
+
+abbrev finite_tree : Data
+finite_tree = object_of_two (codes "z") (double_tree (codes "1.5")) (codes "a") tree.null
+
+finite_read : MeansInOrder Finite finite_tree finite
+unfolding Rattle.std.specs.Float.Parse.read_float Rattle.std.specs.Float.Numeral.scan_numeral
+    Rattle.std.specs.Float.float_is_finite lib.Ieee.round lib.Ieee.to_bits
+finite_read = means_from Finite finite_tree finite refl
+
+finite_written : (f : Form) → WrittenInOrder Finite f (normal_form finite) finite_tree
+finite_written f = written_from Finite f finite finite_tree (rw one_and_a_half refl)
+
+finite_text : compact_text finite_tree ≡ codes "{\"z\":{\"$numberDouble\":\"1.5\"},\"a\":null}"
+unfolding Rattle.json.specs.Print.escape_byte
+finite_text = refl
+
+finite_text_read : HasMeaningInOrder Finite (codes "{\"z\":{\"$numberDouble\":\"1.5\"},\"a\":null}") finite
+unfolding json.value Rattle.json.specs.Lex.punctuate Rattle.json.specs.Lex.lex Rattle.json.specs.Text.content
+    Rattle.json.specs.Word.word
+finite_text_read = text_means Finite _ finite_tree finite refl finite_read
+
+-- a JSON number that is no i64
+abbrev number_tree : Data
+number_tree = object_of_two (codes "z") (tree.number (float (fin false 3 (negsuc 0)))) (codes "a") tree.null
+
+finite_number_read : MeansInOrder Finite number_tree finite
+unfolding Rattle.std.specs.Float.float_is_finite lib.Ieee.fits lib.Ieee.to_bits
+finite_number_read = means_from Finite number_tree finite refl
+
+-- without finite doubles
+finite_means_nothing : reads_in_order Special finite_tree ≡ Err wrong_shape
+finite_means_nothing = refl
+
+finite_unwritten : (f : Form) → writes_in_order Special f finite ≡ Err scalar_tree.finite
+finite_unwritten f = refl
