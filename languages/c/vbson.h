@@ -42,7 +42,7 @@ uint32_t vbson_version(void);
 
 enum vbson_status {
     VBSON_DONE = 0,
-    VBSON_NO_MODE = 1,           /* the number of a mode is none */
+    VBSON_NO_MODE = 1,           /* the number of a mode is none, or a flag is none */
     VBSON_NOT_JSON = 2,          /* the bytes are not UTF-8, not one JSON text, or nest deeper than 127 */
     VBSON_BAD_OBJECT_ID = 3,     /* the first fault is the text of an object id */
     VBSON_NOT_EXTENDED_JSON = 4, /* the first fault is any other: the JSON text means nothing in Extended JSON v2 */
@@ -57,7 +57,7 @@ enum vbson_status {
 static inline const char *vbson_status_text(uint32_t status) {
     switch (status) {
     case VBSON_DONE: return "done";
-    case VBSON_NO_MODE: return "no such mode";
+    case VBSON_NO_MODE: return "no such mode or flag";
     case VBSON_NOT_JSON: return "not JSON";
     case VBSON_BAD_OBJECT_ID: return "bad object id";
     case VBSON_NOT_EXTENDED_JSON: return "not Extended JSON";
@@ -76,6 +76,11 @@ enum vbson_mode {
     VBSON_CANONICAL = 0, /* the canonical form of Extended JSON v2, which keeps every type */
     VBSON_RELAXED = 1,   /* the relaxed form, with plain numbers, and dates as texts */
     VBSON_SHOW = 2       /* the value for people to read; no JSON */
+};
+
+/* What flags are made of; 0 is none of them. */
+enum vbson_flag {
+    VBSON_DOUBLES = 1 /* finite doubles are read and written */
 };
 
 /* A text in a block of its own: len bytes, and a NUL behind them, so that it is a C string too (which ends earlier
@@ -114,6 +119,25 @@ static inline void vbson_text_free(vbson_text *text) {
  * read again as an Int32. *out is written over: what it held is not freed.
  * VBSON_NO_MODE, VBSON_NOT_JSON, VBSON_BAD_OBJECT_ID, VBSON_NOT_EXTENDED_JSON, VBSON_OUT_OF_MEMORY. */
 uint32_t vbson_convert(uint32_t mode, const uint8_t *text, size_t len, vbson_text *out);
+
+/* vbson_convert with flags. With VBSON_DOUBLES a number that is no whole one of 64 bits (1.5, 1e2, -0), and any decimal
+ * number under $numberDouble, is read as the double nearest to it, and refused where that is not finite; a double is
+ * written as its shortest decimal, {"$numberDouble":"12.5"}, in both forms. All else is as of vbson_convert, which is
+ * this with the flags 0. VBSON_NO_MODE also where the flags have a bit that is no flag.
+ * VBSON_NO_MODE, VBSON_NOT_JSON, VBSON_BAD_OBJECT_ID, VBSON_NOT_EXTENDED_JSON, VBSON_OUT_OF_MEMORY. */
+uint32_t vbson_convert_with(uint32_t mode, uint32_t flags, const uint8_t *text, size_t len, vbson_text *out);
+
+/* Why vbson_convert_with refuses the text under these flags, in every mode, as a line of words (with no newline), and
+ * where; an empty text where it accepts it. The words are those of the status, and behind them
+ *     " at column N"            of what is not JSON: the column of the byte at which it stops to be, counted from 1
+ *     " at PATH (MESSAGE)"      of any other: the way to the first fault, its keys as they are and places in lists
+ *                               counted from 0, with points between, as orders.3._id.$oid, and what is wrong there
+ *     " (MESSAGE)"              where the fault is that of the whole text
+ *     " at a text with control characters"    in place of such words that have a character which breaks a line or steers
+ *                               a terminal
+ * A key with a point, or of digits, is not told from an index. It reads the text as vbson_convert_with does, so ask only
+ * where that has refused. *out is written over: what it held is not freed. VBSON_NO_MODE, VBSON_OUT_OF_MEMORY. */
+uint32_t vbson_explain(uint32_t flags, const uint8_t *text, size_t len, vbson_text *out);
 
 /* Whether two texts mean the same value: the same kind, lists place by place, documents with the same keys and the
  * same values under each, in any order. VBSON_DONE where they do, VBSON_DIFFERENT where they mean two values; the fault

@@ -15,10 +15,11 @@ import datetime
 import decimal
 import os
 import platform
+import re
 from typing import Union
 
 __all__ = ["CANONICAL", "RELAXED", "SHOW", "Error", "NotJson", "BadObjectId", "NotExtendedJson", "NoSuchText", "NoText",
-           "convert", "same", "hash_of", "decimal128", "decimal128_text", "decimal_of", "object_id", "object_id_text",
+           "convert", "explain", "same", "hash_of", "decimal128", "decimal128_text", "decimal_of", "object_id", "object_id_text",
            "date_time", "date_time_text", "datetime_of", "version"]
 
 _Bytes = Union[bytes, bytearray, memoryview]
@@ -27,6 +28,7 @@ _Given = Union[str, bytes, bytearray, memoryview]
 # What `convert` writes: the canonical form, the relaxed form, or the value for people to read.
 CANONICAL, RELAXED, SHOW = 0, 1, 2
 _MODES = {"canonical": CANONICAL, "relaxed": RELAXED, "show": SHOW}
+DOUBLES = 1
 
 _EPOCH = datetime.datetime(1970, 1, 1, tzinfo=datetime.timezone.utc)
 _MILLISECOND = datetime.timedelta(milliseconds=1)
@@ -36,7 +38,16 @@ OUT_OF_MEMORY, NO_SUCH_TEXT, NO_TEXT, NO_ROOM, DIFFERENT = 5, 6, 7, 8, 9
 
 
 class Error(ValueError):
-    """The library refused what it was handed."""
+    """The library refused what it was handed.
+
+    Of a text of Extended JSON the error has words for where the fault lies, `place`, and for what is wrong there, `why`:
+    'orders.3.price' and 'a number is no whole number of 64 bits', or 'column 7' and 'not JSON'. The place is empty where
+    the fault is that of the whole text; keys are in it as they are. str() has both, behind the words for the class.
+    """
+
+    def __init__(self, words="", place="", why=""):
+        super().__init__(words)
+        self.place, self.why = place, why or words
 
 
 class NotJson(Error):
@@ -59,7 +70,7 @@ class NoText(Error):
     """The value has no text of the kind that was asked for."""
 
 
-_ERRORS = {NO_MODE: (ValueError, "no such mode"), NOT_JSON: (NotJson, "not JSON"),
+_ERRORS = {NO_MODE: (ValueError, "no such mode or flag"), NOT_JSON: (NotJson, "not JSON"),
            BAD_OBJECT_ID: (BadObjectId, "bad object id"), NOT_EXTENDED_JSON: (NotExtendedJson, "not Extended JSON"),
            OUT_OF_MEMORY: (MemoryError, "out of memory"), NO_SUCH_TEXT: (NoSuchText, "no such text"),
            NO_TEXT: (NoText, "no text")}
@@ -94,7 +105,8 @@ def _loaded():
     number, size, text = ctypes.c_uint32, ctypes.c_size_t, ctypes.c_char_p
     # (a text goes in with its length; a char pointer of Python's bytes is never null)
     parameters = {
-        "version": [], "convert": [number, text, size, ctypes.POINTER(_Text)], "same": [text, size, text, size],
+        "version": [], "convert_with": [number, number, text, size, ctypes.POINTER(_Text)],
+        "explain": [number, text, size, ctypes.POINTER(_Text)], "same": [text, size, text, size],
         "hash": [text, size, ctypes.POINTER(ctypes.c_uint64)],
         "decimal128_parse": [text, size, text], "object_id_parse": [text, size, text],
         "date_time_parse": [text, size, ctypes.POINTER(ctypes.c_int64)],
@@ -142,10 +154,54 @@ def _mode(mode):
     return int(mode)
 
 
+def _flags(doubles):
+    if not isinstance(doubles, bool):
+        raise TypeError(f"doubles is True or False, and not {type(doubles).__name__}")
+    return DOUBLES if doubles else 0
+
+
 def _wants_done(status):
     if status != DONE:
         error, words = _ERRORS.get(status, (Error, f"status {status}"))
         raise error(words)
+
+
+def _text_of(call, *arguments):
+    """The status of a call that leaves a text, and the text."""
+    out = _Text((ctypes.c_uint8 * 1)(), 0, 0)
+    status = call(*arguments, ctypes.byref(out))
+    if status != DONE:
+        return status, ""
+    try:
+        return DONE, ctypes.string_at(out.bytes, out.len).decode()
+    finally:
+        _free(out.bytes)
+
+
+# The words behind those for the class: a column, or a path and a message. The message on an object id may hold any
+# characters, but its path ends in a wrapper's key; no other message holds a bracket.
+_COLUMN = re.compile(r" at (column \d+)()")
+_OF_ID = re.compile(r" at (.*?\$(?:oid|dbPointer)) \(((?:the character '|an object id has ).*)\)", re.S)
+_OF_SHAPE = re.compile(r"(?: at (.*))? \(([^(]*)\)", re.S)
+_KEPT_BACK = re.compile(r" at (a text with control characters)()")
+
+
+def _explained(status, words):
+    """The error of a status, with the words of `explain`."""
+    error, kind = _ERRORS[status]
+    behind = words.removeprefix(kind)
+    shape = {NOT_JSON: _COLUMN, BAD_OBJECT_ID: _OF_ID, NOT_EXTENDED_JSON: _OF_SHAPE}[status]
+    found = shape.fullmatch(behind) or _KEPT_BACK.fullmatch(behind)
+    return error(words or kind, (found[1] or "") if found else "", found[2] if found and found[2] else kind)
+
+
+def _wants_accepted(status, flags, *texts):
+    """Raises where a call refused the first of the texts that is refused."""
+    if status in (NOT_JSON, BAD_OBJECT_ID, NOT_EXTENDED_JSON):
+        # (only a text that was refused is read again; without memory for that, the error has no place)
+        said = (_text_of(_library.vbson_explain, flags, it, len(it)) for it in texts)
+        raise _explained(status, next((words for told, words in said if words or told != DONE), ""))
+    _wants_done(status)
 
 
 def version() -> str:
@@ -154,20 +210,29 @@ def version() -> str:
     return f"{number // 10000}.{number // 100 % 100}.{number % 100}"
 
 
-def convert(text: _Given, mode: Union[int, str] = CANONICAL) -> str:
+def convert(text: _Given, mode: Union[int, str] = CANONICAL, doubles: bool = False) -> str:
     """The text, in the mode, of the value that a text of Extended JSON means. A mode goes by its number or its name.
 
     Keys come out in ascending order at every depth; of a key that stands twice the last value counts. The output can mean
     another value in two ways: a NaN of Decimal128 loses its sign and its s, and in the relaxed form an Int64 that fits is
-    read again as an Int32. Raises NotJson, BadObjectId, NotExtendedJson (also at a finite double, as 1.5 or 0.0), and
-    MemoryError.
+    read again as an Int32. Raises NotJson, BadObjectId, NotExtendedJson (also at a finite double, as 1.5 or 0.0), each with
+    its place, and MemoryError.
+
+    With doubles finite ones are read, each as the double nearest to the number, and written as their shortest decimal,
+    {"$numberDouble":"12.5"}, in both forms.
     """
-    mode, given, out = _mode(mode), _bytes(text), _Text((ctypes.c_uint8 * 1)(), 0, 0)
-    _wants_done(_library.vbson_convert(mode, given, len(given), ctypes.byref(out)))
-    try:
-        return ctypes.string_at(out.bytes, out.len).decode()
-    finally:
-        _free(out.bytes)
+    mode, flags, given = _mode(mode), _flags(doubles), _bytes(text)
+    status, made = _text_of(_library.vbson_convert_with, mode, flags, given, len(given))
+    _wants_accepted(status, flags, given)
+    return made
+
+
+def explain(text: _Given, doubles: bool = False) -> str:
+    """Why convert refuses a text, and where, as a line of words; empty where it accepts it. Raises MemoryError."""
+    flags, given = _flags(doubles), _bytes(text)
+    status, words = _text_of(_library.vbson_explain, flags, given, len(given))
+    _wants_done(status)
+    return words
 
 
 def same(a: _Given, b: _Given) -> bool:
@@ -175,7 +240,7 @@ def same(a: _Given, b: _Given) -> bool:
     a, b = _bytes(a), _bytes(b)
     status = _library.vbson_same(a, len(a), b, len(b))
     if status != DIFFERENT:
-        _wants_done(status)
+        _wants_accepted(status, 0, a, b)
     return status == DONE
 
 
@@ -185,7 +250,7 @@ def hash_of(text: _Given) -> int:
     Raises as convert does.
     """
     given, out = _bytes(text), ctypes.c_uint64()
-    _wants_done(_library.vbson_hash(given, len(given), ctypes.byref(out)))
+    _wants_accepted(_library.vbson_hash(given, len(given), ctypes.byref(out)), 0, given)
     return out.value
 
 

@@ -56,6 +56,66 @@ static void convert_refused(void) {
     CHECK(refuses(VBSON_RELAXED, "[{\"$oid\":5},1]", 14, VBSON_NOT_EXTENDED_JSON));
 }
 
+static int converts_with(uint32_t mode, uint32_t flags, const char *text, const char *wanted) {
+    vbson_text out = VBSON_TEXT_NONE;
+    int is_right = vbson_convert_with(mode, flags, TEXT(text), &out) == VBSON_DONE && out.len == strlen(wanted)
+        && out.size == out.len + 1 && memcmp(out.bytes, wanted, out.size) == 0;
+    vbson_text_free(&out);
+    return is_right;
+}
+
+static int refuses_with(uint32_t mode, uint32_t flags, const char *text, uint32_t status) {
+    static const uint8_t before[] = "before";
+    vbson_text out = {before, 7, 6};
+    uint32_t found = vbson_convert_with(mode, flags, TEXT(text), &out);
+    return found == status && out.bytes == before && out.size == 7 && out.len == 6;
+}
+
+static void convert_with(void) {
+    const char *doubles = "{\"b\":1.5,\"a\":[1e2,-0]}";
+    const char *written = "{\"a\":[{\"$numberDouble\":\"100.0\"},{\"$numberDouble\":\"-0.0\"}],\"b\":{\"$numberDouble\":\"1.5\"}}";
+    CHECK(converts_with(VBSON_CANONICAL, VBSON_DOUBLES, doubles, written));
+    CHECK(converts_with(VBSON_RELAXED, VBSON_DOUBLES, doubles, written));
+    CHECK(converts_with(VBSON_RELAXED, VBSON_DOUBLES, "[5]", "[5]"));
+    CHECK(converts_with(VBSON_SHOW, VBSON_DOUBLES, "{\"$code\":\"\"}", ""));
+    CHECK(converts_with(VBSON_CANONICAL, 0, "[5]", "[{\"$numberInt\":\"5\"}]"));
+    CHECK(refuses_with(VBSON_CANONICAL, 0, doubles, VBSON_NOT_EXTENDED_JSON));
+    CHECK(refuses_with(VBSON_CANONICAL, VBSON_DOUBLES, "{\"$numberDouble\":\"1e400\"}", VBSON_NOT_EXTENDED_JSON));
+    CHECK(refuses_with(VBSON_RELAXED, VBSON_DOUBLES, "1e400", VBSON_NOT_JSON));
+    CHECK(refuses_with(VBSON_RELAXED, VBSON_DOUBLES, "[1.5,{\"$oid\":\"5\"}]", VBSON_BAD_OBJECT_ID));
+    CHECK(refuses_with(3, 0, "{}", VBSON_NO_MODE));
+    CHECK(refuses_with(3, VBSON_DOUBLES, "{}", VBSON_NO_MODE));
+    CHECK(refuses_with(VBSON_CANONICAL, 2, "{}", VBSON_NO_MODE));
+    CHECK(refuses_with(VBSON_CANONICAL, 3, "{}", VBSON_NO_MODE));
+    CHECK(refuses_with(VBSON_SHOW, UINT32_MAX, "not JSON", VBSON_NO_MODE));
+}
+
+static int explains(uint32_t flags, const char *text, const char *wanted) {
+    vbson_text out = VBSON_TEXT_NONE;
+    int is_right = vbson_explain(flags, TEXT(text), &out) == VBSON_DONE && out.len == strlen(wanted)
+        && out.size == out.len + 1 && memcmp(out.bytes, wanted, out.size) == 0;
+    if (!is_right) printf("%s\n", vbson_chars(&out));
+    vbson_text_free(&out);
+    return is_right;
+}
+
+static void explain(void) {
+    static const uint8_t before[] = "before";
+    vbson_text out = {before, 7, 6};
+    const char *number = "not Extended JSON at orders.1.price (a number is no whole number of 64 bits)";
+    CHECK(explains(0, "{\"orders\":[1,{\"price\":1.5}]}", number));
+    CHECK(explains(VBSON_DOUBLES, "{\"orders\":[1,{\"price\":1.5}]}", ""));
+    CHECK(explains(0, "1.5", "not Extended JSON (a number is no whole number of 64 bits)"));
+    CHECK(explains(0, "{\"a\":{\"$oid\":\"53e3\"}}", "bad object id at a.$oid (an object id has 24 digits, but \"53e3\" has 4)"));
+    CHECK(explains(0, "[1,]", "not JSON at column 4"));
+    CHECK(explains(0, "{\"a\" 1}", "not JSON at column 6"));
+    CHECK(explains(VBSON_DOUBLES, "\"\xff\"", "not JSON at column 2"));
+    CHECK(explains(0, "{\"a\\u001b\":1.5}", "not Extended JSON at a text with control characters"));
+    CHECK(explains(0, "{\"a\":1}", ""));
+    CHECK(vbson_explain(2, TEXT("{}"), &out) == VBSON_NO_MODE && out.bytes == before && out.size == 7 && out.len == 6);
+    CHECK(vbson_explain(UINT32_MAX, TEXT("!"), &out) == VBSON_NO_MODE && out.bytes == before && out.len == 6);
+}
+
 /* ---- values */
 
 static void same(void) {
@@ -178,6 +238,8 @@ int main(void) {
     CHECK(vbson_version() == VBSON_VERSION);
     convert();
     convert_refused();
+    convert_with();
+    explain();
     same();
     hash();
     decimals();

@@ -1,6 +1,7 @@
 """Each call of vbson.py, and each error. The last line is 'N passed, M failed'."""
 import datetime
 import decimal
+import pickle
 import struct
 import sys
 import threading
@@ -95,6 +96,80 @@ def try_texts():
     raises("the first fault", vbson.NotJson, vbson.same, "", "1.5")
 
 
+def try_doubles():
+    written = '{"a":{"$numberDouble":"100.0"},"b":{"$numberDouble":"1.5"}}'
+    for mode in ("canonical", "relaxed"):
+        want(f"doubles in the {mode} form", vbson.convert('{"b":1.5,"a":1e2}', mode, True), written)
+        want(f"none in the {mode} form", vbson.convert("[5]", mode, doubles=False), vbson.convert("[5]", mode))
+        raises(f"a double in the {mode} form", vbson.NotExtendedJson, vbson.convert, "1.5", mode, False)
+    raises("a double that is not finite", vbson.NotExtendedJson, vbson.convert, '{"$numberDouble":"1e400"}', 0, True)
+    for it in (1, 0, None, "yes", 2):
+        raises(f"doubles {it!r}", TypeError, vbson.convert, "{}", 0, it)
+        raises(f"doubles {it!r} explained", TypeError, vbson.explain, "{}", it)
+
+
+def refusal(call, *arguments):
+    """The words, the place and the reason of an error, and its class."""
+    try:
+        return call(*arguments)
+    except vbson.Error as it:
+        return str(it), it.place, it.why, type(it)
+
+
+def try_places():
+    number = "a number is no whole number of 64 bits"
+    digits = 'an object id has 24 digits, but "53e3" has 4'
+    no_digit = "the character '%s' at %d in \"%s\" is no hexadecimal digit"
+    blank, letter = no_digit % (" ", 1, "5 (x)"), no_digit % ("z", 0, "zz (a)")
+    both = vbson.NotExtendedJson, vbson.BadObjectId
+    for text, words, place, why, error in (
+            ("[1, 2", "not JSON at column 5", "column 5", "not JSON", vbson.NotJson),
+            ('{"a (":[{"b)":1.5}]}', f"not Extended JSON at a (.0.b) ({number})", "a (.0.b)", number, both[0]),
+            ("1.5", f"not Extended JSON ({number})", "", number, both[0]),
+            ('{"":1.5}', f"not Extended JSON ({number})", "", number, both[0]),
+            ('{"\u00e9":1.5}', f"not Extended JSON at \u00e9 ({number})", "\u00e9", number, both[0]),
+            ('{"a":{"$oid":"53e3"}}', f"bad object id at a.$oid ({digits})", "a.$oid", digits, both[1]),
+            ('{"$oid":"5 (x)"}', f"bad object id at $oid ({blank})", "$oid", blank, both[1]),
+            ('[{"$dbPointer":{"$ref":"a","$id":{"$oid":"zz (a)"}}}]', f"bad object id at 0.$dbPointer ({letter})",
+             "0.$dbPointer", letter, both[1]),
+            ('{"a\\u0007":1.5}', "not Extended JSON at a text with control characters", "a text with control characters",
+             "not Extended JSON", both[0])):
+        wanted = words, place, why, error
+        want(f"{text} explained", vbson.explain(text), words)
+        want(f"{text} converted", refusal(vbson.convert, text), wanted)
+        want(f"{text} beside another", refusal(vbson.same, text, "!"), wanted)
+        want(f"{text} behind another", refusal(vbson.same, "1", text), wanted)
+        want(f"the hash of {text}", refusal(vbson.hash_of, text), wanted)
+    want("nothing to explain", (vbson.explain("{}"), vbson.explain("1.5", True)), ("", ""))
+    want("the place with doubles", refusal(vbson.convert, '[1.5,{"$numberInt":""}]', 0, True)[1], "1.$numberInt")
+    want("no place", refusal(vbson.object_id, "53e3"), ("no such text", "", "no such text", vbson.NoSuchText))
+    try:
+        vbson.convert("[1.5]")
+    except vbson.Error as it:
+        copied = pickle.loads(pickle.dumps(it))
+        want("an error that was pickled", (str(copied), copied.place, copied.why), (str(it), "0", number))
+        want("the class of an error that was pickled", type(copied), vbson.NotExtendedJson)
+
+
+def try_reads():
+    """A text that is accepted is read once, and one that is refused twice."""
+    calls = []
+
+    class Counted:
+        def __getattr__(self, name):
+            calls.append(name)
+            return getattr(library, name)
+
+    library, vbson._library = vbson._library, Counted()
+    try:
+        vbson.convert("[1]")
+        want("reads of what is accepted", len(calls), 1)
+        refusal(vbson.convert, "[1")
+        want("reads of what is refused", len(calls), 3)
+    finally:
+        vbson._library = library
+
+
 def try_hashes():
     want("no words", vbson.hash_of("null"), sip13(b""))
     want("an Int32", vbson.hash_of("5"), sip13(struct.pack("<i", 5)))
@@ -185,6 +260,9 @@ def try_threads():
 
 want("version", vbson.version(), signatures.version())
 try_texts()
+try_doubles()
+try_places()
+try_reads()
 try_hashes()
 try_small_values()
 try_decimals()

@@ -37,7 +37,7 @@ static const char *const texts[] = {
     "\"i\":{\"$dbPointer\":{\"$ref\":\"n\",\"$id\":{\"$oid\":\"53e37d08776f724e42000000\"}}},\"j\":{\"$minKey\":1},"
     "\"k\":{\"$uuid\":\"c8edabc3-f738-4ca3-b68d-ab92a91478a3\"},\"l\":{\"$numberDouble\":\"-Infinity\"}}",
     "[1,{\"$oid\":\"53e3\"}]", "[{\"a\":[1.5]}]", "{\"a\":[\"b\"", "[]", "\"a\\u0000b\""};
-enum { TEXTS = sizeof texts / sizeof *texts, KINDS = 7 };
+enum { TEXTS = sizeof texts / sizeof *texts, KINDS = 10 };
 
 /* What a call of each kind answers, and all that it can write. */
 struct answer {
@@ -69,7 +69,9 @@ static struct answer call(int kind, const char *text, long number) {
     else if (kind == 3) it.status = vbson_same(TEXT(text), TEXT(texts[0]));
     else if (kind == 4) it.status = vbson_hash(TEXT(text), &it.number);
     else if (kind == 5) it.status = vbson_decimal128_print(decimal, it.room, sizeof it.room, &it.len);
-    else it.status = vbson_date_time_print(-1, it.room, sizeof it.room, &it.len);
+    else if (kind == 6) it.status = vbson_date_time_print(-1, it.room, sizeof it.room, &it.len);
+    else if (kind == 7) it.status = vbson_convert_with(VBSON_RELAXED, VBSON_DOUBLES, TEXT(text), &it.text);
+    else it.status = vbson_explain(kind == 8 ? 0 : VBSON_DOUBLES, TEXT(text), &it.text);
     refused = 0;
     return it;
 }

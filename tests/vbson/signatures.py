@@ -1,5 +1,5 @@
 """Holds languages/c/vbson.h and the wrappers to the sources of crates/vbson: the calls with their types, the statuses
-with their numbers, which statuses each call answers, the rooms, the text's fields, and the version."""
+with their numbers, which statuses each call answers, the modes, the flags, the rooms, the text's fields, and the version."""
 import re
 from pathlib import Path
 
@@ -89,6 +89,12 @@ def statuses():
     return {name: int(number) for name, number in found}
 
 
+def flags():
+    """The number of each flag, as the sources have it."""
+    found = re.findall(r"(?m)^pub const (\w+): u32 = (\d+);$", (SOURCES / "flags.rt").read_text())
+    return {name: int(number) for name, number in found}
+
+
 def answers(contract):
     """The numbers for which the clause `listed` of a contract holds."""
     clause = re.search(r"(?m)^    ensures listed \{ (.*) \}$", contract)
@@ -140,14 +146,19 @@ def status_faults():
     for names, values in re.findall(r"(?m)^([A-Z_, ]+) = ([\d, ]+)$", (LANGUAGES / "python/vbson.py").read_text()):
         kinds["vbson.py"] |= dict(zip(names.split(", "), map(int, values.split(", "))))
     modes = {"CANONICAL": 0, "RELAXED": 1, "SHOW": 2}
+    bits = flags()
     for file, found in kinds.items():
-        found = {name: number for name, number in found.items() if name not in modes}
+        found = {name: number for name, number in found.items() if name not in modes and name not in bits}
         yield f"the statuses of {file}", None if found == numbers else f"{found} is not {numbers}"
     for name in numbers:
         yield f"words for {name}", None if f"case VBSON_{name}: return" in text else "vbson_status_text has none"
     for name, number in modes.items():
         is_right = f"VBSON_{name} = {number}" in text and kinds["vbson.py"].get(name) == number
         yield f"the mode {name}", None if is_right else "other numbers"
+    for name, number in bits.items():
+        is_right = f"VBSON_{name} = {number}" in text and kinds["vbson.py"].get(name) == number
+        is_right = is_right and f"\npub const {name}: u32 = {number};\n" in (LANGUAGES / "rust/src/call.rs").read_text()
+        yield f"the flag {name}", None if is_right else "other numbers"
 
 
 def room_faults():

@@ -23,7 +23,9 @@ static void *calls(void *kind) {
     int it = *(int *)kind;
     if (it < 3) status = vbson_convert((uint32_t)it, TEXT(text), &out);
     else if (it == 3) status = vbson_same(TEXT(text), TEXT(text));
-    else status = vbson_hash(TEXT(text), &number);
+    else if (it == 4) status = vbson_hash(TEXT(text), &number);
+    else if (it == 5) status = vbson_convert_with(VBSON_CANONICAL, VBSON_DOUBLES, TEXT(text), &out);
+    else status = vbson_explain(0, TEXT(text), &out);
     vbson_text_free(&out);
     return NULL;
 }
@@ -45,9 +47,9 @@ static size_t used_by(int kind) {
 }
 
 static void all_kinds(size_t *most, uint32_t wanted) {
-    for (int kind = 0; kind < 5; kind++) {
+    for (int kind = 0; kind < 7; kind++) {
         size_t used = used_by(kind);
-        CHECK(status == wanted && used <= NEEDS);
+        CHECK(status == (kind < 6 ? wanted : VBSON_DONE) && used <= NEEDS);
         if (used > *most) *most = used;
     }
 }

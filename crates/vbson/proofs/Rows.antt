@@ -1,11 +1,13 @@
 -- Rows of the numbers that a caller in C writes and reads (languages/c/vbson.h has them). A definition that is changed
 -- together with its code is refused here.
 use Rattle.std.proofs.Common.{◌≡◌, Some, None, refl}
+use Rattle.bson.specs.Doubles.TheVariants.{Special, Finite}
 use Rattle.bson_place.specs.declared.place.Reason.{Reason}
 use Rattle.bson_place.specs.declared.place.Reason.TheVariants.{BadObjectId, WrongShape}
+use Rattle.bson_run.specs.Convert.{default_options}
 use Rattle.bson_run.specs.declared.mode.Mode.TheVariants as mode
 use Rattle.bson_run.specs.declared.fault.Fault.TheVariants as fault
-use Rattle.vbson.specs.Convert.{mode_at, status_for, status_of}
+use Rattle.vbson.specs.Convert.{mode_at, options_of, status_for, status_of}
 
 -- ---- modes
 
@@ -20,6 +22,17 @@ show_numbered = refl
 
 no_further_mode : mode_at 3 ≡ None
 no_further_mode = refl
+
+-- ---- flags
+
+no_flags : options_of 0 ≡ default_options
+no_flags = refl
+
+special_doubles : (options_of 0).doubles ≡ Special
+special_doubles = refl
+
+finite_doubles : (options_of 1).doubles ≡ Finite
+finite_doubles = refl
 
 -- ---- statuses
 

@@ -1,12 +1,14 @@
--- What a conversion leaves, and which number stands for which mode.
+-- What a conversion leaves, and which number stands for which mode and for which options.
 use Rattle.std.specs.Prelude.{◌≡◌, ◌==◌, ℕ, List, ◌++◌, Option, Some, None, if◌then◌else◌}
 use Rattle.serde_json.specs.Data.{Data}
 use Rattle.bson_place.specs.Faults.{Fault as TreeFault, wrong_shape, wrong_id}
-use Rattle.bson_model.specs.Fault.{MeansNothing, fault_of}
+use Rattle.bson_model.specs.Fault.{MeansNothingIn, fault_of_in}
 use Rattle.bson_place.specs.declared.place.Reason.{Reason}
 use Rattle.bson_place.specs.declared.place.Reason.TheVariants.{BadObjectId, WrongShape}
+use Rattle.bson.specs.Doubles.TheVariants.{Special, Finite}
 use Rattle.bson.specs.TextMeaning.{IsNoText, IsTextOf}
-use Rattle.bson_run.specs.Convert.{Converts, newline}
+use Rattle.bson.specs.declared.extjson.options.Options.{Options}
+use Rattle.bson_run.specs.Convert.{ConvertsIn, default_options, newline}
 use Rattle.bson_run.specs.declared.mode.Mode.{Mode}
 use Rattle.bson_run.specs.declared.mode.Mode.TheVariants.{Canonical, Relaxed, Show}
 use Rattle.bson_run.specs.declared.fault.Fault.{Fault}
@@ -18,12 +20,16 @@ use Rattle.vbson.specs.declared.text.Text.{Text}
 abbrev pub mode_at : ℕ → Option Mode
 mode_at n = if n == 0 then Some Canonical else (if n == 1 then Some Relaxed else (if n == 2 then Some Show else None))
 
+-- the options of flags, of which 1 is the greatest: 0 the default, 1 with finite doubles
+abbrev pub options_of : ℕ → Options
+options_of flags = record { doubles = if flags == 1 then Finite else Special }
+
 -- the line that the input is converted to in the mode of the number, with a NUL in its newline's place
-pub record IsConverted (number : ℕ) (input : List ℕ) (out : Text) : Type 0 where
+pub record IsConvertedIn (o : Options) (number : ℕ) (input : List ℕ) (out : Text) : Type 0 where
   pub mode : Mode
   pub named : mode_at number ≡ Some mode
   pub text : List ℕ
-  pub converts : Converts mode input (text ++ newline)
+  pub converts : ConvertsIn o mode input (text ++ newline)
   pub is_text : IsText text out
 
 -- the text of an object id alone is wrong
@@ -35,19 +41,27 @@ abbrev pub IsBad : TreeFault → Type 0
 IsBad it = it ≡ wrong_shape
 
 -- the bytes are the text of a tree that means nothing, for a reason
-pub record HasNoMeaning (why : TreeFault → Type 0) (bytes : List ℕ) : Type 0 where
+pub record HasNoMeaningIn (o : Options) (why : TreeFault → Type 0) (bytes : List ℕ) : Type 0 where
   pub tree : Data
   pub text : IsTextOf bytes tree
-  pub refused : MeansNothing tree
-  pub reason : why (fault_of tree)
+  pub refused : MeansNothingIn o.doubles tree
+  pub reason : why (fault_of_in o.doubles tree)
+
+-- ---- where no flags are given
+
+abbrev pub IsConverted : (number : ℕ) (input : List ℕ) (out : Text) → Type 0
+IsConverted = IsConvertedIn default_options
+
+abbrev pub HasNoMeaning : (why : TreeFault → Type 0) (bytes : List ℕ) → Type 0
+HasNoMeaning = HasNoMeaningIn default_options
 
 -- ---- for private clauses
 
 -- what a status says of the bytes
-pub record IsCause (status : ℕ) (bytes : List ℕ) : Type 0 where
+pub record IsCauseIn (o : Options) (status : ℕ) (bytes : List ℕ) : Type 0 where
   pub not_json : status ≡ 2 → IsNoText bytes
-  pub bad_object_id : status ≡ 3 → HasNoMeaning IsBadId bytes
-  pub not_extended_json : status ≡ 4 → HasNoMeaning IsBad bytes
+  pub bad_object_id : status ≡ 3 → HasNoMeaningIn o IsBadId bytes
+  pub not_extended_json : status ≡ 4 → HasNoMeaningIn o IsBad bytes
 
 -- a text is neither read from a reader nor written to a writer
 abbrev pub IsOfText : Fault → Type 0

@@ -1,4 +1,5 @@
 pub mod Convert
+pub mod Explain
 pub mod Room
 pub mod Text
 pub mod Values

@@ -1,19 +1,22 @@
 //! One text to another.
-ghost use Rattle.std.specs.Prelude.{◌≡◌, ◌↔◌, ◌<◌, ◌≤◌, ◌++◌, List, ℕ, Some};
+ghost use Rattle.std.specs.Prelude.{◌≡◌, ◌↔◌, ◌⊎◌, ◌<◌, ◌≤◌, ◌++◌, List, ℕ, Some};
 ghost use Rattle.serde_json.specs.Data.{Data};
-ghost use Rattle.bson_model.specs.Means.{Means};
+ghost use Rattle.bson.specs.declared.extjson.options.Options.{Options};
+ghost use Rattle.bson_model.specs.Means.{Means, MeansIn};
 ghost use Rattle.bson_model.specs.Value as model;
-ghost use Rattle.bson_run.specs.Convert.{Converts, IsRefused, newline};
+ghost use Rattle.bson_run.specs.Convert.{Converts, ConvertsIn, IsRefusedIn, newline};
 ghost use Rattle.bson.specs.TextMeaning.{IsNoText, IsTextOf};
 ghost use Rattle.bson_run.specs.declared.mode.Mode.{Mode};
-ghost use Rattle.vbson.specs.Convert.{HasNoMeaning, IsBad, IsBadId, IsCause, IsConverted, IsOfText};
-ghost use Rattle.vbson.specs.Convert.{mode_at, status_of};
+ghost use Rattle.vbson.specs.Convert.{HasNoMeaning, HasNoMeaningIn, IsBad, IsBadId, IsCauseIn};
+ghost use Rattle.vbson.specs.Convert.{IsConverted, IsConvertedIn, IsOfText};
+ghost use Rattle.vbson.specs.Convert.{mode_at, options_of, status_of};
 ghost use Rattle.vbson.specs.Text.{nul};
 
+use crate::flags::{has_others, options_of};
 use crate::status;
 use crate::text::{Text, text_of_line};
 use bson_place::place::Reason;
-use bson_run::convert::convert;
+use bson_run::convert::convert_with;
 use bson_run::fault::Fault;
 use bson_run::mode::Mode;
 use std::alloc::Global;
@@ -42,10 +45,40 @@ pub extern "C" fn vbson_convert(
     ensures listed { result ≤ 5 }
     ensures kept { 0 < result → out.new ≡ out.old }
 {
+    vbson_convert_with(alloc, mode, 0, text, out)
+}
+
+/// `vbson_convert` with flags: 1 has finite doubles read and written, in the place of refused; 0 is
+/// `vbson_convert`.
+#[unsafe(no_mangle)]
+pub extern "C" fn vbson_convert_with(
+    alloc: Global,
+    mode: u32,
+    flags: u32,
+    text: &[u8],
+    out: &mut Text<'static>,
+) -> u32
+    ensures done { result ≡ 0 → IsConvertedIn (options_of flags) mode text.now out.new }
+    ensures one { result ≡ 0 → (m : Mode) (other : List ℕ) → mode_at mode ≡ Some m
+        → ConvertsIn (options_of flags) m text.now (other ++ newline) → out.new.bytes.now ≡ other ++ nul }
+    ensures accepts { (tree : Data) (value : model.Value) → mode ≤ 2 → flags ≤ 1 → IsTextOf text.now tree
+        → MeansIn (options_of flags).doubles tree value → 0 < result → result ≡ 5 }
+
+    // When each other status comes, and that nothing is left then.
+    ensures no_mode { result ≡ 1 ↔ (2 < mode) ⊎ (1 < flags) }
+    ensures not_json { result ≡ 2 → IsNoText text.now }
+    ensures bad_object_id { result ≡ 3 → HasNoMeaningIn (options_of flags) IsBadId text.now }
+    ensures not_extended_json { result ≡ 4 → HasNoMeaningIn (options_of flags) IsBad text.now }
+    ensures listed { result ≤ 5 }
+    ensures kept { 0 < result → out.new ≡ out.old }
+{
+    if has_others(flags) {
+        return status::NO_MODE;
+    }
     let Some(mode) = mode_of(mode) else {
         return status::NO_MODE;
     };
-    match convert(alloc, mode, text) {
+    match convert_with(alloc, options_of(flags), mode, text) {
         Ok(line) => *out = text_of_line(line),
         Err(fault) => return status_of(fault),
     }
@@ -68,7 +101,7 @@ fn mode_of(number: u32) -> Option<Mode>
 pub fn status_of(fault: Fault) -> u32
     requires { IsOfText fault }
     ensures number { result ≡ status_of fault }
-    ensures cause { (bytes : List ℕ) → IsRefused fault bytes → IsCause result bytes }
+    ensures cause { (o : Options) (bytes : List ℕ) → IsRefusedIn o fault bytes → IsCauseIn o result bytes }
 {
     match fault {
         Fault::NotJson => status::NOT_JSON,

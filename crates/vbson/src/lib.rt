@@ -4,12 +4,14 @@
 //! Every call reads what it is handed for its own time only, keeps nothing between calls, requires
 //! nothing beyond its types, and answers a number of `status`: 0 where it did what it is for. On
 //! any other number an out parameter is as it was, except where its call says more. In reading
-//! order: `status`, `text` (a text that the caller has and frees) with `convert` (one text to
-//! another), `values` (two texts by what they mean), and `room` (room of the caller's) with
-//! `scalars` (decimals, object ids, moments).
+//! order: `status`, `flags`, `text` (a text that the caller has and frees) with `convert` (one text
+//! to another) and `explain` (why a text is refused, and where), `values` (two texts by what they
+//! mean), and `room` (room of the caller's) with `scalars` (decimals, object ids, moments).
 #![tactic(auto)]
 
 mod convert;
+mod explain;
+mod flags;
 mod room;
 mod scalars;
 mod status;

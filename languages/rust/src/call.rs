@@ -1,5 +1,5 @@
 //! The calls of `vbson.h` under safe signatures. A slice's pointer is never null, as the header wants it.
-use crate::Error;
+use crate::ErrorKind;
 
 /// `vbson_text`.
 #[repr(C)]
@@ -12,6 +12,8 @@ pub struct RawText {
 extern "C" {
     fn vbson_version() -> u32;
     fn vbson_convert(mode: u32, text: *const u8, len: usize, out: *mut RawText) -> u32;
+    fn vbson_convert_with(mode: u32, flags: u32, text: *const u8, len: usize, out: *mut RawText) -> u32;
+    fn vbson_explain(flags: u32, text: *const u8, len: usize, out: *mut RawText) -> u32;
     fn vbson_same(a: *const u8, a_len: usize, b: *const u8, b_len: usize) -> u32;
     fn vbson_hash(text: *const u8, len: usize, out: *mut u64) -> u32;
     fn vbson_decimal128_parse(text: *const u8, len: usize, out: *mut [u8; 16]) -> u32;
@@ -33,6 +35,9 @@ const NO_TEXT: u32 = 7;
 const NO_ROOM: u32 = 8;
 const DIFFERENT: u32 = 9;
 
+/// Of flags: finite doubles.
+pub const DOUBLES: u32 = 1;
+
 /// No text of a small value is longer: see the ROOMs of `vbson.h`.
 pub const ROOM: usize = 64;
 
@@ -42,16 +47,16 @@ fn wants_processor() {
     assert!(has_all, "vbson needs a processor with SSE4.2 and POPCNT");
 }
 
-fn wants_done(status: u32) -> Result<(), Error> {
+fn wants_done(status: u32) -> Result<(), ErrorKind> {
     match status {
         DONE => Ok(()),
-        NOT_JSON => Err(Error::NotJson),
-        BAD_OBJECT_ID => Err(Error::BadObjectId),
-        NOT_EXTENDED_JSON => Err(Error::NotExtendedJson),
-        OUT_OF_MEMORY => Err(Error::OutOfMemory),
-        NO_SUCH_TEXT => Err(Error::NoSuchText),
-        NO_TEXT => Err(Error::NoText),
-        // `Mode` has no other number, `ROOM` is enough, and `same` looks for DIFFERENT itself.
+        NOT_JSON => Err(ErrorKind::NotJson),
+        BAD_OBJECT_ID => Err(ErrorKind::BadObjectId),
+        NOT_EXTENDED_JSON => Err(ErrorKind::NotExtendedJson),
+        OUT_OF_MEMORY => Err(ErrorKind::OutOfMemory),
+        NO_SUCH_TEXT => Err(ErrorKind::NoSuchText),
+        NO_TEXT => Err(ErrorKind::NoText),
+        // `Mode` and `Options` have no other number, `ROOM` is enough, and `same` looks for DIFFERENT itself.
         NO_MODE | NO_ROOM | DIFFERENT => unreachable!(),
         other => unreachable!("status {other}"),
     }
@@ -64,15 +69,31 @@ pub fn version() -> u32 {
 }
 
 /// The text in a block of its own, which the caller frees by `free`.
-pub fn convert(mode: u32, text: &[u8]) -> Result<RawText, Error> {
+pub fn convert(mode: u32, text: &[u8]) -> Result<RawText, ErrorKind> {
+    // SAFETY: the slice is readable, and `out` is a valid text that overlaps nothing.
+    left(|out| unsafe { vbson_convert(mode, text.as_ptr(), text.len(), out) })
+}
+
+/// The same with flags.
+pub fn convert_with(mode: u32, flags: u32, text: &[u8]) -> Result<RawText, ErrorKind> {
+    // SAFETY: as above.
+    left(|out| unsafe { vbson_convert_with(mode, flags, text.as_ptr(), text.len(), out) })
+}
+
+/// The words in a block of their own, as above.
+pub fn explain(flags: u32, text: &[u8]) -> Result<RawText, ErrorKind> {
+    // SAFETY: as above.
+    left(|out| unsafe { vbson_explain(flags, text.as_ptr(), text.len(), out) })
+}
+
+fn left(call: impl FnOnce(*mut RawText) -> u32) -> Result<RawText, ErrorKind> {
     wants_processor();
     let mut out = RawText { bytes: b"".as_ptr(), size: 0, len: 0 };
-    // SAFETY: the slice is readable, and `out` is a valid text that overlaps nothing.
-    wants_done(unsafe { vbson_convert(mode, text.as_ptr(), text.len(), &mut out) })?;
+    wants_done(call(&mut out))?;
     Ok(out)
 }
 
-pub fn same(a: &[u8], b: &[u8]) -> Result<bool, Error> {
+pub fn same(a: &[u8], b: &[u8]) -> Result<bool, ErrorKind> {
     wants_processor();
     // SAFETY: the slices are readable.
     match unsafe { vbson_same(a.as_ptr(), a.len(), b.as_ptr(), b.len()) } {
@@ -81,7 +102,7 @@ pub fn same(a: &[u8], b: &[u8]) -> Result<bool, Error> {
     }
 }
 
-pub fn hash(text: &[u8]) -> Result<u64, Error> {
+pub fn hash(text: &[u8]) -> Result<u64, ErrorKind> {
     wants_processor();
     let mut out = 0;
     // SAFETY: the slice is readable, and `out` overlaps nothing.
@@ -89,7 +110,7 @@ pub fn hash(text: &[u8]) -> Result<u64, Error> {
     Ok(out)
 }
 
-pub fn decimal128_parse(text: &[u8]) -> Result<[u8; 16], Error> {
+pub fn decimal128_parse(text: &[u8]) -> Result<[u8; 16], ErrorKind> {
     wants_processor();
     let mut out = [0; 16];
     // SAFETY: the slice is readable, and `out` overlaps nothing.
@@ -97,7 +118,7 @@ pub fn decimal128_parse(text: &[u8]) -> Result<[u8; 16], Error> {
     Ok(out)
 }
 
-pub fn object_id_parse(text: &[u8]) -> Result<[u8; 12], Error> {
+pub fn object_id_parse(text: &[u8]) -> Result<[u8; 12], ErrorKind> {
     wants_processor();
     let mut out = [0; 12];
     // SAFETY: the slice is readable, and `out` overlaps nothing.
@@ -105,7 +126,7 @@ pub fn object_id_parse(text: &[u8]) -> Result<[u8; 12], Error> {
     Ok(out)
 }
 
-pub fn date_time_parse(text: &[u8]) -> Result<i64, Error> {
+pub fn date_time_parse(text: &[u8]) -> Result<i64, ErrorKind> {
     wants_processor();
     let mut out = 0;
     // SAFETY: the slice is readable, and `out` overlaps nothing.
@@ -116,22 +137,22 @@ pub fn date_time_parse(text: &[u8]) -> Result<i64, Error> {
 /// The room, and the length of the text that the call put at its front.
 pub type Printed = ([u8; ROOM], usize);
 
-pub fn decimal128_print(bytes: &[u8; 16]) -> Result<Printed, Error> {
+pub fn decimal128_print(bytes: &[u8; 16]) -> Result<Printed, ErrorKind> {
     // SAFETY: the bytes are readable, and the room and the length overlap nothing.
     print(|room, len| unsafe { vbson_decimal128_print(bytes, room, ROOM, len) })
 }
 
-pub fn object_id_print(bytes: &[u8; 12]) -> Result<Printed, Error> {
+pub fn object_id_print(bytes: &[u8; 12]) -> Result<Printed, ErrorKind> {
     // SAFETY: as above.
     print(|room, len| unsafe { vbson_object_id_print(bytes, room, ROOM, len) })
 }
 
-pub fn date_time_print(millis: i64) -> Result<Printed, Error> {
+pub fn date_time_print(millis: i64) -> Result<Printed, ErrorKind> {
     // SAFETY: as above.
     print(|room, len| unsafe { vbson_date_time_print(millis, room, ROOM, len) })
 }
 
-fn print(call: impl FnOnce(*mut u8, *mut usize) -> u32) -> Result<Printed, Error> {
+fn print(call: impl FnOnce(*mut u8, *mut usize) -> u32) -> Result<Printed, ErrorKind> {
     wants_processor();
     let mut room = [0; ROOM];
     let mut len = 0;

@@ -15,45 +15,13 @@
 compile_error!("libvbson.a is made for x86-64 Linux with glibc alone");
 
 mod call;
+mod error;
 mod scalar;
 mod text;
 
+pub use error::{Error, ErrorKind};
 pub use scalar::{DateTime, Decimal128, ObjectId};
-pub use text::{convert, hash, same, Mode, Text};
-
-use std::fmt;
-
-/// Why a call was refused.
-#[derive(Clone, Copy, Debug, PartialEq, Eq)]
-pub enum Error {
-    /// The bytes are not UTF-8, not one JSON text, or nest deeper than 127.
-    NotJson,
-    /// The first fault of a JSON text is the text of an object id.
-    BadObjectId,
-    /// The JSON text means nothing in Extended JSON v2.
-    NotExtendedJson,
-    /// A request for memory was refused.
-    OutOfMemory,
-    /// The text is none of the kind that was asked for.
-    NoSuchText,
-    /// The value has no text of the kind that was asked for.
-    NoText,
-}
-
-impl fmt::Display for Error {
-    fn fmt(&self, f: &mut fmt::Formatter<'_>) -> fmt::Result {
-        f.write_str(match self {
-            Error::NotJson => "not JSON",
-            Error::BadObjectId => "bad object id",
-            Error::NotExtendedJson => "not Extended JSON",
-            Error::OutOfMemory => "out of memory",
-            Error::NoSuchText => "no such text",
-            Error::NoText => "no text",
-        })
-    }
-}
-
-impl std::error::Error for Error {}
+pub use text::{convert, convert_with, explain, hash, same, Mode, Options, Text};
 
 /// The version of the library that is linked, as (0, 2, 0).
 pub fn version() -> (u32, u32, u32) {

@@ -21,7 +21,7 @@ impl FromStr for Decimal128 {
 
     /// No value is rounded: a text with too many digits is `NoSuchText`, as any other that is no decimal.
     fn from_str(text: &str) -> Result<Decimal128, Error> {
-        call::decimal128_parse(text.as_bytes()).map(Decimal128)
+        Ok(Decimal128(call::decimal128_parse(text.as_bytes())?))
     }
 }
 
@@ -30,7 +30,7 @@ impl FromStr for ObjectId {
 
     /// 24 hexadecimal digits of either case; else `NoSuchText`.
     fn from_str(text: &str) -> Result<ObjectId, Error> {
-        call::object_id_parse(text.as_bytes()).map(ObjectId)
+        Ok(ObjectId(call::object_id_parse(text.as_bytes())?))
     }
 }
 
@@ -39,7 +39,7 @@ impl FromStr for DateTime {
 
     /// A text of RFC 3339 (section 5.6); else `NoSuchText`.
     fn from_str(text: &str) -> Result<DateTime, Error> {
-        call::date_time_parse(text.as_bytes()).map(DateTime)
+        Ok(DateTime(call::date_time_parse(text.as_bytes())?))
     }
 }
 

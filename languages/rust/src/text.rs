@@ -1,5 +1,5 @@
 //! Texts of Extended JSON.
-use crate::{call, Error};
+use crate::{call, Error, ErrorKind};
 use std::ffi::c_void;
 use std::ops::Deref;
 use std::ptr::NonNull;
@@ -63,27 +63,77 @@ impl fmt::Debug for Text {
     }
 }
 
+/// What may be read and written beside the default.
+#[derive(Clone, Copy, Debug, Default, PartialEq, Eq)]
+pub struct Options {
+    /// Finite doubles: each number that is no whole one of 64 bits is read as the double nearest to it, and a double is
+    /// written as its shortest decimal, `{"$numberDouble":"12.5"}`, in both forms.
+    pub doubles: bool,
+}
+
+impl Options {
+    fn flags(self) -> u32 {
+        if self.doubles {
+            call::DOUBLES
+        } else {
+            0
+        }
+    }
+}
+
 /// The text, in the mode, of the value that a text of Extended JSON means, in either form or mixed.
 ///
 /// Keys come out in ascending order at every depth; of a key that stands twice the last value counts. A finite double
 /// is `NotExtendedJson`, as `1.5` and `0.0` are. The output can mean another value in two ways: a NaN of Decimal128 loses
 /// its sign and its s, and in the relaxed form an Int64 that fits is read again as an Int32.
 pub fn convert(mode: Mode, text: &[u8]) -> Result<Text, Error> {
-    let raw = call::convert(mode as u32, text)?;
+    match call::convert(mode as u32, text) {
+        Ok(raw) => Ok(owned(raw)),
+        Err(kind) => Err(error_of(kind, Options::default(), &[text])),
+    }
+}
+
+/// `convert` with options.
+pub fn convert_with(mode: Mode, options: Options, text: &[u8]) -> Result<Text, Error> {
+    match call::convert_with(mode as u32, options.flags(), text) {
+        Ok(raw) => Ok(owned(raw)),
+        Err(kind) => Err(error_of(kind, options, &[text])),
+    }
+}
+
+/// Why `convert_with` refuses a text, and where; None where it accepts it.
+pub fn explain(options: Options, text: &[u8]) -> Option<Error> {
+    convert_with(Mode::Canonical, options, text).err()
+}
+
+/// Whether two texts of Extended JSON mean the same value. The fault of the first is told before that of the second.
+pub fn same(a: &[u8], b: &[u8]) -> Result<bool, Error> {
+    call::same(a, b).map_err(|kind| error_of(kind, Options::default(), &[a, b]))
+}
+
+/// The hash of the value that a text means: one number for all texts that `same` finds the same.
+pub fn hash(text: &[u8]) -> Result<u64, Error> {
+    call::hash(text).map_err(|kind| error_of(kind, Options::default(), &[text]))
+}
+
+fn owned(raw: call::RawText) -> Text {
     let bytes = NonNull::new(raw.bytes.cast_mut()).expect("a text has a block");
     let text = Text { bytes, len: raw.len };
     // SAFETY: `len` bytes of the block are the text.
     let written = unsafe { slice::from_raw_parts(text.bytes.as_ptr(), text.len) };
     assert!(str::from_utf8(written).is_ok(), "the library writes UTF-8");
-    Ok(text)
+    text
 }
 
-/// Whether two texts of Extended JSON mean the same value. The fault of the first is told before that of the second.
-pub fn same(a: &[u8], b: &[u8]) -> Result<bool, Error> {
-    call::same(a, b)
-}
-
-/// The hash of the value that a text means: one number for all texts that `same` finds the same.
-pub fn hash(text: &[u8]) -> Result<u64, Error> {
-    call::hash(text)
+/// The error with its place, of the first of the texts that is refused. Only such a text is read again; without memory
+/// for that, the error has no place.
+fn error_of(kind: ErrorKind, options: Options, texts: &[&[u8]]) -> Error {
+    if !matches!(kind, ErrorKind::NotJson | ErrorKind::BadObjectId | ErrorKind::NotExtendedJson) {
+        return kind.into();
+    }
+    let mut told = texts.iter().map(|it| call::explain(options.flags(), it).map(owned));
+    match told.find(|it| it.as_ref().map_or(true, |words| !words.is_empty())) {
+        Some(Ok(words)) => Error::explained(kind, &words),
+        _ => kind.into(),
+    }
 }

@@ -1,6 +1,7 @@
 //! Each call of the wrapper, and each error.
 use std::thread;
-use vbson::{convert, hash, same, version, DateTime, Decimal128, Error, Mode, ObjectId, Text};
+use vbson::{convert, convert_with, explain, hash, same, version};
+use vbson::{DateTime, Decimal128, Error, ErrorKind, Mode, ObjectId, Options, Text};
 
 #[test]
 fn texts_are_converted() {
@@ -13,18 +14,59 @@ fn texts_are_converted() {
 }
 
 #[test]
+fn finite_doubles_are_an_option() {
+    let (text, doubles) = (br#"{"b":1.5,"a":1e2}"#, Options { doubles: true });
+    let wanted = r#"{"a":{"$numberDouble":"100.0"},"b":{"$numberDouble":"1.5"}}"#;
+    for mode in [Mode::Canonical, Mode::Relaxed] {
+        assert_eq!(&*convert_with(mode, doubles, text).unwrap(), wanted);
+        let kind = convert_with(mode, Options::default(), text).map_err(|it| it.kind()).err();
+        assert_eq!(kind, Some(ErrorKind::NotExtendedJson));
+    }
+    assert_eq!(&*convert_with(Mode::Relaxed, Options::default(), b"[ 1 ]").unwrap(), "[1]");
+    assert_eq!(explain(doubles, text), None);
+    assert!(explain(Options::default(), text).is_some());
+    assert_eq!(explain(doubles, b"1e400").map(|it| it.kind()), Some(ErrorKind::NotJson));
+}
+
+fn kind<T>(answer: Result<T, Error>) -> Option<ErrorKind> {
+    answer.err().map(|it| it.kind())
+}
+
+#[test]
 fn faults_are_told() {
-    assert_eq!(convert(Mode::Canonical, b"").err(), Some(Error::NotJson));
-    assert_eq!(convert(Mode::Canonical, b"\"\xff\"").err(), Some(Error::NotJson));
-    assert_eq!(convert(Mode::Canonical, b"1.5").err(), Some(Error::NotExtendedJson));
-    assert_eq!(convert(Mode::Relaxed, br#"{"$oid":"zz"}"#).err(), Some(Error::BadObjectId));
-    assert_eq!(same(b"1", b"{"), Err(Error::NotJson));
-    assert_eq!(hash(b"1.5"), Err(Error::NotExtendedJson));
-    assert_eq!("1.2.3".parse::<Decimal128>(), Err(Error::NoSuchText));
-    assert_eq!("53e3".parse::<ObjectId>(), Err(Error::NoSuchText));
-    assert_eq!("2020".parse::<DateTime>(), Err(Error::NoSuchText));
-    assert_eq!(DateTime(i64::MAX).to_rfc3339(), Err(Error::NoText));
-    assert_eq!(Error::NotExtendedJson.to_string(), "not Extended JSON");
+    assert_eq!(kind(convert(Mode::Canonical, b"")), Some(ErrorKind::NotJson));
+    assert_eq!(kind(convert(Mode::Canonical, b"\"\xff\"")), Some(ErrorKind::NotJson));
+    assert_eq!(kind(convert(Mode::Canonical, b"1.5")), Some(ErrorKind::NotExtendedJson));
+    assert_eq!(kind(convert(Mode::Relaxed, br#"{"$oid":"zz"}"#)), Some(ErrorKind::BadObjectId));
+    assert_eq!(kind(same(b"1", b"{")), Some(ErrorKind::NotJson));
+    assert_eq!(kind(hash(b"1.5")), Some(ErrorKind::NotExtendedJson));
+    assert_eq!(kind("1.2.3".parse::<Decimal128>()), Some(ErrorKind::NoSuchText));
+    assert_eq!(kind("53e3".parse::<ObjectId>()), Some(ErrorKind::NoSuchText));
+    assert_eq!(kind("2020".parse::<DateTime>()), Some(ErrorKind::NoSuchText));
+    assert_eq!(DateTime(i64::MAX).to_rfc3339(), Err(ErrorKind::NoText.into()));
+    assert_eq!(ErrorKind::NotExtendedJson.to_string(), "not Extended JSON");
+}
+
+#[test]
+fn places_are_told() {
+    let number = "a number is no whole number of 64 bits";
+    let digit = "the character ' ' at 4 in \"53e3 (\" is no hexadecimal digit";
+    for (text, words, at, why) in [
+        ("[1, 2", "not JSON at column 5".to_owned(), "column 5", "not JSON"),
+        (r#"{"a (":[{"b":1.5}]}"#, format!("not Extended JSON at a (.0.b ({number})"), "a (.0.b", number),
+        ("1.5", format!("not Extended JSON ({number})"), "", number),
+        (r#"{"a":{"$oid":"53e3 ("}}"#, format!("bad object id at a.$oid ({digit})"), "a.$oid", digit),
+        (r#"{"\u0007":1.5}"#, "not Extended JSON at a text with control characters".to_owned(),
+         "a text with control characters", "not Extended JSON"),
+    ] {
+        let error = convert(Mode::Relaxed, text.as_bytes()).unwrap_err();
+        assert_eq!((error.to_string(), error.at(), error.why()), (words, at, why));
+        assert_eq!(explain(Options::default(), text.as_bytes()).as_ref(), Some(&error));
+        assert_eq!(same(b"1", text.as_bytes()).as_ref(), Err(&error));
+        assert_eq!(hash(text.as_bytes()).as_ref(), Err(&error));
+    }
+    let error = "53e3".parse::<ObjectId>().unwrap_err();
+    assert_eq!((error.to_string().as_str(), error.at(), error.why()), ("no such text", "", "no such text"));
 }
 
 #[test]
@@ -43,7 +85,7 @@ fn small_values_come_back_from_their_texts() {
     let id: ObjectId = "53E37d08776f724e42000000".parse().unwrap();
     assert_eq!((id.0[0], id.to_string().as_str()), (0x53, "53e37d08776f724e42000000"));
     let moment: DateTime = "2020-06-01T00:42:40.292Z".parse().unwrap();
-    assert_eq!((moment.0, moment.to_rfc3339().as_deref()), (1590972160292, Ok("2020-06-01T00:42:40.292Z")));
+    assert_eq!((moment.0, moment.to_rfc3339().as_deref().ok()), (1590972160292, Some("2020-06-01T00:42:40.292Z")));
     assert_eq!(format!("{moment:>26}"), "  2020-06-01T00:42:40.292Z");
     assert_eq!(DateTime(253402300800000).to_string(), "253402300800000 ms");
     assert_eq!(DateTime(-1).to_string(), "1969-12-31T23:59:59.999Z");

@@ -1,0 +1,104 @@
+//! Why a call was refused, and where.
+use std::fmt;
+
+/// Which refusal it is.
+#[derive(Clone, Copy, Debug, PartialEq, Eq)]
+pub enum ErrorKind {
+    /// The bytes are not UTF-8, not one JSON text, or nest deeper than 127.
+    NotJson,
+    /// The first fault of a JSON text is the text of an object id.
+    BadObjectId,
+    /// The JSON text means nothing in Extended JSON v2.
+    NotExtendedJson,
+    /// A request for memory was refused.
+    OutOfMemory,
+    /// The text is none of the kind that was asked for.
+    NoSuchText,
+    /// The value has no text of the kind that was asked for.
+    NoText,
+}
+
+impl ErrorKind {
+    fn words(self) -> &'static str {
+        match self {
+            ErrorKind::NotJson => "not JSON",
+            ErrorKind::BadObjectId => "bad object id",
+            ErrorKind::NotExtendedJson => "not Extended JSON",
+            ErrorKind::OutOfMemory => "out of memory",
+            ErrorKind::NoSuchText => "no such text",
+            ErrorKind::NoText => "no text",
+        }
+    }
+}
+
+/// Why a call was refused; of a text of Extended JSON, with where. It is displayed as
+/// `not Extended JSON at orders.0.price (a number is no whole number of 64 bits)`.
+#[derive(Clone, Debug, PartialEq, Eq)]
+pub struct Error {
+    kind: ErrorKind,
+    behind: String,
+}
+
+impl Error {
+    /// Which refusal it is.
+    pub fn kind(&self) -> ErrorKind {
+        self.kind
+    }
+
+    /// Where the fault of a text lies: `orders.0.price`, or `column 7` of what is no JSON. Keys are in it as they are.
+    /// Empty where the fault is that of the whole text, and where the call reads no Extended JSON.
+    pub fn at(&self) -> &str {
+        self.parts().0
+    }
+
+    /// What is wrong there: `a number is no whole number of 64 bits`, or the words for the kind.
+    pub fn why(&self) -> &str {
+        Some(self.parts().1).filter(|it| !it.is_empty()).unwrap_or(self.kind.words())
+    }
+
+    /// An error with the words of `vbson_explain`.
+    pub(crate) fn explained(kind: ErrorKind, words: &str) -> Error {
+        Error { kind, behind: words.strip_prefix(kind.words()).unwrap_or("").to_owned() }
+    }
+
+    /// The place and the message of the words behind those for the kind: ` at PLACE (MESSAGE)`, or either alone.
+    fn parts(&self) -> (&str, &str) {
+        let (place, message) = self.behind.split_at(self.seam().unwrap_or(self.behind.len()));
+        let message = message.strip_prefix(" (").and_then(|it| it.strip_suffix(')'));
+        (place.strip_prefix(" at ").unwrap_or(place), message.unwrap_or(""))
+    }
+
+    /// Where the message begins. That on an object id may hold any characters, but behind a wrapper's key, at which its
+    /// path ends, it begins with these words; no other message holds a bracket.
+    fn seam(&self) -> Option<usize> {
+        let keys = ["$oid", "$dbPointer"];
+        let begins = [" (the character '", " (an object id has "];
+        let of_id = || begins.iter().flat_map(|it| self.behind.match_indices(it)).map(|(at, _)| at);
+        match self.kind {
+            ErrorKind::BadObjectId => of_id().filter(|&at| keys.iter().any(|it| self.behind[..at].ends_with(it))).min(),
+            _ => self.behind.rfind(" ("),
+        }
+    }
+}
+
+impl From<ErrorKind> for Error {
+    fn from(kind: ErrorKind) -> Error {
+        Error { kind, behind: String::new() }
+    }
+}
+
+impl fmt::Display for ErrorKind {
+    fn fmt(&self, f: &mut fmt::Formatter<'_>) -> fmt::Result {
+        f.write_str(self.words())
+    }
+}
+
+impl fmt::Display for Error {
+    fn fmt(&self, f: &mut fmt::Formatter<'_>) -> fmt::Result {
+        write!(f, "{}{}", self.kind, self.behind)
+    }
+}
+
+impl std::error::Error for ErrorKind {}
+
+impl std::error::Error for Error {}
