@@ -7,26 +7,16 @@ It prints a row for each text: what it is, whether the program accepted it, and 
 program has to be built (./bson does). Inputs come from a seeded generator, so that every run measures the same bytes.
 """
 import os
-import random
 import subprocess
 import sys
 import tempfile
 
 sys.dont_write_bytecode = True
-from run import TOP, random_member, small_document
+from run import TOP, generate, random_member, small_document
 
 PROGRAM = f"{TOP}/crates/bson_cli/out/bson_cli"
 # 125 objects in each other, of one member with the empty key.
 NEST = '{"":' * 125 + "0" + "}" * 125
-
-
-def repeated(opening, make, closing, size):
-    """As many pieces as have the size, with commas between."""
-    rng, pieces, written = random.Random(20260101), [], 0
-    while written < size:
-        pieces.append(make(rng, len(pieces)))
-        written += len(pieces[-1]) + 1
-    return opening + ",".join(pieces) + closing
 
 
 def one_of(piece):
@@ -53,7 +43,7 @@ TEXTS = (
 
 
 def peak_of(mode, path):
-    """Whether the program accepted the text, and its greatest memory in bytes."""
+    """Whether the program accepted the text, and its greatest memory in bytes (which is at least that of this script)."""
     with open(path, "rb") as given:
         run = subprocess.Popen([PROGRAM, mode], stdin=given, stdout=subprocess.DEVNULL, stderr=subprocess.DEVNULL)
         _, status, usage = os.wait4(run.pid, 0)
@@ -68,8 +58,7 @@ def main():
     with tempfile.TemporaryDirectory() as room:
         path = f"{room}/input.json"
         for name, mode, opening, make, closing in TEXTS:
-            with open(path, "w") as out:
-                out.write(repeated(opening, make, closing, size))
+            generate(path, make, opening, closing, size)
             accepted, peak = peak_of(mode, path)
             print(f"| {name} | {'accepted' if accepted else 'refused'} | {peak / os.path.getsize(path):.1f} |")
 
