@@ -120,7 +120,7 @@ def try_places():
     number = "a number is no whole number of 64 bits"
     digits = 'an object id has 24 digits, but "53e3" has 4'
     no_digit = "the character '%s' at %d in \"%s\" is no hexadecimal digit"
-    blank, letter = no_digit % (" ", 1, "5 (x)"), no_digit % ("z", 0, "zz (a)")
+    blank, letter = no_digit % (" ", 1, "5 (xy)"), no_digit % ("z", 0, "zz (a)")
     both = vbson.NotExtendedJson, vbson.BadObjectId
     for text, words, place, why, error in (
             ("[1, 2", "not JSON at column 5", "column 5", "not JSON", vbson.NotJson),
@@ -129,7 +129,7 @@ def try_places():
             ('{"":1.5}', f"not Extended JSON ({number})", "", number, both[0]),
             ('{"\u00e9":1.5}', f"not Extended JSON at \u00e9 ({number})", "\u00e9", number, both[0]),
             ('{"a":{"$oid":"53e3"}}', f"bad object id at a.$oid ({digits})", "a.$oid", digits, both[1]),
-            ('{"$oid":"5 (x)"}', f"bad object id at $oid ({blank})", "$oid", blank, both[1]),
+            ('{"$oid":"5 (xy)"}', f"bad object id at $oid ({blank})", "$oid", blank, both[1]),
             ('[{"$dbPointer":{"$ref":"a","$id":{"$oid":"zz (a)"}}}]', f"bad object id at 0.$dbPointer ({letter})",
              "0.$dbPointer", letter, both[1]),
             ('{"a\\u0007":1.5}', "not Extended JSON at a text with control characters", "a text with control characters",
