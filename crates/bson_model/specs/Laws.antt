@@ -13,7 +13,7 @@ use Rattle.bson_model.specs.Written.{WrittenIn}
 use Rattle.bson_wrapper.specs.declared.form.Doubles.{Doubles}
 use Rattle.bson_wrapper.specs.declared.form.Doubles.TheVariants.{Special}
 
--- the tree of a plain value means one value, the same as its normal form, settled
+-- the tree of a plain value means one value, the same as its normal form as that form of text reads it
 abbrev pub ReadsBackIn : Doubles → Form → Value → Data → Type 0
 ReadsBackIn D f v t = plain v ≡ true → (w : Value) × MeansIn D t w × (same w (as_read f (normal_form v)) ≡ true)
 

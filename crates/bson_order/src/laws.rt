@@ -103,8 +103,8 @@ pub fn written_forgets_order()
         → WrittenIn D f (normal_form v) (unordered t) }
 {}
 
-/// The tree and text of a plain value in its own order are read as the very value in normal form,
-/// settled, and two such texts are equal just if the normal forms are, order included.
+/// The tree and text of a plain value in its own order are read as the very value in normal form, as
+/// that form reads it, and two such texts are equal just if the normal forms are, order included.
 pub fn ordered_texts()
     ensures { (D : Doubles) (f : Form) (v : Value) (t : Data) → WrittenInOrder D f (normal_form v) t → plain v ≡ true
         → InRange v → AllDistinct v → IsOrderedTextOf D f v t }

@@ -69,7 +69,7 @@ impl Place {
     }
 }
 
-/// Adds the words of the steps, the last of which comes first.
+// Adds the words of the steps, the last of which comes first.
 fn write_way(alloc: Global, steps: &[Step], path: &mut String) -> Result<(), AllocError>
     ensures { OnOk result (string_bytes path.new ≡ string_bytes path.old ++ dotted (map turn_of steps.now)) }
 {
@@ -84,7 +84,7 @@ fn write_way(alloc: Global, steps: &[Step], path: &mut String) -> Result<(), All
     path.push_str(&word)
 }
 
-/// A key, or the number of a place in a list.
+// A key, or the number of a place in a list.
 fn word(alloc: Global, step: &Step) -> Result<String, AllocError>
     ensures { IfOk result (λ word. string_bytes word ≡ word_of (turn_of step.now)) }
 {
