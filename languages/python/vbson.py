@@ -178,9 +178,9 @@ def _text_of(call, *arguments):
         _free(out.bytes)
 
 
-# The words behind those for the class: a column, or a path and a message. The message on an object id may hold any
+# The words behind those for the class: a column, or a path and a message, or a column of a number with one. The message on an object id may hold any
 # characters, but its path ends in a wrapper's key; no other message holds a bracket.
-_COLUMN = re.compile(r" at (column \d+)()")
+_COLUMN = re.compile(r" at (column \d+)(?: \((a number is out of range)\))?")
 _OF_ID = re.compile(r" at (.*?\$(?:oid|dbPointer)) \(((?:the character '|an object id has ).*)\)", re.S)
 _OF_SHAPE = re.compile(r"(?: at (.*))? \(([^(]*)\)", re.S)
 _KEPT_BACK = re.compile(r" at (a text with control characters)()")

@@ -110,6 +110,7 @@ static void explain(void) {
     CHECK(explains(0, "[1,]", "not JSON at column 4"));
     CHECK(explains(0, "{\"a\" 1}", "not JSON at column 6"));
     CHECK(explains(VBSON_DOUBLES, "\"\xff\"", "not JSON at column 2"));
+    CHECK(explains(VBSON_DOUBLES, "[1e400]", "not JSON at column 2 (a number is out of range)"));
     CHECK(explains(0, "{\"a\\u001b\":1.5}", "not Extended JSON at a text with control characters"));
     CHECK(explains(0, "{\"a\":1}", ""));
     CHECK(vbson_explain(2, TEXT("{}"), &out) == VBSON_NO_MODE && out.bytes == before && out.size == 7 && out.len == 6);

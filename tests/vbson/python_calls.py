@@ -124,6 +124,7 @@ def try_places():
     both = vbson.NotExtendedJson, vbson.BadObjectId
     for text, words, place, why, error in (
             ("[1, 2", "not JSON at column 5", "column 5", "not JSON", vbson.NotJson),
+            ("[1e400]", "not JSON at column 2 (a number is out of range)", "column 2", "a number is out of range", vbson.NotJson),
             ('{"a (":[{"b)":1.5}]}', f"not Extended JSON at a (.0.b) ({number})", "a (.0.b)", number, both[0]),
             ("1.5", f"not Extended JSON ({number})", "", number, both[0]),
             ('{"":1.5}', f"not Extended JSON ({number})", "", number, both[0]),

@@ -6,7 +6,7 @@ use bson_run::fault::Fault;
 use bson_run::mode::Mode;
 use bson_run::order::Task;
 use bson_run::refusal::Refusal;
-use serde_json::Value;
+use bson_run::stop::Stop;
 use std::alloc::{AllocError, Global};
 use std::io::{Read, Write};
 
@@ -76,17 +76,8 @@ fn told(alloc: Global, fault: Fault, bytes: &[u8]) -> Refusal {
 
 fn placed(alloc: Global, fault: &Fault, bytes: &[u8]) -> Result<(u64, String), AllocError> {
     let line = match fault {
-        Fault::NotJson => line_of_fault(alloc, bytes)?,
+        Fault::NotJson => Stop::of(alloc, bytes)?.line(bytes) as u64,
         _ => 0,
     };
     Ok((line, explain(alloc, fault, bytes)?))
-}
-
-// The line at which the bytes are no JSON, counted from 1.
-fn line_of_fault(alloc: Global, bytes: &[u8]) -> Result<u64, AllocError> {
-    match Value::from_slice(alloc, bytes) {
-        Ok(_) => Ok(0),
-        Err(error) if error.is_memory() => Err(AllocError),
-        Err(error) => Ok(error.line() as u64),
-    }
 }

@@ -1,9 +1,12 @@
 -- Where the fault of a refused text lies, in words.
-use Rattle.std.specs.Prelude.{◌≡◌, ◌≢◌, ◌⊎◌, ℕ, List, [], ◌∷◌, ◌++◌, codes, false}
+use Rattle.std.specs.Prelude.{◌≡◌, ◌≢◌, ◌⊎◌, ℕ, List, [], ◌∷◌, ◌++◌, codes, false, Some, IsUtf8}
 use Rattle.std.specs.Char.{is_control}
 use Rattle.std.specs.Fmt.{decimal}
 use Rattle.std.specs.List.{All}
 use Rattle.std.specs.Str.{chars}
+use Rattle.json.specs.Json.{skip_value}
+use Rattle.json.specs.Lex.{tokens}
+use Rattle.serde_json.specs.Read.{max_depth}
 use Rattle.bson_place.specs.Place.{Turn, dotted, way_of}
 use Rattle.bson_place.specs.declared.place.Place.{Place}
 use Rattle.bson_run.specs.declared.fault.Fault.{Fault}
@@ -33,9 +36,24 @@ IsTold words told =
 abbrev pub IsPlaced : Place → List ℕ → Type 0
 IsPlaced place words = (displayed : List ℕ) × IsDisplayed (way_of place) displayed × IsTold displayed words
 
--- a column; which one no contract says
+-- the bytes are UTF-8 and one value by the grammar of JSON, arrays and objects nesting as deep as texts may (RFC 8259)
+abbrev pub HasGrammar : List ℕ → Type 0
+HasGrammar bytes = IsUtf8 bytes × (skip_value max_depth (tokens bytes) ≡ Some [])
+
+-- a column, which one no contract says; that of a number that is no double too
+abbrev pub at_column : ℕ → List ℕ
+at_column n = codes " at column " ++ decimal n
+
+abbrev pub at_number : ℕ → List ℕ
+at_number n = at_column n ++ codes " (a number is out of range)"
+
 abbrev pub IsColumn : List ℕ → Type 0
-IsColumn words = (n : ℕ) × (words ≡ codes " at column " ++ decimal n)
+IsColumn words = (n : ℕ) × ((words ≡ at_column n) ⊎ (words ≡ at_number n))
+
+-- where bytes that are no text stop to be one: those with the grammar of JSON at a number
+abbrev pub IsStop : List ℕ → List ℕ → Type 0
+IsStop bytes words =
+    (n : ℕ) × ((HasGrammar bytes × (words ≡ at_number n)) ⊎ (¬ (HasGrammar bytes) × (words ≡ at_column n)))
 
 -- nothing for a fault that no text has
 abbrev pub IsWhere : Fault → List ℕ → Type 0

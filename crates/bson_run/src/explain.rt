@@ -5,19 +5,20 @@ ghost use Rattle.std.specs.Str.{chars};
 ghost use Rattle.bson_place.specs.Place.{way_of};
 ghost use Rattle.bson_run.specs.Lines.{IsBadText, IsBadTextIn};
 ghost use Rattle.bson.specs.declared.extjson.options.Options.{Options};
-ghost use Rattle.bson_run.specs.Place.{IsColumn, IsDisplayed, IsTold, IsVisible, IsWhere};
-ghost use Rattle.bson.specs.TextMeaning.{IsNoText};
+ghost use Rattle.bson_run.specs.Place.{IsDisplayed, IsStop, IsTold, IsVisible, IsWhere};
+ghost use Rattle.bson_run.specs.declared.fault.Fault.TheVariants.{NotJson};
 
 use crate::fault::Fault;
+use crate::stop::Stop;
 use bson_place::place::Place;
-use serde_json::Value;
 use std::alloc::{AllocError, Global};
 
 /// Where the fault of a refused text lies, to be put behind the words for it; empty for a fault
 /// that no text has.
 ///
-/// For `NotJson` it is ` at column N`, the column of the byte at which `serde_json` stopped,
-/// counted from 1, which reads the text again. For `NotExtendedJson` it is what the fault itself
+/// For `NotJson` it is ` at column N`, the column in its line, counted from 1, of the byte at which
+/// the text stops to be JSON, and ` at column N (a number is out of range)` where it has the grammar
+/// of JSON, for the first number whose nearest double is not finite. For `NotExtendedJson` it is what the fault itself
 /// tells, ` at orders.3._id.$oid (MESSAGE)`: the way to the first
 /// fault, its keys as they are and places in lists counted from 0, and what is wrong there; with
 /// the message alone where the fault is that of the whole text. Where a control character or a
@@ -26,6 +27,7 @@ use std::alloc::{AllocError, Global};
 pub fn explain(alloc: Global, fault: &Fault, text: &[u8]) -> Result<String, AllocError>
     ensures place { IfOk result (λ words. IsBadText fault.now text.now → IsWhere fault.now (string_bytes words)) }
     ensures other { IfOk result (λ words. IsWhere fault.now (string_bytes words) ⊎ (string_bytes words ≡ [])) }
+    ensures stop { IfOk result (λ words. fault.now ≡ NotJson → IsStop text.now (string_bytes words)) }
     ensures place_with { (options : Options) → IfOk result (λ words. IsBadTextIn options fault.now text.now
         → IsWhere fault.now (string_bytes words)) }
 {
@@ -36,19 +38,16 @@ pub fn explain(alloc: Global, fault: &Fault, text: &[u8]) -> Result<String, Allo
     }
 }
 
-// The column at which a text is no JSON.
+// The column at which a text stops to be JSON.
 fn column(alloc: Global, text: &[u8]) -> Result<String, AllocError>
-    ensures place { IfOk result (λ place. IsNoText text.now → IsColumn (string_bytes place)) }
-    ensures other { IfOk result (λ place. IsColumn (string_bytes place) ⊎ (string_bytes place ≡ [])) }
+    ensures { IfOk result (λ words. IsStop text.now (string_bytes words)) }
 {
-    match Value::from_slice(alloc, text) {
-        Ok(_) => Ok(String::new(alloc)),
-        Err(error) if error.is_memory() => Err(AllocError),
-        Err(error) => {
-            let column = error.column();
-            format!(in alloc; " at column {column}")
-        }
+    let stop = Stop::of(alloc, text)?;
+    let column = stop.column(text);
+    if stop.is_number {
+        return format!(in alloc; " at column {column} (a number is out of range)");
     }
+    format!(in alloc; " at column {column}")
 }
 
 // The words for a place.

@@ -5,7 +5,8 @@
 //! bytes) with `value` (bytes to a value), `stream` (all bytes of a reader and to a writer) and
 //! `run` (the whole way from a reader to a writer). Over lines: `order` and `refusal` (what is
 //! asked, and what is refused), `gathered` (the line that is read, and what those before it gave)
-//! and `lines` (the whole way). What the programs have in common stands in `program`.
+//! and `lines` (the whole way). Why a text is refused, in words: `stop` (where bytes stop to be
+//! JSON) and `explain`. What the programs have in common stands in `program`.
 #![tactic(auto)]
 
 pub mod convert;
@@ -18,5 +19,6 @@ pub mod order;
 pub mod program;
 pub mod refusal;
 pub mod run;
+pub mod stop;
 mod stream;
 pub mod value;

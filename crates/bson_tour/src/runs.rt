@@ -3,6 +3,7 @@ use bson_run::convert::convert;
 use bson_run::lines::run_lines;
 use bson_run::mode::{Mode, mode_of};
 use bson_run::order::{OnRefusal, Task};
+use bson_run::stop::Stop;
 use bson_run::value::value_of;
 use std::alloc::Global;
 
@@ -13,7 +14,8 @@ pub(crate) fn print(rt: &impl Print, alloc: Global) -> anyhow::Result<()> {
     counts(rt, alloc)?;
     refusal(rt, alloc)?;
     task(rt, alloc)?;
-    on_refusal(rt, alloc)
+    on_refusal(rt, alloc)?;
+    stop(rt, alloc)
 }
 
 fn convert_call(rt: &impl Print, alloc: Global) -> anyhow::Result<()> {
@@ -75,5 +77,12 @@ fn on_refusal(rt: &impl Print, alloc: Global) -> anyhow::Result<()> {
     drop(run_lines(alloc, task, go_on, &mut lines, &mut output, &mut told));
     rt.print(str::from_utf8(&told)?)?; // bson_lines: line 1: not JSON at column 1
     rt.print(str::from_utf8(&output)?)?; // 2
+    Ok(())
+}
+
+fn stop(rt: &impl Print, alloc: Global) -> anyhow::Result<()> {
+    let text: &[u8] = b"[1,\n 2 3]";
+    let stop = Stop::of(alloc, text)?;
+    println!(rt; "{}:{}", stop.line(text), stop.column(text))?; // 2:4
     Ok(())
 }

@@ -53,6 +53,7 @@ fn places_are_told() {
     let digit = "the character ' ' at 4 in \"53e3 (\" is no hexadecimal digit";
     for (text, words, at, why) in [
         ("[1, 2", "not JSON at column 5".to_owned(), "column 5", "not JSON"),
+        ("[1e400]", "not JSON at column 2 (a number is out of range)".to_owned(), "column 2", "a number is out of range"),
         (r#"{"a (":[{"b":1.5}]}"#, format!("not Extended JSON at a (.0.b ({number})"), "a (.0.b", number),
         ("1.5", format!("not Extended JSON ({number})"), "", number),
         (r#"{"a":{"$oid":"53e3 ("}}"#, format!("bad object id at a.$oid ({digit})"), "a.$oid", digit),

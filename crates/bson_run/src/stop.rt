@@ -1,0 +1,113 @@
+//! Where bytes stop to be a JSON text.
+ghost use Rattle.std.specs.Prelude.{◌≡◌, ◌↔◌, IfOk, IsTrue};
+ghost use Rattle.bson_run.specs.Place.{HasGrammar};
+
+use bson_tokens::number::number;
+use json::{Reader, Scratch, Token};
+use memchr::{memchr_iter, memrchr};
+use std::alloc::{AllocError, Global};
+
+/// How deep arrays and objects may nest.
+const MAX_DEPTH: usize = 127;
+
+/// Where bytes stop to be a JSON text, for a message.
+///
+/// ```
+/// let text: &[u8] = b"[1,\n 2 3]";
+/// let stop = Stop::of(alloc, text)?;
+/// println!(rt; "{}:{}", stop.line(text), stop.column(text))?; // 2:4
+/// ```
+#[derive(Clone, Copy, Debug)]
+pub struct Stop {
+    /// How many bytes stand before it.
+    pub offset: usize,
+    /// The bytes have the grammar of JSON, and the number there is out of the range of doubles.
+    pub is_number: bool,
+}
+
+impl Stop {
+    /// The first byte that is no UTF-8, or else the first token that can't stand where it does, or
+    /// what is behind a bracket that nests deeper than 127; where the bytes have the grammar of
+    /// JSON, the first number whose nearest double is not finite. It makes no tree; of memory it
+    /// takes as much as the bytes.
+    pub fn of(alloc: Global, bytes: &[u8]) -> Result<Stop, AllocError>
+        ensures grammar { IfOk result (λ stop. IsTrue stop.is_number ↔ HasGrammar bytes.now) }
+    {
+        match simdutf8::compat::from_utf8(bytes) {
+            Ok(text) => stop_in(alloc, text),
+            Err(error) => Ok(Stop {
+                offset: error.valid_up_to(),
+                is_number: false,
+            }),
+        }
+    }
+
+    /// The line on which it lies, counted from 1.
+    pub fn line(self, bytes: &[u8]) -> usize {
+        1usize.saturating_add(memchr_iter(b'\n', self.before(bytes)).count())
+    }
+
+    /// The column of the byte there, or of the last where the bytes end, counted from 1.
+    pub fn column(self, bytes: &[u8]) -> usize {
+        let before = self.before(bytes);
+        match memrchr(b'\n', before) {
+            Some(at) => before.len() - at,
+            None => before.len() + 1,
+        }
+    }
+
+    // The bytes before it, which are not all.
+    fn before(self, bytes: &[u8]) -> &[u8] {
+        &bytes[..self.offset.min(bytes.len().saturating_sub(1))]
+    }
+}
+
+// Where the text stops to be JSON.
+fn stop_in(alloc: Global, text: &str) -> Result<Stop, AllocError>
+    ensures grammar { IfOk result (λ stop. IsTrue stop.is_number ↔ HasGrammar text.now) }
+{
+    let mut scratch = Scratch::new(alloc);
+    let mut reader = Reader::new(text, &mut scratch)?;
+    let has_grammar = reader.skip_value(MAX_DEPTH).is_ok() && reader.next().is_none();
+    let offset = reader.offset();
+    if !has_grammar {
+        return Ok(Stop {
+            offset,
+            is_number: false,
+        });
+    }
+    Ok(Stop {
+        offset: number_out_of_range(text, &mut scratch)?,
+        is_number: true,
+    })
+}
+
+// How many bytes stand before the first number that has no finite double, or 0 if there is none.
+fn number_out_of_range(text: &str, scratch: &mut Scratch) -> Result<usize, AllocError> {
+    let mut reader = Reader::new(text, scratch)?;
+    let mut behind = 0usize;
+    while let Some(token) = reader.next() {
+        if is_out_of_range(token) {
+            return Ok(behind.saturating_add(blanks(text.as_bytes(), behind)));
+        }
+        behind = reader.offset();
+    }
+    Ok(0)
+}
+
+fn is_out_of_range(token: Token<'_>) -> bool {
+    match token {
+        Token::Number(digits) => number(digits).is_none(),
+        _ => false,
+    }
+}
+
+// How many bytes from there on stand before a number.
+fn blanks(bytes: &[u8], from: usize) -> usize {
+    let is_digit = |byte: &u8| *byte == b'-' || byte.is_ascii_digit();
+    bytes
+        .iter()
+        .skip(from)
+        .take_while(|byte| !is_digit(*byte))
+        .count()
+}
