@@ -1,4 +1,5 @@
-/* vbson.h: MongoDB Extended JSON v2 and the small values of BSON, from a library whose calls are proved (Rattle).
+/* vbson.h: MongoDB Extended JSON v2, BSON bytes and the small values of BSON, from a library whose calls are proved
+ * (Rattle).
  * For C11 and C++, on x86-64 Linux with glibc and a processor with SSE4.2 and POPCNT (x86-64-v2).
  *
  * Each call but vbson_version answers a status of the list below, VBSON_DONE where it did what it is for. On every
@@ -8,7 +9,7 @@
  *   - A pointer and a length that stand for bytes: the bytes can be read (written, where not const) for the whole of
  *     the call, they are at most PTRDIFF_MAX, and the pointer is not null, not even for no bytes.
  *   - Any other pointer is not null, is aligned for its type, and points to a valid value of it, also where the call
- *     writes it: begin with VBSON_TEXT_NONE, a number, or an array that was filled.
+ *     writes it: begin with VBSON_TEXT_NONE, VBSON_LINES_NONE, a number, or an array that was filled.
  *   - What a call may write overlaps nothing else that the call is handed.
  *   - malloc, realloc and free are of one allocator, whose blocks are aligned to 16 bytes.
  *   - No call is made from a signal handler, or from the child that fork() makes of a process with several threads.
@@ -50,7 +51,11 @@ enum vbson_status {
     VBSON_NO_SUCH_TEXT = 6,      /* the bytes are no text of the kind that was asked for */
     VBSON_NO_TEXT = 7,           /* the value has no text of the kind that was asked for */
     VBSON_NO_ROOM = 8,           /* the room is smaller than the text; *len is what the text needs */
-    VBSON_DIFFERENT = 9          /* the two texts mean different values */
+    VBSON_DIFFERENT = 9,         /* the two texts mean different values */
+    VBSON_NO_DOCUMENT = 10,      /* the bytes are no document of BSON, or the text means another value than a document */
+    VBSON_ZERO_IN_KEY = 11,      /* a key of the document has a 0 byte in it, which would end it */
+    VBSON_ZERO_IN_REGEX = 12,    /* the pattern or the options of a regular expression have a 0 byte in them */
+    VBSON_TOO_LONG = 13          /* a part of the document is too long for BSON: it has 2^31 bytes or more */
 };
 
 /* A few words for a status. */
@@ -66,6 +71,10 @@ static inline const char *vbson_status_text(uint32_t status) {
     case VBSON_NO_TEXT: return "no text";
     case VBSON_NO_ROOM: return "no room";
     case VBSON_DIFFERENT: return "different";
+    case VBSON_NO_DOCUMENT: return "no document";
+    case VBSON_ZERO_IN_KEY: return "a key has a 0 byte in it";
+    case VBSON_ZERO_IN_REGEX: return "a regular expression has a 0 byte in it";
+    case VBSON_TOO_LONG: return "a part is too long for BSON";
     default: return "no such status";
     }
 }
@@ -84,7 +93,8 @@ enum vbson_flag {
 };
 
 /* A text in a block of its own: len bytes, and a NUL behind them, so that it is a C string too (which ends earlier
- * where the text holds U+0000, as only VBSON_SHOW can write it). Its holder frees it by vbson_text_free. */
+ * where the text holds U+0000, as only VBSON_SHOW can write it), or the bytes that vbson_encode writes. Its holder frees
+ * it by vbson_text_free. */
 typedef struct vbson_text {
     const uint8_t *bytes;
     size_t size; /* of the block: len + 1, or 0 where there is no block */
@@ -140,6 +150,23 @@ uint32_t vbson_convert_with(uint32_t mode, uint32_t flags, const uint8_t *text, 
  * where that has refused. *out is written over: what it held is not freed. VBSON_NO_MODE, VBSON_OUT_OF_MEMORY. */
 uint32_t vbson_explain(uint32_t flags, const uint8_t *text, size_t len, vbson_text *out);
 
+/* What a block of lines gives. Its holder frees both texts by vbson_text_free. */
+typedef struct vbson_lines {
+    vbson_text text;  /* what each line is converted to, in their order, a newline behind each */
+    vbson_text told;  /* a line on each that is refused: "bson_lines: line 3: " (from 1), and vbson_explain's words */
+    uint64_t lines;   /* how many lines there are, blank and refused ones too */
+    uint64_t refused; /* how many of them are refused */
+} vbson_lines;
+
+#define VBSON_LINES_NONE { VBSON_TEXT_NONE, VBSON_TEXT_NONE, 0, 0 }
+
+/* Reads each line of the block as vbson_convert_with reads a text. A newline ends a line; what stands behind the last
+ * newline is a line too, unless it is empty. A line of spaces, tabs and carriage returns gives nothing, and a byte order
+ * mark at the start of the block is passed over. A line that is refused gives nothing but what is told of it; VBSON_DONE
+ * is answered however many they are. *out is written over: what it held is not freed.
+ * VBSON_NO_MODE, VBSON_OUT_OF_MEMORY. */
+uint32_t vbson_convert_lines(uint32_t mode, uint32_t flags, const uint8_t *block, size_t len, vbson_lines *out);
+
 /* Whether two texts mean the same value: the same kind, lists place by place, documents with the same keys and the
  * same values under each, in any order. VBSON_DONE where they do, VBSON_DIFFERENT where they mean two values; the fault
  * of a, else that of b: VBSON_NOT_JSON, VBSON_BAD_OBJECT_ID, VBSON_NOT_EXTENDED_JSON, VBSON_OUT_OF_MEMORY. */
@@ -149,6 +176,36 @@ uint32_t vbson_same(const uint8_t *a, size_t a_len, const uint8_t *b, size_t b_l
  * machine. It is SipHash-1-3 under the key 0, so whoever chooses the texts can choose many of one hash.
  * VBSON_NOT_JSON, VBSON_BAD_OBJECT_ID, VBSON_NOT_EXTENDED_JSON, VBSON_OUT_OF_MEMORY. */
 uint32_t vbson_hash(const uint8_t *text, size_t len, uint64_t *out);
+
+/* ---- documents by their bytes (BSON 1.1, bsonspec.org)
+ *
+ * Documents, arrays and scopes of code may stand at most 100 in each other, the document itself counted, as MongoDB's
+ * server has it; texts nest deeper, so that what is encoded of such a one is refused where it is read. */
+
+/* Whether the bytes are one document, all of them. Takes no memory. VBSON_NO_DOCUMENT. */
+uint32_t vbson_is_document(const uint8_t *bytes, size_t len);
+
+/* Why the bytes are no document, as a line of words (with no newline), "no document at byte 4 (ends too early)": the
+ * number of bytes before the first fault, and what is wrong there; an empty text where they are one. What may be wrong:
+ * "nests too deep", "ends too early", "a wrong length", "no type of BSON", "no 0 behind a text", "no UTF-8", "a boolean
+ * is neither 0 nor 1", "bytes behind the document". *out is written over: what it held is not freed.
+ * VBSON_OUT_OF_MEMORY. */
+uint32_t vbson_explain_document(const uint8_t *bytes, size_t len, vbson_text *out);
+
+/* Reads the bytes as one document, and writes its text in the mode, with flags as of vbson_convert_with. In the two forms
+ * keys come out in ascending order, at every depth; VBSON_SHOW has the document's own. Of a key that stands twice the
+ * last value counts; the keys of an array are dropped. VBSON_NO_TEXT in the two forms at a finite double other than 0.0
+ * where the flags have no VBSON_DOUBLES. The text can nest deeper than a text that is read. *out is written over: what it
+ * held is not freed.
+ * VBSON_NO_MODE, VBSON_NO_DOCUMENT, VBSON_NO_TEXT, VBSON_OUT_OF_MEMORY. */
+uint32_t vbson_decode(uint32_t mode, uint32_t flags, const uint8_t *bytes, size_t len, vbson_text *out);
+
+/* Reads the len bytes as one text of Extended JSON, with flags as of vbson_convert_with, and writes the canonical bytes
+ * of the document that it means, keys in ascending order: out->len bytes, and a NUL behind them. *out is written over:
+ * what it held is not freed. Of what is no Extended JSON vbson_explain tells the place. VBSON_NO_MODE, VBSON_NOT_JSON,
+ * VBSON_BAD_OBJECT_ID, VBSON_NOT_EXTENDED_JSON, VBSON_NO_DOCUMENT, VBSON_ZERO_IN_KEY, VBSON_ZERO_IN_REGEX,
+ * VBSON_TOO_LONG, VBSON_OUT_OF_MEMORY. */
+uint32_t vbson_encode(uint32_t flags, const uint8_t *text, size_t len, vbson_text *out);
 
 /* ---- small values
  *

@@ -1,7 +1,9 @@
-"""MongoDB Extended JSON v2 and the small values of BSON, by the library libvbson.so, whose calls are proved.
+"""MongoDB Extended JSON v2, BSON bytes and the small values of BSON, by the library libvbson.so, whose calls are proved.
 
     >>> convert('{"n": 5}')
     '{"n":{"$numberInt":"5"}}'
+    >>> decode(encode('{"n": 5}'), "relaxed")
+    '{"n":5}'
 
 The library is looked for in the variable VBSON_LIBRARY (its path), beside this file, in ../out/lib (where ./vbson build
 puts it), in ../.. (where it is installed beside this file) and where the system keeps libraries. It runs on x86-64 Linux
@@ -16,11 +18,12 @@ import decimal
 import os
 import platform
 import re
-from typing import Union
+from typing import List, Tuple, Union
 
 __all__ = ["CANONICAL", "RELAXED", "SHOW", "Error", "NotJson", "BadObjectId", "NotExtendedJson", "NoSuchText", "NoText",
-           "convert", "explain", "same", "hash_of", "decimal128", "decimal128_text", "decimal_of", "object_id", "object_id_text",
-           "date_time", "date_time_text", "datetime_of", "version"]
+           "NoDocument", "NoBytes", "convert", "convert_lines", "explain", "same", "hash_of", "is_document", "explain_document",
+           "decode", "encode", "decimal128", "decimal128_text", "decimal_of", "object_id", "object_id_text", "date_time",
+           "date_time_text", "datetime_of", "version"]
 
 _Bytes = Union[bytes, bytearray, memoryview]
 _Given = Union[str, bytes, bytearray, memoryview]
@@ -35,6 +38,7 @@ _MILLISECOND = datetime.timedelta(milliseconds=1)
 
 DONE, NO_MODE, NOT_JSON, BAD_OBJECT_ID, NOT_EXTENDED_JSON = 0, 1, 2, 3, 4
 OUT_OF_MEMORY, NO_SUCH_TEXT, NO_TEXT, NO_ROOM, DIFFERENT = 5, 6, 7, 8, 9
+NO_DOCUMENT, ZERO_IN_KEY, ZERO_IN_REGEX, TOO_LONG = 10, 11, 12, 13
 
 
 class Error(ValueError):
@@ -42,7 +46,8 @@ class Error(ValueError):
 
     Of a text of Extended JSON the error has words for where the fault lies, `place`, and for what is wrong there, `why`:
     'orders.3.price' and 'a number is no whole number of 64 bits', or 'column 7' and 'not JSON'. The place is empty where
-    the fault is that of the whole text; keys are in it as they are. str() has both, behind the words for the class.
+    the fault is that of the whole text; keys are in it as they are. Of bytes that are no document the place is the number
+    of bytes before the fault: 'byte 4' and 'ends too early'. str() has both, behind the words for the class.
     """
 
     def __init__(self, words="", place="", why=""):
@@ -67,17 +72,31 @@ class NoSuchText(Error):
 
 
 class NoText(Error):
-    """The value has no text of the kind that was asked for."""
+    """The value has no text of the kind that was asked for: of a document, a finite double without `doubles`."""
+
+
+class NoDocument(Error):
+    """The bytes are no document of BSON, or the text means another value than a document."""
+
+
+class NoBytes(Error):
+    """The document has no bytes: a 0 byte in a key or a regular expression, or a part that is too long."""
 
 
 _ERRORS = {NO_MODE: (ValueError, "no such mode or flag"), NOT_JSON: (NotJson, "not JSON"),
            BAD_OBJECT_ID: (BadObjectId, "bad object id"), NOT_EXTENDED_JSON: (NotExtendedJson, "not Extended JSON"),
            OUT_OF_MEMORY: (MemoryError, "out of memory"), NO_SUCH_TEXT: (NoSuchText, "no such text"),
-           NO_TEXT: (NoText, "no text")}
+           NO_TEXT: (NoText, "no text"), NO_DOCUMENT: (NoDocument, "no document"),
+           ZERO_IN_KEY: (NoBytes, "a key has a 0 byte in it"),
+           ZERO_IN_REGEX: (NoBytes, "a regular expression has a 0 byte in it"), TOO_LONG: (NoBytes, "a part is too long for BSON")}
 
 
 class _Text(ctypes.Structure):
     _fields_ = [("bytes", ctypes.POINTER(ctypes.c_uint8)), ("size", ctypes.c_size_t), ("len", ctypes.c_size_t)]
+
+
+class _Lines(ctypes.Structure):
+    _fields_ = [("text", _Text), ("told", _Text), ("lines", ctypes.c_uint64), ("refused", ctypes.c_uint64)]
 
 
 _HERE = os.path.dirname(os.path.realpath(__file__))
@@ -106,8 +125,11 @@ def _loaded():
     # (a text goes in with its length; a char pointer of Python's bytes is never null)
     parameters = {
         "version": [], "convert_with": [number, number, text, size, ctypes.POINTER(_Text)],
+        "convert_lines": [number, number, text, size, ctypes.POINTER(_Lines)],
         "explain": [number, text, size, ctypes.POINTER(_Text)], "same": [text, size, text, size],
         "hash": [text, size, ctypes.POINTER(ctypes.c_uint64)],
+        "is_document": [text, size], "explain_document": [text, size, ctypes.POINTER(_Text)],
+        "decode": [number, number, text, size, ctypes.POINTER(_Text)], "encode": [number, text, size, ctypes.POINTER(_Text)],
         "decimal128_parse": [text, size, text], "object_id_parse": [text, size, text],
         "date_time_parse": [text, size, ctypes.POINTER(ctypes.c_int64)],
         "decimal128_print": [text, text, size, ctypes.POINTER(size)],
@@ -166,19 +188,33 @@ def _wants_done(status):
         raise error(words)
 
 
-def _text_of(call, *arguments):
-    """The status of a call that leaves a text, and the text."""
-    out = _Text((ctypes.c_uint8 * 1)(), 0, 0)
-    status = call(*arguments, ctypes.byref(out))
-    if status != DONE:
-        return status, ""
+def _taken(out):
+    """The bytes that a call left, whose block is freed."""
     try:
-        return DONE, ctypes.string_at(out.bytes, out.len).decode()
+        return ctypes.string_at(out.bytes, out.len)
     finally:
         _free(out.bytes)
 
 
-# The words behind those for the class: a column, or a path and a message, or a column of a number with one. The message on an object id may hold any
+def _nothing():
+    return _Text((ctypes.c_uint8 * 1)(), 0, 0)
+
+
+def _left_by(call, *arguments):
+    """The status of a call that leaves bytes, and the bytes."""
+    out = _nothing()
+    status = call(*arguments, ctypes.byref(out))
+    return status, _taken(out) if status == DONE else b""
+
+
+def _text_of(call, *arguments):
+    """The status of a call that leaves a text, and the text."""
+    status, left = _left_by(call, *arguments)
+    return status, left.decode()
+
+
+# The words behind those for the class: a column, with a message where a number is out of range, or a path and a
+# message. The message on an object id may hold any
 # characters, but its path ends in a wrapper's key; no other message holds a bracket.
 _COLUMN = re.compile(r" at (column \d+)(?: \((a number is out of range)\))?")
 _OF_ID = re.compile(r" at (.*?\$(?:oid|dbPointer)) \(((?:the character '|an object id has ).*)\)", re.S)
@@ -190,7 +226,7 @@ def _explained(status, words):
     """The error of a status, with the words of `explain`."""
     error, kind = _ERRORS[status]
     behind = words.removeprefix(kind)
-    shape = {NOT_JSON: _COLUMN, BAD_OBJECT_ID: _OF_ID, NOT_EXTENDED_JSON: _OF_SHAPE}[status]
+    shape = {NOT_JSON: _COLUMN, BAD_OBJECT_ID: _OF_ID}.get(status, _OF_SHAPE)
     found = shape.fullmatch(behind) or _KEPT_BACK.fullmatch(behind)
     return error(words or kind, (found[1] or "") if found else "", found[2] if found and found[2] else kind)
 
@@ -227,6 +263,30 @@ def convert(text: _Given, mode: Union[int, str] = CANONICAL, doubles: bool = Fal
     return made
 
 
+_VERDICT = re.compile(r"bson_lines: line (\d+): (not JSON|bad object id|not Extended JSON)(.*)")
+_STATUSES = {words: status for status, (_, words) in _ERRORS.items()}
+
+
+def _refusal(verdict):
+    """The number of a line that is refused, and its error, of what is told of it."""
+    found = _VERDICT.fullmatch(verdict)
+    return int(found[1]), _explained(_STATUSES[found[2]], found[2] + found[3])
+
+
+def convert_lines(block: _Given, mode: Union[int, str] = CANONICAL, doubles: bool = False) -> Tuple[bytes, List[Tuple[int, Error]]]:
+    """What the lines of a block are converted to, a line each, and of each line that is refused its number and its error.
+
+    Each line is read as `convert` reads a text. A newline ends a line; what stands behind the last newline is a line too,
+    unless it is empty. Lines of spaces, tabs and carriage returns give nothing, and count; a byte order mark at the start of
+    the block is passed over. Raises MemoryError.
+    """
+    mode, flags, given = _mode(mode), _flags(doubles), _bytes(block)
+    out = _Lines(_nothing(), _nothing(), 0, 0)
+    _wants_done(_library.vbson_convert_lines(mode, flags, given, len(given), ctypes.byref(out)))
+    text, told = _taken(out.text), _taken(out.told).decode()
+    return text, [_refusal(it) for it in told.split("\n")[:-1]]
+
+
 def explain(text: _Given, doubles: bool = False) -> str:
     """Why convert refuses a text, and where, as a line of words; empty where it accepts it. Raises MemoryError."""
     flags, given = _flags(doubles), _bytes(text)
@@ -252,6 +312,54 @@ def hash_of(text: _Given) -> int:
     given, out = _bytes(text), ctypes.c_uint64()
     _wants_accepted(_library.vbson_hash(given, len(given), ctypes.byref(out)), 0, given)
     return out.value
+
+
+def _document(value):
+    return _lent(value, "a document is bytes")
+
+
+def is_document(document: _Bytes) -> bool:
+    """Whether bytes are one document of BSON 1.1, all of them.
+
+    Documents, arrays and scopes of code may stand at most 100 in each other, here and in `decode`.
+    """
+    given = _document(document)
+    return _library.vbson_is_document(given, len(given)) == DONE
+
+
+def explain_document(document: _Bytes) -> str:
+    """Why bytes are no document, and where, as a line of words; empty where they are one. Raises MemoryError."""
+    given = _document(document)
+    status, words = _text_of(_library.vbson_explain_document, given, len(given))
+    _wants_done(status)
+    return words
+
+
+def decode(document: _Bytes, mode: Union[int, str] = CANONICAL, doubles: bool = False) -> str:
+    """The text, in the mode, of the document that bytes of BSON 1.1 are.
+
+    In the two forms keys come out in ascending order at every depth, and in SHOW in the document's own; of a key that stands
+    twice the last value counts. Raises NoDocument with its place ('byte 4'), NoText in the two forms at a finite double other
+    than 0.0 where doubles is not True, and MemoryError.
+    """
+    mode, flags, given = _mode(mode), _flags(doubles), _document(document)
+    status, made = _text_of(_library.vbson_decode, mode, flags, given, len(given))
+    if status == NO_DOCUMENT:
+        # (without memory for the words, the error has no place)
+        raise _explained(status, _text_of(_library.vbson_explain_document, given, len(given))[1])
+    _wants_done(status)
+    return made
+
+
+def encode(text: _Given, doubles: bool = False) -> bytes:
+    """The canonical bytes of the document that a text of Extended JSON means, its keys in ascending order.
+
+    Raises as convert does, NoDocument where the text means another value, and NoBytes where the document has none.
+    """
+    flags, given = _flags(doubles), _bytes(text)
+    status, made = _left_by(_library.vbson_encode, flags, given, len(given))
+    _wants_accepted(status, flags, given)
+    return made
 
 
 def _parsed(call, text, size):

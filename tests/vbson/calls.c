@@ -117,6 +117,51 @@ static void explain(void) {
     CHECK(vbson_explain(UINT32_MAX, TEXT("!"), &out) == VBSON_NO_MODE && out.bytes == before && out.len == 6);
 }
 
+/* ---- lines */
+
+static int is_text(const vbson_text *text, const char *wanted) {
+    return text->len == strlen(wanted) && text->size == text->len + 1 && memcmp(text->bytes, wanted, text->size) == 0;
+}
+
+static int gives(uint32_t mode, uint32_t flags, const char *block, const char *text, const char *told, uint64_t lines, uint64_t refused) {
+    vbson_lines out = VBSON_LINES_NONE;
+    int is_right = vbson_convert_lines(mode, flags, TEXT(block), &out) == VBSON_DONE && is_text(&out.text, text)
+        && is_text(&out.told, told) && out.lines == lines && out.refused == refused;
+    if (!is_right) printf("%s%s", vbson_chars(&out.text), vbson_chars(&out.told));
+    vbson_text_free(&out.text);
+    vbson_text_free(&out.told);
+    return is_right;
+}
+
+static void convert_lines(void) {
+    CHECK(gives(VBSON_RELAXED, 0, "", "", "", 0, 0));
+    CHECK(gives(VBSON_RELAXED, 0, "[ 1 ]", "[1]\n", "", 1, 0));
+    CHECK(gives(VBSON_CANONICAL, 0, "\xef\xbb\xbf[1]\n\n \t\r\n2\n", "[{\"$numberInt\":\"1\"}]\n{\"$numberInt\":\"2\"}\n", "", 4, 0));
+    CHECK(gives(VBSON_SHOW, 0, "[1]\n", "[1]\n", "", 1, 0));
+    CHECK(gives(VBSON_RELAXED, 0, "[1\n{\"b\":2,\"a\":1}\n[1.5]\n{\"$oid\":\"5\"}", "{\"a\":1,\"b\":2}\n",
+        "bson_lines: line 1: not JSON at column 2\n"
+        "bson_lines: line 3: not Extended JSON at 0 (a number is no whole number of 64 bits)\n"
+        "bson_lines: line 4: bad object id at $oid (an object id has 24 digits, but \"5\" has 1)\n", 4, 3));
+    CHECK(gives(VBSON_RELAXED, VBSON_DOUBLES, "[1.5]\n", "[{\"$numberDouble\":\"1.5\"}]\n", "", 1, 0));
+    static const uint8_t before[] = "before";
+    vbson_lines out = {{before, 7, 6}, {before, 7, 5}, 3, 4};
+    CHECK(vbson_convert_lines(3, 0, TEXT("1"), &out) == VBSON_NO_MODE);
+    CHECK(vbson_convert_lines(VBSON_RELAXED, 2, TEXT("1"), &out) == VBSON_NO_MODE);
+    CHECK(out.text.bytes == before && out.text.size == 7 && out.text.len == 6 && out.told.bytes == before && out.told.len == 5);
+    CHECK(out.lines == 3 && out.refused == 4);
+
+    /* more than a block of the library's own */
+    enum { LINES = 50000 };
+    char *many = malloc(4 * LINES + 1);
+    for (int i = 0; i < LINES; i++) memcpy(many + 4 * i, i % 7 == 3 ? "[!]\n" : "[1]\n", 5);
+    vbson_lines all = VBSON_LINES_NONE;
+    CHECK(vbson_convert_lines(VBSON_RELAXED, 0, TEXT(many), &all) == VBSON_DONE && all.lines == LINES && all.refused == 7143);
+    CHECK(all.text.len == 4 * (LINES - 7143) && strncmp(vbson_chars(&all.told), "bson_lines: line 4: not JSON at column 2\n", 41) == 0);
+    vbson_text_free(&all.text);
+    vbson_text_free(&all.told);
+    free(many);
+}
+
 /* ---- values */
 
 static void same(void) {
@@ -151,6 +196,137 @@ static void hash(void) {
     CHECK(vbson_hash(TEXT("{\"$date\":\"x\"}"), &number) == VBSON_NOT_EXTENDED_JSON && number == 7);
 }
 
+/* ---- documents */
+
+/* {"b": 5, "a": 1.5} and {"a": 5} */
+static const uint8_t pair[] = {0x17, 0, 0, 0, 0x10, 'b', 0, 5, 0, 0, 0, 1, 'a', 0, 0, 0, 0, 0, 0, 0, 0xf8, 0x3f, 0};
+static const uint8_t five[] = {12, 0, 0, 0, 0x10, 'a', 0, 5, 0, 0, 0, 0};
+static const uint8_t truth_of_two[] = {9, 0, 0, 0, 8, 'a', 0, 2, 0};
+
+static int decodes(uint32_t mode, uint32_t flags, const uint8_t *bytes, size_t len, const char *wanted) {
+    vbson_text out = VBSON_TEXT_NONE;
+    int is_right = vbson_decode(mode, flags, bytes, len, &out) == VBSON_DONE && out.len == strlen(wanted)
+        && out.size == out.len + 1 && memcmp(out.bytes, wanted, out.size) == 0;
+    vbson_text_free(&out);
+    return is_right && vbson_is_document(bytes, len) == VBSON_DONE;
+}
+
+static const uint8_t kept[] = "before";
+
+static int is_kept(const vbson_text *out) {
+    return out->bytes == kept && out->size == 7 && out->len == 6;
+}
+
+static int refuses_bytes(uint32_t mode, uint32_t flags, const uint8_t *bytes, size_t len, uint32_t status) {
+    vbson_text out = {kept, 7, 6};
+    return vbson_decode(mode, flags, bytes, len, &out) == status && is_kept(&out);
+}
+
+static int explains_bytes(const uint8_t *bytes, size_t len, const char *wanted) {
+    vbson_text out = VBSON_TEXT_NONE;
+    int is_right = vbson_explain_document(bytes, len, &out) == VBSON_DONE && out.len == strlen(wanted)
+        && out.size == out.len + 1 && memcmp(out.bytes, wanted, out.size) == 0;
+    if (!is_right) printf("%s\n", vbson_chars(&out));
+    vbson_text_free(&out);
+    return is_right && (vbson_is_document(bytes, len) == VBSON_DONE) == (*wanted == 0);
+}
+
+static void decode(void) {
+    CHECK(decodes(VBSON_CANONICAL, 0, five, sizeof five, "{\"a\":{\"$numberInt\":\"5\"}}"));
+    CHECK(decodes(VBSON_RELAXED, 0, five, sizeof five, "{\"a\":5}"));
+    CHECK(decodes(VBSON_SHOW, 0, five, sizeof five, "{ \"a\": 5 }"));
+    CHECK(decodes(VBSON_RELAXED, VBSON_DOUBLES, pair, sizeof pair, "{\"a\":{\"$numberDouble\":\"1.5\"},\"b\":5}"));
+    CHECK(decodes(VBSON_SHOW, 0, pair, sizeof pair, "{ \"b\": 5, \"a\": Double(0x3ff8000000000000) }"));
+    CHECK(decodes(VBSON_CANONICAL, 0, (const uint8_t *)"\5\0\0\0", 5, "{}"));
+    CHECK(refuses_bytes(VBSON_RELAXED, 0, pair, sizeof pair, VBSON_NO_TEXT));
+    CHECK(refuses_bytes(VBSON_CANONICAL, 0, pair, sizeof pair, VBSON_NO_TEXT));
+    CHECK(refuses_bytes(3, 0, five, sizeof five, VBSON_NO_MODE));
+    CHECK(refuses_bytes(VBSON_RELAXED, 2, five, sizeof five, VBSON_NO_MODE));
+    CHECK(refuses_bytes(UINT32_MAX, UINT32_MAX, five, 0, VBSON_NO_MODE));
+    for (size_t len = 0; len < sizeof five; len++) {
+        CHECK(refuses_bytes(VBSON_SHOW, 0, five, len, VBSON_NO_DOCUMENT) && vbson_is_document(five, len) == VBSON_NO_DOCUMENT);
+    }
+    CHECK(refuses_bytes(VBSON_SHOW, 0, (const uint8_t *)"\5\0\0\0\0", 6, VBSON_NO_DOCUMENT));
+    CHECK(refuses_bytes(VBSON_RELAXED, 0, truth_of_two, sizeof truth_of_two, VBSON_NO_DOCUMENT));
+}
+
+static void explain_document(void) {
+    static const struct { const char *bytes; size_t len; const char *words; } none[] = {
+        {"", 0, "no document at byte 0 (ends too early)"},
+        {"\5\0\0", 4, "no document at byte 4 (ends too early)"},
+        {"\6\0\0\0", 5, "no document at byte 0 (a wrong length)"},
+        {"\5\0\0\0\0", 6, "no document at byte 5 (bytes behind the document)"},
+        {"\10\0\0\0\24a\0", 8, "no document at byte 4 (no type of BSON)"},
+        {"\10\0\0\0\12\377\0", 8, "no document at byte 5 (no UTF-8)"},
+        {"\16\0\0\0\2a\0\2\0\0\0xy", 14, "no document at byte 12 (no 0 behind a text)"},
+    };
+    for (size_t i = 0; i < sizeof none / sizeof *none; i++) {
+        CHECK(explains_bytes((const uint8_t *)none[i].bytes, none[i].len, none[i].words));
+    }
+    CHECK(explains_bytes(truth_of_two, sizeof truth_of_two, "no document at byte 7 (a boolean is neither 0 nor 1)"));
+    CHECK(explains_bytes(five, sizeof five, ""));
+    CHECK(explains_bytes(pair, sizeof pair, ""));
+}
+
+static int encodes(uint32_t flags, const char *text, const uint8_t *wanted, size_t len) {
+    vbson_text out = VBSON_TEXT_NONE;
+    int is_right = vbson_encode(flags, TEXT(text), &out) == VBSON_DONE && out.len == len && out.size == len + 1
+        && memcmp(out.bytes, wanted, len) == 0 && out.bytes[len] == 0;
+    vbson_text_free(&out);
+    return is_right;
+}
+
+static int refuses_text(uint32_t flags, const char *text, uint32_t status) {
+    vbson_text out = {kept, 7, 6};
+    return vbson_encode(flags, TEXT(text), &out) == status && is_kept(&out);
+}
+
+static void encode(void) {
+    static const uint8_t sorted[] = {0x17, 0, 0, 0, 1, 'a', 0, 0, 0, 0, 0, 0, 0, 0xf8, 0x3f, 0x10, 'b', 0, 5, 0, 0, 0, 0};
+    CHECK(encodes(0, "{\"a\":5}", five, sizeof five));
+    CHECK(encodes(0, "{\"a\":7,\"a\":{\"$numberInt\":\"5\"}}", five, sizeof five));
+    CHECK(encodes(VBSON_DOUBLES, "{\"b\":5,\"a\":1.5}", sorted, sizeof sorted));
+    CHECK(encodes(0, "{}", (const uint8_t *)"\5\0\0\0", 5));
+    CHECK(refuses_text(2, "{}", VBSON_NO_MODE));
+    CHECK(refuses_text(UINT32_MAX, "!", VBSON_NO_MODE));
+    CHECK(refuses_text(0, "{", VBSON_NOT_JSON));
+    CHECK(refuses_text(0, "{\"a\":{\"$oid\":\"5\"}}", VBSON_BAD_OBJECT_ID));
+    CHECK(refuses_text(0, "{\"b\":5,\"a\":1.5}", VBSON_NOT_EXTENDED_JSON));
+    static const char *const others[] = {"5", "[]", "null", "\"a\"", "[{}]", "{\"$numberLong\":\"5\"}", "{\"$code\":\"f\",\"$scope\":{}}"};
+    for (size_t i = 0; i < sizeof others / sizeof *others; i++) CHECK(refuses_text(0, others[i], VBSON_NO_DOCUMENT));
+    CHECK(refuses_text(0, "{\"a\":[{\"b\\u0000\":1}]}", VBSON_ZERO_IN_KEY));
+    CHECK(refuses_text(0, "{\"a\":{\"$regularExpression\":{\"pattern\":\"\\u0000\",\"options\":\"\"}}}", VBSON_ZERO_IN_REGEX));
+}
+
+/* Each cut and each turned bit of a document: an answer, and the same from each call that reads one. */
+static void damaged(void) {
+    const char *text = "{\"a\":[1,{\"$numberLong\":\"5\"},\"xyz\"],\"b\":{\"$oid\":\"53e37d08776f724e42000000\"},\"c\":true,"
+        "\"d\":{\"$code\":\"f\",\"$scope\":{\"x\":1}},\"e\":{\"$binary\":{\"base64\":\"AQID\",\"subType\":\"02\"}},"
+        "\"f\":{\"$regularExpression\":{\"pattern\":\"a\",\"options\":\"xi\"}},\"g\":{\"$symbol\":\"s\"},"
+        "\"h\":{\"$dbPointer\":{\"$ref\":\"n\",\"$id\":{\"$oid\":\"53e37d08776f724e42000000\"}}},\"i\":{\"$minKey\":1}}";
+    vbson_text whole = VBSON_TEXT_NONE;
+    CHECK(vbson_encode(0, TEXT(text), &whole) == VBSON_DONE && whole.len > 100);
+    size_t others = 0;
+    for (size_t bit = 0; bit < 9 * whole.len; bit++) {
+        /* (a block of its own, so that the sanitizer tells a byte past the end) */
+        size_t len = bit < 8 * whole.len ? whole.len : bit - 8 * whole.len;
+        uint8_t *bytes = malloc(len + 1);
+        memcpy(bytes, whole.bytes, len);
+        if (len == whole.len) bytes[bit / 8] ^= (uint8_t)(1 << bit % 8);
+        bytes = realloc(bytes, len > 0 ? len : 1);
+        vbson_text words = VBSON_TEXT_NONE, shown = VBSON_TEXT_NONE;
+        uint32_t is_one = vbson_is_document(bytes, len), status = vbson_decode(VBSON_SHOW, 0, bytes, len, &shown);
+        CHECK(vbson_explain_document(bytes, len, &words) == VBSON_DONE && (words.len == 0) == (is_one == VBSON_DONE));
+        CHECK(status == is_one && (is_one == VBSON_DONE || is_one == VBSON_NO_DOCUMENT));
+        others += is_one == VBSON_NO_DOCUMENT;
+        vbson_text_free(&words);
+        vbson_text_free(&shown);
+        free(bytes);
+    }
+    CHECK(others > 2 * whole.len && others < 9 * whole.len);
+    vbson_text_free(&whole);
+}
+
 /* ---- small values */
 
 static uint8_t room[64];
@@ -182,9 +358,9 @@ static int decimal_prints(const char *text, const char *wanted) {
 }
 
 static void decimals(void) {
-    static const uint8_t five[16] = {5, 0, 0, 0, 0, 0, 0, 0, 0, 0, 0, 0, 0, 0, 0x40, 0x30};
+    static const uint8_t five_bytes[16] = {5, 0, 0, 0, 0, 0, 0, 0, 0, 0, 0, 0, 0, 0, 0x40, 0x30};
     uint8_t bytes[16] = {9, 9};
-    CHECK(vbson_decimal128_parse(TEXT("5"), bytes) == VBSON_DONE && memcmp(bytes, five, 16) == 0);
+    CHECK(vbson_decimal128_parse(TEXT("5"), bytes) == VBSON_DONE && memcmp(bytes, five_bytes, 16) == 0);
     CHECK(decimal_prints("19.90", "19.90"));
     CHECK(decimal_prints("-inf", "-Infinity"));
     CHECK(decimal_prints("nan", "NaN"));
@@ -194,11 +370,11 @@ static void decimals(void) {
     CHECK(len == VBSON_DECIMAL128_ROOM);
     CHECK(decimal_prints("-0.000001234567890123456789012345678901234", "-0.000001234567890123456789012345678901234"));
     CHECK(len == VBSON_DECIMAL128_ROOM);
-    CHECK(vbson_decimal128_print(five, fresh(), 0, &len) == VBSON_NO_ROOM && is_fresh(1));
-    CHECK(vbson_decimal128_print(five, fresh(), 1, &len) == VBSON_DONE && holds("5"));
+    CHECK(vbson_decimal128_print(five_bytes, fresh(), 0, &len) == VBSON_NO_ROOM && is_fresh(1));
+    CHECK(vbson_decimal128_print(five_bytes, fresh(), 1, &len) == VBSON_DONE && holds("5"));
     static const char *const none[] = {"", "x", "\xff", "1e", "1.2.3", "12345678901234567890123456789012345", "1E6145"};
     for (size_t i = 0; i < sizeof none / sizeof *none; i++) {
-        CHECK(vbson_decimal128_parse(TEXT(none[i]), bytes) == VBSON_NO_SUCH_TEXT && memcmp(bytes, five, 16) == 0);
+        CHECK(vbson_decimal128_parse(TEXT(none[i]), bytes) == VBSON_NO_SUCH_TEXT && memcmp(bytes, five_bytes, 16) == 0);
     }
 }
 
@@ -241,8 +417,13 @@ int main(void) {
     convert_refused();
     convert_with();
     explain();
+    convert_lines();
     same();
     hash();
+    decode();
+    explain_document();
+    encode();
+    damaged();
     decimals();
     object_ids();
     moments();

@@ -180,6 +180,54 @@ def try_hashes():
     raises("a hash of nothing", vbson.NotJson, vbson.hash_of, "")
 
 
+def try_lines():
+    want("lines", vbson.convert_lines("[ 1 ]\n\n{}", "relaxed"), (b"[1]\n{}\n", []))
+    want("no lines", vbson.convert_lines(b""), (b"", []))
+    text, refused = vbson.convert_lines(b'[1]\n{"a":[1.5]}\n[\n{"$oid":"5"}\n[2]\n', vbson.RELAXED)
+    want("lines that are left", text, b"[1]\n[2]\n")
+    want("lines that are refused", [number for number, _ in refused], [2, 3, 4])
+    for _, error in refused:
+        line = {vbson.NotExtendedJson: '{"a":[1.5]}', vbson.NotJson: "[", vbson.BadObjectId: '{"$oid":"5"}'}[type(error)]
+        want(f"{line} among lines", (str(error), error.place, error.why, type(error)), refusal(vbson.convert, line))
+    want("lines of doubles", vbson.convert_lines("[1.5]\n", "relaxed", True), (b'[{"$numberDouble":"1.5"}]\n', []))
+    raises("lines in no mode", ValueError, vbson.convert_lines, b"", 3)
+    raises("lines of a list", TypeError, vbson.convert_lines, ["1"])
+
+
+def try_documents():
+    five = bytes.fromhex("0c000000106e000500000000")
+    double = bytes.fromhex("10000000016100000000000000f83f00")
+    want("decoded", vbson.decode(five), '{"n":{"$numberInt":"5"}}')
+    for mode, text in (("relaxed", '{"n":5}'), (vbson.RELAXED, '{"n":5}'), ("show", '{ "n": 5 }')):
+        want(f"decoded, {mode}", vbson.decode(bytearray(five), mode), text)
+    want("encoded", vbson.encode('{"n": 5}'), five)
+    want("encoded bytes", vbson.encode(b'{"n": 5}'), five)
+    want("keys ascend", vbson.encode('{"b":null,"a":null}'), bytes.fromhex("0b0000000a61000a620000"))
+    want("a document", vbson.is_document(memoryview(five)), True)
+    want("no document", [vbson.is_document(five[:n]) for n in range(12)], [False] * 12)
+    want("a double", vbson.decode(double, doubles=True), '{"a":{"$numberDouble":"1.5"}}')
+    want("a double shown", vbson.decode(double, "show"), '{ "a": Double(0x3ff8000000000000) }')
+    want("a double there", vbson.encode('{"a":1.5}', doubles=True), double)
+    raises("a double without", vbson.NoText, vbson.decode, double)
+    raises("a double there without", vbson.NotExtendedJson, vbson.encode, '{"a":1.5}')
+    want("no double there", refusal(vbson.encode, '{"a":1.5}')[1:3], ("a", "a number is no whole number of 64 bits"))
+    for given, place, why in ((b"", "byte 0", "ends too early"), (five + b"\0", "byte 12", "bytes behind the document"),
+                              (bytes.fromhex("090000000861000200"), "byte 7", "a boolean is neither 0 nor 1")):
+        words = f"no document at {place} ({why})"
+        want(f"{given.hex()} explained", vbson.explain_document(given), words)
+        want(f"{given.hex()} decoded", refusal(vbson.decode, given), (words, place, why, vbson.NoDocument))
+    want("nothing to explain", vbson.explain_document(five), "")
+    want("another value", refusal(vbson.encode, "[1]"), ("no document", "", "no document", vbson.NoDocument))
+    want("a 0 byte", refusal(vbson.encode, '{"a\\u0000":1}')[::3], ("a key has a 0 byte in it", vbson.NoBytes))
+    raises("an id", vbson.BadObjectId, vbson.encode, '{"a":{"$oid":"5"}}')
+    for it in ("{}", 5, None, [12], 1.5):
+        for call in (vbson.decode, vbson.is_document, vbson.explain_document):
+            raises(f"{call.__name__} of {it!r}", TypeError, call, it)
+    raises("encode of a dict", TypeError, vbson.encode, {"a": 1})
+    raises("no mode", ValueError, vbson.decode, five, 3)
+    raises("no truth value", TypeError, vbson.decode, five, 0, 1)
+
+
 def try_small_values():
     want("a decimal", vbson.decimal128("5"), bytes([5, *[0] * 13, 0x40, 0x30]))
     want("a decimal's text", vbson.decimal128_text(vbson.decimal128("19.90")), "19.90")
@@ -265,6 +313,8 @@ try_doubles()
 try_places()
 try_reads()
 try_hashes()
+try_lines()
+try_documents()
 try_small_values()
 try_decimals()
 try_datetimes()

@@ -37,12 +37,13 @@ static const char *const texts[] = {
     "\"i\":{\"$dbPointer\":{\"$ref\":\"n\",\"$id\":{\"$oid\":\"53e37d08776f724e42000000\"}}},\"j\":{\"$minKey\":1},"
     "\"k\":{\"$uuid\":\"c8edabc3-f738-4ca3-b68d-ab92a91478a3\"},\"l\":{\"$numberDouble\":\"-Infinity\"}}",
     "[1,{\"$oid\":\"53e3\"}]", "[{\"a\":[1.5]}]", "{\"a\":[\"b\"", "[]", "\"a\\u0000b\""};
-enum { TEXTS = sizeof texts / sizeof *texts, KINDS = 10 };
+enum { TEXTS = sizeof texts / sizeof *texts, KINDS = 16 };
 
 /* What a call of each kind answers, and all that it can write. */
 struct answer {
     uint32_t status;
     vbson_text text;
+    vbson_text told;
     uint64_t number;
     uint8_t room[64];
     size_t len;
@@ -53,11 +54,27 @@ static const uint8_t before[] = "before";
 static struct answer nothing(void) {
     struct answer it;
     memset(&it, 0, sizeof it);
-    it.text = (vbson_text){before, 7, 6};
+    it.text = it.told = (vbson_text){before, 7, 6};
     it.number = 42;
     memset(it.room, 0xa5, sizeof it.room);
     it.len = 99;
     return it;
+}
+
+/* The bytes of the text's document; of a text that means none its own, which are none either. */
+static vbson_text document;
+
+static void find_document(const char *text) {
+    vbson_text_free(&document);
+    if (vbson_encode(0, TEXT(text), &document) != VBSON_DONE) document = (vbson_text){(const uint8_t *)text, 0, strlen(text)};
+}
+
+static uint32_t convert_lines(const char *text, struct answer *it) {
+    vbson_lines out = {it->text, it->told, it->number, it->number};
+    uint32_t status = vbson_convert_lines(VBSON_RELAXED, 0, TEXT(text), &out);
+    it->text = out.text, it->told = out.told;
+    it->number = 100 * (out.lines - 42) + out.refused;
+    return status;
 }
 
 static struct answer call(int kind, const char *text, long number) {
@@ -71,7 +88,11 @@ static struct answer call(int kind, const char *text, long number) {
     else if (kind == 5) it.status = vbson_decimal128_print(decimal, it.room, sizeof it.room, &it.len);
     else if (kind == 6) it.status = vbson_date_time_print(-1, it.room, sizeof it.room, &it.len);
     else if (kind == 7) it.status = vbson_convert_with(VBSON_RELAXED, VBSON_DOUBLES, TEXT(text), &it.text);
-    else it.status = vbson_explain(kind == 8 ? 0 : VBSON_DOUBLES, TEXT(text), &it.text);
+    else if (kind < 10) it.status = vbson_explain(kind == 8 ? 0 : VBSON_DOUBLES, TEXT(text), &it.text);
+    else if (kind == 10) it.status = vbson_encode(0, TEXT(text), &it.text);
+    else if (kind == 11) it.status = vbson_explain_document(document.bytes, document.len, &it.text);
+    else if (kind == 15) it.status = convert_lines(text, &it);
+    else it.status = vbson_decode((uint32_t)kind - 12, 0, document.bytes, document.len, &it.text);
     refused = 0;
     return it;
 }
@@ -82,12 +103,13 @@ static int is_same_text(vbson_text a, vbson_text b) {
 
 /* With what was handed in as it was: status aside. */
 static int is_alike(const struct answer *a, const struct answer *b) {
-    return is_same_text(a->text, b->text) && a->number == b->number && memcmp(a->room, b->room, sizeof a->room) == 0
+    return is_same_text(a->text, b->text) && is_same_text(a->told, b->told) && a->number == b->number && memcmp(a->room, b->room, sizeof a->room) == 0
         && a->len == b->len;
 }
 
 static void let_go(struct answer *it) {
     if (it->text.bytes != before) vbson_text_free(&it->text);
+    if (it->told.bytes != before) vbson_text_free(&it->told);
 }
 
 static long refuse_each(int kind, const char *text) {
@@ -110,8 +132,16 @@ static long refuse_each(int kind, const char *text) {
 int main(void) {
     for (int kind = 0; kind < KINDS; kind++) {
         long wants = 0;
-        for (int i = 0; i < TEXTS; i++) wants += refuse_each(kind, texts[i]);
+        for (int i = 0; i < TEXTS; i++) {
+            find_document(texts[i]);
+            wants += refuse_each(kind, texts[i]);
+        }
         CHECK(wants > 0);
+    }
+    for (int i = 0; i < TEXTS; i++) {
+        find_document(texts[i]);
+        requests = 0;
+        CHECK(vbson_is_document(document.bytes, document.len) == (i == 0 ? VBSON_DONE : VBSON_NO_DOCUMENT) && requests == 0);
     }
     return end();
 }

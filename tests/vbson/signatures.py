@@ -8,6 +8,7 @@ SOURCES = ROOT / "crates/vbson/src"
 LANGUAGES = ROOT / "languages"
 HEADER = LANGUAGES / "c/vbson.h"
 NUMBERS = {"u32": "uint32_t", "i64": "int64_t", "u64": "uint64_t", "usize": "size_t"}
+STRUCTS = {"Text<'static>": "vbson_text", "Lines<'static>": "vbson_lines"}
 EXPORT = re.compile(
     r'#\[unsafe\(no_mangle\)\]\npub (?:unsafe )?extern "C" fn (\w+)\(([^)]*)\) -> (\w+)\n(.*?)\n\{\n', re.S)
 
@@ -26,8 +27,8 @@ def as_c(name, kind):
         return [f"{const}uint8_t *{name}", "size_t"]
     if inner in NUMBERS:
         return [f"{const}{NUMBERS[inner]} *{name}"]
-    if inner == "Text<'static>":
-        return [f"{const}vbson_text *{name}"]
+    if inner in STRUCTS:
+        return [f"{const}{STRUCTS[inner]} *{name}"]
     raise ValueError(f"no C type is known for {kind}")
 
 
@@ -50,7 +51,7 @@ def of_rust(name, kind):
         return f"{NUMBERS[kind]} {name}"
     found = re.fullmatch(r"\*(const|mut) (?:\[u8; (\d+)\]|(\w+))", kind)
     const = "const " if found[1] == "const" else ""
-    kinds = {"u8": "uint8_t", "RawText": "vbson_text", **NUMBERS}
+    kinds = {"u8": "uint8_t", "RawText": "vbson_text", "RawLines": "vbson_lines", **NUMBERS}
     if found[2]:
         return f"{const}uint8_t {name}[{found[2]}]"
     return f"{const}{kinds[found[3]]} *{name}"
@@ -183,6 +184,16 @@ def text_fault():
     return None if has_fields and names == ["const uint8_t *bytes", "size_t size", "size_t len"] else f"{names}"
 
 
+def lines_fault():
+    wanted = "#[repr(C)]\n#[derive(Drop)]\npub struct Lines<'a> {\n    pub text: Text<'a>,\n    pub told: Text<'a>,\n"
+    wanted += "    pub lines: u64,\n    pub refused: u64,\n}"
+    rust = "pub struct RawLines {\n    pub text: RawText,\n    pub told: RawText,\n    pub lines: u64,\n    pub refused: u64,\n}"
+    has_fields = wanted in (SOURCES / "lines.rt").read_text() and rust in (LANGUAGES / "rust/src/call.rs").read_text()
+    fields = re.search(r"typedef struct vbson_lines \{(.*?)\} vbson_lines;", HEADER.read_text(), flags=re.S)[1]
+    names = re.findall(r"(\S[^;/*]*\w+);", re.sub(r"/\*.*?\*/", "", fields))
+    return None if has_fields and names == ["vbson_text text", "vbson_text told", "uint64_t lines", "uint64_t refused"] else f"{names}"
+
+
 def version():
     """That of ./bson, where it stands."""
     return re.search(r"(?m)^version=(.*)$", (ROOT / "bson").read_text())[1]
@@ -210,6 +221,7 @@ def faults():
     yield from status_faults()
     yield from room_faults()
     yield "the fields of vbson_text", text_fault()
+    yield "the fields of vbson_lines", lines_fault()
     yield from version_faults()
 
 

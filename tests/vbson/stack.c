@@ -1,4 +1,4 @@
-/* The deepest texts on a stack of 512 KB, by every call that reads one; and how much of it was used. */
+/* The deepest texts and documents on a stack of 512 KB, by every call that reads one; and how much of it was used. */
 #include "check.h"
 #include <pthread.h>
 #include <sys/mman.h>
@@ -15,7 +15,37 @@ static void nest(const char *beginning, const char *ending, int times) {
     for (int i = 0; i < times; i++) at += (size_t)sprintf(text + at, "%s", ending);
 }
 
+static uint8_t document[1 << 16];
+static size_t document_len;
+
+static size_t nested_size(int tag, int times) { return 5 + (size_t)times * (tag == 15 ? 17 : 8); }
+
+static void put_length(uint8_t *at, size_t len) {
+    for (int i = 0; i < 4; i++) at[i] = (uint8_t)(len >> 8 * i);
+}
+
+/* An empty document, so often under the key "a" as what the tag says: 3 a document, 4 a list, 15 the scope of code. */
+static void nest_documents(int tag, int times) {
+    uint8_t *at = document;
+    memset(document, 0, sizeof document);
+    document_len = nested_size(tag, times);
+    for (int left = times; left > 0; left--) {
+        put_length(at, nested_size(tag, left));
+        at[4] = (uint8_t)tag, at[5] = 'a', at += 7;
+        if (tag == 15) put_length(at, nested_size(tag, left - 1) + 9), at[4] = 1, at += 9;
+    }
+    put_length(at, 5);
+}
+
 static uint32_t status;
+
+static uint32_t lines_status(void) {
+    vbson_lines out = VBSON_LINES_NONE;
+    uint32_t done = vbson_convert_lines(VBSON_CANONICAL, VBSON_DOUBLES, TEXT(text), &out);
+    vbson_text_free(&out.text);
+    vbson_text_free(&out.told);
+    return done;
+}
 
 static void *calls(void *kind) {
     vbson_text out = VBSON_TEXT_NONE;
@@ -25,7 +55,12 @@ static void *calls(void *kind) {
     else if (it == 3) status = vbson_same(TEXT(text), TEXT(text));
     else if (it == 4) status = vbson_hash(TEXT(text), &number);
     else if (it == 5) status = vbson_convert_with(VBSON_CANONICAL, VBSON_DOUBLES, TEXT(text), &out);
-    else status = vbson_explain(0, TEXT(text), &out);
+    else if (it == 6) status = vbson_explain(0, TEXT(text), &out);
+    else if (it == 13) status = lines_status();
+    else if (it == 7) status = vbson_encode(0, TEXT(text), &out);
+    else if (it == 8) status = vbson_is_document(document, document_len);
+    else if (it == 9) status = vbson_explain_document(document, document_len, &out);
+    else status = vbson_decode((uint32_t)it - 10, 0, document, document_len, &out);
     vbson_text_free(&out);
     return NULL;
 }
@@ -46,10 +81,21 @@ static size_t used_by(int kind) {
     return STACK - untouched;
 }
 
-static void all_kinds(size_t *most, uint32_t wanted) {
-    for (int kind = 0; kind < 7; kind++) {
+static void all_kinds(size_t *most, uint32_t wanted, uint32_t encoded) {
+    for (int kind = 0; kind < 8; kind++) {
         size_t used = used_by(kind);
-        CHECK(status == (kind < 6 ? wanted : VBSON_DONE) && used <= NEEDS);
+        CHECK(status == (kind < 6 ? wanted : kind == 6 ? VBSON_DONE : encoded) && used <= NEEDS);
+        if (used > *most) *most = used;
+    }
+    size_t used = used_by(13);
+    CHECK(status == VBSON_DONE && used <= NEEDS);
+    if (used > *most) *most = used;
+}
+
+static void all_of_documents(size_t *most, uint32_t wanted) {
+    for (int kind = 8; kind < 13; kind++) {
+        size_t used = used_by(kind);
+        CHECK(status == (kind == 9 ? VBSON_DONE : wanted) && used <= NEEDS);
         if (used > *most) *most = used;
     }
 }
@@ -57,15 +103,24 @@ static void all_kinds(size_t *most, uint32_t wanted) {
 int main(void) {
     size_t most = 0;
     nest("[", "]", 127);
-    all_kinds(&most, VBSON_DONE);
+    all_kinds(&most, VBSON_DONE, VBSON_NO_DOCUMENT);
     nest("{\"b\":1,\"a\":", "}", 127);
-    all_kinds(&most, VBSON_DONE);
+    all_kinds(&most, VBSON_DONE, VBSON_DONE);
     nest("{\"$code\":\"f\",\"$scope\":{\"b\":2,\"a\":", "}}", 63);
-    all_kinds(&most, VBSON_DONE);
+    all_kinds(&most, VBSON_DONE, VBSON_NO_DOCUMENT);
     nest("[", "]", 128);
-    all_kinds(&most, VBSON_NOT_JSON);
+    all_kinds(&most, VBSON_NOT_JSON, VBSON_NOT_JSON);
     nest("{\"a\":", "}", 9000);
-    all_kinds(&most, VBSON_NOT_JSON);
-    printf("the deepest texts used %zu KiB of the stack\n", most >> 10);
+    all_kinds(&most, VBSON_NOT_JSON, VBSON_NOT_JSON);
+    static const int tags[] = {3, 4, 15};
+    for (int i = 0; i < 3; i++) {
+        nest_documents(tags[i], 99);
+        all_of_documents(&most, VBSON_DONE);
+        nest_documents(tags[i], 100);
+        all_of_documents(&most, VBSON_NO_DOCUMENT);
+        nest_documents(tags[i], 3000);
+        all_of_documents(&most, VBSON_NO_DOCUMENT);
+    }
+    printf("the deepest texts and documents used %zu KiB of the stack\n", most >> 10);
     return end();
 }

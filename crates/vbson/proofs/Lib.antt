@@ -1,3 +1,4 @@
 mod Causes
+mod Decoding
 mod Explained
 mod Rows

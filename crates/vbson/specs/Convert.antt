@@ -12,7 +12,7 @@ use Rattle.bson_run.specs.Convert.{ConvertsIn, default_options, newline}
 use Rattle.bson_run.specs.declared.mode.Mode.{Mode}
 use Rattle.bson_run.specs.declared.mode.Mode.TheVariants.{Canonical, Relaxed, Show}
 use Rattle.bson_run.specs.declared.fault.Fault.{Fault}
-use Rattle.bson_run.specs.declared.fault.Fault.TheVariants.{CannotRead, NotJson, NotExtendedJson, OutOfMemory}
+use Rattle.bson_run.specs.declared.fault.Fault.TheVariants.{CannotRead, NotJson, NotExtendedJson}
 use Rattle.bson_run.specs.declared.fault.Fault.TheVariants.{CannotWrite}
 use Rattle.vbson.specs.Text.{IsText}
 use Rattle.vbson.specs.declared.text.Text.{Text}

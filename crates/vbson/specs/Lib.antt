@@ -1,5 +1,7 @@
 pub mod Convert
+pub mod Documents
 pub mod Explain
+pub mod Lines
 pub mod Room
 pub mod Text
 pub mod Values

@@ -85,8 +85,8 @@ pub extern "C" fn vbson_convert_with(
     status::DONE
 }
 
-// The mode of a number.
-fn mode_of(number: u32) -> Option<Mode>
+/// The mode of a number.
+pub(crate) fn mode_of(number: u32) -> Option<Mode>
     ensures { result ≡ mode_at number }
 {
     match number {

@@ -5,13 +5,19 @@
 //! nothing beyond its types, and answers a number of `status`: 0 where it did what it is for. On
 //! any other number an out parameter is as it was, except where its call says more. In reading
 //! order: `status`, `flags`, `text` (a text that the caller has and frees) with `convert` (one text
-//! to another) and `explain` (why a text is refused, and where), `values` (two texts by what they
-//! mean), and `room` (room of the caller's) with `scalars` (decimals, object ids, moments).
+//! to another), `explain` (why a text is refused, and where) and `lines` (a block of lines), `values` (two texts by what they
+//! mean), `documents` (whether bytes are a document of BSON) with `decode` (their text) and `encode`
+//! (the bytes of a text), and `room` (room of the caller's) with `scalars` (decimals, object ids,
+//! moments).
 #![tactic(auto)]
 
 mod convert;
+mod decode;
+mod documents;
+mod encode;
 mod explain;
 mod flags;
+mod lines;
 mod room;
 mod scalars;
 mod status;

@@ -29,3 +29,15 @@ pub const NO_ROOM: u32 = 8;
 
 /// The two texts mean different values.
 pub const DIFFERENT: u32 = 9;
+
+/// The bytes are no document of BSON, or the text means another value than a document.
+pub const NO_DOCUMENT: u32 = 10;
+
+/// A key of the document has a 0 byte in it, which would end it.
+pub const ZERO_IN_KEY: u32 = 11;
+
+/// The pattern or the options of a regular expression of the document have a 0 byte in them.
+pub const ZERO_IN_REGEX: u32 = 12;
+
+/// A part of the document is too long for BSON.
+pub const TOO_LONG: u32 = 13;

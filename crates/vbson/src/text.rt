@@ -1,6 +1,9 @@
 //! A text that the caller has.
-ghost use Rattle.std.specs.Prelude.{◌<◌, ◌-◌, length, take};
+ghost use Rattle.std.specs.Prelude.{◌≡◌, ◌<◌, ◌-◌, ◌++◌, length, take, IfOk, IfErr};
+ghost use Rattle.bson_run.specs.Convert.{newline};
 ghost use Rattle.vbson.specs.Text.{IsText};
+
+use crate::status;
 
 /// A text that the caller has: its bytes with a NUL behind them, in a block of their own which the
 /// caller frees by `free`, and its length without the NUL.
@@ -21,5 +24,16 @@ pub fn text_of_line(mut line: Vec<u8>) -> Text<'static>
     Text {
         bytes: line.leak(),
         len,
+    }
+}
+
+/// The bytes, and a newline behind them; or the status of a call that has no memory for it.
+pub fn as_line(mut bytes: Vec<u8>) -> Result<Vec<u8>, u32>
+    ensures ok { IfOk result (λ line. line.items ≡ bytes.items ++ newline) }
+    ensures refused { IfErr result (λ status. status ≡ 5) }
+{
+    match bytes.push(b'\n') {
+        Ok(()) => Ok(bytes),
+        Err(_) => Err(status::OUT_OF_MEMORY),
     }
 }

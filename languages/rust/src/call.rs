@@ -9,13 +9,27 @@ pub struct RawText {
     pub len: usize,
 }
 
+/// `vbson_lines`.
+#[repr(C)]
+pub struct RawLines {
+    pub text: RawText,
+    pub told: RawText,
+    pub lines: u64,
+    pub refused: u64,
+}
+
 extern "C" {
     fn vbson_version() -> u32;
     fn vbson_convert(mode: u32, text: *const u8, len: usize, out: *mut RawText) -> u32;
     fn vbson_convert_with(mode: u32, flags: u32, text: *const u8, len: usize, out: *mut RawText) -> u32;
     fn vbson_explain(flags: u32, text: *const u8, len: usize, out: *mut RawText) -> u32;
+    fn vbson_convert_lines(mode: u32, flags: u32, block: *const u8, len: usize, out: *mut RawLines) -> u32;
     fn vbson_same(a: *const u8, a_len: usize, b: *const u8, b_len: usize) -> u32;
     fn vbson_hash(text: *const u8, len: usize, out: *mut u64) -> u32;
+    fn vbson_is_document(bytes: *const u8, len: usize) -> u32;
+    fn vbson_explain_document(bytes: *const u8, len: usize, out: *mut RawText) -> u32;
+    fn vbson_decode(mode: u32, flags: u32, bytes: *const u8, len: usize, out: *mut RawText) -> u32;
+    fn vbson_encode(flags: u32, text: *const u8, len: usize, out: *mut RawText) -> u32;
     fn vbson_decimal128_parse(text: *const u8, len: usize, out: *mut [u8; 16]) -> u32;
     fn vbson_decimal128_print(bytes: *const [u8; 16], room: *mut u8, size: usize, len: *mut usize) -> u32;
     fn vbson_object_id_parse(text: *const u8, len: usize, out: *mut [u8; 12]) -> u32;
@@ -34,6 +48,10 @@ const NO_SUCH_TEXT: u32 = 6;
 const NO_TEXT: u32 = 7;
 const NO_ROOM: u32 = 8;
 const DIFFERENT: u32 = 9;
+const NO_DOCUMENT: u32 = 10;
+const ZERO_IN_KEY: u32 = 11;
+const ZERO_IN_REGEX: u32 = 12;
+const TOO_LONG: u32 = 13;
 
 /// Of flags: finite doubles.
 pub const DOUBLES: u32 = 1;
@@ -56,6 +74,10 @@ fn wants_done(status: u32) -> Result<(), ErrorKind> {
         OUT_OF_MEMORY => Err(ErrorKind::OutOfMemory),
         NO_SUCH_TEXT => Err(ErrorKind::NoSuchText),
         NO_TEXT => Err(ErrorKind::NoText),
+        NO_DOCUMENT => Err(ErrorKind::NoDocument),
+        ZERO_IN_KEY => Err(ErrorKind::ZeroInKey),
+        ZERO_IN_REGEX => Err(ErrorKind::ZeroInRegex),
+        TOO_LONG => Err(ErrorKind::TooLong),
         // `Mode` and `Options` have no other number, `ROOM` is enough, and `same` looks for DIFFERENT itself.
         NO_MODE | NO_ROOM | DIFFERENT => unreachable!(),
         other => unreachable!("status {other}"),
@@ -86,9 +108,46 @@ pub fn explain(flags: u32, text: &[u8]) -> Result<RawText, ErrorKind> {
     left(|out| unsafe { vbson_explain(flags, text.as_ptr(), text.len(), out) })
 }
 
+pub fn is_document(bytes: &[u8]) -> bool {
+    wants_processor();
+    // SAFETY: the slice is readable.
+    unsafe { vbson_is_document(bytes.as_ptr(), bytes.len()) == DONE }
+}
+
+/// The words in a block of their own, as above.
+pub fn explain_document(bytes: &[u8]) -> Result<RawText, ErrorKind> {
+    // SAFETY: as above.
+    left(|out| unsafe { vbson_explain_document(bytes.as_ptr(), bytes.len(), out) })
+}
+
+/// The text in a block of its own, as above.
+pub fn decode(mode: u32, flags: u32, bytes: &[u8]) -> Result<RawText, ErrorKind> {
+    // SAFETY: as above.
+    left(|out| unsafe { vbson_decode(mode, flags, bytes.as_ptr(), bytes.len(), out) })
+}
+
+/// The bytes in a block of their own, as above.
+pub fn encode(flags: u32, text: &[u8]) -> Result<RawText, ErrorKind> {
+    // SAFETY: as above.
+    left(|out| unsafe { vbson_encode(flags, text.as_ptr(), text.len(), out) })
+}
+
+/// The texts in blocks of their own, as above.
+pub fn convert_lines(mode: u32, flags: u32, block: &[u8]) -> Result<RawLines, ErrorKind> {
+    wants_processor();
+    let mut out = RawLines { text: none(), told: none(), lines: 0, refused: 0 };
+    // SAFETY: the slice is readable, and `out` is valid and overlaps nothing.
+    wants_done(unsafe { vbson_convert_lines(mode, flags, block.as_ptr(), block.len(), &mut out) })?;
+    Ok(out)
+}
+
+fn none() -> RawText {
+    RawText { bytes: b"".as_ptr(), size: 0, len: 0 }
+}
+
 fn left(call: impl FnOnce(*mut RawText) -> u32) -> Result<RawText, ErrorKind> {
     wants_processor();
-    let mut out = RawText { bytes: b"".as_ptr(), size: 0, len: 0 };
+    let mut out = none();
     wants_done(call(&mut out))?;
     Ok(out)
 }

@@ -14,8 +14,16 @@ pub enum ErrorKind {
     OutOfMemory,
     /// The text is none of the kind that was asked for.
     NoSuchText,
-    /// The value has no text of the kind that was asked for.
+    /// The value has no text of the kind that was asked for: of a document, a finite double without the option for it.
     NoText,
+    /// The bytes are no document of BSON, or the text means another value than a document.
+    NoDocument,
+    /// A key of the document has a 0 byte in it, which would end it.
+    ZeroInKey,
+    /// The pattern or the options of a regular expression of the document have a 0 byte in them.
+    ZeroInRegex,
+    /// A part of the document is too long for BSON.
+    TooLong,
 }
 
 impl ErrorKind {
@@ -27,11 +35,15 @@ impl ErrorKind {
             ErrorKind::OutOfMemory => "out of memory",
             ErrorKind::NoSuchText => "no such text",
             ErrorKind::NoText => "no text",
+            ErrorKind::NoDocument => "no document",
+            ErrorKind::ZeroInKey => "a key has a 0 byte in it",
+            ErrorKind::ZeroInRegex => "a regular expression has a 0 byte in it",
+            ErrorKind::TooLong => "a part is too long for BSON",
         }
     }
 }
 
-/// Why a call was refused; of a text of Extended JSON, with where. It is displayed as
+/// Why a call was refused; of a text of Extended JSON and of a document's bytes, with where. It is displayed as
 /// `not Extended JSON at orders.0.price (a number is no whole number of 64 bits)`.
 #[derive(Clone, Debug, PartialEq, Eq)]
 pub struct Error {
@@ -45,8 +57,9 @@ impl Error {
         self.kind
     }
 
-    /// Where the fault of a text lies: `orders.0.price`, or `column 7` of what is no JSON. Keys are in it as they are.
-    /// Empty where the fault is that of the whole text, and where the call reads no Extended JSON.
+    /// Where the fault of a text lies: `orders.0.price`, or `column 7` of what is no JSON. Keys are in it as they are. Of
+    /// bytes that are no document, the number of bytes before the fault, as `byte 4`.
+    /// Empty where the fault is that of the whole text, and where the call reads neither.
     pub fn at(&self) -> &str {
         self.parts().0
     }
@@ -56,7 +69,7 @@ impl Error {
         Some(self.parts().1).filter(|it| !it.is_empty()).unwrap_or(self.kind.words())
     }
 
-    /// An error with the words of `vbson_explain`.
+    /// An error with the words of `vbson_explain` or `vbson_explain_document`.
     pub(crate) fn explained(kind: ErrorKind, words: &str) -> Error {
         Error { kind, behind: words.strip_prefix(kind.words()).unwrap_or("").to_owned() }
     }

@@ -1,5 +1,5 @@
-//! MongoDB Extended JSON v2 and the small values of BSON, over `libvbson.a`, whose calls are proved (`vbson.h` says
-//! what each answers).
+//! MongoDB Extended JSON v2, BSON bytes and the small values of BSON, over `libvbson.a`, whose calls are proved
+//! (`vbson.h` says what each answers).
 //!
 //! It runs on x86-64 Linux with glibc alone, on a processor with SSE4.2 and POPCNT: on any other the first call panics.
 //! Reading the deepest text (nested 127 deep) takes 384 KiB of stack, which the threads of `std` have.
@@ -14,12 +14,17 @@
 #[cfg(not(all(target_os = "linux", target_arch = "x86_64", target_env = "gnu")))]
 compile_error!("libvbson.a is made for x86-64 Linux with glibc alone");
 
+mod block;
 mod call;
+mod document;
 mod error;
+mod lines;
 mod scalar;
 mod text;
 
+pub use document::{decode, encode, explain_document, is_document, Bytes};
 pub use error::{Error, ErrorKind};
+pub use lines::{convert_lines, Lines};
 pub use scalar::{DateTime, Decimal128, ObjectId};
 pub use text::{convert, convert_with, explain, hash, same, Mode, Options, Text};
 

@@ -1,13 +1,8 @@
 //! Texts of Extended JSON.
+use crate::block::Block;
 use crate::{call, Error, ErrorKind};
-use std::ffi::c_void;
 use std::ops::Deref;
-use std::ptr::NonNull;
-use std::{fmt, slice, str};
-
-extern "C" {
-    fn free(block: *mut c_void);
-}
+use std::{fmt, str};
 
 /// What `convert` writes.
 #[derive(Clone, Copy, Debug, PartialEq, Eq)]
@@ -22,32 +17,15 @@ pub enum Mode {
 }
 
 /// A text of the library's own, freed when it is dropped.
-pub struct Text {
-    bytes: NonNull<u8>,
-    len: usize,
-}
-
-// SAFETY: the block is plain bytes that nobody else has, and `free` takes it on any thread.
-unsafe impl Send for Text {}
-// SAFETY: a shared text is only read.
-unsafe impl Sync for Text {}
-
-impl Drop for Text {
-    fn drop(&mut self) {
-        // SAFETY: the header says that the holder frees the block by `free`, once.
-        unsafe { free(self.bytes.as_ptr().cast()) }
-    }
-}
+pub struct Text(Block);
 
 impl Deref for Text {
     type Target = str;
 
     fn deref(&self) -> &str {
-        // SAFETY: `len` bytes of the block are the text.
-        let bytes = unsafe { slice::from_raw_parts(self.bytes.as_ptr(), self.len) };
-        debug_assert!(str::from_utf8(bytes).is_ok());
-        // SAFETY: `convert` looked at the bytes, which nobody changes.
-        unsafe { str::from_utf8_unchecked(bytes) }
+        debug_assert!(str::from_utf8(&self.0).is_ok());
+        // SAFETY: `owned` looked at the bytes, which nobody changes.
+        unsafe { str::from_utf8_unchecked(&self.0) }
     }
 }
 
@@ -72,7 +50,7 @@ pub struct Options {
 }
 
 impl Options {
-    fn flags(self) -> u32 {
+    pub(crate) fn flags(self) -> u32 {
         if self.doubles {
             call::DOUBLES
         } else {
@@ -116,18 +94,15 @@ pub fn hash(text: &[u8]) -> Result<u64, Error> {
     call::hash(text).map_err(|kind| error_of(kind, Options::default(), &[text]))
 }
 
-fn owned(raw: call::RawText) -> Text {
-    let bytes = NonNull::new(raw.bytes.cast_mut()).expect("a text has a block");
-    let text = Text { bytes, len: raw.len };
-    // SAFETY: `len` bytes of the block are the text.
-    let written = unsafe { slice::from_raw_parts(text.bytes.as_ptr(), text.len) };
-    assert!(str::from_utf8(written).is_ok(), "the library writes UTF-8");
-    text
+pub(crate) fn owned(raw: call::RawText) -> Text {
+    let block = Block::of(raw);
+    assert!(str::from_utf8(&block).is_ok(), "the library writes UTF-8");
+    Text(block)
 }
 
 /// The error with its place, of the first of the texts that is refused. Only such a text is read again; without memory
 /// for that, the error has no place.
-fn error_of(kind: ErrorKind, options: Options, texts: &[&[u8]]) -> Error {
+pub(crate) fn error_of(kind: ErrorKind, options: Options, texts: &[&[u8]]) -> Error {
     if !matches!(kind, ErrorKind::NotJson | ErrorKind::BadObjectId | ErrorKind::NotExtendedJson) {
         return kind.into();
     }

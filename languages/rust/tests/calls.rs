@@ -1,6 +1,6 @@
 //! Each call of the wrapper, and each error.
 use std::thread;
-use vbson::{convert, convert_with, explain, hash, same, version};
+use vbson::{convert, convert_lines, convert_with, decode, encode, explain, explain_document, hash, is_document, same, version};
 use vbson::{DateTime, Decimal128, Error, ErrorKind, Mode, ObjectId, Options, Text};
 
 #[test]
@@ -77,6 +77,49 @@ fn texts_are_compared_by_meaning() {
     assert_eq!(hash(one), hash(other));
     assert_eq!(same(one, b"{}"), Ok(false));
     assert_ne!(hash(one), hash(b"{}"));
+}
+
+#[test]
+fn lines_are_converted_in_one_call() {
+    let lines = convert_lines(Mode::Relaxed, Options::default(), b"[ 1 ]\n\n{\"a\":[1.5]}\n[2").unwrap();
+    assert_eq!((&*lines.text, lines.count), ("[1]\n", 4));
+    let wanted = [convert(Mode::Relaxed, br#"{"a":[1.5]}"#).unwrap_err(), convert(Mode::Relaxed, b"[2").unwrap_err()];
+    assert_eq!(lines.refused, [(3, wanted[0].clone()), (4, wanted[1].clone())]);
+    let lines = convert_lines(Mode::Relaxed, Options { doubles: true }, b"[1.5]\n").unwrap();
+    assert_eq!((&*lines.text, lines.refused.len()), ("[{\"$numberDouble\":\"1.5\"}]\n", 0));
+}
+
+#[test]
+fn documents_come_back_from_their_bytes() {
+    let (options, doubles) = (Options::default(), Options { doubles: true });
+    let five = [12, 0, 0, 0, 0x10, b'n', 0, 5, 0, 0, 0, 0];
+    assert_eq!(&*decode(Mode::Relaxed, options, &five).unwrap(), r#"{"n":5}"#);
+    assert_eq!(&*decode(Mode::Show, options, &five).unwrap(), r#"{ "n": 5 }"#);
+    assert_eq!(&*encode(options, br#"{"n": 5}"#).unwrap(), &five);
+    assert_eq!(format!("{:?}", encode(options, b"{}").unwrap()), "[5, 0, 0, 0, 0]");
+    assert!(is_document(&five) && explain_document(&five).is_none());
+    let double = encode(doubles, br#"{"n": 1.5}"#).unwrap();
+    assert_eq!(&*decode(Mode::Canonical, doubles, &double).unwrap(), r#"{"n":{"$numberDouble":"1.5"}}"#);
+    assert_eq!(kind(decode(Mode::Canonical, options, &double)), Some(ErrorKind::NoText));
+    for len in 0..five.len() {
+        assert!(!is_document(&five[..len]));
+        let error = decode(Mode::Show, options, &five[..len]).unwrap_err();
+        assert_eq!((error.kind(), error.why()), (ErrorKind::NoDocument, "ends too early"));
+        assert_eq!(explain_document(&five[..len]), Some(error));
+    }
+    let error = decode(Mode::Show, options, &[9, 0, 0, 0, 8, b'a', 0, 2, 0]).unwrap_err();
+    assert_eq!(error.to_string(), "no document at byte 7 (a boolean is neither 0 nor 1)");
+    assert_eq!((error.at(), error.why()), ("byte 7", "a boolean is neither 0 nor 1"));
+    for (text, wanted) in [
+        ("[]", ErrorKind::NoDocument),
+        (r#"{"a\u0000":1}"#, ErrorKind::ZeroInKey),
+        (r#"{"a":{"$regularExpression":{"pattern":"\u0000","options":""}}}"#, ErrorKind::ZeroInRegex),
+        ("{", ErrorKind::NotJson),
+    ] {
+        assert_eq!(kind(encode(options, text.as_bytes())), Some(wanted));
+    }
+    let error = encode(options, br#"{"a":[1.5]}"#).unwrap_err();
+    assert_eq!((error.kind(), error.at()), (ErrorKind::NotExtendedJson, "a.0"));
 }
 
 #[test]

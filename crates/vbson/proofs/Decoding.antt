@@ -1,0 +1,69 @@
+-- What the status of a document says: of its bytes, where they gave no text, and of its text, where that gave no bytes.
+use Rattle.std.proofs.Common.{◌≡◌, ◌⊎◌, inl, inr, ℕ, List, Some, true, true≢false, refl, sym, ap, subst, ◌∙◌, arith, rules}
+use Rattle.serde_json.specs.Data.{Data}
+use Rattle.serde_json.specs.Read.{read}
+use Rattle.bson.specs.Doubles.{Doubles}
+use Rattle.bson.specs.TextMeaning.{HasTextMeaningIn, IsTextOf}
+use Rattle.bson.specs.View.{bson_view, document_view}
+use Rattle.bson.specs.declared.bson.Bson.{the_lemmas}
+use Rattle.bson.specs.declared.bson.Bson.TheVariants.{Document as held}
+use Rattle.bson.specs.declared.document.Document.{Document}
+use Rattle.bson.specs.declared.extjson.options.Options.{Options}
+use Rattle.bson_codec.specs.Laws.{IsRead}
+use Rattle.bson_model.specs.Means.{MeansIn}
+use Rattle.bson_model.specs.Normal.{writable_in}
+use Rattle.bson_model.specs.Value.{Pairs, document}
+use Rattle.bson_run.specs.declared.mode.Mode.{Mode}
+use Rattle.bson_run.specs.declared.mode.Mode.TheVariants.{Canonical, Relaxed, Show}
+use Rattle.vbson.specs.Documents.{HasNoTextIn, IsOneDocument, IsUndecoded, depth}
+
+-- ---- bytes
+
+unwritable : (o : Options) (mode : Mode) (ps : Pairs) → HasNoTextIn o mode ps
+    → writable_in o.doubles (document ps) ≡ true → ⊥
+unwritable o Canonical ps none writes = true≢false (sym writes ∙ none)
+unwritable o Relaxed ps none writes = true≢false (sym writes ∙ none)
+unwritable o Show ps none writes = none
+
+-- the one document that the bytes are has no text, or memory ran out
+pub undecoded : (o : Options) (mode : Mode) (status : ℕ) (bytes : List ℕ) (ps : Pairs) → IsRead depth bytes ps
+    → ((qs : Pairs) → IsRead depth bytes qs → ps ≡ qs) → (status ≡ 5) ⊎ ((status ≡ 7) × HasNoTextIn o mode ps)
+    → IsUndecoded o mode status bytes
+undecoded o mode status bytes ps is one (inl five) = record {
+  no_document = λ ten other. absurd (omega (arith, five, ten));
+  no_text = λ seven. absurd (omega (arith, five, seven));
+  accepts = λ qs also writes. five;
+  listed = inl five;
+}
+undecoded o mode status bytes ps is one (inr (seven, none)) = record {
+  no_document = λ ten other. absurd (omega (arith, seven, ten));
+  no_text = λ s. (ps, is, none);
+  accepts = λ qs also writes.
+      absurd (unwritable o mode ps none (ap (λ xs. writable_in o.doubles (document xs)) (one qs also) ∙ writes));
+  listed = inr (inl seven);
+}
+
+-- the bytes are no document
+pub no_document : (o : Options) (mode : Mode) (bytes : List ℕ) → (IsOneDocument bytes → ⊥) → IsUndecoded o mode 10 bytes
+no_document o mode bytes none = record {
+  no_document = λ ten is. none is;
+  no_text = λ seven. absurd (omega (arith, seven));
+  accepts = λ ps is writes. absurd (none (ps, is));
+  listed = inr (inr refl);
+}
+
+-- ---- texts
+
+-- a document as a value is seen as the pairs of the document
+pub document_seen : (d : Document) → bson_view (held d) ≡ document (document_view d)
+document_seen d = search (rules, the_lemmas)
+
+-- a text means no two documents
+pub means_one : (D : Doubles) (bytes : List ℕ) (tree : Data) (ps qs : Pairs) → IsTextOf bytes tree
+    → MeansIn D tree (document ps) → HasTextMeaningIn D bytes (document qs) → ps ≡ qs
+means_one D bytes tree ps qs text means it =
+    let a : read bytes ≡ Some tree = text.tree_read in
+    let b : read bytes ≡ Some it.tree = it.text.tree_read in
+    let same : tree ≡ it.tree = cc in
+    let one : document ps ≡ document qs = it.meaning.one (document ps) (subst (λ t. MeansIn D t (document ps)) same means) in
+    cc

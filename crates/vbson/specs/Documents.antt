@@ -1,0 +1,133 @@
+-- Documents by their bytes (BSON 1.1, bsonspec.org), and by their texts.
+use Rattle.std.specs.Prelude.{◌≡◌, ◌⊎◌, ◌≤◌, ℕ, suc, List, [], ◌++◌, Some, codes, false, true}
+use Rattle.std.specs.Fmt.{decimal}
+use Rattle.bson.specs.Form.TheVariants as form
+use Rattle.bson.specs.TextMeaning.{HasTextMeaningIn}
+use Rattle.bson.specs.Texts.{IsTextUnder}
+use Rattle.bson.specs.declared.extjson.options.Options.{Options}
+use Rattle.bson_bytes.specs.declared.fault.FaultKind.{FaultKind}
+use Rattle.bson_codec.specs.Bytes.{reads}
+use Rattle.bson_codec.specs.Canonical.{Cause, zero_in_key, zero_in_regex, too_long}
+use Rattle.bson_codec.specs.Canonical.{DocumentFails, FitsDocument, NestsPairs, as_written, document_bytes}
+use Rattle.bson_codec.specs.Errors.{IsPlacedFault}
+use Rattle.bson_codec.specs.Laws.{IsRead}
+use Rattle.bson_codec.specs.Told.{words_for}
+use Rattle.bson_model.specs.Displayed.{display_text}
+use Rattle.bson_model.specs.Normal.{writable_in}
+use Rattle.bson_model.specs.Value.{Value, Pairs, document}
+use Rattle.bson_run.specs.declared.mode.Mode.{Mode}
+use Rattle.bson_run.specs.declared.mode.Mode.TheVariants.{Canonical, Relaxed, Show}
+use Rattle.vbson.specs.Convert.{IsCauseIn, mode_at}
+use Rattle.vbson.specs.Text.{IsText}
+use Rattle.vbson.specs.declared.text.Text.{Text}
+
+-- how deep documents, arrays and scopes may stand in each other
+abbrev pub depth : ℕ
+depth = 100
+
+-- the bytes are one document
+abbrev pub IsOneDocument : List ℕ → Type 0
+IsOneDocument bytes = (ps : Pairs) × IsRead depth bytes ps
+
+-- ---- from bytes to a text
+
+-- the text of the document in the mode
+abbrev pub IsTextOfDocument : Options → Mode → Pairs → List ℕ → Type 0
+IsTextOfDocument o Canonical ps text = IsTextUnder o.doubles form.Canonical (document ps) text
+IsTextOfDocument o Relaxed ps text = IsTextUnder o.doubles form.Relaxed (document ps) text
+IsTextOfDocument o Show ps text = text ≡ display_text (document ps)
+
+-- the document has no text in the mode
+abbrev pub HasNoTextIn : Options → Mode → Pairs → Type 0
+HasNoTextIn o Canonical ps = writable_in o.doubles (document ps) ≡ false
+HasNoTextIn o Relaxed ps = writable_in o.doubles (document ps) ≡ false
+HasNoTextIn o Show ps = ⊥
+
+-- the bytes are a document, whose text in the mode this is
+pub record Decodes (o : Options) (mode : Mode) (bytes text : List ℕ) : Type 0 where
+  pub pairs : Pairs
+  pub read : IsRead depth bytes pairs
+  pub written : IsTextOfDocument o mode pairs text
+
+-- the text that is left is that of the document in the mode of the number
+pub record IsDecoded (o : Options) (number : ℕ) (bytes : List ℕ) (out : Text) : Type 0 where
+  pub mode : Mode
+  pub named : mode_at number ≡ Some mode
+  pub text : List ℕ
+  pub decodes : Decodes o mode bytes text
+  pub is_text : IsText text out
+
+-- the bytes are a document that has no text in the mode of the number
+pub record HasNoText (o : Options) (number : ℕ) (bytes : List ℕ) : Type 0 where
+  pub mode : Mode
+  pub named : mode_at number ≡ Some mode
+  pub pairs : Pairs
+  pub read : IsRead depth bytes pairs
+  pub unwritable : HasNoTextIn o mode pairs
+
+-- ---- why bytes are no document
+
+-- the number of bytes before the place of a fault, and words for what is wrong there
+abbrev pub words_at : ℕ → List ℕ → List ℕ
+words_at n words = codes "no document at byte " ++ decimal n ++ codes " (" ++ words ++ codes ")"
+
+-- no words for bytes that are a document, and else those for their first fault
+abbrev pub ExplainsDocument : List ℕ → List ℕ → Type 0
+ExplainsDocument bytes words =
+    (IsOneDocument bytes × (words ≡ []))
+    ⊎ ((k : FaultKind) × (n : ℕ) × IsPlacedFault k n bytes (reads depth bytes) × (words ≡ words_at n (words_for k)))
+
+-- the text that is left has such words
+abbrev pub IsDocumentExplained : List ℕ → Text → Type 0
+IsDocumentExplained bytes out = (words : List ℕ) × ExplainsDocument bytes words × IsText words out
+
+-- ---- from a text to bytes
+
+-- the text means a document, whose canonical bytes these are; they are read back as it
+pub record Encodes (o : Options) (text bytes : List ℕ) : Type 0 where
+  pub pairs : Pairs
+  pub meaning : HasTextMeaningIn o.doubles text (document pairs)
+  pub fits : FitsDocument pairs
+  pub canonical : bytes ≡ document_bytes pairs
+  pub back : (d : ℕ) → NestsPairs pairs d → IsRead (suc d) bytes (as_written pairs)
+
+-- what is left are those bytes
+abbrev pub IsEncoded : Options → List ℕ → Text → Type 0
+IsEncoded o text out = (bytes : List ℕ) × Encodes o text bytes × IsText bytes out
+
+-- the text means a value that is no document
+pub record MeansNoDocument (o : Options) (text : List ℕ) : Type 0 where
+  pub value : Value
+  pub meaning : HasTextMeaningIn o.doubles text value
+  pub other : (ps : Pairs) → value ≡ document ps → ⊥
+
+-- the text means a document that has no bytes, for this cause
+pub record HasNoBytes (o : Options) (cause : Cause) (text : List ℕ) : Type 0 where
+  pub pairs : Pairs
+  pub meaning : HasTextMeaningIn o.doubles text (document pairs)
+  pub fails : DocumentFails cause pairs
+
+-- ---- for private clauses
+
+-- what a status says of bytes that gave no text
+pub record IsUndecoded (o : Options) (mode : Mode) (status : ℕ) (bytes : List ℕ) : Type 0 where
+  pub no_document : status ≡ 10 → IsOneDocument bytes → ⊥
+  pub no_text : status ≡ 7 → (ps : Pairs) × IsRead depth bytes ps × HasNoTextIn o mode ps
+  pub accepts : (ps : Pairs) → IsRead depth bytes ps → writable_in o.doubles (document ps) ≡ true → status ≡ 5
+  pub listed : (status ≡ 5) ⊎ ((status ≡ 7) ⊎ (status ≡ 10))
+
+-- what a status says of a text that gave no bytes
+pub record IsUnencoded (o : Options) (status : ℕ) (text : List ℕ) : Type 0 where
+  pub cause : IsCauseIn o status text
+  pub no_document : status ≡ 10 → MeansNoDocument o text
+  pub zero_key : status ≡ 11 → HasNoBytes o zero_in_key text
+  pub zero_regex : status ≡ 12 → HasNoBytes o zero_in_regex text
+  pub long : status ≡ 13 → HasNoBytes o too_long text
+  pub listed : ((2 ≤ status) × (status ≤ 5)) ⊎ ((10 ≤ status) × (status ≤ 13))
+
+-- what a status says of a document that gave no bytes
+pub record FailsFor (status : ℕ) (ps : Pairs) : Type 0 where
+  pub zero_key : status ≡ 11 → DocumentFails zero_in_key ps
+  pub zero_regex : status ≡ 12 → DocumentFails zero_in_regex ps
+  pub long : status ≡ 13 → DocumentFails too_long ps
+  pub listed : (status ≡ 5) ⊎ ((11 ≤ status) × (status ≤ 13))

@@ -1,0 +1,26 @@
+-- A block of lines, each a text of its own.
+use Rattle.std.specs.Prelude.{◌≡◌, ℕ, List, Some, length}
+use Rattle.bson.specs.declared.extjson.options.Options.{Options}
+use Rattle.bson_run.specs.Lines.{OutcomesIn, lines as lines_of}
+use Rattle.bson_run.specs.declared.mode.Mode.{Mode}
+use Rattle.bson_run.specs.declared.order.OnRefusal.TheVariants.{KeepGoing}
+use Rattle.bson_run.specs.declared.order.Task.TheVariants.{Write}
+use Rattle.vbson.specs.Convert.{mode_at}
+use Rattle.vbson.specs.Text.{IsText}
+use Rattle.vbson.specs.declared.lines.Lines.{Lines}
+
+-- the lines of the block give this output in the mode, the verdicts tell of those that are refused, and so many lines
+-- there are, of which so many are refused
+pub record GivesLines (o : Options) (mode : Mode) (block output verdicts : List ℕ) (count refused : ℕ) : Type 0 where
+  pub outcomes : OutcomesIn o (Write mode) KeepGoing (lines_of block) output verdicts refused
+  pub counted : count ≡ length (lines_of block)
+
+-- what is left is the output and the verdicts of the lines in the mode of the number, and these counts
+pub record AreConverted (o : Options) (number : ℕ) (block : List ℕ) (out : Lines) : Type 0 where
+  pub mode : Mode
+  pub named : mode_at number ≡ Some mode
+  pub text : List ℕ
+  pub told : List ℕ
+  pub gives : GivesLines o mode block text told out.lines out.refused
+  pub is_text : IsText text out.text
+  pub is_told : IsText told out.told

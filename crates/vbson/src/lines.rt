@@ -1,0 +1,103 @@
+//! A block of lines, each a text of its own.
+ghost use Rattle.std.specs.Prelude.{◌≡◌, ◌⊎◌, ◌↔◌, ◌<◌, ◌++◌, List, ℕ, IfSome};
+ghost use Rattle.bson_run.specs.Convert.{newline};
+ghost use Rattle.vbson.specs.Convert.{options_of};
+ghost use Rattle.vbson.specs.Lines.{AreConverted, GivesLines};
+
+use crate::convert::mode_of;
+use crate::flags::{has_others, options_of};
+use crate::status;
+use crate::text::{Text, as_line, text_of_line};
+use bson::extjson::Options;
+use bson_run::lines::run_lines_with;
+use bson_run::mode::Mode;
+use bson_run::order::{OnRefusal, Task};
+use std::alloc::Global;
+
+/// What a block of lines gives: what each is converted to, what is told of those that are refused,
+/// how many lines there are, and how many are refused.
+#[repr(C)]
+#[derive(Drop)]
+pub struct Lines<'a> {
+    pub text: Text<'a>,
+    pub told: Text<'a>,
+    pub lines: u64,
+    pub refused: u64,
+}
+
+/// Reads each line of the block as one text of Extended JSON, and leaves what it is converted to, a
+/// line each, in their order, and a line on each that is refused, with its number and place. The
+/// blocks of both texts are the caller's, who frees them by `free`.
+#[unsafe(no_mangle)]
+pub extern "C" fn vbson_convert_lines(
+    alloc: Global,
+    mode: u32,
+    flags: u32,
+    block: &[u8],
+    out: &mut Lines<'static>,
+) -> u32
+    ensures done { result ≡ 0 → AreConverted (options_of flags) mode block.now out.new }
+
+    // When each other status comes, and that nothing is left then.
+    ensures no_mode { result ≡ 1 ↔ (2 < mode) ⊎ (1 < flags) }
+    ensures listed { (result ≡ 0) ⊎ (result ≡ 1) ⊎ (result ≡ 5) }
+    ensures kept { 0 < result → out.new ≡ out.old }
+{
+    if has_others(flags) {
+        return status::NO_MODE;
+    }
+    let Some(mode) = mode_of(mode) else {
+        return status::NO_MODE;
+    };
+    let Some(given) = converted(alloc, options_of(flags), mode, block) else {
+        return status::OUT_OF_MEMORY;
+    };
+    *out = Lines {
+        text: text_of_line(given.text),
+        told: text_of_line(given.told),
+        lines: given.lines,
+        refused: given.refused,
+    };
+    status::DONE
+}
+
+// What a block of lines gives, with a newline more behind each text.
+#[derive(Drop)]
+struct Given {
+    text: Vec<u8>,
+    told: Vec<u8>,
+    lines: u64,
+    refused: u64,
+}
+
+// What the lines of the block give; none for want of memory.
+fn converted(alloc: Global, options: Options, mode: Mode, block: &[u8]) -> Option<Given>
+    ensures { IfSome result (λ given. (text : List ℕ) × (told : List ℕ)
+        × GivesLines options mode block.now text told given.lines given.refused
+        × (given.text.items ≡ text ++ newline) × (given.told.items ≡ told ++ newline)) }
+{
+    let mut reader = block;
+    let (mut text, mut told) = (Vec::new(alloc), Vec::new(alloc));
+    let (task, go_on) = (Task::Write(mode), OnRefusal::KeepGoing);
+    let ran = run_lines_with(
+        alloc,
+        options,
+        task,
+        go_on,
+        &mut reader,
+        &mut text,
+        &mut told,
+    );
+    let Ok(counts) = ran else {
+        return None;
+    };
+    let (Ok(text), Ok(told)) = (as_line(text), as_line(told)) else {
+        return None;
+    };
+    Some(Given {
+        text,
+        told,
+        lines: counts.lines,
+        refused: counts.refused,
+    })
+}

@@ -1,0 +1,63 @@
+//! Documents by their bytes (BSON 1.1, bsonspec.org).
+use crate::block::Block;
+use crate::text::{error_of, owned};
+use crate::{call, Error, ErrorKind, Mode, Options, Text};
+use std::fmt;
+use std::ops::Deref;
+
+/// Bytes of the library's own, freed when they are dropped.
+pub struct Bytes(Block);
+
+impl Deref for Bytes {
+    type Target = [u8];
+
+    fn deref(&self) -> &[u8] {
+        &self.0
+    }
+}
+
+impl fmt::Debug for Bytes {
+    fn fmt(&self, f: &mut fmt::Formatter<'_>) -> fmt::Result {
+        fmt::Debug::fmt(&**self, f)
+    }
+}
+
+/// Whether the bytes are one document, all of them, in which documents, arrays and scopes stand at most 100 in each
+/// other. It takes no memory.
+pub fn is_document(bytes: &[u8]) -> bool {
+    call::is_document(bytes)
+}
+
+/// Why bytes are no document, and where; None where they are one. Without memory for the words it has no place.
+pub fn explain_document(bytes: &[u8]) -> Option<Error> {
+    match call::explain_document(bytes).map(owned) {
+        Ok(words) if words.is_empty() => None,
+        Ok(words) => Some(Error::explained(ErrorKind::NoDocument, &words)),
+        Err(_) if is_document(bytes) => None,
+        Err(_) => Some(ErrorKind::NoDocument.into()),
+    }
+}
+
+/// The text, in the mode, of the document that the bytes are.
+///
+/// In the two forms keys come out in ascending order at every depth, and a finite double other than 0.0 is `NoText`
+/// without the option for it; `Mode::Show` has the document's own order, and every double. Of a key that stands twice the
+/// last value counts. `NoDocument`, with its place, where the bytes are none.
+pub fn decode(mode: Mode, options: Options, bytes: &[u8]) -> Result<Text, Error> {
+    match call::decode(mode as u32, options.flags(), bytes) {
+        Ok(raw) => Ok(owned(raw)),
+        Err(ErrorKind::NoDocument) => Err(explain_document(bytes).unwrap_or_else(|| ErrorKind::NoDocument.into())),
+        Err(kind) => Err(kind.into()),
+    }
+}
+
+/// The canonical bytes of the document that a text of Extended JSON means, keys in ascending order.
+///
+/// `NoDocument` where the text means another value; `ZeroInKey`, `ZeroInRegex` or `TooLong` where the document has no
+/// bytes; what is no Extended JSON with its place, as of `convert_with`.
+pub fn encode(options: Options, text: &[u8]) -> Result<Bytes, Error> {
+    match call::encode(options.flags(), text) {
+        Ok(raw) => Ok(Bytes(Block::of(raw))),
+        Err(kind) => Err(error_of(kind, options, &[text])),
+    }
+}

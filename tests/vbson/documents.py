@@ -1,0 +1,112 @@
+"""The rows of tests/rows on BSON bytes as lines `CALL HEX` for a program over the library, which answers each by a line
+`STATUS HEX`: its status, and what was left.
+
+    is, explain    vbson_is_document, vbson_explain_document
+    canonical, relaxed, show    vbson_decode with finite doubles
+    encode         vbson_encode with finite doubles
+"""
+import re
+
+import vbson
+from rows import rows
+
+KINDS = {"Depth": "nests too deep", "Short": "ends too early", "Length": "a wrong length", "Tag": "no type of BSON",
+         "End": "no 0 behind a text", "Utf8": "no UTF-8", "Boolean": "a boolean is neither 0 nor 1",
+         "Trailing": "bytes behind the document"}
+UNWRITTEN = {"Key": vbson.ZERO_IN_KEY, "Regex": vbson.ZERO_IN_REGEX}
+# Fewer than these are a sign that some rows are not found.
+LEAST_CASES = 700
+
+
+def of_bytes(name, digits, wanted):
+    """The calls on the bytes of a row, each with its status and what it leaves."""
+    fault = re.fullmatch(r"Malformed \{ kind: (\w+), offset: (\d+) \}", wanted)
+    if fault:
+        words = f"no document at byte {fault[2]} ({KINDS[fault[1]]})"
+        yield "explain", digits, vbson.DONE, words.encode()
+        for call in ("is", "canonical", "relaxed", "show"):
+            yield call, digits, vbson.NO_DOCUMENT, b""
+        return
+    yield "is", digits, vbson.DONE, b""
+    yield "explain", digits, vbson.DONE, b""
+    if name == "read" and not wanted.startswith("Document("):
+        yield "show", digits, vbson.DONE, wanted.replace("↵", "\n").encode()
+
+
+def of_text(text, wanted):
+    """The same of a text whose document is written."""
+    status = UNWRITTEN.get(wanted.removeprefix("NoBytes(").removesuffix(")"), vbson.DONE)
+    left = bytes.fromhex(wanted) if status == vbson.DONE else b""
+    yield "encode", text.encode().hex(), status, left
+
+
+def of_dump(form, digits, wanted):
+    """The same of a dump of one document."""
+    text, _, counts = wanted.rpartition("↵")
+    if form != "check" and counts == "DocumentCounts { documents: 1, refused: 0 }":
+        yield form, digits, vbson.DONE, text.encode()
+
+
+def calls_of(row):
+    call = row.call.removeprefix(b"{:?} ")
+    if not call.startswith(b"bytes "):
+        return
+    wanted, words = row.wanted.decode(), call.decode().split(" ", 2)
+    name, rest = words[1:]
+    if name in ("read", "check", "again"):
+        yield from of_bytes(name, rest, wanted)
+    elif name in ("write", "to") and not rest.startswith("made "):
+        yield from of_text(rest, wanted)
+    elif name == "dump":
+        yield from of_dump(*rest.split(" "), wanted)
+
+
+def cases():
+    """Each call with its row's place, the line that asks for it, and the line that answers."""
+    found = []
+    for row in rows():
+        for call, digits, status, left in calls_of(row):
+            found.append((f"{row.place}, {call}", f"{call} {digits}", f"{status} {left.hex()}"))
+    return found
+
+
+NUMBERS = {vbson.NotJson: vbson.NOT_JSON, vbson.BadObjectId: vbson.BAD_OBJECT_ID, vbson.NotExtendedJson: vbson.NOT_EXTENDED_JSON,
+           vbson.NoText: vbson.NO_TEXT, vbson.NoDocument: vbson.NO_DOCUMENT}
+CAUSES = {"a key has a 0 byte in it": vbson.ZERO_IN_KEY, "a regular expression has a 0 byte in it": vbson.ZERO_IN_REGEX}
+
+
+def by_python(line):
+    """The answer of vbson.py."""
+    call, _, digits = line.partition(" ")
+    given = bytes.fromhex(digits)
+    try:
+        if call == "is":
+            return f"{vbson.DONE if vbson.is_document(given) else vbson.NO_DOCUMENT} "
+        if call == "explain":
+            return f"0 {vbson.explain_document(given).encode().hex()}"
+        if call == "encode":
+            return f"0 {vbson.encode(given, doubles=True).hex()}"
+        return f"0 {vbson.decode(given, call, doubles=True).encode().hex()}"
+    except vbson.NoDocument as error:
+        words = vbson.explain_document(given) if call != "encode" else "no document"
+        # (the error is made of those words, and place and reason are all of them)
+        is_whole = str(error) == words == f"no document at {error.place} ({error.why})" or call == "encode"
+        return f"{vbson.NO_DOCUMENT if is_whole else -1} "
+    except vbson.NoBytes as error:
+        return f"{CAUSES[str(error)]} "
+    except vbson.Error as error:
+        return f"{NUMBERS[type(error)]} "
+
+
+def round_trips():
+    """Of each document of the rows, what is wrong with its text and the bytes of that text, or None."""
+    for name, line, answer in cases():
+        if line.startswith("is ") and answer == "0 ":
+            text = vbson.decode(bytes.fromhex(line[3:]), doubles=True)
+            try:
+                written = vbson.encode(text, doubles=True)
+            except (vbson.NotExtendedJson, vbson.BadObjectId):
+                # (a document whose keys are those of a wrapper)
+                continue
+            again = vbson.encode(vbson.decode(written, doubles=True), doubles=True)
+            yield f"{name}, and back", None if vbson.is_document(written) and again == written else f"{written.hex()} and {again.hex()}"
