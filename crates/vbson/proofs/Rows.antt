@@ -8,6 +8,7 @@ use Rattle.bson_run.specs.Convert.{default_options}
 use Rattle.bson_run.specs.declared.mode.Mode.TheVariants as mode
 use Rattle.bson_run.specs.declared.fault.Fault.TheVariants as fault
 use Rattle.vbson.specs.Convert.{mode_at, options_of, status_for, status_of}
+use Rattle.vbson.specs.Documents.{depth}
 
 -- ---- modes
 
@@ -49,3 +50,8 @@ reasons_numbered (WrongShape message) = refl
 
 out_of_memory_numbered : status_of fault.OutOfMemory ≡ 5
 out_of_memory_numbered = refl
+
+-- ---- documents
+
+nested_100 : depth ≡ 100
+nested_100 = refl
