@@ -214,8 +214,8 @@ def _text_of(call, *arguments):
 
 
 # The words behind those for the class: a column, with a message where a number is out of range, or a path and a
-# message. The message on an object id may hold any
-# characters, but its path ends in a wrapper's key; no other message holds a bracket.
+# message. The message on an object id may hold any characters, but its path ends in a wrapper's key; no other message
+# holds a bracket.
 _COLUMN = re.compile(r" at (column \d+)(?: \((a number is out of range)\))?")
 _OF_ID = re.compile(r" at (.*?\$(?:oid|dbPointer)) \(((?:the character '|an object id has ).*)\)", re.S)
 _OF_SHAPE = re.compile(r"(?: at (.*))? \(([^(]*)\)", re.S)
