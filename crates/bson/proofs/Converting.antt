@@ -31,7 +31,7 @@ use Rattle.bson.specs.Texts.{IsPrinted, IsTextUnder, tokens_of}
 use Rattle.bson.specs.View.{bson_view}
 use Rattle.bson.specs.declared.bson.Bson.{Bson}
 use Rattle.bson.proofs.Marks.{given_ok}
-use Rattle.bson.proofs.Printed.{EndsItems, items_more as printed_more}
+use Rattle.bson.proofs.Printed.{EndsItems, item_more}
 use Rattle.bson_tokens.proofs.Offered.{one_item, last_item, array_opened, was_read}
 
 -- a value was read, not nothing
@@ -69,7 +69,7 @@ one_passes D f depth ts r rest old new end v going m less p more = record {
       ∙ ap (parse_map (item m.0)) (more.all (n - 1) (omega (arith, enough, less)));
   read = ap (λ q. q >>= λ w. reads_items_in D more.trees >>= λ vs. Ok (model.value w vs)) m.2
       ∙ ap (λ q. q >>= λ vs. Ok (model.value v vs)) more.read;
-  printed = printed_more D f v more.values old new end (p.0, p.1, p.2) more.printed;
+  printed = item_more (writes_in D f v) (writes_items_in D f more.values) old new end (p.0, p.1, p.2) more.printed;
   ranged = (p.3, more.ranged);
 }
 

@@ -22,7 +22,7 @@ use Rattle.bson_model.specs.Value.{Value, Pairs, no_pairs, pair, document}
 use Rattle.bson_model.specs.Writing.{writes_in, writes_pairs_in}
 use Rattle.bson_model.proofs.Offered.{flipped}
 use Rattle.bson.specs.Converted.{TreeConverted, ObjectConverted, Follows}
-use Rattle.bson.specs.Texts.{writes_in_order}
+use Rattle.bson.specs.Texts.{writes_in_turn}
 use Rattle.bson_tokens.proofs.Offered.{Gathers, none_yet, one_gathered, all_gathered}
 use Rattle.bson.proofs.OntoTree.{bind_same}
 use Rattle.bson.proofs.Printed.{EndsMembers, members_more, put_first}
@@ -72,12 +72,12 @@ ranged_more k v (pair l w ps) ranged here = (ranged.0, ranged_more k v ps ranged
 
 -- pairs whose keys ascend are written in their order
 pub written_in_order : (D : Doubles) (f : Form) (ps : Pairs) → KeysAscend ps
-    → writes_in_order D f ps ≡ writes_pairs_in D f ps
+    → writes_in_turn (writes_in D f) ps ≡ writes_pairs_in D f ps
 written_in_order D f no_pairs up = refl
 written_in_order D f (pair k v no_pairs) up = refl
 written_in_order D f (pair k v (pair l w ps)) up =
     let rest = written_in_order D f (pair l w ps) up.1 in
-    bind_same (writes_in D f v) _ _ (λ d. put_first k l d up.0.0 (writes_in D f w) (writes_in_order D f ps)
+    bind_same (writes_in D f v) _ _ (λ d. put_first k l d up.0.0 (writes_in D f w) (writes_in_turn (writes_in D f) ps)
     ∙ ap (λ r. r >>= λ ms. Ok (put k d ms)) rest)
 
 -- ---- the members so far
@@ -93,8 +93,8 @@ pub record MembersPass (D : Doubles) (f : Form) (depth : ℕ) (start here old ne
   pub plain : has_wrapper trees ≡ false
   pub below : (k : List ℕ) → Follows last k → AllBelow k pairs
   -- what ends the text well from here on ends it well from the start
-  pub ends : (more : Pairs) (end : List Token) → EndsMembers (writes_in_order D f more) new end
-      → EndsMembers (writes_in_order D f (then_pairs pairs more)) old end
+  pub ends : (more : Pairs) (end : List Token) → EndsMembers (writes_in_turn (writes_in D f) more) new end
+      → EndsMembers (writes_in_turn (writes_in D f) (then_pairs pairs more)) old end
   pub ranged : PairsInRange pairs
 
 pub none_passed : (D : Doubles) (f : Form) (depth : ℕ) (ts old : List Token) → MembersPass D f depth ts ts old old None
@@ -131,10 +131,10 @@ one_passed D f depth k start here s r old mid near new last g named plain follow
       below = λ j next. subst (AllBelow j) (sym last_put)
           (below_more j k v g.pairs (still_below j k g.pairs below next) next);
       ends = λ more end h.
-          subst (λ ps. EndsMembers (writes_in_order D f (then_pairs ps more)) old end) (sym last_put)
-          (subst (λ ps. EndsMembers (writes_in_order D f ps) old end) (sym (then_one g.pairs k v more))
+          subst (λ ps. EndsMembers (writes_in_turn (writes_in D f) (then_pairs ps more)) old end) (sym last_put)
+          (subst (λ ps. EndsMembers (writes_in_turn (writes_in D f) ps) old end) (sym (then_one g.pairs k v more))
           (g.ends (pair k v more) end
-          (members_more D f k v more mid near new end keyed (printed.0, printed.1, printed.2) h)));
+          (members_more (writes_in D f) k v more mid near new end keyed (printed.0, printed.1, printed.2) h)));
       ranged = subst PairsInRange (sym last_put) (ranged_more k v g.pairs g.ranged printed.3);
     }
 
@@ -146,7 +146,7 @@ pub object_passed : (D : Doubles) (f : Form) (depth : ℕ) (start here rest old 
     → ObjectConverted D f (converted (λ js. of_members js no_members) (members (value depth) (length start) start)) rest
     old end
 object_passed D f depth start here rest old opened new end last opening g ended closed =
-    let all = subst (λ ps. EndsMembers (writes_in_order D f ps) opened end) (then_none g.pairs)
+    let all = subst (λ ps. EndsMembers (writes_in_turn (writes_in D f) ps) opened end) (then_none g.pairs)
     (g.ends no_pairs end (no_members, refl, closed)) in (
       document g.pairs,
       (

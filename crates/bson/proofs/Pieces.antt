@@ -30,11 +30,12 @@ use Rattle.bson_model.specs.Normal.{PairsInRange}
 use Rattle.bson_model.specs.Reading.{reads_members_in}
 use Rattle.bson_model.specs.Sorted.{put_pair, IsLeast, KeysAscend}
 use Rattle.bson_model.specs.Value.{Value, Pairs, no_pairs, document}
+use Rattle.bson_model.specs.Writing.{writes_in}
 use Rattle.bson.specs.Converted.{TextConverted, Follows}
 use Rattle.bson.specs.Gathered.{put_each, pairs_of}
 use Rattle.bson.specs.Pieces.{piece_key, piece_text, members_text, Ascend, IsWithin, InOrder, IsMemberText}
 use Rattle.bson.specs.Pieces.{Values, value_at, IsPiece, IsAdded, ObjectInPieces}
-use Rattle.bson.specs.Texts.{tokens_of, writes_in_order}
+use Rattle.bson.specs.Texts.{tokens_of, writes_in_turn}
 use Rattle.bson.specs.declared.extjson.convert.by_key.Piece.{Piece}
 use Rattle.bson.specs.declared.extjson.convert.by_key.Pieces.{Pieces}
 use Rattle.bson.proofs.Converting.{text_read, text_written}
@@ -238,7 +239,7 @@ ascending_pairs values last (p ∷ ps) up =
 -- the texts of members are the text of their trees
 pieces_written : (D : Doubles) (f : Form) (texts : List ℕ) (values : Values) (behind : Bool) (ps : List Piece)
     → All (IsPiece D f texts values) ps
-    → (ms : Members) × (writes_in_order D f (pairs_of piece_key (value_at values) ps) ≡ Ok ms)
+    → (ms : Members) × (writes_in_turn (writes_in D f) (pairs_of piece_key (value_at values) ps) ≡ Ok ms)
     × (members_text texts behind ps ≡ written.members_text behind ms)
     × PairsInRange (pairs_of piece_key (value_at values) ps)
 pieces_written D f texts values behind [] h = (no_members, refl, refl, tt)
@@ -249,7 +250,7 @@ pieces_written D f texts values behind (p ∷ ps) h =
     let one = quoted k ++ 58 ∷ compact_text text.0 in
     let comma = written.comma_if behind in (
       member k text.0 more.0,
-      ap (λ q. q >>= λ d. writes_in_order D f (pairs_of piece_key (value_at values) ps) >>= λ ms. Ok (member k d ms))
+      ap (λ q. q >>= λ d. writes_in_turn (writes_in D f) (pairs_of piece_key (value_at values) ps) >>= λ ms. Ok (member k d ms))
           text.1 ∙ ap (λ q. q >>= λ ms. Ok (member k text.0 ms)) more.1,
       ap (λ l. comma ++ (l ++ members_text texts true ps)) text.3
           ∙ ap (λ l. comma ++ (one ++ l)) more.2

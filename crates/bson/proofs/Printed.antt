@@ -1,11 +1,13 @@
 -- What ends a list or a map of tokens well from where it was printed to ends it well from its start.
 use Rattle.std.proofs.Common.{◌≡◌, ℕ, None, cond, suc, ◌+◌, ◌-◌, ◌<◌, ◌≤◌, inl, inr, List, [], ◌∷◌, ◌++◌, Result, Ok}
-use Rattle.std.proofs.Common.{Err, Some, slice_get, refl, sym, ap, ◌∙◌, subst, arith}
+use Rattle.std.proofs.Common.{Err, Some, false, slice_get, refl, sym, ap, ◌∙◌, subst, arith}
+use Rattle.std.proofs.lemmas.Bool.{or_from}
 use Rattle.std.proofs.Math.Nat.{eq-or-lt_of_le}
 use Rattle.std.specs.Ordering.{is_eq}
 use Rattle.std.specs.declared.cmp.Ordering.TheVariants.{Less, Equal, Greater}
 use Rattle.std.specs.FinMap.Entries.{find, by_order, put as put_entry}
-use Rattle.std.specs.List.{IsDistinct}
+use Rattle.std.specs.List.{IsDistinct, AllByRecursion}
+use Rattle.std.specs.Str.{bytes_eq}
 use Rattle.json.specs.Token.{Token, end_object, key}
 use Rattle.json.specs.Tree.{items_tokens, members_tokens}
 use Rattle.serde_json.specs.Data.{Data, object, Items, item, Members, member, put}
@@ -18,13 +20,17 @@ use Rattle.bson_wrapper.specs.declared.write_error.WriteError.{WriteError}
 use Rattle.bson_wrapper.specs.declared.write_error.WriteError.TheVariants.{FiniteDouble, OutOfMemory}
 use Rattle.bson_store.specs.Order.{key_cmp, in_order}
 use Rattle.bson_store.specs.Pairs.{keys, HasDistinctKeys}
-use Rattle.bson_model.specs.Value.{Value, code_scope, Values, value, Pairs, pair}
+use Rattle.bson_model.specs.Value.{Value, code_scope, Values, value, Pairs, no_pairs, pair}
 use Rattle.bson_model.specs.Normal.{InRange, PairsInRange}
-use Rattle.bson_model.specs.Writing.{writes_in, writes_items_in, writes_pairs_in, with_scope}
+use Rattle.bson_model.specs.Writing.{with_scope}
+use Rattle.bson_order.specs.Distinct.{has_pair, AllDistinct, PairsDistinct}
 use Rattle.bson_store.proofs.Offered.{find-in_order, lacks}
-use Rattle.bson.specs.Texts.{tokens_of, code_tokens, writes_in_order, KeysAscend}
+use Rattle.bson.specs.KeyOrders.{writes_by, writes_items_by, writes_pairs_by, EachValue}
+use Rattle.bson.specs.Texts.{tokens_of, code_tokens, writes_in_turn, KeysAscend}
 use Rattle.bson.specs.View.{bson_view, pairs_view}
 use Rattle.bson.specs.declared.bson.Bson.{Bson}
+use Rattle.bson.specs.declared.extjson.key_order.KeyOrder.{KeyOrder}
+use Rattle.bson.specs.declared.extjson.key_order.KeyOrder.TheVariants.{Ascending, AsGiven}
 use Rattle.bson.proofs.Onto.{Entry}
 use Rattle.bson.proofs.OntoTree.{bind_same}
 
@@ -33,56 +39,92 @@ use Rattle.bson.proofs.OntoTree.{bind_same}
 abbrev pub EndsItems : Result Items Refusal → List Token → List Token → Type 0
 EndsItems w old end = (ds : Items) × (w ≡ Ok ds) × (end ≡ old ++ items_tokens (items_outline ds))
 
-pub items_more : (D : Doubles) (f : Form) (v : Value) (vs : Values) (old new end : List Token)
-    → ((x : Data) × (writes_in D f v ≡ Ok x) × (new ≡ old ++ tokens_of x)) → EndsItems (writes_items_in D f vs) new end
-    → EndsItems (writes_items_in D f (value v vs)) old end
-items_more D f v vs old new end p q = (
+-- an element before others, whatever writes them
+pub item_more : (a : Result Data Refusal) (r : Result Items Refusal) (old new end : List Token)
+    → ((x : Data) × (a ≡ Ok x) × (new ≡ old ++ tokens_of x)) → EndsItems r new end
+    → EndsItems (a >>= λ d. r >>= λ ds. Ok (item d ds)) old end
+item_more a r old new end p q = (
   item p.0 q.0,
-  ap (λ r. r >>= λ d. writes_items_in D f vs >>= λ ds. Ok (item d ds)) p.1 ∙ ap (λ r. r >>= λ ds. Ok (item p.0 ds)) q.1,
+  ap (λ b. b >>= λ d. r >>= λ ds. Ok (item d ds)) p.1 ∙ ap (λ b. b >>= λ ds. Ok (item p.0 ds)) q.1,
   in_turn old (tokens_of p.0) new (items_tokens (items_outline q.0)) end p.2 q.2,
 )
 
-pub items_here : (D : Doubles) (f : Form) (e : WriteError) (v : Value) (vs : Values) → Stops e (writes_in D f v)
-    → Stops e (writes_items_in D f (value v vs))
-items_here D f OutOfMemory v vs h = tt
-items_here D f FiniteDouble v vs h = ap (λ r. r >>= λ d. writes_items_in D f vs >>= λ ds. Ok (item d ds)) h
+module _ (o : KeyOrder) (D : Doubles) (f : Form) where
+  pub items_more : (v : Value) (vs : Values) (old new end : List Token)
+      → ((x : Data) × (writes_by o D f v ≡ Ok x) × (new ≡ old ++ tokens_of x))
+      → EndsItems (writes_items_by o D f vs) new end → EndsItems (writes_items_by o D f (value v vs)) old end
+  items_more v vs old new end p q = item_more (writes_by o D f v) (writes_items_by o D f vs) old new end p q
 
-pub items_later : (D : Doubles) (f : Form) (e : WriteError) (v : Value) (d : Data) (vs : Values)
-    → writes_in D f v ≡ Ok d
-    → Stops e (writes_items_in D f vs) → Stops e (writes_items_in D f (value v vs))
-items_later D f OutOfMemory v d vs g h = tt
-items_later D f FiniteDouble v d vs g h = ap (λ r. r >>= λ c. writes_items_in D f vs >>= λ ds. Ok (item c ds)) g
-    ∙ ap (λ r. r >>= λ ds. Ok (item d ds)) h
+  pub items_here : (e : WriteError) (v : Value) (vs : Values) → Stops e (writes_by o D f v)
+      → Stops e (writes_items_by o D f (value v vs))
+  items_here OutOfMemory v vs h = tt
+  items_here FiniteDouble v vs h = ap (λ r. r >>= λ d. writes_items_by o D f vs >>= λ ds. Ok (item d ds)) h
 
--- ---- documents whose keys ascend
+  pub items_later : (e : WriteError) (v : Value) (d : Data) (vs : Values) → writes_by o D f v ≡ Ok d
+      → Stops e (writes_items_by o D f vs) → Stops e (writes_items_by o D f (value v vs))
+  items_later OutOfMemory v d vs g h = tt
+  items_later FiniteDouble v d vs g h = ap (λ r. r >>= λ c. writes_items_by o D f vs >>= λ ds. Ok (item c ds)) g
+      ∙ ap (λ r. r >>= λ ds. Ok (item d ds)) h
+
+-- ---- pairs as they stand, each value written by w
 
 abbrev pub EndsMembers : Result Members Refusal → List Token → List Token → Type 0
 EndsMembers w old end = (ms : Members) × (w ≡ Ok ms) × (end ≡ old ++ members_tokens (members_outline ms))
 
-pub members_more : (D : Doubles) (f : Form) (k : List ℕ) (v : Value) (ps : Pairs) (old near new end : List Token)
-    → near ≡ old ++ key k ∷ [] → ((x : Data) × (writes_in D f v ≡ Ok x) × (new ≡ near ++ tokens_of x))
-    → EndsMembers (writes_in_order D f ps) new end
-    → EndsMembers (writes_in_order D f (pair k v ps)) old end
-members_more D f k v ps old near new end n p q = (
-  member k p.0 q.0,
-  ap (λ r. r >>= λ d. writes_in_order D f ps >>= λ ms. Ok (member k d ms)) p.1
-      ∙ ap (λ r. r >>= λ ms. Ok (member k p.0 ms)) q.1,
-  in_turn old (key k ∷ []) near (tokens_of p.0 ++ members_tokens (members_outline q.0)) end n
-      (in_turn near (tokens_of p.0) new (members_tokens (members_outline q.0)) end p.2 q.2),
-)
+module _ (w : Value → Result Data Refusal) where
+  pub members_more : (k : List ℕ) (v : Value) (ps : Pairs) (old near new end : List Token) → near ≡ old ++ key k ∷ []
+      → ((x : Data) × (w v ≡ Ok x) × (new ≡ near ++ tokens_of x))
+      → EndsMembers (writes_in_turn w ps) new end → EndsMembers (writes_in_turn w (pair k v ps)) old end
+  members_more k v ps old near new end n p q = (
+    member k p.0 q.0,
+    ap (λ r. r >>= λ d. writes_in_turn w ps >>= λ ms. Ok (member k d ms)) p.1
+        ∙ ap (λ r. r >>= λ ms. Ok (member k p.0 ms)) q.1,
+    in_turn old (key k ∷ []) near (tokens_of p.0 ++ members_tokens (members_outline q.0)) end n
+        (in_turn near (tokens_of p.0) new (members_tokens (members_outline q.0)) end p.2 q.2),
+  )
 
-pub members_here : (D : Doubles) (f : Form) (e : WriteError) (k : List ℕ) (v : Value) (ps : Pairs)
-    → Stops e (writes_in D f v)
-    → Stops e (writes_in_order D f (pair k v ps))
-members_here D f OutOfMemory k v ps h = tt
-members_here D f FiniteDouble k v ps h = ap (λ r. r >>= λ d. writes_in_order D f ps >>= λ ms. Ok (member k d ms)) h
+  members_here : (e : WriteError) (k : List ℕ) (v : Value) (ps : Pairs) → Stops e (w v)
+      → Stops e (writes_in_turn w (pair k v ps))
+  members_here OutOfMemory k v ps h = tt
+  members_here FiniteDouble k v ps h = ap (λ r. r >>= λ d. writes_in_turn w ps >>= λ ms. Ok (member k d ms)) h
 
-pub members_later : (D : Doubles) (f : Form) (e : WriteError) (k : List ℕ) (v : Value) (d : Data) (ps : Pairs)
-    → writes_in D f v ≡ Ok d
-    → Stops e (writes_in_order D f ps) → Stops e (writes_in_order D f (pair k v ps))
-members_later D f OutOfMemory k v d ps g h = tt
-members_later D f FiniteDouble k v d ps g h = ap (λ r. r >>= λ c. writes_in_order D f ps >>= λ ms. Ok (member k c ms)) g
-    ∙ ap (λ r. r >>= λ ms. Ok (member k d ms)) h
+  members_later : (e : WriteError) (k : List ℕ) (v : Value) (d : Data) (ps : Pairs) → w v ≡ Ok d
+      → Stops e (writes_in_turn w ps) → Stops e (writes_in_turn w (pair k v ps))
+  members_later OutOfMemory k v d ps g h = tt
+  members_later FiniteDouble k v d ps g h = ap (λ r. r >>= λ c. writes_in_turn w ps >>= λ ms. Ok (member k c ms)) g
+      ∙ ap (λ r. r >>= λ ms. Ok (member k d ms)) h
+
+  -- one more pair of what is left
+  module _ (left rest : List Entry) (k : List ℕ) (v : Bson) (here : left ≡ (k, v) ∷ rest) where
+    pub ends_more : (old near new end : List Token) → near ≡ old ++ key k ∷ []
+        → ((x : Data) × (w (bson_view v) ≡ Ok x) × (new ≡ near ++ tokens_of x))
+        → EndsMembers (writes_in_turn w (pairs_view rest)) new end
+        → EndsMembers (writes_in_turn w (pairs_view left)) old end
+    ends_more old near new end n p h =
+        subst (λ (xs : List Entry). EndsMembers (writes_in_turn w (pairs_view xs)) old end) (sym here)
+        (members_more k (bson_view v) (pairs_view rest) old near new end n p h)
+
+    pub stops_here : (e : WriteError) → Stops e (w (bson_view v)) → Stops e (writes_in_turn w (pairs_view left))
+    stops_here e h =
+        subst (λ (xs : List Entry). Stops e (writes_in_turn w (pairs_view xs))) (sym here)
+        (members_here e k (bson_view v) (pairs_view rest) h)
+
+    pub stops_more : (e : WriteError) (d : Data) → w (bson_view v) ≡ Ok d
+        → Stops e (writes_in_turn w (pairs_view rest)) → Stops e (writes_in_turn w (pairs_view left))
+    stops_more e d p h =
+        subst (λ (xs : List Entry). Stops e (writes_in_turn w (pairs_view xs))) (sym here)
+        (members_later e k (bson_view v) d (pairs_view rest) p h)
+
+pub ranged_more : (left rest : List Entry) (k : List ℕ) (v : Bson) → left ≡ (k, v) ∷ rest → InRange (bson_view v)
+    → PairsInRange (pairs_view rest) → PairsInRange (pairs_view left)
+ranged_more left rest k v here r h = subst (λ (xs : List Entry). PairsInRange (pairs_view xs)) (sym here) (r, h)
+
+pub distinct_more : (left rest : List Entry) (k : List ℕ) (v : Bson) → left ≡ (k, v) ∷ rest
+    → AllDistinct (bson_view v) → EachValue AllDistinct (pairs_view rest) → EachValue AllDistinct (pairs_view left)
+distinct_more left rest k v here r h =
+    subst (λ (xs : List Entry). EachValue AllDistinct (pairs_view xs)) (sym here) (r, h)
+
+-- ---- documents whose keys ascend
 
 -- a key that is less than the first one is put first
 pub put_first : (k l : List ℕ) (d : Data) → key_cmp k l ≡ Less → (a : Result Data Refusal) (b : Result Members Refusal)
@@ -91,19 +133,6 @@ pub put_first : (k l : List ℕ) (d : Data) → key_cmp k l ≡ Less → (a : Re
 put_first k l d h (Ok e) (Ok ms) = rw h refl
 put_first k l d h (Ok e) (Err x) = refl
 put_first k l d h (Err x) b = refl
-
--- the map of a document whose keys ascend has its members in the document's order
-pub in_turn_is : (D : Doubles) (f : Form) (xs : List Entry) → KeysAscend (keys xs)
-    → writes_in_order D f (pairs_view xs) ≡ writes_pairs_in D f (pairs_view xs)
-in_turn_is D f [] h = refl
-in_turn_is D f (x ∷ []) h = refl
-in_turn_is D f (x ∷ y ∷ ys) h =
-    let rest = in_turn_is D f (y ∷ ys) (λ i. h (suc i)) in
-    bind_same (writes_in D f (bson_view x.1)) _ _ (λ d.
-    put_first x.0 y.0 d (h 0 x.0 y.0 refl refl) (writes_in D f (bson_view y.1)) (writes_in_order D f (pairs_view ys))
-    ∙ ap (λ r. r >>= λ ms. Ok (put x.0 d ms)) rest)
-
--- ---- documents by ascending key
 
 -- a key that is above the first one goes behind it
 put_later : (k l : List ℕ) → key_cmp k l ≡ Greater → (a b : Result Data Refusal) (r : Result Members Refusal)
@@ -115,86 +144,113 @@ put_later k l h (Ok x) (Err e) r = refl
 put_later k l h (Err finite) (Ok d) r = refl
 put_later k l h (Err finite) (Err finite) r = refl
 
-written_put : (D : Doubles) (f : Form) (k : List ℕ) (v : Bson) (es : List Entry) → find key_cmp k es ≡ None
-    → writes_in_order D f (pairs_view (put_entry key_cmp k v es))
-    ≡ (writes_in D f (bson_view v) >>= λ d. writes_in_order D f (pairs_view es) >>= λ ms. Ok (put k d ms))
-written_put D f k v [] h = refl
-written_put D f k v (e ∷ es) h =
-    let a = writes_in D f (bson_view e.1) in
-    let r = writes_in_order D f (pairs_view es) in
-    elim (key_cmp k e.0) as (λ o. key_cmp k e.0 ≡ o → cond (is_eq o) (Some e.1) (find key_cmp k es) ≡ None
-    → writes_in_order D f (pairs_view (by_order o ((k, v) ∷ e ∷ es) ((e.0, v) ∷ es) (e ∷ put_entry key_cmp k v es)))
-    ≡ (writes_in D f (bson_view v) >>= λ d. (a >>= λ x. r >>= λ ms. Ok (member e.0 x ms)) >>= λ ms. Ok (put k d ms))) [
-      | Less ↦ λ o n. bind_same (writes_in D f (bson_view v)) _ _ (λ d. put_first k e.0 d o a r)
-      | Equal ↦ λ o n. cc
-      | Greater ↦ λ o n. bind_same a _ _ (λ x. ap (λ q. q >>= λ ms. Ok (member e.0 x ms)) (written_put D f k v es n))
-          ∙ put_later k e.0 o a (writes_in D f (bson_view v)) r
-    ] refl h
+module _ (D : Doubles) (f : Form) where
+  -- the map of a document whose keys ascend has its members in the document's order
+  pub in_turn_is : (xs : List Entry) → KeysAscend (keys xs)
+      → writes_in_turn (writes_by Ascending D f) (pairs_view xs) ≡ writes_pairs_by Ascending D f (pairs_view xs)
+  in_turn_is [] h = refl
+  in_turn_is (x ∷ []) h = refl
+  in_turn_is (x ∷ y ∷ ys) h =
+      let rest = in_turn_is (y ∷ ys) (λ i. h (suc i)) in
+      let w : Value → Result Data Refusal = writes_by Ascending D f in
+      bind_same (w (bson_view x.1)) _ _ (λ d.
+      put_first x.0 y.0 d (h 0 x.0 y.0 refl refl) (w (bson_view y.1)) (writes_in_turn w (pairs_view ys))
+      ∙ ap (λ r. r >>= λ ms. Ok (put x.0 d ms)) rest)
 
--- the map of a document has its members by ascending key
-pub by_key_is : (D : Doubles) (f : Form) (ps : List Entry) → HasDistinctKeys ps
-    → writes_in_order D f (pairs_view (in_order ps)) ≡ writes_pairs_in D f (pairs_view ps)
-unfolding IsDistinct
-by_key_is D f [] d = refl
-by_key_is D f (p ∷ ps) d =
-    written_put D f p.0 p.1 (in_order ps) (find-in_order p.0 ps ∙ lacks p.0 ps d.0)
-    ∙ bind_same (writes_in D f (bson_view p.1)) _ _ (λ x. ap (λ r. r >>= λ ms. Ok (put p.0 x ms))
-    (by_key_is D f ps d.1))
+  -- ---- documents by ascending key
 
-ranged_put : (k : List ℕ) (v : Bson) (es : List Entry) → find key_cmp k es ≡ None
-    → PairsInRange (pairs_view (put_entry key_cmp k v es)) → InRange (bson_view v) × PairsInRange (pairs_view es)
-ranged_put k v [] h r = r
-ranged_put k v (e ∷ es) h r =
-    elim (key_cmp k e.0) as (λ o. cond (is_eq o) (Some e.1) (find key_cmp k es) ≡ None
-    → PairsInRange (pairs_view (by_order o ((k, v) ∷ e ∷ es) ((e.0, v) ∷ es) (e ∷ put_entry key_cmp k v es)))
-    → InRange (bson_view v) × (InRange (bson_view e.1) × PairsInRange (pairs_view es))) [
-      | Less ↦ λ n r. r
-      | Equal ↦ λ n r. cc
-      | Greater ↦ λ n r. let rest = ranged_put k v es n r.1 in (rest.0, (r.0, rest.1))
-    ] h r
+  written_put : (k : List ℕ) (v : Bson) (es : List Entry) → find key_cmp k es ≡ None
+      → writes_in_turn (writes_by Ascending D f) (pairs_view (put_entry key_cmp k v es))
+      ≡ (writes_by Ascending D f (bson_view v)
+      >>= λ d. writes_in_turn (writes_by Ascending D f) (pairs_view es) >>= λ ms. Ok (put k d ms))
+  written_put k v [] h = refl
+  written_put k v (e ∷ es) h =
+      let w : Value → Result Data Refusal = writes_by Ascending D f in
+      let a = w (bson_view e.1) in
+      let r = writes_in_turn w (pairs_view es) in
+      elim (key_cmp k e.0) as (λ o. key_cmp k e.0 ≡ o → cond (is_eq o) (Some e.1) (find key_cmp k es) ≡ None
+      → writes_in_turn w (pairs_view (by_order o ((k, v) ∷ e ∷ es) ((e.0, v) ∷ es) (e ∷ put_entry key_cmp k v es)))
+      ≡ (w (bson_view v) >>= λ d. (a >>= λ x. r >>= λ ms. Ok (member e.0 x ms)) >>= λ ms. Ok (put k d ms))) [
+        | Less ↦ λ o n. bind_same (w (bson_view v)) _ _ (λ d. put_first k e.0 d o a r)
+        | Equal ↦ λ o n. cc
+        | Greater ↦ λ o n. bind_same a _ _ (λ x. ap (λ q. q >>= λ ms. Ok (member e.0 x ms)) (written_put k v es n))
+            ∙ put_later k e.0 o a (w (bson_view v)) r
+      ] refl h
+
+  -- the map of a document has its members by ascending key
+  pub by_key_is : (ps : List Entry) → HasDistinctKeys ps
+      → writes_in_turn (writes_by Ascending D f) (pairs_view (in_order ps))
+      ≡ writes_pairs_by Ascending D f (pairs_view ps)
+  unfolding IsDistinct
+  by_key_is [] d = refl
+  by_key_is (p ∷ ps) d =
+      written_put p.0 p.1 (in_order ps) (find-in_order p.0 ps ∙ lacks p.0 ps d.0)
+      ∙ bind_same (writes_by Ascending D f (bson_view p.1)) _ _ (λ x. ap (λ r. r >>= λ ms. Ok (put p.0 x ms))
+      (by_key_is ps d.1))
+
+module _ (P : Value → Type 0) where
+  each_put : (k : List ℕ) (v : Bson) (es : List Entry) → find key_cmp k es ≡ None
+      → EachValue P (pairs_view (put_entry key_cmp k v es)) → P (bson_view v) × EachValue P (pairs_view es)
+  each_put k v [] h r = r
+  each_put k v (e ∷ es) h r =
+      elim (key_cmp k e.0) as (λ o. cond (is_eq o) (Some e.1) (find key_cmp k es) ≡ None
+      → EachValue P (pairs_view (by_order o ((k, v) ∷ e ∷ es) ((e.0, v) ∷ es) (e ∷ put_entry key_cmp k v es)))
+      → P (bson_view v) × (P (bson_view e.1) × EachValue P (pairs_view es))) [
+        | Less ↦ λ n r. r
+        | Equal ↦ λ n r. cc
+        | Greater ↦ λ n r. let rest = each_put k v es n r.1 in (rest.0, (r.0, rest.1))
+      ] h r
+
+  -- what holds of each value by ascending key holds of each
+  pub each_by_key : (ps : List Entry) → HasDistinctKeys ps → EachValue P (pairs_view (in_order ps))
+      → EachValue P (pairs_view ps)
+  unfolding IsDistinct
+  each_by_key [] d r = tt
+  each_by_key (p ∷ ps) d r =
+      let both = each_put p.0 p.1 (in_order ps) (find-in_order p.0 ps ∙ lacks p.0 ps d.0) r in
+      (both.0, each_by_key ps d.1 both.1)
+
+each_ranged : (ps : Pairs) → PairsInRange ps → EachValue InRange ps
+each_ranged no_pairs r = tt
+each_ranged (pair k v ps) r = (r.0, each_ranged ps r.1)
+
+ranged_each : (ps : Pairs) → EachValue InRange ps → PairsInRange ps
+ranged_each no_pairs r = tt
+ranged_each (pair k v ps) r = (r.0, ranged_each ps r.1)
 
 pub ranged_by_key : (ps : List Entry) → HasDistinctKeys ps → PairsInRange (pairs_view (in_order ps))
     → PairsInRange (pairs_view ps)
+ranged_by_key ps d r =
+    ranged_each (pairs_view ps) (each_by_key InRange ps d (each_ranged (pairs_view (in_order ps)) r))
+
+none_has : (k : List ℕ) (ps : List Entry) → AllByRecursion (λ y. bytes_eq k y ≡ false) (keys ps)
+    → has_pair k (pairs_view ps) ≡ false
+none_has k [] h = refl
+none_has k (p ∷ ps) h = or_from (bytes_eq k p.0) (has_pair k (pairs_view ps)) h.0 (none_has k ps h.1)
+
+-- a document has each key once, and so where each of its values does has the whole
+pub distinct_pairs : (ps : List Entry) → HasDistinctKeys ps → EachValue AllDistinct (pairs_view ps)
+    → PairsDistinct (pairs_view ps)
 unfolding IsDistinct
-ranged_by_key [] d r = tt
-ranged_by_key (p ∷ ps) d r =
-    let both = ranged_put p.0 p.1 (in_order ps) (find-in_order p.0 ps ∙ lacks p.0 ps d.0) r in
-    (both.0, ranged_by_key ps d.1 both.1)
+distinct_pairs [] d h = tt
+distinct_pairs (p ∷ ps) d h = (none_has p.0 ps d.0, h.0, distinct_pairs ps d.1 h.1)
 
--- ---- one more pair of what is left
+-- ---- documents in their own order
 
-module _ (left rest : List Entry) (k : List ℕ) (v : Bson) (here : left ≡ (k, v) ∷ rest) where
-  pub ends_more : (D : Doubles) (f : Form) (old near new end : List Token) → near ≡ old ++ key k ∷ []
-      → ((x : Data) × (writes_in D f (bson_view v) ≡ Ok x) × (new ≡ near ++ tokens_of x))
-      → EndsMembers (writes_in_order D f (pairs_view rest)) new end
-      → EndsMembers (writes_in_order D f (pairs_view left)) old end
-  ends_more D f old near new end n p h =
-      subst (λ (xs : List Entry). EndsMembers (writes_in_order D f (pairs_view xs)) old end) (sym here)
-      (members_more D f k (bson_view v) (pairs_view rest) old near new end n p h)
-
-  pub stops_here : (D : Doubles) (f : Form) (e : WriteError) → Stops e (writes_in D f (bson_view v))
-      → Stops e (writes_in_order D f (pairs_view left))
-  stops_here D f e h =
-      subst (λ (xs : List Entry). Stops e (writes_in_order D f (pairs_view xs))) (sym here)
-      (members_here D f e k (bson_view v) (pairs_view rest) h)
-
-  pub stops_more : (D : Doubles) (f : Form) (e : WriteError) (d : Data) → writes_in D f (bson_view v) ≡ Ok d
-      → Stops e (writes_in_order D f (pairs_view rest)) → Stops e (writes_in_order D f (pairs_view left))
-  stops_more D f e d p h =
-      subst (λ (xs : List Entry). Stops e (writes_in_order D f (pairs_view xs))) (sym here)
-      (members_later D f e k (bson_view v) d (pairs_view rest) p h)
-
-  pub ranged_more : InRange (bson_view v) → PairsInRange (pairs_view rest) → PairsInRange (pairs_view left)
-  ranged_more r h = subst (λ (xs : List Entry). PairsInRange (pairs_view xs)) (sym here) (r, h)
+pub given_in_turn_is : (D : Doubles) (f : Form) (ps : Pairs)
+    → writes_in_turn (writes_by AsGiven D f) ps ≡ writes_pairs_by AsGiven D f ps
+given_in_turn_is D f no_pairs = refl
+given_in_turn_is D f (pair k v ps) =
+    bind_same (writes_by AsGiven D f v) _ _ (λ d. ap (λ r. r >>= λ ms. Ok (member k d ms)) (given_in_turn_is D f ps))
 
 -- ---- code with a scope
 
-pub scoped : (D : Doubles) (f : Form) (s : List ℕ) (ps : Pairs) (old mid near new : List Token)
+pub scoped : (o : KeyOrder) (D : Doubles) (f : Form) (s : List ℕ) (ps : Pairs) (old mid near new : List Token)
     → mid ≡ old ++ code_tokens s
-    → ((x : Members) × (writes_pairs_in D f ps ≡ Ok x) × (near ≡ mid ++ tokens_of (object x)))
+    → ((x : Members) × (writes_pairs_by o D f ps ≡ Ok x) × (near ≡ mid ++ tokens_of (object x)))
     → new ≡ near ++ end_object ∷ []
-    → (t : Data) × (writes_in D f (code_scope s ps) ≡ Ok t) × (new ≡ old ++ tokens_of t)
-scoped D f s ps old mid near new m p n = (
+    → (t : Data) × (writes_by o D f (code_scope s ps) ≡ Ok t) × (new ≡ old ++ tokens_of t)
+scoped o D f s ps old mid near new m p n = (
   _,
   ap (λ r. r >>= λ ms. Ok (with_scope s ms)) p.1,
   in_turn old (code_tokens s) mid (tokens_of (object p.0) ++ end_object ∷ []) new m

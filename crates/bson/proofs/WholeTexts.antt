@@ -1,5 +1,6 @@
 -- What the text of a value's tree is.
 use Rattle.std.proofs.Common.{◌≡◌, true, false, Result, Ok, Err, String, Global, string_bytes, sym, ap, ◌∙◌}
+use Rattle.std.proofs.Common.{subst}
 use Rattle.std.specs.Prelude.{is_ok, IfOk, OnOk}
 use Rattle.bson_wrapper.specs.declared.form.Doubles.{Doubles}
 use Rattle.bson_wrapper.specs.declared.form.Form.{Form}
@@ -9,7 +10,14 @@ use Rattle.bson_model.specs.Value.{Value}
 use Rattle.bson_model.specs.Normal.{writable_in, InRange}
 use Rattle.bson_model.specs.Writing.{writes_in}
 use Rattle.bson_model.proofs.Offered.{has_text_in, tree_is_in, writable_from_in, writable_is_in}
+use Rattle.bson.specs.KeyOrders.{writes_by}
 use Rattle.bson.specs.Texts.{GivesText, IsTextUnder}
+use Rattle.bson.specs.declared.extjson.key_order.KeyOrder.TheVariants.{Ascending}
+use Rattle.bson.proofs.KeyOrders.{ascending_is}
+
+pub text_by_default : (D : Doubles) (f : Form) (v : Value) (r : Result (String Global) WriteError)
+    → GivesText r (writes_by Ascending D f v) → GivesText r (writes_in D f v)
+text_by_default D f v r g = subst (λ w. GivesText r w) (ascending_is D f v) g
 
 pub text_is : (D : Doubles) (f : Form) (v : Value) (r : Result (String Global) WriteError)
     → GivesText r (writes_in D f v)

@@ -1,5 +1,5 @@
 -- Texts of values, which are written with no tree.
-use Rattle.std.specs.Prelude.{◌≡◌, ℕ, suc, ◌++◌, List, Result, Ok, Err, Some, String, string_bytes}
+use Rattle.std.specs.Prelude.{◌≡◌, ℕ, suc, ◌++◌, List, true, Result, Ok, Err, Some, String, string_bytes}
 use Rattle.std.specs.Prelude.{slice_get}
 use Rattle.std.specs.declared.alloc.Global.{Global}
 use Rattle.std.specs.declared.cmp.Ordering.TheVariants.{Less}
@@ -17,8 +17,11 @@ use Rattle.bson_store.specs.Order.{key_cmp}
 use Rattle.bson_model.specs.Texts.{ReadsAgainIn}
 use Rattle.bson_model.specs.Value.{Value, Pairs, no_pairs, pair}
 use Rattle.bson_model.specs.Writing.{writes_in}
-use Rattle.bson_model.specs.Normal.{InRange}
+use Rattle.bson_model.specs.Normal.{InRange, normal_form, plain}
 use Rattle.bson_model.specs.Laws.{IsTreeOfIn}
+use Rattle.bson_order.specs.Kept.{unordered}
+use Rattle.bson_order.specs.Texts.{IsOrderedTextOf}
+use Rattle.bson_order.specs.Written.{WrittenInOrder}
 
 -- the compact text of the value's tree in the form
 pub record IsTextUnder (D : Doubles) (f : Form) (v : Value) (text : List ℕ) : Type 0 where
@@ -29,6 +32,18 @@ pub record IsTextUnder (D : Doubles) (f : Form) (v : Value) (text : List ℕ) : 
 
 abbrev pub IsTextIn : Form → Value → List ℕ → Type 0
 IsTextIn = IsTextUnder Special
+
+-- the compact text of the value's tree in its own order in the form
+pub record IsTextInOrder (D : Doubles) (f : Form) (v : Value) (text : List ℕ) : Type 0 where
+  pub tree : Data
+  -- the grammar's tree of the normal form, its keys in the value's order, and its only one
+  pub written : WrittenInOrder D f (normal_form v) tree
+  pub one : (u : Data) → WrittenInOrder D f (normal_form v) u → u ≡ tree
+  -- of a plain value it is read again, order included, and no other value has its text
+  pub ordered : plain v ≡ true → IsOrderedTextOf D f v tree
+  -- with the order forgotten it is the tree that is written by default
+  pub by_default : IsTreeOfIn D f v (unordered tree)
+  pub compact : text ≡ compact_text tree
 
 -- ---- for private clauses
 
@@ -50,10 +65,10 @@ MayStop D OutOfMemory = Unit {0}
 MayStop Special FiniteDouble = Unit {0}
 MayStop Finite FiniteDouble = ⊥
 
--- the map of a document whose keys ascend
-abbrev pub writes_in_order : Doubles → Form → Pairs → Result Members Refusal
-writes_in_order D f no_pairs = Ok no_members
-writes_in_order D f (pair k v ps) = writes_in D f v >>= λ d. writes_in_order D f ps >>= λ ms. Ok (member k d ms)
+-- the members of pairs as they stand, where each value is written by w
+abbrev pub writes_in_turn : (Value → Result Data Refusal) → Pairs → Result Members Refusal
+writes_in_turn w no_pairs = Ok no_members
+writes_in_turn w (pair k v ps) = w v >>= λ d. writes_in_turn w ps >>= λ ms. Ok (member k d ms)
 
 -- each key is less than the next
 abbrev pub KeysAscend : List (List ℕ) → Type 0

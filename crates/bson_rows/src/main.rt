@@ -22,6 +22,7 @@ mod getters;
 mod held;
 mod ids;
 mod kinds;
+mod ordered;
 mod row;
 mod small_kinds;
 mod steps;

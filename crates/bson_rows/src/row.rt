@@ -4,7 +4,7 @@ use crate::stop::Outcome;
 use crate::words::cut;
 use crate::{
     binaries, bytes, conversions, dates, decimals, documents, doubles, errors, extended_json,
-    finite, getters, ids, kinds, small_kinds, stores, tables, texts, vectors,
+    finite, getters, ids, kinds, ordered, small_kinds, stores, tables, texts, vectors,
 };
 use std::alloc::Global;
 
@@ -32,6 +32,7 @@ fn called(alloc: Global, row: &str, out: &mut Answer) -> Outcome {
         "canonical" | "relaxed" | "show" => extended_json::call(alloc, name, rest, out),
         "map" => extended_json::map(alloc, rest, out),
         "finite" => finite::call(alloc, rest, out),
+        "in_order" => ordered::call(alloc, rest, out),
         "pretty" => extended_json::pretty(alloc, rest, out),
         "kind" => kinds::call(alloc, rest, out),
         "get" => getters::call(alloc, rest, out),

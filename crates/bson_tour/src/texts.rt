@@ -1,7 +1,7 @@
 //! Extended JSON, from trees and texts, and why they mean nothing.
-use bson::Bson;
 use bson::extjson::convert::Converted;
 use bson::extjson::{Doubles, Form, Options};
+use bson::{Bson, Document};
 use bson_place::walk::place_of_fault;
 use serde_json::Value;
 use std::alloc::Global;
@@ -11,6 +11,7 @@ pub(crate) fn print(rt: &impl Print, alloc: Global) -> anyhow::Result<()> {
     write_error(rt, alloc)?;
     options(rt, alloc)?;
     to_text_with_call(rt, alloc)?;
+    to_text_in_order_call(rt, alloc)?;
     try_from_text_call(rt, alloc)?;
     try_from_text_with_call(rt, alloc)?;
     text_error(rt, alloc)?;
@@ -56,6 +57,18 @@ fn to_text_with_call(rt: &impl Print, alloc: Global) -> anyhow::Result<()> {
     let price = Bson::Double(0x4029_0000_0000_0000);
     println!(rt; "{}", price.to_text_with(alloc, options, Form::Relaxed)?)?;
     // {"$numberDouble":"12.5"}
+    Ok(())
+}
+
+fn to_text_in_order_call(rt: &impl Print, alloc: Global) -> anyhow::Result<()> {
+    let orders = Bson::string(alloc, "orders")?;
+    let mut command = Document::new(alloc);
+    drop(command.insert(String::from_str(alloc, "find")?, orders)?);
+    drop(command.insert(String::from_str(alloc, "batchSize")?, Bson::Int32(10))?);
+    let command = Bson::Document(command);
+    let text = command.to_text_in_order(alloc, Options::default(), Form::Relaxed)?;
+    println!(rt; "{text}")?; // {"find":"orders","batchSize":10}
+    println!(rt; "{}", command.to_relaxed_text(alloc)?)?; // {"batchSize":10,"find":"orders"}
     Ok(())
 }
 

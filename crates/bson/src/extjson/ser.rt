@@ -11,6 +11,7 @@ ghost use Rattle.bson.specs.Texts.{IsTextIn, IsTextUnder, MayStop};
 ghost use Rattle.bson.specs.View.{bson_view};
 
 use crate::bson::Bson;
+use crate::extjson::key_order::KeyOrder;
 use crate::extjson::options::Options;
 use crate::extjson::text::text_of;
 use crate::extjson::write::write;
@@ -193,6 +194,6 @@ impl Bson {
         ensures finite { result ≡ Err WriteError.FiniteDouble → writable_in doubles (bson_view self.now) ≡ false }
         ensures every { IfErr result (MayStop doubles) }
     {
-        text_of(alloc, doubles, form, self)
+        text_of(alloc, doubles, KeyOrder::Ascending, form, self)
     }
 }

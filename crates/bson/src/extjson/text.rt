@@ -3,15 +3,19 @@ ghost use Rattle.std.specs.Prelude.{◌≡◌, [], IfErr, OnOk, true, string_byt
 ghost use Rattle.json.specs.Print.{print as print_tokens};
 ghost use Rattle.serde_json.specs.Data.{array, object};
 ghost use Rattle.bson_model.specs.Normal.{InRange, ItemsInRange, PairsInRange, writable_in};
-ghost use Rattle.bson_model.specs.Writing.{writes_in, writes_items_in, writes_pairs_in};
+ghost use Rattle.bson_model.specs.Writing.{writes_in};
+ghost use Rattle.bson_order.specs.Distinct.{AllDistinct, ItemsDistinct, PairsDistinct};
 ghost use Rattle.bson_store.specs.Order.{in_order};
 ghost use Rattle.bson_store.specs.Pairs.{keys, HasDistinctKeys};
+ghost use Rattle.bson.specs.KeyOrders.{writes_by, writes_items_by, writes_pairs_by, EachValue};
 ghost use Rattle.bson.specs.Texts.{Prints, GivesText, IsPrinted, MayStop};
-ghost use Rattle.bson.specs.Texts.{writes_in_order, KeysAscend};
+ghost use Rattle.bson.specs.Texts.{writes_in_turn, KeysAscend};
 ghost use Rattle.bson.specs.View.{bson_view, scoped_view, values_view, pairs_view};
+ghost use Rattle.bson.specs.declared.extjson.key_order.KeyOrder.TheVariants.{Ascending};
 
 use crate::bson::{Bson, JavaScriptCodeWithScope};
 use crate::document::Document;
+use crate::extjson::key_order::KeyOrder;
 use crate::extjson::scalars::can_be_written;
 use crate::scalar::scalar_ref;
 use bson_store::{PairStore, SmallPairs};
@@ -26,15 +30,17 @@ use std::alloc::{AllocError, Global};
 pub(crate) fn text_of(
     alloc: Global,
     doubles: Doubles,
+    order: KeyOrder,
     form: Form,
     value: &Bson,
 ) -> Result<String, WriteError>
-    ensures written { GivesText result (writes_in doubles form (bson_view value.now)) }
+    ensures written { GivesText result (writes_by order doubles form (bson_view value.now)) }
     ensures ranged { OnOk result (InRange (bson_view value.now)) }
+    ensures distinct { OnOk result (AllDistinct (bson_view value.now)) }
     ensures every { IfErr result (MayStop doubles) }
 {
     let mut out = Writer::new(Vec::with_capacity(alloc, 128)?);
-    print(alloc, doubles, form, value, &mut out)?;
+    print(alloc, doubles, order, form, value, &mut out)?;
     Ok(finished(out))
 }
 
@@ -82,7 +88,7 @@ fn print_owned(
 {
     match value {
         Bson::Binary(binary) => print_scalar_in(alloc, doubles, form, Scalar::Binary(binary), out),
-        value => print(alloc, doubles, form, &value, out),
+        value => print(alloc, doubles, KeyOrder::Ascending, form, &value, out),
     }
 }
 
@@ -90,20 +96,24 @@ fn print_owned(
 fn print(
     alloc: Global,
     doubles: Doubles,
+    order: KeyOrder,
     form: Form,
     value: &Bson,
     out: &mut Writer,
 ) -> Result<(), WriteError>
-    ensures printed { Prints (λ t. t) result (writes_in doubles form (bson_view value.now)) out.old.tokens
+    ensures printed { Prints (λ t. t) result (writes_by order doubles form (bson_view value.now)) out.old.tokens
         out.new.tokens }
     ensures before { out.new.before ≡ out.old.before }
     ensures ranged { OnOk result (InRange (bson_view value.now)) }
+    ensures distinct { OnOk result (AllDistinct (bson_view value.now)) }
     ensures every { IfErr result (MayStop doubles) }
 {
     match value {
-        Bson::Array(values) => print_items(alloc, doubles, form, values, out),
-        Bson::Document(document) => print_document(alloc, doubles, form, document, out),
-        Bson::JavaScriptCodeWithScope(scoped) => print_scoped(alloc, doubles, form, scoped, out),
+        Bson::Array(values) => print_items(alloc, doubles, order, form, values, out),
+        Bson::Document(document) => print_document(alloc, doubles, order, form, document, out),
+        Bson::JavaScriptCodeWithScope(scoped) => print_scoped(
+            alloc, doubles, order, form, scoped, out,
+        ),
         // (these two are written from where they are: no other scalar has large memory of its own)
         Bson::String(text) => Ok(out.string(text.as_str())?),
         Bson::Binary(binary) => Ok(put_binary(alloc, binary, out)?),
@@ -119,19 +129,21 @@ fn print(
 fn print_items(
     alloc: Global,
     doubles: Doubles,
+    order: KeyOrder,
     form: Form,
     values: &Vec<Bson>,
     out: &mut Writer,
 ) -> Result<(), WriteError>
-    ensures printed { Prints array result (writes_items_in doubles form (values_view values.now.items)) out.old.tokens
-        out.new.tokens }
+    ensures printed { Prints array result (writes_items_by order doubles form (values_view values.now.items))
+        out.old.tokens out.new.tokens }
     ensures before { out.new.before ≡ out.old.before }
     ensures ranged { OnOk result (ItemsInRange (values_view values.now.items)) }
+    ensures distinct { OnOk result (ItemsDistinct (values_view values.now.items)) }
     ensures every { IfErr result (MayStop doubles) }
 {
     out.begin_array()?;
     for item in values {
-        print(alloc, doubles, form, item, out)?;
+        print(alloc, doubles, order, form, item, out)?;
     }
     Ok(out.end_array()?)
 }
@@ -140,40 +152,49 @@ fn print_items(
 fn print_scoped(
     alloc: Global,
     doubles: Doubles,
+    order: KeyOrder,
     form: Form,
     scoped: &JavaScriptCodeWithScope,
     out: &mut Writer,
 ) -> Result<(), WriteError>
-    ensures printed { Prints (λ t. t) result (writes_in doubles form (scoped_view scoped.now)) out.old.tokens
+    ensures printed { Prints (λ t. t) result (writes_by order doubles form (scoped_view scoped.now)) out.old.tokens
         out.new.tokens }
     ensures before { out.new.before ≡ out.old.before }
     ensures ranged { OnOk result (InRange (scoped_view scoped.now)) }
+    ensures distinct { OnOk result (AllDistinct (scoped_view scoped.now)) }
     ensures every { IfErr result (MayStop doubles) }
 {
     put_code(scoped.code.as_str(), out)?;
-    print_document(alloc, doubles, form, &scoped.scope, out)?;
+    print_document(alloc, doubles, order, form, &scoped.scope, out)?;
     Ok(out.end_object()?)
 }
 
-// A document whose keys ascend is printed as it stands, and any other by ascending key.
+// By ascending key a document whose keys ascend is printed as it stands too.
 #[cycle(print)]
 fn print_document(
     alloc: Global,
     doubles: Doubles,
+    order: KeyOrder,
     form: Form,
     document: &Document,
     out: &mut Writer,
 ) -> Result<(), WriteError>
-    ensures printed { Prints object result (writes_pairs_in doubles form (pairs_view document.now.pairs)) out.old.tokens
-        out.new.tokens }
+    ensures printed { Prints object result (writes_pairs_by order doubles form (pairs_view document.now.pairs))
+        out.old.tokens out.new.tokens }
     ensures before { out.new.before ≡ out.old.before }
     ensures ranged { OnOk result (PairsInRange (pairs_view document.now.pairs)) }
+    ensures distinct { OnOk result (PairsDistinct (pairs_view document.now.pairs)) }
     ensures every { IfErr result (MayStop doubles) }
 {
-    if ascends(&document.pairs) {
-        print_in_turn(alloc, doubles, form, document, out)
-    } else {
-        print_by_key(alloc, doubles, form, document, out)
+    match order {
+        KeyOrder::AsGiven => print_in_turn(alloc, doubles, KeyOrder::AsGiven, form, document, out),
+        KeyOrder::Ascending => {
+            if ascends(&document.pairs) {
+                print_in_turn(alloc, doubles, KeyOrder::Ascending, form, document, out)
+            } else {
+                print_by_key(alloc, doubles, form, document, out)
+            }
+        }
     }
 }
 
@@ -181,20 +202,22 @@ fn print_document(
 fn print_in_turn(
     alloc: Global,
     doubles: Doubles,
+    order: KeyOrder,
     form: Form,
     document: &Document,
     out: &mut Writer,
 ) -> Result<(), WriteError>
-    ensures printed { Prints object result (writes_in_order doubles form (pairs_view document.now.pairs)) out.old.tokens
-        out.new.tokens }
+    ensures printed { Prints object result (writes_in_turn (writes_by order doubles form)
+        (pairs_view document.now.pairs)) out.old.tokens out.new.tokens }
     ensures before { out.new.before ≡ out.old.before }
     ensures ranged { OnOk result (PairsInRange (pairs_view document.now.pairs)) }
+    ensures distinct { OnOk result (PairsDistinct (pairs_view document.now.pairs)) }
     ensures every { IfErr result (MayStop doubles) }
 {
     out.begin_object()?;
     for i in 0..document.pairs.len() {
         out.key(document.pairs.key_at(i).as_str())?;
-        print(alloc, doubles, form, document.pairs.value_at(i), out)?;
+        print(alloc, doubles, order, form, document.pairs.value_at(i), out)?;
     }
     Ok(out.end_object()?)
 }
@@ -207,10 +230,11 @@ fn print_by_key(
     document: &Document,
     out: &mut Writer,
 ) -> Result<(), WriteError>
-    ensures printed { Prints object result (writes_in_order doubles form (pairs_view (in_order document.now.pairs)))
-        out.old.tokens out.new.tokens }
+    ensures printed { Prints object result (writes_in_turn (writes_by Ascending doubles form)
+        (pairs_view (in_order document.now.pairs))) out.old.tokens out.new.tokens }
     ensures before { out.new.before ≡ out.old.before }
     ensures ranged { OnOk result (PairsInRange (pairs_view (in_order document.now.pairs))) }
+    ensures distinct { OnOk result (EachValue AllDistinct (pairs_view (in_order document.now.pairs))) }
     ensures every { IfErr result (MayStop doubles) }
 {
     out.begin_object()?;
@@ -218,7 +242,14 @@ fn print_by_key(
     while let Some(i) = document.pairs.next_above(last) {
         let key = document.pairs.key_at(i);
         out.key(key.as_str())?;
-        print(alloc, doubles, form, document.pairs.value_at(i), out)?;
+        print(
+            alloc,
+            doubles,
+            KeyOrder::Ascending,
+            form,
+            document.pairs.value_at(i),
+            out,
+        )?;
         last = Some(key);
     }
     Ok(out.end_object()?)

@@ -1,0 +1,64 @@
+-- What the text of a value's tree in its own order is.
+use Rattle.std.proofs.Common.{◌≡◌, true, false, Result, Ok, Err, String, Global, string_bytes, refl, sym, ap, ◌∙◌, subst}
+use Rattle.std.specs.Prelude.{is_ok, IfOk, OnOk}
+use Rattle.serde_json.specs.Data.{Data}
+use Rattle.bson_wrapper.specs.Written.{Refusal}
+use Rattle.bson_wrapper.specs.declared.form.Doubles.{Doubles}
+use Rattle.bson_wrapper.specs.declared.form.Form.{Form}
+use Rattle.bson_wrapper.specs.declared.write_error.WriteError.{WriteError}
+use Rattle.bson_wrapper.specs.declared.write_error.WriteError.TheVariants.{FiniteDouble, OutOfMemory}
+use Rattle.bson_model.specs.Laws.{IsTreeOfIn}
+use Rattle.bson_model.specs.Normal.{writable_in, normal_form, InRange}
+use Rattle.bson_model.specs.Value.{Value}
+use Rattle.bson_model.specs.Writing.{writes_in}
+use Rattle.bson_model.proofs.Offered.{tree_is_in, writable_is_in}
+use Rattle.bson_order.specs.Distinct.{AllDistinct}
+use Rattle.bson_order.specs.Kept.{unordered}
+use Rattle.bson_order.specs.Written.{WrittenInOrder}
+use Rattle.bson_order.proofs.Offered.{default_written, one_written, ordered_text, written_from, writable_is}
+use Rattle.bson.specs.KeyOrders.{writes_by}
+use Rattle.bson.specs.Texts.{GivesText, IsTextInOrder}
+use Rattle.bson.specs.declared.extjson.key_order.KeyOrder.TheVariants.{AsGiven}
+use Rattle.bson.proofs.KeyOrders.{as_given_is}
+
+module _ (D : Doubles) (f : Form) (v : Value) where
+  is_writable : (t : Data) → writes_by AsGiven D f v ≡ Ok t → writable_in D v ≡ true
+  is_writable t h = sym (writable_is D f v) ∙ ap is_ok (sym (as_given_is D f v) ∙ h)
+
+  written_by_default : (r : Result Data Refusal) → r ≡ writes_in D f v → is_ok r ≡ true
+      → (u : Data) × (writes_in D f v ≡ Ok u)
+  written_by_default (Ok u) h ok = (u, sym h)
+  written_by_default (Err e) h ok = cc
+
+  -- with the order forgotten the tree is that of the writers by default
+  default_tree : (t : Data) → WrittenInOrder D f (normal_form v) t → writable_in D v ≡ true → InRange v
+      → IsTreeOfIn D f v (unordered t)
+  default_tree t h w ranged =
+      let it = written_by_default (writes_in D f v) refl (writable_is_in D f v ∙ w) in
+      let is = tree_is_in D f v it.0 it.1 ranged in
+      subst (IsTreeOfIn D f v) (sym (is.one (unordered t) (default_written D f v t h ranged))) is
+
+  pub ordered_is : (r : Result (String Global) WriteError) → GivesText r (writes_by AsGiven D f v) → OnOk r (InRange v)
+      → OnOk r (AllDistinct v) → IfOk r (λ s. IsTextInOrder D f v (string_bytes s))
+  ordered_is (Ok s) g ranged distinct =
+      let h = written_from D f v g.0 (sym (as_given_is D f v) ∙ g.1) in
+      record {
+        tree = g.0;
+        written = h;
+        one = λ u other. one_written D f v g.0 u h other;
+        ordered = λ plain. ordered_text D f v g.0 h plain ranged distinct;
+        by_default = default_tree g.0 h (is_writable g.0 g.1) ranged;
+        compact = g.2;
+      }
+  ordered_is (Err e) g ranged distinct = tt
+
+  pub ordered_writable : (r : Result (String Global) WriteError) → GivesText r (writes_by AsGiven D f v)
+      → OnOk r (writable_in D v ≡ true)
+  ordered_writable (Ok s) g = is_writable g.0 g.1
+  ordered_writable (Err e) g = tt
+
+  pub ordered_finite : (r : Result (String Global) WriteError) → GivesText r (writes_by AsGiven D f v)
+      → r ≡ Err FiniteDouble → writable_in D v ≡ false
+  ordered_finite (Ok s) g e = cc
+  ordered_finite (Err OutOfMemory) g e = cc
+  ordered_finite (Err FiniteDouble) g e = sym (writable_is D f v) ∙ ap is_ok (sym (as_given_is D f v) ∙ g)

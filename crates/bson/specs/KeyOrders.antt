@@ -1,0 +1,39 @@
+-- What a value is written as in either order of keys, as functions for private clauses: `writes_in` where keys ascend,
+-- and `writes_in_order` of `bson_order` where they are as given.
+use Rattle.std.specs.Prelude.{ℕ, List, Result, Ok}
+use Rattle.serde_json.specs.Data.{Data, Items, no_items, item, Members, no_members, member, put}
+use Rattle.serde_json.specs.Data as tree
+use Rattle.bson_wrapper.specs.Written.{writes_scalar_in, Refusal, ◌>>=◌}
+use Rattle.bson_wrapper.specs.declared.form.Doubles.{Doubles}
+use Rattle.bson_wrapper.specs.declared.form.Form.{Form}
+use Rattle.bson_model.specs.Value.{Value, scalar, code_scope, array, document, Values, no_values, value, Pairs}
+use Rattle.bson_model.specs.Value.{no_pairs, pair}
+use Rattle.bson_model.specs.Writing.{with_scope}
+use Rattle.bson.specs.declared.extjson.key_order.KeyOrder.{KeyOrder}
+use Rattle.bson.specs.declared.extjson.key_order.KeyOrder.TheVariants.{Ascending, AsGiven}
+
+-- where a member goes among those of the pairs behind it: here alone the orders differ
+abbrev pub put_by : KeyOrder → List ℕ → Data → Members → Members
+put_by Ascending k d ms = put k d ms
+put_by AsGiven k d ms = member k d ms
+
+abbrev mutual
+  pub writes_by : KeyOrder → Doubles → Form → Value → Result Data Refusal
+  writes_by o D f (scalar x) = writes_scalar_in D f x
+  writes_by o D f (code_scope s ps) = writes_pairs_by o D f ps >>= λ ms. Ok (with_scope s ms)
+  writes_by o D f (array vs) = writes_items_by o D f vs >>= λ ds. Ok (tree.array ds)
+  writes_by o D f (document ps) = writes_pairs_by o D f ps >>= λ ms. Ok (tree.object ms)
+
+  pub writes_items_by : KeyOrder → Doubles → Form → Values → Result Items Refusal
+  writes_items_by o D f no_values = Ok no_items
+  writes_items_by o D f (value v vs) = writes_by o D f v >>= λ d. writes_items_by o D f vs >>= λ ds. Ok (item d ds)
+
+  pub writes_pairs_by : KeyOrder → Doubles → Form → Pairs → Result Members Refusal
+  writes_pairs_by o D f no_pairs = Ok no_members
+  writes_pairs_by o D f (pair k v ps) =
+      writes_by o D f v >>= λ d. writes_pairs_by o D f ps >>= λ ms. Ok (put_by o k d ms)
+
+-- each value of the pairs is so
+abbrev pub EachValue : (Value → Type 0) → Pairs → Type 0
+EachValue P no_pairs = Unit {0}
+EachValue P (pair k v ps) = P v × EachValue P ps

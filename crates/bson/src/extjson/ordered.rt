@@ -1,0 +1,71 @@
+//! Texts in the order that each document has its keys in.
+ghost use Rattle.std.specs.Prelude.{◌≡◌, IfOk, OnOk, Err, true, false, string_bytes};
+ghost use Rattle.bson_wrapper.specs.declared.form.Doubles.TheVariants.{Finite};
+ghost use Rattle.bson_wrapper.specs.declared.write_error.WriteError.{WriteError};
+ghost use Rattle.bson_model.specs.Normal.{InRange, writable_in};
+ghost use Rattle.bson_order.specs.Distinct.{AllDistinct};
+ghost use Rattle.bson.specs.Texts.{IsTextInOrder};
+ghost use Rattle.bson.specs.View.{bson_view};
+
+use crate::bson::Bson;
+use crate::extjson::key_order::KeyOrder;
+use crate::extjson::options::Options;
+use crate::extjson::text::text_of;
+use bson_wrapper::form::Form;
+use bson_wrapper::write_error::WriteError;
+use std::alloc::Global;
+
+impl Bson {
+    /// The compact text of the value in a form (MongoDB Extended JSON v2), in which each document
+    /// has its keys in its own order, at every depth.
+    ///
+    /// With the order forgotten it is the tree that [`Bson::into_extjson_with`] makes, whose keys
+    /// ascend. Inside a wrapper the order is the form's own, as `$code` before `$scope`; a scope is
+    /// a document, and keeps its order. A value that holds a finite double other than zero, at any
+    /// depth, is refused as `FiniteDouble`, unless the options say `Doubles::Finite`, and want of
+    /// memory is `OutOfMemory`.
+    ///
+    /// ```
+    /// let orders = Bson::string(alloc, "orders")?;
+    /// let mut command = Document::new(alloc);
+    /// drop(command.insert(String::from_str(alloc, "find")?, orders)?);
+    /// drop(command.insert(String::from_str(alloc, "batchSize")?, Bson::Int32(10))?);
+    /// let command = Bson::Document(command);
+    /// let text = command.to_text_in_order(alloc, Options::default(), Form::Relaxed)?;
+    /// println!(rt; "{text}")?; // {"find":"orders","batchSize":10}
+    /// println!(rt; "{}", command.to_relaxed_text(alloc)?)?; // {"batchSize":10,"find":"orders"}
+    /// ```
+    pub fn to_text_in_order(
+        &self,
+        alloc: Global,
+        options: Options,
+        form: Form,
+    ) -> Result<String, WriteError>
+        ensures text { IfOk result (λ s. IsTextInOrder options.doubles form (bson_view self.now) (string_bytes s)) }
+        ensures ranged { OnOk result (InRange (bson_view self.now)) }
+        ensures distinct { OnOk result (AllDistinct (bson_view self.now)) }
+        ensures writable { OnOk result (writable_in options.doubles (bson_view self.now) ≡ true) }
+        ensures finite { result ≡ Err WriteError.FiniteDouble
+            → writable_in options.doubles (bson_view self.now) ≡ false }
+        ensures every { options.doubles ≡ Finite → result ≡ Err WriteError.FiniteDouble → ⊥ }
+    {
+        text_of(alloc, options.doubles, KeyOrder::AsGiven, form, self)
+    }
+
+    /// [`Bson::to_text_in_order`] of a value that is then dropped.
+    pub fn into_text_in_order(
+        self,
+        alloc: Global,
+        options: Options,
+        form: Form,
+    ) -> Result<String, WriteError>
+        ensures text { IfOk result (λ s. IsTextInOrder options.doubles form (bson_view self) (string_bytes s)) }
+        ensures ranged { OnOk result (InRange (bson_view self)) }
+        ensures distinct { OnOk result (AllDistinct (bson_view self)) }
+        ensures writable { OnOk result (writable_in options.doubles (bson_view self) ≡ true) }
+        ensures finite { result ≡ Err WriteError.FiniteDouble → writable_in options.doubles (bson_view self) ≡ false }
+        ensures every { options.doubles ≡ Finite → result ≡ Err WriteError.FiniteDouble → ⊥ }
+    {
+        self.to_text_in_order(alloc, options, form)
+    }
+}
