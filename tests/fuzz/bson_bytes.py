@@ -5,7 +5,8 @@ its 16 bytes, an object id its 12, and that the pairs of a document stand as the
 first place with its last value. The keys of an array are dropped.
 
 Of the faults the first from the left counts; a length is held to its part once that is read, and a text ends before its
-bytes are looked at.
+bytes are looked at. Where keys are to stand once, a key that came before in its document or scope is a fault as soon as
+it is read, before its value.
 """
 import struct
 
@@ -25,10 +26,11 @@ class Fault(Exception):
 
 
 class Reader:
-    """Reads a document from the front of bytes."""
+    """Reads a document from the front of bytes, in which a key may stand twice or not."""
 
-    def __init__(self, data):
+    def __init__(self, data, once):
         self.data = data
+        self.once = once
         self.at = 0
 
     def take(self, count):
@@ -72,13 +74,13 @@ class Reader:
             raise Fault('End', end)
         return self.text_of(inside, begin)
 
-    def elements(self, levels):
+    def elements(self, levels, once):
         """The keys and values of a document, as they stand."""
         if levels == 0:
             raise Fault('Depth', self.at)
         place = self.at
         length = self.length()
-        found = []
+        found, keys = [], set()
         while True:
             tag_place = self.at
             tag = self.take(1)[0]
@@ -86,7 +88,11 @@ class Reader:
                 break
             if tag not in KINDS:
                 raise Fault('Tag', tag_place)
+            key_place = self.at
             key = self.name()
+            if once and key in keys:
+                raise Fault('DuplicateKey', key_place)
+            keys.add(key)
             kind, content = KINDS[tag]
             found.append((key, (kind, content(self, levels - 1))))
         if self.at - place != length:
@@ -94,10 +100,10 @@ class Reader:
         return found
 
     def pairs(self, levels):
-        return list(dict(self.elements(levels)).items())
+        return list(dict(self.elements(levels, self.once)).items())
 
     def items(self, levels):
-        return [value for _, value in self.elements(levels)]
+        return [value for _, value in self.elements(levels, False)]
 
     def binary(self, _):
         length = self.length()
@@ -173,9 +179,9 @@ KINDS = {
 TAGS = {kind: bytes([tag]) for tag, (kind, _) in KINDS.items()}
 
 
-def meaning(given, levels=DEEPEST):
+def meaning(given, levels=DEEPEST, once=False):
     """The document that all of the bytes are, or a Fault."""
-    reader = Reader(given)
+    reader = Reader(given, once)
     pairs = reader.pairs(levels)
     if reader.at < len(given):
         raise Fault('Trailing', reader.at)

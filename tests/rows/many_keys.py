@@ -2,7 +2,8 @@
 others.
 
 Each is a call of bson_rows: the keys put in descending or ascending order and found, taken out from both ends, compared
-and hashed in another order, and written. A step that takes time in proportion to the number of keys would take minutes.
+and hashed in another order, written, and read from bytes where none may stand twice, with each once or one of them once
+more. A step that takes time in proportion to the number of keys would take minutes.
 """
 from dataclasses import dataclass
 
@@ -114,12 +115,31 @@ def told_apart(pairs):
     return b"same " + made(other) + b" and " + made(pairs[::-1]), b"unequal"
 
 
+def element(key, number):
+    return b"\x10" + key + b"\0" + number.to_bytes(4, "little")
+
+
+def encoded(pairs):
+    inside = b"".join(element(*pair) for pair in pairs) + b"\0"
+    return (len(inside) + 4).to_bytes(4, "little") + inside
+
+
+def each_once(pairs):
+    return b"bytes once " + encoded(pairs[::-1]).hex().encode(), shown(pairs[::-1])
+
+
+def one_twice(pairs):
+    data = encoded(pairs[::-1] + pairs[-1:])
+    place = len(data) - len(element(*pairs[-1]))
+    return b"bytes once " + data.hex().encode(), b"Malformed { kind: DuplicateKey, offset: %d }" % place
+
+
 def rows():
     """The rows of both kinds of keys."""
     made_rows = []
     for chosen in (True, False):
         pairs = [(key, number) for number, key in enumerate(keys(COUNT, chosen))]
-        for make in (found, taken_out, written, compared, told_apart):
+        for make in (found, taken_out, written, compared, told_apart, each_once, one_twice):
             kind = "chosen" if chosen else "ordinary"
             made_rows.append(ManyKeys(f"{COUNT} {kind} keys, {make.__name__}", *make(pairs)))
     return made_rows

@@ -1,5 +1,5 @@
 -- What is in the grammar is read.
-use Rattle.std.proofs.Common.{◌≡◌, ℕ, zero, suc, ◌+◌, ◌^◌, ◌<◌, ◌≤◌, false, eqb, List, [], ◌∷◌, ◌++◌, length, Ok}
+use Rattle.std.proofs.Common.{◌≡◌, ℕ, zero, suc, ◌+◌, ◌^◌, ◌<◌, ◌≤◌, false, eqb, List, [], ◌∷◌, ◌++◌, length, Ok, None}
 use Rattle.std.proofs.Common.{refl, sym, ap, subst, ◌∙◌, append_assoc, arith}
 use Rattle.std.specs.Int.{w32, w64}
 use Rattle.std.proofs.lemmas.Bool.{eq-eqb, ne_eqb}
@@ -19,7 +19,9 @@ use Rattle.bson_bytes.specs.Grammar.{is_pointer, is_code, is_symbol, is_scope, i
 use Rattle.bson_bytes.specs.Grammar.{is_min}
 use Rattle.bson_bytes.specs.Grammar.{settle, text_bytes, IsText}
 use Rattle.bson_bytes.specs.Reading.{binary_at, boolean_at, bytes_at, regex_at, pointer_at, timestamp_at, scope_at}
-use Rattle.bson_bytes.specs.Reading.{value_with, list_at, document_at}
+use Rattle.bson_bytes.specs.Reading.{value_with, list_at, document_in, Before, none_before, noted, key_at}
+use Rattle.bson_bytes.specs.declared.keys.DuplicateKeys.{DuplicateKeys}
+use Rattle.bson_bytes.proofs.Standing.{Stand, stand_first, stand_rest, stand_from, key_again}
 use Rattle.bson_bytes.proofs.PartLaws.{wide32, wide64, length-le, number_again, size_again, bytes_again, name_again}
 use Rattle.bson_bytes.proofs.PartLaws.{text_again, regroup as end_behind}
 use Rattle.bson_bytes.proofs.Takes.{regroup}
@@ -72,26 +74,26 @@ timestamp_again : (i t : ℕ) (rest : List ℕ) → i < 2 ^ 32 → t < 2 ^ 32 �
 unfolding timestamp_at
 timestamp_again i t rest p q = ap timestamp_at (append_assoc (le w32 i) (le w32 t) rest) ∙ rw (number_again w32 (2 ^ 32) wide32 i (le w32 t ++ rest) p, number_again w32 (2 ^ 32) wide32 t rest q) refl
 
-scope_again : (d : ℕ) (s bytes : List ℕ) (ps : Pairs) (rest : List ℕ) → IsText s → document_at d (bytes ++ rest) ≡ Ok (ps, rest) → 4 + (length (text_bytes s) + length bytes) < 2 ^ 31
-    → scope_at (document_at d) ((le w32 (4 + (length (text_bytes s) + length bytes)) ++ (text_bytes s ++ bytes)) ++ rest) ≡ Ok (model.code_scope s (settle no_pairs ps), rest)
+scope_again : (keys : DuplicateKeys) (d : ℕ) (s bytes : List ℕ) (ps : Pairs) (rest : List ℕ) → IsText s → document_in keys d (none_before keys) (bytes ++ rest) ≡ Ok (ps, rest) → 4 + (length (text_bytes s) + length bytes) < 2 ^ 31
+    → scope_at (document_in keys d (none_before keys)) ((le w32 (4 + (length (text_bytes s) + length bytes)) ++ (text_bytes s ++ bytes)) ++ rest) ≡ Ok (model.code_scope s (settle no_pairs ps), rest)
 unfolding scope_at
-scope_again d s bytes ps rest t read lt =
+scope_again keys d s bytes ps rest t read lt =
     let n = 4 + (length (text_bytes s) + length bytes) in
     let back = append_assoc (le w32 n) (text_bytes s ++ bytes) rest ∙ ap (λ (x : List ℕ). le w32 n ++ x) (append_assoc (text_bytes s) bytes rest) in
     let counted : length (le w32 n ++ (text_bytes s ++ (bytes ++ rest))) ≡ n + length rest =
     length-append (le w32 n) (text_bytes s ++ (bytes ++ rest)) ∙ ap (λ (a : ℕ). a + length (text_bytes s ++ (bytes ++ rest))) (length-le w32 (2 ^ 32) wide32 n)
     ∙ ap (λ (a : ℕ). 4 + a) (length-append (text_bytes s) (bytes ++ rest) ∙ ap (λ (a : ℕ). length (text_bytes s) + a) (length-append bytes rest)) ∙ omega arith in
-    ap (scope_at (document_at d)) back ∙ rw (size_again n (text_bytes s ++ (bytes ++ rest)) lt, text_again s (bytes ++ rest) t.0 t.1, read, eq-eqb _ _ (sym counted)) refl
+    ap (scope_at (document_in keys d (none_before keys))) back ∙ rw (size_again n (text_bytes s ++ (bytes ++ rest)) lt, text_again s (bytes ++ rest) t.0 t.1, read, eq-eqb _ _ (sym counted)) refl
 
 mutual
-  unfolding value_with boolean_at list_at document_at
+  unfolding value_with boolean_at list_at document_in
 
-  value_again : {d : ℕ} {t : Kind} {bytes : List ℕ} {v : Value} → IsValue d t bytes v → (rest : List ℕ)
-      → value_with (document_at d) t (bytes ++ rest) ≡ Ok (v, rest)
+  value_again : {keys : DuplicateKeys} {d : ℕ} {t : Kind} {bytes : List ℕ} {v : Value} → IsValue keys d t bytes v → (rest : List ℕ)
+      → value_with keys (document_in keys d) t (bytes ++ rest) ≡ Ok (v, rest)
   value_again (is_double d p lt) rest = rw (number_again w64 (2 ^ 64) wide64 p rest lt) refl
   value_again (is_text d s t) rest = rw (text_again s rest t.0 t.1) refl
-  value_again (is_embedded d bytes ps w) rest = rw (document_again w rest) refl
-  value_again (is_array d bytes ps w) rest = rw (document_again w rest) refl
+  value_again {keys} (is_embedded d bytes ps w once) rest = rw (document_again w (none_before keys) (stand_from keys ps once) rest) refl
+  value_again (is_array d bytes ps w) rest = rw (document_again w None tt rest) refl
   value_again (is_binary d b s lt n fits) rest = binary_again b s rest n fits
   value_again (is_old_binary d s fits) rest = old_binary_again s rest fits
   value_again (is_undefined d) rest = refl
@@ -104,7 +106,7 @@ mutual
   value_again (is_pointer d s id t e) rest = pointer_again s id rest t e
   value_again (is_code d s t) rest = rw (text_again s rest t.0 t.1) refl
   value_again (is_symbol d s t) rest = rw (text_again s rest t.0 t.1) refl
-  value_again (is_scope d s bytes ps t w lt) rest = scope_again d s bytes ps rest t (document_again w rest) lt
+  value_again {keys} (is_scope d s bytes ps t w once lt) rest = scope_again keys d s bytes ps rest t (document_again w (none_before keys) (stand_from keys ps once) rest) lt
   value_again (is_int32 d n lt) rest = rw (number_again w32 (2 ^ 32) wide32 n rest lt) refl
   value_again (is_timestamp d i t p q) rest = timestamp_again i t rest p q
   value_again (is_int64 d n lt) rest = rw (number_again w64 (2 ^ 64) wide64 n rest lt) refl
@@ -112,23 +114,26 @@ mutual
   value_again (is_max d) rest = refl
   value_again (is_min d) rest = refl
 
-  list_again : {d : ℕ} {list : List ℕ} {ps : Pairs} → IsList d list ps → (m : ℕ) (rest : List ℕ)
-      → length (list ++ 0 ∷ rest) ≤ m → list_at (value_with (document_at d)) m (list ++ 0 ∷ rest) ≡ Ok (ps, rest)
-  list_again (is_empty d) zero rest le = absurd (omega arith)
-  list_again (is_empty d) (suc m) rest le = refl
-  list_again (is_element d t k bytes list v ps name w ws) zero rest le = absurd (omega arith)
-  list_again (is_element d t k bytes list v ps name w ws) (suc m) rest le =
+  list_again : {keys : DuplicateKeys} {d : ℕ} {list : List ℕ} {ps : Pairs} → IsList keys d list ps → (before : Before)
+      → Stand before ps → (m : ℕ) (rest : List ℕ) → length (list ++ 0 ∷ rest) ≤ m
+      → list_at (value_with keys (document_in keys d)) before m (list ++ 0 ∷ rest) ≡ Ok (ps, rest)
+  list_again (is_empty d) before stand zero rest le = absurd (omega arith)
+  list_again (is_empty d) before stand (suc m) rest le = refl
+  list_again (is_element d t k bytes list v ps name w ws) before stand zero rest le = absurd (omega arith)
+  list_again {keys} (is_element d t k bytes list v ps name w ws) before stand (suc m) rest le =
       let more : length (list ++ 0 ∷ rest) ≤ m =
       omega (arith, le, length-append k (0 ∷ (bytes ++ list)), length-append (k ++ 0 ∷ (bytes ++ list)) (0 ∷ rest), length-append bytes list, length-append list (0 ∷ rest)) in
-      ap (λ (x : List ℕ). list_at (value_with (document_at d)) (suc m) (tag_of t ∷ x)) (sym (regroup k bytes list (0 ∷ rest)))
-      ∙ rw (tag_some t, kind_again t, name_again k (bytes ++ (list ++ 0 ∷ rest)) name, value_again w (list ++ 0 ∷ rest), list_again ws m rest more) refl
+      let key = key_again before (k ++ 0 ∷ (bytes ++ (list ++ 0 ∷ rest))) k (bytes ++ (list ++ 0 ∷ rest))
+      (name_again k (bytes ++ (list ++ 0 ∷ rest)) name) (stand_first before k v ps stand) in
+      ap (λ (x : List ℕ). list_at (value_with keys (document_in keys d)) before (suc m) (tag_of t ∷ x)) (sym (regroup k bytes list (0 ∷ rest)))
+      ∙ rw (tag_some t, kind_again t, key, value_again w (list ++ 0 ∷ rest), list_again ws (noted k before) (stand_rest before k v ps stand) m rest more) refl
 
-  pub document_again : {d : ℕ} {bytes : List ℕ} {ps : Pairs} → IsDocument d bytes ps → (rest : List ℕ)
-      → document_at d (bytes ++ rest) ≡ Ok (ps, rest)
-  document_again (is_document d list ps ws lt) rest =
+  pub document_again : {keys : DuplicateKeys} {d : ℕ} {bytes : List ℕ} {ps : Pairs} → IsDocument keys d bytes ps
+      → (before : Before) → Stand before ps → (rest : List ℕ) → document_in keys d before (bytes ++ rest) ≡ Ok (ps, rest)
+  document_again {keys} (is_document d list ps ws lt) before stand rest =
       let back = end_behind (le w32 (length list + 5)) list rest in
       let counted : length (le w32 (length list + 5) ++ (list ++ 0 ∷ rest)) ≡ length list + 5 + length rest =
       length-append (le w32 (length list + 5)) (list ++ 0 ∷ rest) ∙ ap (λ (a : ℕ). a + length (list ++ 0 ∷ rest)) (length-le w32 (2 ^ 32) wide32 (length list + 5))
       ∙ ap (λ (a : ℕ). 4 + a) (length-append list (0 ∷ rest)) ∙ omega arith in
-      ap (document_at (suc d)) (sym back)
-      ∙ rw (size_again (length list + 5) (list ++ 0 ∷ rest) lt, list_again ws (length (list ++ 0 ∷ rest)) rest (omega arith), eq-eqb _ _ (sym counted)) refl
+      ap (document_in keys (suc d) before) (sym back)
+      ∙ rw (size_again (length list + 5) (list ++ 0 ∷ rest) lt, list_again ws before stand (length (list ++ 0 ∷ rest)) rest (omega arith), eq-eqb _ _ (sym counted)) refl

@@ -1,68 +1,86 @@
 -- The grammar relates what reading gives, and nothing else.
-use Rattle.std.proofs.Common.{◌≡◌, ℕ, cond, eqb, List, [], ◌++◌, length, Ok, Err, refl, sym, ap, subst, ◌∙◌}
+use Rattle.std.proofs.Common.{◌≡◌, ℕ, cond, eqb, List, [], ◌++◌, length, None, Ok, Err, refl, sym, ap, subst, ◌∙◌}
 use Rattle.std.proofs.lemmas.Bool.{eqb-true}
 use Rattle.std.proofs.lemmas.List.{append-nil, append_cancel_right, nil_from_length}
 use Rattle.bson_model.specs.Value.{Pairs, no_pairs}
 use Rattle.bson_bytes.specs.declared.fault.FaultKind.TheVariants.{Trailing}
 use Rattle.bson_bytes.specs.Fault.{at}
-use Rattle.bson_bytes.specs.Grammar.{IsDocument, settle, one_each}
-use Rattle.bson_bytes.specs.Reading.{settled, document_at, reads}
-use Rattle.bson_bytes.specs.Laws.{IsRead, IsFront}
+use Rattle.bson_bytes.specs.Grammar.{IsDocument, MayStand, settle, one_each}
+use Rattle.bson_bytes.specs.Reading.{settled, document_in, reads_in, none_before}
+use Rattle.bson_bytes.specs.Laws.{IsReadIn, IsFrontIn}
+use Rattle.bson_bytes.specs.declared.keys.DuplicateKeys.{DuplicateKeys}
 use Rattle.bson_bytes.proofs.PartLaws.{IsBytes, bind_ok, if_ok, ok_is}
 use Rattle.bson_bytes.proofs.Takes.{document_takes}
 use Rattle.bson_bytes.proofs.Again.{document_again}
 use Rattle.bson_bytes.proofs.Turns.{of_mapped}
+use Rattle.bson_bytes.proofs.Standing.{may_stand, stand_from}
 
-pub grammar_from : (d : ℕ) (bytes : List ℕ) (qs : Pairs) → IsBytes bytes → reads d bytes ≡ Ok qs → IsRead d bytes qs
-unfolding reads
-grammar_from d bytes qs fits e =
+pub grammar_from : (keys : DuplicateKeys) (d : ℕ) (bytes : List ℕ) (qs : Pairs) → IsBytes bytes
+    → reads_in keys d bytes ≡ Ok qs → IsReadIn keys d bytes qs
+unfolding reads_in
+grammar_from keys d bytes qs fits e =
+    let read = document_in keys d (none_before keys) bytes in
     let test = λ (x : Pairs × List ℕ). cond (eqb (length x.1) 0) (Ok x.0) (Err (at Trailing x.1)) in
-    let x = bind_ok (settled no_pairs (document_at d bytes)) test qs e in
+    let x = bind_ok (settled no_pairs read) test qs e in
     let g = if_ok (eqb (length x.0.1) 0) (Ok x.0.0) (at Trailing x.0.1) qs x.2 in
-    let m = of_mapped (settle no_pairs) (document_at d bytes) x.0.0 x.0.1 x.1 in
-    let t = document_takes d bytes m.pairs x.0.1 fits m.read in
+    let m = of_mapped (settle no_pairs) read x.0.0 x.0.1 x.1 in
+    let t = document_takes keys d (none_before keys) bytes m.pairs x.0.1 fits m.read in
     let nothing : x.0.1 ≡ [] = nil_from_length x.0.1 (eqb-true _ _ g.0) in
     let whole : bytes ≡ t.front = t.parts ∙ ap (λ (r : List ℕ). t.front ++ r) nothing ∙ append-nil t.front in
     record {
       elements = m.pairs;
-      grammar = subst (λ (b : List ℕ). IsDocument d b m.pairs) (sym whole) t.spelled;
+      grammar = subst (λ (b : List ℕ). IsDocument keys d b m.pairs) (sym whole) t.spelled.0;
+      once = may_stand keys m.pairs t.spelled.1;
       pairs = sym (m.is ∙ ok_is x.0.0 qs g.1);
     }
 
-pub grammar_read : (d : ℕ) (bytes : List ℕ) (ps : Pairs) → IsDocument d bytes ps → reads d bytes ≡ Ok (one_each ps)
-unfolding reads
-grammar_read d bytes ps w =
-    let read : document_at d bytes ≡ Ok (ps, []) = ap (document_at d) (sym (append-nil bytes)) ∙ document_again w [] in
+pub grammar_read : (keys : DuplicateKeys) (d : ℕ) (bytes : List ℕ) (ps : Pairs) → IsDocument keys d bytes ps
+    → MayStand keys ps → reads_in keys d bytes ≡ Ok (one_each ps)
+unfolding reads_in
+grammar_read keys d bytes ps w once =
+    let read : document_in keys d (none_before keys) bytes ≡ Ok (ps, []) =
+    ap (document_in keys d (none_before keys)) (sym (append-nil bytes))
+    ∙ document_again w (none_before keys) (stand_from keys ps once) [] in
     rw read refl
 
-pub is_read : (d : ℕ) (bytes : List ℕ) (qs : Pairs) → IsRead d bytes qs → reads d bytes ≡ Ok qs
-is_read d bytes qs h = grammar_read d bytes h.elements h.grammar ∙ ap (λ (ps : Pairs). Ok ps) (sym h.pairs)
+pub is_read : (keys : DuplicateKeys) (d : ℕ) (bytes : List ℕ) (qs : Pairs) → IsReadIn keys d bytes qs
+    → reads_in keys d bytes ≡ Ok qs
+is_read keys d bytes qs h =
+    grammar_read keys d bytes h.elements h.grammar h.once ∙ ap (λ (ps : Pairs). Ok ps) (sym h.pairs)
 
 -- no document's bytes begin another's, and none stand for two
-pub one_of : (d : ℕ) (a b x y : List ℕ) (ps qs : Pairs) → IsDocument d a ps → IsDocument d b qs → a ++ x ≡ b ++ y
-    → (a ≡ b) × (ps ≡ qs)
-one_of d a b x y ps qs v w e =
-    let both = ok_is (ps, x) (qs, y) (sym (document_again v x) ∙ ap (document_at d) e ∙ document_again w y) in
+pub one_of : (keys : DuplicateKeys) (d : ℕ) (a b x y : List ℕ) (ps qs : Pairs) → IsDocument keys d a ps
+    → IsDocument keys d b qs → a ++ x ≡ b ++ y → (a ≡ b) × (ps ≡ qs)
+one_of keys d a b x y ps qs v w e =
+    let both = ok_is (ps, x) (qs, y)
+    (sym (document_again v None tt x) ∙ ap (document_in keys d None) e ∙ document_again w None tt y) in
     let rests : x ≡ y = ap (λ (p : Pairs × List ℕ). p.1) both in
     (append_cancel_right a b y (ap (λ (r : List ℕ). a ++ r) (sym rests) ∙ e), ap (λ (p : Pairs × List ℕ). p.0) both)
 
 -- ---- the front of bytes
 
-pub front_from : (d : ℕ) (bytes : List ℕ) (qs : Pairs) (rest : List ℕ) → IsBytes bytes
-    → settled no_pairs (document_at d bytes) ≡ Ok (qs, rest) → IsFront d bytes qs rest
-front_from d bytes qs rest fits e =
-    let m = of_mapped (settle no_pairs) (document_at d bytes) qs rest e in
-    let t = document_takes d bytes m.pairs rest fits m.read in
+pub front_from : (keys : DuplicateKeys) (d : ℕ) (bytes : List ℕ) (qs : Pairs) (rest : List ℕ) → IsBytes bytes
+    → settled no_pairs (document_in keys d (none_before keys) bytes) ≡ Ok (qs, rest) → IsFrontIn keys d bytes qs rest
+front_from keys d bytes qs rest fits e =
+    let m = of_mapped (settle no_pairs) (document_in keys d (none_before keys) bytes) qs rest e in
+    let t = document_takes keys d (none_before keys) bytes m.pairs rest fits m.read in
     record {
       front = t.front;
-      read = record { elements = m.pairs; grammar = t.spelled; pairs = sym m.is };
+      read = record {
+        elements = m.pairs;
+        grammar = t.spelled.0;
+        once = may_stand keys m.pairs t.spelled.1;
+        pairs = sym m.is;
+      };
       parts = t.parts;
     }
 
-pub front_read : (d : ℕ) (bytes : List ℕ) (qs : Pairs) (rest : List ℕ) → IsFront d bytes qs rest
-    → settled no_pairs (document_at d bytes) ≡ Ok (qs, rest)
-front_read d bytes qs rest h =
+pub front_read : (keys : DuplicateKeys) (d : ℕ) (bytes : List ℕ) (qs : Pairs) (rest : List ℕ)
+    → IsFrontIn keys d bytes qs rest
+    → settled no_pairs (document_in keys d (none_before keys) bytes) ≡ Ok (qs, rest)
+front_read keys d bytes qs rest h =
     let ps = h.read.elements in
-    let read : document_at d bytes ≡ Ok (ps, rest) =
-    ap (document_at d) h.parts ∙ document_again h.read.grammar rest in
+    let read : document_in keys d (none_before keys) bytes ≡ Ok (ps, rest) =
+    ap (document_in keys d (none_before keys)) h.parts
+    ∙ document_again h.read.grammar (none_before keys) (stand_from keys ps h.read.once) rest in
     ap (settled no_pairs) read ∙ ap (λ (q : Pairs). Ok (q, rest)) (sym h.read.pairs)

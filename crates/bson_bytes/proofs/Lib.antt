@@ -1,12 +1,14 @@
 pub mod PartLaws
 pub mod Splits
 pub mod Tagged
+pub mod Standing
 pub mod Takes
 pub mod Again
 pub mod Turns
 pub mod GrammarLaws
 pub mod Putting
 pub mod Canonical
+pub mod Forgets
 pub mod First
 pub mod Within
 pub mod Passed

@@ -1,5 +1,5 @@
 -- Documents as they are read with nothing kept.
-use Rattle.std.proofs.Common.{◌≡◌, ℕ, ◌+◌, ◌-◌, ◌<◌, ◌≤◌, List, length, Some, Result, Ok, Err, refl, sym, ap, ◌∙◌, arith}
+use Rattle.std.proofs.Common.{◌≡◌, ℕ, ◌+◌, ◌-◌, ◌<◌, ◌≤◌, List, length, Some, None, Result, Ok, Err, refl, sym, ap, ◌∙◌, arith}
 use Rattle.std.proofs.lemmas.Bool.{eq-eqb, ne_eqb}
 use Rattle.bson_scalar.specs.declared.spec.ElementType.{ElementType}
 use Rattle.bson_scalar.specs.declared.spec.ElementType.TheVariants as tag
@@ -9,7 +9,8 @@ use Rattle.bson_bytes.specs.declared.fault.FaultKind.TheVariants.{Length, Traili
 use Rattle.bson_bytes.specs.Fault.{at, ◌>>=◌}
 use Rattle.bson_bytes.specs.Grammar.{settle, values}
 use Rattle.bson_bytes.specs.Reading.{passed, byte_at, name_at, size_at, text_at, mapped, settled, scope_at, value_with}
-use Rattle.bson_bytes.specs.Reading.{document_at, reads}
+use Rattle.bson_bytes.specs.Reading.{document_at, document_in, reads, reads_in}
+use Rattle.bson_bytes.specs.declared.keys.DuplicateKeys.TheVariants.{Replace}
 use Rattle.bson_bytes.specs.Tags.{kind_of}
 use Rattle.bson_bytes.proofs.PartLaws.{ok_is}
 use Rattle.bson_bytes.proofs.Turns.{Read, elements, then_pairs, no_more, one_more, bad_value, bad_list, document_done}
@@ -33,18 +34,18 @@ passed_err (Err g) f e = cc
 pub record ListLeft (d : ℕ) (rest : List ℕ) (total : Result (List ℕ) Fault) : Type 0 where
   pub turns : ℕ
   pub enough : length rest ≤ turns
-  pub read : passed (elements d turns rest) ≡ total
+  pub read : passed (elements Replace d None turns rest) ≡ total
 
-pub list_start : (d : ℕ) (bytes : List ℕ) → ListLeft d bytes (passed (elements d (length bytes) bytes))
+pub list_start : (d : ℕ) (bytes : List ℕ) → ListLeft d bytes (passed (elements Replace d None (length bytes) bytes))
 list_start d bytes = record { turns = length bytes; enough = omega arith; read = refl }
 
 pub list_fault : (d : ℕ) (rest : List ℕ) (total : Result (List ℕ) Fault) (i : ListLeft d rest total) (f : Fault)
-    → elements d i.turns rest ≡ Err f → total ≡ Err f
+    → elements Replace d None i.turns rest ≡ Err f → total ≡ Err f
 list_fault d rest total i f h = sym i.read ∙ ap (λ (r : Read). passed r) h
 
 pub list_end : (d : ℕ) (rest : List ℕ) (total : Result (List ℕ) Fault) (t : ℕ) (a : List ℕ) → ListLeft d rest total
     → byte_at rest ≡ Ok (t, a) → t ≡ 0 → total ≡ Ok a
-list_end d rest total t a i e z = sym i.read ∙ ap (λ (r : Read). passed r) (no_more d i.turns rest t a i.enough e z)
+list_end d rest total t a i e z = sym i.read ∙ ap (λ (r : Read). passed r) (no_more Replace d None i.turns rest t a i.enough e z)
 
 passed-then : (s : List ℕ) (v : Value) (r : Read) → passed (r >>= then_pairs s v) ≡ passed r
 passed-then s v (Ok x) = refl
@@ -52,22 +53,22 @@ passed-then s v (Err f) = refl
 
 pub list_more : (d : ℕ) (rest : List ℕ) (total : Result (List ℕ) Fault) (t : ℕ) (a : List ℕ) (k : ElementType)
     (s b c : List ℕ) → ListLeft d rest total → length c < length rest → byte_at rest ≡ Ok (t, a) → (t ≡ 0 → ⊥)
-    → kind_of t ≡ Some k → name_at a ≡ Ok (s, b) → passed (value_with (document_at d) k b) ≡ Ok c → ListLeft d c total
+    → kind_of t ≡ Some k → name_at a ≡ Ok (s, b) → passed (value_with Replace (document_in Replace d) k b) ≡ Ok c → ListLeft d c total
 list_more d rest total t a k s b c i lt e n k-is h w =
-    let v = passed_ok (value_with (document_at d) k b) c w in
-    let g = one_more d i.turns rest t a k s b v.value c i.enough lt e n k-is h v.read in
+    let v = passed_ok (value_with Replace (document_in Replace d) k b) c w in
+    let g = one_more Replace d None i.turns rest t a k s b v.value c i.enough lt e n k-is h v.read in
     record {
       turns = g.turns;
       enough = g.enough;
-      read = sym (passed-then s v.value (elements d g.turns c)) ∙ ap (λ (r : Read). passed r) (sym g.read) ∙ i.read;
+      read = sym (passed-then s v.value (elements Replace d None g.turns c)) ∙ ap (λ (r : Read). passed r) (sym g.read) ∙ i.read;
     }
 
 pub list_stop : (d : ℕ) (rest : List ℕ) (total : Result (List ℕ) Fault) (t : ℕ) (a : List ℕ) (k : ElementType)
     (s b : List ℕ) (f : Fault) → ListLeft d rest total → byte_at rest ≡ Ok (t, a) → (t ≡ 0 → ⊥)
-    → kind_of t ≡ Some k → name_at a ≡ Ok (s, b) → passed (value_with (document_at d) k b) ≡ Err f → total ≡ Err f
+    → kind_of t ≡ Some k → name_at a ≡ Ok (s, b) → passed (value_with Replace (document_in Replace d) k b) ≡ Err f → total ≡ Err f
 list_stop d rest total t a k s b f i e n k-is h w =
     list_fault d rest total i f
-    (bad_value d i.turns rest t a k s b f i.enough e n k-is h (passed_err (value_with (document_at d) k b) f w))
+    (bad_value Replace d None i.turns rest t a k s b f i.enough e n k-is h (passed_err (value_with Replace (document_in Replace d) k b) f w))
 
 -- ---- documents
 
@@ -75,25 +76,25 @@ pub passed_fault : {A : Type 0} (r : Result (A × List ℕ) Fault) (f : Fault) �
 passed_fault {A} r f e = ap (λ (q : Result (A × List ℕ) Fault). passed q) e
 
 pub passed_list : (d : ℕ) (bytes : List ℕ) (n : ℕ) (list : List ℕ) (f : Fault) → (d ≡ 0 → ⊥)
-    → size_at bytes ≡ Ok (n, list) → passed (elements (d - 1) (length list) list) ≡ Err f
+    → size_at bytes ≡ Ok (n, list) → passed (elements Replace (d - 1) None (length list) list) ≡ Err f
     → passed (document_at d bytes) ≡ Err f
 passed_list d bytes n list f h s x =
     passed_fault (document_at d bytes) f
-    (bad_list d bytes n list f h s (passed_err (elements (d - 1) (length list) list) f x))
+    (bad_list Replace d None bytes n list f h s (passed_err (elements Replace (d - 1) None (length list) list) f x))
 
 pub passed_wrong : (d : ℕ) (bytes : List ℕ) (n : ℕ) (list rest : List ℕ) → (d ≡ 0 → ⊥) → size_at bytes ≡ Ok (n, list)
-    → passed (elements (d - 1) (length list) list) ≡ Ok rest → (n + length rest ≡ length bytes → ⊥)
+    → passed (elements Replace (d - 1) None (length list) list) ≡ Ok rest → (n + length rest ≡ length bytes → ⊥)
     → passed (document_at d bytes) ≡ Err (at Length bytes)
 passed_wrong d bytes n list rest h s x k =
-    let v = passed_ok (elements (d - 1) (length list) list) rest x in
-    passed_fault (document_at d bytes) (at Length bytes) (document_wrong d bytes n list v.value rest h s v.read k)
+    let v = passed_ok (elements Replace (d - 1) None (length list) list) rest x in
+    passed_fault (document_at d bytes) (at Length bytes) (document_wrong Replace d None bytes n list v.value rest h s v.read k)
 
 pub passed_done : (d : ℕ) (bytes : List ℕ) (n : ℕ) (list rest : List ℕ) → (d ≡ 0 → ⊥) → size_at bytes ≡ Ok (n, list)
-    → passed (elements (d - 1) (length list) list) ≡ Ok rest → n + length rest ≡ length bytes
+    → passed (elements Replace (d - 1) None (length list) list) ≡ Ok rest → n + length rest ≡ length bytes
     → passed (document_at d bytes) ≡ Ok rest
 passed_done d bytes n list rest h s x k =
-    let v = passed_ok (elements (d - 1) (length list) list) rest x in
-    ap (λ (q : Read). passed q) (document_done d bytes n list v.value rest h s v.read k)
+    let v = passed_ok (elements Replace (d - 1) None (length list) list) rest x in
+    ap (λ (q : Read). passed q) (document_done Replace d None bytes n list v.value rest h s v.read k)
 
 -- ---- what holds a document
 
@@ -102,14 +103,14 @@ onto_passed (Ok x) f = refl
 onto_passed (Err g) f = refl
 
 pub passed_embedded : (d : ℕ) (bytes : List ℕ)
-    → passed (value_with (document_at d) tag.EmbeddedDocument bytes) ≡ passed (document_at d bytes)
+    → passed (value_with Replace (document_in Replace d) tag.EmbeddedDocument bytes) ≡ passed (document_at d bytes)
 unfolding value_with
 passed_embedded d bytes =
     onto_passed (settled no_pairs (document_at d bytes)) (λ ps. document ps)
     ∙ onto_passed (document_at d bytes) (settle no_pairs)
 
 pub passed_array : (d : ℕ) (bytes : List ℕ)
-    → passed (value_with (document_at d) tag.Array bytes) ≡ passed (document_at d bytes)
+    → passed (value_with Replace (document_in Replace d) tag.Array bytes) ≡ passed (document_at d bytes)
 unfolding value_with
 passed_array d bytes =
     onto_passed (mapped values (document_at d bytes)) (λ vs. array vs)
@@ -147,7 +148,7 @@ passed_bad_scope d bytes n a s b f size text read =
 
 pub passed_whole : (d : ℕ) (bytes rest : List ℕ) → passed (document_at d bytes) ≡ Ok rest → length rest ≡ 0
     → (ps : Pairs) × (reads d bytes ≡ Ok ps)
-unfolding reads
+unfolding reads_in
 passed_whole d bytes rest e z =
     let v = passed_ok (document_at d bytes) rest e in
     let doc = settled_ok (document_at d bytes) v.value rest v.read in
@@ -155,14 +156,14 @@ passed_whole d bytes rest e z =
 
 pub passed_trailing : (d : ℕ) (bytes rest : List ℕ) → passed (document_at d bytes) ≡ Ok rest → (length rest ≡ 0 → ⊥)
     → reads d bytes ≡ Err (at Trailing rest)
-unfolding reads
+unfolding reads_in
 passed_trailing d bytes rest e n =
     let v = passed_ok (document_at d bytes) rest e in
     let doc = settled_ok (document_at d bytes) v.value rest v.read in
     rw (doc, ne_eqb (length rest) 0 n) refl
 
 pub passed_refused : (d : ℕ) (bytes : List ℕ) (f : Fault) → passed (document_at d bytes) ≡ Err f → reads d bytes ≡ Err f
-unfolding reads
+unfolding reads_in
 passed_refused d bytes f e =
     let doc : settled no_pairs (document_at d bytes) ≡ Err f = ap (settled no_pairs) (passed_err (document_at d bytes) f e) in
     rw doc refl

@@ -1,6 +1,6 @@
 -- What was read is in the grammar.
 use Rattle.std.proofs.Common.{◌≡◌, ℕ, zero, suc, ◌+◌, ◌^◌, ◌<◌, true, false, cond, eqb, List, [], ◌∷◌, ◌++◌, length}
-use Rattle.std.proofs.Common.{Result, Ok, Err, refl, sym, ap, subst, ◌∙◌, append_assoc, arith, inl, inr}
+use Rattle.std.proofs.Common.{None, Result, Ok, Err, refl, sym, ap, subst, ◌∙◌, append_assoc, arith, inl, inr}
 use Rattle.std.specs.Int.{w32, w64, cast_signed}
 use Rattle.std.proofs.lemmas.Bool.{eqb-true, eqb-false}
 use Rattle.std.proofs.lemmas.List.{length-append}
@@ -23,8 +23,11 @@ use Rattle.bson_bytes.specs.Grammar.{is_pointer, is_code, is_symbol, is_scope, i
 use Rattle.bson_bytes.specs.Grammar.{is_min}
 use Rattle.bson_bytes.specs.Grammar.{values, settle, text_bytes, IsText}
 use Rattle.bson_bytes.specs.Reading.{byte_at, bytes_at, number_at, size_at, name_at, text_at, binary_at, boolean_at}
-use Rattle.bson_bytes.specs.Reading.{value_with, list_at, sized, document_at, mapped, settled, regex_at, pointer_at}
-use Rattle.bson_bytes.specs.Reading.{timestamp_at, scope_at, old_binary_at, plain_binary_at}
+use Rattle.bson_bytes.specs.Reading.{value_with, list_at, sized, document_in, mapped, settled, regex_at, pointer_at}
+use Rattle.bson_bytes.specs.Reading.{timestamp_at, scope_at, old_binary_at, plain_binary_at, Before, none_before, noted}
+use Rattle.bson_bytes.specs.Reading.{key_at}
+use Rattle.bson_bytes.specs.declared.keys.DuplicateKeys.{DuplicateKeys}
+use Rattle.bson_bytes.proofs.Standing.{Stand, stand_none, stand_more, may_stand, key_takes}
 use Rattle.bson_bytes.proofs.PartLaws.{IsBytes, IsBytes-rest, Takes, bind_ok, if_ok, chosen, ok_is, or_fault_ok}
 use Rattle.bson_bytes.proofs.PartLaws.{IsNumber, wide32, wide64, length-le, number_takes, size_takes, bytes_takes}
 use Rattle.bson_bytes.proofs.PartLaws.{byte_takes, name_takes, text_takes, IsTextBytes, regroup as end_behind}
@@ -34,18 +37,18 @@ abbrev pub Of : (ℕ → Kind → List ℕ → Value → Type 0) → ℕ → Kin
 Of W d t bytes p = Takes (W d t) bytes p.0 p.1
 
 -- a part x in W that was read, as the value f x
-pub retold : {A : Type 0} (W : List ℕ → A → Type 0) (d : ℕ) (t : Kind) (f : A → Value) → ((front : List ℕ) (x : A) → W front x → IsValue d t front (f x))
-    → (bytes : List ℕ) (x : A) (rest : List ℕ) → Takes W bytes x rest → Takes (IsValue d t) bytes (f x) rest
+pub retold : {keys : DuplicateKeys} {A : Type 0} (W : List ℕ → A → Type 0) (d : ℕ) (t : Kind) (f : A → Value) → ((front : List ℕ) (x : A) → W front x → IsValue keys d t front (f x))
+    → (bytes : List ℕ) (x : A) (rest : List ℕ) → Takes W bytes x rest → Takes (IsValue keys d t) bytes (f x) rest
 retold W d t f g bytes x rest h = record { front = h.front; spelled = g h.front x h.spelled; parts = h.parts; rest_bytes = h.rest_bytes }
 
 -- the same, through the step that a reader takes
-pub stepped : {A : Type 0} (W : List ℕ → A → Type 0) (d : ℕ) (t : Kind) (f : A → Value) → ((front : List ℕ) (x : A) → W front x → IsValue d t front (f x))
+pub stepped : {keys : DuplicateKeys} {A : Type 0} (W : List ℕ → A → Type 0) (d : ℕ) (t : Kind) (f : A → Value) → ((front : List ℕ) (x : A) → W front x → IsValue keys d t front (f x))
     → (bytes : List ℕ) (r : Result (A × List ℕ) Fault) (p : Value × List ℕ)
     → ((x : A) (rest : List ℕ) → r ≡ Ok (x, rest) → Takes W bytes x rest)
-    → (r >>= λ x. Ok (f x.0, x.1)) ≡ Ok p → Of IsValue d t bytes p
-stepped W d t f g bytes r p h e =
+    → (r >>= λ x. Ok (f x.0, x.1)) ≡ Ok p → Of (IsValue keys) d t bytes p
+stepped {keys} W d t f g bytes r p h e =
     let b = bind_ok r (λ x. Ok (f x.0, x.1)) p e in
-    subst (λ (q : Value × List ℕ). Of IsValue d t bytes q) (ok_is (f b.0.0, b.0.1) p b.2) (retold W d t f g bytes b.0.0 b.0.1 (h b.0.0 b.0.1 b.1))
+    subst (λ (q : Value × List ℕ). Of (IsValue keys) d t bytes q) (ok_is (f b.0.0, b.0.1) p b.2) (retold W d t f g bytes b.0.0 b.0.1 (h b.0.0 b.0.1 b.1))
 
 abbrev done : {A : Type 0} → A → Result A Fault
 done x = Ok x
@@ -61,25 +64,25 @@ same_number : (n a b c m : ℕ) → n + c ≡ m → m ≡ 4 + (a + b + c) → n 
 same_number n a b c m e f = omega arith
 
 -- a text that was read, with its own bytes
-text_part : (d : ℕ) (t : Kind) (f : List ℕ → Value) → ((s : List ℕ) → IsText s → IsValue d t (text_bytes s) (f s)) → (bytes : List ℕ) (p : Value × List ℕ) → IsBytes bytes → (text_at bytes >>= λ s. Ok (f s.0, s.1)) ≡ Ok p → Of IsValue d t bytes p
+text_part : {keys : DuplicateKeys} (d : ℕ) (t : Kind) (f : List ℕ → Value) → ((s : List ℕ) → IsText s → IsValue keys d t (text_bytes s) (f s)) → (bytes : List ℕ) (p : Value × List ℕ) → IsBytes bytes → (text_at bytes >>= λ s. Ok (f s.0, s.1)) ≡ Ok p → Of (IsValue keys) d t bytes p
 text_part d t f g bytes p fits e = stepped IsTextBytes d t f (λ front s w. rw w.0 (g s (w.1, w.2))) bytes (text_at bytes) p (λ s rest r. text_takes bytes s rest fits r) e
 
 abbrev Is : ℕ → List ℕ → List ℕ → Type 0
 Is n front x = (front ≡ x) × (length x ≡ n)
 
-bytes_part : (n d : ℕ) (t : Kind) (f : List ℕ → Value) → ((s : List ℕ) → length s ≡ n → IsValue d t s (f s)) → (bytes : List ℕ) (p : Value × List ℕ) → IsBytes bytes → (bytes_at n bytes >>= λ s. Ok (f s.0, s.1)) ≡ Ok p → Of IsValue d t bytes p
+bytes_part : {keys : DuplicateKeys} (n d : ℕ) (t : Kind) (f : List ℕ → Value) → ((s : List ℕ) → length s ≡ n → IsValue keys d t s (f s)) → (bytes : List ℕ) (p : Value × List ℕ) → IsBytes bytes → (bytes_at n bytes >>= λ s. Ok (f s.0, s.1)) ≡ Ok p → Of (IsValue keys) d t bytes p
 bytes_part n d t f g bytes p fits e = stepped (Is n) d t f (λ front s w. rw w.0 (g s w.1)) bytes (bytes_at n bytes) p (λ s rest r. bytes_takes n bytes s rest fits r) e
 
-empty_part : (d : ℕ) (t : Kind) (v : Value) → IsValue d t [] v → (bytes : List ℕ) (p : Value × List ℕ) → IsBytes bytes → done (v, bytes) ≡ done p → Of IsValue d t bytes p
-empty_part d t v w bytes p fits e = subst (λ (q : Value × List ℕ). Of IsValue d t bytes q) (ok_is (v, bytes) p e) record { front = []; spelled = w; parts = refl; rest_bytes = fits }
+empty_part : {keys : DuplicateKeys} (d : ℕ) (t : Kind) (v : Value) → IsValue keys d t [] v → (bytes : List ℕ) (p : Value × List ℕ) → IsBytes bytes → done (v, bytes) ≡ done p → Of (IsValue keys) d t bytes p
+empty_part {keys} d t v w bytes p fits e = subst (λ (q : Value × List ℕ). Of (IsValue keys) d t bytes q) (ok_is (v, bytes) p e) record { front = []; spelled = w; parts = refl; rest_bytes = fits }
 
 -- two parts, one behind the other
-two_parts : (d : ℕ) (t : Kind) (bytes a middle b rest : List ℕ) (v : Value) (p : Value × List ℕ) → bytes ≡ a ++ middle → middle ≡ b ++ rest → IsBytes rest → IsValue d t (a ++ b) v → done (v, rest) ≡ done p → Of IsValue d t bytes p
-two_parts d t bytes a middle b rest v p e f fits w h =
-    subst (λ (q : Value × List ℕ). Of IsValue d t bytes q) (ok_is (v, rest) p h)
+two_parts : {keys : DuplicateKeys} (d : ℕ) (t : Kind) (bytes a middle b rest : List ℕ) (v : Value) (p : Value × List ℕ) → bytes ≡ a ++ middle → middle ≡ b ++ rest → IsBytes rest → IsValue keys d t (a ++ b) v → done (v, rest) ≡ done p → Of (IsValue keys) d t bytes p
+two_parts {keys} d t bytes a middle b rest v p e f fits w h =
+    subst (λ (q : Value × List ℕ). Of (IsValue keys) d t bytes q) (ok_is (v, rest) p h)
     record { front = a ++ b; spelled = w; parts = e ∙ ap (λ (x : List ℕ). a ++ x) f ∙ sym (append_assoc a b rest); rest_bytes = fits }
 
-binary_takes : (d : ℕ) (bytes : List ℕ) (p : Value × List ℕ) → IsBytes bytes → binary_at bytes ≡ Ok p → Of IsValue d tag.Binary bytes p
+binary_takes : {keys : DuplicateKeys} (d : ℕ) (bytes : List ℕ) (p : Value × List ℕ) → IsBytes bytes → binary_at bytes ≡ Ok p → Of (IsValue keys) d tag.Binary bytes p
 unfolding binary_at
 binary_takes d bytes p fits e =
     let b = bind_ok (size_at bytes) (λ n. byte_at n.1 >>= λ b. cond (eqb b.0 2) (old_binary_at n.0 b.1) (plain_binary_at b.0 n.0 b.1)) p e in
@@ -112,37 +115,41 @@ binary_takes d bytes p fits e =
           (is_binary d c.0.0 s.0.0 (more 0) (eqb-false c.0.0 2 plain.0) (omega (arith, size.spelled.1, held.spelled.1))) s.2
     ]
 
-boolean_takes : (d : ℕ) (bytes : List ℕ) (p : Value × List ℕ) → IsBytes bytes → boolean_at bytes ≡ Ok p → Of IsValue d tag.Boolean bytes p
+boolean_takes : {keys : DuplicateKeys} (d : ℕ) (bytes : List ℕ) (p : Value × List ℕ) → IsBytes bytes → boolean_at bytes ≡ Ok p → Of (IsValue keys) d tag.Boolean bytes p
 unfolding boolean_at
-boolean_takes d bytes p fits e =
+boolean_takes {keys} d bytes p fits e =
     let b = bind_ok (byte_at bytes) (λ b. cond (eqb b.0 0) (Ok (model.scalar (kind.boolean false), b.1)) (cond (eqb b.0 1) (Ok (model.scalar (kind.boolean true), b.1)) (Err (at Boolean bytes)))) p e in
     let byte = byte_takes bytes b.0.0 b.0.1 b.1 in
     let rest = IsBytes-rest b.0.0 b.0.1 (subst IsBytes byte fits) in
     elim (chosen (eqb b.0.0 0) (Ok (model.scalar (kind.boolean false), b.0.1)) (cond (eqb b.0.0 1) (Ok (model.scalar (kind.boolean true), b.0.1)) (Err (at Boolean bytes))) (Ok p) b.2) [
-      | inl z ↦ subst (λ (q : Value × List ℕ). Of IsValue d tag.Boolean bytes q) (ok_is (model.scalar (kind.boolean false), b.0.1) p z.1)
+      | inl z ↦ subst (λ (q : Value × List ℕ). Of (IsValue keys) d tag.Boolean bytes q) (ok_is (model.scalar (kind.boolean false), b.0.1) p z.1)
           record { front = 0 ∷ []; spelled = is_false d; parts = byte ∙ ap (λ (x : ℕ). x ∷ b.0.1) (eqb-true b.0.0 0 z.0); rest_bytes = rest }
       | inr n ↦
           let o = if_ok (eqb b.0.0 1) (Ok (model.scalar (kind.boolean true), b.0.1)) (at Boolean bytes) p n.1 in
-          subst (λ (q : Value × List ℕ). Of IsValue d tag.Boolean bytes q) (ok_is (model.scalar (kind.boolean true), b.0.1) p o.1)
+          subst (λ (q : Value × List ℕ). Of (IsValue keys) d tag.Boolean bytes q) (ok_is (model.scalar (kind.boolean true), b.0.1) p o.1)
           record { front = 1 ∷ []; spelled = is_true d; parts = byte ∙ ap (λ (x : ℕ). x ∷ b.0.1) (eqb-true b.0.0 1 o.0); rest_bytes = rest }
     ]
 
-abbrev pub DocumentTakes : ℕ → Type 0
-DocumentTakes d = (bytes : List ℕ) (ps : Pairs) (rest : List ℕ) → IsBytes bytes → document_at d bytes ≡ Ok (ps, rest) → Takes (IsDocument d) bytes ps rest
+-- the bytes of a document whose keys may stand behind those
+abbrev pub StandsBehind : DuplicateKeys → ℕ → Before → List ℕ → Pairs → Type 0
+StandsBehind keys d before front ps = IsDocument keys d front ps × Stand before ps
 
-regex_takes : (d : ℕ) (bytes : List ℕ) (p : Value × List ℕ) → IsBytes bytes → regex_at bytes ≡ Ok p → Of IsValue d tag.RegularExpression bytes p
+abbrev pub DocumentTakes : DuplicateKeys → ℕ → Type 0
+DocumentTakes keys d = (before : Before) (bytes : List ℕ) (ps : Pairs) (rest : List ℕ) → IsBytes bytes → document_in keys d before bytes ≡ Ok (ps, rest) → Takes (StandsBehind keys d before) bytes ps rest
+
+regex_takes : {keys : DuplicateKeys} (d : ℕ) (bytes : List ℕ) (p : Value × List ℕ) → IsBytes bytes → regex_at bytes ≡ Ok p → Of (IsValue keys) d tag.RegularExpression bytes p
 unfolding regex_at
-regex_takes d bytes p fits e =
+regex_takes {keys} d bytes p fits e =
     let a = bind_ok (name_at bytes) (λ a. name_at a.1 >>= λ o. Ok (model.scalar (kind.regex a.0 o.0), o.1)) p e in
     let o = bind_ok (name_at a.0.1) (λ o. Ok (model.scalar (kind.regex a.0.0 o.0), o.1)) p a.2 in
     let first = name_takes bytes a.0.0 a.0.1 a.1 in
     let second = name_takes a.0.1 o.0.0 o.0.1 o.1 in
     let fits1 = behind_name a.0.0 a.0.1 (subst IsBytes first.1 fits) in
     let fits2 = behind_name o.0.0 o.0.1 (subst IsBytes second.1 fits1) in
-    subst (λ (q : Value × List ℕ). Of IsValue d tag.RegularExpression bytes q) (ok_is (model.scalar (kind.regex a.0.0 o.0.0), o.0.1) p o.2)
+    subst (λ (q : Value × List ℕ). Of (IsValue keys) d tag.RegularExpression bytes q) (ok_is (model.scalar (kind.regex a.0.0 o.0.0), o.0.1) p o.2)
     record { front = a.0.0 ++ 0 ∷ (o.0.0 ++ 0 ∷ []); spelled = is_regex d a.0.0 o.0.0 first.0 second.0; parts = first.1 ∙ ap (λ (x : List ℕ). a.0.0 ++ 0 ∷ x) second.1 ∙ regroup a.0.0 o.0.0 (0 ∷ []) o.0.1; rest_bytes = fits2 }
 
-pointer_takes : (d : ℕ) (bytes : List ℕ) (p : Value × List ℕ) → IsBytes bytes → pointer_at bytes ≡ Ok p → Of IsValue d tag.DbPointer bytes p
+pointer_takes : {keys : DuplicateKeys} (d : ℕ) (bytes : List ℕ) (p : Value × List ℕ) → IsBytes bytes → pointer_at bytes ≡ Ok p → Of (IsValue keys) d tag.DbPointer bytes p
 unfolding pointer_at
 pointer_takes d bytes p fits e =
     let a = bind_ok (text_at bytes) (λ a. bytes_at 12 a.1 >>= λ id. Ok (model.scalar (kind.db_pointer a.0 id.0), id.1)) p e in
@@ -153,7 +160,7 @@ pointer_takes d bytes p fits e =
     (first.parts ∙ ap (λ (x : List ℕ). x ++ a.0.1) first.spelled.0) (second.parts ∙ ap (λ (x : List ℕ). x ++ o.0.1) second.spelled.0) second.rest_bytes
     (is_pointer d a.0.0 o.0.0 (first.spelled.1, first.spelled.2) second.spelled.1) o.2
 
-timestamp_takes : (d : ℕ) (bytes : List ℕ) (p : Value × List ℕ) → IsBytes bytes → timestamp_at bytes ≡ Ok p → Of IsValue d tag.Timestamp bytes p
+timestamp_takes : {keys : DuplicateKeys} (d : ℕ) (bytes : List ℕ) (p : Value × List ℕ) → IsBytes bytes → timestamp_at bytes ≡ Ok p → Of (IsValue keys) d tag.Timestamp bytes p
 unfolding timestamp_at
 timestamp_takes d bytes p fits e =
     let a = bind_ok (number_at w32 bytes) (λ i. number_at w32 i.1 >>= λ t. Ok (model.scalar (kind.timestamp t.0 i.0), t.1)) p e in
@@ -165,26 +172,26 @@ timestamp_takes d bytes p fits e =
     (is_timestamp d a.0.0 o.0.0 first.spelled.1 second.spelled.1) o.2
 
 -- the bytes of a document that f makes this of
-abbrev IsOf : {A : Type 0} → (Pairs → A) → ℕ → List ℕ → A → Type 0
-IsOf f d front y = (ps : Pairs) × IsDocument d front ps × (y ≡ f ps)
+abbrev IsOf : {A : Type 0} → DuplicateKeys → Before → (Pairs → A) → ℕ → List ℕ → A → Type 0
+IsOf keys before f d front y = (ps : Pairs) × StandsBehind keys d before front ps × (y ≡ f ps)
 
-mapped_takes : {A : Type 0} (f : Pairs → A) (d : ℕ) → DocumentTakes d → (bytes : List ℕ) (y : A) (rest : List ℕ) → IsBytes bytes → mapped f (document_at d bytes) ≡ Ok (y, rest) → Takes (IsOf f d) bytes y rest
-mapped_takes {A} f d h bytes y rest fits e =
-    let b = bind_ok (document_at d bytes) (λ x. Ok (f x.0, x.1)) (y, rest) e in
-    let t = h bytes b.0.0 b.0.1 fits b.1 in
-    let made : Takes (IsOf f d) bytes (f b.0.0) b.0.1 = record { front = t.front; spelled = (b.0.0, t.spelled, refl); parts = t.parts; rest_bytes = t.rest_bytes } in
-    subst (λ (p : A × List ℕ). Takes (IsOf f d) bytes p.0 p.1) (ok_is (f b.0.0, b.0.1) (y, rest) b.2) made
+mapped_takes : {keys : DuplicateKeys} {A : Type 0} (before : Before) (f : Pairs → A) (d : ℕ) → DocumentTakes keys d → (bytes : List ℕ) (y : A) (rest : List ℕ) → IsBytes bytes → mapped f (document_in keys d before bytes) ≡ Ok (y, rest) → Takes (IsOf keys before f d) bytes y rest
+mapped_takes {keys} {A} before f d h bytes y rest fits e =
+    let b = bind_ok (document_in keys d before bytes) (λ x. Ok (f x.0, x.1)) (y, rest) e in
+    let t = h before bytes b.0.0 b.0.1 fits b.1 in
+    let made : Takes (IsOf keys before f d) bytes (f b.0.0) b.0.1 = record { front = t.front; spelled = (b.0.0, t.spelled, refl); parts = t.parts; rest_bytes = t.rest_bytes } in
+    subst (λ (p : A × List ℕ). Takes (IsOf keys before f d) bytes p.0 p.1) (ok_is (f b.0.0, b.0.1) (y, rest) b.2) made
 
-scope_takes : (d : ℕ) → DocumentTakes d → (bytes : List ℕ) (p : Value × List ℕ) → IsBytes bytes → scope_at (document_at d) bytes ≡ Ok p → Of IsValue d tag.JavaScriptCodeWithScope bytes p
+scope_takes : {keys : DuplicateKeys} (d : ℕ) → DocumentTakes keys d → (bytes : List ℕ) (p : Value × List ℕ) → IsBytes bytes → scope_at (document_in keys d (none_before keys)) bytes ≡ Ok p → Of (IsValue keys) d tag.JavaScriptCodeWithScope bytes p
 unfolding scope_at
-scope_takes d h bytes p fits e =
-    let b = bind_ok (size_at bytes) (λ n. text_at n.1 >>= λ s. settled no_pairs (document_at d s.1) >>= λ x. cond (eqb (n.0 + length x.1) (length bytes)) (Ok (model.code_scope s.0 x.0, x.1)) (Err (at Length bytes))) p e in
-    let s = bind_ok (text_at b.0.1) (λ s. settled no_pairs (document_at d s.1) >>= λ x. cond (eqb (b.0.0 + length x.1) (length bytes)) (Ok (model.code_scope s.0 x.0, x.1)) (Err (at Length bytes))) p b.2 in
-    let x = bind_ok (settled no_pairs (document_at d s.0.1)) (λ x. cond (eqb (b.0.0 + length x.1) (length bytes)) (Ok (model.code_scope s.0.0 x.0, x.1)) (Err (at Length bytes))) p s.2 in
+scope_takes {keys} d h bytes p fits e =
+    let b = bind_ok (size_at bytes) (λ n. text_at n.1 >>= λ s. settled no_pairs (document_in keys d (none_before keys) s.1) >>= λ x. cond (eqb (n.0 + length x.1) (length bytes)) (Ok (model.code_scope s.0 x.0, x.1)) (Err (at Length bytes))) p e in
+    let s = bind_ok (text_at b.0.1) (λ s. settled no_pairs (document_in keys d (none_before keys) s.1) >>= λ x. cond (eqb (b.0.0 + length x.1) (length bytes)) (Ok (model.code_scope s.0 x.0, x.1)) (Err (at Length bytes))) p b.2 in
+    let x = bind_ok (settled no_pairs (document_in keys d (none_before keys) s.0.1)) (λ x. cond (eqb (b.0.0 + length x.1) (length bytes)) (Ok (model.code_scope s.0.0 x.0, x.1)) (Err (at Length bytes))) p s.2 in
     let g = if_ok (eqb (b.0.0 + length x.0.1) (length bytes)) (Ok (model.code_scope s.0.0 x.0.0, x.0.1)) (at Length bytes) p x.2 in
     let size = size_takes bytes b.0.0 b.0.1 fits b.1 in
     let text = text_takes b.0.1 s.0.0 s.0.1 size.rest_bytes s.1 in
-    let doc = mapped_takes (settle no_pairs) d h s.0.1 x.0.0 x.0.1 text.rest_bytes x.1 in
+    let doc = mapped_takes (none_before keys) (settle no_pairs) d h s.0.1 x.0.0 x.0.1 text.rest_bytes x.1 in
     let whole : b.0.1 ≡ (text_bytes s.0.0 ++ doc.front) ++ x.0.1 = text.parts ∙ ap (λ (a : List ℕ). a ++ s.0.1) text.spelled.0 ∙ ap (λ (a : List ℕ). text_bytes s.0.0 ++ a) doc.parts ∙ sym (append_assoc (text_bytes s.0.0) doc.front x.0.1) in
     let front : bytes ≡ le w32 b.0.0 ++ b.0.1 = size.parts ∙ ap (λ (a : List ℕ). a ++ b.0.1) size.spelled.0 in
     let counted : length bytes ≡ 4 + (length (text_bytes s.0.0) + length doc.front + length x.0.1) =
@@ -193,18 +200,18 @@ scope_takes d h bytes p fits e =
     let n-is : b.0.0 ≡ 4 + (length (text_bytes s.0.0) + length doc.front) = same_number b.0.0 (length (text_bytes s.0.0)) (length doc.front) (length x.0.1) (length bytes) (eqb-true _ _ g.0) counted in
     two_parts d tag.JavaScriptCodeWithScope bytes (le w32 (4 + (length (text_bytes s.0.0) + length doc.front))) b.0.1 (text_bytes s.0.0 ++ doc.front) x.0.1 (model.code_scope s.0.0 x.0.0) p
     (front ∙ ap (λ (k : ℕ). le w32 k ++ b.0.1) n-is) whole doc.rest_bytes
-    (subst (λ (q : Pairs). IsValue d tag.JavaScriptCodeWithScope (le w32 (4 + (length (text_bytes s.0.0) + length doc.front)) ++ (text_bytes s.0.0 ++ doc.front)) (model.code_scope s.0.0 q)) (sym doc.spelled.2)
-    (is_scope d s.0.0 doc.front doc.spelled.0 (text.spelled.1, text.spelled.2) doc.spelled.1 (subst (λ (k : ℕ). k < 2 ^ 31) n-is size.spelled.1))) g.1
+    (subst (λ (q : Pairs). IsValue keys d tag.JavaScriptCodeWithScope (le w32 (4 + (length (text_bytes s.0.0) + length doc.front)) ++ (text_bytes s.0.0 ++ doc.front)) (model.code_scope s.0.0 q)) (sym doc.spelled.2)
+    (is_scope d s.0.0 doc.front doc.spelled.0 (text.spelled.1, text.spelled.2) doc.spelled.1.0 (may_stand keys doc.spelled.0 doc.spelled.1.1) (subst (λ (k : ℕ). k < 2 ^ 31) n-is size.spelled.1))) g.1
 
-value_takes : (d : ℕ) → DocumentTakes d → (t : Kind) (bytes : List ℕ) (p : Value × List ℕ) → IsBytes bytes → value_with (document_at d) t bytes ≡ Ok p → Of IsValue d t bytes p
+value_takes : {keys : DuplicateKeys} (d : ℕ) → DocumentTakes keys d → (t : Kind) (bytes : List ℕ) (p : Value × List ℕ) → IsBytes bytes → value_with keys (document_in keys d) t bytes ≡ Ok p → Of (IsValue keys) d t bytes p
 unfolding value_with
 value_takes d h tag.Double bytes p fits e =
     stepped (IsNumber w64 (2 ^ 64)) d tag.Double (λ n. model.scalar (kind.double n)) (λ front n w. rw w.0 (is_double d n w.1)) bytes (number_at w64 bytes) p (λ n rest r. number_takes w64 (2 ^ 64) wide64 bytes n rest fits r) e
 value_takes d h tag.String bytes p fits e = text_part d tag.String (λ s. model.scalar (kind.text s)) (λ s w. is_text d s w) bytes p fits e
-value_takes d h tag.EmbeddedDocument bytes p fits e =
-    stepped (IsOf (settle no_pairs) d) d tag.EmbeddedDocument (λ ps. model.document ps) (λ front ps w. rw w.2 (is_embedded d front w.0 w.1)) bytes (settled no_pairs (document_at d bytes)) p (λ ps rest r. mapped_takes (settle no_pairs) d h bytes ps rest fits r) e
-value_takes d h tag.Array bytes p fits e =
-    stepped (IsOf values d) d tag.Array (λ vs. model.array vs) (λ front vs w. rw w.2 (is_array d front w.0 w.1)) bytes (mapped values (document_at d bytes)) p (λ vs rest r. mapped_takes values d h bytes vs rest fits r) e
+value_takes {keys} d h tag.EmbeddedDocument bytes p fits e =
+    stepped (IsOf keys (none_before keys) (settle no_pairs) d) d tag.EmbeddedDocument (λ ps. model.document ps) (λ front ps w. rw w.2 (is_embedded d front w.0 w.1.0 (may_stand keys w.0 w.1.1))) bytes (settled no_pairs (document_in keys d (none_before keys) bytes)) p (λ ps rest r. mapped_takes (none_before keys) (settle no_pairs) d h bytes ps rest fits r) e
+value_takes {keys} d h tag.Array bytes p fits e =
+    stepped (IsOf keys None values d) d tag.Array (λ vs. model.array vs) (λ front vs w. rw w.2 (is_array d front w.0 w.1.0)) bytes (mapped values (document_in keys d None bytes)) p (λ vs rest r. mapped_takes None values d h bytes vs rest fits r) e
 value_takes d h tag.Binary bytes p fits e = binary_takes d bytes p fits e
 value_takes d h tag.Undefined bytes p fits e = empty_part d tag.Undefined (model.scalar kind.undefined) (is_undefined d) bytes p fits e
 value_takes d h tag.ObjectId bytes p fits e = bytes_part 12 d tag.ObjectId (λ s. model.scalar (kind.object_id s)) (λ s w. is_object_id d s w) bytes p fits e
@@ -227,63 +234,66 @@ value_takes d h tag.MaxKey bytes p fits e = empty_part d tag.MaxKey (model.scala
 value_takes d h tag.MinKey bytes p fits e = empty_part d tag.MinKey (model.scalar kind.min_key) (is_min d) bytes p fits e
 
 -- a list, the byte 0, and the bytes behind it
-pub record TakesList (d : ℕ) (bytes : List ℕ) (ps : Pairs) (rest : List ℕ) : Type 0 where
+pub record TakesList (keys : DuplicateKeys) (d : ℕ) (before : Before) (bytes : List ℕ) (ps : Pairs) (rest : List ℕ) : Type 0 where
   pub list : List ℕ
-  pub spelled : IsList d list ps
+  pub spelled : IsList keys d list ps
+  pub stand : Stand before ps
   pub parts : bytes ≡ list ++ 0 ∷ rest
   pub rest_bytes : IsBytes rest
 
-list_takes : (d : ℕ) → DocumentTakes d → (m : ℕ) (bytes : List ℕ) (p : Pairs × List ℕ) → IsBytes bytes → list_at (value_with (document_at d)) m bytes ≡ Ok p → TakesList d bytes p.0 p.1
+list_takes : {keys : DuplicateKeys} (d : ℕ) → DocumentTakes keys d → (before : Before) (m : ℕ) (bytes : List ℕ) (p : Pairs × List ℕ) → IsBytes bytes → list_at (value_with keys (document_in keys d)) before m bytes ≡ Ok p → TakesList keys d before bytes p.0 p.1
 unfolding list_at
-list_takes d h zero bytes p fits e = absurd cc
-list_takes d h (suc m) bytes p fits e =
-    let element = value_with (document_at d) in
-    let b = bind_ok (byte_at bytes) (λ t. cond (eqb t.0 0) (Ok (no_pairs, t.1)) (or_fault (kind_of t.0) Tag bytes >>= λ k. name_at t.1 >>= λ s. element k s.1 >>= λ v. list_at element m v.1 >>= λ x. Ok (pair s.0 v.0 x.0, x.1))) p e in
+list_takes d h before zero bytes p fits e = absurd cc
+list_takes {keys} d h before (suc m) bytes p fits e =
+    let element = value_with keys (document_in keys d) in
+    let b = bind_ok (byte_at bytes) (λ t. cond (eqb t.0 0) (Ok (no_pairs, t.1)) (or_fault (kind_of t.0) Tag bytes >>= λ k. key_at before t.1 >>= λ s. element k s.1 >>= λ v. list_at element (noted s.0 before) m v.1 >>= λ x. Ok (pair s.0 v.0 x.0, x.1))) p e in
     let t = b.0 in
     let byte = byte_takes bytes t.0 t.1 b.1 in
     let fits1 = IsBytes-rest t.0 t.1 (subst IsBytes byte fits) in
-    elim (chosen (eqb t.0 0) (Ok (no_pairs, t.1)) (or_fault (kind_of t.0) Tag bytes >>= λ k. name_at t.1 >>= λ s. element k s.1 >>= λ v. list_at element m v.1 >>= λ x. Ok (pair s.0 v.0 x.0, x.1)) (Ok p) b.2) [
-      | inl z ↦ subst (λ (q : Pairs × List ℕ). TakesList d bytes q.0 q.1) (ok_is (no_pairs, t.1) p z.1)
-          record { list = []; spelled = is_empty d; parts = byte ∙ ap (λ (x : ℕ). x ∷ t.1) (eqb-true t.0 0 z.0); rest_bytes = fits1 }
+    elim (chosen (eqb t.0 0) (Ok (no_pairs, t.1)) (or_fault (kind_of t.0) Tag bytes >>= λ k. key_at before t.1 >>= λ s. element k s.1 >>= λ v. list_at element (noted s.0 before) m v.1 >>= λ x. Ok (pair s.0 v.0 x.0, x.1)) (Ok p) b.2) [
+      | inl z ↦ subst (λ (q : Pairs × List ℕ). TakesList keys d before bytes q.0 q.1) (ok_is (no_pairs, t.1) p z.1)
+          record { list = []; spelled = is_empty d; stand = stand_none before; parts = byte ∙ ap (λ (x : ℕ). x ∷ t.1) (eqb-true t.0 0 z.0); rest_bytes = fits1 }
       | inr n ↦
-          let k = bind_ok (or_fault (kind_of t.0) Tag bytes) (λ k. name_at t.1 >>= λ s. element k s.1 >>= λ v. list_at element m v.1 >>= λ x. Ok (pair s.0 v.0 x.0, x.1)) p n.1 in
-          let s = bind_ok (name_at t.1) (λ s. element k.0 s.1 >>= λ v. list_at element m v.1 >>= λ x. Ok (pair s.0 v.0 x.0, x.1)) p k.2 in
-          let v = bind_ok (element k.0 s.0.1) (λ v. list_at element m v.1 >>= λ x. Ok (pair s.0.0 v.0 x.0, x.1)) p s.2 in
-          let x = bind_ok (list_at element m v.0.1) (λ x. Ok (pair s.0.0 v.0.0 x.0, x.1)) p v.2 in
+          let k = bind_ok (or_fault (kind_of t.0) Tag bytes) (λ k. key_at before t.1 >>= λ s. element k s.1 >>= λ v. list_at element (noted s.0 before) m v.1 >>= λ x. Ok (pair s.0 v.0 x.0, x.1)) p n.1 in
+          let s = bind_ok (key_at before t.1) (λ s. element k.0 s.1 >>= λ v. list_at element (noted s.0 before) m v.1 >>= λ x. Ok (pair s.0 v.0 x.0, x.1)) p k.2 in
+          let v = bind_ok (element k.0 s.0.1) (λ v. list_at element (noted s.0.0 before) m v.1 >>= λ x. Ok (pair s.0.0 v.0 x.0, x.1)) p s.2 in
+          let x = bind_ok (list_at element (noted s.0.0 before) m v.0.1) (λ x. Ok (pair s.0.0 v.0.0 x.0, x.1)) p v.2 in
           let tag = tag_from t.0 k.0 (or_fault_ok (kind_of t.0) Tag bytes k.0 k.1) in
-          let name = name_takes t.1 s.0.0 s.0.1 s.1 in
+          let key = key_takes before t.1 s.0.0 s.0.1 s.1 in
+          let name = name_takes t.1 s.0.0 s.0.1 key.0 in
           let fits2 = behind_name s.0.0 s.0.1 (subst IsBytes name.1 fits1) in
           let val = value_takes d h k.0 s.0.1 v.0 fits2 v.1 in
-          let others = list_takes d h m v.0.1 x.0 val.rest_bytes x.1 in
+          let others = list_takes d h (noted s.0.0 before) m v.0.1 x.0 val.rest_bytes x.1 in
           let whole : bytes ≡ (tag_of k.0 ∷ (s.0.0 ++ 0 ∷ (val.front ++ others.list))) ++ 0 ∷ x.0.1 =
           byte ∙ ap (λ (a : ℕ). a ∷ t.1) (sym tag) ∙ ap (λ (a : List ℕ). tag_of k.0 ∷ a) (name.1
           ∙ ap (λ (a : List ℕ). s.0.0 ++ 0 ∷ a) (val.parts ∙ ap (λ (a : List ℕ). val.front ++ a) others.parts)
           ∙ regroup s.0.0 val.front others.list (0 ∷ x.0.1)) in
-          subst (λ (q : Pairs × List ℕ). TakesList d bytes q.0 q.1) (ok_is (pair s.0.0 v.0.0 x.0.0, x.0.1) p x.2)
+          subst (λ (q : Pairs × List ℕ). TakesList keys d before bytes q.0 q.1) (ok_is (pair s.0.0 v.0.0 x.0.0, x.0.1) p x.2)
           record {
             list = tag_of k.0 ∷ (s.0.0 ++ 0 ∷ (val.front ++ others.list));
             spelled = is_element d k.0 s.0.0 val.front others.list v.0.0 x.0.0 name.0 val.spelled others.spelled;
+            stand = stand_more before s.0.0 v.0.0 x.0.0 key.1 others.stand;
             parts = whole;
             rest_bytes = others.rest_bytes;
           }
     ]
 
-pub document_takes : (d : ℕ) → DocumentTakes d
-unfolding document_at
-document_takes zero bytes ps rest fits e = absurd cc
-document_takes (suc d) bytes ps rest fits e =
-    let b = bind_ok (size_at bytes) (λ n. list_at (value_with (document_at d)) (length n.1) n.1 >>= λ x. sized n.0 bytes x) (ps, rest) e in
-    let x = bind_ok (list_at (value_with (document_at d)) (length b.0.1) b.0.1) (λ x. sized b.0.0 bytes x) (ps, rest) b.2 in
+pub document_takes : (keys : DuplicateKeys) (d : ℕ) → DocumentTakes keys d
+unfolding document_in
+document_takes keys zero before bytes ps rest fits e = absurd cc
+document_takes keys (suc d) before bytes ps rest fits e =
+    let b = bind_ok (size_at bytes) (λ n. list_at (value_with keys (document_in keys d)) before (length n.1) n.1 >>= λ x. sized n.0 bytes x) (ps, rest) e in
+    let x = bind_ok (list_at (value_with keys (document_in keys d)) before (length b.0.1) b.0.1) (λ x. sized b.0.0 bytes x) (ps, rest) b.2 in
     let g = if_ok (eqb (b.0.0 + length x.0.1) (length bytes)) (Ok x.0) (at Length bytes) (ps, rest) x.2 in
     let size = size_takes bytes b.0.0 b.0.1 fits b.1 in
-    let list = list_takes d (document_takes d) (length b.0.1) b.0.1 x.0 size.rest_bytes x.1 in
+    let list = list_takes d (document_takes keys d) before (length b.0.1) b.0.1 x.0 size.rest_bytes x.1 in
     let whole : bytes ≡ le w32 b.0.0 ++ (list.list ++ 0 ∷ x.0.1) = size.parts ∙ ap (λ (a : List ℕ). a ++ b.0.1) size.spelled.0 ∙ ap (λ (a : List ℕ). le w32 b.0.0 ++ a) list.parts in
     let counted : length bytes ≡ 4 + (length list.list + suc (length x.0.1)) = ap length whole ∙ length-append (le w32 b.0.0) (list.list ++ 0 ∷ x.0.1) ∙ ap (λ (a : ℕ). a + length (list.list ++ 0 ∷ x.0.1)) (length-le w32 (2 ^ 32) wide32 b.0.0) ∙ ap (λ (a : ℕ). 4 + a) (length-append list.list (0 ∷ x.0.1)) in
     let n-is : b.0.0 ≡ length list.list + 5 = omega (arith, eqb-true _ _ g.0, counted) in
-    subst (λ (q : Pairs × List ℕ). Takes (IsDocument (suc d)) bytes q.0 q.1) (ok_is x.0 (ps, rest) g.1)
+    subst (λ (q : Pairs × List ℕ). Takes (StandsBehind keys (suc d) before) bytes q.0 q.1) (ok_is x.0 (ps, rest) g.1)
     record {
       front = le w32 (length list.list + 5) ++ (list.list ++ 0 ∷ []);
-      spelled = is_document d list.list x.0.0 list.spelled (omega (arith, size.spelled.1, n-is));
+      spelled = (is_document d list.list x.0.0 list.spelled (omega (arith, size.spelled.1, n-is)), list.stand);
       parts = whole ∙ ap (λ (k : ℕ). le w32 k ++ (list.list ++ 0 ∷ x.0.1)) n-is ∙ end_behind (le w32 (length list.list + 5)) list.list x.0.1;
       rest_bytes = list.rest_bytes;
     }

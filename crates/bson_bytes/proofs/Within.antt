@@ -12,13 +12,14 @@ use Rattle.bson_model.specs.Value.{Value, Pairs, no_pairs, pair, scalar, code_sc
 use Rattle.bson_bytes.specs.declared.fault.Fault.{Fault}
 use Rattle.bson_bytes.specs.declared.fault.FaultKind.{FaultKind}
 use Rattle.bson_bytes.specs.declared.fault.FaultKind.TheVariants.{Short, Length, Tag, Utf8, Boolean, End}
-use Rattle.bson_bytes.specs.declared.fault.FaultKind.TheVariants.{Trailing}
+use Rattle.bson_bytes.specs.declared.fault.FaultKind.TheVariants.{Trailing, DuplicateKey}
+use Rattle.bson_bytes.specs.declared.keys.DuplicateKeys.{DuplicateKeys}
 use Rattle.bson_bytes.specs.Fault.{at, ◌>>=◌, or_fault}
 use Rattle.bson_bytes.specs.Grammar.{settle, values}
 use Rattle.bson_bytes.specs.Reading.{byte_at, bytes_at, number_at, size_at, zero_at, split_zero, utf8_at, name_at}
 use Rattle.bson_bytes.specs.Reading.{text_at, old_binary_at, plain_binary_at, binary_at, boolean_at, regex_at}
 use Rattle.bson_bytes.specs.Reading.{pointer_at, timestamp_at, mapped, settled, scope_at, value_with, list_at, sized}
-use Rattle.bson_bytes.specs.Reading.{document_at, reads}
+use Rattle.bson_bytes.specs.Reading.{document_in, reads_in, Before, none_before, noted, is_new, key_at}
 use Rattle.bson_bytes.specs.Tags.{kind_of}
 use Rattle.bson_bytes.proofs.PartLaws.{split_takes}
 
@@ -99,6 +100,13 @@ name_within n bytes le =
     (or_within left_by n (split_zero bytes) Short bytes le (λ p e. omega (arith, le, split_shorter bytes p e)))
     (λ p h. step none left_by n (utf8_at p.0 bytes) (λ s. Ok (s, p.1)) (utf8_within n p.0 bytes le) (λ s i. h))
 
+key_within : (n : ℕ) (before : Before) (bytes : List ℕ) → length bytes ≤ n → Within left_by n (key_at before bytes)
+key_within n None bytes le = name_within n bytes le
+key_within n (Some ks) bytes le =
+    step left_by left_by n (name_at bytes) (λ s. cond (is_new s.0 ks) (Ok s) (Err (at DuplicateKey bytes)))
+    (name_within n bytes le)
+    (λ s h. either_way left_by n (is_new s.0 ks) (Ok s) (Err (at DuplicateKey bytes)) h le)
+
 text_within : (n : ℕ) (bytes : List ℕ) → length bytes ≤ n → Within left_by n (text_at bytes)
 unfolding text_at
 text_within n bytes le =
@@ -162,105 +170,114 @@ timestamp_within n bytes le =
 
 -- ---- documents
 
-abbrev DocumentWithin : ℕ → Type 0
-DocumentWithin d = (n : ℕ) (bytes : List ℕ) → length bytes ≤ n → Within left_by n (document_at d bytes)
+abbrev DocumentWithin : DuplicateKeys → ℕ → Type 0
+DocumentWithin keys d = (before : Before) (n : ℕ) (bytes : List ℕ) → length bytes ≤ n
+    → Within left_by n (document_in keys d before bytes)
 
-scope_within : (d : ℕ) → DocumentWithin d → (n : ℕ) (bytes : List ℕ) → length bytes ≤ n
-    → Within left_by n (scope_at (document_at d) bytes)
+scope_within : (keys : DuplicateKeys) (d : ℕ) → DocumentWithin keys d → (n : ℕ) (bytes : List ℕ) → length bytes ≤ n
+    → Within left_by n (scope_at (document_in keys d (none_before keys)) bytes)
 unfolding scope_at
-scope_within d doc n bytes le =
+scope_within keys d doc n bytes le =
     let held = λ (k : ℕ × List ℕ) (s : List ℕ × List ℕ) (x : Pairs × List ℕ).
     cond (eqb (k.0 + length x.1) (length bytes)) (Ok (code_scope s.0 x.0, x.1)) (Err (at Length bytes)) in
-    step left_by left_by n (size_at bytes) (λ k. text_at k.1 >>= λ s. settled no_pairs (document_at d s.1) >>= held k s)
+    step left_by left_by n (size_at bytes) (λ k. text_at k.1 >>= λ s. settled no_pairs (document_in keys d (none_before keys) s.1) >>= held k s)
     (size_within n bytes le)
-    (λ k h. step left_by left_by n (text_at k.1) (λ s. settled no_pairs (document_at d s.1) >>= held k s)
+    (λ k h. step left_by left_by n (text_at k.1) (λ s. settled no_pairs (document_in keys d (none_before keys) s.1) >>= held k s)
     (text_within n k.1 h)
-    (λ s i. step left_by left_by n (settled no_pairs (document_at d s.1)) (held k s)
-    (onto n (document_at d s.1) (settle no_pairs) (doc n s.1 i))
+    (λ s i. step left_by left_by n (settled no_pairs (document_in keys d (none_before keys) s.1)) (held k s)
+    (onto n (document_in keys d (none_before keys) s.1) (settle no_pairs) (doc (none_before keys) n s.1 i))
     (λ x j. either_way left_by n (eqb (k.0 + length x.1) (length bytes)) (Ok (code_scope s.0 x.0, x.1))
     (Err (at Length bytes)) j le)))
 
-value_within : (d : ℕ) → DocumentWithin d → (t : ElementType) (n : ℕ) (bytes : List ℕ) → length bytes ≤ n
-    → Within left_by n (value_with (document_at d) t bytes)
+value_within : (keys : DuplicateKeys) (d : ℕ) → DocumentWithin keys d → (t : ElementType) (n : ℕ) (bytes : List ℕ) → length bytes ≤ n
+    → Within left_by n (value_with keys (document_in keys d) t bytes)
 unfolding value_with
-value_within d doc tag.Double n bytes le =
+value_within keys d doc tag.Double n bytes le =
     onto n (number_at w64 bytes) (λ k. scalar (kind.double k)) (number_within n w64 bytes le)
-value_within d doc tag.String n bytes le = onto n (text_at bytes) (λ s. scalar (kind.text s)) (text_within n bytes le)
-value_within d doc tag.EmbeddedDocument n bytes le =
-    onto n (settled no_pairs (document_at d bytes)) (λ ps. document ps)
-    (onto n (document_at d bytes) (settle no_pairs) (doc n bytes le))
-value_within d doc tag.Array n bytes le =
-    onto n (mapped values (document_at d bytes)) (λ vs. array vs) (onto n (document_at d bytes) values (doc n bytes le))
-value_within d doc tag.Binary n bytes le = binary_within n bytes le
-value_within d doc tag.Undefined n bytes le = le
-value_within d doc tag.ObjectId n bytes le =
+value_within keys d doc tag.String n bytes le = onto n (text_at bytes) (λ s. scalar (kind.text s)) (text_within n bytes le)
+value_within keys d doc tag.EmbeddedDocument n bytes le =
+    onto n (settled no_pairs (document_in keys d (none_before keys) bytes)) (λ ps. document ps)
+    (onto n (document_in keys d (none_before keys) bytes) (settle no_pairs) (doc (none_before keys) n bytes le))
+value_within keys d doc tag.Array n bytes le =
+    onto n (mapped values (document_in keys d None bytes)) (λ vs. array vs)
+    (onto n (document_in keys d None bytes) values (doc None n bytes le))
+value_within keys d doc tag.Binary n bytes le = binary_within n bytes le
+value_within keys d doc tag.Undefined n bytes le = le
+value_within keys d doc tag.ObjectId n bytes le =
     onto n (bytes_at 12 bytes) (λ s. scalar (kind.object_id s)) (bytes_within n 12 bytes le)
-value_within d doc tag.Boolean n bytes le = boolean_within n bytes le
-value_within d doc tag.DateTime n bytes le =
+value_within keys d doc tag.Boolean n bytes le = boolean_within n bytes le
+value_within keys d doc tag.DateTime n bytes le =
     onto n (number_at w64 bytes) (λ k. scalar (kind.date (cast_signed w64 k))) (number_within n w64 bytes le)
-value_within d doc tag.Null n bytes le = le
-value_within d doc tag.RegularExpression n bytes le = regex_within n bytes le
-value_within d doc tag.DbPointer n bytes le = pointer_within n bytes le
-value_within d doc tag.JavaScriptCode n bytes le =
+value_within keys d doc tag.Null n bytes le = le
+value_within keys d doc tag.RegularExpression n bytes le = regex_within n bytes le
+value_within keys d doc tag.DbPointer n bytes le = pointer_within n bytes le
+value_within keys d doc tag.JavaScriptCode n bytes le =
     onto n (text_at bytes) (λ s. scalar (kind.code s)) (text_within n bytes le)
-value_within d doc tag.Symbol n bytes le = onto n (text_at bytes) (λ s. scalar (kind.symbol s)) (text_within n bytes le)
-value_within d doc tag.JavaScriptCodeWithScope n bytes le = scope_within d doc n bytes le
-value_within d doc tag.Int32 n bytes le =
+value_within keys d doc tag.Symbol n bytes le = onto n (text_at bytes) (λ s. scalar (kind.symbol s)) (text_within n bytes le)
+value_within keys d doc tag.JavaScriptCodeWithScope n bytes le = scope_within keys d doc n bytes le
+value_within keys d doc tag.Int32 n bytes le =
     onto n (number_at w32 bytes) (λ k. scalar (kind.int32 (cast_signed w32 k))) (number_within n w32 bytes le)
-value_within d doc tag.Timestamp n bytes le = timestamp_within n bytes le
-value_within d doc tag.Int64 n bytes le =
+value_within keys d doc tag.Timestamp n bytes le = timestamp_within n bytes le
+value_within keys d doc tag.Int64 n bytes le =
     onto n (number_at w64 bytes) (λ k. scalar (kind.int64 (cast_signed w64 k))) (number_within n w64 bytes le)
-value_within d doc tag.Decimal128 n bytes le =
+value_within keys d doc tag.Decimal128 n bytes le =
     onto n (bytes_at 16 bytes) (λ s. scalar (kind.decimal s)) (bytes_within n 16 bytes le)
-value_within d doc tag.MaxKey n bytes le = le
-value_within d doc tag.MinKey n bytes le = le
+value_within keys d doc tag.MaxKey n bytes le = le
+value_within keys d doc tag.MinKey n bytes le = le
 
-list_within : (d : ℕ) → DocumentWithin d → (m n : ℕ) (bytes : List ℕ) → length bytes ≤ n
-    → Within left_by n (list_at (value_with (document_at d)) m bytes)
+list_within : (keys : DuplicateKeys) (d : ℕ) → DocumentWithin keys d → (before : Before) (m n : ℕ) (bytes : List ℕ) → length bytes ≤ n
+    → Within left_by n (list_at (value_with keys (document_in keys d)) before m bytes)
 unfolding list_at
-list_within d doc zero n bytes le = le
-list_within d doc (suc m) n bytes le =
-    let element = value_with (document_at d) in
+list_within keys d doc before zero n bytes le = le
+list_within keys d doc before (suc m) n bytes le =
+    let element = value_with keys (document_in keys d) in
     let others = λ (s : List ℕ × List ℕ) (v : Value × List ℕ).
-    list_at element m v.1 >>= λ x. Ok (pair s.0 v.0 x.0, x.1) in
-    let named = λ (t : ℕ × List ℕ) (k : ElementType). name_at t.1 >>= λ s. element k s.1 >>= others s in
+    list_at element (noted s.0 before) m v.1 >>= λ x. Ok (pair s.0 v.0 x.0, x.1) in
+    let named = λ (t : ℕ × List ℕ) (k : ElementType). key_at before t.1 >>= λ s. element k s.1 >>= others s in
     let typed = λ (t : ℕ × List ℕ). or_fault (kind_of t.0) Tag bytes >>= named t in
     step left_by left_by n (byte_at bytes) (λ t. cond (eqb t.0 0) (Ok (no_pairs, t.1)) (typed t)) (byte_within n bytes le)
     (λ t h. either_way left_by n (eqb t.0 0) (Ok (no_pairs, t.1)) (typed t) h
     (step none left_by n (or_fault (kind_of t.0) Tag bytes) (named t)
     (or_within none n (kind_of t.0) Tag bytes le (λ k e. omega arith))
-    (λ k z. step left_by left_by n (name_at t.1) (λ s. element k s.1 >>= others s) (name_within n t.1 h)
-    (λ s i. step left_by left_by n (element k s.1) (others s) (value_within d doc k n s.1 i)
-    (λ v j. onto n (list_at element m v.1) (λ ps. pair s.0 v.0 ps) (list_within d doc m n v.1 j))))))
+    (λ k z. step left_by left_by n (key_at before t.1) (λ s. element k s.1 >>= others s) (key_within n before t.1 h)
+    (λ s i. step left_by left_by n (element k s.1) (others s) (value_within keys d doc k n s.1 i)
+    (λ v j. onto n (list_at element (noted s.0 before) m v.1) (λ ps. pair s.0 v.0 ps) (list_within keys d doc (noted s.0 before) m n v.1 j))))))
 
-pub document_within : (d n : ℕ) (bytes : List ℕ) → length bytes ≤ n → Within left_by n (document_at d bytes)
-unfolding document_at
-document_within zero n bytes le = le
-document_within (suc d) n bytes le =
-    let element = value_with (document_at d) in
-    step left_by left_by n (size_at bytes) (λ k. list_at element (length k.1) k.1 >>= sized k.0 bytes) (size_within n bytes le)
-    (λ k h. step left_by left_by n (list_at element (length k.1) k.1) (sized k.0 bytes)
-    (list_within d (document_within d) (length k.1) n k.1 h)
+pub document_within : (keys : DuplicateKeys) (d : ℕ) (before : Before) (n : ℕ) (bytes : List ℕ) → length bytes ≤ n
+    → Within left_by n (document_in keys d before bytes)
+unfolding document_in
+document_within keys zero before n bytes le = le
+document_within keys (suc d) before n bytes le =
+    let element = value_with keys (document_in keys d) in
+    step left_by left_by n (size_at bytes) (λ k. list_at element before (length k.1) k.1 >>= sized k.0 bytes) (size_within n bytes le)
+    (λ k h. step left_by left_by n (list_at element before (length k.1) k.1) (sized k.0 bytes)
+    (list_within keys d (document_within keys d) before (length k.1) n k.1 h)
     (λ x i. either_way left_by n (eqb (k.0 + length x.1) (length bytes)) (Ok x) (Err (at Length bytes)) i le))
 
-settled_within : (d : ℕ) (bytes : List ℕ) → Within left_by (length bytes) (settled no_pairs (document_at d bytes))
-settled_within d bytes =
-    onto (length bytes) (document_at d bytes) (settle no_pairs) (document_within d (length bytes) bytes (omega arith))
+settled_within : (keys : DuplicateKeys) (d : ℕ) (bytes : List ℕ)
+    → Within left_by (length bytes) (settled no_pairs (document_in keys d (none_before keys) bytes))
+settled_within keys d bytes =
+    onto (length bytes) (document_in keys d (none_before keys) bytes) (settle no_pairs)
+    (document_within keys d (none_before keys) (length bytes) bytes (omega arith))
 
 -- ---- the place of a fault
 
 placed : {A : Type 0} (size : A → ℕ) (n : ℕ) (r : Result A Fault) (f : Fault) → Within size n r → r ≡ Err f → f.left ≤ n
 placed size n r f h e = subst (Within size n) e h
 
-pub front_fault : (d : ℕ) (bytes : List ℕ) (f : Fault) → settled no_pairs (document_at d bytes) ≡ Err f
-    → f.left ≤ length bytes
-front_fault d bytes f e = placed left_by (length bytes) (settled no_pairs (document_at d bytes)) f (settled_within d bytes) e
+pub front_fault : (keys : DuplicateKeys) (d : ℕ) (bytes : List ℕ) (f : Fault)
+    → settled no_pairs (document_in keys d (none_before keys) bytes) ≡ Err f → f.left ≤ length bytes
+front_fault keys d bytes f e =
+    placed left_by (length bytes) (settled no_pairs (document_in keys d (none_before keys) bytes)) f
+    (settled_within keys d bytes) e
 
-pub fault_stands : (d : ℕ) (bytes : List ℕ) (f : Fault) → reads d bytes ≡ Err f → f.left ≤ length bytes
-unfolding reads
-fault_stands d bytes f e =
+pub fault_stands : (keys : DuplicateKeys) (d : ℕ) (bytes : List ℕ) (f : Fault) → reads_in keys d bytes ≡ Err f
+    → f.left ≤ length bytes
+unfolding reads_in
+fault_stands keys d bytes f e =
     let n = length bytes in
+    let read = settled no_pairs (document_in keys d (none_before keys) bytes) in
     let test = λ (x : Pairs × List ℕ). cond (eqb (length x.1) 0) (Ok x.0) (Err (at Trailing x.1)) in
-    placed none n (settled no_pairs (document_at d bytes) >>= test) f
-    (step left_by none n (settled no_pairs (document_at d bytes)) test (settled_within d bytes)
+    placed none n (read >>= test) f
+    (step left_by none n read test (settled_within keys d bytes)
     (λ x h. either_way none n (eqb (length x.1) 0) (Ok x.0) (Err (at Trailing x.1)) (omega arith) h)) e

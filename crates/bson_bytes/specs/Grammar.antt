@@ -1,6 +1,6 @@
 -- Which bytes are which document: BSON 1.1 (bsonspec.org), a production a line. The number is the most documents, arrays
 -- and scopes that stand in each other. The keys of an array's elements are free, and dropped. Of a key that stands twice
--- in a document the last value counts, at the first place.
+-- in a document the last value counts, at the first place; or no key may stand twice, if the caller wants it so.
 use Rattle.std.specs.Prelude.{◌≡◌, ◌≢◌, ℕ, suc, ◌+◌, ◌^◌, ◌<◌, List, [], ◌∷◌, ◌++◌, length, cond, true, false}
 use Rattle.std.specs.Int.{Width, w32, w64, to_le_bytes, cast_signed}
 use Rattle.std.specs.List.{AllByRecursion}
@@ -12,6 +12,8 @@ use Rattle.bson_scalar.specs.Tags.{tag_of}
 use Rattle.bson_wrapper.specs.Scalar as kind
 use Rattle.bson_model.specs.Value.{Value, Values, no_values, value, Pairs, no_pairs, pair, scalar, code_scope, array}
 use Rattle.bson_model.specs.Value.{document}
+use Rattle.bson_bytes.specs.declared.keys.DuplicateKeys.{DuplicateKeys}
+use Rattle.bson_bytes.specs.declared.keys.DuplicateKeys.TheVariants.{Replace, Refuse}
 
 -- ---- numbers, names and texts
 
@@ -80,73 +82,92 @@ abbrev pub values : Pairs → Values
 values no_pairs = no_values
 values (pair k v ps) = value v (values ps)
 
+-- ---- keys that stand twice
+--
+-- The grammar of bsonspec.org lets a key stand twice in a document, and gives it no meaning; MongoDB's manual
+-- ("Documents", on field names) leaves it to each driver. So the reader says which it is.
+
+-- the key is none of these
+abbrev pub IsNew : List (List ℕ) → List ℕ → Type 0
+IsNew before k = AllByRecursion (λ l. k ≢ l) before
+
+-- no key is one of these, and none stands twice
+abbrev pub Once : List (List ℕ) → Pairs → Type 0
+Once before no_pairs = Unit {0}
+Once before (pair k v ps) = IsNew before k × Once (k ∷ before) ps
+
+-- the keys may stand in a document: any, or each once
+abbrev pub MayStand : DuplicateKeys → Pairs → Type 0
+MayStand Replace ps = Unit {0}
+MayStand Refuse ps = Once [] ps
+
 -- ---- the productions
 
 mutual
   -- document ::= int32 e_list 0x00
-  pub data IsDocument : ℕ → List ℕ → Pairs → Type 0 where
-    is_document : (d : ℕ) (list : List ℕ) (ps : Pairs) → IsList d list ps → IsSize (length list + 5)
-        → IsDocument (suc d) (framed list) ps
+  pub data IsDocument (keys : DuplicateKeys) : ℕ → List ℕ → Pairs → Type 0 where
+    is_document : (d : ℕ) (list : List ℕ) (ps : Pairs) → IsList keys d list ps → IsSize (length list + 5)
+        → IsDocument keys (suc d) (framed list) ps
 
   -- e_list ::= "" | element e_list; element ::= tag e_name value
-  pub data IsList : ℕ → List ℕ → Pairs → Type 0 where
-    is_empty : (d : ℕ) → IsList d [] no_pairs
+  pub data IsList (keys : DuplicateKeys) : ℕ → List ℕ → Pairs → Type 0 where
+    is_empty : (d : ℕ) → IsList keys d [] no_pairs
     is_element : (d : ℕ) (t : ElementType) (k bytes list : List ℕ) (v : Value) (ps : Pairs) → IsName k
-        → IsValue d t bytes v → IsList d list ps
-        → IsList d (tag_of t ∷ (k ++ 0 ∷ (bytes ++ list))) (pair k v ps)
+        → IsValue keys d t bytes v → IsList keys d list ps
+        → IsList keys d (tag_of t ∷ (k ++ 0 ∷ (bytes ++ list))) (pair k v ps)
 
   -- what stands behind the tag and the name of an element
-  pub data IsValue : ℕ → ElementType → List ℕ → Value → Type 0 where
+  pub data IsValue (keys : DuplicateKeys) : ℕ → ElementType → List ℕ → Value → Type 0 where
     -- 0x01 e_name double
-    is_double : (d p : ℕ) → p < 2 ^ 64 → IsValue d tag.Double (le w64 p) (scalar (kind.double p))
+    is_double : (d p : ℕ) → p < 2 ^ 64 → IsValue keys d tag.Double (le w64 p) (scalar (kind.double p))
     -- 0x02 e_name string
-    is_text : (d : ℕ) (s : List ℕ) → IsText s → IsValue d tag.String (text_bytes s) (scalar (kind.text s))
+    is_text : (d : ℕ) (s : List ℕ) → IsText s → IsValue keys d tag.String (text_bytes s) (scalar (kind.text s))
     -- 0x03 e_name document
-    is_embedded : (d : ℕ) (bytes : List ℕ) (ps : Pairs) → IsDocument d bytes ps
-        → IsValue d tag.EmbeddedDocument bytes (document (one_each ps))
+    is_embedded : (d : ℕ) (bytes : List ℕ) (ps : Pairs) → IsDocument keys d bytes ps → MayStand keys ps
+        → IsValue keys d tag.EmbeddedDocument bytes (document (one_each ps))
     -- 0x04 e_name document
-    is_array : (d : ℕ) (bytes : List ℕ) (ps : Pairs) → IsDocument d bytes ps
-        → IsValue d tag.Array bytes (array (values ps))
+    is_array : (d : ℕ) (bytes : List ℕ) (ps : Pairs) → IsDocument keys d bytes ps
+        → IsValue keys d tag.Array bytes (array (values ps))
     -- 0x05 e_name binary
     is_binary : (d b : ℕ) (s : List ℕ) → b < 256 → b ≢ 2 → IsSize (length s)
-        → IsValue d tag.Binary (binary_bytes b s) (scalar (kind.binary (subtype_of b) s))
+        → IsValue keys d tag.Binary (binary_bytes b s) (scalar (kind.binary (subtype_of b) s))
     is_old_binary : (d : ℕ) (s : List ℕ) → IsSize (length s + 4)
-        → IsValue d tag.Binary (old_binary_bytes s) (scalar (kind.binary (subtype_of 2) s))
+        → IsValue keys d tag.Binary (old_binary_bytes s) (scalar (kind.binary (subtype_of 2) s))
     -- 0x06 e_name
-    is_undefined : (d : ℕ) → IsValue d tag.Undefined [] (scalar kind.undefined)
+    is_undefined : (d : ℕ) → IsValue keys d tag.Undefined [] (scalar kind.undefined)
     -- 0x07 e_name (byte*12)
-    is_object_id : (d : ℕ) (id : List ℕ) → length id ≡ 12 → IsValue d tag.ObjectId id (scalar (kind.object_id id))
+    is_object_id : (d : ℕ) (id : List ℕ) → length id ≡ 12 → IsValue keys d tag.ObjectId id (scalar (kind.object_id id))
     -- 0x08 e_name 0x00, 0x08 e_name 0x01
-    is_false : (d : ℕ) → IsValue d tag.Boolean (0 ∷ []) (scalar (kind.boolean false))
-    is_true : (d : ℕ) → IsValue d tag.Boolean (1 ∷ []) (scalar (kind.boolean true))
+    is_false : (d : ℕ) → IsValue keys d tag.Boolean (0 ∷ []) (scalar (kind.boolean false))
+    is_true : (d : ℕ) → IsValue keys d tag.Boolean (1 ∷ []) (scalar (kind.boolean true))
     -- 0x09 e_name int64
-    is_date : (d n : ℕ) → n < 2 ^ 64 → IsValue d tag.DateTime (le w64 n) (scalar (kind.date (cast_signed w64 n)))
+    is_date : (d n : ℕ) → n < 2 ^ 64 → IsValue keys d tag.DateTime (le w64 n) (scalar (kind.date (cast_signed w64 n)))
     -- 0x0A e_name
-    is_null : (d : ℕ) → IsValue d tag.Null [] (scalar kind.null)
+    is_null : (d : ℕ) → IsValue keys d tag.Null [] (scalar kind.null)
     -- 0x0B e_name cstring cstring: the pattern and the options
     is_regex : (d : ℕ) (p o : List ℕ) → IsName p → IsName o
-        → IsValue d tag.RegularExpression (p ++ 0 ∷ (o ++ 0 ∷ [])) (scalar (kind.regex p o))
+        → IsValue keys d tag.RegularExpression (p ++ 0 ∷ (o ++ 0 ∷ [])) (scalar (kind.regex p o))
     -- 0x0C e_name string (byte*12)
     is_pointer : (d : ℕ) (s id : List ℕ) → IsText s → length id ≡ 12
-        → IsValue d tag.DbPointer (text_bytes s ++ id) (scalar (kind.db_pointer s id))
+        → IsValue keys d tag.DbPointer (text_bytes s ++ id) (scalar (kind.db_pointer s id))
     -- 0x0D e_name string
-    is_code : (d : ℕ) (s : List ℕ) → IsText s → IsValue d tag.JavaScriptCode (text_bytes s) (scalar (kind.code s))
+    is_code : (d : ℕ) (s : List ℕ) → IsText s → IsValue keys d tag.JavaScriptCode (text_bytes s) (scalar (kind.code s))
     -- 0x0E e_name string
-    is_symbol : (d : ℕ) (s : List ℕ) → IsText s → IsValue d tag.Symbol (text_bytes s) (scalar (kind.symbol s))
+    is_symbol : (d : ℕ) (s : List ℕ) → IsText s → IsValue keys d tag.Symbol (text_bytes s) (scalar (kind.symbol s))
     -- 0x0F e_name code_w_s
-    is_scope : (d : ℕ) (s bytes : List ℕ) (ps : Pairs) → IsText s → IsDocument d bytes ps
-        → IsSize (scope_size s bytes)
-        → IsValue d tag.JavaScriptCodeWithScope (scope_bytes s bytes) (code_scope s (one_each ps))
+    is_scope : (d : ℕ) (s bytes : List ℕ) (ps : Pairs) → IsText s → IsDocument keys d bytes ps
+        → MayStand keys ps → IsSize (scope_size s bytes)
+        → IsValue keys d tag.JavaScriptCodeWithScope (scope_bytes s bytes) (code_scope s (one_each ps))
     -- 0x10 e_name int32
-    is_int32 : (d n : ℕ) → n < 2 ^ 32 → IsValue d tag.Int32 (le w32 n) (scalar (kind.int32 (cast_signed w32 n)))
+    is_int32 : (d n : ℕ) → n < 2 ^ 32 → IsValue keys d tag.Int32 (le w32 n) (scalar (kind.int32 (cast_signed w32 n)))
     -- 0x11 e_name uint64: the increment in its low half, the time in its high one
     is_timestamp : (d i t : ℕ) → i < 2 ^ 32 → t < 2 ^ 32
-        → IsValue d tag.Timestamp (le w32 i ++ le w32 t) (scalar (kind.timestamp t i))
+        → IsValue keys d tag.Timestamp (le w32 i ++ le w32 t) (scalar (kind.timestamp t i))
     -- 0x12 e_name int64
-    is_int64 : (d n : ℕ) → n < 2 ^ 64 → IsValue d tag.Int64 (le w64 n) (scalar (kind.int64 (cast_signed w64 n)))
+    is_int64 : (d n : ℕ) → n < 2 ^ 64 → IsValue keys d tag.Int64 (le w64 n) (scalar (kind.int64 (cast_signed w64 n)))
     -- 0x13 e_name decimal128
-    is_decimal : (d : ℕ) (s : List ℕ) → length s ≡ 16 → IsValue d tag.Decimal128 s (scalar (kind.decimal s))
+    is_decimal : (d : ℕ) (s : List ℕ) → length s ≡ 16 → IsValue keys d tag.Decimal128 s (scalar (kind.decimal s))
     -- 0xFF e_name
-    is_min : (d : ℕ) → IsValue d tag.MinKey [] (scalar kind.min_key)
+    is_min : (d : ℕ) → IsValue keys d tag.MinKey [] (scalar kind.min_key)
     -- 0x7F e_name
-    is_max : (d : ℕ) → IsValue d tag.MaxKey [] (scalar kind.max_key)
+    is_max : (d : ℕ) → IsValue keys d tag.MaxKey [] (scalar kind.max_key)

@@ -1,20 +1,30 @@
 -- What bytes are read as.
 use Rattle.std.specs.Prelude.{◌≡◌, ℕ, List, ◌++◌}
 use Rattle.bson_model.specs.Value.{Pairs}
-use Rattle.bson_bytes.specs.Grammar.{IsDocument, one_each}
+use Rattle.bson_bytes.specs.Grammar.{IsDocument, MayStand, one_each}
 use Rattle.bson_bytes.specs.Writing.{FitsDocument, document_bytes}
+use Rattle.bson_bytes.specs.declared.keys.DuplicateKeys.{DuplicateKeys}
+use Rattle.bson_bytes.specs.declared.keys.DuplicateKeys.TheVariants.{Replace}
 
--- the bytes are those of a document with these pairs, one a key
-pub record IsRead (d : ℕ) (bytes : List ℕ) (ps : Pairs) : Type 0 where
+-- the bytes are those of a document with these pairs, one a key; no key stands twice in a document where that is refused
+pub record IsReadIn (keys : DuplicateKeys) (d : ℕ) (bytes : List ℕ) (ps : Pairs) : Type 0 where
   pub elements : Pairs
-  pub grammar : IsDocument d bytes elements
+  pub grammar : IsDocument keys d bytes elements
+  pub once : MayStand keys elements
   pub pairs : ps ≡ one_each elements
 
+-- the same, where any key may stand twice
+abbrev pub IsRead : ℕ → List ℕ → Pairs → Type 0
+IsRead d bytes ps = IsReadIn Replace d bytes ps
+
 -- the same of the front of bytes that others follow
-pub record IsFront (d : ℕ) (bytes : List ℕ) (ps : Pairs) (rest : List ℕ) : Type 0 where
+pub record IsFrontIn (keys : DuplicateKeys) (d : ℕ) (bytes : List ℕ) (ps : Pairs) (rest : List ℕ) : Type 0 where
   pub front : List ℕ
-  pub read : IsRead d front ps
+  pub read : IsReadIn keys d front ps
   pub parts : bytes ≡ front ++ rest
+
+abbrev pub IsFront : ℕ → List ℕ → Pairs → List ℕ → Type 0
+IsFront d bytes ps rest = IsFrontIn Replace d bytes ps rest
 
 -- and they are the bytes that this document is written as
 pub record IsCanonical (d : ℕ) (bytes : List ℕ) (ps : Pairs) : Type 0 where

@@ -1,19 +1,22 @@
 -- What bytes are read as, as a function: for the order of faults, and for the proofs. `IsDocument` is the grammar. Each
 -- part is a value and the bytes behind it; of the faults the first from the left counts, and of those at one place the
--- first that is tested here. Lengths are held to their parts once those are read.
+-- first that is tested here. Lengths are held to their parts once those are read, and a key to those before it once it
+-- is read, where none may stand twice.
 use Rattle.std.specs.Prelude.{ℕ, zero, suc, ◌+◌, ◌-◌, ◌^◌, List, [], ◌∷◌, length, take, drop, Result, Ok, Err, true}
 use Rattle.std.specs.Prelude.{false}
-use Rattle.std.specs.Prelude.{Option, Some, None, option_map, nat_lt, ◌==◌, if◌then◌else◌}
+use Rattle.std.specs.Prelude.{Option, Some, None, option_map, nat_lt, ◌==◌, if◌then◌else◌, Bool, cond}
 use Rattle.std.specs.Int.{Width, w32, w64, byte_len, from_le_bytes, cast_signed}
-use Rattle.std.specs.Str.{is_utf8}
+use Rattle.std.specs.Str.{bytes_eq, is_utf8}
 use Rattle.bson_scalar.specs.declared.spec.ElementType.{ElementType}
 use Rattle.bson_scalar.specs.declared.spec.ElementType.TheVariants as tag
 use Rattle.bson_scalar.specs.Subtype.{subtype_of}
 use Rattle.bson_wrapper.specs.Scalar as kind
 use Rattle.bson_model.specs.Value.{Value, Pairs, no_pairs, pair, scalar, code_scope, array, document}
 use Rattle.bson_bytes.specs.declared.fault.FaultKind.TheVariants.{Short, Length, Tag, Utf8, Boolean, End, Depth}
-use Rattle.bson_bytes.specs.declared.fault.FaultKind.TheVariants.{Trailing}
+use Rattle.bson_bytes.specs.declared.fault.FaultKind.TheVariants.{Trailing, DuplicateKey}
 use Rattle.bson_bytes.specs.declared.fault.Fault.{Fault}
+use Rattle.bson_bytes.specs.declared.keys.DuplicateKeys.{DuplicateKeys}
+use Rattle.bson_bytes.specs.declared.keys.DuplicateKeys.TheVariants.{Replace, Refuse}
 use Rattle.bson_bytes.specs.Fault.{at, ◌>>=◌, or_fault}
 use Rattle.bson_bytes.specs.Grammar.{settle, values}
 use Rattle.bson_bytes.specs.Tags.{kind_of}
@@ -58,6 +61,28 @@ name_at bytes = do
   p ← or_fault (split_zero bytes) Short bytes
   s ← utf8_at p.0 bytes
   Ok (s, p.1)
+
+-- the keys that stood before in a document where none may stand twice; None where any may
+abbrev pub Before : Type 0
+Before = Option (List (List ℕ))
+
+abbrev pub none_before : DuplicateKeys → Before
+none_before Replace = None
+none_before Refuse = Some []
+
+abbrev pub noted : List ℕ → Before → Before
+noted k None = None
+noted k (Some ks) = Some (k ∷ ks)
+
+-- whether the key is none of those
+abbrev pub is_new : List ℕ → List (List ℕ) → Bool
+is_new k [] = true
+is_new k (l ∷ ks) = cond (bytes_eq k l) false (is_new k ks)
+
+-- a name that may stand behind those
+abbrev pub key_at : Before → List ℕ → Result (List ℕ × List ℕ) Fault
+key_at None bytes = name_at bytes
+key_at (Some ks) bytes = name_at bytes >>= λ s. if is_new s.0 ks then Ok s else Err (at DuplicateKey bytes)
 
 unfoldable pub text_at : List ℕ → Result (List ℕ × List ℕ) Fault
 text_at bytes = do
@@ -128,62 +153,64 @@ scope_at inner bytes = do
   x ← settled no_pairs (inner s.1)
   if n.0 + length x.1 == length bytes then Ok (code_scope s.0 x.0, x.1) else Err (at Length bytes)
 
--- a value whose documents are read so
-unfoldable pub value_with : (List ℕ → Result (Pairs × List ℕ) Fault) → ElementType → List ℕ → Result (Value × List ℕ) Fault
-value_with inner tag.Double bytes = do
+-- a value whose documents are read so, behind such keys
+unfoldable pub value_with : DuplicateKeys → (Before → List ℕ → Result (Pairs × List ℕ) Fault) → ElementType → List ℕ
+    → Result (Value × List ℕ) Fault
+value_with keys inner tag.Double bytes = do
   n ← number_at w64 bytes
   Ok (scalar (kind.double n.0), n.1)
-value_with inner tag.String bytes = do
+value_with keys inner tag.String bytes = do
   s ← text_at bytes
   Ok (scalar (kind.text s.0), s.1)
-value_with inner tag.EmbeddedDocument bytes = do
-  x ← settled no_pairs (inner bytes)
+value_with keys inner tag.EmbeddedDocument bytes = do
+  x ← settled no_pairs (inner (none_before keys) bytes)
   Ok (document x.0, x.1)
-value_with inner tag.Array bytes = do
-  x ← mapped values (inner bytes)
+value_with keys inner tag.Array bytes = do
+  x ← mapped values (inner None bytes)
   Ok (array x.0, x.1)
-value_with inner tag.Binary bytes = binary_at bytes
-value_with inner tag.Undefined bytes = Ok (scalar kind.undefined, bytes)
-value_with inner tag.ObjectId bytes = do
+value_with keys inner tag.Binary bytes = binary_at bytes
+value_with keys inner tag.Undefined bytes = Ok (scalar kind.undefined, bytes)
+value_with keys inner tag.ObjectId bytes = do
   s ← bytes_at 12 bytes
   Ok (scalar (kind.object_id s.0), s.1)
-value_with inner tag.Boolean bytes = boolean_at bytes
-value_with inner tag.DateTime bytes = do
+value_with keys inner tag.Boolean bytes = boolean_at bytes
+value_with keys inner tag.DateTime bytes = do
   n ← number_at w64 bytes
   Ok (scalar (kind.date (cast_signed w64 n.0)), n.1)
-value_with inner tag.Null bytes = Ok (scalar kind.null, bytes)
-value_with inner tag.RegularExpression bytes = regex_at bytes
-value_with inner tag.DbPointer bytes = pointer_at bytes
-value_with inner tag.JavaScriptCode bytes = do
+value_with keys inner tag.Null bytes = Ok (scalar kind.null, bytes)
+value_with keys inner tag.RegularExpression bytes = regex_at bytes
+value_with keys inner tag.DbPointer bytes = pointer_at bytes
+value_with keys inner tag.JavaScriptCode bytes = do
   s ← text_at bytes
   Ok (scalar (kind.code s.0), s.1)
-value_with inner tag.Symbol bytes = do
+value_with keys inner tag.Symbol bytes = do
   s ← text_at bytes
   Ok (scalar (kind.symbol s.0), s.1)
-value_with inner tag.JavaScriptCodeWithScope bytes = scope_at inner bytes
-value_with inner tag.Int32 bytes = do
+value_with keys inner tag.JavaScriptCodeWithScope bytes = scope_at (inner (none_before keys)) bytes
+value_with keys inner tag.Int32 bytes = do
   n ← number_at w32 bytes
   Ok (scalar (kind.int32 (cast_signed w32 n.0)), n.1)
-value_with inner tag.Timestamp bytes = timestamp_at bytes
-value_with inner tag.Int64 bytes = do
+value_with keys inner tag.Timestamp bytes = timestamp_at bytes
+value_with keys inner tag.Int64 bytes = do
   n ← number_at w64 bytes
   Ok (scalar (kind.int64 (cast_signed w64 n.0)), n.1)
-value_with inner tag.Decimal128 bytes = do
+value_with keys inner tag.Decimal128 bytes = do
   s ← bytes_at 16 bytes
   Ok (scalar (kind.decimal s.0), s.1)
-value_with inner tag.MaxKey bytes = Ok (scalar kind.max_key, bytes)
-value_with inner tag.MinKey bytes = Ok (scalar kind.min_key, bytes)
+value_with keys inner tag.MaxKey bytes = Ok (scalar kind.max_key, bytes)
+value_with keys inner tag.MinKey bytes = Ok (scalar kind.min_key, bytes)
 
 -- The elements to the byte 0. The number bounds the turns: the count of the bytes is always enough.
-unfoldable pub list_at : (ElementType → List ℕ → Result (Value × List ℕ) Fault) → ℕ → List ℕ → Result (Pairs × List ℕ) Fault
-list_at element zero bytes = Err (at Short bytes)
-list_at element (suc n) bytes = do
+unfoldable pub list_at : (ElementType → List ℕ → Result (Value × List ℕ) Fault) → Before → ℕ → List ℕ
+    → Result (Pairs × List ℕ) Fault
+list_at element before zero bytes = Err (at Short bytes)
+list_at element before (suc n) bytes = do
   t ← byte_at bytes
   if t.0 == 0 then Ok (no_pairs, t.1) else do
     k ← or_fault (kind_of t.0) Tag bytes
-    s ← name_at t.1
+    s ← key_at before t.1
     v ← element k s.1
-    x ← list_at element n v.1
+    x ← list_at element (noted s.0 before) n v.1
     Ok (pair s.0 v.0 x.0, x.1)
 
 -- the pairs, where the document that began with these bytes has the length
@@ -191,15 +218,22 @@ abbrev pub sized : ℕ → List ℕ → Pairs × List ℕ → Result (Pairs × L
 sized n bytes x = if n + length x.1 == length bytes then Ok x else Err (at Length bytes)
 
 -- one document, and in it documents nested no deeper than the number
-unfoldable pub document_at : ℕ → List ℕ → Result (Pairs × List ℕ) Fault
-document_at zero bytes = Err (at Depth bytes)
-document_at (suc d) bytes = do
+unfoldable pub document_in : DuplicateKeys → ℕ → Before → List ℕ → Result (Pairs × List ℕ) Fault
+document_in keys zero before bytes = Err (at Depth bytes)
+document_in keys (suc d) before bytes = do
   n ← size_at bytes
-  x ← list_at (value_with (document_at d)) (length n.1) n.1
+  x ← list_at (value_with keys (document_in keys d)) before (length n.1) n.1
   sized n.0 bytes x
 
 -- all of the bytes
-unfoldable pub reads : ℕ → List ℕ → Result Pairs Fault
-reads d bytes = do
-  x ← settled no_pairs (document_at d bytes)
+unfoldable pub reads_in : DuplicateKeys → ℕ → List ℕ → Result Pairs Fault
+reads_in keys d bytes = do
+  x ← settled no_pairs (document_in keys d (none_before keys) bytes)
   if length x.1 == 0 then Ok x.0 else Err (at Trailing x.1)
+
+-- the same, where any key may stand twice
+abbrev pub document_at : ℕ → List ℕ → Result (Pairs × List ℕ) Fault
+document_at d = document_in Replace d None
+
+abbrev pub reads : ℕ → List ℕ → Result Pairs Fault
+reads d = reads_in Replace d

@@ -1,8 +1,9 @@
 //! Documents, read with nothing kept.
-ghost use Rattle.std.specs.Prelude.{◌≡◌, ◌≤◌, length, IfOk, IfErr, OnOk, Ok, Err};
+ghost use Rattle.std.specs.Prelude.{◌≡◌, ◌≤◌, length, IfOk, IfErr, OnOk, Ok, Err, None};
 ghost use Rattle.bson_bytes.specs.Fault.{Gives};
 ghost use Rattle.bson_bytes.specs.Reading.{passed, value_with, binary_at, old_binary_at, boolean_at, regex_at};
-ghost use Rattle.bson_bytes.specs.Reading.{pointer_at, timestamp_at, scope_at, list_at, document_at, reads};
+ghost use Rattle.bson_bytes.specs.Reading.{pointer_at, timestamp_at, scope_at, list_at, document_in, document_at, reads};
+ghost use Rattle.bson_bytes.specs.declared.keys.DuplicateKeys.TheVariants.{Replace};
 ghost use Rattle.bson_model.specs.Value.{Pairs};
 
 use crate::fault::{Fault, FaultKind, fault_at};
@@ -14,7 +15,7 @@ use bson_scalar::spec::ElementType;
 /// Whether the bytes are a document, all of them, in which documents, arrays and scopes stand at
 /// most `depth` in each other, counting the document itself; else their first fault. It takes no
 /// memory.
-#[tactic(auto, unfolding(crate::specs::Reading::reads))]
+#[tactic(auto, unfolding(crate::specs::Reading::reads_in))]
 pub fn is_document(bytes: &[u8], depth: usize) -> Result<(), Fault>
     // They are read as some document.
     ensures ok { OnOk result ((ps : Pairs) × (reads depth bytes.now ≡ Ok ps)) }
@@ -31,7 +32,7 @@ pub fn is_document(bytes: &[u8], depth: usize) -> Result<(), Fault>
 #[cycle(check)]
 #[tactic(auto, unfolding(crate::specs::Reading::value_with))]
 fn value_at(kind: ElementType, bytes: &[u8], depth: usize) -> Result<&[u8], Fault>
-    ensures given { Gives (λ x. x.now) result (passed (value_with (document_at depth) kind bytes.now)) }
+    ensures given { Gives (λ x. x.now) result (passed (value_with Replace (document_in Replace depth) kind bytes.now)) }
     ensures shorter { IfOk result (λ x. length x.now ≤ length bytes.now) }
 {
     match kind {
@@ -93,7 +94,7 @@ fn document_at(bytes: &[u8], depth: usize) -> Result<&[u8], Fault>
 #[cycle(check)]
 fn list_at(bytes: &[u8], depth: usize) -> Result<&[u8], Fault>
     ensures given { Gives (λ x. x.now) result
-        (passed (list_at (value_with (document_at depth)) (length bytes.now) bytes.now)) }
+        (passed (list_at (value_with Replace (document_in Replace depth)) None (length bytes.now) bytes.now)) }
     ensures shorter { IfOk result (λ x. length x.now ≤ length bytes.now) }
 {
     let mut rest = bytes;

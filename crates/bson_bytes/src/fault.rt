@@ -30,6 +30,9 @@ pub enum FaultKind {
     Boolean,
     /// Bytes stand behind the document. The place is the first of them.
     Trailing,
+    /// A key stands that stood before in its document, where the caller refuses that. The place is
+    /// the key that stands again; it is looked at before the value behind it.
+    DuplicateKey,
 }
 
 /// A fault, and its place as the number of bytes from there to the end of the input.

@@ -2,8 +2,9 @@
 ghost use Rattle.std.specs.Prelude.{◌≡◌, ◌↔◌, ◌++◌, ◌<◌, ◌≤◌, ℕ, suc, List, length, Ok, Err, slice_index};
 ghost use Rattle.bson_bytes.specs.declared.fault.Fault.{Fault};
 ghost use Rattle.bson_bytes.specs.Grammar.{IsDocument};
-ghost use Rattle.bson_bytes.specs.Laws.{IsRead};
-ghost use Rattle.bson_bytes.specs.Reading.{reads};
+ghost use Rattle.bson_bytes.specs.Laws.{IsRead, IsReadIn};
+ghost use Rattle.bson_bytes.specs.Reading.{reads_in};
+ghost use Rattle.bson_bytes.specs.declared.keys.DuplicateKeys.{DuplicateKeys};
 ghost use Rattle.bson_bytes.specs.Writing.{document_bytes, as_written, Cause, FitsDocument, DocumentFails};
 ghost use Rattle.bson_bytes.specs.Writing.{TypedDocument, NestsPairs};
 ghost use Rattle.bson_model.specs.Value.{Pairs};
@@ -11,19 +12,26 @@ ghost use Rattle.bson_model.specs.Value.{Pairs};
 /// Bytes are those of a document just if reading them gives it. So what is no document is read as
 /// a fault.
 pub fn reading_is_grammar()
-    ensures { (d : ℕ) (bytes : List ℕ) (ps : Pairs) → ((i : ℕ) → slice_index bytes i < 256)
-        → (reads d bytes ≡ Ok ps) ↔ IsRead d bytes ps }
+    ensures { (keys : DuplicateKeys) (d : ℕ) (bytes : List ℕ) (ps : Pairs) → ((i : ℕ) → slice_index bytes i < 256)
+        → (reads_in keys d bytes ≡ Ok ps) ↔ IsReadIn keys d bytes ps }
+{}
+
+/// Bytes that are read where no key may stand twice are read as the same document where any may.
+pub fn refusing_keys_changes_no_document()
+    ensures { (keys : DuplicateKeys) (d : ℕ) (bytes : List ℕ) (ps : Pairs) → IsReadIn keys d bytes ps
+        → IsRead d bytes ps }
 {}
 
 /// The place of a fault is one of the bytes, or their end.
 pub fn fault_stands_in_the_bytes()
-    ensures { (d : ℕ) (bytes : List ℕ) (f : Fault) → reads d bytes ≡ Err f → f.left ≤ length bytes }
+    ensures { (keys : DuplicateKeys) (d : ℕ) (bytes : List ℕ) (f : Fault) → reads_in keys d bytes ≡ Err f
+        → f.left ≤ length bytes }
 {}
 
 /// No document's bytes begin another's, and no bytes stand for two.
 pub fn one_document()
-    ensures { (d : ℕ) (a b x y : List ℕ) (ps qs : Pairs) → IsDocument d a ps → IsDocument d b qs
-        → a ++ x ≡ b ++ y → (a ≡ b) × (ps ≡ qs) }
+    ensures { (keys : DuplicateKeys) (d : ℕ) (a b x y : List ℕ) (ps qs : Pairs) → IsDocument keys d a ps
+        → IsDocument keys d b qs → a ++ x ≡ b ++ y → (a ≡ b) × (ps ≡ qs) }
 {}
 
 /// What a document is written as is read back as that document: the same keys in the same order,

@@ -6,5 +6,6 @@
 
 pub mod check;
 pub mod fault;
+pub mod keys;
 pub mod laws;
 pub mod parts;

@@ -1,5 +1,6 @@
 pub mod Seen
 pub mod Loop
+pub mod Distinct
 pub mod Ends
 pub mod Weights
 pub mod Elements

@@ -1,14 +1,16 @@
 -- Elements one after the other, as loops read them into a document or a list.
 use Rattle.std.proofs.Common.{◌≡◌, ℕ, ◌<◌, ◌≤◌, ◌-◌, Bool, true, false, cond, List, [], ◌∷◌, ◌++◌, length, Result, Ok}
 use Rattle.std.proofs.Common.{Err, refl, sym, ap, string_bytes}
-use Rattle.std.proofs.Common.{◌∙◌, Some, arith}
+use Rattle.std.proofs.Common.{◌∙◌, Some, None, arith}
 use Rattle.std.specs.Str.{bytes_eq}
 use Rattle.bson_scalar.specs.declared.spec.ElementType.{ElementType}
 use Rattle.bson_model.specs.Value.{Value, Values, no_values, value, Pairs, no_pairs, pair}
 use Rattle.bson_bytes.specs.declared.fault.Fault.{Fault}
 use Rattle.bson_bytes.specs.Fault.{◌>>=◌}
 use Rattle.bson_bytes.specs.Grammar.{values, insert_value, settle}
-use Rattle.bson_bytes.specs.Reading.{byte_at, name_at, size_at, mapped, value_with, document_at}
+use Rattle.bson_bytes.specs.Reading.{byte_at, name_at, size_at, mapped, value_with, document_in, Before}
+use Rattle.bson_bytes.specs.declared.keys.DuplicateKeys.{DuplicateKeys}
+use Rattle.bson_bytes.specs.declared.keys.DuplicateKeys.TheVariants.{Replace}
 use Rattle.bson_bytes.specs.Tags.{kind_of}
 use Rattle.bson_bytes.proofs.Offered.{Read, elements, then_pairs, no_more, one_more, bad_list, unmapped}
 use Rattle.bson_store.specs.declared.small.Pair.{Pair}
@@ -29,7 +31,7 @@ put_view_by : (b : Bool) (k : List ℕ) (v : Bson) (p : List ℕ × Bson) (ps mo
 put_view_by true k v p ps more rest e = refl
 put_view_by false k v p ps more rest e = ap (λ (q : Pairs). pair p.0 (bson_view p.1) q) e
 
-pairs_view-put : (k : List ℕ) (v : Bson) (ps : List (List ℕ × Bson)) → pairs_view (insert_pair k v ps) ≡ insert_value k (bson_view v) (pairs_view ps)
+pub pairs_view-put : (k : List ℕ) (v : Bson) (ps : List (List ℕ × Bson)) → pairs_view (insert_pair k v ps) ≡ insert_value k (bson_view v) (pairs_view ps)
 pairs_view-put k v [] = refl
 pairs_view-put k v (p ∷ ps) = put_view_by (bytes_eq k p.0) k v p ps (insert_pair k v ps) (insert_value k (bson_view v) (pairs_view ps)) (pairs_view-put k v ps)
 
@@ -73,26 +75,26 @@ onto_entries-ok (x ∷ es) rest =
 pub record PairsLeft (d : ℕ) (es : List (Pair Bson)) (rest : List ℕ) (total : Read) : Type 0 where
   pub turns : ℕ
   pub enough : length rest ≤ turns
-  pub read : onto_entries es (elements d turns rest) ≡ total
+  pub read : onto_entries es (elements Replace d None turns rest) ≡ total
 
-pub pairs_start : (d : ℕ) (bytes : List ℕ) → PairsLeft d [] bytes (elements d (length bytes) bytes)
+pub pairs_start : (d : ℕ) (bytes : List ℕ) → PairsLeft d [] bytes (elements Replace d None (length bytes) bytes)
 pairs_start d bytes = record { turns = length bytes; enough = omega arith; read = refl }
 
-pub pairs_fault : (d : ℕ) (es : List (Pair Bson)) (rest : List ℕ) (total : Read) (i : PairsLeft d es rest total) (f : Fault) → elements d i.turns rest ≡ Err f → total ≡ Err f
+pub pairs_fault : (d : ℕ) (es : List (Pair Bson)) (rest : List ℕ) (total : Read) (i : PairsLeft d es rest total) (f : Fault) → elements Replace d None i.turns rest ≡ Err f → total ≡ Err f
 pairs_fault d es rest total i f h = sym i.read ∙ ap (onto_entries es) h ∙ onto_entries-err es f
 
-pub pairs_fail : {A : Type 0} (e : Stopped) (part : Result A Fault) (d : ℕ) (es : List (Pair Bson)) (rest : List ℕ) (total : Read) (i : PairsLeft d es rest total) → ((f : Fault) → part ≡ Err f → elements d i.turns rest ≡ Err f) → Stops e part → Stops e total
+pub pairs_fail : {A : Type 0} (e : Stopped) (part : Result A Fault) (d : ℕ) (es : List (Pair Bson)) (rest : List ℕ) (total : Read) (i : PairsLeft d es rest total) → ((f : Fault) → part ≡ Err f → elements Replace d None i.turns rest ≡ Err f) → Stops e part → Stops e total
 pairs_fail stopped.OutOfMemory part d es rest total i g h = tt
 pairs_fail (stopped.Fault f) part d es rest total i g h = pairs_fault d es rest total i f (g f h)
 
 pub pairs_end : (d : ℕ) (es : List (Pair Bson)) (rest : List ℕ) (total : Read) (t : ℕ) (a : List ℕ) → PairsLeft d es rest total → byte_at rest ≡ Ok (t, a) → t ≡ 0 → total ≡ Ok (entries_view es, a)
-pairs_end d es rest total t a i e z = sym i.read ∙ ap (onto_entries es) (no_more d i.turns rest t a i.enough e z) ∙ onto_entries-ok es a
+pairs_end d es rest total t a i e z = sym i.read ∙ ap (onto_entries es) (no_more Replace d None i.turns rest t a i.enough e z) ∙ onto_entries-ok es a
 
 pub pairs_more : (d : ℕ) (es : List (Pair Bson)) (rest : List ℕ) (total : Read) (t : ℕ) (a : List ℕ) (k : ElementType) (x : Pair Bson) (b c : List ℕ) → PairsLeft d es rest total → length c < length rest
-    → byte_at rest ≡ Ok (t, a) → (t ≡ 0 → ⊥) → kind_of t ≡ Some k → name_at a ≡ Ok (string_bytes x.key, b) → value_with (document_at d) k b ≡ Ok (bson_view x.value, c) → PairsLeft d (es ++ x ∷ []) c total
+    → byte_at rest ≡ Ok (t, a) → (t ≡ 0 → ⊥) → kind_of t ≡ Some k → name_at a ≡ Ok (string_bytes x.key, b) → value_with Replace (document_in Replace d) k b ≡ Ok (bson_view x.value, c) → PairsLeft d (es ++ x ∷ []) c total
 pairs_more d es rest total t a k x b c i lt e n k-is h w =
-    let g = one_more d i.turns rest t a k (string_bytes x.key) b (bson_view x.value) c i.enough lt e n k-is h w in
-    record { turns = g.turns; enough = g.enough; read = onto_entries-snoc es x (elements d g.turns c) ∙ ap (onto_entries es) (sym g.read) ∙ i.read }
+    let g = one_more Replace d None i.turns rest t a k (string_bytes x.key) b (bson_view x.value) c i.enough lt e n k-is h w in
+    record { turns = g.turns; enough = g.enough; read = onto_entries-snoc es x (elements Replace d None g.turns c) ∙ ap (onto_entries es) (sym g.read) ∙ i.read }
 
 -- ---- values
 
@@ -126,39 +128,40 @@ mapped-then : (s : List ℕ) (v : Value) (r : Read) → mapped values (r >>= the
 mapped-then s v (Ok x) = refl
 mapped-then s v (Err f) = refl
 
-pub record ValuesLeft (d : ℕ) (xs : List Bson) (rest : List ℕ) (total : ReadValues) : Type 0 where
+pub record ValuesLeft (keys : DuplicateKeys) (d : ℕ) (xs : List Bson) (rest : List ℕ) (total : ReadValues) : Type 0 where
   pub turns : ℕ
   pub enough : length rest ≤ turns
-  pub read : onto_values xs (mapped values (elements d turns rest)) ≡ total
+  pub read : onto_values xs (mapped values (elements keys d None turns rest)) ≡ total
 
-pub values_start : (d : ℕ) (bytes : List ℕ) → ValuesLeft d [] bytes (mapped values (elements d (length bytes) bytes))
-values_start d bytes = record { turns = length bytes; enough = omega arith; read = refl }
+pub values_start : (keys : DuplicateKeys) (d : ℕ) (bytes : List ℕ) → ValuesLeft keys d [] bytes (mapped values (elements keys d None (length bytes) bytes))
+values_start keys d bytes = record { turns = length bytes; enough = omega arith; read = refl }
 
-pub values_end : (d : ℕ) (xs : List Bson) (rest : List ℕ) (total : ReadValues) (t : ℕ) (a : List ℕ) → ValuesLeft d xs rest total → byte_at rest ≡ Ok (t, a) → t ≡ 0 → total ≡ Ok (values_view xs, a)
-values_end d xs rest total t a i e z = sym i.read ∙ ap (λ (q : Read). onto_values xs (mapped values q)) (no_more d i.turns rest t a i.enough e z) ∙ onto_values-ok xs a
+pub values_end : (keys : DuplicateKeys) (d : ℕ) (xs : List Bson) (rest : List ℕ) (total : ReadValues) (t : ℕ) (a : List ℕ) → ValuesLeft keys d xs rest total → byte_at rest ≡ Ok (t, a) → t ≡ 0 → total ≡ Ok (values_view xs, a)
+values_end keys d xs rest total t a i e z = sym i.read ∙ ap (λ (q : Read). onto_values xs (mapped values q)) (no_more keys d None i.turns rest t a i.enough e z) ∙ onto_values-ok xs a
 
-pub values_more : (d : ℕ) (xs : List Bson) (rest : List ℕ) (total : ReadValues) (t : ℕ) (a : List ℕ) (k : ElementType) (s b : List ℕ) (v : Bson) (c : List ℕ) → ValuesLeft d xs rest total → length c < length rest
-    → byte_at rest ≡ Ok (t, a) → (t ≡ 0 → ⊥) → kind_of t ≡ Some k → name_at a ≡ Ok (s, b) → value_with (document_at d) k b ≡ Ok (bson_view v, c) → ValuesLeft d (xs ++ v ∷ []) c total
-values_more d xs rest total t a k s b v c i lt e n k-is h w =
-    let g = one_more d i.turns rest t a k s b (bson_view v) c i.enough lt e n k-is h w in
-    record { turns = g.turns; enough = g.enough; read = onto_values-snoc xs v (mapped values (elements d g.turns c)) ∙ ap (onto_values xs) (sym (mapped-then s (bson_view v) (elements d g.turns c))) ∙ ap (λ (q : Read). onto_values xs (mapped values q)) (sym g.read) ∙ i.read }
+pub values_more : (keys : DuplicateKeys) (d : ℕ) (xs : List Bson) (rest : List ℕ) (total : ReadValues) (t : ℕ) (a : List ℕ) (k : ElementType) (s b : List ℕ) (v : Bson) (c : List ℕ) → ValuesLeft keys d xs rest total → length c < length rest
+    → byte_at rest ≡ Ok (t, a) → (t ≡ 0 → ⊥) → kind_of t ≡ Some k → name_at a ≡ Ok (s, b) → value_with keys (document_in keys d) k b ≡ Ok (bson_view v, c) → ValuesLeft keys d (xs ++ v ∷ []) c total
+values_more keys d xs rest total t a k s b v c i lt e n k-is h w =
+    let g = one_more keys d None i.turns rest t a k s b (bson_view v) c i.enough lt e n k-is h w in
+    record { turns = g.turns; enough = g.enough; read = onto_values-snoc xs v (mapped values (elements keys d None g.turns c)) ∙ ap (onto_values xs) (sym (mapped-then s (bson_view v) (elements keys d None g.turns c))) ∙ ap (λ (q : Read). onto_values xs (mapped values q)) (sym g.read) ∙ i.read }
 
-pub values_fault : (d : ℕ) (xs : List Bson) (rest : List ℕ) (total : ReadValues) (i : ValuesLeft d xs rest total) (f : Fault) → elements d i.turns rest ≡ Err f → total ≡ Err f
-values_fault d xs rest total i f h = sym i.read ∙ ap (λ (q : Read). onto_values xs (mapped values q)) h ∙ onto_values-err xs f
+pub values_fault : (keys : DuplicateKeys) (d : ℕ) (xs : List Bson) (rest : List ℕ) (total : ReadValues) (i : ValuesLeft keys d xs rest total) (f : Fault) → elements keys d None i.turns rest ≡ Err f → total ≡ Err f
+values_fault keys d xs rest total i f h = sym i.read ∙ ap (λ (q : Read). onto_values xs (mapped values q)) h ∙ onto_values-err xs f
 
 -- ---- a document
 
 pub mapped_fault : {A : Type 0} (g : Pairs → A) (r : Read) (f : Fault) → r ≡ Err f → mapped g r ≡ Err f
 mapped_fault g r f h = ap (mapped g) h
 
-pub mapped_stop : {A : Type 0} (g : Pairs → A) (e : Stopped) (d : ℕ) (bytes : List ℕ) (n : ℕ) (list : List ℕ) → (d ≡ 0 → ⊥)
-    → size_at bytes ≡ Ok (n, list) → Stops e (mapped g (elements (d - 1) (length list) list))
-    → Stops e (mapped g (document_at d bytes))
-mapped_stop g stopped.OutOfMemory d bytes n list h s x = tt
-mapped_stop g (stopped.Fault f) d bytes n list h s x =
-    ap (mapped g) (bad_list d bytes n list f h s (unmapped g (elements (d - 1) (length list) list) f x))
+pub mapped_stop : {A : Type 0} (g : Pairs → A) (e : Stopped) (keys : DuplicateKeys) (d : ℕ) (before : Before)
+    (bytes : List ℕ) (n : ℕ) (list : List ℕ) → (d ≡ 0 → ⊥) → size_at bytes ≡ Ok (n, list)
+    → Stops e (mapped g (elements keys (d - 1) before (length list) list))
+    → Stops e (mapped g (document_in keys d before bytes))
+mapped_stop g stopped.OutOfMemory keys d before bytes n list h s x = tt
+mapped_stop g (stopped.Fault f) keys d before bytes n list h s x =
+    ap (mapped g) (bad_list keys d before bytes n list f h s
+    (unmapped g (elements keys (d - 1) before (length list) list) f x))
 
-pub list_stop : {A : Type 0} (g : Pairs → A) (e : Stopped) (d : ℕ) (bytes : List ℕ) (n : ℕ) (list : List ℕ) → (d ≡ 0 → ⊥)
-    → size_at bytes ≡ Ok (n, list) → Stops e (elements (d - 1) (length list) list) → Stops e (mapped g (document_at d bytes))
-list_stop g stopped.OutOfMemory d bytes n list h s x = tt
-list_stop g (stopped.Fault f) d bytes n list h s x = ap (mapped g) (bad_list d bytes n list f h s x)
+pub onto_stop : {A : Type 0} (g : Pairs → A) (e : Stopped) (r : Read) → Stops e r → Stops e (mapped g r)
+onto_stop g stopped.OutOfMemory r x = tt
+onto_stop g (stopped.Fault f) r x = ap (mapped g) x

@@ -10,6 +10,7 @@ use Rattle.bson_model.specs.Value.{Pairs}
 use Rattle.bson_bytes.specs.Grammar.{le, IsDocument, is_document}
 use Rattle.bson_bytes.specs.Laws.{IsRead, IsFront}
 use Rattle.bson_bytes.specs.Reading.{size_at}
+use Rattle.bson_bytes.specs.declared.keys.DuplicateKeys.{DuplicateKeys}
 use Rattle.bson_bytes.proofs.Offered.{length-le, wide32, size_again}
 use Rattle.bson_codec.specs.Streams.{IsTaken, promised, most}
 
@@ -20,7 +21,7 @@ record Sized (bytes : List ℕ) : Type 0 where
   least : 5 ≤ length bytes
   small : length bytes < 2 ^ 31
 
-sized : {d : ℕ} {bytes : List ℕ} {ps : Pairs} → IsDocument d bytes ps → Sized bytes
+sized : {keys : DuplicateKeys} {d : ℕ} {bytes : List ℕ} {ps : Pairs} → IsDocument keys d bytes ps → Sized bytes
 sized (is_document d list ps ws lt) =
     let body = list ++ 0 ∷ [] in
     let n = length list + 5 in

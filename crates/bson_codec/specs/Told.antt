@@ -19,6 +19,7 @@ words_for kind.End = codes "no 0 behind a text"
 words_for kind.Utf8 = codes "no UTF-8"
 words_for kind.Boolean = codes "a boolean is neither 0 nor 1"
 words_for kind.Trailing = codes "bytes behind the document"
+words_for kind.DuplicateKey = codes "a key stands twice"
 
 abbrev pub words_of : RunFault → List ℕ
 words_of (Malformed k n) = words_for k

@@ -1,8 +1,9 @@
 //! Documents from bytes.
 ghost use Rattle.std.specs.Prelude.{◌≡◌, ◌↔◌, ◌-◌, IfOk, IfErr, OnOk, OnErr, IsTrue, false, length};
 ghost use Rattle.bson_model.specs.Value.{Pairs, no_pairs};
-ghost use Rattle.bson_bytes.specs.Laws.{IsRead, IsFront, IsCanonical};
-ghost use Rattle.bson_bytes.specs.Reading.{document_at, reads, settled};
+ghost use Rattle.bson_bytes.specs.Laws.{IsRead, IsReadIn, IsFront, IsFrontIn, IsCanonical};
+ghost use Rattle.bson_bytes.specs.Reading.{document_at, document_in, reads, reads_in, settled, none_before};
+ghost use Rattle.bson_bytes.specs.declared.keys.DuplicateKeys.TheVariants.{Replace};
 ghost use Rattle.bson.specs.View.{document_view};
 ghost use Rattle.bson_codec.specs.Errors.{IsFaultOf, IsFaultAlone, StandsIn, located};
 ghost use Rattle.bson_codec.specs.Reading.{Reads};
@@ -16,11 +17,45 @@ use crate::stopped::{Stopped, fault_at};
 use bson::Document;
 use bson_bytes::check;
 pub use bson_bytes::fault::FaultKind;
+pub use bson_bytes::keys::DuplicateKeys;
 use std::alloc::{AllocError, Global};
 
 /// How deep documents, arrays and scopes may nest where a caller has no limit of its own: the limit
 /// of MongoDB's server.
 pub const DEPTH: usize = 100;
+
+/// How bytes are read by [`from_slice_with`] and [`front_with`]. The default is the depth [`DEPTH`],
+/// and that any key may stand twice.
+///
+/// ```
+/// let options = ReadOptions {
+///     duplicate_keys: DuplicateKeys::Refuse,
+///     ..ReadOptions::default()
+/// };
+/// let twice = b"\x0b\0\0\0\x0aa\0\x0aa\0\0";
+/// if let Err(error) = from_slice_with(alloc, options, twice) {
+///     println!(rt; "{error}")?; // no BSON document, by the byte at 8
+/// }
+/// ```
+#[derive(Clone, Copy, Debug, Drop, PartialEq, Eq)]
+pub struct ReadOptions {
+    /// How many documents, arrays and scopes may stand in each other, counting the document itself.
+    pub depth: usize,
+    /// What a key means that stands twice in a document.
+    pub duplicate_keys: DuplicateKeys,
+}
+
+impl Default for ReadOptions {
+    fn default() -> ReadOptions
+        ensures depth { result.depth ≡ 100 }
+        ensures keys { result.duplicate_keys ≡ Replace }
+    {
+        ReadOptions {
+            depth: DEPTH,
+            duplicate_keys: DuplicateKeys::Replace,
+        }
+    }
+}
 
 /// Why bytes give no document.
 ///
@@ -62,7 +97,30 @@ pub fn from_slice(alloc: Global, bytes: &[u8], depth: usize) -> Result<Document>
     // Which fault it is, and where.
     ensures fault { IfErr result (λ e. IsFaultOf e bytes.now (reads depth bytes.now)) }
 {
-    match whole(alloc, bytes, depth) {
+    let options = ReadOptions {
+        depth,
+        duplicate_keys: DuplicateKeys::Replace,
+    };
+    from_slice_with(alloc, options, bytes)
+}
+
+/// The document that the bytes are, read as the options say; otherwise as [`from_slice`].
+///
+/// Where no key may stand twice, none may in a document or scope, at any depth; the keys of an array
+/// are free. What is read is then the same as by [`from_slice`]. The fault is DuplicateKey at the
+/// key that stands again: what is wrong before it comes first, and what is wrong behind it does not
+/// count, nor does a length around it, which is looked at behind its part.
+pub fn from_slice_with(alloc: Global, options: ReadOptions, bytes: &[u8]) -> Result<Document>
+    // What is read is in the grammar, and no key stands twice where the options refuse that.
+    ensures ok { IfOk result (λ d. IsReadIn options.duplicate_keys options.depth bytes.now (document_view d)) }
+    // What is so is read as its one document, unless memory runs out.
+    ensures only { (ps : Pairs) → IsReadIn options.duplicate_keys options.depth bytes.now ps
+        → IfOk result (λ d. document_view d ≡ ps) × IfErr result (λ e. e ≡ errors.OutOfMemory) }
+    // Which fault it is, and where.
+    ensures fault { IfErr result
+        (λ e. IsFaultOf e bytes.now (reads_in options.duplicate_keys options.depth bytes.now)) }
+{
+    match whole(alloc, bytes, options.depth, options.duplicate_keys) {
         Ok(document) => Ok(document),
         Err(stopped) => Err(located(stopped, bytes)),
     }
@@ -79,7 +137,27 @@ pub fn front(alloc: Global, bytes: &[u8], depth: usize) -> Result<(Document, &[u
     // Which fault it is, and where.
     ensures fault { IfErr result (λ e. IsFaultOf e bytes.now (settled no_pairs (document_at depth bytes.now))) }
 {
-    match document_at(alloc, bytes, depth) {
+    let options = ReadOptions {
+        depth,
+        duplicate_keys: DuplicateKeys::Replace,
+    };
+    front_with(alloc, options, bytes)
+}
+
+/// The document that stands at the front of the bytes, read as the options say, and the bytes behind
+/// it. What is said of [`from_slice_with`] holds of the front.
+pub fn front_with(alloc: Global, options: ReadOptions, bytes: &[u8]) -> Result<(Document, &[u8])>
+    // What is read is in the grammar, and no key stands twice where the options refuse that.
+    ensures ok { IfOk result
+        (λ x. IsFrontIn options.duplicate_keys options.depth bytes.now (document_view x.0) x.1.now) }
+    // What is so is read as its one document, unless memory runs out.
+    ensures only { (ps : Pairs) (rest : _) → IsFrontIn options.duplicate_keys options.depth bytes.now ps rest
+        → IfOk result (λ x. (document_view x.0 ≡ ps) × (x.1.now ≡ rest)) × IfErr result (λ e. e ≡ errors.OutOfMemory) }
+    // Which fault it is, and where.
+    ensures fault { IfErr result (λ e. IsFaultOf e bytes.now (settled no_pairs
+        (document_in options.duplicate_keys options.depth (none_before options.duplicate_keys) bytes.now))) }
+{
+    match document_at(alloc, bytes, options.depth, options.duplicate_keys) {
         Ok((document, rest)) => Ok((document, rest)),
         Err(stopped) => Err(located(stopped, bytes)),
     }
@@ -134,11 +212,16 @@ fn unwritten(error: ser::Error) -> Result<bool, AllocError>
     }
 }
 
-#[tactic(auto, unfolding(bson_bytes::specs::Reading::reads))]
-fn whole(alloc: Global, bytes: &[u8], depth: usize) -> Result<Document, Stopped>
-    ensures { Reads document_view result (reads depth bytes.now) }
+#[tactic(auto, unfolding(bson_bytes::specs::Reading::reads_in))]
+fn whole(
+    alloc: Global,
+    bytes: &[u8],
+    depth: usize,
+    keys: DuplicateKeys,
+) -> Result<Document, Stopped>
+    ensures { Reads document_view result (reads_in keys depth bytes.now) }
 {
-    let (document, rest) = document_at(alloc, bytes, depth)?;
+    let (document, rest) = document_at(alloc, bytes, depth, keys)?;
     if !rest.is_empty() {
         return Err(fault_at(FaultKind::Trailing, rest));
     }

@@ -13,7 +13,9 @@ pub mod stream;
 pub mod told;
 mod write;
 
-pub use de::{from_slice, front, is_canonical, is_document};
+pub use de::{
+    ReadOptions, from_slice, from_slice_with, front, front_with, is_canonical, is_document,
+};
 pub use documents::run_documents;
 pub use ser::to_vec;
 pub use stream::{from_reader, to_writer};

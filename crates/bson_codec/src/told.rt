@@ -119,5 +119,6 @@ fn words_for(kind: FaultKind) -> &'static str
         FaultKind::Utf8 => "no UTF-8",
         FaultKind::Boolean => "a boolean is neither 0 nor 1",
         FaultKind::Trailing => "bytes behind the document",
+        FaultKind::DuplicateKey => "a key stands twice",
     }
 }

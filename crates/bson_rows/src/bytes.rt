@@ -5,26 +5,29 @@ use crate::stop::{Outcome, Stop};
 use crate::words::{bytes_of, cut, number};
 use bson::Document;
 use bson::extjson::{Doubles, Form, Options};
-use bson_codec::de::{DEPTH, Result as Read, is_canonical, is_document};
+use bson_codec::de::{
+    DEPTH, DuplicateKeys, ReadOptions, Result as Read, is_canonical, is_document,
+};
 use bson_codec::documents::{Line, Run, run_documents};
 use bson_codec::ser::Result as Written;
 use bson_codec::stream::{from_reader, to_writer};
 use bson_codec::told::RunFault;
-use bson_codec::{from_slice, front, to_vec};
+use bson_codec::{from_slice, from_slice_with, front, front_with, to_vec};
 use std::alloc::Global;
 
 /// Of a writer, so that it takes no memory.
 const ROOM: usize = 4096;
 
 /// `bytes read BYTES`, `bytes nested DEPTH BYTES`, `bytes front BYTES`, `bytes again BYTES`, `bytes
-/// check BYTES`, `bytes canonical BYTES`, `bytes from BYTES`, `bytes run BYTES`, `bytes run_on
-/// BYTES`, `bytes dump LINE BYTES`, `bytes write DOCUMENT`, `bytes to DOCUMENT`.
+/// once BYTES`, `bytes once_nested DEPTH BYTES`, `bytes once_front BYTES`, `bytes once_again BYTES`,
+/// `bytes check BYTES`, `bytes canonical BYTES`, `bytes from BYTES`, `bytes run BYTES`, `bytes
+/// run_on BYTES`, `bytes dump LINE BYTES`, `bytes write DOCUMENT`, `bytes to DOCUMENT`.
 pub(crate) fn call(alloc: Global, rest: &str, out: &mut Answer) -> Outcome {
     let (name, text) = cut(rest);
     match name {
         "write" => write(alloc, text, out),
         "to" => to(alloc, text, out),
-        "nested" => nested(alloc, text, out),
+        "nested" | "once_nested" => nested(alloc, name, text, out),
         "dump" => dump(alloc, text, out),
         _ => of_bytes(alloc, name, bytes_of(alloc, text)?, out),
     }
@@ -45,12 +48,26 @@ fn put_bytes(written: Written<Vec<u8>>, out: &mut Answer) {
 }
 
 /// `DEPTH BYTES`: the document, in which so many levels are allowed.
-fn nested(alloc: Global, text: &str, out: &mut Answer) -> Outcome {
+fn nested(alloc: Global, name: &str, text: &str, out: &mut Answer) -> Outcome {
     let (depth, bytes) = cut(text);
     let depth = number::<usize>(depth)?;
     let bytes = bytes_of(alloc, bytes)?;
-    out.result(from_slice(alloc, bytes.as_slice(), depth));
+    let bytes = bytes.as_slice();
+    if name == "once_nested" {
+        let options = ReadOptions { depth, ..once() };
+        out.result(from_slice_with(alloc, options, bytes));
+    } else {
+        out.result(from_slice(alloc, bytes, depth));
+    }
     Ok(())
+}
+
+/// No key may stand twice.
+fn once() -> ReadOptions {
+    ReadOptions {
+        duplicate_keys: DuplicateKeys::Refuse,
+        ..ReadOptions::default()
+    }
 }
 
 fn of_bytes(alloc: Global, name: &str, bytes: Vec<u8>, out: &mut Answer) -> Outcome {
@@ -59,6 +76,9 @@ fn of_bytes(alloc: Global, name: &str, bytes: Vec<u8>, out: &mut Answer) -> Outc
         "read" => out.result(from_slice(alloc, bytes, DEPTH)),
         "front" => put_front(front(alloc, bytes, DEPTH), out),
         "again" => put_again(alloc, from_slice(alloc, bytes, DEPTH), out),
+        "once" => out.result(from_slice_with(alloc, once(), bytes)),
+        "once_front" => put_front(front_with(alloc, once(), bytes), out),
+        "once_again" => put_again(alloc, from_slice_with(alloc, once(), bytes), out),
         "check" => put_checked(is_document(bytes, DEPTH), out),
         "canonical" => out.result(is_canonical(alloc, bytes, DEPTH)),
         "from" => from(alloc, bytes, out),

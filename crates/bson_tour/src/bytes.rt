@@ -1,15 +1,17 @@
 //! Documents from BSON bytes, and to them.
 use bson::extjson::Form;
 use bson::{Bson, Document};
-use bson_codec::de::{DEPTH, Error};
+use bson_codec::de::{DEPTH, DuplicateKeys, Error, ReadOptions};
 use bson_codec::documents::{Line, Run, run_documents};
-use bson_codec::{from_reader, from_slice, is_document, to_vec, to_writer};
+use bson_codec::{from_reader, from_slice, from_slice_with, is_document, to_vec, to_writer};
 use std::alloc::Global;
 
 pub(crate) fn print(rt: &impl Print, alloc: Global) -> anyhow::Result<()> {
     codec(rt, alloc)?;
     de_error(rt, alloc)?;
     fault_kind(rt, alloc)?;
+    duplicate_keys(rt, alloc)?;
+    read_options(rt, alloc)?;
     ser_error(rt, alloc)?;
     looked_at(rt)?;
     reader_error(rt, alloc)?;
@@ -40,6 +42,25 @@ fn de_error(rt: &impl Print, alloc: Global) -> anyhow::Result<()> {
 fn fault_kind(rt: &impl Print, alloc: Global) -> anyhow::Result<()> {
     if let Err(Error::Malformed { kind, .. }) = from_slice(alloc, b"\x05\0\0", DEPTH) {
         println!(rt; "{kind:?}")?; // Short
+    }
+    Ok(())
+}
+
+fn duplicate_keys(rt: &impl Print, alloc: Global) -> anyhow::Result<()> {
+    let twice = b"\x0b\0\0\0\x0aa\0\x0aa\0\0";
+    let read = from_slice_with(alloc, ReadOptions::default(), twice)?;
+    println!(rt; "{read}")?; // { "a": null }
+    Ok(())
+}
+
+fn read_options(rt: &impl Print, alloc: Global) -> anyhow::Result<()> {
+    let options = ReadOptions {
+        duplicate_keys: DuplicateKeys::Refuse,
+        ..ReadOptions::default()
+    };
+    let twice = b"\x0b\0\0\0\x0aa\0\x0aa\0\0";
+    if let Err(error) = from_slice_with(alloc, options, twice) {
+        println!(rt; "{error}")?; // no BSON document, by the byte at 8
     }
     Ok(())
 }

@@ -2,6 +2,7 @@ use Rattle.std.proofs.Common.{◌≡◌, ◌≤◌, ◌+◌, length, arith, sym,
 use Rattle.std.proofs.lemmas.Result.{err_from_is_err_and}
 use Rattle.bson_bytes.specs.Reading.{document_at}
 use Rattle.bson_bytes.specs.Tags.{kind_of}
+use Rattle.bson_bytes.specs.declared.keys.DuplicateKeys.TheVariants.{Replace}
 use Rattle.bson_bytes.proofs.Passed.{list_start, list_fault, list_end, list_more, list_stop, passed_fault, passed_list}
 use Rattle.bson_bytes.proofs.Passed.{passed_wrong, passed_done, passed_scope}
 use Rattle.bson_bytes.proofs.Passed.{passed_short_scope, passed_bad_scope}
@@ -18,7 +19,7 @@ list_at-returns-in_err-tag-clause-given t c =
     let p = err_from_is_err_and c.from_residual.result c.from_residual.ensures.1 in
     let i = c.elements.invariant.0 in
     rw (p.1, p.2) (list_fault c.args.depth c.elements.rest.now _ i _
-    (bad_byte c.args.depth i.turns c.elements.rest.now _ c.in_err-tag.ensures.given))
+    (bad_byte Replace c.args.depth None i.turns c.elements.rest.now _ c.in_err-tag.ensures.given))
 
 pub list_at-returns-then-tag-eq0-clause-given : goal.list_at-returns-then-tag-eq0-clause-given
 list_at-returns-then-tag-eq0-clause-given t c =
@@ -30,7 +31,7 @@ list_at-returns-in_default-clause-given t c =
     let i = c.elements.invariant.0 in
     let no : kind_of c.in_ok-tag.tag ≡ None = sym c.kind_of.ensures ∙ c.in_default.is in
     rw c.fault_at.ensures (list_fault c.args.depth c.elements.rest.now _ i _
-    (bad_tag c.args.depth i.turns c.elements.rest.now c.in_ok-tag.tag c.in_ok-tag.after.now i.enough
+    (bad_tag Replace c.args.depth None i.turns c.elements.rest.now c.in_ok-tag.tag c.in_ok-tag.after.now i.enough
     c.in_ok-tag.ensures.given c.if-tag-eq0.false no))
 
 pub list_at-returns-in_err-after-clause-given : goal.list_at-returns-in_err-after-clause-given
@@ -39,7 +40,7 @@ list_at-returns-in_err-after-clause-given t c =
     let i = c.elements.invariant.0 in
     let k : kind_of c.in_ok-tag.tag ≡ Some c.in-Some.kind = sym c.kind_of.ensures ∙ c.in-Some.is in
     rw (p.1, p.2) (list_fault c.args.depth c.elements.rest.now _ i _
-    (bad_name c.args.depth i.turns c.elements.rest.now c.in_ok-tag.tag c.in_ok-tag.after.now c.in-Some.kind _ i.enough
+    (bad_name Replace c.args.depth None i.turns c.elements.rest.now c.in_ok-tag.tag c.in_ok-tag.after.now c.in-Some.kind _ i.enough
     c.in_ok-tag.ensures.given c.if-tag-eq0.false k c.in_err-after.ensures.given))
 
 pub list_at-returns-in_err-behind-clause-given : goal.list_at-returns-in_err-behind-clause-given
@@ -68,13 +69,13 @@ list_at-elements-preserved t c =
 pub document_at-returns-then-depth-eq0-clause-given : goal.document_at-returns-then-depth-eq0-clause-given
 document_at-returns-then-depth-eq0-clause-given t c =
     rw c.fault_at.ensures (passed_fault (document_at c.args.depth c.args.bytes.now) _
-    (too_deep c.args.depth c.args.bytes.now c.if-depth-eq0.true))
+    (too_deep Replace c.args.depth None c.args.bytes.now c.if-depth-eq0.true))
 
 pub document_at-returns-in_err-size-clause-given : goal.document_at-returns-in_err-size-clause-given
 document_at-returns-in_err-size-clause-given t c =
     let p = err_from_is_err_and c.from_residual.result c.from_residual.ensures.1 in
     rw (p.1, p.2) (passed_fault (document_at c.args.depth c.args.bytes.now) _
-    (bad_size c.args.depth c.args.bytes.now _ c.if-depth-eq0.false c.in_err-size.ensures.given))
+    (bad_size Replace c.args.depth None c.args.bytes.now _ c.if-depth-eq0.false c.in_err-size.ensures.given))
 
 pub document_at-returns-in_err-rest-clause-given : goal.document_at-returns-in_err-rest-clause-given
 document_at-returns-in_err-rest-clause-given t c =

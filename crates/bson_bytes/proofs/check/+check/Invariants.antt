@@ -1,5 +1,6 @@
-use Rattle.std.proofs.Common.{◌+◌, ◌*◌, ◌≤◌, length}
+use Rattle.std.proofs.Common.{◌+◌, ◌*◌, ◌≤◌, length, None}
 use Rattle.bson_bytes.specs.Reading.{passed}
+use Rattle.bson_bytes.specs.declared.keys.DuplicateKeys.TheVariants.{Replace}
 use Rattle.bson_bytes.proofs.Passed.{ListLeft}
 use Rattle.bson_bytes.proofs.Turns.{elements}
 use Rattle.bson_bytes.proofs.check.+check.Given as goal
@@ -17,7 +18,7 @@ abbrev pub decreases-scope_at : goal.decreases-scope_at
 decreases-scope_at l = 4 * l.depth + 1
 
 abbrev pub invariant-list_at-elements : goal.invariant-list_at-elements
-invariant-list_at-elements l = ListLeft l.depth l.rest (passed (elements l.depth (length l.bytes) l.bytes)) × (length l.rest ≤ length l.bytes)
+invariant-list_at-elements l = ListLeft l.depth l.rest (passed (elements Replace l.depth None (length l.bytes) l.bytes)) × (length l.rest ≤ length l.bytes)
 
 abbrev pub decreases-list_at-elements : goal.decreases-list_at-elements
 decreases-list_at-elements l = length l.rest

@@ -1,0 +1,16 @@
+//! Keys that stand twice.
+
+/// What a key means that stands twice in a document, at any depth. The keys of an array are free.
+///
+/// ```
+/// let twice = b"\x0b\0\0\0\x0aa\0\x0aa\0\0";
+/// let read = from_slice_with(alloc, ReadOptions::default(), twice)?;
+/// println!(rt; "{read}")?; // { "a": null }
+/// ```
+#[derive(Clone, Copy, Debug, Drop, PartialEq, Eq)]
+pub enum DuplicateKeys {
+    /// The last value counts, at the first place.
+    Replace,
+    /// The bytes are refused.
+    Refuse,
+}
