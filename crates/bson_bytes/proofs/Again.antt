@@ -10,7 +10,7 @@ use Rattle.bson_scalar.specs.Subtype.{subtype_of}
 use Rattle.bson_wrapper.specs.Scalar as kind
 use Rattle.bson_bytes.proofs.Tagged.{kind_again}
 use Rattle.bson_scalar.specs.Tags.{tag_of}
-use Rattle.bson_model.specs.Value.{Value, Values, Pairs, no_pairs, pair}
+use Rattle.bson_model.specs.Value.{Value, Pairs, no_pairs}
 use Rattle.bson_model.specs.Value as model
 use Rattle.bson_bytes.specs.Grammar.{le, IsName, IsDocument, is_document, IsList, is_empty, is_element, IsValue}
 use Rattle.bson_bytes.specs.Grammar.{is_double, is_text, is_embedded, is_array, is_binary, is_false, is_true, is_null}
@@ -19,7 +19,7 @@ use Rattle.bson_bytes.specs.Grammar.{is_pointer, is_code, is_symbol, is_scope, i
 use Rattle.bson_bytes.specs.Grammar.{is_min}
 use Rattle.bson_bytes.specs.Grammar.{settle, text_bytes, IsText}
 use Rattle.bson_bytes.specs.Reading.{binary_at, boolean_at, bytes_at, regex_at, pointer_at, timestamp_at, scope_at}
-use Rattle.bson_bytes.specs.Reading.{value_with, list_at, document_in, Before, none_before, noted, key_at}
+use Rattle.bson_bytes.specs.Reading.{value_with, list_at, document_in, Before, none_before, noted}
 use Rattle.bson_bytes.specs.declared.keys.DuplicateKeys.{DuplicateKeys}
 use Rattle.bson_bytes.proofs.Standing.{Stand, stand_first, stand_rest, stand_from, key_again}
 use Rattle.bson_bytes.proofs.PartLaws.{wide32, wide64, length-le, number_again, size_again, bytes_again, name_again}

@@ -7,7 +7,7 @@ use Rattle.bson_model.specs.Value.{Value, Pairs, no_pairs, pair}
 use Rattle.bson_bytes.specs.declared.fault.FaultKind.TheVariants.{DuplicateKey}
 use Rattle.bson_bytes.specs.declared.keys.DuplicateKeys.{DuplicateKeys}
 use Rattle.bson_bytes.specs.declared.keys.DuplicateKeys.TheVariants.{Replace, Refuse}
-use Rattle.bson_bytes.specs.Fault.{at, ◌>>=◌}
+use Rattle.bson_bytes.specs.Fault.{at}
 use Rattle.bson_bytes.specs.Grammar.{IsNew, Once, MayStand}
 use Rattle.bson_bytes.specs.Reading.{Before, none_before, noted, is_new, key_at, name_at}
 use Rattle.bson_bytes.proofs.PartLaws.{bind_ok, if_ok, ok_is}

@@ -14,7 +14,7 @@ use Rattle.bson_bytes.proofs.Tagged.{tag_from}
 use Rattle.bson_bytes.specs.Fault.{at, ◌>>=◌, or_fault}
 use Rattle.bson_scalar.specs.Tags.{tag_of}
 use Rattle.bson_bytes.specs.Tags.{kind_of}
-use Rattle.bson_model.specs.Value.{Value, Values, Pairs, no_pairs, pair}
+use Rattle.bson_model.specs.Value.{Value, Pairs, no_pairs, pair}
 use Rattle.bson_model.specs.Value as model
 use Rattle.bson_bytes.specs.Grammar.{le, IsDocument, is_document, IsList, is_empty, is_element, IsValue}
 use Rattle.bson_bytes.specs.Grammar.{is_double, is_text, is_embedded, is_array, is_binary, is_false, is_true, is_null}
