@@ -35,21 +35,26 @@ PROVED = re.compile(
     r"logic=proved functions=[1-9]\d*( axioms=\d+)?( target=x86_64-unknown-linux-gnu cpu=x86-64-v2)? sum=[0-9a-f]{16}"
     r" native=nat,char,string logic-built=trusted libraries-built=trusted statements=trusted"
 )
-# The minutes that a crate takes with one job on a machine of four processors at 2.5 GHz, the minutes of them that
-# further jobs do not share, and the memory in GB of its first job.
+# The minutes that a crate takes with one job on a machine of four processors at 2.5 GHz with nothing beside it, the
+# minutes of them that further jobs do not share, and the memory in GB of its first job. From the lines of out/build.log:
+# processor seconds / 60, and what then gives the seconds by the jobs that it had.
 COSTS = {
-    "bson_datetime": (3.3, 0.6, 1.6),
-    "bson_decimal": (2.7, 0.4, 1.6),
-    "bson_store": (4.8, 2.5, 1.8),
-    "bson_scalar": (5.4, 1.7, 1.6),
-    "bson_wrapper": (7.2, 0.7, 2.3),
-    "bson_model": (0.4, 0.2, 1.6),
-    "bson_kind": (1.9, 0.3, 1.6),
-    "bson_place": (1.7, 0.6, 1.6),
-    "bson": (19.2, 2.5, 4.8),
-    "bson_run": (4.0, 0.6, 2.2),
-    "bson_cli": (1.2, 0.8, 1.6),
-    "bson_lines": (1.5, 0.9, 1.6),
+    "bson_datetime": (2.8, 0.3, 1.6),
+    "bson_decimal": (2.4, 0.3, 1.6),
+    "bson_double": (1.1, 0.2, 1.6),
+    "bson_store": (4.2, 1.0, 1.8),
+    "bson_scalar": (4.6, 0.6, 1.6),
+    "bson_wrapper": (7.3, 1.0, 2.3),
+    "bson_model": (0.5, 0.2, 1.6),
+    "bson_kind": (2.6, 1.2, 1.6),
+    "bson_place": (2.7, 1.7, 1.6),
+    "bson_tokens": (3.7, 1.1, 1.6),
+    "bson": (19.2, 2.2, 4.8),
+    "bson_run": (4.5, 1.0, 2.2),
+    "bson_cli": (1.7, 1.2, 1.6),
+    "bson_bytes": (2.9, 0.9, 1.6),
+    "bson_codec": (10.0, 1.2, 2.4),
+    "bson_lines": (6.8, 1.2, 2.5),
     "vbson": (2.5, 1.2, 1.6),
 }
 
