@@ -3,7 +3,8 @@
 A value is a pair of its kind and its content:
   Null, Undefined, MinKey, MaxKey: None         Boolean: bool              Int32, Int64, DateTime: int
   String, Symbol, JavaScriptCode: str           Double: its text           Decimal128: as decimal128.py has it
-  Array: list of values                         Document: list of (key, value), the keys ascending by their bytes
+  Array: list of values                         Document: list of (key, value), the keys ascending by their bytes, or
+                                                          where order is kept (TAKEN) as they stand in the tree
   RegularExpression: (pattern, options)         Binary: (subtype, bytes)   ObjectId: lower-case text
   JavaScriptCodeWithScope: (code, pairs)        Timestamp: (time, increment)
   DbPointer: (namespace, lower-case text)
@@ -76,8 +77,8 @@ def meaning(tree):
 
 def pairs(tree):
     """The pairs of an object whose own keys are free."""
-    # Texts by code points are in the order of their UTF-8 bytes.
-    return [(key, meaning(tree[key])) for key in sorted(tree)]
+    # Texts by code points are in the order of their UTF-8 bytes. (A dict has a key at its first place.)
+    return [(key, meaning(tree[key])) for key in (tree if 'order' in TAKEN else sorted(tree))]
 
 
 def demand(holds):

@@ -1,32 +1,45 @@
 -- What was read of a member, and of a scope.
 use Rattle.std.proofs.Common.{◌≡◌, ℕ, zero, suc, ◌∷◌, ◌-◌, ◌&&◌, List, length, Bool, true, false, not, codes, Option}
-use Rattle.std.proofs.Common.{Some, None, Result, Ok, Err}
+use Rattle.std.proofs.Common.{Some, None, Result, Ok, Err, []}
 use Rattle.std.proofs.Common.{option_map, refl, sym, ap, ◌∙◌, subst, arith, rules}
 use Rattle.std.proofs.lemmas.Bool.{and_parts}
 use Rattle.std.proofs.lemmas.Slice.Eq.{bytes_eq-Decides}
 use Rattle.std.proofs.lemmas.Option.{same_Some}
-use Rattle.std.specs.Prelude.{unwrap_or}
+use Rattle.std.specs.Prelude.{unwrap_or, String, string_bytes}
+use Rattle.std.specs.declared.alloc.Global.{Global}
+use Rattle.json.specs.Lex.{tokens}
 use Rattle.json.specs.Token.{Token}
 use Rattle.json.specs.Json.{value, items, parse_map}
 use Rattle.json.specs.Reads.{token_of}
 use Rattle.json.specs.declared.token.Token.{Token as Read}
 use Rattle.json.specs.declared.token.Token.TheVariants as read
 use Rattle.json.proofs.Grammar.{value_is}
-use Rattle.serde_json.specs.Data.{Num, Data, boolean, number, string, array, Items, Members, object}
-use Rattle.serde_json.specs.Read.{of_json, of_items, converted, number_of}
+use Rattle.serde_json.specs.Data.{Num, Data, null, boolean, number, string, array, Items, Members, no_members, member, object}
+use Rattle.serde_json.specs.Read.{converted, number_of}
 use Rattle.bson_wrapper.specs.Faults.{Fault}
+use Rattle.bson_wrapper.specs.Reading.{number_read_in}
+use Rattle.bson_wrapper.specs.Scalar as kind
 use Rattle.bson_wrapper.specs.Table.{has_wrapper}
 use Rattle.bson_wrapper.specs.declared.form.Doubles.{Doubles}
-use Rattle.bson_model.specs.Reading.{reads_in, reads_members_in, reads_scope_in}
-use Rattle.bson_model.specs.Value.{Value, Pairs, document}
-use Rattle.bson.specs.Straight.{given, marked, nothing}
+use Rattle.bson_model.specs.Reading.{reads_members_in, scalar_value}
+use Rattle.bson_model.specs.Value.{Value, scalar, Pairs, no_pairs, pair, document}
+use Rattle.bson.specs.Straight.{given, marked, marked_by, nothing, unless_nothing, any_key, is_wrapper, is_other}
+use Rattle.bson.specs.Straight.{is_code, is_scope, is_stray, IsFound}
 use Rattle.bson.specs.View.{bson_view}
 use Rattle.bson.specs.declared.bson.Bson.{Bson, the_lemmas}
 use Rattle.bson.specs.declared.bson.Bson.TheVariants as bson
-use Rattle.bson.proofs.Keys.{any_key, is_wrapper, is_code, is_scope, is_ordinary}
-use Rattle.bson.proofs.Marks.{given_map}
-use Rattle.bson_tokens.proofs.Offered.{array_opened, too_deep_array}
-use Rattle.bson.proofs.Wrapped.{IsBegun}
+use Rattle.bson.proofs.Keys.{ordinary_stray}
+use Rattle.bson.proofs.Marks.{given_map, put_marked, reads_marked}
+use Rattle.bson.proofs.Wrapped.{plain_insert, odd_insert, odd_first, odd_second}
+use Rattle.bson_tokens.proofs.Offered.{too_deep_array}
+use Rattle.bson_order.specs.Kept.{kept}
+use Rattle.bson_order.specs.Reading.{reads_in_order, members_in_order}
+use Rattle.bson_order.proofs.Offered.{same_wrapper}
+use Rattle.bson.specs.ByOrder.{tree_by, items_by, insert_by, insert_pair_by, default_members, reads_by}
+use Rattle.bson.specs.ByOrder.{reads_members_by, reads_scope_by}
+use Rattle.bson.specs.declared.extjson.key_order.KeyOrder.{KeyOrder}
+use Rattle.bson.specs.declared.extjson.key_order.KeyOrder.TheVariants.{Ascending, AsGiven}
+use Rattle.bson.proofs.ByOrder.{none_by_order, array_opened_by, boolean_read, string_read, number_read}
 
 bson_view-nothing : bson_view (bson.Double 0x7FF0000000000001) ≡ nothing
 bson_view-nothing = search (rules, the_lemmas)
@@ -39,79 +52,211 @@ held_value (Ok x) (Some v) h = let same : x ≡ bson_view v = cc in sym same
 held_value (Err e) None h = bson_view-nothing
 held_value (Err e) (Some v) h = cc
 
-ordinary_from : (w s : Bool) → w ≡ false → s ≡ false → (not w && not s) ≡ true
-ordinary_from w s a b = rw (a, b) refl
-
--- a first key that is neither a wrapper's nor `$scope`
-pub ordinary_key : (k : List ℕ) → is_wrapper k ≡ false → is_scope k ≡ false → is_ordinary k ≡ true
-ordinary_key k a b = ordinary_from (is_wrapper k) (is_scope k) a b
-
 -- a map with no wrapper's key
-pub document_given : (D : Doubles) (ms : Members) (ps : Option Pairs) → has_wrapper ms ≡ false
-    → given (reads_members_in D ms) ≡ ps → given (reads_in D (object ms)) ≡ option_map document ps
-document_given D ms ps plain is = rw plain (given_map document (reads_members_in D ms)) ∙ ap (option_map document) is
-
--- a map with a wrapper's key behind its first has that first key
-pub not_begun : (b : Bool) (ms : Members) → has_wrapper ms ≡ true → IsBegun b ms → any_key is_ordinary ms ≡ true
-not_begun true ms some none = let never : has_wrapper ms ≡ false = ap has_wrapper none in cc
-not_begun false ms some is = is
+pub document_given : (o : KeyOrder) (D : Doubles) (ms : Members) (ps : Option Pairs)
+    → has_wrapper (default_members o ms) ≡ false → given (reads_members_by o D ms) ≡ ps
+    → given (reads_by o D (object ms)) ≡ option_map document ps
+document_given Ascending D ms ps plain is =
+    rw plain (given_map document (reads_members_in D ms)) ∙ ap (option_map document) is
+document_given AsGiven D ms ps plain is =
+    let none : has_wrapper ms ≡ false = sym (same_wrapper ms) ∙ plain in
+    rw none (given_map document (members_in_order D ms)) ∙ ap (option_map document) is
 
 pub code_keys : (k l : List ℕ) → (is_code k && is_scope l) ≡ true → (k ≡ codes "$code") × (l ≡ codes "$scope")
 code_keys k l h =
     let both = and_parts (is_code k) (is_scope l) h in
     ((bytes_eq-Decides k (codes "$code")).0 both.0, (bytes_eq-Decides l (codes "$scope")).0 both.1)
 
--- ---- a scope that is neither null nor a document
+-- ---- scopes
 
-module _ (D : Doubles) where
-  scope_is : (e d : Data) (r rest : List Token) (o : Option (Data × List Token)) → given (reads_scope_in D e) ≡ None
-      → o ≡ Some (e, r) → o ≡ Some (d, rest) → given (reads_scope_in D d) ≡ None
-  scope_is e d r rest o none was is =
+pub null_scope : (o : KeyOrder) (D : Doubles) → given (reads_scope_by o D null) ≡ Some None
+null_scope Ascending D = refl
+null_scope AsGiven D = refl
+
+pub object_scope : (o : KeyOrder) (D : Doubles) (ms : Members)
+    → given (reads_scope_by o D (object ms)) ≡ option_map Some (given (reads_members_by o D ms))
+object_scope Ascending D ms = given_map Some (reads_members_in D ms)
+object_scope AsGiven D ms = given_map Some (members_in_order D ms)
+
+abbrev ScopeIsNot : Data → Type 0
+ScopeIsNot null = ⊥
+ScopeIsNot (object ms) = ⊥
+ScopeIsNot (boolean b) = Unit {0}
+ScopeIsNot (number n) = Unit {0}
+ScopeIsNot (string s) = Unit {0}
+ScopeIsNot (array ds) = Unit {0}
+
+-- a scope that is neither null nor a document
+no_scope : (o : KeyOrder) (D : Doubles) (d : Data) → ScopeIsNot d → given (reads_scope_by o D d) ≡ None
+no_scope o D null h = absurd h
+no_scope o D (object ms) h = absurd h
+no_scope Ascending D (boolean b) h = refl
+no_scope Ascending D (number n) h = refl
+no_scope Ascending D (string s) h = refl
+no_scope Ascending D (array ds) h = refl
+no_scope AsGiven D (boolean b) h = refl
+no_scope AsGiven D (number n) h = refl
+no_scope AsGiven D (string s) h = refl
+no_scope AsGiven D (array ds) h = refl
+
+module _ (o : KeyOrder) (D : Doubles) where
+  scope_is : (e d : Data) (r rest : List Token) (x : Option (Data × List Token)) → given (reads_scope_by o D e) ≡ None
+      → x ≡ Some (e, r) → x ≡ Some (d, rest) → given (reads_scope_by o D d) ≡ None
+  scope_is e d r rest x none was is =
       let same = same_Some {A = Data × List Token} (e, r) (d, rest) (sym was ∙ is) in
-      subst (λ x. given (reads_scope_in D x) ≡ None) (ap (λ p. p.0) same) none
+      subst (λ y. given (reads_scope_by o D y) ≡ None) (ap (λ p. p.0) same) none
 
   number_scope : (n : Option Num) (d : Data) (r rest : List Token)
       → option_map {U = Data × List Token} (λ x. (x, r)) (option_map number n) ≡ Some (d, rest)
-      → given (reads_scope_in D d) ≡ None
+      → given (reads_scope_by o D d) ≡ None
   number_scope None d r rest h = cc
-  number_scope (Some n) d r rest h = scope_is (number n) d r rest (Some (number n, r)) refl refl h
+  number_scope (Some n) d r rest h =
+      scope_is (number n) d r rest (Some (number n, r)) (no_scope o D (number n) tt) refl h
 
-  list_scope : (o : Option (Items × List Token)) (d : Data) (rest : List Token) → parse_map array o ≡ Some (d, rest)
-      → given (reads_scope_in D d) ≡ None
+  list_scope : (x : Option (Items × List Token)) (d : Data) (rest : List Token) → parse_map array x ≡ Some (d, rest)
+      → given (reads_scope_by o D d) ≡ None
   list_scope None d rest h = cc
-  list_scope (Some (ds, r)) d rest h = scope_is (array ds) d r rest (Some (array ds, r)) refl refl h
+  list_scope (Some (ds, r)) d rest h =
+      scope_is (array ds) d r rest (Some (array ds, r)) (no_scope o D (array ds) tt) refl h
 
   array_scope : (depth : ℕ) (ts r rest : List Token) (d : Data) → ts ≡ Token.begin_array ∷ r
-      → converted of_json (value depth ts) ≡ Some (d, rest) → given (reads_scope_in D d) ≡ None
+      → converted (tree_by o) (value depth ts) ≡ Some (d, rest) → given (reads_scope_by o D d) ≡ None
   array_scope zero ts r rest d is e =
-      let never : converted of_json (value 0 ts) ≡ None = too_deep_array 0 ts r is refl in cc
+      let never : converted (tree_by o) (value 0 ts) ≡ None =
+      none_by_order o (value 0 ts) (too_deep_array 0 ts r is refl) in
+      let some : converted (tree_by o) (value 0 ts) ≡ Some (d, rest) = e in cc
   array_scope (suc n) ts r rest d is e =
-      list_scope (converted of_items (items (value (suc n - 1)) (length r) r)) d rest
-      (sym (array_opened (suc n) ts r is (omega arith)) ∙ e)
+      list_scope (converted (items_by o) (items (value (suc n - 1)) (length r) r)) d rest
+      (sym (array_opened_by o (suc n) ts r is (omega arith)) ∙ e)
 
-  none_else : {A : Type 0} (depth : ℕ) (ts rest : List Token) (d : Data) → converted of_json (value depth ts) ≡ None
-      → converted of_json (value depth ts) ≡ Some (d, rest) → A
+  none_else : {A : Type 0} (depth : ℕ) (ts rest : List Token) (d : Data)
+      → converted (tree_by o) (value depth ts) ≡ None → converted (tree_by o) (value depth ts) ≡ Some (d, rest) → A
   none_else depth ts rest d none some = cc
 
+  tokens_are : (depth : ℕ) (ts : List Token) (k : Token) (r : List Token) → ts ≡ k ∷ r
+      → converted (tree_by o) (value depth ts) ≡ converted (tree_by o) (value depth (k ∷ r))
+  tokens_are depth ts k r is = ap (λ t. converted (tree_by o) (value depth t)) is
+
   pub other_scope : (depth : ℕ) (k : Read) (ts r rest : List Token) (d : Data) → ts ≡ token_of k ∷ r
-      → (k ≡ read.BeginObject → ⊥) → (k ≡ read.Null → ⊥) → converted of_json (value depth ts) ≡ Some (d, rest)
-      → given (reads_scope_in D d) ≡ None
+      → (k ≡ read.BeginObject → ⊥) → (k ≡ read.Null → ⊥) → converted (tree_by o) (value depth ts) ≡ Some (d, rest)
+      → given (reads_scope_by o D d) ≡ None
   other_scope depth read.BeginObject ts r rest d is a b e = absurd (a refl)
   other_scope depth read.Null ts r rest d is a b e = absurd (b refl)
   other_scope depth (read.String s) ts r rest d is a b e =
-      scope_is (string s.now) d r rest (converted of_json (value depth ts)) refl
-      (ap (λ t. converted of_json (value depth t)) is ∙ ap (converted of_json) (value_is depth _)) e
+      scope_is (string s.now) d r rest (converted (tree_by o) (value depth ts)) (no_scope o D (string s.now) tt)
+      (tokens_are depth ts _ r is ∙ ap (converted (tree_by o)) (value_is depth _) ∙ string_read o s.now r) e
   other_scope depth (read.Bool x) ts r rest d is a b e =
-      scope_is (boolean x) d r rest (converted of_json (value depth ts)) refl
-      (ap (λ t. converted of_json (value depth t)) is ∙ ap (converted of_json) (value_is depth _)) e
+      scope_is (boolean x) d r rest (converted (tree_by o) (value depth ts)) (no_scope o D (boolean x) tt)
+      (tokens_are depth ts _ r is ∙ ap (converted (tree_by o)) (value_is depth _) ∙ boolean_read o x r) e
   other_scope depth (read.Number s) ts r rest d is a b e = number_scope (number_of s.now) d r rest
-      (sym (ap (λ t. converted of_json (value depth t)) is ∙ ap (converted of_json) (value_is depth _)) ∙ e)
+      (sym (tokens_are depth ts _ r is ∙ ap (converted (tree_by o)) (value_is depth _) ∙ number_read o s.now r) ∙ e)
   other_scope depth read.BeginArray ts r rest d is a b e = array_scope depth ts r rest d is e
   other_scope depth read.EndObject ts r rest d is a b e = none_else depth ts rest d
-      (ap (λ t. converted of_json (value depth t)) is ∙ ap (converted of_json) (value_is depth _)) e
+      (tokens_are depth ts _ r is ∙ ap (converted (tree_by o)) (value_is depth _)) e
   other_scope depth read.EndArray ts r rest d is a b e = none_else depth ts rest d
-      (ap (λ t. converted of_json (value depth t)) is ∙ ap (converted of_json) (value_is depth _)) e
+      (tokens_are depth ts _ r is ∙ ap (converted (tree_by o)) (value_is depth _)) e
   other_scope depth (read.Key s) ts r rest d is a b e = none_else depth ts rest d
-      (ap (λ t. converted of_json (value depth t)) is ∙ ap (converted of_json) (value_is depth _)) e
+      (tokens_are depth ts _ r is ∙ ap (converted (tree_by o)) (value_is depth _)) e
   other_scope depth read.Bad ts r rest d is a b e = none_else depth ts rest d
-      (ap (λ t. converted of_json (value depth t)) is ∙ ap (converted of_json) (value_is depth _)) e
+      (tokens_are depth ts _ r is ∙ ap (converted (tree_by o)) (value_is depth _)) e
+
+-- ---- values of one token
+
+pub null_given : (o : KeyOrder) (D : Doubles) → given (reads_by o D null) ≡ Some (scalar kind.null)
+null_given Ascending D = refl
+null_given AsGiven D = refl
+
+pub boolean_given : (o : KeyOrder) (D : Doubles) (b : Bool)
+    → given (reads_by o D (boolean b)) ≡ Some (scalar (kind.boolean b))
+boolean_given Ascending D b = refl
+boolean_given AsGiven D b = refl
+
+pub text_given : (o : KeyOrder) (D : Doubles) (s : List ℕ) → given (reads_by o D (string s)) ≡ Some (scalar (kind.text s))
+text_given Ascending D s = refl
+text_given AsGiven D s = refl
+
+pub number_given : (o : KeyOrder) (D : Doubles) (n : Num)
+    → given (reads_by o D (number n)) ≡ given (scalar_value (number_read_in D n))
+number_given Ascending D n = refl
+number_given AsGiven D n = refl
+
+-- ---- what is held as a text
+
+-- the text is of a value whose tree in order is this
+abbrev pub IsText : ℕ → String Global → Data → Type 0
+IsText depth text e = converted kept (value depth (tokens (string_bytes text))) ≡ Some (e, [])
+
+-- ---- the values that were found
+
+pub empty_given : (o : KeyOrder) (D : Doubles) → given (reads_by o D (object no_members)) ≡ Some (document no_pairs)
+empty_given Ascending D = refl
+empty_given AsGiven D = refl
+
+no_marks : (o : KeyOrder) (D : Doubles) → marked_by o D no_members ≡ no_pairs
+no_marks Ascending D = refl
+no_marks AsGiven D = refl
+
+still_none : (o : KeyOrder) → has_wrapper (default_members o no_members) ≡ false
+still_none Ascending = refl
+still_none AsGiven = refl
+
+-- the first, whose key is no wrapper's and not `$scope`
+pub first_found : (o : KeyOrder) (D : Doubles) (k : List ℕ) (d : Data) (none now : Pairs) → none ≡ no_pairs
+    → now ≡ insert_pair_by o k (marked (reads_by o D d)) none → is_wrapper k ≡ false → is_scope k ≡ false
+    → IsFound o D (insert_by o k d no_members) true now
+first_found o D k d none now is put plain other = (
+  put ∙ ap (insert_pair_by o k (marked (reads_by o D d))) (is ∙ sym (no_marks o D)) ∙ sym (put_marked D o k d no_members),
+  plain_insert o k d no_members true (still_none o) ∙ ap not (ap not plain),
+  odd_first o k d no_members (ap not plain) (ordinary_stray k plain other),
+)
+
+-- one more
+pub found_more : (o : KeyOrder) (D : Doubles) (k : List ℕ) (d : Data) (ms : Members) (b w : Bool) (old now : Pairs)
+    → IsFound o D ms b old → now ≡ insert_pair_by o k (marked (reads_by o D d)) old → w ≡ is_wrapper k
+    → IsFound o D (insert_by o k d ms) (b && not w) now
+found_more o D k d ms b w old now found put is = (
+  put ∙ ap (insert_pair_by o k (marked (reads_by o D d))) found.0 ∙ sym (put_marked D o k d ms),
+  plain_insert o k d ms b found.1 ∙ ap (λ x. not (b && not x)) (sym is),
+  odd_insert o k d ms found.2,
+)
+
+-- ---- `$scope` first
+
+pub second_false : (a b : Bool) → (a && b) ≡ false → b ≡ true → a ≡ false
+second_false true true h is = h
+second_false true false h is = cc
+second_false false b h is = refl
+
+pub not_twice : (b : Bool) → b ≡ not (not b)
+not_twice true = refl
+not_twice false = refl
+
+pub stray_from : (j : List ℕ) → is_code j ≡ false → is_scope j ≡ false → is_stray j ≡ true
+stray_from j a b = rw (a, b) refl
+
+plain_scope : (k : List ℕ) (e : Data) → k ≡ codes "$scope"
+    → has_wrapper (default_members AsGiven (member k e no_members)) ≡ false
+plain_scope k e is = ap (λ x. has_wrapper (default_members AsGiven (member x e no_members))) is
+
+other_there : (k : List ℕ) (e : Data) → k ≡ codes "$scope"
+    → any_key is_other (default_members AsGiven (member k e no_members)) ≡ true
+other_there k e is = ap (λ x. any_key is_other (default_members AsGiven (member x e no_members))) is
+
+-- a document that begins with it
+pub scope_found : (D : Doubles) (k j : List ℕ) (e d : Data) (b : Bool) (first now : Pairs) → k ≡ codes "$scope"
+    → first ≡ pair k (marked (reads_in_order D e)) no_pairs
+    → now ≡ insert_pair_by AsGiven j (marked (reads_in_order D d)) first → b ≡ not (is_wrapper j) → is_stray j ≡ true
+    → IsFound AsGiven D (insert_by AsGiven j d (member k e no_members)) b now
+scope_found D k j e d b first now is one put plain stray = (
+  put ∙ ap (insert_pair_by AsGiven j (marked (reads_in_order D d))) one
+      ∙ sym (put_marked D AsGiven j d (member k e no_members)),
+  plain_insert AsGiven j d (member k e no_members) true (plain_scope k e is) ∙ ap not (sym plain),
+  odd_second AsGiven j d (member k e no_members) (other_there k e is) stray,
+)
+
+pub lone_document : (D : Doubles) (k : List ℕ) (e : Data) (ps : Option Pairs) → k ≡ codes "$scope"
+    → ps ≡ unless_nothing (pair k (marked (reads_in_order D e)) no_pairs)
+    → given (reads_in_order D (object (member k e no_members))) ≡ option_map document ps
+lone_document D k e ps is seen =
+    document_given AsGiven D (member k e no_members) ps (plain_scope k e is)
+    (reads_marked AsGiven D (member k e no_members) ∙ sym seen)

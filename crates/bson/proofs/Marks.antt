@@ -1,9 +1,10 @@
 -- Values of no meaning, and what stands for them.
 use Rattle.std.proofs.Common.{◌≡◌, ◌==◌, ◌||◌, ℕ, zero, suc, Bool, true, false, if◌then◌else◌, List, [], ◌∷◌, drop}
 use Rattle.std.proofs.Common.{slice_get, Some, None, Result, Ok, Err, Ordering, Less, Equal, Greater, nat_cmp}
-use Rattle.std.proofs.Common.{option_map, refl, sym, ap, subst, arith}
+use Rattle.std.proofs.Common.{option_map, refl, sym, ap, ◌∙◌, subst, arith}
 use Rattle.std.proofs.lemmas.Bool.{eqb-true}
 use Rattle.std.specs.Cmp.Lexicographic.{slice_cmp}
+use Rattle.std.specs.Str.{bytes_eq}
 use Rattle.std.specs.Ordering.{match_ordering}
 use Rattle.serde_json.specs.Data.{Data, Members, no_members, member, put}
 use Rattle.bson_wrapper.specs.Doubles.{normal_double}
@@ -15,11 +16,17 @@ use Rattle.bson_wrapper.specs.declared.form.Doubles.{Doubles}
 use Rattle.bson_model.specs.Normal.{writable_in}
 use Rattle.bson_model.specs.Value.{IfScalar}
 use Rattle.bson_model.specs.Reading.{reads_in, reads_members_in}
-use Rattle.bson_model.specs.Sorted.{put_pair}
+use Rattle.bson_model.specs.Sorted.{put_pair, sorted}
 use Rattle.bson_model.specs.Value.{Value, scalar, code_scope, array, document, Pairs, pair}
 use Rattle.bson_model.proofs.Offered.{value_read_in, means_from_in, normal_scalar_of}
 use Rattle.bson_store.specs.Pairs.{values}
-use Rattle.bson.specs.Straight.{given, is_nothing, marked, marked_members, holds_nothing, unless_nothing}
+use Rattle.bson_order.specs.Kept.{put_kept}
+use Rattle.bson_order.specs.Reading.{reads_in_order, members_in_order}
+use Rattle.bson_order.proofs.Offered.{forgets, means_from}
+use Rattle.bson.specs.ByOrder.{insert_by, insert_pair_by, set_pair, reads_by, reads_members_by}
+use Rattle.bson.specs.Straight.{given, is_nothing, marked, marked_by, holds_nothing, unless_nothing}
+use Rattle.bson.specs.declared.extjson.key_order.KeyOrder.{KeyOrder}
+use Rattle.bson.specs.declared.extjson.key_order.KeyOrder.TheVariants.{Ascending, AsGiven}
 use Rattle.bson.specs.View.{bson_view, pairs_view}
 use Rattle.bson.specs.declared.bson.Bson.{Bson}
 
@@ -41,21 +48,35 @@ given_none (Err d) h x e = cc
 -- ---- one more member
 
 module _ (D : Doubles) where
-  put_marked_at : (o : Ordering) (k l : List ℕ) (v w : Value) (d e : Data) (ms : Members) → marked (reads_in D d) ≡ v
-      → marked (reads_in D e) ≡ w → marked_members D (put k d ms) ≡ put_pair k v (marked_members D ms)
-      → marked_members D (match_ordering o (member k d (member l e ms)) (member l d ms) (member l e (put k d ms)))
-      ≡ match_ordering o (pair k v (pair l w (marked_members D ms))) (pair l v (marked_members D ms))
-      (pair l w (put_pair k v (marked_members D ms)))
-  put_marked_at Less k l v w d e ms h i is = rw (h, i) refl
-  put_marked_at Equal k l v w d e ms h i is = rw h refl
-  put_marked_at Greater k l v w d e ms h i is = rw (i, is) refl
+  abbrev mark : KeyOrder → Data → Value
+  mark o d = marked (reads_by o D d)
 
-  pub put_marked : (k : List ℕ) (d : Data) (ms : Members)
-      → marked_members D (put k d ms) ≡ put_pair k (marked (reads_in D d)) (marked_members D ms)
-  put_marked k d no_members = refl
-  put_marked k d (member l e ms) =
-      put_marked_at (slice_cmp nat_cmp k l) k l (marked (reads_in D d)) (marked (reads_in D e)) d e ms
-      refl refl (put_marked k d ms)
+  put_marked_at : (c : Ordering) (k l : List ℕ) (d e : Data) (ms : Members)
+      → marked_by Ascending D (put k d ms) ≡ put_pair k (mark Ascending d) (marked_by Ascending D ms)
+      → marked_by Ascending D
+      (match_ordering c (member k d (member l e ms)) (member l d ms) (member l e (put k d ms)))
+      ≡ match_ordering c (pair k (mark Ascending d) (pair l (mark Ascending e) (marked_by Ascending D ms)))
+      (pair l (mark Ascending d) (marked_by Ascending D ms))
+      (pair l (mark Ascending e) (put_pair k (mark Ascending d) (marked_by Ascending D ms)))
+  put_marked_at Less k l d e ms is = refl
+  put_marked_at Equal k l d e ms is = refl
+  put_marked_at Greater k l d e ms is = ap (pair l (mark Ascending e)) is
+
+  set_marked_at : (b : Bool) (k l : List ℕ) (d e : Data) (ms : Members)
+      → marked_by AsGiven D (put_kept k d ms) ≡ set_pair k (mark AsGiven d) (marked_by AsGiven D ms)
+      → marked_by AsGiven D (if b then member l d ms else member l e (put_kept k d ms))
+      ≡ (if b then pair l (mark AsGiven d) (marked_by AsGiven D ms)
+      else pair l (mark AsGiven e) (set_pair k (mark AsGiven d) (marked_by AsGiven D ms)))
+  set_marked_at true k l d e ms is = refl
+  set_marked_at false k l d e ms is = ap (pair l (mark AsGiven e)) is
+
+  pub put_marked : (o : KeyOrder) (k : List ℕ) (d : Data) (ms : Members)
+      → marked_by o D (insert_by o k d ms) ≡ insert_pair_by o k (marked (reads_by o D d)) (marked_by o D ms)
+  put_marked Ascending k d no_members = refl
+  put_marked AsGiven k d no_members = refl
+  put_marked Ascending k d (member l e ms) =
+      put_marked_at (slice_cmp nat_cmp k l) k l d e ms (put_marked Ascending k d ms)
+  put_marked AsGiven k d (member l e ms) = set_marked_at (bytes_eq k l) k l d e ms (put_marked AsGiven k d ms)
 
 -- ---- a tree that means something
 
@@ -100,8 +121,17 @@ unmarked (code_scope s ps) h = refl
 unmarked (array vs) h = refl
 unmarked (document ps) h = refl
 
-pub never_nothing : (D : Doubles) (d : Data) (v : Value) → reads_in D d ≡ Ok v → is_nothing v ≡ false
-never_nothing D d v h = unmarked v (normal_scalar_of D (means_from_in D d v h))
+-- the order of keys changes nothing of it
+still_unmarked : (v : Value) → is_nothing (sorted v) ≡ is_nothing v
+still_unmarked (scalar x) = refl
+still_unmarked (code_scope s ps) = refl
+still_unmarked (array vs) = refl
+still_unmarked (document ps) = refl
+
+never_nothing : (o : KeyOrder) (D : Doubles) (d : Data) (v : Value) → reads_by o D d ≡ Ok v → is_nothing v ≡ false
+never_nothing Ascending D d v h = unmarked v (normal_scalar_of D (means_from_in D d v h))
+never_nothing AsGiven D d v h =
+    sym (still_unmarked v) ∙ unmarked (sorted v) (normal_scalar_of D (forgets D (means_from D d v h)))
 
 -- ---- a whole map
 
@@ -120,11 +150,14 @@ first_of k (Err e) s qs never h = refl
 first_of k (Ok v) s qs never h = rw (never v refl) (one_more k v s qs (holds_nothing qs) h)
 
 -- it is read where none of its values stands for nothing
-pub reads_marked : (D : Doubles) (ms : Members)
-    → given (reads_members_in D ms) ≡ unless_nothing (marked_members D ms)
-reads_marked D no_members = refl
-reads_marked D (member k d ms) =
-    first_of k (reads_in D d) (reads_members_in D ms) (marked_members D ms) (never_nothing D d) (reads_marked D ms)
+pub reads_marked : (o : KeyOrder) (D : Doubles) (ms : Members)
+    → given (reads_members_by o D ms) ≡ unless_nothing (marked_by o D ms)
+reads_marked Ascending D no_members = refl
+reads_marked AsGiven D no_members = refl
+reads_marked Ascending D (member k d ms) = first_of k (reads_in D d) (reads_members_in D ms) (marked_by Ascending D ms)
+    (never_nothing Ascending D d) (reads_marked Ascending D ms)
+reads_marked AsGiven D (member k d ms) = first_of k (reads_in_order D d) (members_in_order D ms) (marked_by AsGiven D ms)
+    (never_nothing AsGiven D d) (reads_marked AsGiven D ms)
 
 -- ---- a document
 

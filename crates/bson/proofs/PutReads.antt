@@ -13,7 +13,8 @@ use Rattle.bson_model.specs.Reading.{reads_in, reads_members_in}
 use Rattle.bson_model.specs.Sorted.{put_pair, IsLeast, KeysAscend}
 use Rattle.bson_model.specs.Value.{Value, Pairs, no_pairs, pair, document}
 use Rattle.bson_model.proofs.Offered.{flipped}
-use Rattle.bson.proofs.Keys.{is_wrapper, wrapper_key, any_other}
+use Rattle.bson.specs.Straight.{is_wrapper}
+use Rattle.bson.proofs.Keys.{wrapper_key, any_other}
 
 -- ---- what the map is read as
 

@@ -1,38 +1,54 @@
--- An object whose first key is a wrapper's: of that key alone, of code and its scope, and of others.
-use Rattle.std.proofs.Common.{◌≡◌, ℕ, ◌<◌, ◌&&◌, ◌||◌, List, length, Bool, true, false, not, codes, Option, Some, None}
-use Rattle.std.proofs.Common.{Result}
-use Rattle.std.proofs.Common.{Ok, Err, refl, sym, ap, ◌∙◌, arith}
+-- An object whose first key is a wrapper's or `$scope`: of that key alone, of code and its scope, and of others.
+use Rattle.std.proofs.Common.{◌≡◌, ℕ, ◌<◌, ◌&&◌, ◌||◌, ◌⊎◌, inl, inr, List, length, Bool, true, false, not, codes, Option}
+use Rattle.std.proofs.Common.{Some, None, Result, Ok, Err, refl, sym, ap, ◌∙◌, subst, arith}
+use Rattle.std.proofs.Common.{Equal, nat_cmp}
+use Rattle.std.proofs.lemmas.Cmp.{nat_list_cmp_total, tied_itself}
+use Rattle.std.specs.Cmp.Lexicographic.{slice_cmp}
 use Rattle.std.specs.Prelude.{is_some}
 use Rattle.std.specs.Str.{bytes_eq}
 use Rattle.std.proofs.lemmas.Slice.Eq.{bytes_eq-Decides}
 use Rattle.json.specs.Token.{Token}
 use Rattle.json.specs.Json.{read_key, value}
-use Rattle.json.proofs.Grammar.{read_key-shorter}
-use Rattle.serde_json.specs.Data.{Data, null, boolean, number, string, array, Members, no_members, object, put}
+use Rattle.serde_json.specs.Data.{Data, null, boolean, number, string, array, Members, no_members, member, object, put}
 use Rattle.serde_json.specs.Read.{of_json, converted}
 use Rattle.bson_wrapper.specs.Faults.{Fault}
-use Rattle.bson_wrapper.specs.Reading.{single_at_in}
+use Rattle.bson_wrapper.specs.Reading.{single_at_in, on_text}
 use Rattle.bson_wrapper.specs.Table.{wrapper_of, has_wrapper}
 use Rattle.bson_wrapper.specs.declared.form.Doubles.{Doubles}
-use Rattle.bson_model.specs.Reading.{reads_in, reads_scope_in, scalar_value, scope_value}
+use Rattle.bson_model.specs.Reading.{reads_in, reads_scope_in, scalar_value, scope_value, code_at}
+use Rattle.bson_model.specs.Sorted.{sorted}
 use Rattle.bson_model.specs.Value.{Value, Pairs}
-use Rattle.bson_tokens.specs.Parts.{MembersAre, NoMembers, ObjectIs, NoObject}
-use Rattle.bson.specs.Straight.{ObjectReads, given, code_given}
-use Rattle.bson.proofs.Keys.{any_key, any_new, any_kept, any_other, wrapper_key}
-use Rattle.bson.proofs.Keys.{is_wrapper, is_ordinary, is_code, is_stray, stray_refused}
-use Rattle.bson_tokens.proofs.Offered.{more_members, no_more_members, no_key, no_member, no_members_behind}
+use Rattle.bson_model.proofs.Offered.{means_to_in}
+use Rattle.bson_order.specs.Kept.{unordered}
+use Rattle.bson_order.specs.Reading.{reads_in_order, scope_in_order}
+use Rattle.bson_order.proofs.Offered.{forgets, means_from}
+use Rattle.bson_tokens.specs.Parts.{NoObject}
+use Rattle.bson_tokens.proofs.Offered.{no_key, no_member}
+use Rattle.bson.specs.ByOrder.{tree_by, insert_by, default_tree, default_members, reads_by, reads_scope_by}
+use Rattle.bson.specs.Straight.{given, code_given, any_key, is_wrapper, is_other, is_code, is_scope, is_stray, IsOdd}
+use Rattle.bson.specs.Straight.{AreTwo, IsCode}
+use Rattle.bson.specs.declared.extjson.key_order.KeyOrder.{KeyOrder}
+use Rattle.bson.specs.declared.extjson.key_order.KeyOrder.TheVariants.{Ascending, AsGiven}
+use Rattle.bson.proofs.ByOrder.{default_insert}
+use Rattle.bson.proofs.Keys.{any_new, any_kept, any_other, wrapper_key, stray_refused, IsStrange, strange_kept}
+use Rattle.bson.proofs.Keys.{strange_from, strange_refused}
+use Rattle.bson.proofs.Marks.{given_none}
 
--- ---- the first key
+-- ---- what means nothing by default means nothing in order
 
--- no member was read yet, or one whose key is neither a wrapper's nor `$scope`
-abbrev pub IsBegun : Bool → Members → Type 0
-IsBegun true ms = ms ≡ no_members
-IsBegun false ms = any_key is_ordinary ms ≡ true
+refused : (r : Result Value Fault) → ((v : Value) → r ≡ Ok v → ⊥) → given r ≡ None
+refused (Ok v) never = absurd (never v refl)
+refused (Err e) never = refl
 
-pub begun : (b : Bool) (k : List ℕ) (d : Data) (ms : Members) → (b ≡ true → is_ordinary k ≡ true) → IsBegun b ms
-    → any_key is_ordinary (put k d ms) ≡ true
-begun true k d ms first is = any_new is_ordinary k d ms (first refl)
-begun false k d ms first is = any_kept is_ordinary k d ms is
+pub none_by : (o : KeyOrder) (D : Doubles) (ms : Members)
+    → given (reads_in D (object (default_members o ms))) ≡ None → given (reads_by o D (object ms)) ≡ None
+none_by Ascending D ms h = h
+none_by AsGiven D ms h =
+    refused (reads_in_order D (object ms)) (λ v e.
+    given_none (reads_in D (unordered (object ms))) h (sorted v)
+    (means_to_in D (forgets D (means_from D (object ms) v e))))
+
+-- ---- the keys so far, by default
 
 wrapper_put : (b : Bool) (k : List ℕ) (d : Data) (ms : Members) → is_wrapper k ≡ b
     → any_key is_wrapper (put k d ms) ≡ (b || any_key is_wrapper ms)
@@ -45,146 +61,199 @@ neither true false = refl
 neither false true = refl
 neither false false = refl
 
--- whether there is a wrapper's key
-pub still_plain : (b : Bool) (k : List ℕ) (d : Data) (ms : Members) → has_wrapper ms ≡ not b
+still_plain : (b : Bool) (k : List ℕ) (d : Data) (ms : Members) → has_wrapper ms ≡ not b
     → has_wrapper (put k d ms) ≡ not (b && not (is_wrapper k))
 still_plain b k d ms is = wrapper_key (put k d ms) ∙ wrapper_put (is_wrapper k) k d ms refl
     ∙ ap (λ w. is_wrapper k || w) (sym (wrapper_key ms) ∙ is) ∙ neither (is_wrapper k) b
 
+module _ (o : KeyOrder) (k : List ℕ) (d : Data) (ms : Members) where
+  -- whether there is a wrapper's key
+  pub plain_insert : (b : Bool) → has_wrapper (default_members o ms) ≡ not b
+      → has_wrapper (default_members o (insert_by o k d ms)) ≡ not (b && not (is_wrapper k))
+  plain_insert b is =
+      ap has_wrapper (default_insert o k d ms) ∙ still_plain b k (default_tree o d) (default_members o ms) is
+
+  any_insert : (f : List ℕ → Bool) → any_key f (default_members o ms) ≡ true
+      → any_key f (default_members o (insert_by o k d ms)) ≡ true
+  any_insert f is =
+      ap (any_key f) (default_insert o k d ms) ∙ any_kept f k (default_tree o d) (default_members o ms) is
+
+  new_insert : (f : List ℕ → Bool) → f k ≡ true → any_key f (default_members o (insert_by o k d ms)) ≡ true
+  new_insert f is =
+      ap (any_key f) (default_insert o k d ms) ∙ any_new f k (default_tree o d) (default_members o ms) is
+
+  pub odd_insert : IsOdd (default_members o ms) → IsOdd (default_members o (insert_by o k d ms))
+  odd_insert is = (any_insert is_other is.0, any_insert is_stray is.1)
+
+  pub odd_first : is_other k ≡ true → is_stray k ≡ true → IsOdd (default_members o (insert_by o k d ms))
+  odd_first other stray = (new_insert is_other other, new_insert is_stray stray)
+
+  pub odd_second : any_key is_other (default_members o ms) ≡ true → is_stray k ≡ true
+      → IsOdd (default_members o (insert_by o k d ms))
+  odd_second other stray = (any_insert is_other other, new_insert is_stray stray)
+
 -- ---- a wrapper
 
-lone_given : (D : Doubles) (k : List ℕ) (d : Data) → is_some (wrapper_of k) ≡ true
-    → reads_in D (object (put k d no_members)) ≡ scalar_value (single_at_in D (wrapper_of k) d)
-lone_given D k d some = rw some refl
+-- the key is alone, with what was read last, or stands beside another
+abbrev pub IsAlone : KeyOrder → Bool → List ℕ → Data → Members → Type 0
+IsAlone o true k held ms = (c : Data) × (ms ≡ member k c no_members) × (default_tree o c ≡ held)
+IsAlone o false k held ms = IsStrange k (default_members o ms)
 
-pub alone : (D : Doubles) (depth : ℕ) (k : List ℕ) (ts s rest : List Token) (d : Data) (v : Option Value)
-    → converted of_json (value depth ts) ≡ Some (d, s) → length s < length ts → read_key s ≡ Some (None, rest)
-    → is_some (wrapper_of k) ≡ true → given (scalar_value (single_at_in D (wrapper_of k) d)) ≡ v
-    → ObjectReads D depth no_members k ts v rest
-alone D depth k ts s rest d v held less ended some is = (
-  put k d no_members,
-  λ before named. more_members depth k before ts s rest d no_members (put k d no_members) named held less
-      (no_more_members depth s rest (put k d no_members) ended),
-  ap given (lone_given D k d some) ∙ is,
-)
+same_bytes : (k : List ℕ) → bytes_eq k k ≡ true
+same_bytes k = (bytes_eq-Decides k k).1 refl
 
--- one key, and what is read from the second on
-pub second : (D : Doubles) (depth : ℕ) (k l : List ℕ) (ts s us rest : List Token) (d : Data) (v : Option Value)
-    → converted of_json (value depth ts) ≡ Some (d, s) → length s < length ts → read_key s ≡ Some (Some l, us)
-    → ObjectReads D depth (put k d no_members) l us v rest → ObjectReads D depth no_members k ts v rest
-second D depth k l ts s us rest d v held less named m = (
-  m.0,
-  λ before first. more_members depth k before ts s rest d no_members m.0 first held less (m.1 s named),
-  m.2,
-)
+put_tied : (k : List ℕ) (c d : Data) → put k d (member k c no_members) ≡ member k d no_members
+put_tied k c d = let is : slice_cmp nat_cmp k k ≡ Equal = tied_itself nat_list_cmp_total k in rw is refl
 
-pub no_second : (depth : ℕ) (k l : List ℕ) (ts s us : List Token) (d : Data)
-    → converted of_json (value depth ts) ≡ Some (d, s) → read_key s ≡ Some (Some l, us) → NoObject depth l us
-    → NoObject depth k ts
-no_second depth k l ts s us d held named none = λ before first. no_members_behind depth k before ts s d first held
-    (none s named)
+-- of a key that stands again the last value counts
+pub tied : (o : KeyOrder) (k : List ℕ) (c d : Data) → insert_by o k d (member k c no_members) ≡ member k d no_members
+tied Ascending k c d = put_tied k c d
+tied AsGiven k c d = let is = same_bytes k in rw is refl
+
+single : (o : KeyOrder) (k : List ℕ) (c : Data) → any_key (λ l. bytes_eq l k) (default_members o (member k c no_members)) ≡ true
+single Ascending k c = let is = same_bytes k in rw is refl
+single AsGiven k c = let is = same_bytes k in rw is refl
+
+alone_at : (o : KeyOrder) (b same : Bool) (k l : List ℕ) (held d e : Data) (ms : Members) → bytes_eq k l ≡ same
+    → (b ≡ true → (is_code k && is_scope l) ≡ false) → default_tree o e ≡ d → IsAlone o b k held ms
+    → IsAlone o (b && same) k d (insert_by o l e ms)
+alone_at o true true k l held d e ms is unlike from h =
+    let one : k ≡ l = (bytes_eq-Decides k l).0 is in (
+      e,
+      ap (insert_by o l e) h.1 ∙ subst (λ x. insert_by o x e (member k h.0 no_members) ≡ member k e no_members) one
+          (tied o k h.0 e),
+      from,
+    )
+alone_at o true false k l held d e ms is unlike from h =
+    subst (IsStrange k) (sym (default_insert o l e ms))
+    (strange_from k l (default_tree o e) (default_members o ms)
+    (λ same. let yes = (bytes_eq-Decides k l).1 same in cc) (unlike refl)
+    (ap (λ x. any_key (λ j. bytes_eq j k) (default_members o x)) h.1 ∙ single o k h.0))
+alone_at o false same k l held d e ms is unlike from h =
+    subst (IsStrange k) (sym (default_insert o l e ms)) (strange_kept k l (default_tree o e) (default_members o ms) h)
+
+pub alone_again : (o : KeyOrder) (b : Bool) (k l : List ℕ) (held d e : Data) (ms : Members)
+    → (b ≡ true → (is_code k && is_scope l) ≡ false) → default_tree o e ≡ d → IsAlone o b k held ms
+    → IsAlone o (b && bytes_eq k l) k d (insert_by o l e ms)
+alone_again o b k l held d e ms unlike from h = alone_at o b (bytes_eq k l) k l held d e ms refl unlike from h
+
+lone_read : (o : KeyOrder) (D : Doubles) (k : List ℕ) (c : Data) → is_some (wrapper_of k) ≡ true
+    → reads_by o D (object (member k c no_members)) ≡ scalar_value (single_at_in D (wrapper_of k) (default_tree o c))
+lone_read Ascending D k c some = rw some refl
+lone_read AsGiven D k c some = rw some refl
+
+pub alone_given : (o : KeyOrder) (D : Doubles) (k : List ℕ) (held : Data) (ms : Members) (v : Option Value)
+    → is_some (wrapper_of k) ≡ true → IsAlone o true k held ms
+    → given (scalar_value (single_at_in D (wrapper_of k) held)) ≡ v → given (reads_by o D (object ms)) ≡ v
+alone_given o D k held ms v some h is = ap (λ x. given (reads_by o D (object x))) h.1
+    ∙ ap given (lone_read o D k h.0 some) ∙ ap (λ x. given (scalar_value (single_at_in D (wrapper_of k) x))) h.2 ∙ is
+
+pub not_alone : (o : KeyOrder) (D : Doubles) (k : List ℕ) (held : Data) (ms : Members)
+    → is_some (wrapper_of k) ≡ true → IsAlone o false k held ms → given (reads_by o D (object ms)) ≡ None
+not_alone o D k held ms some h = none_by o D ms (strange_refused D k (default_members o ms) some h)
+
+-- ---- where the text breaks
 
 pub no_first : (depth : ℕ) (k : List ℕ) (ts : List Token) → converted of_json (value depth ts) ≡ None
     → NoObject depth k ts
 no_first depth k ts none = λ before first. no_member depth k before ts first none
 
-pub no_key_behind : (depth : ℕ) (k : List ℕ) (ts s : List Token) (d : Data)
-    → converted of_json (value depth ts) ≡ Some (d, s) → read_key s ≡ None → NoObject depth k ts
-no_key_behind depth k ts s d held none = λ before first. no_members_behind depth k before ts s d first held
-    (no_key depth s none)
-
 -- ---- code with its scope
 
-abbrev two : Data → Data → Members
-two d e = put (codes "$scope") e (put (codes "$code") d no_members)
+two_first : (o : KeyOrder) (c e : Data)
+    → AreTwo o c e (insert_by o (codes "$scope") e (member (codes "$code") c no_members))
+two_first Ascending c e = refl
+two_first AsGiven c e = inl refl
 
--- the two keys alone, or others with `$code`
-abbrev pub IsCode : Doubles → Bool → Data → Option (Option Pairs) → Members → Type 0
-IsCode D true d scope ms = (e : Data) × (ms ≡ two d e) × (given (reads_scope_in D e) ≡ scope)
-IsCode D false d scope ms = (any_key is_code ms ≡ true) × (any_key is_stray ms ≡ true)
+pub code_then_scope : (o : KeyOrder) (D : Doubles) (d e : Data) (scope : Option (Option Pairs)) (ms : Members)
+    → IsAlone o true (codes "$code") d ms → given (reads_scope_by o D e) ≡ scope
+    → IsCode o D true d scope (insert_by o (codes "$scope") e ms)
+code_then_scope o D d e scope ms h is =
+    (h.0, e, subst (λ x. AreTwo o h.0 e (insert_by o (codes "$scope") e x)) (sym h.1) (two_first o h.0 e), h.2, is)
 
--- the members so far, from the value of `$scope` on, which stands behind that of `$code`
-pub record CodeSoFar (D : Doubles) (depth : ℕ) (held : Data) (start here : List Token) (is_code : Bool) (code : Data)
-    (scope : Option (Option Pairs)) : Type 0 where
-  pub so_far : Members
-  pub all : (ms : Members) (rest : List Token) → MembersAre depth so_far here ms rest
-      → ObjectIs depth (put (codes "$code") held no_members) (codes "$scope") start ms rest
-  pub none : NoMembers depth here → NoObject depth (codes "$scope") start
-  pub shape : IsCode D is_code code scope so_far
-  pub shorter : length here < length start
+pub scope_then_code : (D : Doubles) (c d e : Data) (scope : Option (Option Pairs)) → unordered c ≡ d
+    → given (scope_in_order D e) ≡ scope
+    → IsCode AsGiven D true d scope (insert_by AsGiven (codes "$code") c (member (codes "$scope") e no_members))
+scope_then_code D c d e scope from is = (c, e, inr refl, from, is)
 
-module _ (D : Doubles) (depth : ℕ) (held : Data) (start : List Token) where
-  pub code_begun : (here : List Token) (code e : Data) (scope : Option (Option Pairs)) → code ≡ held
-      → converted of_json (value depth start) ≡ Some (e, here) → given (reads_scope_in D e) ≡ scope
-      → length here < length start → CodeSoFar D depth held start here true code scope
-  code_begun here code e scope same read is less = record {
-    so_far = two held e;
-    all = λ ms rest more before named. more_members depth (codes "$scope") before start here rest e
-        (put (codes "$code") held no_members) ms named read less more;
-    none = λ none before named. no_members_behind depth (codes "$scope") before start here e named read none;
-    shape = (e, ap (λ d. two d e) (sym same), is);
-    shorter = less;
-  }
+-- the scope again, and the code
+scope_set : (o : KeyOrder) (c e f : Data) (ms : Members) → AreTwo o c e ms
+    → AreTwo o c f (insert_by o (codes "$scope") f ms)
+scope_set Ascending c e f ms h = ap (put (codes "$scope") f) h
+scope_set AsGiven c e f ms (inl h) = inl (ap (insert_by AsGiven (codes "$scope") f) h)
+scope_set AsGiven c e f ms (inr h) = inr (ap (insert_by AsGiven (codes "$scope") f) h)
 
-  -- one more member
-  pub code_more : (k : List ℕ) (here s r : List Token) (t d u : Data) (b c : Bool) (old new : Option (Option Pairs))
-      → (g : CodeSoFar D depth held start here b d old) → read_key here ≡ Some (Some k, s)
-      → converted of_json (value depth s) ≡ Some (t, r) → length r < length s
-      → IsCode D c u new (put k t g.so_far) → CodeSoFar D depth held start r c u new
-  code_more k here s r t d u b c old new g named read less shape =
-      let first = read_key-shorter here (Some k) s named in
-      record {
-        so_far = put k t g.so_far;
-        all = λ ms rest more. g.all ms rest (more_members depth k here s r rest t g.so_far ms named read less more);
-        none = λ none. g.none (no_members_behind depth k here s r t named read none);
-        shape = shape;
-        shorter = omega (arith, g.shorter, first, less);
-      }
+code_set : (o : KeyOrder) (c e f : Data) (ms : Members) → AreTwo o c e ms
+    → AreTwo o f e (insert_by o (codes "$code") f ms)
+code_set Ascending c e f ms h = ap (put (codes "$code") f) h
+code_set AsGiven c e f ms (inl h) = inl (ap (insert_by AsGiven (codes "$code") f) h)
+code_set AsGiven c e f ms (inr h) = inr (ap (insert_by AsGiven (codes "$code") f) h)
 
--- the value of `$scope` again
-pub scope_again : (D : Doubles) (b : Bool) (k : List ℕ) (e d : Data) (old new : Option (Option Pairs)) (ms : Members)
-    → k ≡ codes "$scope" → given (reads_scope_in D e) ≡ new → IsCode D b d old ms → IsCode D b d new (put k e ms)
-scope_again D true k e d old new ms same is h =
-    (e, ap (λ l. put l e ms) same ∙ ap (put (codes "$scope") e) h.1, is)
-scope_again D false k e d old new ms same is h = (any_kept is_code k e ms h.0, any_kept is_stray k e ms h.1)
+has_code : (o : KeyOrder) (c e : Data) (ms : Members) → AreTwo o c e ms
+    → any_key is_code (default_members o ms) ≡ true
+has_code Ascending c e ms h = rw h refl
+has_code AsGiven c e ms (inl h) = rw h refl
+has_code AsGiven c e ms (inr h) = rw h refl
+
+pub scope_again : (o : KeyOrder) (D : Doubles) (b : Bool) (k : List ℕ) (e d : Data) (old new : Option (Option Pairs))
+    (ms : Members) → k ≡ codes "$scope" → given (reads_scope_by o D e) ≡ new → IsCode o D b d old ms
+    → IsCode o D b d new (insert_by o k e ms)
+scope_again o D true k e d old new ms same is h =
+    (h.0, e, subst (λ x. AreTwo o h.0 e (insert_by o x e ms)) (sym same) (scope_set o h.0 h.1 e ms h.2), h.3, is)
+scope_again o D false k e d old new ms same is h = (any_insert o k e ms is_code h.0, any_insert o k e ms is_stray h.1)
 
 -- the value of another key, `$code` or not
-other_key : (D : Doubles) (c b : Bool) (k : List ℕ) (t d : Data) (scope : Option (Option Pairs)) (ms : Members)
-    → bytes_eq k (codes "$code") ≡ c → bytes_eq k (codes "$scope") ≡ false → IsCode D b d scope ms
-    → IsCode D (b && (c && true)) t scope (put k t ms)
-other_key D true true k t d scope ms is not_scope h =
-    (h.0, ap (λ l. put l t ms) ((bytes_eq-Decides k (codes "$code")).0 is) ∙ ap (put (codes "$code") t) h.1, h.2)
-other_key D false true k t d scope ms is not_scope h = (
-  any_kept is_code k t ms (rw h.1 refl),
-  any_new is_stray k t ms (rw (is, not_scope) refl),
+other_key : (o : KeyOrder) (D : Doubles) (c b : Bool) (k : List ℕ) (t d e : Data) (scope : Option (Option Pairs))
+    (ms : Members) → bytes_eq k (codes "$code") ≡ c → bytes_eq k (codes "$scope") ≡ false → default_tree o e ≡ t
+    → IsCode o D b d scope ms → IsCode o D (b && (c && true)) t scope (insert_by o k e ms)
+other_key o D true true k t d e scope ms is not_scope from h = (
+  e,
+  h.1,
+  subst (λ x. AreTwo o e h.1 (insert_by o x e ms)) (sym ((bytes_eq-Decides k (codes "$code")).0 is))
+      (code_set o h.0 h.1 e ms h.2),
+  from,
+  h.4,
 )
-other_key D true false k t d scope ms is not_scope h = (any_kept is_code k t ms h.0, any_kept is_stray k t ms h.1)
-other_key D false false k t d scope ms is not_scope h = (any_kept is_code k t ms h.0, any_kept is_stray k t ms h.1)
+other_key o D false true k t d e scope ms is not_scope from h =
+    (any_insert o k e ms is_code (has_code o h.0 h.1 ms h.2), new_insert o k e ms is_stray (rw (is, not_scope) refl))
+other_key o D true false k t d e scope ms is not_scope from h =
+    (any_insert o k e ms is_code h.0, any_insert o k e ms is_stray h.1)
+other_key o D false false k t d e scope ms is not_scope from h =
+    (any_insert o k e ms is_code h.0, any_insert o k e ms is_stray h.1)
 
-pub code_again : (D : Doubles) (b : Bool) (k : List ℕ) (t d : Data) (scope : Option (Option Pairs)) (ms : Members)
-    → bytes_eq k (codes "$scope") ≡ false → IsCode D b d scope ms
-    → IsCode D (b && (bytes_eq k (codes "$code") && true)) t scope (put k t ms)
-code_again D b k t d scope ms not_scope h = other_key D (bytes_eq k (codes "$code")) b k t d scope ms refl not_scope h
+pub code_again : (o : KeyOrder) (D : Doubles) (b : Bool) (k : List ℕ) (t d e : Data) (scope : Option (Option Pairs))
+    (ms : Members) → bytes_eq k (codes "$scope") ≡ false → default_tree o e ≡ t → IsCode o D b d scope ms
+    → IsCode o D (b && (bytes_eq k (codes "$code") && true)) t scope (insert_by o k e ms)
+code_again o D b k t d e scope ms not_scope from h =
+    other_key o D (bytes_eq k (codes "$code")) b k t d e scope ms refl not_scope from h
 
 scope_given : (s : List ℕ) (r : Result (Option Pairs) Fault) (scope : Option (Option Pairs)) → given r ≡ scope
     → given (scope_value s r) ≡ code_given (string s) scope
 scope_given s (Ok ps) scope is = rw (← is) refl
 scope_given s (Err e) scope is = rw (← is) refl
 
-two_given : (D : Doubles) (d e : Data) (scope : Option (Option Pairs)) → given (reads_scope_in D e) ≡ scope
-    → given (reads_in D (object (two d e))) ≡ code_given d scope
-two_given D (string s) e scope is = scope_given s (reads_scope_in D e) scope is
-two_given D null e scope is = refl
-two_given D (boolean b) e scope is = refl
-two_given D (number n) e scope is = refl
-two_given D (array ds) e scope is = refl
-two_given D (object ms) e scope is = refl
+text_given : (d : Data) (r : Result (Option Pairs) Fault) (scope : Option (Option Pairs)) → given r ≡ scope
+    → given (on_text d (λ s. scope_value s r)) ≡ code_given d scope
+text_given (string s) r scope is = scope_given s r scope is
+text_given null r scope is = refl
+text_given (boolean b) r scope is = refl
+text_given (number n) r scope is = refl
+text_given (array ds) r scope is = refl
+text_given (object ms) r scope is = refl
+
+two_read : (o : KeyOrder) (D : Doubles) (c e : Data) (ms : Members) → AreTwo o c e ms
+    → given (reads_by o D (object ms)) ≡ given (on_text (default_tree o c) (λ s. scope_value s (reads_scope_by o D e)))
+two_read Ascending D c e ms h = ap (λ x. given (reads_in D (object x))) h
+two_read AsGiven D c e ms (inl h) = ap (λ x. given (reads_in_order D (object x))) h
+two_read AsGiven D c e ms (inr h) = ap (λ x. given (reads_in_order D (object x))) h
 
 -- what they mean
-pub code_read : (D : Doubles) (d : Data) (scope : Option (Option Pairs)) (ms : Members) → IsCode D true d scope ms
-    → given (reads_in D (object ms)) ≡ code_given d scope
-code_read D d scope ms h = ap (λ l. given (reads_in D (object l))) h.1 ∙ two_given D d h.0 scope h.2
+pub code_read : (o : KeyOrder) (D : Doubles) (d : Data) (scope : Option (Option Pairs)) (ms : Members)
+    → IsCode o D true d scope ms → given (reads_by o D (object ms)) ≡ code_given d scope
+code_read o D d scope ms h = two_read o D h.0 h.1 ms h.2
+    ∙ ap (λ x. given (on_text x (λ s. scope_value s (reads_scope_by o D h.1)))) h.3
+    ∙ text_given d (reads_scope_by o D h.1) scope h.4
 
-pub code_refused : (D : Doubles) (d : Data) (scope : Option (Option Pairs)) (ms : Members) → IsCode D false d scope ms
-    → given (reads_in D (object ms)) ≡ None
-code_refused D d scope ms h = stray_refused D ms h.0 h.1
+pub code_refused : (o : KeyOrder) (D : Doubles) (d : Data) (scope : Option (Option Pairs)) (ms : Members)
+    → IsCode o D false d scope ms → given (reads_by o D (object ms)) ≡ None
+code_refused o D d scope ms h = none_by o D ms (stray_refused D (default_members o ms) h.0 h.1)

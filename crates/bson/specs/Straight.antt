@@ -1,17 +1,23 @@
 -- What the tokens of a text mean, where they are read with no tree of the whole. For private clauses.
-use Rattle.std.specs.Prelude.{◌≡◌, ◌==◌, ◌||◌, if◌then◌else◌, ℕ, List, length, Bool, false, Option, Some, None}
-use Rattle.std.specs.Prelude.{Result, Ok, Err}
+use Rattle.std.specs.Prelude.{◌≡◌, ◌==◌, ◌||◌, ◌&&◌, ◌⊎◌, if◌then◌else◌, ℕ, List, [], length, codes, Bool, true, false, not}
+use Rattle.std.specs.Prelude.{Option, Some, None, is_some, Result, Ok, Err}
+use Rattle.std.specs.Str.{bytes_eq}
 use Rattle.json.specs.Token.{Token}
-use Rattle.json.specs.Json.{members, value}
+use Rattle.json.specs.Json.{Json, members, value}
+use Rattle.json.specs.Lex.{tokens}
 use Rattle.serde_json.specs.Data.{Data, string, Items, Members, no_members, member, object}
-use Rattle.serde_json.specs.Read.{of_members, converted, read}
+use Rattle.serde_json.specs.Read.{of_json, converted, read}
 use Rattle.bson_wrapper.specs.Faults.{Fault}
 use Rattle.bson_wrapper.specs.Scalar.{double}
+use Rattle.bson_wrapper.specs.Table.{wrapper_of, has_wrapper}
 use Rattle.bson_wrapper.specs.declared.form.Doubles.{Doubles}
 use Rattle.bson_model.specs.Reading.{reads_in, reads_items_in, code_value}
-use Rattle.bson_model.specs.Sorted.{put_pair}
 use Rattle.bson_model.specs.Value.{Value, scalar, Values, Pairs, no_pairs, pair}
-use Rattle.bson_tokens.specs.Parts.{ObjectIs}
+use Rattle.bson_order.specs.Kept.{kept}
+use Rattle.bson.specs.ByOrder.{read_by, members_by, insert_pair_by, reads_by, reads_scope_by, MembersAreBy, ObjectIsBy}
+use Rattle.bson.specs.ByOrder.{default_tree, default_members}
+use Rattle.bson.specs.declared.extjson.key_order.KeyOrder.{KeyOrder}
+use Rattle.bson.specs.declared.extjson.key_order.KeyOrder.TheVariants.{Ascending, AsGiven}
 
 -- what was read, where it is a value
 abbrev pub given : {A : Type 0} → Result A Fault → Option A
@@ -23,15 +29,16 @@ abbrev pub Reads : {X V : Type 0} → (X → Result V Fault) → Option (X × Li
 Reads {X} f trees v rest = (d : X) × (trees ≡ Some (d, rest)) × (given (f d) ≡ v)
 
 -- the same of the members of an object
-abbrev pub MembersRead : {V : Type 0} → (Members → Result V Fault) → ℕ → List Token → Option V → List Token → Type 0
-MembersRead f depth ts v rest =
-    Reads f (converted (λ js. of_members js no_members) (members (value depth) (length ts) ts)) v rest
+abbrev pub MembersRead : {V : Type 0} → KeyOrder → (Members → Result V Fault) → ℕ → List Token → Option V → List Token
+    → Type 0
+MembersRead o f depth ts v rest =
+    Reads f (converted (λ js. members_by o js no_members) (members (value depth) (length ts) ts)) v rest
+
+-- the same of a whole text
+abbrev pub TextReads : KeyOrder → Doubles → List ℕ → Option Value → Type 0
+TextReads o D text v = (d : Data) × (read_by o text ≡ Some d) × (given (reads_by o D d) ≡ v)
 
 module _ (D : Doubles) where
-  -- the same of a whole text
-  abbrev pub TextReads : List ℕ → Option Value → Type 0
-  TextReads text v = (d : Data) × (read text ≡ Some d) × (given (reads_in D d) ≡ v)
-
   -- the text has a tree, which means the value
   abbrev pub TextMeans : List ℕ → Value → Type 0
   TextMeans text v = (d : Data) × (read text ≡ Some d) × (reads_in D d ≡ Ok v)
@@ -60,10 +67,10 @@ abbrev pub marked : Result Value Fault → Value
 marked (Ok v) = v
 marked (Err e) = nothing
 
--- the values of a map by ascending key
-abbrev pub marked_members : Doubles → Members → Pairs
-marked_members D no_members = no_pairs
-marked_members D (member k d ms) = pair k (marked (reads_in D d)) (marked_members D ms)
+-- the values of a map, in its order
+abbrev pub marked_by : KeyOrder → Doubles → Members → Pairs
+marked_by o D no_members = no_pairs
+marked_by o D (member k d ms) = pair k (marked (reads_by o D d)) (marked_by o D ms)
 
 abbrev pub holds_nothing : Pairs → Bool
 holds_nothing no_pairs = false
@@ -74,16 +81,78 @@ abbrev pub unless_nothing : Pairs → Option Pairs
 unless_nothing ps = if holds_nothing ps then None else Some ps
 
 -- a tree was read, and its meaning put at the key among the pairs
-abbrev pub IsJoined : Doubles → Option (Data × List Token) → List ℕ → Pairs → Pairs → List Token → Type 0
-IsJoined D tree k old new rest =
-    (d : Data) × (tree ≡ Some (d, rest)) × (new ≡ put_pair k (marked (reads_in D d)) old)
+abbrev pub IsJoined : KeyOrder → Doubles → Option (Data × List Token) → List ℕ → Pairs → Pairs → List Token → Type 0
+IsJoined o D tree k old new rest =
+    (d : Data) × (tree ≡ Some (d, rest)) × (new ≡ insert_pair_by o k (marked (reads_by o D d)) old)
 
 -- ---- objects
 
--- these members mean the value, or nothing
-abbrev pub ObjectReads : Doubles → ℕ → Members → List ℕ → List Token → Option Value → List Token → Type 0
-ObjectReads D depth old k ts v rest =
-    (ms : Members) × ObjectIs depth old k ts ms rest × (given (reads_in D (object ms)) ≡ v)
+-- of these members and those behind them the object means the value, or nothing
+abbrev pub RestReads : KeyOrder → Doubles → ℕ → Members → List Token → Option Value → List Token → Type 0
+RestReads o D depth old ts v rest =
+    (ms : Members) × MembersAreBy o depth old ts ms rest × (given (reads_by o D (object ms)) ≡ v)
+
+-- the object whose first key was read means the value, or nothing
+abbrev pub ObjectReads : KeyOrder → Doubles → ℕ → List ℕ → List Token → Option Value → List Token → Type 0
+ObjectReads o D depth k ts v rest =
+    (ms : Members) × ObjectIsBy o depth k ts ms rest × (given (reads_by o D (object ms)) ≡ v)
+
+-- a key that is no wrapper's, and one that stands beside no code: with a wrapper's key they mean nothing
+abbrev pub any_key : (List ℕ → Bool) → Members → Bool
+any_key f no_members = false
+any_key f (member k d ms) = f k || any_key f ms
+
+abbrev pub is_wrapper : List ℕ → Bool
+is_wrapper k = is_some (wrapper_of k)
+
+abbrev pub is_code : List ℕ → Bool
+is_code k = bytes_eq k (codes "$code")
+
+abbrev pub is_scope : List ℕ → Bool
+is_scope k = bytes_eq k (codes "$scope")
+
+abbrev pub is_stray : List ℕ → Bool
+is_stray k = not (is_code k) && not (is_scope k)
+
+abbrev pub is_other : List ℕ → Bool
+is_other k = not (is_wrapper k)
+
+abbrev pub IsOdd : Members → Type 0
+IsOdd ms = (any_key is_other ms ≡ true) × (any_key is_stray ms ≡ true)
+
+-- the values of these members, which have a wrapper's key or none, were found
+abbrev pub IsFound : KeyOrder → Doubles → Members → Bool → Pairs → Type 0
+IsFound o D ms is_document ps = (ps ≡ marked_by o D ms)
+    × (has_wrapper (default_members o ms) ≡ not is_document) × IsOdd (default_members o ms)
+
+-- ---- code with its scope
+
+-- the two keys alone, in one of the orders in which they may stand
+abbrev pub AreTwo : KeyOrder → Data → Data → Members → Type 0
+AreTwo Ascending c e ms = ms ≡ member (codes "$code") c (member (codes "$scope") e no_members)
+AreTwo AsGiven c e ms = (ms ≡ member (codes "$code") c (member (codes "$scope") e no_members))
+    ⊎ (ms ≡ member (codes "$scope") e (member (codes "$code") c no_members))
+
+-- the two keys alone, with that code and scope, or others with `$code`
+abbrev pub IsCode : KeyOrder → Doubles → Bool → Data → Option (Option Pairs) → Members → Type 0
+IsCode o D true d scope ms = (c : Data) × (e : Data) × AreTwo o c e ms × (default_tree o c ≡ d)
+    × (given (reads_scope_by o D e) ≡ scope)
+IsCode o D false d scope ms =
+    (any_key is_code (default_members o ms) ≡ true) × (any_key is_stray (default_members o ms) ≡ true)
+
+-- ---- what is held as a text
+
+abbrev pub HasTree : {X : Type 0} → Option X → Type 0
+HasTree {X} tree = (t : X) × (tree ≡ Some t)
+
+-- the text is of the value that stood next
+abbrev pub IsHeld : ℕ → List Token → List ℕ → List Token → Type 0
+IsHeld depth ts text rest = (j : Json) × (value depth ts ≡ Some (j, rest)) × (value depth (tokens text) ≡ Some (j, []))
+    × HasTree (of_json j)
+
+-- it was read in order, and means the value or nothing
+abbrev pub ReadsHeld : {V : Type 0} → (Data → Result V Fault) → ℕ → List ℕ → Option V → Type 0
+ReadsHeld f depth text v = (rest : List Token) × Reads f (converted kept (value depth (tokens text))) v rest
 
 -- code, a text, with the scope that was read, if any
 abbrev pub code_given : Data → Option (Option Pairs) → Option Value

@@ -8,6 +8,9 @@ use Rattle.bson_model.specs.Reading.{reads_in}
 use Rattle.bson_model.specs.Value.{Value}
 use Rattle.bson_model.specs.Laws.{HasMeaningIn}
 use Rattle.bson_place.specs.Place.{IsFirstFaultIn}
+use Rattle.bson_order.specs.Texts.{HasMeaningInOrder}
+use Rattle.bson.specs.declared.extjson.key_order.KeyOrder.{KeyOrder}
+use Rattle.bson.specs.declared.extjson.key_order.KeyOrder.TheVariants.{Ascending, AsGiven}
 use Rattle.bson.specs.declared.extjson.text_error.TextError.{TextError}
 use Rattle.bson.specs.declared.extjson.text_error.TextError.TheVariants.{NotJson, NotExtendedJson, OutOfMemory}
 
@@ -44,3 +47,10 @@ HasNoMeaning = HasNoMeaningIn Special
 
 abbrev pub IsTextFault : List ℕ → TextError → Type 0
 IsTextFault = IsTextFaultIn Special
+
+-- ---- for private clauses
+
+-- the bytes are a text that means the value, in the order
+abbrev pub HasTextMeaningBy : KeyOrder → Doubles → List ℕ → Value → Type 0
+HasTextMeaningBy Ascending D bytes v = HasTextMeaningIn D bytes v
+HasTextMeaningBy AsGiven D bytes v = IsUtf8 bytes × HasMeaningInOrder D bytes v

@@ -46,7 +46,7 @@ put_at true k l d e ms h is =
 put_at false k l d e ms h is = ap (put l (unordered e)) is
     ∙ put_members_swap l k (unordered e) (unordered d) (unordered_members ms) (λ s. unequal k l h (sym s))
 
-put_forgotten : (k : List ℕ) (d : Data) (ms : Members)
+pub put_forgotten : (k : List ℕ) (d : Data) (ms : Members)
     → unordered_members (put_kept k d ms) ≡ put k (unordered d) (unordered_members ms)
 put_forgotten k d no_members = refl
 put_forgotten k d (member l e ms) = put_at (bytes_eq k l) k l d e ms refl (put_forgotten k d ms)
@@ -81,7 +81,7 @@ then_forgotten None f g h = refl
 then_forgotten (Some d) f g h = h d
 
 mutual
-  forgotten : (j : json.Json) → of_json j ≡ option_map unordered (kept j)
+  pub forgotten : (j : json.Json) → of_json j ≡ option_map unordered (kept j)
   forgotten json.null = refl
   forgotten (json.boolean b) = refl
   forgotten (json.number s) = number_forgotten (number_of s)

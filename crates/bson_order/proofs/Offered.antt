@@ -2,11 +2,12 @@
 
 -- ---- for readers: `reads_in_order` gives just what `MeansInOrder` says, part by part
 pub use Rattle.bson_order.proofs.Forgets.{forgets}
-pub use Rattle.bson_order.proofs.Forgetting.{read_forgotten}
+pub use Rattle.bson_order.proofs.Forgetting.{read_forgotten, forgotten, put_forgotten}
 pub use Rattle.bson_order.proofs.KeptTrees.{read_is_kept}
 pub use Rattle.bson_order.proofs.MeansLaws.{means_from, means_in, items_from, items_in, document_from, document_in}
 pub use Rattle.bson_order.proofs.MeansLaws.{one_in_order, meant_in_order}
 pub use Rattle.bson_order.proofs.ReadForm.{form, in_range, distinct}
+pub use Rattle.bson_order.proofs.SortedKeys.{same_wrapper}
 pub use Rattle.bson_order.proofs.TextMeaning.{text_means, meant_by_text}
 -- ---- for writers: `writes_in_order` gives just what `WrittenInOrder` says, part by part
 pub use Rattle.bson_order.proofs.KeptTexts.{own_text}

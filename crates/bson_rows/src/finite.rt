@@ -76,7 +76,13 @@ fn put_fault(fault: TextError, out: &mut Answer) -> Outcome {
 }
 
 fn read(alloc: Global, text: &str, out: &mut Answer) -> Outcome {
-    match Bson::try_from_text_with(alloc, finite(), text.as_bytes()) {
+    let read = Bson::try_from_text_with(alloc, finite(), text.as_bytes());
+    put_text_read(read, out)
+}
+
+/// Puts the value that was read from a text, or why it is refused.
+pub(crate) fn put_text_read(read: Result<Bson, TextError>, out: &mut Answer) -> Outcome {
+    match read {
         Ok(value) => out.show(&value),
         Err(fault) => return put_fault(fault, out),
     }

@@ -1,19 +1,26 @@
-//! `in_order FORM STEPS`: values that are written in each document's own order of keys.
+//! `in_order FORM STEPS` and `in_order read TEXT`: values that are written in each document's own
+//! order of keys, and read in the order of the text.
 use crate::answer::Answer;
+use crate::finite::put_text_read;
 use crate::steps;
 use crate::stop::{Outcome, Stop};
 use crate::words::cut;
+use bson::Bson;
 use bson::extjson::{Doubles, Form, Options};
 use std::alloc::Global;
 
 /// `canonical STEPS`, `relaxed STEPS`, and `finite STEPS`, the canonical form with finite doubles:
-/// the value that the steps make is written.
+/// the value that the steps make is written. `read TEXT`, and `read_finite TEXT` with finite
+/// doubles: what the text means. `back TEXT`: its canonical text in order.
 pub(crate) fn call(alloc: Global, rest: &str, out: &mut Answer) -> Outcome {
     let (name, steps) = cut(rest);
     match name {
         "canonical" => written(alloc, Options::default(), Form::Canonical, steps, out),
         "relaxed" => written(alloc, Options::default(), Form::Relaxed, steps, out),
         "finite" => written(alloc, finite(), Form::Canonical, steps, out),
+        "read" => read(alloc, Options::default(), steps, out),
+        "read_finite" => read(alloc, finite(), steps, out),
+        "back" => written_back(alloc, steps, out),
         _ => Err(Stop::NotUnderstood),
     }
 }
@@ -36,4 +43,21 @@ fn written(alloc: Global, options: Options, form: Form, steps: &str, out: &mut A
         out.result(lent);
     }
     Ok(())
+}
+
+/// Puts what the text means, its keys in the order of the text.
+fn read(alloc: Global, options: Options, text: &str, out: &mut Answer) -> Outcome {
+    let read = Bson::try_from_text_in_order(alloc, options, text.as_bytes());
+    put_text_read(read, out)
+}
+
+/// Puts the text that is written of what the text means.
+fn written_back(alloc: Global, text: &str, out: &mut Answer) -> Outcome {
+    match Bson::try_from_text_in_order(alloc, finite(), text.as_bytes()) {
+        Ok(value) => {
+            out.result(value.into_text_in_order(alloc, finite(), Form::Canonical));
+            Ok(())
+        }
+        refused => put_text_read(refused, out),
+    }
 }

@@ -14,6 +14,7 @@ pub(crate) fn print(rt: &impl Print, alloc: Global) -> anyhow::Result<()> {
     to_text_in_order_call(rt, alloc)?;
     try_from_text_call(rt, alloc)?;
     try_from_text_with_call(rt, alloc)?;
+    try_from_text_in_order_call(rt, alloc)?;
     text_error(rt, alloc)?;
     converted(rt, alloc)?;
     place(rt, alloc)?;
@@ -84,6 +85,13 @@ fn try_from_text_with_call(rt: &impl Print, alloc: Global) -> anyhow::Result<()>
     };
     let value = Bson::try_from_text_with(alloc, options, br#"{"price": 12.5}"#)?;
     println!(rt; "{value:?}")?; // Document({"price": Double(0x4029000000000000)})
+    Ok(())
+}
+
+fn try_from_text_in_order_call(rt: &impl Print, alloc: Global) -> anyhow::Result<()> {
+    let text = br#"{"find": "orders", "batchSize": 10}"#;
+    let value = Bson::try_from_text_in_order(alloc, Options::default(), text)?;
+    println!(rt; "{value}")?; // { "find": "orders", "batchSize": 10 }
     Ok(())
 }
 

@@ -17,6 +17,7 @@ mod by_key;
 
 use crate::bson::Bson;
 use crate::extjson::convert::by_key::convert_by_key;
+use crate::extjson::key_order::KeyOrder;
 use crate::extjson::options::Options;
 use crate::extjson::text::{finished, print_read};
 use crate::extjson::text_error::TextError;
@@ -136,9 +137,9 @@ fn convert(
     match convert_parts(alloc, doubles, form, text, &mut scratch) {
         Ok(Some(written)) => Ok(Converted::Text(written)),
         Ok(None) => {
-            let read = read_text(alloc, doubles, text, &mut scratch);
+            let read = read_text(alloc, doubles, KeyOrder::Ascending, text, &mut scratch);
             drop(scratch);
-            Ok(Converted::Value(or_fault(alloc, doubles, bytes, text, read)?))
+            Ok(Converted::Value(or_fault(alloc, doubles, KeyOrder::Ascending, bytes, text, read)?))
         }
         Err(why) => {
             drop(scratch);
@@ -308,7 +309,9 @@ fn convert_begun(
         }
         return convert_items(alloc, doubles, form, reader, depth - 1, out);
     }
-    let value = read_begun(alloc, doubles, reader, depth, token)?.ok_or(Unconverted::Left)?;
+    let value = read_begun(alloc, doubles, KeyOrder::Ascending, reader, depth, token)?.ok_or(
+        Unconverted::Left,
+    )?;
     Ok(print_read(alloc, doubles, form, value, out)?)
 }
 
@@ -376,7 +379,9 @@ fn convert_items(
 {
     out.begin_array()?;
     'items: while !reader.take_end_array() {
-        let item = read_value(alloc, doubles, reader, depth)?.ok_or(Unconverted::Left)?;
+        let item = read_value(alloc, doubles, KeyOrder::Ascending, reader, depth)?.ok_or(
+            Unconverted::Left,
+        )?;
         print_read(alloc, doubles, form, item, out)?;
     }
     Ok(out.end_array()?)

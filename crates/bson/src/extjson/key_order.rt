@@ -1,6 +1,6 @@
-//! The order in which the keys of a document are written.
+//! The order in which the keys of a document are read and written.
 
-// Ascending by bytes, or as each document has them.
+// Ascending by bytes, or as each text or document has them.
 #[derive(Clone, Copy)]
 pub(crate) enum KeyOrder {
     Ascending,

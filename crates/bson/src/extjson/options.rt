@@ -4,9 +4,8 @@ ghost use Rattle.bson_wrapper.specs.declared.form.Doubles.TheVariants.{Special};
 
 use bson_wrapper::form::Doubles;
 
-/// How Extended JSON is read, written and converted by the calls whose names end in `_with`, and
-/// written by those that end in `_in_order`. The default is what the calls without an options value
-/// do.
+/// How Extended JSON is read, written and converted by the calls whose names end in `_with` or
+/// `_in_order`. The default is what the calls without an options value do.
 ///
 /// ```
 /// let half = Bson::Double(0x3fe0_0000_0000_0000);

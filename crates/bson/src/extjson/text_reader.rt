@@ -1,9 +1,9 @@
 //! Values from texts, with no tree of the whole.
 //!
-//! In reading order: `straight` (values from the tokens of a text) and `gathered` (the members of
-//! an object as they come, by ascending key). Trees of what a wrapper's key holds, and why a text
-//! means nothing, are from `bson_tokens`.
-ghost use Rattle.std.specs.Prelude.{◌≡◌, ℕ, List, Some, Ok, option_map, IfOk, IfErr, OnOk, IsUtf8};
+//! In reading order: `straight` (values from the tokens of a text), `parts` (what it needs beside)
+//! and `gathered` (the members of an object as they come, by ascending key or in their order).
+//! Trees of what a wrapper's key holds, and why a text means nothing, are from `bson_tokens`.
+ghost use Rattle.std.specs.Prelude.{◌≡◌, Some, Ok, option_map, IfOk, IfErr, OnOk, IsUtf8};
 ghost use Rattle.serde_json.specs.Data.{Data};
 ghost use Rattle.serde_json.specs.Read.{read as tree_of};
 ghost use Rattle.bson_model.specs.Means.{Means, MeansIn};
@@ -11,17 +11,23 @@ ghost use Rattle.bson_model.specs.Normal.{InRange};
 ghost use Rattle.bson_model.specs.Reading.{reads_in};
 ghost use Rattle.bson_model.specs.Texts.{ComesBack, ComesBackIn};
 ghost use Rattle.bson_model.specs.Value as model;
+ghost use Rattle.bson_order.specs.Distinct.{AllDistinct};
+ghost use Rattle.bson_order.specs.Kept.{read_kept};
+ghost use Rattle.bson_order.specs.Means.{MeansInOrder};
+ghost use Rattle.bson_order.specs.Texts.{HasMeaningInOrder, ComesBackInOrder};
 ghost use Rattle.bson.specs.View.{bson_view};
 ghost use Rattle.bson.specs.TextMeaning.{IsTextOf, HasTextMeaning, IsTextFault};
-ghost use Rattle.bson.specs.TextMeaning.{HasTextMeaningIn, HasNoMeaningIn, IsTextFaultIn};
+ghost use Rattle.bson.specs.TextMeaning.{HasTextMeaningIn, HasTextMeaningBy, HasNoMeaningIn, IsTextFaultIn};
 ghost use Rattle.bson_tokens.specs.Parts.{IsBroken};
 ghost use Rattle.bson.specs.Straight.{TextReads};
 ghost use Rattle.bson.specs.declared.extjson.text_error.TextError.TheVariants.{OutOfMemory};
 
 pub(crate) mod gathered;
+mod parts;
 pub(crate) mod straight;
 
 use crate::bson::Bson;
+use crate::extjson::key_order::KeyOrder;
 use crate::extjson::options::Options;
 use crate::extjson::text_error::TextError;
 use crate::extjson::text_reader::straight::read_value;
@@ -95,6 +101,44 @@ impl Bson {
     {
         read_bytes(alloc, options.doubles, bytes)
     }
+
+    /// The value that the bytes mean, read as the options say, in which each document has its keys
+    /// in the order of the text, at every depth; otherwise as [`Bson::try_from_text_with`].
+    ///
+    /// Of a key that stands twice in an object the last value counts, at the place of the first.
+    /// Inside a wrapper of one key the order says nothing. Code and its scope may stand either way,
+    /// and the scope keeps its order. So the very texts that have a meaning by default have one in
+    /// order: the same value, but for the order of keys.
+    ///
+    /// What is read comes back: it is written in its order in both forms, and each text is read as
+    /// the same value again, order included, unless it nests deeper than 127.
+    ///
+    /// An object that begins with `$scope` is passed over before it is read. Where one holds the
+    /// next, time and memory grow with the number of such objects, of which 127 can nest.
+    ///
+    /// ```
+    /// let text = br#"{"find": "orders", "batchSize": 10}"#;
+    /// let value = Bson::try_from_text_in_order(alloc, Options::default(), text)?;
+    /// println!(rt; "{value}")?; // { "find": "orders", "batchSize": 10 }
+    /// ```
+    pub fn try_from_text_in_order(
+        alloc: Global,
+        options: Options,
+        bytes: &[u8],
+    ) -> Result<Bson, TextError>
+        ensures utf8 { OnOk result (IsUtf8 bytes.now) }
+        ensures ok { IfOk result (λ v. HasMeaningInOrder options.doubles bytes.now (bson_view v)) }
+        ensures accepts { (t : Data) (v : model.Value) → IsTextOf bytes.now t → MeansIn options.doubles t v
+            → IfErr result (λ e. e ≡ OutOfMemory) }
+        ensures accepts_in_order { (t : Data) (v : model.Value) → IsUtf8 bytes.now → read_kept bytes.now ≡ Some t
+            → MeansInOrder options.doubles t v → IfErr result (λ e. e ≡ OutOfMemory) }
+        ensures fault { IfErr result (λ e. IsTextFaultIn options.doubles bytes.now e) }
+        ensures ranged { IfOk result (λ v. InRange (bson_view v)) }
+        ensures distinct { IfOk result (λ v. AllDistinct (bson_view v)) }
+        ensures comes_back { IfOk result (λ v. ComesBackInOrder options.doubles (bson_view v)) }
+    {
+        read_by(alloc, options.doubles, KeyOrder::AsGiven, bytes)
+    }
 }
 
 // The value that the bytes mean.
@@ -102,28 +146,42 @@ pub(crate) fn read_bytes(alloc: Global, doubles: Doubles, bytes: &[u8]) -> Resul
     ensures ok { IfOk result (λ v. HasTextMeaningIn doubles bytes.now (bson_view v)) }
     ensures fault { IfErr result (λ e. IsTextFaultIn doubles bytes.now e) }
 {
+    read_by(alloc, doubles, KeyOrder::Ascending, bytes)
+}
+
+// The value that the bytes mean in the order.
+fn read_by(
+    alloc: Global,
+    doubles: Doubles,
+    order: KeyOrder,
+    bytes: &[u8],
+) -> Result<Bson, TextError>
+    ensures ok { IfOk result (λ v. HasTextMeaningBy order doubles bytes.now (bson_view v)) }
+    ensures fault { IfErr result (λ e. IsTextFaultIn doubles bytes.now e) }
+{
     let Ok(text) = simdutf8::compat::from_utf8(bytes) else {
         return Err(TextError::NotJson);
     };
     let mut scratch = Scratch::new(alloc);
-    let read = read_text(alloc, doubles, text, &mut scratch);
+    let read = read_text(alloc, doubles, order, text, &mut scratch);
     drop(scratch);
-    or_fault(alloc, doubles, bytes, text, read)
+    or_fault(alloc, doubles, order, bytes, text, read)
 }
 
 // What was read, or why it means nothing.
 pub(crate) fn or_fault(
     alloc: Global,
     doubles: Doubles,
+    order: KeyOrder,
     bytes: &[u8],
     text: &str,
     read: Result<Option<Bson>, Unread>,
 ) -> Result<Bson, TextError>
     requires same { bytes.now ≡ text.now }
     requires utf8 { IsUtf8 bytes.now }
-    requires ok { IfOk read (λ v. TextReads doubles text.now (option_map bson_view v)) }
+    requires ok { IfOk read (λ v. TextReads order doubles text.now (option_map bson_view v)) }
     requires broken { IfErr read (IsBroken (tree_of text.now)) }
-    ensures ok { IfOk result (λ v. HasTextMeaningIn doubles bytes.now (bson_view v)) }
+    ensures ok { IfOk result (λ v. HasTextMeaningBy order doubles bytes.now (bson_view v)) }
     ensures fault { IfErr result (λ e. IsTextFaultIn doubles bytes.now e) }
 {
     match read {
@@ -167,14 +225,15 @@ pub(crate) fn find_fault(alloc: Global, doubles: Doubles, bytes: &[u8]) -> Resul
 pub(crate) fn read_text(
     alloc: Global,
     doubles: Doubles,
+    order: KeyOrder,
     text: &str,
     scratch: &mut Scratch,
 ) -> Result<Option<Bson>, Unread>
-    ensures ok { IfOk result (λ v. TextReads doubles text.now (option_map bson_view v)) }
+    ensures ok { IfOk result (λ v. TextReads order doubles text.now (option_map bson_view v)) }
     ensures broken { IfErr result (IsBroken (tree_of text.now)) }
 {
     let mut reader = Reader::new(text, scratch)?;
-    let read = read_value(alloc, doubles, &mut reader, MAX_DEPTH)?;
+    let read = read_value(alloc, doubles, order, &mut reader, MAX_DEPTH)?;
     if reader.next().is_some() {
         return Err(Unread::Broken);
     }

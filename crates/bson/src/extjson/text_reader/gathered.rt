@@ -1,14 +1,18 @@
-//! The members of an object as they come, and the document of them by ascending key.
-ghost use Rattle.std.specs.Prelude.{◌≡◌, option_map, IfOk, OnOk, MatchResult, string_bytes};
+//! The members of an object as they come, and the document of them, by ascending key or in the order
+//! in which they came.
+ghost use Rattle.std.specs.Prelude.{◌≡◌, [], option_map, IfOk, OnOk, MatchResult, string_bytes};
 ghost use Rattle.bson_model.specs.Sorted.{put_pair, KeysAscend};
 ghost use Rattle.bson_model.specs.Value.{no_pairs};
-ghost use Rattle.bson.specs.View.{bson_view, document_view};
+ghost use Rattle.bson.specs.View.{bson_view, document_view, pairs_view};
 ghost use Rattle.bson.specs.Gathered.{gathered_pairs, gathered, put_all, StandsAt, FitsAt};
-ghost use Rattle.bson.specs.Gathered.{KeepsTurns, prefix};
+ghost use Rattle.bson.specs.Gathered.{order_of, FewAscend, IsInOrder, IsPut, KeepsTurns, prefix};
+ghost use Rattle.bson.specs.Put.{put_entries};
+ghost use Rattle.bson.specs.declared.extjson.key_order.KeyOrder.TheVariants.{Ascending, AsGiven};
 ghost use Rattle.bson.specs.Straight.{is_nothing, holds_nothing, unless_nothing};
 
 use crate::bson::Bson;
 use crate::document::Document;
+use crate::extjson::key_order::KeyOrder;
 use bson_store::{Pair, PairStore, SmallPairs};
 use std::alloc::{AllocError, Global};
 use std::cmp::Ordering;
@@ -29,31 +33,38 @@ pub(crate) enum Gathered {
     Few(Vec<Pair<Bson>>),
     /// As they came. Of those of one key the last counts.
     Many(Vec<Pair<Bson>>),
+    /// As they came, in which order they stay. Of those of one key the last counts, at the place of
+    /// the first.
+    InTurn(Vec<Pair<Bson>>),
 }
 
-/// No members.
-pub(crate) fn none(alloc: Global) -> Gathered
-    ensures { gathered result ≡ no_pairs }
+/// No members, of which those to come stand in the order.
+pub(crate) fn none(alloc: Global, order: KeyOrder) -> Gathered
+    ensures none { gathered result ≡ no_pairs }
+    ensures order { IsInOrder order result }
 {
-    Gathered::Few(Vec::new(alloc))
+    match order {
+        KeyOrder::Ascending => Gathered::Few(Vec::new(alloc)),
+        KeyOrder::AsGiven => Gathered::InTurn(Vec::new(alloc)),
+    }
 }
 
 /// Puts the value at the key. One that is there with the key gives way.
 pub(crate) fn put(found: Gathered, key: String, value: Bson) -> Result<Gathered, AllocError>
-    requires { KeysAscend (gathered found) }
-    ensures { IfOk result
-        (λ now. gathered now ≡ put_pair (string_bytes key) (bson_view value) (gathered found)) }
+    requires { FewAscend found }
+    ensures { IfOk result (IsPut (order_of found) (string_bytes key) (bson_view value) (gathered found)) }
 {
     match found {
         Gathered::Few(members) => put_few(members, key, value),
         Gathered::Many(members) => put_many(members, key, value),
+        Gathered::InTurn(members) => put_in_turn(members, key, value),
     }
 }
 
 fn put_few(mut members: Vec<Pair<Bson>>, key: String, value: Bson) -> Result<Gathered, AllocError>
     requires { KeysAscend (gathered_pairs members.items) }
     ensures { IfOk result
-        (λ now. gathered now ≡ put_pair (string_bytes key) (bson_view value) (gathered_pairs members.items)) }
+        (IsPut Ascending (string_bytes key) (bson_view value) (gathered_pairs members.items)) }
 {
     let place = place_of(&members, key.as_str());
     match place {
@@ -67,10 +78,22 @@ fn put_few(mut members: Vec<Pair<Bson>>, key: String, value: Bson) -> Result<Gat
 
 fn put_many(mut members: Vec<Pair<Bson>>, key: String, value: Bson) -> Result<Gathered, AllocError>
     ensures { IfOk result
-        (λ now. gathered now ≡ put_pair (string_bytes key) (bson_view value) (put_all members.items no_pairs)) }
+        (IsPut Ascending (string_bytes key) (bson_view value) (put_all members.items no_pairs)) }
 {
     members.push(Pair { key, value })?;
     Ok(Gathered::Many(members))
+}
+
+fn put_in_turn(
+    mut members: Vec<Pair<Bson>>,
+    key: String,
+    value: Bson,
+) -> Result<Gathered, AllocError>
+    ensures { IfOk result
+        (IsPut AsGiven (string_bytes key) (bson_view value) (pairs_view (put_entries members.items []))) }
+{
+    members.push(Pair { key, value })?;
+    Ok(Gathered::InTurn(members))
 }
 
 // The place of the key, or that at which it would stand; by a walk from the end, since most keys
@@ -111,7 +134,7 @@ fn enter(
 
 /// The document of the members, or none where one has a value that means nothing.
 pub(crate) fn document_of(alloc: Global, found: Gathered) -> Result<Option<Document>, AllocError>
-    requires { KeysAscend (gathered found) }
+    requires { FewAscend found }
     ensures { IfOk result (λ document. option_map document_view document ≡ unless_nothing (gathered found)) }
 {
     let document = in_order(alloc, found)?;
@@ -140,12 +163,13 @@ fn is_nothing(value: &Bson) -> bool
 }
 
 fn in_order(alloc: Global, found: Gathered) -> Result<Document, AllocError>
-    requires { KeysAscend (gathered found) }
+    requires { FewAscend found }
     ensures { IfOk result (λ document. document_view document ≡ gathered found) }
 {
     match found {
         Gathered::Few(members) => Ok(of_ascending(members)),
         Gathered::Many(members) => of_many(alloc, members),
+        Gathered::InTurn(members) => Document::from_entries(alloc, members),
     }
 }
 

@@ -1,56 +1,58 @@
-//! Values straight from the tokens of a text.
+//! Values straight from the tokens of a text, in either order of keys.
 //!
 //! Each function reads a whole part of the text, also where that means nothing, and answers the
 //! value or none. It fails only where the text is no JSON text, or memory runs out.
-ghost use Rattle.std.specs.Prelude.{◌≡◌, ◌<◌, ◌≤◌, ◌∷◌, length, codes, option_map};
-ghost use Rattle.std.specs.Prelude.{is_some, true, IfOk, IfErr, OnOk, Result as Read};
+ghost use Rattle.std.specs.Prelude.{◌≡◌, ◌<◌, ◌≤◌, ◌∷◌, length, option_map};
+ghost use Rattle.std.specs.Prelude.{is_some, true, IfOk, IfErr, OnOk};
 ghost use Rattle.json.specs.Json.{value, items};
 ghost use Rattle.json.specs.Reads.{token_of};
-ghost use Rattle.serde_json.specs.Data.{array, object, no_members, put};
+ghost use Rattle.serde_json.specs.Data.{Members, array, object};
 ghost use Rattle.serde_json.specs.Read.{of_json, of_items, converted};
-ghost use Rattle.serde_json.specs.View.{view, members_view};
-ghost use Rattle.bson_wrapper.specs.Faults.{Fault, Gives};
+ghost use Rattle.serde_json.specs.View.{view};
 ghost use Rattle.bson_wrapper.specs.Table.{wrapper_of};
-ghost use Rattle.bson_model.specs.Reading.{reads_in, reads_members_in, reads_scope_in};
-ghost use Rattle.bson_model.specs.Sorted.{KeysAscend};
-ghost use Rattle.bson_model.specs.Value.{Value as Meaning};
 ghost use Rattle.bson_tokens.specs.Parts.{IsBroken, NoMembers, NoObject};
 ghost use Rattle.bson.specs.View.{bson_view, document_view};
-ghost use Rattle.bson.specs.Gathered.{gathered};
+ghost use Rattle.bson.specs.ByOrder.{tree_by, items_by, reads_by, reads_members_by, reads_scope_by};
+ghost use Rattle.bson.specs.Gathered.{gathered, IsInOrder};
+ghost use Rattle.bson.specs.Straight.{Reads, IsJoined, MembersRead, RestReads, ObjectReads, IsFound, IsCode};
 ghost use Rattle.bson_tokens.specs.declared.unread.Unread.TheVariants.{Broken};
-ghost use Rattle.bson.specs.Straight.{Reads, IsJoined, MembersRead, ObjectReads, code_given, given};
+
+mod scope_first;
 
 use crate::bson::Bson;
 use crate::document::Document;
-use crate::extjson::read::{number_value, read, single_value, with_scope};
+use crate::extjson::key_order::KeyOrder;
+use crate::extjson::read::{number_value, single_value};
 use crate::extjson::text_reader::gathered::{Gathered, NOTHING, document_of, none, put};
+use crate::extjson::text_reader::parts::{coded, document_value, meant};
+use crate::extjson::text_reader::straight::scope_first::read_scoped;
 use bson_tokens::number::number;
-use bson_tokens::tree::{read_from, read_tree};
+use bson_tokens::tree::read_tree;
 use bson_tokens::unread::Unread;
 use bson_wrapper::code::{is_code_with_scope, is_scope};
-use bson_wrapper::error::Error;
 use bson_wrapper::form::Doubles;
 use bson_wrapper::wrapper::named;
 use json::{Reader, Token};
-use serde_json::{Map, Value};
-use std::alloc::{AllocError, Global};
+use serde_json::Value;
+use std::alloc::Global;
 
 #[cycle(straight)]
 #[inline(always)]
 pub(crate) fn read_value(
     alloc: Global,
     doubles: Doubles,
+    order: KeyOrder,
     reader: &mut Reader<'_>,
     depth: usize,
 ) -> Result<Option<Bson>, Unread>
     ensures ok { IfOk result
-        (λ v. Reads (reads_in doubles) (converted of_json (value depth reader.old)) (option_map bson_view v)
-        reader.new) }
+        (λ v. Reads (reads_by order doubles) (converted (tree_by order) (value depth reader.old))
+        (option_map bson_view v) reader.new) }
     ensures broken { IfErr result (IsBroken (converted of_json (value depth reader.old))) }
     ensures shorter { OnOk result (length reader.new < length reader.old) }
 {
     let token = reader.next().ok_or(Unread::Broken)?;
-    read_begun(alloc, doubles, reader, depth, token)
+    read_begun(alloc, doubles, order, reader, depth, token)
 }
 
 // The value that begins with the token, which was taken.
@@ -59,13 +61,15 @@ pub(crate) fn read_value(
 pub(crate) fn read_begun(
     alloc: Global,
     doubles: Doubles,
+    order: KeyOrder,
     reader: &mut Reader<'_>,
     depth: usize,
     token: Token<'_>,
 ) -> Result<Option<Bson>, Unread>
     ensures ok { IfOk result
-        (λ v. Reads (reads_in doubles) (converted of_json (value depth (token_of token.entry ∷ reader.old)))
-        (option_map bson_view v) reader.new) }
+        (λ v. Reads (reads_by order doubles)
+        (converted (tree_by order) (value depth (token_of token.entry ∷ reader.old))) (option_map bson_view v)
+        reader.new) }
     ensures broken { IfErr result (IsBroken (converted of_json (value depth (token_of token.entry ∷ reader.old)))) }
     ensures shorter { OnOk result (length reader.new ≤ length reader.old) }
 {
@@ -82,13 +86,13 @@ pub(crate) fn read_begun(
             if depth == 0 {
                 return Err(Unread::Broken);
             }
-            read_array(alloc, doubles, reader, depth - 1)
+            read_array(alloc, doubles, order, reader, depth - 1)
         }
         Token::BeginObject => {
             if depth == 0 {
                 return Err(Unread::Broken);
             }
-            read_object(alloc, doubles, reader, depth - 1)
+            read_object(alloc, doubles, order, reader, depth - 1)
         }
     }
 }
@@ -99,12 +103,13 @@ pub(crate) fn read_begun(
 fn read_array(
     alloc: Global,
     doubles: Doubles,
+    order: KeyOrder,
     reader: &mut Reader<'_>,
     depth: usize,
 ) -> Result<Option<Bson>, Unread>
     ensures ok { IfOk result
-        (λ v. Reads (λ ds. reads_in doubles (array ds))
-        (converted of_items (items (value depth) (length reader.old) reader.old))
+        (λ v. Reads (λ ds. reads_by order doubles (array ds))
+        (converted (items_by order) (items (value depth) (length reader.old) reader.old))
         (option_map bson_view v) reader.new) }
     ensures broken { IfErr result
         (IsBroken (converted of_items (items (value depth) (length reader.old) reader.old))) }
@@ -113,7 +118,7 @@ fn read_array(
     let mut found = Vec::new(alloc);
     let mut has_meaning = true;
     'items: while !reader.take_end_array() {
-        let Some(item) = read_value(alloc, doubles, reader, depth)? else {
+        let Some(item) = read_value(alloc, doubles, order, reader, depth)? else {
             has_meaning = false;
             continue;
         };
@@ -132,36 +137,35 @@ fn read_array(
 fn read_object(
     alloc: Global,
     doubles: Doubles,
+    order: KeyOrder,
     reader: &mut Reader<'_>,
     depth: usize,
 ) -> Result<Option<Bson>, Unread>
     ensures ok { IfOk result
-        (λ v. MembersRead (λ ms. reads_in doubles (object ms)) depth reader.old (option_map bson_view v) reader.new) }
+        (λ v. MembersRead order (λ ms. reads_by order doubles (object ms)) depth reader.old (option_map bson_view v)
+        reader.new) }
     ensures broken { IfErr result (λ e. e ≡ Broken → NoMembers depth reader.old) }
     ensures shorter { OnOk result (length reader.new < length reader.old) }
 {
-    let mut found = none(alloc);
-    let mut is_first = true;
-    let mut is_document = true;
-    'members: while let Some(name) = reader.next_key()? {
-        if is_first && is_scope(name) {
-            return read_small(alloc, doubles, reader, depth, name, Map::new(alloc));
-        }
-        let is_wrapper = named(name).is_some();
-        if is_first && is_wrapper {
-            return read_wrapped(alloc, doubles, reader, depth, name);
-        }
-        found = read_member(alloc, doubles, reader, depth, name, found)?;
-        is_first = false;
-        is_document = is_document & !is_wrapper;
+    let Some(name) = reader.next_key()? else {
+        return Ok(Some(Bson::Document(Document::new(alloc))));
+    };
+    if is_scope(name) {
+        return read_scoped(alloc, doubles, order, reader, depth, name);
     }
-    if !is_document {
-        return Ok(None);
+    if named(name).is_some() {
+        return read_wrapped(alloc, doubles, order, reader, depth, name);
     }
-    match document_of(alloc, found)? {
-        Some(document) => Ok(Some(Bson::Document(document))),
-        None => Ok(None),
-    }
+    let first = read_member(
+        alloc,
+        doubles,
+        order,
+        reader,
+        depth,
+        name,
+        none(alloc, order),
+    )?;
+    read_document(alloc, doubles, order, reader, depth, first, true)
 }
 
 // The members, and the one whose key was read.
@@ -170,95 +174,113 @@ fn read_object(
 fn read_member(
     alloc: Global,
     doubles: Doubles,
+    order: KeyOrder,
     reader: &mut Reader<'_>,
     depth: usize,
     name: &str,
     found: Gathered,
 ) -> Result<Gathered, Unread>
-    requires { KeysAscend (gathered found) }
+    requires order { IsInOrder order found }
     ensures ok { IfOk result
-        (λ now. IsJoined doubles (converted of_json (value depth reader.old)) name.now (gathered found)
+        (λ now. IsJoined order doubles (converted (tree_by order) (value depth reader.old)) name.now (gathered found)
         (gathered now) reader.new) }
+    ensures order { IfOk result (IsInOrder order) }
     ensures broken { IfErr result (IsBroken (converted of_json (value depth reader.old))) }
     ensures shorter { OnOk result (length reader.new < length reader.old) }
 {
     let key = String::from_str(alloc, name)?;
-    let member = read_value(alloc, doubles, reader, depth)?.unwrap_or(NOTHING);
+    let member = read_value(alloc, doubles, order, reader, depth)?.unwrap_or(NOTHING);
     Ok(put(found, key, member)?)
 }
 
-// What the object means of which these members were found and the next key was read, by a tree of
-// its own. Of an object that begins with `$scope` only what follows tells whether a scope stands
-// there, whose keys are not tested, or a value like any other.
-#[inline(never)]
-fn read_small(
+// The document of the members that were found and those behind them, of which the first is no
+// wrapper's. `is_document` is false where one of another key is.
+#[cycle(straight)]
+#[inline(always)]
+fn read_document(
     alloc: Global,
     doubles: Doubles,
+    order: KeyOrder,
     reader: &mut Reader<'_>,
     depth: usize,
-    key: &str,
-    found: Map<String, Value>,
+    first: Gathered,
+    is_plain: bool,
 ) -> Result<Option<Bson>, Unread>
-    ensures ok { IfOk result
-        (λ v. ObjectReads doubles depth (members_view found.entries) key.now reader.old (option_map bson_view v)
-        reader.new) }
-    ensures broken { IfErr result (λ e. e ≡ Broken → NoObject depth key.now reader.old) }
+    requires order { IsInOrder order first }
+    ensures ok { (old : Members) → IsFound order doubles old is_plain (gathered first) → IfOk result
+        (λ v. RestReads order doubles depth old reader.old (option_map bson_view v) reader.new) }
+    ensures broken { IfErr result (λ e. e ≡ Broken → NoMembers depth reader.old) }
     ensures shorter { OnOk result (length reader.new < length reader.old) }
 {
-    let members = read_from(alloc, reader, depth, key, found)?;
-    Ok(meant(read(alloc, doubles, Value::Object(members)))?)
+    let mut found = first;
+    let mut is_document = is_plain;
+    'members: while let Some(name) = reader.next_key()? {
+        is_document = is_document & !named(name).is_some();
+        found = read_member(alloc, doubles, order, reader, depth, name, found)?;
+    }
+    if !is_document {
+        return Ok(None);
+    }
+    Ok(document_value(alloc, found)?)
 }
 
-// What the wrapper means whose key was read: one of that key alone, code with its scope, or what
-// its tree means.
+// What the wrapper means whose key was read: one of that key alone, or code with its scope. Of a key
+// that stands again the last value counts.
 #[cycle(straight)]
 #[inline(never)]
 fn read_wrapped(
     alloc: Global,
     doubles: Doubles,
+    order: KeyOrder,
     reader: &mut Reader<'_>,
     depth: usize,
     key: &str,
 ) -> Result<Option<Bson>, Unread>
     requires wrapper { is_some (wrapper_of key.now) ≡ true }
     ensures ok { IfOk result
-        (λ v. ObjectReads doubles depth no_members key.now reader.old (option_map bson_view v) reader.new) }
+        (λ v. ObjectReads order doubles depth key.now reader.old (option_map bson_view v) reader.new) }
     ensures broken { IfErr result (λ e. e ≡ Broken → NoObject depth key.now reader.old) }
     ensures shorter { OnOk result (length reader.new < length reader.old) }
 {
-    let held = read_tree(alloc, reader, depth)?;
-    match reader.next_key()? {
-        None => Ok(meant(single_value(alloc, doubles, key, held))?),
-        Some(other) => if is_code_with_scope(key, other) {
-            read_code(alloc, doubles, reader, depth, held)
-        } else {
-            let found = lone(alloc, key, held)?;
-            read_small(alloc, doubles, reader, depth, other, found)
-        },
+    let mut held = read_tree(alloc, reader, depth)?;
+    let mut is_alone = true;
+    'members: while let Some(other) = reader.next_key()? {
+        if is_alone && is_code_with_scope(key, other) {
+            let scope = read_scope(alloc, doubles, order, reader, depth)?;
+            return read_code(alloc, doubles, order, reader, depth, held, scope);
+        }
+        held = read_tree(alloc, reader, depth)?;
+        is_alone = is_alone & (key == other);
     }
+    if !is_alone {
+        return Ok(None);
+    }
+    Ok(meant(single_value(alloc, doubles, key, held))?)
 }
 
-// Code, behind which the key `$scope` was read. Of a key that stands again the last value counts.
+// Code and a scope, both of which were read. Of a key that stands again the last value counts.
 #[cycle(straight)]
 fn read_code(
     alloc: Global,
     doubles: Doubles,
+    order: KeyOrder,
     reader: &mut Reader<'_>,
     depth: usize,
-    held: Value,
+    first: Value,
+    first_scope: Option<Option<Document>>,
 ) -> Result<Option<Bson>, Unread>
-    ensures ok { IfOk result
-        (λ v. ObjectReads doubles depth (put (codes "$code") (view held) no_members) (codes "$scope") reader.old
-        (option_map bson_view v) reader.new) }
-    ensures broken { IfErr result (λ e. e ≡ Broken → NoObject depth (codes "$scope") reader.old) }
+    ensures ok { (old : Members) → IsCode order doubles true (view first)
+        (option_map (λ d. option_map document_view d) first_scope) old
+        → IfOk result (λ v. RestReads order doubles depth old reader.old (option_map bson_view v) reader.new) }
+    ensures broken { IfErr result (λ e. e ≡ Broken → NoMembers depth reader.old) }
     ensures shorter { OnOk result (length reader.new < length reader.old) }
 {
-    let mut code = held;
-    let mut scope = read_scope(alloc, doubles, reader, depth)?;
+    let mut code = first;
+    let mut scope = first_scope;
     let mut is_code = true;
     'members: while let Some(name) = reader.next_key()? {
         if is_scope(name) {
-            scope = read_scope(alloc, doubles, reader, depth)?;
+            scope = read_scope(alloc, doubles, order, reader, depth)?;
         } else {
             code = read_tree(alloc, reader, depth)?;
             is_code = is_code & is_code_with_scope(name, "$scope");
@@ -270,28 +292,17 @@ fn read_code(
     Ok(coded(code, scope))
 }
 
-// Code with the scope that was read, null or a document, where both mean something.
-fn coded(code: Value, scope: Option<Option<Document>>) -> Option<Bson>
-    ensures { option_map bson_view result
-        ≡ code_given (view code) (option_map (λ d. option_map document_view d) scope) }
-{
-    match (code, scope) {
-        (Value::String(code), Some(None)) => Some(Bson::JavaScriptCode(code)),
-        (Value::String(code), Some(Some(scope))) => Some(with_scope(code, scope)),
-        _ => None,
-    }
-}
-
 // The scope of code: null, or a document whose keys are not tested.
 #[cycle(straight)]
 fn read_scope(
     alloc: Global,
     doubles: Doubles,
+    order: KeyOrder,
     reader: &mut Reader<'_>,
     depth: usize,
 ) -> Result<Option<Option<Document>>, Unread>
     ensures ok { IfOk result
-        (λ scope. Reads (reads_scope_in doubles) (converted of_json (value depth reader.old))
+        (λ scope. Reads (reads_scope_by order doubles) (converted (tree_by order) (value depth reader.old))
         (option_map (λ d. option_map document_view d) scope) reader.new) }
     ensures broken { IfErr result (IsBroken (converted of_json (value depth reader.old))) }
     ensures shorter { OnOk result (length reader.new < length reader.old) }
@@ -303,13 +314,13 @@ fn read_scope(
             if depth == 0 {
                 return Err(Unread::Broken);
             }
-            match read_pairs(alloc, doubles, reader, depth - 1)? {
+            match read_pairs(alloc, doubles, order, reader, depth - 1)? {
                 Some(scope) => Ok(Some(Some(scope))),
                 None => Ok(None),
             }
         }
         token => {
-            drop(read_begun(alloc, doubles, reader, depth, token)?);
+            drop(read_begun(alloc, doubles, order, reader, depth, token)?);
             Ok(None)
         }
     }
@@ -319,39 +330,19 @@ fn read_scope(
 fn read_pairs(
     alloc: Global,
     doubles: Doubles,
+    order: KeyOrder,
     reader: &mut Reader<'_>,
     depth: usize,
 ) -> Result<Option<Document>, Unread>
     ensures ok { IfOk result
-        (λ d. MembersRead (reads_members_in doubles) depth reader.old (option_map document_view d) reader.new) }
+        (λ d. MembersRead order (reads_members_by order doubles) depth reader.old (option_map document_view d)
+        reader.new) }
     ensures broken { IfErr result (λ e. e ≡ Broken → NoMembers depth reader.old) }
     ensures shorter { OnOk result (length reader.new < length reader.old) }
 {
-    let mut found = none(alloc);
+    let mut found = none(alloc, order);
     'members: while let Some(name) = reader.next_key()? {
-        found = read_member(alloc, doubles, reader, depth, name, found)?;
+        found = read_member(alloc, doubles, order, reader, depth, name, found)?;
     }
     Ok(document_of(alloc, found)?)
-}
-
-// The value at the key, and no other member.
-fn lone(alloc: Global, key: &str, value: Value) -> Result<Map<String, Value>, AllocError>
-    ensures { IfOk result (λ m. members_view m.entries ≡ put key.now (view value) no_members) }
-{
-    let mut members = Map::new(alloc);
-    let key = String::from_str(alloc, key)?;
-    drop(members.insert(key, value)?);
-    Ok(members)
-}
-
-// The value of a tree that was read, or none where the tree means nothing.
-fn meant(read: Result<Bson, Error>) -> Result<Option<Bson>, AllocError>
-    ensures { (tree : Read Meaning Fault) → Gives bson_view read tree
-        → IfOk result (λ v. given tree ≡ option_map bson_view v) }
-{
-    match read {
-        Ok(value) => Ok(Some(value)),
-        Err(Error::OutOfMemory) => Err(AllocError),
-        Err(_) => Ok(None),
-    }
 }

@@ -1,118 +1,63 @@
--- Scopes, code with its scope, and the other wrappers.
-use Rattle.std.proofs.Common.{◌≡◌, ◌<◌, ◌&&◌, [], ◌∷◌, true, false, Some, None, codes}
-use Rattle.std.proofs.Common.{length, option_map, refl, sym, ap, ◌∙◌, subst, arith}
+-- Code with its scope, and the other wrappers.
+use Rattle.std.proofs.Common.{◌≡◌, ◌<◌, ◌&&◌, [], ◌∷◌, true, false, not, Some, None, codes, string_bytes}
+use Rattle.std.proofs.Common.{length, option_map, refl, sym, ap, ◌∙◌, subst, arith, rules}
 use Rattle.std.proofs.lemmas.Result.{err_from_is_err_and}
 use Rattle.std.proofs.lemmas.Slice.Eq.{bytes_eq-Decides}
 use Rattle.std.specs.Prelude.{is_some}
 use Rattle.std.specs.Str.{bytes_eq}
 use Rattle.json.specs.Token.{Token}
 use Rattle.json.specs.Json.{parse_map, read_key, value}
+use Rattle.json.specs.Lex.{tokens}
 use Rattle.json.specs.Reads.{token_of}
 use Rattle.json.proofs.Grammar.{value_is, read_key-shorter}
-use Rattle.serde_json.specs.Data.{null, object, no_members, put}
+use Rattle.serde_json.specs.Data.{null, object, no_members, member}
 use Rattle.serde_json.specs.Read.{of_json, converted}
 use Rattle.serde_json.specs.View.{view}
 use Rattle.bson_wrapper.specs.Reading.{single_at_in}
 use Rattle.bson_wrapper.specs.Table.{wrapper_of}
 use Rattle.bson_wrapper.proofs.Offered.{on_ok}
-use Rattle.bson_model.specs.Reading.{reads_members_in, scalar_value}
+use Rattle.bson_model.specs.Reading.{scalar_value}
+use Rattle.bson_order.specs.Kept.{kept, unordered}
+use Rattle.bson_order.specs.Reading.{reads_in_order, scope_in_order}
+use Rattle.bson.specs.ByOrder.{tree_by, insert_by}
 use Rattle.bson.specs.View.{bson_view, document_view}
-use Rattle.bson_tokens.specs.Parts.{NoObject}
-use Rattle.bson.specs.Straight.{ObjectReads}
-use Rattle.bson.proofs.Marks.{given_map}
-use Rattle.bson_tokens.proofs.Offered.{object_opened, if_ok, if_err, no_key, no_member}
-use Rattle.bson_tokens.proofs.Offered.{too_deep_object, no_more_members}
-use Rattle.bson.proofs.Wrapped.{alone, second, no_second, no_first, no_key_behind}
-use Rattle.bson.proofs.Wrapped.{code_begun, code_more, scope_again, code_again, code_read, code_refused, IsCode}
-use Rattle.bson.proofs.Held.{code_keys, other_scope}
+use Rattle.bson.specs.Gathered.{gathered}
+use Rattle.bson.specs.Straight.{IsCode, ReadsHeld, is_code, is_scope, unless_nothing}
+use Rattle.bson_tokens.specs.Parts.{IsBroken}
+use Rattle.bson.specs.declared.extjson.key_order.KeyOrder.TheVariants.{AsGiven}
+use Rattle.bson_tokens.proofs.Offered.{object_opened, if_ok, if_err, no_key, no_member, too_deep_object}
+use Rattle.bson.proofs.ByOrder.{by_default, by_order, null_read, object_opened_by, first_insert, FollowsBy}
+use Rattle.bson.proofs.ByOrder.{none_passed, member_passed, first_passed, one_passed, first_follows, more_follows}
+use Rattle.bson.proofs.ByOrder.{all_follow, one_gathered_by, all_gathered_by, held_tree, held_read, held_whole}
+use Rattle.bson.proofs.Gathering.{with_rest}
+use Rattle.bson.proofs.Wrapped.{no_first, IsAlone, alone_again, alone_given, not_alone, tied, code_then_scope}
+use Rattle.bson.proofs.Wrapped.{scope_then_code, scope_again, code_again, code_read, code_refused}
+use Rattle.bson.proofs.Held.{code_keys, other_scope, null_scope, object_scope, second_false, not_twice, stray_from}
+use Rattle.bson.proofs.Held.{scope_found, lone_document}
+use Rattle.bson.proofs.extjson.text_reader.straight.+straight.Goals.{read_wrapped-else-is_alone-via-then-is_alone+else-is_code_with_scope}
+use Rattle.bson.proofs.extjson.text_reader.straight.+straight.Goals.{read_wrapped-else-is_alone-via-else-is_alone}
 use Rattle.bson.proofs.extjson.text_reader.straight.+straight.Goals as goal
-
--- ---- scopes
-
-pub read_scope-returns-in_err-token-clause-broken : goal.read_scope-returns-in_err-token-clause-broken
-read_scope-returns-in_err-token-clause-broken t c =
-    let none : c.args.reader.now ≡ [] = grind arith in
-    let p = err_from_is_err_and c.from_residual.result c.from_residual.ensures.1 in
-    rw p.1 (λ broken. ap (λ ts. converted of_json (value c.args.depth ts)) none
-    ∙ ap (converted of_json) (value_is c.args.depth []))
-
-pub read_scope-returns-then-depth-eq0-clause-broken : goal.read_scope-returns-then-depth-eq0-clause-broken
-read_scope-returns-then-depth-eq0-clause-broken t c =
-    let first : c.args.reader.now ≡ token_of c.in_ok-token.token ∷ c.next.new.self = grind arith in
-    λ broken. too_deep_object c.args.depth c.args.reader.now c.next.new.self
-    (first ∙ ap (λ k. token_of k ∷ c.next.new.self) c.in-BeginObject.is) (omega arith)
-
-pub read_scope-returns-in_err-scope-in-BeginObject-clause-broken :
-    goal.read_scope-returns-in_err-scope-in-BeginObject-clause-broken
-read_scope-returns-in_err-scope-in-BeginObject-clause-broken t c =
-    let first : c.args.reader.now ≡ token_of c.in_ok-token.token ∷ c.next.new.self = grind arith in
-    let opened = object_opened c.args.depth c.args.reader.now c.next.new.self
-    (first ∙ ap (λ k. token_of k ∷ c.next.new.self) c.in-BeginObject.is) (omega arith) in
-    let returned = c.from_residual-in_err-scope-in-BeginObject in
-    let p = err_from_is_err_and returned.result returned.ensures.1 in
-    rw (p.1, p.2) (λ broken. opened ∙ ap (parse_map object)
-    (c.in_err-scope-in-BeginObject.ensures.broken broken no_members (length c.next.new.self)))
-
-pub read_scope-returns-in-Null-clause-ok : goal.read_scope-returns-in-Null-clause-ok
-read_scope-returns-in-Null-clause-ok t c =
-    let first : c.args.reader.now ≡ token_of c.in_ok-token.token ∷ c.next.new.self = grind arith in
-    let is : c.args.reader.now ≡ Token.null ∷ c.next.new.self = grind (arith, first) in
-    (null, ap (converted of_json) (ap (value c.args.depth) is ∙ value_is c.args.depth _), refl)
-
-pub read_scope-returns-in-Some-clause-ok : goal.read_scope-returns-in-Some-clause-ok
-read_scope-returns-in-Some-clause-ok t c =
-    let first : c.args.reader.now ≡ token_of c.in_ok-token.token ∷ c.next.new.self = grind arith in
-    let opened = object_opened c.args.depth c.args.reader.now c.next.new.self
-    (first ∙ ap (λ k. token_of k ∷ c.next.new.self) c.in-BeginObject.is) (omega arith) in
-    let read = c.in_ok-scope-in-BeginObject.ensures.ok in (
-      object read.0,
-      opened ∙ ap (parse_map object) read.1,
-      given_map Some (reads_members_in c.args.doubles read.0)
-          ∙ ap (option_map Some) (read.2 ∙ ap (option_map document_view) c.in-Some.is),
-    )
-
-pub read_scope-returns-in-None-clause-ok : goal.read_scope-returns-in-None-clause-ok
-read_scope-returns-in-None-clause-ok t c =
-    let first : c.args.reader.now ≡ token_of c.in_ok-token.token ∷ c.next.new.self = grind arith in
-    let opened = object_opened c.args.depth c.args.reader.now c.next.new.self
-    (first ∙ ap (λ k. token_of k ∷ c.next.new.self) c.in-BeginObject.is) (omega arith) in
-    let read = c.in_ok-scope-in-BeginObject.ensures.ok in (
-      object read.0,
-      opened ∙ ap (parse_map object) read.1,
-      given_map Some (reads_members_in c.args.doubles read.0)
-          ∙ ap (option_map Some) (read.2 ∙ ap (option_map document_view) c.in-None.is),
-    )
 
 -- ---- code with its scope
 
-pub read_code-returns-in_err-scope-clause-broken : goal.read_code-returns-in_err-scope-clause-broken
-read_code-returns-in_err-scope-clause-broken t c =
-    let p = err_from_is_err_and c.from_residual.result c.from_residual.ensures.1 in
-    rw (p.1, p.2) (λ broken. no_first c.args.depth (codes "$scope") c.args.reader.now
-    (c.in_err-scope.ensures.broken broken))
-
 pub read_code-members-init : goal.read_code-members-init
-read_code-members-init t c =
-    let read = c.in_ok-scope.ensures in
-    code_begun c.args.doubles c.args.depth (view c.args.held) c.args.reader.now c.read_scope.new.reader
-    (view c.args.held) read.ok.0
-    (option_map (λ d. option_map document_view d) c.in_ok-scope.scope) refl read.ok.1 read.ok.2 read.shorter
+read_code-members-init t c = (none_passed c.args.depth c.args.reader.now, λ old is. (old, λ ms rest more. more, is))
 
 pub read_code-returns-in_err-name-clause-broken : goal.read_code-returns-in_err-name-clause-broken
 read_code-returns-in_err-name-clause-broken t c =
     let l = c.members in
-    let p = err_from_is_err_and c.from_residual-in_err-name.result c.from_residual-in_err-name.ensures.1 in
-    rw p.1 (λ broken. l.invariant.none (no_key c.args.depth l.reader (grind arith)))
+    let p = err_from_is_err_and c.from_residual.result c.from_residual.ensures.1 in
+    rw p.1 (λ broken. l.invariant.0.1.none (no_key c.args.depth l.reader (grind arith)))
 
-pub read_code-returns-in_err-scope-2-clause-broken : goal.read_code-returns-in_err-scope-2-clause-broken
-read_code-returns-in_err-scope-2-clause-broken t c =
+pub read_code-returns-in_err-scope-clause-broken : goal.read_code-returns-in_err-scope-clause-broken
+read_code-returns-in_err-scope-clause-broken t c =
     let l = c.members in
     let k = c.in-Some.name.now in
     let s = c.next_key.new.self in
     let named : read_key l.reader ≡ Some (Some k, s) = grind arith in
-    let p = err_from_is_err_and c.from_residual-in_err-scope-2.result c.from_residual-in_err-scope-2.ensures.1 in
-    rw (p.1, p.2) (λ broken. l.invariant.none
-    (no_member c.args.depth k l.reader s named (c.in_err-scope-2.ensures.broken broken)))
+    let p = err_from_is_err_and c.from_residual-in_err-scope.result c.from_residual-in_err-scope.ensures.1 in
+    rw (p.1, p.2) (λ broken. l.invariant.0.1.none
+    (no_member c.args.depth k l.reader s named (c.in_err-scope.ensures.broken broken)))
 
 pub read_code-returns-in_err-code-clause-broken : goal.read_code-returns-in_err-code-clause-broken
 read_code-returns-in_err-code-clause-broken t c =
@@ -121,66 +66,79 @@ read_code-returns-in_err-code-clause-broken t c =
     let s = c.next_key.new.self in
     let named : read_key l.reader ≡ Some (Some k, s) = grind arith in
     let p = err_from_is_err_and c.from_residual-in_err-code.result c.from_residual-in_err-code.ensures.1 in
-    rw (p.1, p.2) (λ broken. l.invariant.none
+    rw (p.1, p.2) (λ broken. l.invariant.0.1.none
     (no_member c.args.depth k l.reader s named (c.in_err-code.ensures.broken broken)))
 
 pub read_code-members-preserved-then-is_scope : goal.read_code-members-preserved-then-is_scope
 read_code-members-preserved-then-is_scope t c =
     let l = c.members in
+    let o = c.args.order in
     let k = c.in-Some.name.now in
     let s = c.next_key.new.self in
+    let r = c.read_scope.new.reader in
     let named : read_key l.reader ≡ Some (Some k, s) = grind arith in
-    let read = c.in_ok-scope-2.ensures in
-    let same : k ≡ codes "$scope" = (bytes_eq-Decides k (codes "$scope")).0 (sym c.if-is_scope.ensures) in
-    let old = option_map (λ d. option_map document_view d) l.scope in
-    let new = option_map (λ d. option_map document_view d) c.in_ok-scope-2.scope in
-    code_more c.args.doubles c.args.depth (view c.args.held) c.args.reader.now k l.reader s
-    c.read_scope-then-is_scope.new.reader
-    read.ok.0
-    (view l.code) (view l.code) l.is_code l.is_code old new l.invariant named read.ok.1 read.shorter
-    (scope_again c.args.doubles l.is_code k read.ok.0 (view l.code) old new l.invariant.so_far same read.ok.2
-    l.invariant.shape)
+    let read = c.in_ok-scope.ensures in
+    let e = read.ok.0 in
+    let same : k ≡ codes "$scope" = (bytes_eq-Decides k (codes "$scope")).0 (sym c.if-is_scope.ensures) in (
+      member_passed c.args.depth k c.args.reader.now l.reader s r _ l.invariant.0 named
+          (by_default o (value c.args.depth s) e r read.ok.1) read.shorter,
+      λ old is.
+          let i = l.invariant.1 old is in (
+            insert_by o k e i.0,
+            one_gathered_by o c.args.depth old k c.args.reader.now l.reader s r i.0 e i.1 named read.ok.1 read.shorter,
+            scope_again o c.args.doubles l.is_code k e (view l.code) (option_map (λ d. option_map document_view d) l.scope)
+                (option_map (λ d. option_map document_view d) c.in_ok-scope.scope) i.0 same read.ok.2 i.2,
+          ),
+    )
 
 pub read_code-members-preserved : goal.read_code-members-preserved
 read_code-members-preserved t c =
     let l = c.members in
+    let o = c.args.order in
     let k = c.in-Some.name.now in
     let s = c.next_key.new.self in
+    let r = c.read_tree.new.reader in
     let named : read_key l.reader ≡ Some (Some k, s) = grind arith in
     let read = c.in_ok-code.ensures in
     let tree = view c.in_ok-code.code in
     let scope = option_map (λ d. option_map document_view d) l.scope in
     let other : bytes_eq k (codes "$scope") ≡ false = sym c.if-is_scope.ensures in
-    code_more c.args.doubles c.args.depth (view c.args.held) c.args.reader.now k l.reader s c.read_tree.new.reader tree
-    (view l.code) tree l.is_code (l.is_code && c.is_code_with_scope-is_code.result) scope scope l.invariant named
-    read.ok
-    read.shorter
-    (subst (λ b. IsCode c.args.doubles (l.is_code && b) tree scope (put k tree l.invariant.so_far))
-    (sym c.is_code_with_scope-is_code.ensures)
-    (code_again c.args.doubles l.is_code k tree (view l.code) scope l.invariant.so_far other l.invariant.shape))
+    let e = by_order o (value c.args.depth s) tree r read.ok in (
+      member_passed c.args.depth k c.args.reader.now l.reader s r tree l.invariant.0 named read.ok read.shorter,
+      λ old is.
+          let i = l.invariant.1 old is in (
+            insert_by o k e.0 i.0,
+            one_gathered_by o c.args.depth old k c.args.reader.now l.reader s r i.0 e.0 i.1 named e.1 read.shorter,
+            subst (λ b. IsCode o c.args.doubles (l.is_code && b) tree scope (insert_by o k e.0 i.0))
+                (sym c.is_code_with_scope-is_code.ensures)
+                (code_again o c.args.doubles l.is_code k tree (view l.code) e.0 scope i.0 other e.2 i.2),
+          ),
+    )
 
 pub read_code-returns-then-not-is_code-clause-ok : goal.read_code-returns-then-not-is_code-clause-ok
-read_code-returns-then-not-is_code-clause-ok t c =
+read_code-returns-then-not-is_code-clause-ok t c = λ old is.
     let l = c.members in
+    let o = c.args.order in
+    let i = l.invariant.1 old is in
     let scope = option_map (λ d. option_map document_view d) l.scope in
     let no : l.is_code ≡ false = grind arith in (
-      l.invariant.so_far,
-      l.invariant.all l.invariant.so_far c.next_key.new.self
-          (no_more_members c.args.depth l.reader c.next_key.new.self l.invariant.so_far (grind arith)),
-      code_refused c.args.doubles (view l.code) scope l.invariant.so_far
-          (subst (λ b. IsCode c.args.doubles b (view l.code) scope l.invariant.so_far) no l.invariant.shape),
+      i.0,
+      all_gathered_by o c.args.depth old c.args.reader.now l.reader c.next_key.new.self i.0 i.1 (grind arith),
+      code_refused o c.args.doubles (view l.code) scope i.0
+          (subst (λ b. IsCode o c.args.doubles b (view l.code) scope i.0) no i.2),
     )
 
 pub read_code-returns-clause-ok : goal.read_code-returns-clause-ok
-read_code-returns-clause-ok t c =
+read_code-returns-clause-ok t c = λ old is.
     let l = c.members in
+    let o = c.args.order in
+    let i = l.invariant.1 old is in
     let scope = option_map (λ d. option_map document_view d) l.scope in
     let yes : l.is_code ≡ true = grind arith in (
-      l.invariant.so_far,
-      l.invariant.all l.invariant.so_far c.next_key.new.self
-          (no_more_members c.args.depth l.reader c.next_key.new.self l.invariant.so_far (grind arith)),
-      code_read c.args.doubles (view l.code) scope l.invariant.so_far
-          (subst (λ b. IsCode c.args.doubles b (view l.code) scope l.invariant.so_far) yes l.invariant.shape)
+      i.0,
+      all_gathered_by o c.args.depth old c.args.reader.now l.reader c.next_key.new.self i.0 i.1 (grind arith),
+      code_read o c.args.doubles (view l.code) scope i.0
+          (subst (λ b. IsCode o c.args.doubles b (view l.code) scope i.0) yes i.2)
           ∙ sym c.coded.ensures,
     )
 
@@ -192,124 +150,174 @@ read_wrapped-returns-in_err-held-clause-broken t c =
     rw (p.1, p.2) (λ broken. no_first c.args.depth c.args.key.now c.args.reader.now
     (c.in_err-held.ensures.broken broken))
 
-pub read_wrapped-returns-in_err-next_key-clause-broken : goal.read_wrapped-returns-in_err-next_key-clause-broken
-read_wrapped-returns-in_err-next_key-clause-broken t c =
-    let s = c.read_tree.new.reader in
-    let none : read_key s ≡ None = grind arith in
-    let p = err_from_is_err_and c.from_residual-in_err-next_key.result c.from_residual-in_err-next_key.ensures.1 in
-    rw p.1 (λ broken. no_key_behind c.args.depth c.args.key.now c.args.reader.now s (view c.in_ok-held.held)
-    c.in_ok-held.ensures.ok none)
-
-pub read_wrapped-returns-in_ok-meant-in-None-clause-ok : goal.read_wrapped-returns-in_ok-meant-in-None-clause-ok
-read_wrapped-returns-in_ok-meant-in-None-clause-ok t c =
+pub read_wrapped-members-init : goal.read_wrapped-members-init
+read_wrapped-members-init t c =
+    let o = c.args.order in
     let k = c.args.key.now in
+    let ts = c.args.reader.now in
     let s = c.read_tree.new.reader in
-    let rest = c.next_key.new.self in
     let held = c.in_ok-held.ensures in
     let d = view c.in_ok-held.held in
-    let ended : read_key s ≡ Some (None, rest) = grind arith in
-    let wrapper : is_some (wrapper_of k) ≡ true = grind arith in
-    alone c.args.doubles c.args.depth k c.args.reader.now s rest d
-    (option_map bson_view c.in_ok-meant-in-None.field-0) held.ok
-    held.shorter ended wrapper
-    (c.in_ok-meant-in-None.ensures (scalar_value (single_at_in c.args.doubles (wrapper_of k) d))
-    c.single_value.ensures.given)
+    let e = by_order o (value c.args.depth ts) d s held.ok in (
+      first_passed c.args.depth k ts s d held.ok held.shorter,
+      insert_by o k e.0 no_members,
+      first_follows o c.args.depth k ts s e.0 e.1 held.shorter,
+      (e.0, first_insert o k e.0, e.2),
+    )
+
+pub read_wrapped-returns-in_err-other-clause-broken : goal.read_wrapped-returns-in_err-other-clause-broken
+read_wrapped-returns-in_err-other-clause-broken t c =
+    let l = c.members in
+    let p = err_from_is_err_and c.from_residual-in_err-other.result c.from_residual-in_err-other.ensures.1 in
+    rw p.1 (λ broken. l.invariant.0.none (no_key c.args.depth l.reader (grind arith)))
+
+pub read_wrapped-returns-in_err-scope-clause-broken : goal.read_wrapped-returns-in_err-scope-clause-broken
+read_wrapped-returns-in_err-scope-clause-broken t c =
+    let l = c.members in
+    let k = c.in-Some.other.now in
+    let s = c.next_key.new.self in
+    let named : read_key l.reader ≡ Some (Some k, s) = grind arith in
+    let p = err_from_is_err_and c.from_residual-in_err-scope.result c.from_residual-in_err-scope.ensures.1 in
+    rw (p.1, p.2) (λ broken. l.invariant.0.none
+    (no_member c.args.depth k l.reader s named (c.in_err-scope.ensures.broken broken)))
+
+pub read_wrapped-returns-in_err-held-2-clause-broken : goal.read_wrapped-returns-in_err-held-2-clause-broken
+read_wrapped-returns-in_err-held-2-clause-broken t c =
+    let l = c.members in
+    let k = c.in-Some.other.now in
+    let s = c.next_key.new.self in
+    let named : read_key l.reader ≡ Some (Some k, s) = grind arith in
+    let p = err_from_is_err_and c.from_residual-in_err-held-2.result c.from_residual-in_err-held-2.ensures.1 in
+    rw (p.1, p.2) (λ broken. l.invariant.0.none
+    (no_member c.args.depth k l.reader s named (c.in_err-held-2.ensures.broken broken)))
 
 pub read_wrapped-returns-then-is_code_with_scope-clause-ok : goal.read_wrapped-returns-then-is_code_with_scope-clause-ok
 read_wrapped-returns-then-is_code_with_scope-clause-ok t c =
+    let l = c.members in
+    let o = c.args.order in
     let k = c.args.key.now in
-    let l = c.in-Some.other.now in
-    let s = c.read_tree.new.reader in
-    let us = c.next_key.new.self in
+    let j = c.in-Some.other.now in
+    let s = c.next_key.new.self in
+    let r = c.read_scope.new.reader in
     let rest = c.read_code.new.reader in
-    let d = view c.in_ok-held.held in
-    let held = c.in_ok-held.ensures in
-    let named : read_key s ≡ Some (Some l, us) = grind arith in
-    let keys = code_keys k l (sym c.if-is_code_with_scope.ensures) in
-    if_ok c.read_code.result c.read_code.ensures.ok (λ v m.
-    second c.args.doubles c.args.depth k l c.args.reader.now s us rest d (option_map bson_view v) held.ok held.shorter
-    named
-    (subst (λ x. ObjectReads c.args.doubles c.args.depth (put x d no_members) l us (option_map bson_view v) rest)
-    (sym keys.0)
-    (subst (λ y. ObjectReads c.args.doubles c.args.depth (put (codes "$code") d no_members) y us
-    (option_map bson_view v) rest)
-    (sym keys.1) m)))
+    let named : read_key l.reader ≡ Some (Some j, s) = grind arith in
+    let read = c.in_ok-scope.ensures in
+    let e = read.ok.0 in
+    let so_far = l.invariant.1 in
+    let scope = option_map (λ d. option_map document_view d) c.in_ok-scope.scope in
+    let keys = code_keys k j (sym c.if-is_code_with_scope.ensures) in
+    let alone = subst (λ b. IsAlone o b k (view l.held) so_far) c.if-is_alone.true l.invariant.3 in
+    let two : IsCode o c.args.doubles true (view l.held) scope (insert_by o j e so_far) =
+    subst (λ x. IsCode o c.args.doubles true (view l.held) scope (insert_by o x e so_far)) (sym keys.1)
+    (code_then_scope o c.args.doubles (view l.held) e scope so_far
+    (subst (λ x. IsAlone o true x (view l.held) so_far) keys.0 alone) read.ok.2) in
+    if_ok c.read_code.result (c.read_code.ensures.ok (insert_by o j e so_far) two) (λ v m.
+    with_rest o c.args.doubles c.args.depth k c.args.reader.now r rest (insert_by o j e so_far) (option_map bson_view v)
+    (more_follows o c.args.depth k j c.args.reader.now l.reader s r so_far e l.invariant.2 named read.ok.1 read.shorter)
+    m)
 
-pub read_wrapped-returns-then-is_code_with_scope-clause-broken :
-    goal.read_wrapped-returns-then-is_code_with_scope-clause-broken
+pub read_wrapped-returns-then-is_code_with_scope-clause-broken : goal.read_wrapped-returns-then-is_code_with_scope-clause-broken
 read_wrapped-returns-then-is_code_with_scope-clause-broken t c =
-    let k = c.args.key.now in
-    let l = c.in-Some.other.now in
-    let s = c.read_tree.new.reader in
-    let us = c.next_key.new.self in
-    let named : read_key s ≡ Some (Some l, us) = grind arith in
-    let keys = code_keys k l (sym c.if-is_code_with_scope.ensures) in
-    if_err c.read_code.result c.read_code.ensures.broken (λ e none broken.
-    no_second c.args.depth k l c.args.reader.now s us (view c.in_ok-held.held) c.in_ok-held.ensures.ok named
-    (subst (λ y. NoObject c.args.depth y us) (sym keys.1) (none broken)))
+    let l = c.members in
+    let o = c.args.order in
+    let j = c.in-Some.other.now in
+    let s = c.next_key.new.self in
+    let r = c.read_scope.new.reader in
+    let named : read_key l.reader ≡ Some (Some j, s) = grind arith in
+    let read = c.in_ok-scope.ensures in
+    let passed = one_passed c.args.depth c.args.key.now j c.args.reader.now l.reader s r _ l.invariant.0 named
+    (by_default o (value c.args.depth s) read.ok.0 r read.ok.1) read.shorter in
+    if_err c.read_code.result c.read_code.ensures.broken (λ e none broken. passed.none (none broken))
 
-pub read_wrapped-returns-then-is_code_with_scope-clause-shorter :
-    goal.read_wrapped-returns-then-is_code_with_scope-clause-shorter
+pub read_wrapped-returns-then-is_code_with_scope-clause-shorter : goal.read_wrapped-returns-then-is_code_with_scope-clause-shorter
 read_wrapped-returns-then-is_code_with_scope-clause-shorter t c =
-    let s = c.read_tree.new.reader in
-    let us = c.next_key.new.self in
-    let named : read_key s ≡ Some (Some c.in-Some.other.now, us) = grind arith in
-    let next = read_key-shorter s (Some c.in-Some.other.now) us named in
-    let first = c.in_ok-held.ensures.shorter in
-    on_ok c.read_code.result (λ less. omega (arith, less, next, first)) c.read_code.ensures.shorter
+    let l = c.members in
+    let j = c.in-Some.other.now in
+    let s = c.next_key.new.self in
+    let named : read_key l.reader ≡ Some (Some j, s) = grind arith in
+    let next = read_key-shorter l.reader (Some j) s named in
+    let read = c.in_ok-scope.ensures in
+    on_ok c.read_code.result (λ less. omega (arith, less, next, read.shorter, l.invariant.0.shorter))
+    c.read_code.ensures.shorter
 
-pub read_wrapped-returns-in_ok-found-in-Some-clause-ok : goal.read_wrapped-returns-in_ok-found-in-Some-clause-ok
-read_wrapped-returns-in_ok-found-in-Some-clause-ok t c =
+pub read_wrapped-members-preserved : goal.read_wrapped-members-preserved
+read_wrapped-members-preserved t c =
+    let l = c.members in
+    let o = c.args.order in
     let k = c.args.key.now in
-    let l = c.in-Some.other.now in
-    let s = c.read_tree.new.reader in
-    let us = c.next_key.new.self in
-    let rest = c.read_small.new.reader in
-    let d = view c.in_ok-held.held in
-    let held = c.in_ok-held.ensures in
-    let named : read_key s ≡ Some (Some l, us) = grind arith in
-    if_ok c.read_small.result c.read_small.ensures.ok (λ v m.
-    second c.args.doubles c.args.depth k l c.args.reader.now s us rest d (option_map bson_view v) held.ok held.shorter
-    named
-    (subst (λ ms. ObjectReads c.args.doubles c.args.depth ms l us (option_map bson_view v) rest)
-    c.in_ok-found-in-Some.ensures m))
+    let j = c.in-Some.other.now in
+    let s = c.next_key.new.self in
+    let r = c.read_tree-in-Some.new.reader in
+    let named : read_key l.reader ≡ Some (Some j, s) = grind arith in
+    let read = c.in_ok-held-2.ensures in
+    let tree = view c.in_ok-held-2.held in
+    let e = by_order o (value c.args.depth s) tree r read.ok in
+    let so_far = l.invariant.1 in
+    let no : l.is_alone ≡ true → (is_code k && is_scope j) ≡ false = elim c.else-is_alone.branch [
+      | read_wrapped-else-is_alone-via-then-is_alone+else-is_code_with_scope w ↦ λ alone.
+          sym w.if-is_code_with_scope.ensures
+      | read_wrapped-else-is_alone-via-else-is_alone w ↦ λ alone. let no = w.if-is_alone.false in cc
+    ] in (
+      one_passed c.args.depth k j c.args.reader.now l.reader s r tree l.invariant.0 named read.ok read.shorter,
+      insert_by o j e.0 so_far,
+      more_follows o c.args.depth k j c.args.reader.now l.reader s r so_far e.0 l.invariant.2 named e.1 read.shorter,
+      subst (λ b. IsAlone o (l.is_alone && b) k tree (insert_by o j e.0 so_far)) (sym c.eq.ensures)
+          (alone_again o l.is_alone k j (view l.held) tree e.0 so_far no e.2 l.invariant.3),
+    )
 
-pub read_wrapped-returns-in_ok-found-in-Some-clause-broken : goal.read_wrapped-returns-in_ok-found-in-Some-clause-broken
-read_wrapped-returns-in_ok-found-in-Some-clause-broken t c =
+pub read_wrapped-returns-then-not-is_alone-clause-ok : goal.read_wrapped-returns-then-not-is_alone-clause-ok
+read_wrapped-returns-then-not-is_alone-clause-ok t c =
+    let l = c.members in
+    let o = c.args.order in
     let k = c.args.key.now in
-    let l = c.in-Some.other.now in
-    let s = c.read_tree.new.reader in
-    let us = c.next_key.new.self in
-    let named : read_key s ≡ Some (Some l, us) = grind arith in
-    if_err c.read_small.result c.read_small.ensures.broken (λ e none broken.
-    no_second c.args.depth k l c.args.reader.now s us (view c.in_ok-held.held) c.in_ok-held.ensures.ok named
-    (none broken))
+    let so_far = l.invariant.1 in
+    let wrapper : is_some (wrapper_of k) ≡ true = grind arith in
+    let no : l.is_alone ≡ false = grind arith in (
+      so_far,
+      all_follow o c.args.depth k c.args.reader.now l.reader c.next_key.new.self so_far l.invariant.2 (grind arith),
+      not_alone o c.args.doubles k (view l.held) so_far wrapper
+          (subst (λ b. IsAlone o b k (view l.held) so_far) no l.invariant.3),
+    )
 
-pub read_wrapped-returns-in_ok-found-in-Some-clause-shorter :
-    goal.read_wrapped-returns-in_ok-found-in-Some-clause-shorter
-read_wrapped-returns-in_ok-found-in-Some-clause-shorter t c =
-    let s = c.read_tree.new.reader in
-    let us = c.next_key.new.self in
-    let named : read_key s ≡ Some (Some c.in-Some.other.now, us) = grind arith in
-    let next = read_key-shorter s (Some c.in-Some.other.now) us named in
-    let first = c.in_ok-held.ensures.shorter in
-    on_ok c.read_small.result (λ less. omega (arith, less, next, first)) c.read_small.ensures.shorter
+pub read_wrapped-returns-clause-ok : goal.read_wrapped-returns-clause-ok
+read_wrapped-returns-clause-ok t c =
+    let l = c.members in
+    let o = c.args.order in
+    let k = c.args.key.now in
+    let d = view l.held in
+    let so_far = l.invariant.1 in
+    let wrapper : is_some (wrapper_of k) ≡ true = grind arith in
+    let yes : l.is_alone ≡ true = grind arith in (
+      so_far,
+      all_follow o c.args.depth k c.args.reader.now l.reader c.next_key.new.self so_far l.invariant.2 (grind arith),
+      alone_given o c.args.doubles k d so_far (option_map bson_view c.in_ok-meant.field-0) wrapper
+          (subst (λ b. IsAlone o b k d so_far) yes l.invariant.3)
+          (c.in_ok-meant.ensures (scalar_value (single_at_in c.args.doubles (wrapper_of k) d))
+          c.single_value.ensures.given),
+    )
 
-pub read_scope-returns-in_ok-read_begun-in_default : goal.read_scope-returns-in_ok-read_begun-in_default
-read_scope-returns-in_ok-read_begun-in_default t c =
-    let first : c.args.reader.now ≡ token_of c.in_ok-token.token ∷ c.next.new.self = grind arith in
-    let read = c.in_ok-read_begun-in_default.ensures in
-    let tree = ap (λ ts. converted of_json (value c.args.depth ts)) first ∙ read.ok.1 in
-    let shorter : length c.read_begun.new.reader < length c.args.reader.now =
-    omega (arith, ap length first, read.shorter) in
-    record {
-      ok = (
-        read.ok.0,
-        tree,
-        other_scope c.args.doubles c.args.depth c.in_ok-token.token c.args.reader.now c.next.new.self
-            c.read_begun.new.reader
-            read.ok.0 first c.in_default.not-BeginObject c.in_default.not-Null tree,
-      );
-      broken = tt;
-      shorter = shorter;
-    }
+-- ---- how many tokens are left
+
+pub read_code-returns-then-not-is_code-clause-shorter : goal.read_code-returns-then-not-is_code-clause-shorter
+read_code-returns-then-not-is_code-clause-shorter t c =
+    let l = c.members in
+    let ended : read_key l.reader ≡ Some (None, c.next_key.new.self) = grind arith in
+    omega (arith, l.invariant.0.1.shorter, read_key-shorter l.reader None c.next_key.new.self ended)
+
+pub read_code-returns-clause-shorter : goal.read_code-returns-clause-shorter
+read_code-returns-clause-shorter t c =
+    let l = c.members in
+    let ended : read_key l.reader ≡ Some (None, c.next_key.new.self) = grind arith in
+    omega (arith, l.invariant.0.1.shorter, read_key-shorter l.reader None c.next_key.new.self ended)
+
+pub read_wrapped-returns-then-not-is_alone-clause-shorter : goal.read_wrapped-returns-then-not-is_alone-clause-shorter
+read_wrapped-returns-then-not-is_alone-clause-shorter t c =
+    let l = c.members in
+    let ended : read_key l.reader ≡ Some (None, c.next_key.new.self) = grind arith in
+    omega (arith, l.invariant.0.shorter, read_key-shorter l.reader None c.next_key.new.self ended)
+
+pub read_wrapped-returns-clause-shorter : goal.read_wrapped-returns-clause-shorter
+read_wrapped-returns-clause-shorter t c =
+    let l = c.members in
+    let ended : read_key l.reader ≡ Some (None, c.next_key.new.self) = grind arith in
+    omega (arith, l.invariant.0.shorter, read_key-shorter l.reader None c.next_key.new.self ended)

@@ -1,0 +1,130 @@
+//! Parts of values that are read by no call of the cycle: what was read as a value, and what is held
+//! until it is known how to read it.
+ghost use Rattle.std.specs.Prelude.{◌≡◌, ◌<◌, length, option_map, string_bytes, IfOk, IfErr, OnOk};
+ghost use Rattle.std.specs.Prelude.{Result as Read};
+ghost use Rattle.json.specs.Json.{value};
+ghost use Rattle.json.specs.Lex.{tokens};
+ghost use Rattle.serde_json.specs.Read.{of_json, converted};
+ghost use Rattle.serde_json.specs.View.{view};
+ghost use Rattle.bson_wrapper.specs.Faults.{Fault, Gives};
+ghost use Rattle.bson_model.specs.Value.{Value as Meaning, document, no_pairs, pair};
+ghost use Rattle.bson_tokens.specs.Parts.{IsBroken, NoObject};
+ghost use Rattle.bson.specs.View.{bson_view, document_view};
+ghost use Rattle.bson.specs.Gathered.{gathered, FewAscend, IsInOrder};
+ghost use Rattle.bson.specs.Straight.{ObjectReads, IsHeld, HasTree, code_given, given, marked, unless_nothing};
+ghost use Rattle.bson.specs.declared.extjson.key_order.KeyOrder.TheVariants.{Ascending, AsGiven};
+ghost use Rattle.bson_tokens.specs.declared.unread.Unread.TheVariants.{Broken};
+
+use crate::bson::Bson;
+use crate::document::Document;
+use crate::extjson::key_order::KeyOrder;
+use crate::extjson::read::{read, with_scope};
+use crate::extjson::text::finished;
+use crate::extjson::text_reader::gathered::{Gathered, NOTHING, document_of, none, put};
+use bson_tokens::tree::{read_from, read_tree};
+use bson_tokens::unread::Unread;
+use bson_wrapper::error::Error;
+use bson_wrapper::form::Doubles;
+use json::{Reader, Scratch, Writer};
+use serde_json::{Map, Value};
+use std::alloc::{AllocError, Global};
+
+// The value of a tree that was read, or none where the tree means nothing.
+pub(crate) fn meant(read: Result<Bson, Error>) -> Result<Option<Bson>, AllocError>
+    ensures { (tree : Read Meaning Fault) → Gives bson_view read tree
+        → IfOk result (λ v. given tree ≡ option_map bson_view v) }
+{
+    match read {
+        Ok(value) => Ok(Some(value)),
+        Err(Error::OutOfMemory) => Err(AllocError),
+        Err(_) => Ok(None),
+    }
+}
+
+// Code with the scope that was read, null or a document, where both mean something.
+pub(crate) fn coded(code: Value, scope: Option<Option<Document>>) -> Option<Bson>
+    ensures { option_map bson_view result
+        ≡ code_given (view code) (option_map (λ d. option_map document_view d) scope) }
+{
+    match (code, scope) {
+        (Value::String(code), Some(None)) => Some(Bson::JavaScriptCode(code)),
+        (Value::String(code), Some(Some(scope))) => Some(with_scope(code, scope)),
+        _ => None,
+    }
+}
+
+// The document of the members, or none where one of them means nothing.
+pub(crate) fn document_value(alloc: Global, found: Gathered) -> Result<Option<Bson>, AllocError>
+    requires { FewAscend found }
+    ensures { IfOk result (λ v. option_map bson_view v ≡ option_map document (unless_nothing (gathered found))) }
+{
+    match document_of(alloc, found)? {
+        Some(document) => Ok(Some(Bson::Document(document))),
+        None => Ok(None),
+    }
+}
+
+// What the object means whose first key was read, where keys ascend, by a tree of its own.
+#[inline(never)]
+pub(crate) fn read_sorted(
+    alloc: Global,
+    doubles: Doubles,
+    reader: &mut Reader<'_>,
+    depth: usize,
+    key: &str,
+) -> Result<Option<Bson>, Unread>
+    ensures ok { IfOk result
+        (λ v. ObjectReads Ascending doubles depth key.now reader.old (option_map bson_view v) reader.new) }
+    ensures broken { IfErr result (λ e. e ≡ Broken → NoObject depth key.now reader.old) }
+    ensures shorter { OnOk result (length reader.new < length reader.old) }
+{
+    let members = read_from(alloc, reader, depth, key, Map::new(alloc))?;
+    Ok(meant(read(alloc, doubles, Value::Object(members)))?)
+}
+
+// The value at the key, and no other member.
+pub(crate) fn lone(alloc: Global, key: &str, value: Option<Bson>) -> Result<Gathered, AllocError>
+    ensures order { IfOk result (IsInOrder AsGiven) }
+    ensures value { (r : Read Meaning Fault) → given r ≡ option_map bson_view value
+        → IfOk result (λ now. gathered now ≡ pair key.now (marked r) no_pairs) }
+{
+    let key = String::from_str(alloc, key)?;
+    put(
+        none(alloc, KeyOrder::AsGiven),
+        key,
+        value.unwrap_or(NOTHING),
+    )
+}
+
+// The text of the value that stands next.
+pub(crate) fn text_held(
+    alloc: Global,
+    reader: &mut Reader<'_>,
+    depth: usize,
+) -> Result<String, Unread>
+    ensures ok { IfOk result (λ text. IsHeld depth reader.old (string_bytes text) reader.new) }
+    ensures broken { IfErr result (IsBroken (converted of_json (value depth reader.old))) }
+    ensures shorter { OnOk result (length reader.new < length reader.old) }
+{
+    let held = match json::Value::read(alloc, reader, depth) {
+        Ok(held) => held,
+        Err(json::Error::OutOfMemory) => return Err(Unread::OutOfMemory),
+        Err(_) => return Err(Unread::Broken),
+    };
+    let mut out = Writer::new(Vec::new(alloc));
+    out.value(&held)?;
+    let text = finished(out);
+    find_tree(alloc, text.as_str(), depth)?;
+    Ok(text)
+}
+
+// Refuses a text with a number that is out of range.
+fn find_tree(alloc: Global, text: &str, depth: usize) -> Result<(), Unread>
+    ensures ok { OnOk result (HasTree (converted of_json (value depth (tokens text.now)))) }
+    ensures broken { IfErr result (IsBroken (converted of_json (value depth (tokens text.now)))) }
+{
+    let mut scratch = Scratch::new(alloc);
+    let mut reader = Reader::new(text, &mut scratch)?;
+    drop(read_tree(alloc, &mut reader, depth)?);
+    Ok(())
+}
