@@ -10,6 +10,7 @@ it is read, before its value.
 """
 import struct
 
+import doubles
 import forms
 
 DEEPEST = 100
@@ -248,7 +249,7 @@ def written(value):
 # ---- what a reader is shown
 
 class HasNoText(Exception):
-    """A double in it is finite, or a NaN of another pattern: grammar.py has no text for it."""
+    """A double in it is a NaN of a pattern that grammar.py has no text for."""
 
 
 DOUBLE_TEXTS = {pattern: its_text for its_text, pattern in forms.DOUBLES.items()}
@@ -259,17 +260,22 @@ def shown(value):
     return forms.shown(of_texts(value))
 
 
+def in_order(value, is_relaxed):
+    """The text in a form, in which each document has its keys in its own order."""
+    return forms.in_order(of_texts(value), is_relaxed)
+
+
 def of_texts(value):
     """The value as grammar.py has it."""
     kind, content = value
     if kind == 'Double':
-        if content not in DOUBLE_TEXTS:
-            raise HasNoText
-        return kind, DOUBLE_TEXTS[content]
+        return kind, double(content)
     if kind == 'Document':
         return kind, [(key, of_texts(inner)) for key, inner in content]
     if kind == 'Array':
         return kind, [of_texts(inner) for inner in content]
+    if kind == 'JavaScriptCodeWithScope':
+        return kind, (content[0], [(key, of_texts(inner)) for key, inner in content[1]])
     if kind == 'ObjectId':
         return kind, content.hex()
     if kind == 'DbPointer':
@@ -277,6 +283,15 @@ def of_texts(value):
     if kind == 'Decimal128':
         return kind, decimal(content)
     return value
+
+
+def double(pattern):
+    """The text of a double of 64 bits (IEEE 754)."""
+    if pattern in DOUBLE_TEXTS:
+        return DOUBLE_TEXTS[pattern]
+    if pattern >> 52 & 0x7FF == 0x7FF:
+        raise HasNoText
+    return doubles.text_of(pattern)
 
 
 def decimal(content):

@@ -1,7 +1,6 @@
 """What the program writes of a value: the canonical and the relaxed form of Extended JSON v2, and the shown text.
 
-Both forms are compact JSON text, the keys of each object ascending by their bytes, or where order is kept (TAKEN) those
-of a document in its own order. The relaxed form differs in three
+Both forms are compact JSON text, the keys of each object ascending by their bytes. The relaxed form differs in three
 kinds: Int32 and Int64 are plain numbers, and a date of the years 1970 to 9999 is a text of RFC 3339.
 """
 import base64
@@ -10,7 +9,6 @@ import json
 import dates
 import decimal128
 import doubles
-from grammar import TAKEN
 
 LAST_RELAXED_DATE = 253402300799999
 
@@ -27,7 +25,12 @@ def relaxed(value):
 
 def compact(written):
     """JSON text without spaces; only quotes, backslashes and characters below U+0020 are escaped."""
-    return json.dumps(written, ensure_ascii=False, sort_keys='order' not in TAKEN, separators=(',', ':'))
+    return json.dumps(written, ensure_ascii=False, sort_keys=True, separators=(',', ':'))
+
+
+def in_order(value, is_relaxed):
+    """The compact text of a form in which the pairs of each document stand as they are, and a wrapper's keys ascend."""
+    return json.dumps(tree(value, is_relaxed), ensure_ascii=False, separators=(',', ':'))
 
 
 def tree(value, is_relaxed):
@@ -66,7 +69,7 @@ WRAPPERS = {
     'Decimal128': ('$numberDecimal', decimal128.printed),
     'ObjectId': ('$oid', str),
     'Symbol': ('$symbol', str),
-    'RegularExpression': ('$regularExpression', lambda regex: {'options': regex[1], 'pattern': regex[0]}),
+    'RegularExpression': ('$regularExpression', lambda regex: {'options': ''.join(sorted(regex[1])), 'pattern': regex[0]}),
     'Binary': ('$binary', lambda binary: {'base64': base64_of(binary[1]), 'subType': f'{binary[0]:02x}'}),
     'JavaScriptCode': ('$code', str),
     'Timestamp': ('$timestamp', lambda stamp: {'i': stamp[1], 't': stamp[0]}),

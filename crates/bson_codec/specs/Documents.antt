@@ -3,7 +3,7 @@ use Rattle.std.specs.Prelude.{◌≡◌, ◌⊎◌, ◌+◌, ℕ, List, [], ◌+
 use Rattle.std.specs.Io.{StartsWith}
 use Rattle.std.specs.Io.KnownBytes.{Appends, Consumes, IsAtEnd, Keeps}
 use Rattle.bson.specs.declared.extjson.options.Options.{Options}
-use Rattle.bson.specs.Texts.{IsTextUnder}
+use Rattle.bson.specs.Texts.{IsTextInOrder, IsTextUnder}
 use Rattle.bson_wrapper.specs.declared.form.Form.{Form}
 use Rattle.bson_model.specs.Displayed.{display_text}
 use Rattle.bson_model.specs.Normal.{writable_in}
@@ -13,7 +13,7 @@ use Rattle.bson_bytes.specs.Reading.{reads, size_at}
 use Rattle.bson_codec.specs.Errors.{IsPlacedFault}
 use Rattle.bson_codec.specs.Told.{newline, told_of}
 use Rattle.bson_codec.specs.declared.documents.Line.{Line}
-use Rattle.bson_codec.specs.declared.documents.Line.TheVariants.{Text, Shown, Nothing}
+use Rattle.bson_codec.specs.declared.documents.Line.TheVariants.{Text, TextInOrder, Shown, Nothing}
 use Rattle.bson_codec.specs.declared.documents.Run.{Run}
 use Rattle.bson_codec.specs.declared.told.RunFault.{RunFault}
 use Rattle.bson_codec.specs.declared.told.RunFault.TheVariants.{Malformed, FiniteDouble, CannotRead, CannotWrite}
@@ -25,6 +25,8 @@ use Rattle.bson_codec.specs.declared.told.RunFault.TheVariants.{OutOfMemory}
 abbrev pub WritesLine : Options → Line → Pairs → List ℕ → Type 0
 WritesLine o (Text f) ps line =
     (text : List ℕ) × IsTextUnder o.doubles f (document ps) text × (line ≡ text ++ newline)
+WritesLine o (TextInOrder f) ps line =
+    (text : List ℕ) × IsTextInOrder o.doubles f (document ps) text × (line ≡ text ++ newline)
 WritesLine o Shown ps line = line ≡ display_text (document ps) ++ newline
 WritesLine o Nothing ps line = line ≡ []
 
@@ -37,6 +39,7 @@ pub record IsLine (run : Run) (bytes line : List ℕ) : Type 0 where
 -- the document has no text in a form
 abbrev pub IsUnwritable : Options → Line → Pairs → Type 0
 IsUnwritable o (Text f) ps = writable_in o.doubles (document ps) ≡ false
+IsUnwritable o (TextInOrder f) ps = writable_in o.doubles (document ps) ≡ false
 IsUnwritable o Shown ps = ⊥
 IsUnwritable o Nothing ps = ⊥
 
@@ -127,13 +130,13 @@ IsJudged CannotRead run bytes = ⊥
 IsJudged CannotWrite run bytes = ⊥
 IsJudged OutOfMemory run bytes = Unit {0}
 
--- why the document has no text in the form, or memory ran out
-abbrev pub IsUnwritten : RunFault → Options → Form → Pairs → Type 0
-IsUnwritten (Malformed k n) o f ps = ⊥
-IsUnwritten FiniteDouble o f ps = IsUnwritable o (Text f) ps
-IsUnwritten CannotRead o f ps = ⊥
-IsUnwritten CannotWrite o f ps = ⊥
-IsUnwritten OutOfMemory o f ps = Unit {0}
+-- why the document has no such line, or memory ran out
+abbrev pub IsUnwritten : RunFault → Options → Line → Pairs → Type 0
+IsUnwritten (Malformed k n) o l ps = ⊥
+IsUnwritten FiniteDouble o l ps = IsUnwritable o l ps
+IsUnwritten CannotRead o l ps = ⊥
+IsUnwritten CannotWrite o l ps = ⊥
+IsUnwritten OutOfMemory o l ps = Unit {0}
 
 -- the line was written; or the document was refused, passed over and told so, which counts as 1
 abbrev pub IsGiven : ℕ → Run → (number start : ℕ) → List ℕ → (had holds told tells : Option (List ℕ)) → Type 0

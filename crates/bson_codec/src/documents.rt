@@ -8,7 +8,7 @@ ghost use Rattle.bson.specs.View.{document_view};
 ghost use Rattle.bson_codec.specs.Documents.{BeginsWithLength, DoneDocuments, EndsAt, EndsFor, HasNoLine, IsGiven};
 ghost use Rattle.bson_codec.specs.Documents.{IsJudged, IsLine, IsUngiven, IsUntold, IsUnwritten, WritesLine};
 ghost use Rattle.bson_codec.specs.Told.{newline, told_of};
-ghost use Rattle.bson_codec.specs.declared.documents.Line.TheVariants.{Text};
+ghost use Rattle.bson_codec.specs.declared.documents.Line.TheVariants.{Text, TextInOrder};
 ghost use Rattle.bson_codec.specs.declared.documents.Run.{Run};
 ghost use Rattle.bson_codec.specs.declared.told.RunFault.TheVariants.{OutOfMemory};
 
@@ -38,8 +38,10 @@ const MOST: u64 = u64::MAX - 1;
 /// ```
 #[derive(Clone, Copy, PartialEq, Eq, Debug)]
 pub enum Line {
-    /// Its text in a form of Extended JSON, and a newline.
+    /// Its text in a form of Extended JSON with ascending keys, and a newline.
     Text(Form),
+    /// The same with the keys of each document in its own order, at every depth.
+    TextInOrder(Form),
     /// The text of its `Display`, and a newline.
     Shown,
     /// Nothing: it is only looked at.
@@ -202,6 +204,7 @@ fn line_of(alloc: Global, run: Run, bytes: &[u8]) -> Result<Vec<u8>, RunFault>
 {
     match run.line {
         Line::Text(form) => text_line(alloc, run, form, read(alloc, run, bytes)?),
+        Line::TextInOrder(form) => ordered_line(alloc, run, form, read(alloc, run, bytes)?),
         Line::Shown => shown_line(alloc, read(alloc, run, bytes)?),
         Line::Nothing => match is_document(bytes, run.depth) {
             Ok(()) => Ok(Vec::new(alloc)),
@@ -223,12 +226,29 @@ fn read(alloc: Global, run: Run, bytes: &[u8]) -> Result<Document, RunFault>
     }
 }
 
-// The document's text in the form, and a newline.
+// The document's text in the form with ascending keys, and a newline.
 fn text_line(alloc: Global, run: Run, form: Form, document: Document) -> Result<Vec<u8>, RunFault>
     ensures ok { IfOk result (λ line. WritesLine run.options (Text form) (document_view document) line.items) }
-    ensures fault { IfErr result (λ e. IsUnwritten e run.options form (document_view document)) }
+    ensures fault { IfErr result (λ e. IsUnwritten e run.options (Text form) (document_view document)) }
 {
     match Bson::Document(document).into_text_with(alloc, run.options, form) {
+        Ok(text) => ended(text),
+        Err(WriteError::FiniteDouble) => Err(RunFault::FiniteDouble),
+        Err(WriteError::OutOfMemory) => Err(RunFault::OutOfMemory),
+    }
+}
+
+// The document's text in the form with its keys in their own order, and a newline.
+fn ordered_line(
+    alloc: Global,
+    run: Run,
+    form: Form,
+    document: Document,
+) -> Result<Vec<u8>, RunFault>
+    ensures ok { IfOk result (λ line. WritesLine run.options (TextInOrder form) (document_view document) line.items) }
+    ensures fault { IfErr result (λ e. IsUnwritten e run.options (TextInOrder form) (document_view document)) }
+{
+    match Bson::Document(document).into_text_in_order(alloc, run.options, form) {
         Ok(text) => ended(text),
         Err(WriteError::FiniteDouble) => Err(RunFault::FiniteDouble),
         Err(WriteError::OutOfMemory) => Err(RunFault::OutOfMemory),

@@ -1,5 +1,6 @@
 //! What the arguments ask for.
 use bson::extjson::{Doubles, Options};
+use bson_run::mode::Mode;
 use bson_run::order::{OnRefusal, Task};
 use std::alloc::{AllocError, Global};
 
@@ -41,6 +42,8 @@ pub struct Order {
     pub on_refusal: OnRefusal,
     /// What the input is.
     pub input: Input,
+    /// Whether a document of BSON is written with ascending keys, and not in its own order.
+    pub sorts_keys: bool,
     /// The file that the output goes to, or `-`.
     pub output: String,
     /// The files that are read, in this order; `-` is standard input.
@@ -56,6 +59,7 @@ pub fn asked_by(alloc: Global, words: Vec<String>) -> Result<Asked, AllocError> 
         options: Options::default(),
         keeps_going: false,
         input: Input::Lines,
+        sorts_keys: false,
         output: None,
         inputs: Vec::new(alloc),
         next: Next::Any,
@@ -79,6 +83,7 @@ struct Given {
     options: Options,
     keeps_going: bool,
     input: Input,
+    sorts_keys: bool,
     output: Option<String>,
     inputs: Vec<String>,
     next: Next,
@@ -131,6 +136,11 @@ impl Given {
             }
             "--whole" => self.take_input(Input::Text),
             "--bson" => self.take_input(Input::Documents),
+            "--sort-keys" => {
+                let is_first = !self.sorts_keys;
+                self.sorts_keys = true;
+                Ok(once(is_first))
+            }
             "--doubles" => {
                 let is_first = self.options.doubles == Doubles::Special;
                 self.options.doubles = Doubles::Finite;
@@ -180,27 +190,38 @@ impl Given {
         })
     }
 
-    // What all words ask for. A check has no output.
+    // Whether the options stand with the task and with one another: one text is of one file, and the
+    // first that is refused ends it; keys are sorted in the forms of BSON documents; a check has no
+    // output.
+    fn fits(&self, task: Task) -> bool {
+        if self.input == Input::Text && (self.keeps_going || self.inputs.len() > 1) {
+            return false;
+        }
+        let is_form = task == Task::Write(Mode::Canonical) || task == Task::Write(Mode::Relaxed);
+        if self.sorts_keys && !(is_form && self.input == Input::Documents) {
+            return false;
+        }
+        self.next != Next::Output && (task != Task::Check || self.output.is_none())
+    }
+
+    // What all words ask for.
     fn asked(self) -> Result<Asked, AllocError> {
+        let Some(task) = self.task else {
+            return Ok(Asked::Nothing);
+        };
+        if !self.fits(task) {
+            return Ok(Asked::Nothing);
+        }
         let Given {
             alloc,
-            task,
             options,
             keeps_going,
             input,
+            sorts_keys,
             output,
             inputs,
-            next,
+            ..
         } = self;
-        let Some(task) = task else {
-            return Ok(Asked::Nothing);
-        };
-        if input == Input::Text && (keeps_going || inputs.len() > 1) {
-            return Ok(Asked::Nothing);
-        }
-        if next == Next::Output || (task == Task::Check && output.is_some()) {
-            return Ok(Asked::Nothing);
-        }
         let output = match output {
             Some(name) => name,
             None => String::from_str(alloc, STANDARD)?,
@@ -214,6 +235,7 @@ impl Given {
                 OnRefusal::Stop
             },
             input,
+            sorts_keys,
             output,
             inputs: inputs_of(alloc, inputs)?,
         }))

@@ -3,6 +3,7 @@
 /// Where the arguments ask for nothing that it does.
 pub const USAGE: &str =
     "usage: bson_lines canonical|relaxed|show|check [--doubles] [--bson] [--keep-going|--whole] [-o FILE] [FILE ..]
+       bson_lines canonical|relaxed --bson --sort-keys [--doubles] [--keep-going] [-o FILE] [FILE ..]
 see bson_lines --help";
 
 /// What stands on standard error where there is no memory for anything else.
@@ -12,6 +13,7 @@ pub const VERSION: &str = "bson_lines 0.2.0";
 
 pub const HELP: &str =
     "usage: bson_lines canonical|relaxed|show|check [--doubles] [--bson] [--keep-going|--whole] [-o FILE] [FILE ..]
+       bson_lines canonical|relaxed --bson --sort-keys [--doubles] [--keep-going] [-o FILE] [FILE ..]
 
 Reads MongoDB Extended JSON v2, a document a line, from the files or from standard input, and writes of each line:
   canonical   its canonical form, which keeps every type
@@ -23,7 +25,8 @@ Reads MongoDB Extended JSON v2, a document a line, from the files or from standa
                           nearest to it, and a double is written as its shortest decimal; without it they are refused
   --keep-going            a refused line is told and left out, and the run goes on; without it the run ends there
   --bson                  the input is documents of BSON 1.1, one behind the other, as in a dump, and a line is written
-                          of each: in both forms with keys in ascending order; check only looks at them
+                          of each, with its keys in its own order at every depth; check only looks at them
+  --sort-keys             (with --bson, in both forms) keys come out in ascending order at every depth
   --whole                 the input, one file at most, is one text on any number of lines, and not a text a line
   -o FILE, --output FILE  the output goes to FILE, and not to standard output: whole at the end, or not at all
   -h, --help; -v, --version

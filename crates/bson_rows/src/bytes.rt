@@ -128,6 +128,8 @@ fn dump(alloc: Global, text: &str, out: &mut Answer) -> Outcome {
     let line = match line {
         "canonical" => Line::Text(Form::Canonical),
         "relaxed" => Line::Text(Form::Relaxed),
+        "canonical_in_order" => Line::TextInOrder(Form::Canonical),
+        "relaxed_in_order" => Line::TextInOrder(Form::Relaxed),
         "show" => Line::Shown,
         "check" => Line::Nothing,
         _ => return Err(Stop::NotUnderstood),
