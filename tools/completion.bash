@@ -1,6 +1,6 @@
 # Completions of bash for bson.
 _bson() {
-    local word=${COMP_WORDS[COMP_CWORD]} before=${COMP_WORDS[COMP_CWORD - 1]} it mode='' options='--doubles --output --help --version'
+    local word=${COMP_WORDS[COMP_CWORD]} before=${COMP_WORDS[COMP_CWORD - 1]} it mode='' options='--doubles --keep-order --output --help --version'
     local modes='canonical relaxed show'
     for it in "${COMP_WORDS[@]:1:COMP_CWORD-1}"; do
         case $it in

@@ -43,22 +43,15 @@ fn run_of(order: &Order) -> Run {
     Run {
         options: order.options,
         line: match order.task {
-            Task::Write(Mode::Canonical) => text_in(order, Form::Canonical),
-            Task::Write(Mode::Relaxed) => text_in(order, Form::Relaxed),
-            Task::Write(Mode::Show) => Line::Shown,
+            Task::Write(Mode::Canonical) => Line::Text(Form::Canonical),
+            Task::Write(Mode::Relaxed) => Line::Text(Form::Relaxed),
+            Task::WriteInOrder(Mode::Canonical) => Line::TextInOrder(Form::Canonical),
+            Task::WriteInOrder(Mode::Relaxed) => Line::TextInOrder(Form::Relaxed),
+            Task::Write(Mode::Show) | Task::WriteInOrder(Mode::Show) => Line::Shown,
             Task::Check => Line::Nothing,
         },
         keep_going: order.on_refusal == OnRefusal::KeepGoing,
         ..Run::default()
-    }
-}
-
-// A text in the form, with keys in the order that is asked for.
-fn text_in(order: &Order, form: Form) -> Line {
-    if order.sorts_keys {
-        Line::Text(form)
-    } else {
-        Line::TextInOrder(form)
     }
 }
 

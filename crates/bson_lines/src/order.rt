@@ -42,8 +42,6 @@ pub struct Order {
     pub on_refusal: OnRefusal,
     /// What the input is.
     pub input: Input,
-    /// Whether a document of BSON is written with ascending keys, and not in its own order.
-    pub sorts_keys: bool,
     /// The file that the output goes to, or `-`.
     pub output: String,
     /// The files that are read, in this order; `-` is standard input.
@@ -59,6 +57,7 @@ pub fn asked_by(alloc: Global, words: Vec<String>) -> Result<Asked, AllocError> 
         options: Options::default(),
         keeps_going: false,
         input: Input::Lines,
+        keeps_order: false,
         sorts_keys: false,
         output: None,
         inputs: Vec::new(alloc),
@@ -83,6 +82,7 @@ struct Given {
     options: Options,
     keeps_going: bool,
     input: Input,
+    keeps_order: bool,
     sorts_keys: bool,
     output: Option<String>,
     inputs: Vec<String>,
@@ -136,6 +136,11 @@ impl Given {
             }
             "--whole" => self.take_input(Input::Text),
             "--bson" => self.take_input(Input::Documents),
+            "--keep-order" => {
+                let is_first = !self.keeps_order;
+                self.keeps_order = true;
+                Ok(once(is_first))
+            }
             "--sort-keys" => {
                 let is_first = !self.sorts_keys;
                 self.sorts_keys = true;
@@ -191,14 +196,17 @@ impl Given {
     }
 
     // Whether the options stand with the task and with one another: one text is of one file, and the
-    // first that is refused ends it; keys are sorted in the forms of BSON documents; a check has no
-    // output.
+    // first that is refused ends it; the order of texts is kept where something is written, and keys
+    // are sorted in the forms of BSON documents; a check has no output.
     fn fits(&self, task: Task) -> bool {
         if self.input == Input::Text && (self.keeps_going || self.inputs.len() > 1) {
             return false;
         }
         let is_form = task == Task::Write(Mode::Canonical) || task == Task::Write(Mode::Relaxed);
         if self.sorts_keys && !(is_form && self.input == Input::Documents) {
+            return false;
+        }
+        if self.keeps_order && (task == Task::Check || self.input == Input::Documents) {
             return false;
         }
         self.next != Next::Output && (task != Task::Check || self.output.is_none())
@@ -217,6 +225,7 @@ impl Given {
             options,
             keeps_going,
             input,
+            keeps_order,
             sorts_keys,
             output,
             inputs,
@@ -226,8 +235,9 @@ impl Given {
             Some(name) => name,
             None => String::from_str(alloc, STANDARD)?,
         };
+        let is_in_order = keeps_order || (input == Input::Documents && !sorts_keys);
         Ok(Asked::Run(Order {
-            task,
+            task: if is_in_order { in_order(task) } else { task },
             options,
             on_refusal: if keeps_going {
                 OnRefusal::KeepGoing
@@ -235,10 +245,17 @@ impl Given {
                 OnRefusal::Stop
             },
             input,
-            sorts_keys,
             output,
             inputs: inputs_of(alloc, inputs)?,
         }))
+    }
+}
+
+// The task, with the keys of each document in their own order.
+fn in_order(task: Task) -> Task {
+    match task {
+        Task::Write(mode) => Task::WriteInOrder(mode),
+        other => other,
     }
 }
 

@@ -3,6 +3,7 @@ use crate::order::Order;
 use bson_run::convert::convert_with;
 use bson_run::explain::explain;
 use bson_run::fault::Fault;
+use bson_run::in_order::convert_in_order;
 use bson_run::mode::Mode;
 use bson_run::order::Task;
 use bson_run::refusal::Refusal;
@@ -55,6 +56,7 @@ fn read_all<R: Read>(alloc: Global, reader: &mut R) -> Result<Vec<u8>, Fault> {
 fn given(alloc: Global, order: &Order, bytes: &[u8]) -> Result<Vec<u8>, Fault> {
     match order.task {
         Task::Write(mode) => convert_with(alloc, order.options, mode, bytes),
+        Task::WriteInOrder(mode) => convert_in_order(alloc, order.options, mode, bytes),
         Task::Check => {
             convert_with(alloc, order.options, Mode::Canonical, bytes)?;
             Ok(Vec::new(alloc))

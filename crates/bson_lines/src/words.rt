@@ -3,6 +3,7 @@
 /// Where the arguments ask for nothing that it does.
 pub const USAGE: &str =
     "usage: bson_lines canonical|relaxed|show|check [--doubles] [--bson] [--keep-going|--whole] [-o FILE] [FILE ..]
+       bson_lines canonical|relaxed|show --keep-order [--doubles] [--keep-going|--whole] [-o FILE] [FILE ..]
        bson_lines canonical|relaxed --bson --sort-keys [--doubles] [--keep-going] [-o FILE] [FILE ..]
 see bson_lines --help";
 
@@ -13,6 +14,7 @@ pub const VERSION: &str = "bson_lines 0.2.0";
 
 pub const HELP: &str =
     "usage: bson_lines canonical|relaxed|show|check [--doubles] [--bson] [--keep-going|--whole] [-o FILE] [FILE ..]
+       bson_lines canonical|relaxed|show --keep-order [--doubles] [--keep-going|--whole] [-o FILE] [FILE ..]
        bson_lines canonical|relaxed --bson --sort-keys [--doubles] [--keep-going] [-o FILE] [FILE ..]
 
 Reads MongoDB Extended JSON v2, a document a line, from the files or from standard input, and writes of each line:
@@ -23,6 +25,8 @@ Reads MongoDB Extended JSON v2, a document a line, from the files or from standa
 
   --doubles               finite doubles are taken: a number that is no whole one of 64 bits is read as the double
                           nearest to it, and a double is written as its shortest decimal; without it they are refused
+  --keep-order            (not with check or --bson) each document has its keys in the order of the text, at every depth,
+                          the last value of a key that stands twice at its first place; else they come out ascending
   --keep-going            a refused line is told and left out, and the run goes on; without it the run ends there
   --bson                  the input is documents of BSON 1.1, one behind the other, as in a dump, and a line is written
                           of each, with its keys in its own order at every depth; check only looks at them

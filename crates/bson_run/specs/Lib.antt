@@ -1,4 +1,5 @@
 pub mod Convert
+pub mod InOrder
 pub mod Lines
 pub mod LinesSteps
 pub mod Place

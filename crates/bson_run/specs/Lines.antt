@@ -6,6 +6,7 @@ use Rattle.std.specs.List.{starts_with}
 use Rattle.std.specs.Io.KnownBytes.{Appends, Consumes}
 use Rattle.bson.specs.declared.extjson.options.Options.{Options}
 use Rattle.bson_run.specs.Convert.{default_options, ConvertsIn, IsRefusedIn, newline}
+use Rattle.bson_run.specs.InOrder.{ConvertsInOrder}
 use Rattle.bson_run.specs.Place.{IsWhere}
 use Rattle.bson_run.specs.Run.{ReadsAll, WritesBeginning, WritesPart}
 use Rattle.bson_run.specs.Words.{words_of}
@@ -16,7 +17,7 @@ use Rattle.bson_run.specs.declared.mode.Mode.TheVariants.{Canonical}
 use Rattle.bson_run.specs.declared.order.OnRefusal.{OnRefusal}
 use Rattle.bson_run.specs.declared.order.OnRefusal.TheVariants.{Stop}
 use Rattle.bson_run.specs.declared.order.Task.{Task}
-use Rattle.bson_run.specs.declared.order.Task.TheVariants.{Write, Check}
+use Rattle.bson_run.specs.declared.order.Task.TheVariants.{Write, WriteInOrder, Check}
 
 -- ---- the lines of an input
 
@@ -44,9 +45,11 @@ text_of before line = if (before == 0) && starts_with (λ x y. x == y) line byte
 abbrev pub IsBlank : List ℕ → Type 0
 IsBlank text = All (λ x. (x ≡ 32) ⊎ ((x ≡ 9) ⊎ (x ≡ 13))) text
 
--- what is written of a text that is accepted: its output in the mode, or nothing where it is only checked
+-- what is written of a text that is accepted: its output in the mode, by ascending key or in the order of its keys, or
+-- nothing where it is only checked
 abbrev pub WritesIn : Options → Task → List ℕ → List ℕ → Type 0
 WritesIn o (Write mode) text output = ConvertsIn o mode text output
+WritesIn o (WriteInOrder mode) text output = ConvertsInOrder o mode text output
 WritesIn o Check text output = ((whole : List ℕ) × ConvertsIn o Canonical text whole) × (output ≡ [])
 
 -- the text is refused for the fault; one that is blank is not

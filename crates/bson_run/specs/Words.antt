@@ -5,7 +5,7 @@ use Rattle.bson_place.specs.declared.place.Reason.TheVariants as reason
 use Rattle.bson_run.specs.declared.mode.Mode.{Mode}
 use Rattle.bson_run.specs.declared.mode.Mode.TheVariants as mode
 use Rattle.bson_run.specs.declared.order.Task.{Task}
-use Rattle.bson_run.specs.declared.order.Task.TheVariants.{Write, Check}
+use Rattle.bson_run.specs.declared.order.Task.TheVariants.{Write, WriteInOrder, Check}
 use Rattle.bson_run.specs.declared.fault.Fault.{Fault}
 use Rattle.bson_run.specs.declared.fault.Fault.TheVariants as fault
 
@@ -16,6 +16,7 @@ name_of mode.Show = codes "show"
 
 abbrev pub task_name : Task → List ℕ
 task_name (Write mode) = name_of mode
+task_name (WriteInOrder mode) = name_of mode
 task_name Check = codes "check"
 
 abbrev pub words_for : Reason → List ℕ

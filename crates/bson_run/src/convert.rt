@@ -10,6 +10,7 @@ ghost use Rattle.bson_run.specs.Convert.{Converts, ConvertsIn, IsOutputIn, IsRef
 ghost use Rattle.bson.specs.declared.extjson.options.Options.{Options};
 ghost use Rattle.bson_run.specs.Convert.{default_options, IsConverted, IsWritable, newline};
 ghost use Rattle.bson.specs.TextMeaning.{IsTextOf, HasTextMeaningIn, IsTextFaultIn};
+ghost use Rattle.bson.specs.declared.extjson.text_error.TextError.{TextError};
 
 use crate::fault::Fault;
 use crate::mode::Mode;
@@ -113,10 +114,11 @@ pub(crate) fn meaning(alloc: Global, options: Options, bytes: &[u8]) -> Result<B
     }
 }
 
-// The fault of bytes that are refused so.
-fn refused(error: TextError) -> Fault
-    ensures { (options : Options) (bytes : List ℕ) → IsTextFaultIn options.doubles bytes error
+/// The fault of bytes that are refused so.
+pub(crate) fn refused(error: TextError) -> Fault
+    ensures cause { (options : Options) (bytes : List ℕ) → IsTextFaultIn options.doubles bytes error
         → IsRefusedIn options result bytes }
+    ensures memory { error ≡ TextError.OutOfMemory → result ≡ Fault.OutOfMemory }
 {
     match error {
         TextError::NotJson => Fault::NotJson,
@@ -157,8 +159,8 @@ fn value_output(alloc: Global, options: Options, mode: Mode, value: Bson) -> Res
     }
 }
 
-// The text that shows the value, and a newline.
-fn displayed_line(alloc: Global, value: &Bson) -> Result<Vec<u8>, Fault>
+/// The text that shows the value, and a newline.
+pub(crate) fn displayed_line(alloc: Global, value: &Bson) -> Result<Vec<u8>, Fault>
     ensures ok { IfOk result (λ line. line.items ≡ display_text (bson_view value.now) ++ newline) }
     ensures fault { IfErr result (λ fault. fault ≡ Fault.OutOfMemory) }
 {
@@ -168,8 +170,8 @@ fn displayed_line(alloc: Global, value: &Bson) -> Result<Vec<u8>, Fault>
     }
 }
 
-// The text, and a newline.
-fn line(text: String) -> Result<Vec<u8>, Fault>
+/// The text, and a newline.
+pub(crate) fn line(text: String) -> Result<Vec<u8>, Fault>
     ensures ok { IfOk result (λ line. line.items ≡ string_bytes text ++ newline) }
     ensures fault { IfErr result (λ fault. fault ≡ Fault.OutOfMemory) }
 {

@@ -14,6 +14,7 @@ ghost use Rattle.bson.specs.declared.extjson.options.Options.{Options};
 use crate::convert::convert_with;
 use crate::explain::explain;
 use crate::fault::Fault;
+use crate::in_order::convert_in_order;
 use crate::mode::Mode;
 use crate::order::{OnRefusal, Task};
 use crate::refusal::Refusal;
@@ -75,6 +76,7 @@ fn judge(alloc: Global, options: Options, task: Task, text: &[u8]) -> Result<Opt
     }
     match task {
         Task::Write(mode) => Ok(Some(convert_with(alloc, options, mode, text)?)),
+        Task::WriteInOrder(mode) => Ok(Some(convert_in_order(alloc, options, mode, text)?)),
         Task::Check => {
             convert_with(alloc, options, Mode::Canonical, text)?;
             Ok(Some(Vec::new(alloc)))

@@ -20,6 +20,8 @@ use crate::mode::Mode;
 pub enum Task {
     /// Its output in the mode is written.
     Write(Mode),
+    /// The same, with the keys of each document in the order of the text.
+    WriteInOrder(Mode),
     /// It is only judged, and nothing is written.
     Check,
 }

@@ -10,6 +10,7 @@ use std::str;
 pub(crate) enum Call {
     Run(Mode),
     Convert(Mode),
+    ConvertInOrder(Mode),
     RunLines(Task, OnRefusal),
 }
 
@@ -42,13 +43,16 @@ pub(crate) fn order_of(line: &[u8]) -> Option<Order> {
     })
 }
 
-/// `MODE`, `convert:MODE`, or `lines:TASK:stop` or `lines:TASK:keep-going`.
+/// `MODE`, `convert:MODE`, `in_order:MODE`, or `lines:TASK:stop` or `lines:TASK:keep-going`.
 fn call_of(word: &str) -> Option<Call> {
     let Some((name, rest)) = word.split_once(':') else {
         return Some(Call::Run(Mode::from_name(word)?));
     };
     if name == "convert" {
         return Some(Call::Convert(Mode::from_name(rest)?));
+    }
+    if name == "in_order" {
+        return Some(Call::ConvertInOrder(Mode::from_name(rest)?));
     }
     if name != "lines" {
         return None;

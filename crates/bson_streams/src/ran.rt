@@ -1,7 +1,10 @@
 //! A run, and what is told of it.
 use crate::failing::{Drip, Pieces};
 use crate::order::{Call, Order};
+use bson::extjson::Options;
 use bson_run::convert::convert;
+use bson_run::fault::Fault;
+use bson_run::in_order::convert_in_order;
 use bson_run::lines::run_lines;
 use bson_run::mode::Mode;
 use bson_run::order::{OnRefusal, Task};
@@ -47,7 +50,15 @@ pub(crate) fn ran(alloc: Global, order: Order, input: &[u8]) -> Result<Vec<u8>, 
     let mut ends = Ends::of(alloc, order, input)?;
     let answer = match order.call {
         Call::Run(mode) => whole(alloc, mode, &mut ends)?,
-        Call::Convert(mode) => converted(alloc, mode, input, &mut ends)?,
+        Call::Convert(mode) => converted(alloc, convert(alloc, mode, input), &mut ends)?,
+        Call::ConvertInOrder(mode) => {
+            let options = Options::default();
+            converted(
+                alloc,
+                convert_in_order(alloc, options, mode, input),
+                &mut ends,
+            )?
+        }
         Call::RunLines(task, on_refusal) => by_lines(alloc, task, on_refusal, &mut ends)?,
     };
     told(
@@ -66,15 +77,14 @@ fn whole(alloc: Global, mode: Mode, ends: &mut Ends<'_>) -> Result<String, Alloc
     }
 }
 
-/// The answer of `convert`, as that of `run`. What it gives stands where a writer would have taken
-/// it.
+/// The answer of `convert` or `convert_in_order`, as that of `run`. What it gave stands where a
+/// writer would have taken it.
 fn converted(
     alloc: Global,
-    mode: Mode,
-    input: &[u8],
+    answer: Result<Vec<u8>, Fault>,
     ends: &mut Ends<'_>,
 ) -> Result<String, AllocError> {
-    match convert(alloc, mode, input) {
+    match answer {
         Ok(output) => {
             ends.writer.taken = output;
             String::from_str(alloc, "done")

@@ -1,5 +1,7 @@
 //! From texts to texts, whole and by lines.
+use bson::extjson::Options;
 use bson_run::convert::convert;
+use bson_run::in_order::convert_in_order;
 use bson_run::lines::run_lines;
 use bson_run::mode::{Mode, mode_of};
 use bson_run::order::{OnRefusal, Task};
@@ -9,6 +11,7 @@ use std::alloc::Global;
 
 pub(crate) fn print(rt: &impl Print, alloc: Global) -> anyhow::Result<()> {
     convert_call(rt, alloc)?;
+    convert_in_order_call(rt, alloc)?;
     mode(rt, alloc)?;
     fault(rt, alloc)?;
     counts(rt, alloc)?;
@@ -21,6 +24,14 @@ pub(crate) fn print(rt: &impl Print, alloc: Global) -> anyhow::Result<()> {
 fn convert_call(rt: &impl Print, alloc: Global) -> anyhow::Result<()> {
     if let Ok(line) = convert(alloc, Mode::Relaxed, br#"{"$numberLong": "5"}"#) {
         rt.print(str::from_utf8(&line)?)?; // 5
+    }
+    Ok(())
+}
+
+fn convert_in_order_call(rt: &impl Print, alloc: Global) -> anyhow::Result<()> {
+    let text = br#"{"find": "orders", "batchSize": {"$numberInt": "10"}}"#;
+    if let Ok(line) = convert_in_order(alloc, Options::default(), Mode::Relaxed, text) {
+        rt.print(str::from_utf8(&line)?)?; // {"find":"orders","batchSize":10}
     }
     Ok(())
 }

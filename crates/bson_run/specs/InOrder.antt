@@ -1,0 +1,32 @@
+-- What converting makes of bytes in the order of their keys.
+use Rattle.std.specs.Prelude.{◌≡◌, ℕ, List, ◌++◌, IsUtf8}
+use Rattle.bson_wrapper.specs.declared.form.Doubles.{Doubles}
+use Rattle.bson_wrapper.specs.declared.form.Form.{Form}
+use Rattle.bson_wrapper.specs.declared.form.Form.TheVariants as form
+use Rattle.bson_model.specs.Displayed.{display_text}
+use Rattle.bson_model.specs.Value.{Value}
+use Rattle.bson_order.specs.Texts.{HasMeaningInOrder}
+use Rattle.bson.specs.Texts.{IsTextInOrder}
+use Rattle.bson.specs.declared.extjson.options.Options.{Options}
+use Rattle.bson_run.specs.Convert.{newline}
+use Rattle.bson_run.specs.declared.mode.Mode.{Mode}
+use Rattle.bson_run.specs.declared.mode.Mode.TheVariants.{Canonical, Relaxed, Show}
+
+-- the line of the value's text in its own order in a form
+pub record IsLineInOrder (D : Doubles) (f : Form) (value : Value) (output : List ℕ) : Type 0 where
+  pub text : List ℕ
+  pub is_text : IsTextInOrder D f value text
+  pub line : output ≡ text ++ newline
+
+-- that line, or the text that shows the value and a newline
+abbrev pub IsOutputInOrder : Options → Mode → Value → List ℕ → Type 0
+IsOutputInOrder o Canonical value output = IsLineInOrder o.doubles form.Canonical value output
+IsOutputInOrder o Relaxed value output = IsLineInOrder o.doubles form.Relaxed value output
+IsOutputInOrder o Show value output = output ≡ display_text value ++ newline
+
+-- the bytes are a text that means the value in the order of its keys, and this is the value's output
+pub record ConvertsInOrder (o : Options) (mode : Mode) (bytes output : List ℕ) : Type 0 where
+  pub value : Value
+  pub utf8 : IsUtf8 bytes
+  pub meaning : HasMeaningInOrder o.doubles bytes value
+  pub is_output : IsOutputInOrder o mode value output

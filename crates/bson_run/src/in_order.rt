@@ -1,0 +1,66 @@
+//! One text to another in the order of its keys: from bytes to bytes.
+ghost use Rattle.std.specs.Prelude.{◌≡◌, IfOk, IfErr, ℕ, List, true};
+ghost use Rattle.serde_json.specs.Data.{Data};
+ghost use Rattle.bson_model.specs.Means.{MeansIn};
+ghost use Rattle.bson_model.specs.Normal.{writable_in};
+ghost use Rattle.bson_model.specs.Value as model;
+ghost use Rattle.bson.specs.View.{bson_view};
+ghost use Rattle.bson.specs.TextMeaning.{IsTextOf};
+ghost use Rattle.bson_run.specs.Convert.{IsRefusedIn};
+ghost use Rattle.bson_run.specs.InOrder.{ConvertsInOrder, IsOutputInOrder};
+
+use crate::convert::{displayed_line, line, refused};
+use crate::fault::Fault;
+use crate::mode::Mode;
+use bson::Bson;
+use bson::extjson::{Form, Options, WriteError};
+use std::alloc::Global;
+
+/// [`convert_with`](crate::convert::convert_with) where each document of the text has its keys in
+/// the order of the text, at every depth. Of a key that stands twice the last value counts, at the
+/// place of the first. With the order forgotten it is what `convert_with` gives, and the same bytes
+/// are refused, for the same fault.
+///
+/// ```
+/// let text = br#"{"find": "orders", "batchSize": {"$numberInt": "10"}}"#;
+/// if let Ok(line) = convert_in_order(alloc, Options::default(), Mode::Relaxed, text) {
+///     rt.print(str::from_utf8(&line)?)?; // {"find":"orders","batchSize":10}
+/// }
+/// ```
+pub fn convert_in_order(
+    alloc: Global,
+    options: Options,
+    mode: Mode,
+    bytes: &[u8],
+) -> Result<Vec<u8>, Fault>
+    ensures ok { IfOk result (λ output. ConvertsInOrder options mode bytes.now output.items) }
+    ensures one { IfOk result (λ output. (other : List ℕ) → ConvertsInOrder options mode bytes.now other
+        → other ≡ output.items) }
+    ensures accepts { (tree : Data) (value : model.Value) → IsTextOf bytes.now tree
+        → MeansIn options.doubles tree value → IfErr result (λ fault. fault ≡ Fault.OutOfMemory) }
+    ensures fault { IfErr result (λ fault. IsRefusedIn options fault bytes.now) }
+{
+    match Bson::try_from_text_in_order(alloc, options, bytes) {
+        Ok(value) => value_output(alloc, options, mode, value),
+        Err(error) => Err(refused(error)),
+    }
+}
+
+// The value's text in the mode, in its own order, and a newline.
+fn value_output(alloc: Global, options: Options, mode: Mode, value: Bson) -> Result<Vec<u8>, Fault>
+    requires { writable_in options.doubles (bson_view value) ≡ true }
+    ensures ok { IfOk result (λ output. IsOutputInOrder options mode (bson_view value) output.items) }
+    ensures fault { IfErr result (λ fault. fault ≡ Fault.OutOfMemory) }
+{
+    let text = match mode {
+        Mode::Canonical => value.into_text_in_order(alloc, options, Form::Canonical),
+        Mode::Relaxed => value.into_text_in_order(alloc, options, Form::Relaxed),
+        Mode::Show => return displayed_line(alloc, &value),
+    };
+    match text {
+        Ok(text) => line(text),
+        // What was read can be written.
+        Err(WriteError::FiniteDouble) => unreachable!(),
+        Err(WriteError::OutOfMemory) => Err(Fault::OutOfMemory),
+    }
+}
