@@ -1,0 +1,60 @@
+#!/usr/bin/env python3
+"""Compares the program with --keep-order to itself without it, on the same texts.
+
+    bench/order.py
+
+For each kind of input of bench/run.py, and for a file of a document a line, it prints the instructions with --keep-order
+over those without it, on 1 MB, as valgrind's callgrind counts them (so that what else the machine does says nothing), and
+the peak of memory of both over the size of the text, on 10 MB. bson_lines has to be built (./bson lines does).
+"""
+import os
+import random
+import re
+import subprocess
+import sys
+import tempfile
+
+sys.dont_write_bytecode = True
+from run import KINDS, TOP, generate, small_document
+
+PROGRAM = f"{TOP}/crates/bson_lines/out/bson_lines"
+COUNTED = ["valgrind", "--tool=callgrind", "--callgrind-out-file=/dev/null"]
+
+
+def lines(path, size):
+    rng, written = random.Random(20260101), 0
+    with open(path, "w") as out:
+        while written < size:
+            written += out.write(small_document(rng, written) + "\n")
+
+
+def instructions(words, path):
+    ran = subprocess.run([*COUNTED, PROGRAM, "canonical", *words, path], stdout=subprocess.DEVNULL, stderr=subprocess.PIPE, check=True)
+    return int(re.search(rb"Collected : (\d+)", ran.stderr)[1])
+
+
+def peak(words, path):
+    run = subprocess.Popen([PROGRAM, "canonical", *words, path], stdout=subprocess.DEVNULL)
+    _, status, usage = os.wait4(run.pid, 0)
+    run.returncode = status
+    if status != 0:
+        raise SystemExit(f"{path} was refused")
+    return usage.ru_maxrss * 1024
+
+
+def main():
+    inputs = [(kind[0], ["--whole"], lambda path, size, kind=kind: generate(path, *kind[1:], size)) for kind in KINDS[:-1]]
+    inputs.append(("small documents, one a line", [], lines))
+    print("| Input | Instructions | Peak over size, by default | in order |\n|---|---|---|---|")
+    with tempfile.TemporaryDirectory() as room:
+        path = f"{room}/input.json"
+        for name, words, make in inputs:
+            make(path, 1_000_000)
+            by_default, in_order = (instructions([*words, *more], path) for more in ([], ["--keep-order"]))
+            make(path, 10_000_000)
+            peaks = [peak([*words, *more], path) / os.path.getsize(path) for more in ([], ["--keep-order"])]
+            print(f"| {name} | {in_order / by_default:.2f} | {peaks[0]:.1f} | {peaks[1]:.1f} |", flush=True)
+
+
+if __name__ == "__main__":
+    main()
