@@ -2,12 +2,12 @@
 //! form that is asked for. Programs and libraries for other languages stand on this crate.
 //!
 //! In reading order: `mode` and `fault` (what is asked, and what is refused), `convert` (bytes to
-//! bytes) with `value` (bytes to a value) and
-//! `in_order` (bytes to bytes in the order of their keys), `stream` (all bytes of a reader and to a writer) and
-//! `run` (the whole way from a reader to a writer). Over lines: `order` and `refusal` (what is
-//! asked, and what is refused), `gathered` (the line that is read, and what those before it gave)
-//! and `lines` (the whole way). Why a text is refused, in words: `stop` (where bytes stop to be
-//! JSON) and `explain`. What the programs have in common stands in `program`.
+//! bytes) with `value` (bytes to a value) and `in_order` (bytes to bytes in the order of their
+//! keys), `stream` (all bytes of a reader and to a writer) and `run` (the whole way from a reader to
+//! a writer). Over lines: `order` and `refusal` (what is asked, and what is refused), `gathered`
+//! (the line that is read, and what those before it gave) and `lines` (the whole way). Why a text is
+//! refused, in words: `stop` (where bytes stop to be JSON) and `explain`. What the programs have in
+//! common stands in `program`.
 #![tactic(auto)]
 
 pub mod convert;
