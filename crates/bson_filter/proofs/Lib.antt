@@ -1,0 +1,4 @@
+pub mod Becoming
+pub mod Keys
+pub mod Members
+pub mod Passing

@@ -1,0 +1,3 @@
+pub mod Filtered
+-- what public clauses cite of the crates below, so that a caller names this crate alone
+pub use Rattle.bson_order.specs.Texts

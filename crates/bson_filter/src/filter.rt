@@ -1,0 +1,194 @@
+//! From text to text, token by token.
+ghost use Rattle.std.specs.Prelude.{◌≡◌, ◌<◌, ◌≤◌, [], length, IfOk, OnOk, string_bytes};
+ghost use Rattle.json.specs.Json.{value, items};
+ghost use Rattle.json.specs.Print.{print};
+ghost use Rattle.serde_json.specs.Read.{converted};
+ghost use Rattle.bson_order.specs.Kept.{kept, kept_items};
+ghost use Rattle.bson_filter.specs.Filtered.{IsFilteredText, TreePasses, ItemsPass, ObjectPasses};
+ghost use Rattle.bson_filter.specs.Filtered.{kept_object, inside, after_key};
+
+use crate::distinct::are_distinct;
+use crate::scalars::{filter_number, filter_wrapped};
+use crate::unfiltered::Unfiltered;
+use bson_wrapper::form::{Doubles, Form};
+use bson_wrapper::wrapper::named;
+use json::{Reader, Scratch, Token, Writer};
+use std::alloc::Global;
+
+// How deep arrays and objects may nest.
+const MAX_DEPTH: usize = 127;
+
+/// The compact text in the form of the value that the text means, each document's keys in the order
+/// of the text, at every depth: it is written as the text is read, with no value in memory.
+///
+/// `Left` says nothing of the text: it is to be read whole. It comes where the text is no JSON text
+/// of at most 127 levels, means nothing, or has in some object a key twice or code with its scope.
+pub fn filter_text(
+    alloc: Global,
+    doubles: Doubles,
+    form: Form,
+    text: &str,
+) -> Result<String, Unfiltered>
+    ensures ok { IfOk result (λ written. IsFilteredText doubles form text.now (string_bytes written)) }
+{
+    let mut scratch = Scratch::new(alloc);
+    let mut reader = Reader::new(text, &mut scratch)?;
+    let mut out = Writer::new(Vec::with_capacity(alloc, text.len())?);
+    let mut keys = Vec::new(alloc);
+    filter_value(
+        alloc,
+        doubles,
+        form,
+        &mut reader,
+        MAX_DEPTH,
+        &mut keys,
+        &mut out,
+    )?;
+    if reader.next().is_some() {
+        return Err(Unfiltered::Left);
+    }
+    Ok(finished(out))
+}
+
+// The text that was written.
+fn finished(out: Writer) -> String
+    requires { out.before ≡ [] }
+    ensures { string_bytes result ≡ print out.tokens }
+{
+    let Ok(text) = String::from_utf8(out.into_inner()) else {
+        unreachable!();
+    };
+    text
+}
+
+// The keys of the objects that are open are held, each object's behind those around it.
+#[cycle(filter)]
+fn filter_value<'a>(
+    alloc: Global,
+    doubles: Doubles,
+    form: Form,
+    reader: &mut Reader<'a>,
+    depth: usize,
+    keys: &mut Vec<&'a str>,
+    out: &mut Writer,
+) -> Result<(), Unfiltered>
+    ensures ok { OnOk result
+        (TreePasses doubles form (converted kept (value depth reader.old)) reader.new out.old.tokens out.new.tokens) }
+    ensures before { OnOk result (out.new.before ≡ out.old.before) }
+    ensures keys { OnOk result (keys.new.items ≡ keys.old.items) }
+    ensures shorter { OnOk result (length reader.new < length reader.old) }
+{
+    let token = reader.next().ok_or(Unfiltered::Left)?;
+    match token {
+        Token::String(text) => Ok(out.string(text)?),
+        Token::Number(text) => filter_number(alloc, doubles, form, text, out),
+        Token::Bool(b) => Ok(out.boolean(b)?),
+        Token::Null => Ok(out.null()?),
+        Token::EndObject | Token::EndArray | Token::Key(_) | Token::Bad => Err(Unfiltered::Left),
+        Token::BeginArray => {
+            if depth == 0 {
+                return Err(Unfiltered::Left);
+            }
+            filter_items(alloc, doubles, form, reader, depth - 1, keys, out)
+        }
+        Token::BeginObject => {
+            if depth == 0 {
+                return Err(Unfiltered::Left);
+            }
+            filter_object(alloc, doubles, form, reader, depth - 1, keys, out)
+        }
+    }
+}
+
+// A list whose bracket was read.
+#[cycle(filter)]
+fn filter_items<'a>(
+    alloc: Global,
+    doubles: Doubles,
+    form: Form,
+    reader: &mut Reader<'a>,
+    depth: usize,
+    keys: &mut Vec<&'a str>,
+    out: &mut Writer,
+) -> Result<(), Unfiltered>
+    ensures ok { OnOk result
+        (ItemsPass doubles form (converted kept_items (items (value depth) (length reader.old) reader.old)) reader.new
+        out.old.tokens out.new.tokens) }
+    ensures before { OnOk result (out.new.before ≡ out.old.before) }
+    ensures keys { OnOk result (keys.new.items ≡ keys.old.items) }
+    ensures shorter { OnOk result (length reader.new < length reader.old) }
+{
+    out.begin_array()?;
+    'items: while !reader.take_end_array() {
+        filter_value(alloc, doubles, form, reader, depth, keys, out)?;
+    }
+    Ok(out.end_array()?)
+}
+
+// An object whose brace was read.
+#[cycle(filter)]
+fn filter_object<'a>(
+    alloc: Global,
+    doubles: Doubles,
+    form: Form,
+    reader: &mut Reader<'a>,
+    depth: usize,
+    keys: &mut Vec<&'a str>,
+    out: &mut Writer,
+) -> Result<(), Unfiltered>
+    ensures ok { OnOk result
+        (ObjectPasses doubles form (kept_object (inside depth reader.old)) reader.new out.old.tokens out.new.tokens) }
+    ensures before { OnOk result (out.new.before ≡ out.old.before) }
+    ensures keys { OnOk result (keys.new.items ≡ keys.old.items) }
+    ensures shorter { OnOk result (length reader.new < length reader.old) }
+{
+    match reader.next_key()? {
+        None => {
+            out.begin_object()?;
+            Ok(out.end_object()?)
+        }
+        Some(name) => if named(name).is_some() {
+            filter_wrapped(alloc, doubles, form, reader, depth, name, out)
+        } else {
+            filter_members(alloc, doubles, form, reader, depth, name, keys, out)
+        },
+    }
+}
+
+// An object whose first key was read. No key of it is a wrapper's, and none stands twice.
+#[cycle(filter)]
+fn filter_members<'a>(
+    alloc: Global,
+    doubles: Doubles,
+    form: Form,
+    reader: &mut Reader<'a>,
+    depth: usize,
+    first: &'a str,
+    keys: &mut Vec<&'a str>,
+    out: &mut Writer,
+) -> Result<(), Unfiltered>
+    ensures ok { OnOk result
+        (ObjectPasses doubles form (kept_object (after_key depth first.now reader.old)) reader.new out.old.tokens
+        out.new.tokens) }
+    ensures before { OnOk result (out.new.before ≡ out.old.before) }
+    ensures keys { OnOk result (keys.new.items ≡ keys.old.items) }
+    ensures shorter { OnOk result (length reader.new ≤ length reader.old) }
+{
+    let open = keys.len();
+    out.begin_object()?;
+    let mut next = Some(first);
+    'members: while let Some(name) = next {
+        if named(name).is_some() {
+            return Err(Unfiltered::Left);
+        }
+        keys.push(name)?;
+        out.key(name)?;
+        filter_value(alloc, doubles, form, reader, depth, keys, out)?;
+        next = reader.next_key()?;
+    }
+    if !are_distinct(&mut keys.as_mut_slice()[open..]) {
+        return Err(Unfiltered::Left);
+    }
+    keys.truncate(open);
+    Ok(out.end_object()?)
+}
