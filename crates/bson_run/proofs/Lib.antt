@@ -3,4 +3,5 @@ mod Converting
 mod Explaining
 pub mod LinesLaws
 pub mod LinesRuns
+mod Ordered
 mod Rows

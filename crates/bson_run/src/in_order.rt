@@ -1,5 +1,5 @@
 //! One text to another in the order of its keys: from bytes to bytes.
-ghost use Rattle.std.specs.Prelude.{◌≡◌, IfOk, IfErr, ℕ, List, true};
+ghost use Rattle.std.specs.Prelude.{◌≡◌, IfOk, IfErr, IfSome, ℕ, List, true};
 ghost use Rattle.serde_json.specs.Data.{Data};
 ghost use Rattle.bson_model.specs.Means.{MeansIn};
 ghost use Rattle.bson_model.specs.Normal.{writable_in};
@@ -14,6 +14,8 @@ use crate::fault::Fault;
 use crate::mode::Mode;
 use bson::Bson;
 use bson::extjson::{Form, Options, WriteError};
+use bson_filter::filter::filter_text;
+use bson_filter::unfiltered::Unfiltered;
 use std::alloc::Global;
 
 /// [`convert_with`](crate::convert::convert_with) where each document of the text has its keys in
@@ -36,6 +38,50 @@ pub fn convert_in_order(
     ensures ok { IfOk result (λ output. ConvertsInOrder options mode bytes.now output.items) }
     ensures one { IfOk result (λ output. (other : List ℕ) → ConvertsInOrder options mode bytes.now other
         → other ≡ output.items) }
+    ensures accepts { (tree : Data) (value : model.Value) → IsTextOf bytes.now tree
+        → MeansIn options.doubles tree value → IfErr result (λ fault. fault ≡ Fault.OutOfMemory) }
+    ensures fault { IfErr result (λ fault. IsRefusedIn options fault bytes.now) }
+{
+    match filtered(alloc, options, mode, bytes)? {
+        Some(line) => Ok(line),
+        None => converted_whole(alloc, options, mode, bytes),
+    }
+}
+
+// The text that is written as the bytes are read, and a newline; none where they are to be read
+// whole.
+fn filtered(
+    alloc: Global,
+    options: Options,
+    mode: Mode,
+    bytes: &[u8],
+) -> Result<Option<Vec<u8>>, Fault>
+    ensures ok { IfOk result (λ found. IfSome found (λ output. ConvertsInOrder options mode bytes.now output.items)) }
+    ensures fault { IfErr result (λ fault. fault ≡ Fault.OutOfMemory) }
+{
+    let form = match mode {
+        Mode::Canonical => Form::Canonical,
+        Mode::Relaxed => Form::Relaxed,
+        Mode::Show => return Ok(None),
+    };
+    let Ok(text) = simdutf8::compat::from_utf8(bytes) else {
+        return Ok(None);
+    };
+    match filter_text(alloc, options.doubles, form, text) {
+        Ok(text) => Ok(Some(line(text)?)),
+        Err(Unfiltered::Left) => Ok(None),
+        Err(Unfiltered::OutOfMemory) => Err(Fault::OutOfMemory),
+    }
+}
+
+// The output of the value, which is read whole.
+fn converted_whole(
+    alloc: Global,
+    options: Options,
+    mode: Mode,
+    bytes: &[u8],
+) -> Result<Vec<u8>, Fault>
+    ensures ok { IfOk result (λ output. ConvertsInOrder options mode bytes.now output.items) }
     ensures accepts { (tree : Data) (value : model.Value) → IsTextOf bytes.now tree
         → MeansIn options.doubles tree value → IfErr result (λ fault. fault ≡ Fault.OutOfMemory) }
     ensures fault { IfErr result (λ fault. IsRefusedIn options fault bytes.now) }
