@@ -1,7 +1,7 @@
 -- What a tree becomes, from what its parts become.
-use Rattle.std.proofs.Common.{◌≡◌, ℕ, List, true, false, Ok, refl, ap}
+use Rattle.std.proofs.Common.{◌≡◌, ℕ, List, codes, true, false, Ok, refl, ap}
 use Rattle.std.specs.Prelude.{is_some}
-use Rattle.serde_json.specs.Data.{Data, array, object, Items, item, Members, no_members, member}
+use Rattle.serde_json.specs.Data.{Data, string, array, object, Items, item, Members, no_members, member}
 use Rattle.bson_wrapper.specs.Reading.{single_at_in}
 use Rattle.bson_wrapper.specs.Scalar.{Scalar}
 use Rattle.bson_wrapper.specs.Table.{wrapper_of, has_wrapper}
@@ -10,6 +10,7 @@ use Rattle.bson_wrapper.specs.declared.form.Doubles.{Doubles}
 use Rattle.bson_wrapper.specs.declared.form.Form.{Form}
 use Rattle.bson_model.specs.Reading.{scalar_value}
 use Rattle.bson_model.specs.Value as model
+use Rattle.bson_model.specs.Writing.{with_scope}
 use Rattle.bson_model.specs.Value.{Value}
 use Rattle.bson_order.specs.Kept.{unordered}
 use Rattle.bson_filter.specs.Filtered.{Becomes, ItemsBecome, MembersBecome}
@@ -35,3 +36,8 @@ module _ (D : Doubles) (f : Form) where
       → single_at_in D (wrapper_of k) (unordered d) ≡ Ok x → writes_scalar_in D f x ≡ Ok u
       → Becomes D f (object (member k d no_members)) u
   wrapper_becomes k d u x is r w = (model.scalar x, rw is (ap scalar_value r), w)
+
+  pub code_becomes : (s : List ℕ) (d : Data) (ms us : Members) → unordered d ≡ string s → MembersBecome D f ms us
+      → Becomes D f (object (member (codes "$code") d (member (codes "$scope") (object ms) no_members)))
+      (with_scope s us)
+  code_becomes s d ms us is (ps, r, w) = (model.code_scope s ps, rw (is, r) refl, rw w refl)

@@ -1,4 +1,6 @@
 pub mod Becoming
 pub mod Keys
 pub mod Members
+pub mod Objects
 pub mod Passing
+pub mod Wrappers

@@ -2,9 +2,9 @@
 --
 -- Of a list or an object that is open it is told what the whole will be, whatever the rest turns out to be. So each
 -- turn puts one item or member before that rest, and nothing is ever put behind what was read.
-use Rattle.std.proofs.Common.{◌≡◌, ℕ, zero, suc, ◌-◌, ◌<◌, ◌≤◌, List, [], ◌∷◌, ◌++◌, length, map, Option, Some, None}
-use Rattle.std.proofs.Common.{Result, Ok, Err, OnOk, Bor, true, false, option_map, option_and_then, refl, sym, ap, ◌∙◌}
-use Rattle.std.proofs.Common.{arith, append_assoc, append-nil, subst, drop, is_some}
+use Rattle.std.proofs.Common.{◌≡◌, ℕ, ◌-◌, ◌<◌, ◌≤◌, List, [], ◌∷◌, ◌++◌, length, Option, Some, None}
+use Rattle.std.proofs.Common.{Result, Ok, Err, OnOk, true, false, option_map, option_and_then, refl, sym, ap, ◌∙◌}
+use Rattle.std.proofs.Common.{Bool, append_assoc, subst}
 use Rattle.json.specs.Json as json
 use Rattle.json.specs.Json.{Parse, parse_map, after_end_array, read_key, items, members, members_step, value, if_last}
 use Rattle.json.specs.Lex.{tokens}
@@ -13,139 +13,28 @@ use Rattle.json.specs.Strict.{AreDistinct}
 use Rattle.json.specs.Token as token
 use Rattle.json.specs.Token.{Token}
 use Rattle.json.specs.Tree.{items_tokens, members_tokens}
-use Rattle.json.proofs.Grammar.{items_end, items_more, members_end, read_key_is, value_is, value-begin_array}
+use Rattle.json.proofs.Grammar.{items_end, items_more, value_is, value-begin_array}
 use Rattle.json.proofs.Grammar.{value-begin_object}
-use Rattle.serde_json.specs.Data.{Data, Num, array, object, number, Items, no_items, item, Members, no_members, member}
-use Rattle.serde_json.specs.Read.{of_json, converted, number_of}
+use Rattle.serde_json.specs.Data.{Data, array, object, number, Items, no_items, item, Members, no_members, member}
+use Rattle.serde_json.specs.Read.{converted, number_of}
 use Rattle.serde_json.specs.Written.{items_outline, members_outline}
 use Rattle.serde_json.proofs.Texts.{print-outline}
-use Rattle.bson_wrapper.specs.Reading.{number_read_in, single_at_in}
-use Rattle.bson_wrapper.specs.Scalar.{Scalar}
 use Rattle.bson_wrapper.specs.Table.{wrapper_of, has_wrapper}
-use Rattle.bson_wrapper.specs.declared.wrapper.Wrapper.{Wrapper}
-use Rattle.bson_wrapper.specs.Tokens.{tokens_of, Puts}
-use Rattle.bson_wrapper.specs.Written.{Refusal, writes_scalar_in}
+use Rattle.bson_wrapper.specs.Tokens.{tokens_of}
 use Rattle.bson_wrapper.specs.declared.form.Doubles.{Doubles}
 use Rattle.bson_wrapper.specs.declared.form.Form.{Form}
-use Rattle.bson_model.specs.Reading.{scalar_value}
 use Rattle.bson_model.specs.Value as model
-use Rattle.bson_order.specs.Kept.{kept, kept_items, kept_members, unordered}
-use Rattle.bson_order.proofs.Offered.{forgotten, means_from, text_means, written_from, ordered_text}
+use Rattle.bson_order.specs.Kept.{kept, kept_items}
+use Rattle.bson_order.proofs.Offered.{means_from, text_means, written_from, ordered_text}
 use Rattle.bson_tokens.proofs.Offered.{was_read}
 use Rattle.bson_filter.specs.Filtered.{IsFilteredText, ItemsBecome, MembersBecome, TreePasses, ItemsPass}
-use Rattle.bson_filter.specs.Filtered.{ObjectPasses, NumberPasses, kept_object, inside, after_key}
-use Rattle.bson_filter.proofs.Becoming.{item_becomes, member_becomes, array_becomes, object_becomes, wrapper_becomes}
+use Rattle.bson_filter.specs.Filtered.{MembersPass, ObjectPasses, NumberPasses}
+use Rattle.bson_filter.specs.Filtered.{kept_object, inside, from_key}
+use Rattle.bson_filter.proofs.Becoming.{item_becomes, member_becomes, array_becomes, object_becomes}
 use Rattle.bson_filter.proofs.Members.{names, as_they_stand, kept_as_they_stand}
-
-abbrev pub Key : Type 0
-Key = Bor (List ℕ)
-
-abbrev pub texts : List Key → List (List ℕ)
-texts ks = map (λ k. k.now) ks
-
-pub append_none : {A : Type 0} (xs : List A) → xs ++ [] ≡ xs
-append_none xs = append-nil xs
-
-texts_more : (ks : List Key) (k : Key) (ns : List (List ℕ)) → texts ks ++ k.now ∷ ns ≡ texts (ks ++ k ∷ []) ++ ns
-texts_more [] k ns = refl
-texts_more (l ∷ ks) k ns = ap (λ x. l.now ∷ x) (texts_more ks k ns)
-
-drop_first : (old ks : List Key) → drop (length old) (old ++ ks) ≡ ks
-drop_first [] ks = refl
-drop_first (k ∷ old) ks = drop_first old ks
-
--- the keys that were held behind the old ones
-pub pushed : (old ks all : List Key) → all ≡ old ++ ks → AreDistinct (texts (drop (length old) all))
-    → AreDistinct (texts ks)
-pushed old ks all e h = subst (λ x. AreDistinct (texts x)) (ap (drop (length old)) e ∙ drop_first old ks) h
-
-pub ordinary : {W : Type 0} (o p : Option W) → o ≡ p → is_some o ≡ false → p ≡ None
-ordinary None p e h = sym e
-ordinary (Some w) p e h = cc
-
--- the first member of those from a key on that was read
-step_more : (p : Parse json.Json) (n : ℕ) (k : List ℕ) (ts r s : List Token) (next : Option (List ℕ)) (j : json.Json)
-    (x : Option (json.Members × List Token)) → 0 < n → p ts ≡ Some (j, r) → read_key r ≡ Some (next, s)
-    → members_step p (members p (n - 1)) next s ≡ x
-    → members_step p (members p n) (Some k) ts ≡ parse_map (json.member k j) x
-unfolding members
-step_more p zero k ts r s next j x left first named here = let never : ⊥ = omega arith in absurd never
-step_more p (suc n) k ts r s next j x left first named here =
-    let less : n ≡ suc n - 1 = omega arith in
-    ap (option_and_then (λ q. parse_map (json.member k q.0) (members p (suc n) q.1))) first
-    ∙ ap (λ o. parse_map (json.member k j) (option_and_then (λ q. members_step p (members p n) q.0 q.1) o)) named
-    ∙ ap (λ m. parse_map (json.member k j) (members_step p (members p m) next s)) less
-    ∙ ap (parse_map (json.member k j)) here
-
--- an object whose first key was read
-begun_at : (p : Parse json.Json) (k : List ℕ) (s : List Token)
-    → members p (length (token.key k ∷ s)) (token.key k ∷ s) ≡ members_step p (members p (length s)) (Some k) s
-unfolding members
-begun_at p k s = refl
-
-pub begins_with_key : (depth : ℕ) (k : List ℕ) (ts s : List Token) → read_key ts ≡ Some (Some k, s)
-    → inside depth ts ≡ after_key depth k s
-begins_with_key depth k ts s h =
-    ap (inside depth) (read_key_is ts (Some k) s h) ∙ begun_at (value depth) k s
-
--- ---- an object of one key
-
-mapped : {A B : Type 0} (g : A → B) (x : Option A) (b : B) → option_map g x ≡ Some b
-    → (a : A) × (x ≡ Some a) × (g a ≡ b)
-mapped g None b h = cc
-mapped g (Some a) b h = (a, refl, cc)
-
--- the tree in order of what has a tree by default
-kept_from : (j : json.Json) (held : Data) → of_json j ≡ Some held
-    → (d : Data) × (kept j ≡ Some d) × (unordered d ≡ held)
-kept_from j held h = mapped unordered (kept j) held (sym (forgotten j) ∙ h)
-
-alone : (depth : ℕ) (k : List ℕ) (ts r s : List Token) (j : json.Json) → length r < length ts
-    → value depth ts ≡ Some (j, r) → read_key r ≡ Some (None, s)
-    → after_key depth k ts ≡ Some (json.member k j json.no_members, s)
-alone depth k ts r s j less read ended =
-    ap (option_and_then (λ q. parse_map (json.member k q.0) (members (value depth) (length ts) q.1))) read
-    ∙ ap (parse_map (json.member k j)) (members_end (value depth) (length ts) r s (omega (arith, less)) ended)
-
-alone_kept : (k : List ℕ) (j : json.Json) (d : Data) (s : List Token) → kept j ≡ Some d
-    → kept_object (Some (json.member k j json.no_members, s)) ≡ Some (member k d no_members, s)
-alone_kept k j d s h =
-    ap (λ o. option_map (λ ms. (ms, s)) (option_and_then (λ e. Some (member k e no_members)) o)) h
+use Rattle.bson_filter.proofs.Objects.{Key, texts, append_none, texts_more, step_more, begins, object_of}
 
 module _ (D : Doubles) (f : Form) where
-  -- ---- scalars
-
-  has_key_of_wrapper : (o : Option Wrapper) (d : Data) (x : Scalar) → single_at_in D o d ≡ Ok x → is_some o ≡ true
-  has_key_of_wrapper (Some w) d x h = refl
-  has_key_of_wrapper None d x h = cc
-
-  printed : (done : Unit {0}) (w : Result Data Refusal) (old new : List Token) → Puts (Ok done) w old new
-      → (u : Data) × (w ≡ Ok u) × (new ≡ old ++ tokens_of u)
-  printed done (Ok u) old new h = (u, refl, h)
-  printed done (Err e) old new h = absurd h
-
-  pub number_written : (done : Unit {0}) (o : Option Num) (n : Num) (x : Scalar) (old new : List Token) → o ≡ Some n
-      → number_read_in D n ≡ Ok x → Puts (Ok done) (writes_scalar_in D f x) old new → NumberPasses D f o old new
-  number_written done o n x old new is read written =
-      let w = printed done (writes_scalar_in D f x) old new written in
-      (n, w.0, is, (model.scalar x, ap scalar_value read, w.1), w.2)
-
-  pub wrapper_written : (done : Unit {0}) (depth : ℕ) (k : List ℕ) (ts r s old new : List Token) (held : Data) (x : Scalar)
-      → converted of_json (value depth ts) ≡ Some (held, r) → length r < length ts → read_key r ≡ Some (None, s)
-      → single_at_in D (wrapper_of k) held ≡ Ok x → Puts (Ok done) (writes_scalar_in D f x) old new
-      → ObjectPasses D f (kept_object (after_key depth k ts)) s old new
-  wrapper_written done depth k ts r s old new held x read less ended single written =
-      let w = printed done (writes_scalar_in D f x) old new written in
-      let j = was_read of_json (value depth ts) held r read in
-      let d = kept_from j.0 held j.2 in (
-        member k d.0 no_members,
-        w.0,
-        ap kept_object (alone depth k ts r s j.0 less j.1 ended) ∙ alone_kept k j.0 d.0 s d.1,
-        wrapper_becomes D f k d.0 w.0 x (has_key_of_wrapper (wrapper_of k) held x single)
-            (ap (single_at_in D (wrapper_of k)) d.2 ∙ single) w.1,
-        w.2,
-      )
-
   -- ---- lists
 
   abbrev pub ItemsToGo : Option (json.Items × List Token) → Option (json.Items × List Token) → List Token → List Token
@@ -198,33 +87,34 @@ module _ (D : Doubles) (f : Form) where
   -- ---- objects
 
   -- the keys are those that were read
-  abbrev pub ToGo : Option (json.Members × List Token) → Option (json.Members × List Token) → List Key → List Token
+  abbrev pub ToGo : Bool → Option (json.Members × List Token) → Option (json.Members × List Token) → List Key → List Token
       → List Token → Type 0
-  ToGo whole here keys old now =
+  ToGo b whole here keys old now =
       (js : json.Members) (r : List Token) (ts us : Members) → here ≡ Some (js, r) → as_they_stand js ≡ Some ts
-      → MembersBecome D f ts us → has_wrapper ts ≡ false
+      → MembersBecome D f ts us → (b ≡ true → has_wrapper ts ≡ false)
       → (all : json.Members) × (read : Members) × (written : Members) × (whole ≡ Some (all, r))
-      × (as_they_stand all ≡ Some read) × MembersBecome D f read written × (has_wrapper read ≡ false)
+      × (as_they_stand all ≡ Some read) × MembersBecome D f read written × (b ≡ true → has_wrapper read ≡ false)
       × (names read ≡ texts keys ++ names ts)
       × (old ++ members_tokens (members_outline written) ≡ now ++ members_tokens (members_outline us))
 
-  pub members_begun : (whole : Option (json.Members × List Token)) (old : List Token) → ToGo whole whole [] old old
-  members_begun whole old js r ts us here is becomes wrapped = (js, ts, us, here, is, becomes, wrapped, refl, refl)
+  pub members_begun : (b : Bool) (whole : Option (json.Members × List Token)) (old : List Token)
+      → ToGo b whole whole [] old old
+  members_begun b whole old js r ts us here is becomes wrapped = (js, ts, us, here, is, becomes, wrapped, refl, refl)
 
-  pub member_passed : (whole : Option (json.Members × List Token)) (p : Parse json.Json) (n : ℕ) (k : Key)
+  pub member_passed : (b : Bool) (whole : Option (json.Members × List Token)) (p : Parse json.Json) (n : ℕ) (k : Key)
       (ts r s : List Token) (next : Option (List ℕ)) (keys : List Key) (old now named later : List Token) → 0 < n
-      → wrapper_of k.now ≡ None → named ≡ now ++ token.key k.now ∷ []
+      → (b ≡ true → wrapper_of k.now ≡ None) → named ≡ now ++ token.key k.now ∷ []
       → TreePasses D f (converted kept (p ts)) r named later → read_key r ≡ Some (next, s)
-      → ToGo whole (members_step p (members p n) (Some k.now) ts) keys old now
-      → ToGo whole (members_step p (members p (n - 1)) next s) (keys ++ k ∷ []) old later
-  member_passed whole p n k ts r s next keys old now named later left ordinary begun (t, u, read, becomes, written) key
+      → ToGo b whole (members_step p (members p n) (Some k.now) ts) keys old now
+      → ToGo b whole (members_step p (members p (n - 1)) next s) (keys ++ k ∷ []) old later
+  member_passed b whole p n k ts r s next keys old now named later left ordinary begun (t, u, read, becomes, written) key
       go js end ds us here is all wrapped =
       let j = was_read kept (p ts) t r read in
       let more : members_step p (members p n) (Some k.now) ts ≡ Some (json.member k.now j.0 js, end) =
       step_more p n k.now ts r s next j.0 _ left j.1 key here in
       let rest = members_tokens (members_outline us) in
       let g = go (json.member k.now j.0 js) end (member k.now t ds) (member k.now u us) more (rw (j.2, is) refl)
-      (member_becomes D f k.now t u ds us becomes all) (rw ordinary wrapped) in (
+      (member_becomes D f k.now t u ds us becomes all) (λ is. rw (ordinary is) (wrapped is)) in (
         g.0,
         g.1,
         g.2,
@@ -239,33 +129,42 @@ module _ (D : Doubles) (f : Form) where
             ∙ append_assoc now (token.key k.now ∷ []) (tokens_of u ++ rest)),
       )
 
-  pub members_passed : (whole : Option (json.Members × List Token)) (p : Parse json.Json) (n : ℕ) (s : List Token)
-      (keys : List Key) (old begun now later : List Token) → begun ≡ old ++ token.begin_object ∷ []
+  pub members_passed : (b : Bool) (whole : Option (json.Members × List Token)) (p : Parse json.Json) (n : ℕ)
+      (s : List Token) (keys : List Key) (old begun now later : List Token) → begun ≡ old ++ token.begin_object ∷ []
       → later ≡ now ++ token.end_object ∷ [] → AreDistinct (texts keys)
-      → ToGo whole (members_step p (members p n) None s) keys begun now → ObjectPasses D f (kept_object whole) s old later
-  members_passed whole p n s keys old begun now later begin written distinct go =
-      let g = go json.no_members s no_members no_members refl refl (model.no_pairs, refl, refl) refl in
+      → ToGo b whole (members_step p (members p n) None s) keys begun now
+      → MembersPass D f b (kept_object whole) s old later
+  members_passed b whole p n s keys old begun now later begin written distinct go =
+      let g = go json.no_members s no_members no_members refl refl (model.no_pairs, refl, refl) (λ is. refl) in
       let apart : AreDistinct (names g.1) = subst AreDistinct (sym (g.7 ∙ append_none (texts keys))) distinct in
       let rest = members_tokens (members_outline g.2) in (
         g.1,
-        object g.2,
+        g.2,
         ap kept_object g.3 ∙ ap (option_map (λ d. (d, s))) (kept_as_they_stand g.0 g.1 g.4 apart),
-        object_becomes D f g.1 g.2 g.6 g.5,
+        g.5,
+        g.6,
         written ∙ sym g.8 ∙ ap (λ x. x ++ rest) begin ∙ append_assoc old (token.begin_object ∷ []) rest,
       )
 
-  -- no member
-  pub empty_passed : (depth : ℕ) (ts r old begun later : List Token) → read_key ts ≡ Some (None, r)
-      → begun ≡ old ++ token.begin_object ∷ [] → later ≡ begun ++ token.end_object ∷ []
-      → ObjectPasses D f (kept_object (inside depth ts)) r old later
-  empty_passed depth ts r old begun later ended begin written = (
-    no_members,
-    object no_members,
-    ap kept_object (members_end (value depth) (length ts) ts r (omega arith) ended),
-    object_becomes D f no_members no_members refl (model.no_pairs, refl, refl),
-    written ∙ ap (λ x. x ++ token.end_object ∷ []) begin
-        ∙ append_assoc old (token.begin_object ∷ []) (token.end_object ∷ []),
+  pub document_passes : {E : Type 0} (done : Result (Unit {0}) E) (depth : ℕ) (first : Option (List ℕ))
+      (ts s r old new : List Token) → read_key ts ≡ Some (first, s)
+      → OnOk done (MembersPass D f true (kept_object (from_key depth first s)) r old new)
+      → OnOk done (ObjectPasses D f (kept_object (inside depth ts)) r old new)
+  document_passes (Ok u) depth first ts s r old new key (ms, us, read, becomes, free, is) = (
+    ms,
+    object us,
+    ap kept_object (begins depth first ts s key) ∙ read,
+    object_becomes D f ms us (free refl) becomes,
+    is,
   )
+  document_passes (Err e) depth first ts s r old new key h = tt
+
+  pub wrapper_passes : {E : Type 0} (done : Result (Unit {0}) E) (depth : ℕ) (first : Option (List ℕ))
+      (ts s r old new : List Token) → read_key ts ≡ Some (first, s)
+      → OnOk done (ObjectPasses D f (kept_object (from_key depth first s)) r old new)
+      → OnOk done (ObjectPasses D f (kept_object (inside depth ts)) r old new)
+  wrapper_passes done depth first ts s r old new key h =
+      subst (λ ms. OnOk done (ObjectPasses D f (kept_object ms) r old new)) (sym (begins depth first ts s key)) h
 
   -- ---- a whole value
 
@@ -274,12 +173,6 @@ module _ (D : Doubles) (f : Form) where
   array_of x ts r e = let p = was_read kept_items x ts r e in
       ap (λ o. converted kept (parse_map json.array o)) p.1
       ∙ ap (λ o. option_map (λ d. (d, r)) (option_map array o)) p.2
-
-  object_of : (x : Option (json.Members × List Token)) (ms : Members) (r : List Token)
-      → kept_object x ≡ Some (ms, r) → converted kept (parse_map json.object x) ≡ Some (object ms, r)
-  object_of x ms r e = let p = was_read (λ js. kept_members js no_members) x ms r e in
-      ap (λ o. converted kept (parse_map json.object o)) p.1
-      ∙ ap (λ o. option_map (λ d. (d, r)) (option_map object o)) p.2
 
   pub array_passes : {E : Type 0} (done : Result (Unit {0}) E) (depth : ℕ) (ts s r old new : List Token)
       → ts ≡ token.begin_array ∷ s → 0 < depth

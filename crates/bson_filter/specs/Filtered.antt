@@ -1,16 +1,21 @@
 -- What a text is that was written from the tokens of another.
-use Rattle.std.specs.Prelude.{◌≡◌, ◌++◌, ℕ, List, length, Option, Some, Ok}
+use Rattle.std.specs.Prelude.{◌≡◌, ◌<◌, ◌++◌, ℕ, List, [], ◌∷◌, length, Bool, true, false, Option, None}
+use Rattle.std.specs.Prelude.{Some, Ok}
 use Rattle.json.specs.Json as json
-use Rattle.json.specs.Json.{value, members, members_step}
-use Rattle.json.specs.Token.{Token}
+use Rattle.json.specs.Json.{value, members, members_step, read_key}
+use Rattle.json.specs.Token.{Token, end_object}
 use Rattle.serde_json.specs.Data.{Data, Num, number, Items, array, Members, no_members, object}
 use Rattle.serde_json.specs.Read.{converted}
 use Rattle.serde_json.specs.Written.{compact_text}
+use Rattle.bson_wrapper.specs.Reading.{single_at_in}
+use Rattle.bson_wrapper.specs.Scalar.{Scalar}
+use Rattle.bson_wrapper.specs.Table.{wrapper_of, has_wrapper}
 use Rattle.bson_wrapper.specs.Tokens.{tokens_of}
+use Rattle.bson_wrapper.specs.Written.{writes_scalar_in}
 use Rattle.bson_wrapper.specs.declared.form.Doubles.{Doubles}
 use Rattle.bson_wrapper.specs.declared.form.Form.{Form}
 use Rattle.bson_model.specs.Value.{Value, Values, Pairs}
-use Rattle.bson_order.specs.Kept.{kept_members}
+use Rattle.bson_order.specs.Kept.{kept, kept_members}
 use Rattle.bson_order.specs.Reading.{reads_in_order, items_in_order, members_in_order}
 use Rattle.bson_order.specs.Texts.{HasMeaningInOrder, IsOrderedTextOf}
 use Rattle.bson_order.specs.Writing.{writes_in_order, values_in_order, pairs_in_order}
@@ -54,13 +59,31 @@ module _ (D : Doubles) (f : Form) where
   abbrev pub NumberPasses : Option Num → List Token → List Token → Type 0
   NumberPasses n old new = (m : Num) × (u : Data) × (n ≡ Some m) × Becomes (number m) u × (new ≡ old ++ tokens_of u)
 
+  -- the members alone, whose keys are no wrapper's where they are a document's
+  abbrev pub MembersPass : Bool → Option (Members × List Token) → List Token → List Token → List Token → Type 0
+  MembersPass is_document trees rest old new =
+      (ts : Members) × (us : Members) × (trees ≡ Some (ts, rest)) × MembersBecome ts us
+      × (is_document ≡ true → has_wrapper ts ≡ false) × (new ≡ old ++ tokens_of (object us))
+
+  -- the object of this key alone that holds the tree means a scalar, which was written
+  abbrev pub SingleWritten : List ℕ → Data → List Token → List Token → Type 0
+  SingleWritten k held old new = (x : Scalar) × (u : Data) × (single_at_in D (wrapper_of k) held ≡ Ok x)
+      × (writes_scalar_in D f x ≡ Ok u) × (new ≡ old ++ tokens_of u)
+
+  -- a scope was read and the end of the object that it stands in, and both were written
+  abbrev pub ScopePasses : ℕ → List Token → List Token → List Token → List Token → Type 0
+  ScopePasses depth ts rest old new =
+      (ms : Members) × (us : Members) × (r : List Token) × (converted kept (value depth ts) ≡ Some (object ms, r))
+      × (length r < length ts) × (read_key r ≡ Some (None, rest)) × MembersBecome ms us
+      × (new ≡ (old ++ tokens_of (object us)) ++ end_object ∷ [])
+
 -- the members of an object, in their order
 abbrev pub kept_object : Option (json.Members × List Token) → Option (Members × List Token)
 kept_object ms = converted (λ js. kept_members js no_members) ms
 
--- the members of an object whose brace was read, and from one on whose key was read
+-- the members of an object whose brace was read, and those behind a key that was read, or behind its end
 abbrev pub inside : ℕ → List Token → Option (json.Members × List Token)
 inside depth ts = members (value depth) (length ts) ts
 
-abbrev pub after_key : ℕ → List ℕ → List Token → Option (json.Members × List Token)
-after_key depth k ts = members_step (value depth) (members (value depth) (length ts)) (Some k) ts
+abbrev pub from_key : ℕ → Option (List ℕ) → List Token → Option (json.Members × List Token)
+from_key depth k ts = members_step (value depth) (members (value depth) (length ts)) k ts

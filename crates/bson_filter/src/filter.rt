@@ -1,18 +1,23 @@
 //! From text to text, token by token.
-ghost use Rattle.std.specs.Prelude.{◌≡◌, ◌<◌, ◌≤◌, [], length, IfOk, OnOk, string_bytes};
+ghost use Rattle.std.specs.Prelude.{◌≡◌, ◌<◌, ◌≤◌, ◌&&◌, [], length, Some, is_some, option_map};
+ghost use Rattle.std.specs.Prelude.{IfOk, OnOk, string_bytes};
 ghost use Rattle.json.specs.Json.{value, items};
 ghost use Rattle.json.specs.Print.{print};
 ghost use Rattle.serde_json.specs.Read.{converted};
+ghost use Rattle.bson_wrapper.specs.Table.{wrapper_of};
 ghost use Rattle.bson_order.specs.Kept.{kept, kept_items};
 ghost use Rattle.bson_filter.specs.Filtered.{IsFilteredText, TreePasses, ItemsPass, ObjectPasses};
-ghost use Rattle.bson_filter.specs.Filtered.{kept_object, inside, after_key};
+ghost use Rattle.bson_filter.specs.Filtered.{MembersPass, ScopePasses, kept_object, inside, from_key};
 
 use crate::distinct::are_distinct;
-use crate::scalars::{filter_number, filter_wrapped};
+use crate::scalars::{filter_number, put_single};
 use crate::unfiltered::Unfiltered;
+use bson_tokens::tree::read_tree;
+use bson_wrapper::code::{is_code_with_scope, put_code};
 use bson_wrapper::form::{Doubles, Form};
 use bson_wrapper::wrapper::named;
 use json::{Reader, Scratch, Token, Writer};
+use serde_json::Value;
 use std::alloc::Global;
 
 // How deep arrays and objects may nest.
@@ -22,7 +27,8 @@ const MAX_DEPTH: usize = 127;
 /// of the text, at every depth: it is written as the text is read, with no value in memory.
 ///
 /// `Left` says nothing of the text: it is to be read whole. It comes where the text is no JSON text
-/// of at most 127 levels, means nothing, or has in some object a key twice or code with its scope.
+/// of at most 127 levels, means nothing, has in some object a key twice, or code behind its scope
+/// or with the scope null.
 pub fn filter_text(
     alloc: Global,
     doubles: Doubles,
@@ -142,20 +148,17 @@ fn filter_object<'a>(
     ensures keys { OnOk result (keys.new.items ≡ keys.old.items) }
     ensures shorter { OnOk result (length reader.new < length reader.old) }
 {
-    match reader.next_key()? {
-        None => {
-            out.begin_object()?;
-            Ok(out.end_object()?)
+    let first = reader.next_key()?;
+    match first {
+        Some(name) if named(name).is_some() => {
+            filter_wrapper(alloc, doubles, form, reader, depth, name, keys, out)
         }
-        Some(name) => if named(name).is_some() {
-            filter_wrapped(alloc, doubles, form, reader, depth, name, out)
-        } else {
-            filter_members(alloc, doubles, form, reader, depth, name, keys, out)
-        },
+        first => filter_members(alloc, doubles, form, reader, depth, first, true, keys, out),
     }
 }
 
-// An object whose first key was read. No key of it is a wrapper's, and none stands twice.
+// The members of an object from one on whose key was read, or none of them: none stands twice, and
+// no key of a document is a wrapper's.
 #[cycle(filter)]
 fn filter_members<'a>(
     alloc: Global,
@@ -163,12 +166,14 @@ fn filter_members<'a>(
     form: Form,
     reader: &mut Reader<'a>,
     depth: usize,
-    first: &'a str,
+    first: Option<&'a str>,
+    is_document: bool,
     keys: &mut Vec<&'a str>,
     out: &mut Writer,
 ) -> Result<(), Unfiltered>
     ensures ok { OnOk result
-        (ObjectPasses doubles form (kept_object (after_key depth first.now reader.old)) reader.new out.old.tokens
+        (MembersPass doubles form is_document
+        (kept_object (from_key depth (option_map (λ k. k.now) first.entry) reader.old)) reader.new out.old.tokens
         out.new.tokens) }
     ensures before { OnOk result (out.new.before ≡ out.old.before) }
     ensures keys { OnOk result (keys.new.items ≡ keys.old.items) }
@@ -176,9 +181,9 @@ fn filter_members<'a>(
 {
     let open = keys.len();
     out.begin_object()?;
-    let mut next = Some(first);
+    let mut next = first;
     'members: while let Some(name) = next {
-        if named(name).is_some() {
+        if is_misplaced(is_document, name) {
             return Err(Unfiltered::Left);
         }
         keys.push(name)?;
@@ -190,5 +195,87 @@ fn filter_members<'a>(
         return Err(Unfiltered::Left);
     }
     keys.truncate(open);
+    Ok(out.end_object()?)
+}
+
+// The key is a wrapper's, which no document has.
+fn is_misplaced(is_document: bool, key: &str) -> bool
+    ensures { result ≡ (is_document && is_some (wrapper_of key.now)) }
+{
+    is_document && named(key).is_some()
+}
+
+// The wrapper whose key was read: of that key alone, or code with its scope behind it.
+#[cycle(filter)]
+#[inline(never)]
+fn filter_wrapper<'a>(
+    alloc: Global,
+    doubles: Doubles,
+    form: Form,
+    reader: &mut Reader<'a>,
+    depth: usize,
+    key: &str,
+    keys: &mut Vec<&'a str>,
+    out: &mut Writer,
+) -> Result<(), Unfiltered>
+    ensures ok { OnOk result
+        (ObjectPasses doubles form (kept_object (from_key depth (Some key.now) reader.old)) reader.new out.old.tokens
+        out.new.tokens) }
+    ensures before { OnOk result (out.new.before ≡ out.old.before) }
+    ensures keys { OnOk result (keys.new.items ≡ keys.old.items) }
+    ensures shorter { OnOk result (length reader.new < length reader.old) }
+{
+    let held = read_tree(alloc, reader, depth)?;
+    let Some(other) = reader.next_key()? else {
+        return put_single(alloc, doubles, form, key, held, out);
+    };
+    if !is_code_with_scope(key, other) {
+        return Err(Unfiltered::Left);
+    }
+    let Value::String(code) = held else {
+        return Err(Unfiltered::Left);
+    };
+    put_code(code.as_str(), out)?;
+    filter_scope(alloc, doubles, form, reader, depth, keys, out)
+}
+
+// The scope of code, which was written, and the end of both.
+#[cycle(filter)]
+fn filter_scope<'a>(
+    alloc: Global,
+    doubles: Doubles,
+    form: Form,
+    reader: &mut Reader<'a>,
+    depth: usize,
+    keys: &mut Vec<&'a str>,
+    out: &mut Writer,
+) -> Result<(), Unfiltered>
+    ensures ok { OnOk result
+        (ScopePasses doubles form depth reader.old reader.new out.old.tokens out.new.tokens) }
+    ensures before { OnOk result (out.new.before ≡ out.old.before) }
+    ensures keys { OnOk result (keys.new.items ≡ keys.old.items) }
+    ensures shorter { OnOk result (length reader.new < length reader.old) }
+{
+    let Some(Token::BeginObject) = reader.next() else {
+        return Err(Unfiltered::Left);
+    };
+    if depth == 0 {
+        return Err(Unfiltered::Left);
+    }
+    let first = reader.next_key()?;
+    filter_members(
+        alloc,
+        doubles,
+        form,
+        reader,
+        depth - 1,
+        first,
+        false,
+        keys,
+        out,
+    )?;
+    if reader.next_key()?.is_some() {
+        return Err(Unfiltered::Left);
+    }
     Ok(out.end_object()?)
 }

@@ -1,18 +1,23 @@
 use Rattle.std.proofs.Common.{◌≡◌, ◌-◌, ◌<◌, ◌++◌, [], ◌∷◌, length, option_map, Some, None, sym, ap, ◌∙◌, arith, refl, append_assoc, subst, take, drop, take_all}
-use Rattle.std.proofs.Common.{length-drop, OnOk}
+use Rattle.std.proofs.Common.{rules, length-drop, codes, ◌&&◌, true, bytes_eq, string_bytes}
 use Rattle.json.specs.Token.{Token}
 use Rattle.json.specs.Json.{after_end_array, read_key, items, members, members_step, value}
 use Rattle.json.proofs.Grammar.{read_key-shorter, value_is}
 use Rattle.json.specs.Reads.{token_of}
 use Rattle.json.specs.Strict.{AreDistinct}
 use Rattle.serde_json.specs.Data as tree
+use Rattle.serde_json.specs.View.{view}
+use Rattle.serde_json.specs.declared.value.Value.{String, the_lemmas}
+use Rattle.bson_wrapper.specs.Tokens.{code_tokens}
 use Rattle.bson_wrapper.specs.Table.{wrapper_of}
 use Rattle.bson_wrapper.specs.Scalar.{null, boolean, text}
 use Rattle.bson_model.specs.Value.{scalar}
 use Rattle.serde_json.specs.Read.{converted}
 use Rattle.bson_order.specs.Kept.{kept}
-use Rattle.bson_filter.specs.Filtered.{TreePasses, ObjectPasses, kept_object, after_key}
-use Rattle.bson_filter.proofs.Passing.{items_begun, item_passed, items_passed, members_begun, member_passed, members_passed, append_none, ordinary, pushed, texts, ToGo, array_passes, object_passes, number_passes, empty_passed, begins_with_key}
+use Rattle.bson_filter.specs.Filtered.{TreePasses, from_key}
+use Rattle.bson_filter.proofs.Passing.{items_begun, item_passed, items_passed, members_begun, member_passed, members_passed, ToGo, array_passes, object_passes, number_passes, document_passes, wrapper_passes}
+use Rattle.bson_filter.proofs.Objects.{append_none, placed, pushed, texts}
+use Rattle.bson_filter.proofs.Wrappers.{scope_passes, single_passes, code_passes}
 use Rattle.bson_filter.proofs.filter.+filter.Goals as goal
 
 pub filter_items-items-init : goal.filter_items-items-init
@@ -60,7 +65,7 @@ filter_members-members-init t c =
       sym (append_none c.args.keys.now.items),
       length ts,
       omega arith,
-      members_begun c.args.doubles c.args.form (after_key c.args.depth c.args.first.now ts) c.begin_object.new.self.tokens,
+      members_begun c.args.doubles c.args.form c.args.is_document (from_key c.args.depth (option_map (λ x. x.now) c.args.first) ts) c.begin_object.new.self.tokens,
     )
 
 pub filter_members-members-preserved : goal.filter_members-members-preserved
@@ -74,7 +79,7 @@ filter_members-members-preserved t c =
     let key : read_key r ≡ Some (option_map (λ x. x.now) c.in_ok-next.next, s) = grind arith in
     let shorter = read_key-shorter r _ s key in
     let fewer = c.in_ok-filter_value.ensures.shorter in
-    let plain = ordinary c.named.result (wrapper_of k.now) c.named.ensures (grind arith) in
+    let plain = placed c.args.is_document (wrapper_of k.now) (grind arith) in
     let is : l.next ≡ Some k = grind arith in
     let go = l.invariant.6 in (
       omega (arith, shorter, fewer, l.invariant.0),
@@ -83,9 +88,9 @@ filter_members-members-preserved t c =
       c.in_ok-filter_value.ensures.keys ∙ c.in_ok-push.ensures.items ∙ ap (λ x. x ++ k ∷ []) l.invariant.3 ∙ append_assoc c.args.keys.now.items ks (k ∷ []),
       n - 1,
       omega (arith, shorter, fewer, l.invariant.5),
-      member_passed c.args.doubles c.args.form (after_key c.args.depth c.args.first.now c.args.reader.now) (value c.args.depth) n k l.reader r s _
+      member_passed c.args.doubles c.args.form c.args.is_document (from_key c.args.depth (option_map (λ x. x.now) c.args.first) c.args.reader.now) (value c.args.depth) n k l.reader r s _
           ks c.begin_object.new.self.tokens l.out.tokens c.key.new.self.tokens c.filter_value.new.out.tokens
-          (omega (arith, fewer, l.invariant.5)) plain c.in_ok-key.ensures.ok c.in_ok-filter_value.ensures.ok key (subst (λ o. ToGo c.args.doubles c.args.form (after_key c.args.depth c.args.first.now c.args.reader.now)
+          (omega (arith, fewer, l.invariant.5)) plain c.in_ok-key.ensures.ok c.in_ok-filter_value.ensures.ok key (subst (λ o. ToGo c.args.doubles c.args.form c.args.is_document (from_key c.args.depth (option_map (λ x. x.now) c.args.first) c.args.reader.now)
           (members_step (value c.args.depth) (members (value c.args.depth) n) (option_map (λ x. x.now) o) l.reader) ks
           c.begin_object.new.self.tokens l.out.tokens) is go),
     )
@@ -102,10 +107,10 @@ filter_members-returns-clause-ok t c =
     subst (λ x. AreDistinct (texts (drop (length c.args.keys.now.items) x))) c.as_mut_slice.ensures.value
     (subst (λ n. AreDistinct (texts (drop n all))) (grind arith)
     (subst (λ x. AreDistinct (texts x)) slice (c.are_distinct.ensures.0 (grind arith)))) in
-    members_passed c.args.doubles c.args.form (after_key c.args.depth c.args.first.now c.args.reader.now) (value c.args.depth) l.invariant.4 l.reader ks
+    members_passed c.args.doubles c.args.form c.args.is_document (from_key c.args.depth (option_map (λ x. x.now) c.args.first) c.args.reader.now) (value c.args.depth) l.invariant.4 l.reader ks
     c.args.out.now.tokens c.begin_object.new.self.tokens l.out.tokens c.end_object.new.self.tokens
     c.in_ok-begin_object.ensures.ok c.in_ok-end_object.ensures.ok
-    (pushed c.args.keys.now.items ks l.keys.items l.invariant.3 told) (subst (λ o. ToGo c.args.doubles c.args.form (after_key c.args.depth c.args.first.now c.args.reader.now)
+    (pushed c.args.keys.now.items ks l.keys.items l.invariant.3 told) (subst (λ o. ToGo c.args.doubles c.args.form c.args.is_document (from_key c.args.depth (option_map (λ x. x.now) c.args.first) c.args.reader.now)
     (members_step (value c.args.depth) (members (value c.args.depth) l.invariant.4) (option_map (λ x. x.now) o) l.reader) ks
     c.begin_object.new.self.tokens l.out.tokens) is l.invariant.6)
 
@@ -165,31 +170,56 @@ filter_value-returns-else-depth-eq0-2-clause-ok t c =
     c.args.out.now.tokens c.filter_object.new.out.tokens
     (first ∙ ap (λ k. token_of k ∷ c.next.new.self) c.in-BeginObject.is) (omega arith) c.filter_object.ensures.ok
 
-pub filter_object-returns-in_ok-end_object-in-None-clause-ok :
-    goal.filter_object-returns-in_ok-end_object-in-None-clause-ok
-filter_object-returns-in_ok-end_object-in-None-clause-ok t c =
-    let ts = c.args.reader.now in
-    let r = c.next_key.new.self in
-    let ended : read_key ts ≡ Some (None, r) = grind arith in
-    empty_passed c.args.doubles c.args.form c.args.depth ts r c.args.out.now.tokens c.begin_object.new.self.tokens
-    c.end_object.new.self.tokens ended c.in_ok-begin_object-in-None.ensures.ok c.in_ok-end_object-in-None.ensures.ok
-
-pub filter_object-returns-then-is_some-clause-ok : goal.filter_object-returns-then-is_some-clause-ok
-filter_object-returns-then-is_some-clause-ok t c =
+pub filter_object-returns-in-Some-clause-ok : goal.filter_object-returns-in-Some-clause-ok
+filter_object-returns-in-Some-clause-ok t c =
     let ts = c.args.reader.now in
     let k = c.in-Some.name.now in
     let r = c.next_key.new.self in
     let key : read_key ts ≡ Some (Some k, r) = grind arith in
-    subst (λ ms. OnOk c.filter_wrapped.result (ObjectPasses c.args.doubles c.args.form (kept_object ms)
-    c.filter_wrapped.new.reader c.args.out.now.tokens c.filter_wrapped.new.out.tokens))
-    (sym (begins_with_key c.args.depth k ts r key)) c.filter_wrapped.ensures.ok
+    wrapper_passes c.args.doubles c.args.form c.filter_wrapper.result c.args.depth (Some k) ts r
+    c.filter_wrapper.new.reader c.args.out.now.tokens c.filter_wrapper.new.out.tokens key c.filter_wrapper.ensures.ok
 
-pub filter_object-returns-else-is_some-clause-ok : goal.filter_object-returns-else-is_some-clause-ok
-filter_object-returns-else-is_some-clause-ok t c =
+pub filter_object-returns-in_default-clause-ok : goal.filter_object-returns-in_default-clause-ok
+filter_object-returns-in_default-clause-ok t c =
+    document_passes c.args.doubles c.args.form c.filter_members.result c.args.depth
+    (option_map (λ x. x.now) c.in_ok-first.first) c.args.reader.now c.next_key.new.self c.filter_members.new.reader
+    c.args.out.now.tokens c.filter_members.new.out.tokens c.in_ok-first.ensures.value c.filter_members.ensures.ok
+
+pub filter_scope-returns-clause-ok : goal.filter_scope-returns-clause-ok
+filter_scope-returns-clause-ok t c =
     let ts = c.args.reader.now in
-    let k = c.in-Some.name.now in
-    let r = c.next_key.new.self in
-    let key : read_key ts ≡ Some (Some k, r) = grind arith in
-    subst (λ ms. OnOk c.filter_members.result (ObjectPasses c.args.doubles c.args.form (kept_object ms)
-    c.filter_members.new.reader c.args.out.now.tokens c.filter_members.new.out.tokens))
-    (sym (begins_with_key c.args.depth k ts r key)) c.filter_members.ensures.ok
+    let q = c.next.new.self in
+    let r = c.filter_members.new.reader in
+    let rest = c.next_key-2.new.self in
+    let is : ts ≡ Token.begin_object ∷ q = grind arith in
+    let ended : read_key r ≡ Some (None, rest) = grind arith in
+    scope_passes c.args.doubles c.args.form c.args.depth (option_map (λ x. x.now) c.in_ok-first.first) ts q
+    c.next_key.new.self r rest c.args.out.now.tokens c.filter_members.new.out.tokens c.end_object.new.self.tokens is
+    (omega arith) c.in_ok-first.ensures.value c.in_ok-filter_members.ensures.shorter ended
+    c.in_ok-filter_members.ensures.ok c.in_ok-end_object.ensures.ok
+
+pub filter_wrapper-returns-in_default-clause-ok : goal.filter_wrapper-returns-in_default-clause-ok
+filter_wrapper-returns-in_default-clause-ok t c =
+    let r = c.read_tree.new.reader in
+    let s = c.next_key.new.self in
+    let ended : read_key r ≡ Some (None, s) = grind arith in
+    single_passes c.args.doubles c.args.form c.put_single.result c.args.depth c.args.key.now c.args.reader.now r s
+    c.args.out.now.tokens c.put_single.new.out.tokens (view c.in_ok-held.held) c.in_ok-held.ensures.ok
+    c.in_ok-held.ensures.shorter ended c.put_single.ensures.ok
+
+pub filter_wrapper-returns-clause-ok : goal.filter_wrapper-returns-clause-ok
+filter_wrapper-returns-clause-ok t c =
+    let r = c.read_tree.new.reader in
+    let q = c.next_key.new.self in
+    let k = c.args.key.now in
+    let l = c.in-Some.other.now in
+    let s = string_bytes c.in-String.code in
+    let old = c.args.out.now.tokens in
+    let begun = c.put_code.new.out.tokens in
+    let named : read_key r ≡ Some (Some l, q) = grind arith in
+    let are : (bytes_eq k (codes "$code") && bytes_eq l (codes "$scope")) ≡ true = grind arith in
+    let seen : view (String c.in-String.code) ≡ tree.string s = search (rules, the_lemmas) in
+    let opened = subst (λ z. begun ≡ old ++ code_tokens z) c.as_str.ensures.value c.in_ok-put_code.ensures.put in
+    code_passes c.args.doubles c.args.form c.filter_scope.result c.args.depth k l s c.args.reader.now r q
+    c.filter_scope.new.reader old begun c.filter_scope.new.out.tokens (view c.in_ok-held.held) c.in_ok-held.ensures.ok
+    c.in_ok-held.ensures.shorter named are (ap view c.in-String.is ∙ seen) opened c.filter_scope.ensures.ok

@@ -2,7 +2,7 @@ use Rattle.std.proofs.Common.{◌≡◌, Some, arith}
 use Rattle.serde_json.specs.Read.{number_of}
 use Rattle.serde_json.specs.View.{number_view}
 use Rattle.bson_wrapper.specs.View.{scalar_view}
-use Rattle.bson_filter.proofs.Passing.{number_written}
+use Rattle.bson_filter.proofs.Wrappers.{number_written}
 use Rattle.bson_filter.proofs.scalars.filter_number.Goals as goal
 
 pub returns-clause-ok : goal.returns-clause-ok
