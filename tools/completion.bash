@@ -6,10 +6,11 @@ _bson() {
         case $it in
             lines) modes='canonical relaxed show check' options+=' --keep-going --jobs' ;;
             decode) modes='canonical relaxed show check' options='--sort-keys --keep-going --jobs --output --help --version' ;;
+            encode) modes='' mode=$it options='--sort-keys --keep-going --jobs --output --help --version' ;;
             canonical | relaxed | show | check) mode=$it ;;
         esac
     done
-    [[ $options == *--keep-going* || -n $mode ]] || modes+=' lines decode'
+    [[ $options == *--keep-going* || -n $mode ]] || modes+=' lines decode encode'
     compopt -o filenames 2>/dev/null
     if [[ $before == --jobs ]]; then
         COMPREPLY=($(compgen -W "$(nproc)" -- "$word"))

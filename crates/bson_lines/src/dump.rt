@@ -48,7 +48,8 @@ fn run_of(order: &Order) -> Run {
             Task::WriteInOrder(Mode::Canonical) => Line::TextInOrder(Form::Canonical),
             Task::WriteInOrder(Mode::Relaxed) => Line::TextInOrder(Form::Relaxed),
             Task::Write(Mode::Show) | Task::WriteInOrder(Mode::Show) => Line::Shown,
-            Task::Check => Line::Nothing,
+            // (bytes are made of texts alone)
+            Task::Check | Task::Encode | Task::EncodeInOrder => Line::Nothing,
         },
         keep_going: order.on_refusal == OnRefusal::KeepGoing,
         ..Run::default()

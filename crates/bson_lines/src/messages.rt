@@ -11,6 +11,10 @@ use std::io::Error;
 /// What a verdict begins with, before its line's number.
 const HEAD: &[u8] = b"bson_lines: line ";
 
+/// Where bytes would go to a terminal.
+const TERMINAL: &str =
+    "bson_lines: BSON bytes are not written to a terminal; give -o FILE, or a pipe";
+
 /// How many lines or documents there were, and how many were refused.
 pub fn summary(alloc: Global, input: Input, counts: Counts) -> Result<String, AllocError> {
     let what = match input {
@@ -38,6 +42,7 @@ pub fn line_of(alloc: Global, stop: Stop<'_>) -> Result<String, AllocError> {
             let name = shown(alloc, name, "input")?;
             format!(in alloc; "bson_lines: {name} is read and written")
         }
+        Stop::Terminal => String::from_str(alloc, TERMINAL),
         Stop::Line(name, refusal) => at_line(alloc, name, refusal),
         Stop::Text(name, refusal) => at_text(alloc, name, refusal),
         Stop::Document(name, end) => at_document(alloc, name, end),

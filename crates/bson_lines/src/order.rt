@@ -48,6 +48,13 @@ pub struct Order {
     pub inputs: Vec<String>,
 }
 
+impl Order {
+    /// Whether BSON bytes are written, and no text.
+    pub fn writes_bytes(&self) -> bool {
+        self.task == Task::Encode || self.task == Task::EncodeInOrder
+    }
+}
+
 /// What the words after the program's name ask for: a mode, then names of files, with options
 /// anywhere before a word `--`, each once at most.
 pub fn asked_by(alloc: Global, words: Vec<String>) -> Result<Asked, AllocError> {
@@ -196,17 +203,23 @@ impl Given {
     }
 
     // Whether the options stand with the task and with one another: one text is of one file, and the
-    // first that is refused ends it; the order of texts is kept where something is written, and keys
-    // are sorted in the forms of BSON documents; a check has no output.
+    // first that is refused ends it; the order of texts is kept where a text is written, and keys
+    // are sorted in what keeps its order by itself: the forms of BSON documents, and BSON bytes,
+    // which are made of texts; a check has no output.
     fn fits(&self, task: Task) -> bool {
         if self.input == Input::Text && (self.keeps_going || self.inputs.len() > 1) {
             return false;
         }
         let is_form = task == Task::Write(Mode::Canonical) || task == Task::Write(Mode::Relaxed);
-        if self.sorts_keys && !(is_form && self.input == Input::Documents) {
+        let is_encode = task == Task::Encode;
+        let is_dump = self.input == Input::Documents;
+        if self.sorts_keys && !(is_encode || (is_form && is_dump)) {
             return false;
         }
-        if self.keeps_order && (task == Task::Check || self.input == Input::Documents) {
+        if self.keeps_order && (task == Task::Check || is_encode || is_dump) {
+            return false;
+        }
+        if is_encode && is_dump {
             return false;
         }
         self.next != Next::Output && (task != Task::Check || self.output.is_none())
@@ -235,7 +248,8 @@ impl Given {
             Some(name) => name,
             None => String::from_str(alloc, STANDARD)?,
         };
-        let is_in_order = keeps_order || (input == Input::Documents && !sorts_keys);
+        let has_order = input == Input::Documents || task == Task::Encode;
+        let is_in_order = keeps_order || (has_order && !sorts_keys);
         Ok(Asked::Run(Order {
             task: if is_in_order { in_order(task) } else { task },
             options,
@@ -255,6 +269,7 @@ impl Given {
 fn in_order(task: Task) -> Task {
     match task {
         Task::Write(mode) => Task::WriteInOrder(mode),
+        Task::Encode => Task::EncodeInOrder,
         other => other,
     }
 }

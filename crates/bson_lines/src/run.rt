@@ -30,6 +30,8 @@ pub enum Stop<'a> {
     Output(&'a str, Option<Error>),
     /// The file is read and written.
     Both(&'a str),
+    /// Bytes would go to a terminal.
+    Terminal,
     /// At a line of the file.
     Line(&'a str, Refusal),
     /// At the one text of the file.
@@ -40,8 +42,11 @@ pub enum Stop<'a> {
 
 /// Converts the lines of all files in their order. It stops where a file can't be read or written,
 /// or as `run_lines` does. Nothing is read or written before each file was found to be one that
-/// opens, and none that is written.
+/// opens, and none that is written, and no bytes of BSON go to a terminal.
 pub fn run<'a>(rt: &HostRuntime, order: &'a Order) -> Result<Counts, Stop<'a>> {
+    if order.writes_bytes() && order.output.as_str() == STANDARD && rt.stdout().is_terminal() {
+        return Err(Stop::Terminal);
+    }
     for name in order.inputs.iter() {
         try_input(rt, order, name.as_str())?;
     }

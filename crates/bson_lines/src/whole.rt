@@ -1,6 +1,7 @@
 //! A run over one text, on any number of lines.
 use crate::order::Order;
 use bson_run::convert::convert_with;
+use bson_run::encode::{encode_in_order, encode_with};
 use bson_run::explain::explain;
 use bson_run::fault::Fault;
 use bson_run::in_order::convert_in_order;
@@ -61,6 +62,8 @@ fn given(alloc: Global, order: &Order, bytes: &[u8]) -> Result<Vec<u8>, Fault> {
             convert_with(alloc, order.options, Mode::Canonical, bytes)?;
             Ok(Vec::new(alloc))
         }
+        Task::Encode => encode_with(alloc, order.options, bytes),
+        Task::EncodeInOrder => encode_in_order(alloc, order.options, bytes),
     }
 }
 

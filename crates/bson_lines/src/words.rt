@@ -5,6 +5,7 @@ pub const USAGE: &str =
     "usage: bson_lines canonical|relaxed|show|check [--doubles] [--bson] [--keep-going|--whole] [-o FILE] [FILE ..]
        bson_lines canonical|relaxed|show --keep-order [--doubles] [--keep-going|--whole] [-o FILE] [FILE ..]
        bson_lines canonical|relaxed --bson --sort-keys [--doubles] [--keep-going] [-o FILE] [FILE ..]
+       bson_lines encode [--sort-keys] [--doubles] [--keep-going|--whole] [-o FILE] [FILE ..]
 see bson_lines --help";
 
 /// What stands on standard error where there is no memory for anything else.
@@ -16,21 +17,23 @@ pub const HELP: &str =
     "usage: bson_lines canonical|relaxed|show|check [--doubles] [--bson] [--keep-going|--whole] [-o FILE] [FILE ..]
        bson_lines canonical|relaxed|show --keep-order [--doubles] [--keep-going|--whole] [-o FILE] [FILE ..]
        bson_lines canonical|relaxed --bson --sort-keys [--doubles] [--keep-going] [-o FILE] [FILE ..]
+       bson_lines encode [--sort-keys] [--doubles] [--keep-going|--whole] [-o FILE] [FILE ..]
 
 Reads MongoDB Extended JSON v2, a document a line, from the files or from standard input, and writes of each line:
   canonical   its canonical form, which keeps every type
   relaxed     its relaxed form, with plain numbers, and dates as texts
   show        the value as the library prints it, which is no JSON
   check       nothing; refused lines are told
+  encode      the bytes of its document (BSON 1.1), keys in the order of the text and no newline behind them
 
   --doubles               finite doubles are taken: a number that is no whole one of 64 bits is read as the double
                           nearest to it, and a double is written as its shortest decimal; without it they are refused
-  --keep-order            (not with check or --bson) each document has its keys in the order of the text, at every depth,
-                          the last value of a key that stands twice at its first place; else they come out ascending
+  --keep-order            (not with check, encode or --bson) each document has its keys in the order of the text, at
+                          every depth, the last value of a key that stands twice at its first place; else keys ascend
   --keep-going            a refused line is told and left out, and the run goes on; without it the run ends there
   --bson                  the input is documents of BSON 1.1, one behind the other, as in a dump, and a line is written
                           of each, with its keys in its own order at every depth; check only looks at them
-  --sort-keys             (with --bson, in both forms) keys come out in ascending order at every depth
+  --sort-keys             (with encode, and with --bson in both forms) keys come out in ascending order at every depth
   --whole                 the input, one file at most, is one text on any number of lines, and not a text a line
   -o FILE, --output FILE  the output goes to FILE, and not to standard output: whole at the end, or not at all
   -h, --help; -v, --version
@@ -43,7 +46,9 @@ Blank lines give nothing and count. A byte order mark at the start of a file is 
 in each file, and told as FILE:LINE: where they come from a file. Columns count bytes from 1. Memory is that of the
 longest line. Of BSON, a refused document is told with its number from 1 and the number of bytes before it, and with
 --keep-going passed over where all bytes of its length are there; else, or without it, the run ends. It may nest 100
-deep. Memory is that of the largest document. On a terminal a line of progress stands below while files are read.
+deep. Memory is that of the largest document. With encode a line is refused too that means another value than a
+document, and a document with a 0 byte in a key or a regular expression, or with a part of 2^31 bytes or more; and
+nothing is written to a terminal. On a terminal a line of progress stands below while files are read.
 
 Status: 0 done, and no line was refused; 1 a line was refused, or the run could not go on, as standard error tells: the
 lines before it were written, and with --keep-going all others; 2 other arguments, and nothing was read; 141 nobody

@@ -1,2 +1,3 @@
+pub mod ComingBack
 pub mod Texts
 pub mod Seen

@@ -9,6 +9,7 @@ ghost use Rattle.bson.specs.Same.{same};
 ghost use Rattle.bson.specs.Normal.{normal_form, as_read, plain};
 ghost use Rattle.bson.specs.WriteError.{WriteError};
 
+pub mod again;
 pub mod bytes;
 
 use bson::Bson;

@@ -1,5 +1,6 @@
 mod Again
 mod Converting
+pub mod EncodeLaws
 mod Explaining
 pub mod LinesLaws
 pub mod LinesRuns

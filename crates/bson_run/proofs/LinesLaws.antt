@@ -5,12 +5,13 @@ use Rattle.std.proofs.Common.{add-one, take-append-drop, Result, Ok, Err, IfOk, 
 use Rattle.std.proofs.Math.Seq.{drop-cons}
 use Rattle.std.proofs.lemmas.List.{take_rest}
 use Rattle.std.proofs.lemmas.List.Elements.{All-append, All-head, All-tail}
-use Rattle.bson_run.specs.Lines.{lines, onto_first, text_of, Tells, IsBlank, IsBadTextIn, WritesIn, OutcomesIn, blank}
-use Rattle.bson_run.specs.Lines.{written, passed_over, IsStoppedIn, IsStoppedAtIn}
+use Rattle.bson_run.specs.Lines.{lines, onto_first, text_of, Tells, IsBlank, IsBadLineIn, IsBadTextIn, WritesIn, OutcomesIn}
+use Rattle.bson_run.specs.Lines.{blank, written, passed_over, IsStoppedIn, IsStoppedAtIn}
 use Rattle.bson_run.specs.LinesSteps.{Options, IsOpen, IsJudged, IsTold, HaveSameOutcomes, TakesLine}
 use Rattle.bson_run.specs.LinesSteps.{Progress, Takes, Ends, Reached, Stopped, StopsWithin, StopsLast}
-use Rattle.bson_run.specs.LinesSteps.{Fault, CannotRead, NotJson, NotExtendedJson, OutOfMemory}
+use Rattle.bson_run.specs.LinesSteps.{Fault, CannotRead, NotJson, NotExtendedJson, NoBytes, OutOfMemory}
 use Rattle.bson_run.specs.LinesSteps.{CannotWrite, Gathered, OnRefusal, Task}
+use Rattle.bson_run.specs.Place.{IsWhere}
 use Rattle.bson_run.specs.declared.order.OnRefusal.TheVariants.{Stop}
 
 -- a newline ends what stands before it
@@ -33,33 +34,47 @@ lines_last (x ∷ y ∷ xs) h some =
 pub open_nil : IsOpen []
 open_nil k d h = absurd (omega arith)
 
-pub judged_bad : (o : Options) (fault : Fault) (text : List ℕ) → IsJudged o fault text → fault ≢ OutOfMemory
-    → IsBadTextIn o fault text
-judged_bad o CannotRead text h other = h
-judged_bad o NotJson text h other = h
-judged_bad o (NotExtendedJson place) text h other = h
-judged_bad o OutOfMemory text h other = absurd (other refl)
-judged_bad o CannotWrite text h other = h
+pub judged_bad : (o : Options) (task : Task) (fault : Fault) (text : List ℕ) → IsJudged o task fault text
+    → fault ≢ OutOfMemory → IsBadLineIn o task fault text
+judged_bad o task CannotRead text h other = h
+judged_bad o task NotJson text h other = h
+judged_bad o task (NotExtendedJson place) text h other = h
+judged_bad o task (NoBytes why) text h other = h
+judged_bad o task OutOfMemory text h other = absurd (other refl)
+judged_bad o task CannotWrite text h other = h
 
-stopped_at : (o : Options) (on_refusal : OnRefusal) (fault : Fault) (n : ℕ) (line : List ℕ) (others : List (List ℕ))
-    → IsStoppedIn o on_refusal fault (text_of n line) → IsStoppedAtIn o on_refusal fault n (line ∷ others)
-stopped_at o on_refusal CannotRead n line others h = h
-stopped_at o on_refusal NotJson n line others h = h
-stopped_at o on_refusal (NotExtendedJson place) n line others h = h
-stopped_at o on_refusal OutOfMemory n line others h = h
-stopped_at o on_refusal CannotWrite n line others h = h
+-- where the fault of a refused line lies
+pub lies : (o : Options) (task : Task) (fault : Fault) (text words : List ℕ) → IsBadLineIn o task fault text
+    → (IsBadTextIn o fault text → IsWhere fault words) → IsWhere fault words ⊎ (words ≡ []) → IsWhere fault words
+lies o task CannotRead text words h place other = place h
+lies o task NotJson text words h place other = place h
+lies o task (NotExtendedJson way) text words h place other = place h
+lies o task (NoBytes why) text words h place (inl is) = is
+lies o task (NoBytes why) text words h place (inr is) = is
+lies o task OutOfMemory text words h place other = place h
+lies o task CannotWrite text words h place other = place h
+
+stopped_at : (o : Options) (task : Task) (on_refusal : OnRefusal) (fault : Fault) (n : ℕ) (line : List ℕ) (others : List (List ℕ))
+    → IsStoppedIn o task on_refusal fault (text_of n line) → IsStoppedAtIn o task on_refusal fault n (line ∷ others)
+stopped_at o task on_refusal CannotRead n line others h = h
+stopped_at o task on_refusal NotJson n line others h = h
+stopped_at o task on_refusal (NotExtendedJson place) n line others h = h
+stopped_at o task on_refusal (NoBytes why) n line others h = h
+stopped_at o task on_refusal OutOfMemory n line others h = h
+stopped_at o task on_refusal CannotWrite n line others h = h
 
 -- a refused text stops the run, where refusals do
-pub refused_stops : (o : Options) (on_refusal : OnRefusal) (fault e : Fault) (text : List ℕ) → IsJudged o fault text
-    → (e ≡ OutOfMemory) ⊎ ((on_refusal ≡ Stop) × (e ≡ fault)) → IsStoppedIn o on_refusal e text
-refused_stops o on_refusal fault e text h (inl is) = subst (λ f. IsStoppedIn o on_refusal f text) (sym is) tt
-refused_stops o on_refusal fault e text h (inr p) =
-    subst (λ f. IsStoppedIn o on_refusal f text) (sym p.1) (of_fault fault h)
+pub refused_stops : (o : Options) (task : Task) (on_refusal : OnRefusal) (fault e : Fault) (text : List ℕ) → IsJudged o task fault text
+    → (e ≡ OutOfMemory) ⊎ ((on_refusal ≡ Stop) × (e ≡ fault)) → IsStoppedIn o task on_refusal e text
+refused_stops o task on_refusal fault e text h (inl is) = subst (λ f. IsStoppedIn o task on_refusal f text) (sym is) tt
+refused_stops o task on_refusal fault e text h (inr p) =
+    subst (λ f. IsStoppedIn o task on_refusal f text) (sym p.1) (of_fault fault h)
   where
-    of_fault : (f : Fault) → IsJudged o f text → IsStoppedIn o on_refusal f text
+    of_fault : (f : Fault) → IsJudged o task f text → IsStoppedIn o task on_refusal f text
     of_fault CannotRead h = tt
     of_fault NotJson h = (p.0, h)
     of_fault (NotExtendedJson place) h = (p.0, h)
+    of_fault (NoBytes why) h = (p.0, h)
     of_fault OutOfMemory h = tt
     of_fault CannotWrite h = h
 
@@ -67,9 +82,9 @@ lines_none : (line : List ℕ) → length line ≡ 0 → lines line ≡ []
 lines_none [] none = refl
 lines_none (x ∷ xs) none = absurd (omega arith)
 
-by_memory : (o : Options) (on_refusal : OnRefusal) (fault : Fault) (n : ℕ) (others : List (List ℕ))
-    → fault ≡ OutOfMemory → IsStoppedAtIn o on_refusal fault n others
-by_memory o on_refusal fault n others e = subst (λ f. IsStoppedAtIn o on_refusal f n others) (sym e) tt
+by_memory : (o : Options) (task : Task) (on_refusal : OnRefusal) (fault : Fault) (n : ℕ) (others : List (List ℕ))
+    → fault ≡ OutOfMemory → IsStoppedAtIn o task on_refusal fault n others
+by_memory o task on_refusal fault n others e = subst (λ f. IsStoppedAtIn o task on_refusal f n others) (sym e) tt
 
 -- a newline among bytes
 at_newline : (rest : List ℕ) (n : ℕ) → n < length rest → get_or rest n 0 ≡ 10
@@ -134,15 +149,15 @@ module _ {o : Options} {task : Task} {on_refusal : OnRefusal} where
 
   pub told_taken : (s t : Gathered) (fault : Fault) → t.line.items ≡ [] → t.lines ≡ s.lines + 1
       → t.output.items ≡ s.output.items → t.refused ≡ s.refused + 1 → on_refusal ≢ Stop
-      → IsBadTextIn o fault (text_of s.lines s.line.items)
-      → IsTold o (s.lines + 1) fault (text_of s.lines s.line.items) s.told.items t.told.items
+      → IsBadLineIn o task fault (text_of s.lines s.line.items)
+      → IsTold o task (s.lines + 1) fault (text_of s.lines s.line.items) s.told.items t.told.items
       → TakesLine o task on_refusal s t
   told_taken s t fault line number output refused goes h told = record {
     line = line;
     lines = number;
     outcomes = λ before written verdicts e p.
         rw (output, told.2, refused, ← append_assoc verdicts s.told.items told.0)
-        (passed_over s.line.items fault told.0 p goes (subst (λ n. IsBadTextIn o fault (text_of n s.line.items)) e h)
+        (passed_over s.line.items fault told.0 p goes (subst (λ n. IsBadLineIn o task fault (text_of n s.line.items)) e h)
         (subst (λ n. Tells (n + 1) fault told.0) e (told.1 h)));
   }
 
@@ -214,11 +229,11 @@ module _ {o : Options} {task : Task} {on_refusal : OnRefusal} where
       counted = same.lines ∙ p.counted;
       outcomes = rw (same.output, same.told, same.refused) p.outcomes;
     };
-    reason = by_memory o on_refusal fault (length p.done) (lines (s.line.items ++ (bytes ++ more))) e;
+    reason = by_memory o task on_refusal fault (length p.done) (lines (s.line.items ++ (bytes ++ more))) e;
   }
 
   pub line_stops : (bytes : List ℕ) (fault : Fault) (s t : Gathered)
-      → IsStoppedIn o on_refusal fault (text_of s.lines s.line.items) → HaveSameOutcomes s t
+      → IsStoppedIn o task on_refusal fault (text_of s.lines s.line.items) → HaveSameOutcomes s t
       → StopsWithin o task on_refusal (10 ∷ bytes) fault s t
   line_stops bytes fault s t h same before output told more p = record {
     reached = record {
@@ -230,8 +245,8 @@ module _ {o : Options} {task : Task} {on_refusal : OnRefusal} where
       outcomes = rw (same.output, same.told, same.refused) p.outcomes;
     };
     reason =
-        stopped_at o on_refusal fault (length p.done) s.line.items (lines (bytes ++ more))
-        (subst (λ k. IsStoppedIn o on_refusal fault (text_of k s.line.items)) p.counted h);
+        stopped_at o task on_refusal fault (length p.done) s.line.items (lines (bytes ++ more))
+        (subst (λ k. IsStoppedIn o task on_refusal fault (text_of k s.line.items)) p.counted h);
   }
 
   -- ---- the last line
@@ -266,7 +281,7 @@ module _ {o : Options} {task : Task} {on_refusal : OnRefusal} where
       }
 
   pub last_stops : (fault : Fault) (s t : Gathered) → 0 < length s.line.items
-      → IsStoppedIn o on_refusal fault (text_of s.lines s.line.items) → HaveSameOutcomes s t
+      → IsStoppedIn o task on_refusal fault (text_of s.lines s.line.items) → HaveSameOutcomes s t
       → StopsLast o task on_refusal fault s t
   last_stops fault s t some h same before output told p = record {
     reached = record {
@@ -277,8 +292,8 @@ module _ {o : Options} {task : Task} {on_refusal : OnRefusal} where
       outcomes = rw (same.output, same.told, same.refused) p.outcomes;
     };
     reason =
-        stopped_at o on_refusal fault (length p.done) s.line.items []
-        (subst (λ k. IsStoppedIn o on_refusal fault (text_of k s.line.items)) p.counted h);
+        stopped_at o task on_refusal fault (length p.done) s.line.items []
+        (subst (λ k. IsStoppedIn o task on_refusal fault (text_of k s.line.items)) p.counted h);
   }
 
   -- ---- a line that ends among bytes
@@ -291,7 +306,7 @@ module _ {o : Options} {task : Task} {on_refusal : OnRefusal} where
   pub line_stops_in : (rest : List ℕ) (n : ℕ) (fault : Fault) (s t u : Gathered) → n < length rest
       → IsOpen (take n rest) → get_or rest n 0 ≡ 10
       → t.line.items ≡ s.line.items ++ take n rest → HaveSameOutcomes s t
-      → IsStoppedIn o on_refusal fault (text_of t.lines t.line.items) → HaveSameOutcomes t u
+      → IsStoppedIn o task on_refusal fault (text_of t.lines t.line.items) → HaveSameOutcomes t u
       → StopsWithin o task on_refusal rest fault s u
   line_stops_in rest n fault s t u within h is e same stops kept =
       subst (λ l. StopsWithin o task on_refusal l fault s u) (sym (at_newline rest n within is))

@@ -9,7 +9,7 @@ use Rattle.bson_run.specs.Lines.{CutShortAtIn, CutsShort}
 use Rattle.bson_run.specs.LinesSteps.{Options, CannotWriteBoth, IsOpen, IsStart, HasWritten, HaveSameOutcomes}
 use Rattle.bson_run.specs.LinesSteps.{Progress, Takes, Ends, Reached, Stopped, StopsWithin, StopsLast, Running}
 use Rattle.bson_run.specs.Run.{WritesBeginning, WritesPart}
-use Rattle.bson_run.specs.LinesSteps.{Fault, CannotRead, NotJson, NotExtendedJson, OutOfMemory}
+use Rattle.bson_run.specs.LinesSteps.{Fault, CannotRead, NotJson, NotExtendedJson, NoBytes, OutOfMemory}
 use Rattle.bson_run.specs.LinesSteps.{CannotWrite, Gathered, OnRefusal, Task}
 use Rattle.bson_run.proofs.LinesLaws.{open_nil, reached}
 
@@ -61,7 +61,7 @@ module _ {o : Options} {task : Task} {on_refusal : OnRefusal} where
       (s u : Gathered) → u.lines ≡ s.lines → Consumes before after bytes
       → Stopped o task on_refusal (bytes ++ left_of after) output verdicts fault s
       → Appends had holds (output ++ s.output.items) → Appends told tells (verdicts ++ s.told.items)
-      → StopsAtIn o (IsStoppedAtIn o on_refusal fault) task on_refusal before after had holds told tells (u.lines + 1)
+      → StopsAtIn o (IsStoppedAtIn o task on_refusal fault) task on_refusal before after had holds told tells (u.lines + 1)
   stops fault before after had holds told tells bytes output verdicts s u count given stopped written reported =
       record {
         done = stopped.reached.done;
@@ -89,6 +89,7 @@ module _ {o : Options} {task : Task} {on_refusal : OnRefusal} where
   fails CannotRead = stops CannotRead
   fails NotJson = stops NotJson
   fails (NotExtendedJson place) = stops (NotExtendedJson place)
+  fails (NoBytes why) = stops (NoBytes why)
   fails OutOfMemory = stops OutOfMemory
   fails CannotWrite =
       λ before after had holds told tells bytes output verdicts s u count given stopped written reported.

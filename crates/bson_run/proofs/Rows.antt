@@ -7,7 +7,8 @@ use Rattle.bson_place.specs.declared.place.Reason.TheVariants as reason
 use Rattle.bson_run.specs.Lines.{lines, text_of, IsBlank}
 use Rattle.bson_run.specs.Words.{name_of, task_name, words_for, words_of, line_of}
 use Rattle.bson_run.specs.declared.mode.Mode.TheVariants as mode
-use Rattle.bson_run.specs.declared.order.Task.TheVariants.{Check}
+use Rattle.bson_run.specs.declared.no_bytes.NoBytes.TheVariants as without
+use Rattle.bson_run.specs.declared.order.Task.TheVariants.{Check, Encode, EncodeInOrder}
 use Rattle.bson_run.specs.declared.fault.Fault.TheVariants as fault
 
 -- ---- names of modes
@@ -79,3 +80,23 @@ byte_order_mark_passed_over = refl
 
 byte_order_mark_of_a_later_line : text_of 1 (239 ∷ 187 ∷ 191 ∷ 53 ∷ []) ≡ 239 ∷ 187 ∷ 191 ∷ 53 ∷ []
 byte_order_mark_of_a_later_line = refl
+
+-- ---- words of texts that give no bytes
+
+encode_named : task_name Encode ≡ codes "encode"
+encode_named = refl
+
+in_order_named_alike : task_name EncodeInOrder ≡ codes "encode"
+in_order_named_alike = refl
+
+no_document_told : words_of (fault.NoBytes without.NoDocument) ≡ codes "no document"
+no_document_told = refl
+
+zero_in_key_told : words_of (fault.NoBytes without.ZeroInKey) ≡ codes "a key has a 0 byte in it"
+zero_in_key_told = refl
+
+zero_in_regex_told : words_of (fault.NoBytes without.ZeroInRegex) ≡ codes "a regular expression has a 0 byte in it"
+zero_in_regex_told = refl
+
+too_long_told : words_of (fault.NoBytes without.TooLong) ≡ codes "a part is too long for BSON"
+too_long_told = refl

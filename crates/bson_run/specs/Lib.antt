@@ -1,4 +1,5 @@
 pub mod Convert
+pub mod Encode
 pub mod InOrder
 pub mod Lines
 pub mod LinesSteps
@@ -10,4 +11,5 @@ pub use Rattle.bson.specs.TextMeaning
 pub use Rattle.bson.specs.View
 pub use Rattle.bson_model.specs.Means
 pub use Rattle.bson_model.specs.Value
+pub use Rattle.bson_codec.specs.Canonical
 pub use Rattle.serde_json.specs.Data

@@ -6,18 +6,20 @@ use Rattle.std.specs.List.{starts_with}
 use Rattle.std.specs.Io.KnownBytes.{Appends, Consumes}
 use Rattle.bson.specs.declared.extjson.options.Options.{Options}
 use Rattle.bson_run.specs.Convert.{default_options, ConvertsIn, IsRefusedIn, newline}
+use Rattle.bson_run.specs.Encode.{EncodesIn, EncodesInOrder, HasNoBytesIn, HasNoBytesInOrder}
 use Rattle.bson_run.specs.InOrder.{ConvertsInOrder}
 use Rattle.bson_run.specs.Place.{IsWhere}
 use Rattle.bson_run.specs.Run.{ReadsAll, WritesBeginning, WritesPart}
 use Rattle.bson_run.specs.Words.{words_of}
 use Rattle.bson_run.specs.declared.fault.Fault.{Fault}
-use Rattle.bson_run.specs.declared.fault.Fault.TheVariants.{CannotRead, NotJson, NotExtendedJson, OutOfMemory}
+use Rattle.bson_run.specs.declared.fault.Fault.TheVariants.{CannotRead, NotJson, NotExtendedJson, NoBytes, OutOfMemory}
 use Rattle.bson_run.specs.declared.fault.Fault.TheVariants.{CannotWrite}
 use Rattle.bson_run.specs.declared.mode.Mode.TheVariants.{Canonical}
+use Rattle.bson_run.specs.declared.no_bytes.NoBytes as without
 use Rattle.bson_run.specs.declared.order.OnRefusal.{OnRefusal}
 use Rattle.bson_run.specs.declared.order.OnRefusal.TheVariants.{Stop}
 use Rattle.bson_run.specs.declared.order.Task.{Task}
-use Rattle.bson_run.specs.declared.order.Task.TheVariants.{Write, WriteInOrder, Check}
+use Rattle.bson_run.specs.declared.order.Task.TheVariants.{Write, WriteInOrder, Check, Encode, EncodeInOrder}
 
 -- ---- the lines of an input
 
@@ -46,19 +48,39 @@ abbrev pub IsBlank : List ℕ → Type 0
 IsBlank text = All (λ x. (x ≡ 32) ⊎ ((x ≡ 9) ⊎ (x ≡ 13))) text
 
 -- what is written of a text that is accepted: its output in the mode, by ascending key or in the order of its keys, or
--- nothing where it is only checked
+-- nothing where it is only checked; or the bytes of its document
 abbrev pub WritesIn : Options → Task → List ℕ → List ℕ → Type 0
 WritesIn o (Write mode) text output = ConvertsIn o mode text output
 WritesIn o (WriteInOrder mode) text output = ConvertsInOrder o mode text output
 WritesIn o Check text output = ((whole : List ℕ) × ConvertsIn o Canonical text whole) × (output ≡ [])
+WritesIn o Encode text output = EncodesIn o text output
+WritesIn o EncodeInOrder text output = EncodesInOrder o text output
 
--- the text is refused for the fault; one that is blank is not
+-- the text has no meaning for the fault; one that is blank is not refused
 abbrev pub IsBadTextIn : Options → Fault → List ℕ → Type 0
 IsBadTextIn o CannotRead text = ⊥
 IsBadTextIn o NotJson text = IsRefusedIn o NotJson text × (IsBlank text → ⊥)
 IsBadTextIn o (NotExtendedJson place) text = IsRefusedIn o (NotExtendedJson place) text
+IsBadTextIn o (NoBytes why) text = ⊥
 IsBadTextIn o OutOfMemory text = ⊥
 IsBadTextIn o CannotWrite text = ⊥
+
+-- the text has a meaning, and no bytes, where those are written
+abbrev pub IsWithoutBytes : Options → Task → without.NoBytes → List ℕ → Type 0
+IsWithoutBytes o (Write mode) why text = ⊥
+IsWithoutBytes o (WriteInOrder mode) why text = ⊥
+IsWithoutBytes o Check why text = ⊥
+IsWithoutBytes o Encode why text = HasNoBytesIn o why text
+IsWithoutBytes o EncodeInOrder why text = HasNoBytesInOrder o why text
+
+-- nothing is written of the text, for the fault
+abbrev pub IsBadLineIn : Options → Task → Fault → List ℕ → Type 0
+IsBadLineIn o task CannotRead text = IsBadTextIn o CannotRead text
+IsBadLineIn o task NotJson text = IsBadTextIn o NotJson text
+IsBadLineIn o task (NotExtendedJson place) text = IsBadTextIn o (NotExtendedJson place) text
+IsBadLineIn o task (NoBytes why) text = IsWithoutBytes o task why text
+IsBadLineIn o task OutOfMemory text = IsBadTextIn o OutOfMemory text
+IsBadLineIn o task CannotWrite text = IsBadTextIn o CannotWrite text
 
 -- what is told of a refused line: its number, the fault and its place
 abbrev pub told_at : ℕ → Fault → List ℕ → List ℕ
@@ -82,7 +104,7 @@ pub data OutcomesIn (o : Options) (task : Task) (on_refusal : OnRefusal)
       → OutcomesIn o task on_refusal (before ++ line ∷ []) (output ++ more) told refused
   passed_over : {before : List (List ℕ)} {output told : List ℕ} {refused : ℕ} (line : List ℕ) (fault : Fault)
       (more : List ℕ) → OutcomesIn o task on_refusal before output told refused → on_refusal ≢ Stop
-      → IsBadTextIn o fault (text_of (length before) line) → Tells (length before + 1) fault more
+      → IsBadLineIn o task fault (text_of (length before) line) → Tells (length before + 1) fault more
       → OutcomesIn o task on_refusal (before ++ line ∷ []) output (told ++ more) (refused + 1)
 
 -- ---- a run
@@ -154,37 +176,45 @@ CutShortAtIn o task on_refusal before after had holds told tells number =
     EndsAtIn o CutsShort (λ n others. Unit {0}) task on_refusal before after had holds told tells number
 
 -- why a run stops at a text: it is refused, and refusals stop the run; or for no reason that the bytes tell
-abbrev pub IsStoppedIn : Options → OnRefusal → Fault → List ℕ → Type 0
-IsStoppedIn o on_refusal CannotRead text = Unit {0}
-IsStoppedIn o on_refusal NotJson text = (on_refusal ≡ Stop) × IsBadTextIn o NotJson text
-IsStoppedIn o on_refusal (NotExtendedJson place) text = (on_refusal ≡ Stop) × IsBadTextIn o (NotExtendedJson place) text
-IsStoppedIn o on_refusal OutOfMemory text = Unit {0}
-IsStoppedIn o on_refusal CannotWrite text = ⊥
+abbrev pub IsStoppedIn : Options → Task → OnRefusal → Fault → List ℕ → Type 0
+IsStoppedIn o task on_refusal CannotRead text = Unit {0}
+IsStoppedIn o task on_refusal NotJson text = (on_refusal ≡ Stop) × IsBadTextIn o NotJson text
+IsStoppedIn o task on_refusal (NotExtendedJson place) text =
+    (on_refusal ≡ Stop) × IsBadTextIn o (NotExtendedJson place) text
+IsStoppedIn o task on_refusal (NoBytes why) text = (on_refusal ≡ Stop) × IsWithoutBytes o task why text
+IsStoppedIn o task on_refusal OutOfMemory text = Unit {0}
+IsStoppedIn o task on_refusal CannotWrite text = ⊥
 
 -- the same of the first of the lines that stand after so many others
-abbrev pub IsStoppedAtIn : Options → OnRefusal → Fault → ℕ → List (List ℕ) → Type 0
-IsStoppedAtIn o on_refusal CannotRead before others = Unit {0}
-IsStoppedAtIn o on_refusal NotJson before [] = ⊥
-IsStoppedAtIn o on_refusal NotJson before (line ∷ others) = IsStoppedIn o on_refusal NotJson (text_of before line)
-IsStoppedAtIn o on_refusal (NotExtendedJson place) before [] = ⊥
-IsStoppedAtIn o on_refusal (NotExtendedJson place) before (line ∷ others) =
-    IsStoppedIn o on_refusal (NotExtendedJson place) (text_of before line)
-IsStoppedAtIn o on_refusal OutOfMemory before others = Unit {0}
-IsStoppedAtIn o on_refusal CannotWrite before others = ⊥
+abbrev pub IsStoppedAtIn : Options → Task → OnRefusal → Fault → ℕ → List (List ℕ) → Type 0
+IsStoppedAtIn o task on_refusal CannotRead before others = Unit {0}
+IsStoppedAtIn o task on_refusal NotJson before [] = ⊥
+IsStoppedAtIn o task on_refusal NotJson before (line ∷ others) =
+    IsStoppedIn o task on_refusal NotJson (text_of before line)
+IsStoppedAtIn o task on_refusal (NotExtendedJson place) before [] = ⊥
+IsStoppedAtIn o task on_refusal (NotExtendedJson place) before (line ∷ others) =
+    IsStoppedIn o task on_refusal (NotExtendedJson place) (text_of before line)
+IsStoppedAtIn o task on_refusal (NoBytes why) before [] = ⊥
+IsStoppedAtIn o task on_refusal (NoBytes why) before (line ∷ others) =
+    IsStoppedIn o task on_refusal (NoBytes why) (text_of before line)
+IsStoppedAtIn o task on_refusal OutOfMemory before others = Unit {0}
+IsStoppedAtIn o task on_refusal CannotWrite before others = ⊥
 
 -- what each fault says of the bytes, and of the line whose number stands beside it: that it came for this reason, but
 -- for a fault of a writer
 abbrev pub FailsAtIn : Options → Fault → Task → OnRefusal
     → (before after had holds told tells : Option (List ℕ)) → ℕ → Type 0
 FailsAtIn o CannotRead task on_refusal before after had holds told tells number =
-    StopsAtIn o (IsStoppedAtIn o on_refusal CannotRead) task on_refusal before after had holds told tells number
+    StopsAtIn o (IsStoppedAtIn o task on_refusal CannotRead) task on_refusal before after had holds told tells number
 FailsAtIn o NotJson task on_refusal before after had holds told tells number =
-    StopsAtIn o (IsStoppedAtIn o on_refusal NotJson) task on_refusal before after had holds told tells number
+    StopsAtIn o (IsStoppedAtIn o task on_refusal NotJson) task on_refusal before after had holds told tells number
 FailsAtIn o (NotExtendedJson place) task on_refusal before after had holds told tells number =
-    StopsAtIn o (IsStoppedAtIn o on_refusal (NotExtendedJson place)) task on_refusal before after had holds told tells
+    StopsAtIn o (IsStoppedAtIn o task on_refusal (NotExtendedJson place)) task on_refusal before after had holds told tells
     number
+FailsAtIn o (NoBytes why) task on_refusal before after had holds told tells number =
+    StopsAtIn o (IsStoppedAtIn o task on_refusal (NoBytes why)) task on_refusal before after had holds told tells number
 FailsAtIn o OutOfMemory task on_refusal before after had holds told tells number =
-    StopsAtIn o (IsStoppedAtIn o on_refusal OutOfMemory) task on_refusal before after had holds told tells number
+    StopsAtIn o (IsStoppedAtIn o task on_refusal OutOfMemory) task on_refusal before after had holds told tells number
 FailsAtIn o CannotWrite task on_refusal before after had holds told tells number =
     CutShortAtIn o task on_refusal before after had holds told tells number
 

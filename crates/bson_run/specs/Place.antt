@@ -10,7 +10,7 @@ use Rattle.serde_json.specs.Read.{max_depth}
 use Rattle.bson_place.specs.Place.{Turn, dotted, way_of}
 use Rattle.bson_place.specs.declared.place.Place.{Place}
 use Rattle.bson_run.specs.declared.fault.Fault.{Fault}
-use Rattle.bson_run.specs.declared.fault.Fault.TheVariants.{CannotRead, NotJson, NotExtendedJson, OutOfMemory}
+use Rattle.bson_run.specs.declared.fault.Fault.TheVariants.{CannotRead, NotJson, NotExtendedJson, NoBytes, OutOfMemory}
 use Rattle.bson_run.specs.declared.fault.Fault.TheVariants.{CannotWrite}
 
 -- a path that has no word is left out
@@ -60,5 +60,6 @@ abbrev pub IsWhere : Fault → List ℕ → Type 0
 IsWhere CannotRead words = words ≡ []
 IsWhere NotJson words = IsColumn words
 IsWhere (NotExtendedJson place) words = IsPlaced place words
+IsWhere (NoBytes why) words = words ≡ []
 IsWhere OutOfMemory words = words ≡ []
 IsWhere CannotWrite words = words ≡ []

@@ -6,7 +6,7 @@ use Rattle.bson.specs.declared.extjson.options.Options.{Options}
 use Rattle.bson_run.specs.Convert.{default_options, ConvertsIn, IsRefusedIn}
 use Rattle.bson_run.specs.declared.mode.Mode.{Mode}
 use Rattle.bson_run.specs.declared.fault.Fault.{Fault}
-use Rattle.bson_run.specs.declared.fault.Fault.TheVariants.{CannotRead, NotJson, NotExtendedJson, OutOfMemory}
+use Rattle.bson_run.specs.declared.fault.Fault.TheVariants.{CannotRead, NotJson, NotExtendedJson, NoBytes, OutOfMemory}
 use Rattle.bson_run.specs.declared.fault.Fault.TheVariants.{CannotWrite}
 
 -- the reader gave these bytes, and has none left
@@ -57,6 +57,7 @@ FailsIn o CannotRead mode before after had holds = Keeps had holds
 FailsIn o NotJson mode before after had holds = RefusesIn o NotJson before after × Keeps had holds
 FailsIn o (NotExtendedJson place) mode before after had holds =
     RefusesIn o (NotExtendedJson place) before after × Keeps had holds
+FailsIn o (NoBytes why) mode before after had holds = ⊥
 FailsIn o OutOfMemory mode before after had holds = Keeps had holds
 FailsIn o CannotWrite mode before after had holds = CutShortIn o mode before after had holds
 

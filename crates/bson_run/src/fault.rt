@@ -2,6 +2,7 @@
 ghost use Rattle.std.specs.Prelude.{◌≡◌, ◌≢◌, MatchBool};
 ghost use Rattle.bson_run.specs.Words.{line_of, words_of};
 
+use crate::no_bytes::NoBytes;
 use bson_place::place::{Place, Reason};
 
 /// Why a run was refused.
@@ -21,6 +22,8 @@ pub enum Fault {
     /// The JSON text has no meaning in MongoDB Extended JSON v2: its first fault, and where that
     /// lies.
     NotExtendedJson(Place),
+    /// The text has a meaning, but no bytes of BSON.
+    NoBytes(NoBytes),
     /// A request for memory was refused.
     OutOfMemory,
     /// The writer answered an error, whichever it was, or took no byte.
@@ -39,6 +42,12 @@ impl Fault {
                 Reason::BadObjectId(_) => "bson_cli: bad object id",
                 Reason::WrongShape(_) => "bson_cli: not Extended JSON",
             },
+            Fault::NoBytes(NoBytes::NoDocument) => "bson_cli: no document",
+            Fault::NoBytes(NoBytes::ZeroInKey) => "bson_cli: a key has a 0 byte in it",
+            Fault::NoBytes(NoBytes::ZeroInRegex) => {
+                "bson_cli: a regular expression has a 0 byte in it"
+            }
+            Fault::NoBytes(NoBytes::TooLong) => "bson_cli: a part is too long for BSON",
             Fault::OutOfMemory => "bson_cli: out of memory",
             Fault::CannotWrite => "bson_cli: cannot write",
         }
@@ -55,6 +64,7 @@ impl Fault {
                 Reason::BadObjectId(_) => "bad object id",
                 Reason::WrongShape(_) => "not Extended JSON",
             },
+            Fault::NoBytes(why) => why.words(),
             Fault::OutOfMemory => "out of memory",
             Fault::CannotWrite => "cannot write",
         }

@@ -2,16 +2,18 @@
 ghost use Rattle.std.specs.Prelude.{◌≡◌, ◌⊎◌, ◌++◌, ◌+◌, [], ◌∷◌, ◌<◌, length, IfOk, IfErr, take};
 ghost use Rattle.std.specs.Prelude.{OnOk, OnErr, None, Ok, IsTrue, ◌↔◌, string_bytes};
 ghost use Rattle.std.specs.Prelude.{MatchOption, IfSome, ◌≢◌, slice_index};
-ghost use Rattle.bson_run.specs.Lines.{IsBlank, IsBadTextIn, IsStoppedIn, Tells, WritesIn};
+ghost use Rattle.bson_run.specs.Lines.{IsBlank, IsBadLineIn, IsStoppedIn, Tells, WritesIn};
 ghost use Rattle.bson_run.specs.Lines.{told_at, text_of};
 ghost use Rattle.bson_run.specs.LinesSteps.{Ends, HasRoom, HaveSameOutcomes, IsCountedOut};
 ghost use Rattle.bson_run.specs.LinesSteps.{IsJudged, IsOpen, IsStart, IsTold, StopsLast, StopsWithin};
 ghost use Rattle.bson_run.specs.LinesSteps.{Takes, TakesLine};
 ghost use Rattle.bson_run.specs.declared.order.OnRefusal.TheVariants.{Stop};
 ghost use Rattle.bson_run.specs.Place.{IsWhere};
+ghost use Rattle.bson_run.specs.declared.order.Task.{Task};
 ghost use Rattle.bson.specs.declared.extjson.options.Options.{Options};
 
 use crate::convert::convert_with;
+use crate::encode::{encode_in_order, encode_with};
 use crate::explain::explain;
 use crate::fault::Fault;
 use crate::in_order::convert_in_order;
@@ -69,7 +71,7 @@ fn is_blank(text: &[u8]) -> bool
 fn judge(alloc: Global, options: Options, task: Task, text: &[u8]) -> Result<Option<Vec<u8>>, Fault>
     ensures blank { result ≡ Ok None → IsBlank text.now }
     ensures ok { IfOk result (λ some. IfSome some (λ output. WritesIn options task text.now output.items)) }
-    ensures fault { IfErr result (λ fault. IsJudged options fault text.now) }
+    ensures fault { IfErr result (λ fault. IsJudged options task fault text.now) }
 {
     if is_blank(text) {
         return Ok(None);
@@ -81,12 +83,14 @@ fn judge(alloc: Global, options: Options, task: Task, text: &[u8]) -> Result<Opt
             convert_with(alloc, options, Mode::Canonical, text)?;
             Ok(Some(Vec::new(alloc)))
         }
+        Task::Encode => Ok(Some(encode_with(alloc, options, text)?)),
+        Task::EncodeInOrder => Ok(Some(encode_in_order(alloc, options, text)?)),
     }
 }
 
 // What is told of a line that is refused.
 fn verdict(alloc: Global, number: u64, fault: &Fault, text: &[u8]) -> Result<String, AllocError>
-    ensures { (options : Options) → IfOk result (λ told. IsBadTextIn options fault.now text.now
+    ensures { (options : Options) (task : Task) → IfOk result (λ told. IsBadLineIn options task fault.now text.now
         → Tells number fault.now (string_bytes told)) }
 {
     let place = explain(alloc, fault, text)?;
@@ -168,7 +172,7 @@ impl Gathered {
         ensures ok { OnOk result (TakesLine options task on_refusal self.old self.new) }
         ensures same { OnErr result (HaveSameOutcomes self.old self.new) }
         ensures fault { IfErr result
-            (λ e. IsStoppedIn options on_refusal e (text_of self.old.lines self.old.line.items)) }
+            (λ e. IsStoppedIn options task on_refusal e (text_of self.old.lines self.old.line.items)) }
         ensures count { IfErr result (λ e. IsCountedOut e self.old.lines) }
     {
         if self.lines + 1 == u64::MAX {
@@ -201,7 +205,7 @@ impl Gathered {
         requires room { HasRoom self.old }
         ensures ok { OnOk result ((fault ≢ Fault.OutOfMemory) × (on_refusal ≢ Stop)
             × (self.new.refused ≡ self.old.refused + 1)
-            × ((options : Options) → IsTold options (self.old.lines + 1) fault
+            × ((options : Options) (task : Task) → IsTold options task (self.old.lines + 1) fault
             (text_of self.old.lines self.old.line.items) self.old.told.items self.new.told.items)) }
         ensures err { OnErr result ((self.new.told.items ≡ self.old.told.items)
             × (self.new.refused ≡ self.old.refused)) }
@@ -227,7 +231,7 @@ impl Gathered {
     fn tell(&mut self, alloc: Global, fault: &Fault) -> Result<(), AllocError>
         requires room { HasRoom self.old }
         ensures ok { OnOk result
-            ((options : Options) → IsTold options (self.old.lines + 1) fault.now
+            ((options : Options) (task : Task) → IsTold options task (self.old.lines + 1) fault.now
             (text_of self.old.lines self.old.line.items) self.old.told.items self.new.told.items) }
         ensures err { OnErr result (self.new.told.items ≡ self.old.told.items) }
         ensures same { (self.new.line ≡ self.old.line) × (self.new.output ≡ self.old.output)

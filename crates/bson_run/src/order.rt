@@ -24,16 +24,23 @@ pub enum Task {
     WriteInOrder(Mode),
     /// It is only judged, and nothing is written.
     Check,
+    /// The bytes of its document are written, its keys in ascending order; no newline behind them.
+    Encode,
+    /// The same, with the keys of each document in the order of the text.
+    EncodeInOrder,
 }
 
 impl Task {
-    /// The task of this name: that of a mode, whose output is written, or `check`.
+    /// The task of this name: that of a mode, whose output is written, `check` or `encode`.
     pub fn from_name(name: &str) -> Option<Task>
         ensures named { IfSome result (λ task. name.now ≡ task_name task) }
         ensures other { result ≡ None → (task : Task) → name.now ≡ task_name task → ⊥ }
     {
         if name == "check" {
             return Some(Task::Check);
+        }
+        if name == "encode" {
+            return Some(Task::Encode);
         }
         Some(Task::Write(Mode::from_name(name)?))
     }

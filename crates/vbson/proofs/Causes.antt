@@ -1,5 +1,5 @@
 -- What the status of a fault says of the bytes that have it.
-use Rattle.std.proofs.Common.{◌≡◌, ℕ, List, arith}
+use Rattle.std.proofs.Common.{◌≡◌, ◌≤◌, inl, inr, ℕ, List, arith}
 use Rattle.serde_json.specs.Data.{Data}
 use Rattle.bson.specs.TextMeaning.{IsTextOf}
 use Rattle.bson_place.specs.Faults.{Fault as TreeFault}
@@ -11,9 +11,14 @@ use Rattle.bson_place.specs.declared.place.Reason.TheVariants.{BadObjectId, Wron
 use Rattle.bson_place.specs.declared.place.Place.{Place}
 use Rattle.bson_run.specs.Convert.{IsRefusedIn}
 use Rattle.bson_run.specs.declared.fault.Fault.{Fault}
-use Rattle.bson_run.specs.declared.fault.Fault.TheVariants.{CannotRead, NotJson, NotExtendedJson, OutOfMemory}
+use Rattle.bson_run.specs.declared.fault.Fault.TheVariants.{CannotRead, NotJson, NotExtendedJson, NoBytes, OutOfMemory}
 use Rattle.bson_run.specs.declared.fault.Fault.TheVariants.{CannotWrite}
-use Rattle.vbson.specs.Convert.{HasNoMeaningIn, IsBad, IsBadId, IsCauseIn, status_for, status_of}
+use Rattle.bson_run.specs.Encode.{HasNoBytesIn, IsUnencodedIn}
+use Rattle.bson_run.specs.declared.no_bytes.NoBytes as without
+use Rattle.bson_run.specs.declared.no_bytes.NoBytes.TheVariants.{NoDocument, ZeroInKey, ZeroInRegex, TooLong}
+use Rattle.vbson.specs.Convert.{HasNoMeaningIn, IsBad, IsBadId, IsCauseIn, IsOfText, status_for, status_of}
+use Rattle.vbson.specs.Convert.{status_without}
+use Rattle.vbson.specs.Documents.{IsUnencoded}
 
 is_bad_id : (f : TreeFault) (r : Reason) → IsReason f r → status_for r ≡ 3 → IsBadId f
 is_bad_id f (BadObjectId e) h is = (h.0, h.1)
@@ -46,9 +51,92 @@ causes o (NotExtendedJson place) bytes h = record {
   bad_object_id = λ is. of_place o IsBadId place bytes h (is_bad_id _ place.reason h.2.reason is);
   not_extended_json = λ is. of_place o IsBad place bytes h (is_bad _ place.reason h.2.reason is);
 }
+causes o (NoBytes why) bytes h = absurd h
 causes o OutOfMemory bytes h = record {
   not_json = λ is. absurd (omega arith);
   bad_object_id = λ is. absurd (omega arith);
   not_extended_json = λ is. absurd (omega arith);
 }
 causes o CannotWrite bytes h = absurd h
+
+-- ---- a text that gives no bytes
+
+-- a status from 10 on says nothing of what has no meaning
+no_cause : (o : Options) (status : ℕ) (text : List ℕ) → 10 ≤ status → IsCauseIn o status text
+no_cause o status text late = record {
+  not_json = λ is. absurd (omega (arith, late, is));
+  bad_object_id = λ is. absurd (omega (arith, late, is));
+  not_extended_json = λ is. absurd (omega (arith, late, is));
+}
+
+-- a status up to 5 says nothing of what has one
+no_meaning : (o : Options) (status : ℕ) (text : List ℕ) → IsCauseIn o status text → 2 ≤ status → status ≤ 5
+    → IsUnencoded o status text
+no_meaning o status text cause least most = record {
+  cause = cause;
+  no_document = λ is. absurd (omega (arith, most, is));
+  zero_key = λ is. absurd (omega (arith, most, is));
+  zero_regex = λ is. absurd (omega (arith, most, is));
+  long = λ is. absurd (omega (arith, most, is));
+  listed = inl (least, most);
+}
+
+reason_status : (r : Reason) → (2 ≤ status_for r) × (status_for r ≤ 5)
+reason_status (BadObjectId e) = (omega arith, omega arith)
+reason_status (WrongShape message) = (omega arith, omega arith)
+
+without_bytes : (o : Options) (why : without.NoBytes) (text : List ℕ) → HasNoBytesIn o why text
+    → IsUnencoded o (status_without why) text
+without_bytes o NoDocument text h = record {
+  cause = no_cause o 10 text (omega arith);
+  no_document = λ is. h;
+  zero_key = λ is. absurd (omega (arith, is));
+  zero_regex = λ is. absurd (omega (arith, is));
+  long = λ is. absurd (omega (arith, is));
+  listed = inr (omega arith, omega arith);
+}
+without_bytes o ZeroInKey text h = record {
+  cause = no_cause o 11 text (omega arith);
+  no_document = λ is. absurd (omega (arith, is));
+  zero_key = λ is. h;
+  zero_regex = λ is. absurd (omega (arith, is));
+  long = λ is. absurd (omega (arith, is));
+  listed = inr (omega arith, omega arith);
+}
+without_bytes o ZeroInRegex text h = record {
+  cause = no_cause o 12 text (omega arith);
+  no_document = λ is. absurd (omega (arith, is));
+  zero_key = λ is. absurd (omega (arith, is));
+  zero_regex = λ is. h;
+  long = λ is. absurd (omega (arith, is));
+  listed = inr (omega arith, omega arith);
+}
+without_bytes o TooLong text h = record {
+  cause = no_cause o 13 text (omega arith);
+  no_document = λ is. absurd (omega (arith, is));
+  zero_key = λ is. absurd (omega (arith, is));
+  zero_regex = λ is. absurd (omega (arith, is));
+  long = λ is. h;
+  listed = inr (omega arith, omega arith);
+}
+
+-- what the status of the fault says of the text
+pub unencoded : (o : Options) (fault : Fault) (text : List ℕ) → IsUnencodedIn o fault text
+    → IsUnencoded o (status_of fault) text
+unencoded o CannotRead text h = absurd h
+unencoded o NotJson text h = no_meaning o 2 text (causes o NotJson text h) (omega arith) (omega arith)
+unencoded o (NotExtendedJson place) text h =
+    let r = reason_status place.reason in
+    no_meaning o (status_for place.reason) text (causes o (NotExtendedJson place) text h) r.0 r.1
+unencoded o (NoBytes why) text h = without_bytes o why text h
+unencoded o OutOfMemory text h = no_meaning o 5 text (causes o OutOfMemory text h) (omega arith) (omega arith)
+unencoded o CannotWrite text h = absurd h
+
+-- a text that gives no bytes has the fault of a text
+pub of_text : (o : Options) (fault : Fault) (text : List ℕ) → IsUnencodedIn o fault text → IsOfText fault
+of_text o CannotRead text h = absurd h
+of_text o NotJson text h = tt
+of_text o (NotExtendedJson place) text h = tt
+of_text o (NoBytes why) text h = tt
+of_text o OutOfMemory text h = tt
+of_text o CannotWrite text h = absurd h

@@ -7,6 +7,7 @@ use Rattle.bson_place.specs.declared.place.Reason.TheVariants.{BadObjectId, Wron
 use Rattle.bson_run.specs.Convert.{default_options}
 use Rattle.bson_run.specs.declared.mode.Mode.TheVariants as mode
 use Rattle.bson_run.specs.declared.fault.Fault.TheVariants as fault
+use Rattle.bson_run.specs.declared.no_bytes.NoBytes.TheVariants as without
 use Rattle.vbson.specs.Convert.{mode_at, options_of, status_for, status_of}
 use Rattle.vbson.specs.Documents.{depth}
 
@@ -55,3 +56,17 @@ out_of_memory_numbered = refl
 
 nested_100 : depth ≡ 100
 nested_100 = refl
+
+-- ---- texts that give no bytes
+
+no_document_numbered : status_of (fault.NoBytes without.NoDocument) ≡ 10
+no_document_numbered = refl
+
+zero_in_key_numbered : status_of (fault.NoBytes without.ZeroInKey) ≡ 11
+zero_in_key_numbered = refl
+
+zero_in_regex_numbered : status_of (fault.NoBytes without.ZeroInRegex) ≡ 12
+zero_in_regex_numbered = refl
+
+too_long_numbered : status_of (fault.NoBytes without.TooLong) ≡ 13
+too_long_numbered = refl

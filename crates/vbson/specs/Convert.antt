@@ -12,8 +12,10 @@ use Rattle.bson_run.specs.Convert.{ConvertsIn, default_options, newline}
 use Rattle.bson_run.specs.declared.mode.Mode.{Mode}
 use Rattle.bson_run.specs.declared.mode.Mode.TheVariants.{Canonical, Relaxed, Show}
 use Rattle.bson_run.specs.declared.fault.Fault.{Fault}
-use Rattle.bson_run.specs.declared.fault.Fault.TheVariants.{CannotRead, NotJson, NotExtendedJson}
+use Rattle.bson_run.specs.declared.fault.Fault.TheVariants.{CannotRead, NotJson, NotExtendedJson, NoBytes}
 use Rattle.bson_run.specs.declared.fault.Fault.TheVariants.{CannotWrite}
+use Rattle.bson_run.specs.declared.no_bytes.NoBytes as without
+use Rattle.bson_run.specs.declared.no_bytes.NoBytes.TheVariants.{NoDocument, ZeroInKey, ZeroInRegex, TooLong}
 use Rattle.vbson.specs.Text.{IsText}
 use Rattle.vbson.specs.declared.text.Text.{Text}
 
@@ -73,7 +75,14 @@ abbrev pub status_for : Reason → ℕ
 status_for (BadObjectId e) = 3
 status_for (WrongShape message) = 4
 
+abbrev pub status_without : without.NoBytes → ℕ
+status_without NoDocument = 10
+status_without ZeroInKey = 11
+status_without ZeroInRegex = 12
+status_without TooLong = 13
+
 abbrev pub status_of : Fault → ℕ
 status_of NotJson = 2
 status_of (NotExtendedJson place) = status_for place.reason
+status_of (NoBytes why) = status_without why
 status_of _ = 5

@@ -1,5 +1,5 @@
 -- Documents by their bytes (BSON 1.1, bsonspec.org), and by their texts.
-use Rattle.std.specs.Prelude.{◌≡◌, ◌⊎◌, ◌≤◌, ℕ, suc, List, [], ◌++◌, Some, codes, false, true}
+use Rattle.std.specs.Prelude.{◌≡◌, ◌⊎◌, ◌≤◌, ℕ, List, [], ◌++◌, Some, codes, false, true}
 use Rattle.std.specs.Fmt.{decimal}
 use Rattle.bson.specs.Form.TheVariants as form
 use Rattle.bson.specs.TextMeaning.{HasTextMeaningIn}
@@ -8,15 +8,16 @@ use Rattle.bson.specs.declared.extjson.options.Options.{Options}
 use Rattle.bson_bytes.specs.declared.fault.FaultKind.{FaultKind}
 use Rattle.bson_codec.specs.Bytes.{reads}
 use Rattle.bson_codec.specs.Canonical.{Cause, zero_in_key, zero_in_regex, too_long}
-use Rattle.bson_codec.specs.Canonical.{DocumentFails, FitsDocument, NestsPairs, as_written, document_bytes}
 use Rattle.bson_codec.specs.Errors.{IsPlacedFault}
 use Rattle.bson_codec.specs.Laws.{IsRead}
 use Rattle.bson_codec.specs.Told.{words_for}
 use Rattle.bson_model.specs.Displayed.{display_text}
 use Rattle.bson_model.specs.Normal.{writable_in}
-use Rattle.bson_model.specs.Value.{Value, Pairs, document}
+use Rattle.bson_model.specs.Value.{Pairs, document}
+use Rattle.bson_run.specs.Encode.{EncodesIn, FailsFor, HasNoBytesIn}
 use Rattle.bson_run.specs.declared.mode.Mode.{Mode}
 use Rattle.bson_run.specs.declared.mode.Mode.TheVariants.{Canonical, Relaxed, Show}
+use Rattle.bson_run.specs.declared.no_bytes.NoBytes.TheVariants.{NoDocument}
 use Rattle.vbson.specs.Convert.{IsCauseIn, mode_at}
 use Rattle.vbson.specs.Text.{IsText}
 use Rattle.vbson.specs.declared.text.Text.{Text}
@@ -84,28 +85,20 @@ IsDocumentExplained bytes out = (words : List ℕ) × ExplainsDocument bytes wor
 -- ---- from a text to bytes
 
 -- the text means a document, whose canonical bytes these are; they are read back as it
-pub record Encodes (o : Options) (text bytes : List ℕ) : Type 0 where
-  pub pairs : Pairs
-  pub meaning : HasTextMeaningIn o.doubles text (document pairs)
-  pub fits : FitsDocument pairs
-  pub canonical : bytes ≡ document_bytes pairs
-  pub back : (d : ℕ) → NestsPairs pairs d → IsRead (suc d) bytes (as_written pairs)
+abbrev pub Encodes : Options → (text bytes : List ℕ) → Type 0
+Encodes = EncodesIn
 
 -- what is left are those bytes
 abbrev pub IsEncoded : Options → List ℕ → Text → Type 0
 IsEncoded o text out = (bytes : List ℕ) × Encodes o text bytes × IsText bytes out
 
 -- the text means a value that is no document
-pub record MeansNoDocument (o : Options) (text : List ℕ) : Type 0 where
-  pub value : Value
-  pub meaning : HasTextMeaningIn o.doubles text value
-  pub other : (ps : Pairs) → value ≡ document ps → ⊥
+abbrev pub MeansNoDocument : Options → List ℕ → Type 0
+MeansNoDocument o text = HasNoBytesIn o NoDocument text
 
 -- the text means a document that has no bytes, for this cause
-pub record HasNoBytes (o : Options) (cause : Cause) (text : List ℕ) : Type 0 where
-  pub pairs : Pairs
-  pub meaning : HasTextMeaningIn o.doubles text (document pairs)
-  pub fails : DocumentFails cause pairs
+abbrev pub HasNoBytes : Options → Cause → List ℕ → Type 0
+HasNoBytes o cause text = FailsFor (HasTextMeaningIn o.doubles text) cause
 
 -- ---- for private clauses
 
@@ -124,10 +117,3 @@ pub record IsUnencoded (o : Options) (status : ℕ) (text : List ℕ) : Type 0 w
   pub zero_regex : status ≡ 12 → HasNoBytes o zero_in_regex text
   pub long : status ≡ 13 → HasNoBytes o too_long text
   pub listed : ((2 ≤ status) × (status ≤ 5)) ⊎ ((10 ≤ status) × (status ≤ 13))
-
--- what a status says of a document that gave no bytes
-pub record FailsFor (status : ℕ) (ps : Pairs) : Type 0 where
-  pub zero_key : status ≡ 11 → DocumentFails zero_in_key ps
-  pub zero_regex : status ≡ 12 → DocumentFails zero_in_regex ps
-  pub long : status ≡ 13 → DocumentFails too_long ps
-  pub listed : (status ≡ 5) ⊎ ((11 ≤ status) × (status ≤ 13))

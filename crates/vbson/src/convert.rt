@@ -19,6 +19,7 @@ use bson_place::place::Reason;
 use bson_run::convert::convert_with;
 use bson_run::fault::Fault;
 use bson_run::mode::Mode;
+use bson_run::no_bytes::NoBytes;
 use std::alloc::Global;
 
 /// Reads the text as one text of Extended JSON, and leaves the text of its value in a mode: 0 the
@@ -102,6 +103,7 @@ pub fn status_of(fault: Fault) -> u32
     requires { IsOfText fault }
     ensures number { result ≡ status_of fault }
     ensures cause { (o : Options) (bytes : List ℕ) → IsRefusedIn o fault bytes → IsCauseIn o result bytes }
+    ensures listed { (o : Options) (bytes : List ℕ) → IsRefusedIn o fault bytes → result ≤ 5 }
 {
     match fault {
         Fault::NotJson => status::NOT_JSON,
@@ -109,6 +111,10 @@ pub fn status_of(fault: Fault) -> u32
             Reason::BadObjectId(_) => status::BAD_OBJECT_ID,
             Reason::WrongShape(_) => status::NOT_EXTENDED_JSON,
         },
+        Fault::NoBytes(NoBytes::NoDocument) => status::NO_DOCUMENT,
+        Fault::NoBytes(NoBytes::ZeroInKey) => status::ZERO_IN_KEY,
+        Fault::NoBytes(NoBytes::ZeroInRegex) => status::ZERO_IN_REGEX,
+        Fault::NoBytes(NoBytes::TooLong) => status::TOO_LONG,
         Fault::OutOfMemory => status::OUT_OF_MEMORY,
         Fault::CannotRead | Fault::CannotWrite => unreachable!(),
     }

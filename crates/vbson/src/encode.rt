@@ -1,27 +1,21 @@
 //! The bytes of a text's document.
 ghost use Rattle.std.specs.Prelude.{◌≡◌, ◌⊎◌, ◌↔◌, ◌<◌, ◌≤◌, ◌++◌, List, ℕ, IfOk, IfErr};
 ghost use Rattle.serde_json.specs.Data.{Data};
-ghost use Rattle.bson.specs.TextMeaning.{IsNoText, IsTextFaultIn, IsTextOf};
-ghost use Rattle.bson.specs.declared.extjson.options.Options.{Options};
+ghost use Rattle.bson.specs.TextMeaning.{IsNoText, IsTextOf};
 ghost use Rattle.bson_codec.specs.Canonical.{FitsDocument, too_long, zero_in_key, zero_in_regex};
-ghost use Rattle.bson_codec.specs.Writing.{IsRefusal};
-ghost use Rattle.bson_codec.specs.declared.ser.Error.TheVariants as errors;
 ghost use Rattle.bson_model.specs.Means.{MeansIn};
 ghost use Rattle.bson_model.specs.Value as model;
 ghost use Rattle.bson_model.specs.Value.{Pairs};
-ghost use Rattle.bson_run.specs.Convert.{IsRefusedIn, newline};
-ghost use Rattle.vbson.specs.Convert.{HasNoMeaningIn, IsBad, IsBadId, IsCauseIn, IsOfText, options_of};
-ghost use Rattle.vbson.specs.Documents.{Encodes, HasNoBytes, IsEncoded, IsUnencoded, FailsFor, MeansNoDocument};
+ghost use Rattle.bson_run.specs.Convert.{newline};
+ghost use Rattle.vbson.specs.Convert.{HasNoMeaningIn, IsBad, IsBadId, options_of};
+ghost use Rattle.vbson.specs.Documents.{Encodes, HasNoBytes, IsEncoded, IsUnencoded, MeansNoDocument};
 
 use crate::convert::status_of;
 use crate::flags::{has_others, options_of};
 use crate::status;
 use crate::text::{Text, as_line, text_of_line};
-use bson::Bson;
 use bson::extjson::Options;
-use bson::extjson::de::TextError;
-use bson_codec::{ser, to_vec};
-use bson_run::fault::Fault;
+use bson_run::encode::encode_with;
 use std::alloc::Global;
 
 /// Leaves the canonical bytes of the document that a text of Extended JSON means, with the flags of
@@ -67,41 +61,8 @@ fn encoded(alloc: Global, options: Options, text: &[u8]) -> Result<Vec<u8>, u32>
         → MeansIn options.doubles tree (model.document ps) → FitsDocument ps → IfErr result (λ status. status ≡ 5) }
     ensures refused { IfErr result (λ status. IsUnencoded options status text.now) }
 {
-    let value = match Bson::try_from_text_with(alloc, options, text) {
-        Ok(value) => value,
-        Err(error) => return Err(status_of(fault_of(error))),
-    };
-    let Bson::Document(document) = value else {
-        return Err(status::NO_DOCUMENT);
-    };
-    match to_vec(alloc, &document) {
+    match encode_with(alloc, options, text) {
         Ok(bytes) => as_line(bytes),
-        Err(error) => Err(status_for(error)),
-    }
-}
-
-// The fault of a text that means no value.
-fn fault_of(error: TextError) -> Fault
-    ensures of_text { IsOfText result }
-    ensures memory { error ≡ TextError.OutOfMemory → result ≡ Fault.OutOfMemory }
-    ensures refused { (o : Options) (bytes : List ℕ) → IsTextFaultIn o.doubles bytes error → IsRefusedIn o result bytes }
-{
-    match error {
-        TextError::NotJson => Fault::NotJson,
-        TextError::NotExtendedJson(place) => Fault::NotExtendedJson(place),
-        TextError::OutOfMemory => Fault::OutOfMemory,
-    }
-}
-
-// The status of a document that has no bytes.
-fn status_for(error: ser::Error) -> u32
-    ensures cause { (ps : Pairs) → IsRefusal error ps → FailsFor result ps }
-    ensures memory { error ≡ errors.OutOfMemory → result ≡ 5 }
-{
-    match error {
-        ser::Error::Key => status::ZERO_IN_KEY,
-        ser::Error::Regex => status::ZERO_IN_REGEX,
-        ser::Error::Size => status::TOO_LONG,
-        ser::Error::OutOfMemory => status::OUT_OF_MEMORY,
+        Err(fault) => Err(status_of(fault)),
     }
 }

@@ -1,4 +1,4 @@
-use Rattle.std.proofs.Common.{◌≡◌, refl, sym, ap, ◌∙◌, true≢false}
+use Rattle.std.proofs.Common.{sym, ap, ◌∙◌, true≢false}
 use Rattle.bson.specs.Normal.{writable}
 use Rattle.bson.specs.Value.{document}
 use Rattle.bson_pairs.proofs.Seen.{document_seen}

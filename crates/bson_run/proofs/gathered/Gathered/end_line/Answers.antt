@@ -36,7 +36,7 @@ returns-clause-ok c =
           (ap (λ (s : Gathered). s.lines + 1) w.self-is ∙ ap (λ n. n + 1) refused.same.2)
           (ap (λ (s : Gathered). s.output.items) w.self-is ∙ ap (λ v. v.items) refused.same.1)
           (ap (λ (s : Gathered). s.refused) w.self-is ∙ refused.ok.2) refused.ok.1
-          (judged_bad c.args.options w.in-Err.fault _ (subst (IsJudged c.args.options w.in-Err.fault) text w.in-Err.ensures.fault) refused.ok.0)
-          (subst (IsTold c.args.options (self.lines + 1) w.in-Err.fault (text_of self.lines self.line.items) self.told.items)
-          (sym (ap (λ (s : Gathered). s.told.items) w.self-is)) (refused.ok.3 c.args.options))
+          (judged_bad c.args.options c.args.task w.in-Err.fault _ (subst (IsJudged c.args.options c.args.task w.in-Err.fault) text w.in-Err.ensures.fault) refused.ok.0)
+          (subst (IsTold c.args.options c.args.task (self.lines + 1) w.in-Err.fault (text_of self.lines self.line.items) self.told.items)
+          (sym (ap (λ (s : Gathered). s.told.items) w.self-is)) (refused.ok.3 c.args.options c.args.task))
     ]

@@ -1,0 +1,20 @@
+use Rattle.std.proofs.Common.{◌≡◌, sym, subst, string_bytes}
+use Rattle.std.proofs.lemmas.Result.{IfOk-weaker}
+use Rattle.bson.specs.Doubles.TheVariants.{Finite}
+use Rattle.bson.specs.Form.TheVariants.{Canonical}
+use Rattle.bson.specs.Texts.{IsTextInOrder}
+use Rattle.bson.specs.Value.{document}
+use Rattle.bson_codec.specs.Laws.{IsRead}
+use Rattle.bson_pairs.proofs.ComingBack.{decoded_again, text_one}
+use Rattle.bson_pairs.proofs.again.text_again.Goals as goal
+
+pub returns-clause-same : goal.returns-clause-same
+returns-clause-same c = λ ps is back nests.
+    let text = c.args.text.now in
+    let read =
+    decoded_again ps text is back c.options.result c.in-Ok.bytes.items c.args.depth c.options.ensures c.in-Ok.ensures.ok
+    nests in
+    IfOk-weaker c.decoded.result (λ again. IsTextInOrder Finite Canonical (document ps) (string_bytes again))
+    (λ again. string_bytes again ≡ text)
+    (λ again it. text_one Finite Canonical (document ps) (string_bytes again) text it is)
+    (c.decoded.ensures.ok ps (subst (λ l. IsRead c.args.depth l ps) (sym c.as_slice.ensures.value) read))

@@ -1,0 +1,31 @@
+-- Which documents come back from their texts and their bytes.
+use Rattle.std.specs.Prelude.{◌≡◌, ◌≤◌, ℕ, suc, true}
+use Rattle.serde_json.specs.Data.{Data, depth}
+use Rattle.serde_json.specs.Read.{max_depth}
+use Rattle.bson.specs.Doubles.TheVariants.{Finite}
+use Rattle.bson.specs.Form.TheVariants.{Canonical}
+use Rattle.bson.specs.Normal.{normal_form, plain}
+use Rattle.bson.specs.Value.{Pairs, document}
+use Rattle.bson.specs.WriteError.TheVariants as write_errors
+use Rattle.bson.specs.WrittenInOrder.{WrittenInOrder}
+use Rattle.bson_codec.specs.Canonical.{NestsPairs}
+use Rattle.bson_codec.specs.declared.de.Error.TheVariants as read_errors
+use Rattle.bson_run.specs.declared.fault.Fault.TheVariants as faults
+use Rattle.bson_pairs.specs.declared.again.NotAgain.{NotAgain}
+use Rattle.bson_pairs.specs.declared.again.NotAgain.TheVariants.{NoBytes, NoDocument, NoText}
+
+-- the document has no wrapper's key of its own, it is in normal form, and its text nests no deeper than texts may
+pub record ComesBack (ps : Pairs) : Type 0 where
+  pub is_plain : plain (document ps) ≡ true
+  pub is_normal : normal_form (document ps) ≡ document ps
+  pub is_shallow : (t : Data) → WrittenInOrder Finite Canonical (document ps) t → depth t ≤ max_depth
+
+-- documents, arrays and scopes stand at most so many in each other, the document itself counted
+abbrev pub Nests : ℕ → Pairs → Type 0
+Nests depth ps = (d : ℕ) × (depth ≡ suc d) × NestsPairs ps d
+
+-- a request for memory was refused
+abbrev pub IsWant : NotAgain → Type 0
+IsWant (NoBytes fault) = fault ≡ faults.OutOfMemory
+IsWant (NoDocument e) = e ≡ read_errors.OutOfMemory
+IsWant (NoText e) = e ≡ write_errors.OutOfMemory

@@ -1,0 +1,86 @@
+//! That encoding and decoding undo each other, told from the public contracts of `bson`,
+//! `bson_codec` and `bson_run` alone.
+ghost use Rattle.std.specs.Prelude.{◌≡◌, IfOk, IfErr, IsUtf8, string_bytes};
+ghost use Rattle.bson.specs.Doubles.TheVariants.{Finite};
+ghost use Rattle.bson.specs.Form.TheVariants.{Canonical};
+ghost use Rattle.bson.specs.Texts.{IsTextInOrder};
+ghost use Rattle.bson.specs.Value.{Pairs, document};
+ghost use Rattle.bson_codec.specs.Canonical.{FitsDocument};
+ghost use Rattle.bson_codec.specs.Laws.{IsCanonical, IsRead};
+ghost use Rattle.bson_pairs.specs.Again.{ComesBack, IsWant, Nests};
+
+use bson::Bson;
+use bson::extjson::{Doubles, Form, Options, WriteError};
+use bson_codec::{de, from_slice};
+use bson_run::encode::encode_in_order;
+use bson_run::fault::Fault;
+use std::alloc::Global;
+
+/// Why there is no way and back.
+#[derive(Debug, Drop)]
+pub enum NotAgain {
+    /// The text gives no bytes.
+    NoBytes(Fault),
+    /// The bytes are no document.
+    NoDocument(de::Error),
+    /// The document gives no text.
+    NoText(WriteError),
+}
+
+// Doubles are taken, as bytes have them.
+fn options() -> Options
+    ensures { result.doubles ≡ Finite }
+{
+    Options {
+        doubles: Doubles::Finite,
+    }
+}
+
+/// The text of the document that the bytes are: canonical, its keys in their own order.
+pub fn decoded(alloc: Global, bytes: &[u8], depth: usize) -> Result<String, NotAgain>
+    // It is that of the one document that they are in the grammar.
+    ensures ok { (ps : Pairs) → IsRead depth bytes.now ps
+        → IfOk result (λ text. IsTextInOrder Finite Canonical (document ps) (string_bytes text)) }
+    // Where they are a document, memory alone is wanting.
+    ensures only { (ps : Pairs) → IsRead depth bytes.now ps → IfErr result (λ e. IsWant e) }
+{
+    let document = match from_slice(alloc, bytes, depth) {
+        Ok(document) => document,
+        Err(error) => return Err(NotAgain::NoDocument(error)),
+    };
+    match Bson::Document(document).into_text_in_order(alloc, options(), Form::Canonical) {
+        Ok(text) => Ok(text),
+        Err(error) => Err(NotAgain::NoText(error)),
+    }
+}
+
+/// A text to bytes, and those to a text.
+pub fn text_again(alloc: Global, text: &[u8], depth: usize) -> Result<String, NotAgain>
+    // The canonical text of a document, its keys in order, comes back.
+    ensures same { (ps : Pairs) → IsTextInOrder Finite Canonical (document ps) text.now → ComesBack ps → Nests depth ps
+        → IfOk result (λ again. string_bytes again ≡ text.now) }
+    // Where the document has bytes, memory alone is wanting.
+    ensures only { (ps : Pairs) → IsUtf8 text.now → IsTextInOrder Finite Canonical (document ps) text.now
+        → ComesBack ps → Nests depth ps → FitsDocument ps → IfErr result (λ e. IsWant e) }
+{
+    let bytes = match encode_in_order(alloc, options(), text) {
+        Ok(bytes) => bytes,
+        Err(fault) => return Err(NotAgain::NoBytes(fault)),
+    };
+    decoded(alloc, bytes.as_slice(), depth)
+}
+
+/// Bytes to a text, and that to bytes.
+pub fn bytes_again(alloc: Global, bytes: &[u8], depth: usize) -> Result<Vec<u8>, NotAgain>
+    // The bytes that a document is written as come back.
+    ensures same { (ps : Pairs) → IsCanonical depth bytes.now ps → ComesBack ps
+        → IfOk result (λ again. again.items ≡ bytes.now) }
+    // Memory alone is wanting for it.
+    ensures only { (ps : Pairs) → IsCanonical depth bytes.now ps → ComesBack ps → IfErr result (λ e. IsWant e) }
+{
+    let text = decoded(alloc, bytes, depth)?;
+    match encode_in_order(alloc, options(), text.as_bytes()) {
+        Ok(again) => Ok(again),
+        Err(fault) => Err(NotAgain::NoBytes(fault)),
+    }
+}

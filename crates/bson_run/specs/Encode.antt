@@ -1,0 +1,94 @@
+-- What encoding makes of bytes: the canonical bytes (BSON 1.1) of the document that they mean as a text, or why there
+-- are none.
+use Rattle.std.specs.Prelude.{◌≡◌, ℕ, suc, List, IsUtf8}
+use Rattle.bson.specs.TextMeaning.{HasTextMeaningIn}
+use Rattle.bson.specs.declared.extjson.options.Options.{Options}
+use Rattle.bson_codec.specs.Canonical.{Cause, zero_in_key, zero_in_regex, too_long}
+use Rattle.bson_codec.specs.Canonical.{DocumentFails, FitsDocument, NestsPairs, as_written, document_bytes}
+use Rattle.bson_codec.specs.Laws.{IsRead}
+use Rattle.bson_model.specs.Value.{Value, Pairs, document}
+use Rattle.bson_order.specs.Texts.{HasMeaningInOrder}
+use Rattle.bson_run.specs.Convert.{IsRefusedIn}
+use Rattle.bson_run.specs.declared.no_bytes.NoBytes.{NoBytes}
+use Rattle.bson_run.specs.declared.no_bytes.NoBytes.TheVariants.{NoDocument, ZeroInKey, ZeroInRegex, TooLong}
+use Rattle.bson_run.specs.declared.fault.Fault.{Fault}
+use Rattle.bson_run.specs.declared.fault.Fault.TheVariants as fault
+
+-- ---- what is meant has bytes, or has none
+
+-- a document is meant, whose canonical bytes these are; they are read back as it
+pub record IsBytesOf (means : Value → Type 0) (bytes : List ℕ) : Type 0 where
+  pub pairs : Pairs
+  pub meaning : means (document pairs)
+  pub fits : FitsDocument pairs
+  pub canonical : bytes ≡ document_bytes pairs
+  pub back : (d : ℕ) → NestsPairs pairs d → IsRead (suc d) bytes (as_written pairs)
+
+-- a value that is no document is meant
+pub record IsNoDocument (means : Value → Type 0) : Type 0 where
+  pub value : Value
+  pub meaning : means value
+  pub other : (ps : Pairs) → value ≡ document ps → ⊥
+
+-- a document is meant that has no bytes, for this cause
+pub record FailsFor (means : Value → Type 0) (cause : Cause) : Type 0 where
+  pub pairs : Pairs
+  pub meaning : means (document pairs)
+  pub fails : DocumentFails cause pairs
+
+-- why what is meant has no bytes
+abbrev pub HasNoBytesFor : (means : Value → Type 0) → NoBytes → Type 0
+HasNoBytesFor means NoDocument = IsNoDocument means
+HasNoBytesFor means ZeroInKey = FailsFor means zero_in_key
+HasNoBytesFor means ZeroInRegex = FailsFor means zero_in_regex
+HasNoBytesFor means TooLong = FailsFor means too_long
+
+-- ---- what a text means: with its keys in ascending order, or in the order of the text
+
+-- the bytes are a text that means the value in the order of its keys
+abbrev pub MeansKept : Options → List ℕ → Value → Type 0
+MeansKept o text value = IsUtf8 text × HasMeaningInOrder o.doubles text value
+
+abbrev pub EncodesIn : Options → (text bytes : List ℕ) → Type 0
+EncodesIn o text bytes = IsBytesOf (HasTextMeaningIn o.doubles text) bytes
+
+abbrev pub EncodesInOrder : Options → (text bytes : List ℕ) → Type 0
+EncodesInOrder o text bytes = IsBytesOf (MeansKept o text) bytes
+
+abbrev pub HasNoBytesIn : Options → NoBytes → List ℕ → Type 0
+HasNoBytesIn o why text = HasNoBytesFor (HasTextMeaningIn o.doubles text) why
+
+abbrev pub HasNoBytesInOrder : Options → NoBytes → List ℕ → Type 0
+HasNoBytesInOrder o why text = HasNoBytesFor (MeansKept o text) why
+
+-- what each fault says of the bytes
+abbrev pub IsUnencodedIn : Options → Fault → List ℕ → Type 0
+IsUnencodedIn o (fault.NoBytes why) text = HasNoBytesIn o why text
+IsUnencodedIn o it text = IsRefusedIn o it text
+
+abbrev pub IsUnencodedInOrder : Options → Fault → List ℕ → Type 0
+IsUnencodedInOrder o (fault.NoBytes why) text = HasNoBytesInOrder o why text
+IsUnencodedInOrder o it text = IsRefusedIn o it text
+
+-- ---- for private clauses
+
+-- why what is meant gave no bytes, or memory ran out
+abbrev pub IsUnencodedFor : (means : Value → Type 0) → Fault → Type 0
+IsUnencodedFor means fault.CannotRead = ⊥
+IsUnencodedFor means fault.NotJson = ⊥
+IsUnencodedFor means (fault.NotExtendedJson place) = ⊥
+IsUnencodedFor means (fault.NoBytes why) = HasNoBytesFor means why
+IsUnencodedFor means fault.OutOfMemory = Unit {0}
+IsUnencodedFor means fault.CannotWrite = ⊥
+
+-- the document fails for the cause, or memory ran out
+abbrev pub FailsAlone : Fault → Pairs → Type 0
+FailsAlone fault.CannotRead ps = ⊥
+FailsAlone fault.NotJson ps = ⊥
+FailsAlone (fault.NotExtendedJson place) ps = ⊥
+FailsAlone (fault.NoBytes NoDocument) ps = ⊥
+FailsAlone (fault.NoBytes ZeroInKey) ps = DocumentFails zero_in_key ps
+FailsAlone (fault.NoBytes ZeroInRegex) ps = DocumentFails zero_in_regex ps
+FailsAlone (fault.NoBytes TooLong) ps = DocumentFails too_long ps
+FailsAlone fault.OutOfMemory ps = Unit {0}
+FailsAlone fault.CannotWrite ps = ⊥

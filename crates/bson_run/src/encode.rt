@@ -1,0 +1,102 @@
+//! One text to the bytes of its document (BSON 1.1, bsonspec.org).
+ghost use Rattle.std.specs.Prelude.{◌≡◌, IfOk, IfErr, ℕ, List, Some, IsUtf8};
+ghost use Rattle.serde_json.specs.Data.{Data};
+ghost use Rattle.bson_model.specs.Means.{MeansIn};
+ghost use Rattle.bson_model.specs.Value.{Pairs, document};
+ghost use Rattle.bson_order.specs.Kept.{read_kept};
+ghost use Rattle.bson_order.specs.Means.{MeansInOrder};
+ghost use Rattle.bson.specs.View.{bson_view};
+ghost use Rattle.bson.specs.TextMeaning.{IsTextOf};
+ghost use Rattle.bson_codec.specs.Canonical.{FitsDocument};
+ghost use Rattle.bson_codec.specs.Writing.{IsRefusal};
+ghost use Rattle.bson_codec.specs.declared.ser.Error.TheVariants as errors;
+ghost use Rattle.bson_run.specs.Encode.{EncodesIn, EncodesInOrder, FailsAlone, IsBytesOf, IsUnencodedFor};
+ghost use Rattle.bson_run.specs.Encode.{IsUnencodedIn, IsUnencodedInOrder};
+
+use crate::convert::refused;
+use crate::fault::Fault;
+use crate::no_bytes::NoBytes;
+use bson::Bson;
+use bson::extjson::Options;
+use bson_codec::{ser, to_vec};
+use std::alloc::Global;
+
+/// The canonical bytes of the document that the text means, its keys in ascending order at every
+/// depth, as [`convert_with`](crate::convert::convert_with) has them.
+///
+/// A text that means nothing is refused as there. One that means another value than a document, or
+/// a document that has no bytes, is refused as `NoBytes` for the first of its parts, in the order of
+/// writing, that has none.
+///
+/// ```
+/// if let Ok(bytes) = encode_with(alloc, Options::default(), br#"{"n": 5, "a": 2}"#) {
+///     let document = from_slice(alloc, &bytes, DEPTH)?;
+///     println!(rt; "{document}")?; // { "a": 2, "n": 5 }
+/// }
+/// ```
+pub fn encode_with(alloc: Global, options: Options, bytes: &[u8]) -> Result<Vec<u8>, Fault>
+    ensures ok { IfOk result (λ out. EncodesIn options bytes.now out.items) }
+    ensures one { IfOk result (λ out. (other : List ℕ) → EncodesIn options bytes.now other → other ≡ out.items) }
+    ensures accepts { (tree : Data) (ps : Pairs) → IsTextOf bytes.now tree
+        → MeansIn options.doubles tree (document ps) → FitsDocument ps
+        → IfErr result (λ fault. fault ≡ Fault.OutOfMemory) }
+    ensures fault { IfErr result (λ fault. IsUnencodedIn options fault bytes.now) }
+{
+    match Bson::try_from_text_with(alloc, options, bytes) {
+        Ok(value) => bytes_of(alloc, value),
+        Err(error) => Err(refused(error)),
+    }
+}
+
+/// [`encode_with`] where each document has its keys in the order of the text, at every depth. Of a
+/// key that stands twice the last value counts, at the place of the first.
+///
+/// ```
+/// if let Ok(bytes) = encode_in_order(alloc, Options::default(), br#"{"n": 5, "a": 2}"#) {
+///     let document = from_slice(alloc, &bytes, DEPTH)?;
+///     println!(rt; "{document}")?; // { "n": 5, "a": 2 }
+/// }
+/// ```
+pub fn encode_in_order(alloc: Global, options: Options, bytes: &[u8]) -> Result<Vec<u8>, Fault>
+    ensures ok { IfOk result (λ out. EncodesInOrder options bytes.now out.items) }
+    ensures one { IfOk result (λ out. (other : List ℕ) → EncodesInOrder options bytes.now other
+        → other ≡ out.items) }
+    ensures accepts { (tree : Data) (ps : Pairs) → IsUtf8 bytes.now → read_kept bytes.now ≡ Some tree
+        → MeansInOrder options.doubles tree (document ps) → FitsDocument ps
+        → IfErr result (λ fault. fault ≡ Fault.OutOfMemory) }
+    ensures fault { IfErr result (λ fault. IsUnencodedInOrder options fault bytes.now) }
+{
+    match Bson::try_from_text_in_order(alloc, options, bytes) {
+        Ok(value) => bytes_of(alloc, value),
+        Err(error) => Err(refused(error)),
+    }
+}
+
+// The canonical bytes of the document that the value is.
+fn bytes_of(alloc: Global, value: Bson) -> Result<Vec<u8>, Fault>
+    ensures ok { IfOk result (λ out. IsBytesOf (λ v. v ≡ bson_view value) out.items) }
+    ensures only { (ps : Pairs) → bson_view value ≡ document ps → FitsDocument ps
+        → IfErr result (λ fault. fault ≡ Fault.OutOfMemory) }
+    ensures fault { IfErr result (λ fault. IsUnencodedFor (λ v. v ≡ bson_view value) fault) }
+{
+    let Bson::Document(document) = value else {
+        return Err(Fault::NoBytes(NoBytes::NoDocument));
+    };
+    match to_vec(alloc, &document) {
+        Ok(bytes) => Ok(bytes),
+        Err(error) => Err(unwritten(error)),
+    }
+}
+
+// The fault of a document that has no bytes.
+fn unwritten(error: ser::Error) -> Fault
+    ensures cause { (ps : Pairs) → IsRefusal error ps → FailsAlone result ps }
+    ensures memory { error ≡ errors.OutOfMemory → result ≡ Fault.OutOfMemory }
+{
+    match error {
+        ser::Error::Key => Fault::NoBytes(NoBytes::ZeroInKey),
+        ser::Error::Regex => Fault::NoBytes(NoBytes::ZeroInRegex),
+        ser::Error::Size => Fault::NoBytes(NoBytes::TooLong),
+        ser::Error::OutOfMemory => Fault::OutOfMemory,
+    }
+}
