@@ -1,5 +1,6 @@
 pub mod Convert
 pub mod InOrder
+pub mod Indent
 pub mod Lines
 pub mod LinesSteps
 pub mod Place

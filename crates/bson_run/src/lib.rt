@@ -3,7 +3,8 @@
 //!
 //! In reading order: `mode` and `fault` (what is asked, and what is refused), `convert` (bytes to
 //! bytes) with `value` (bytes to a value) and `in_order` (bytes to bytes in the order of their
-//! keys), `stream` (all bytes of a reader and to a writer) and `run` (the whole way from a reader to
+//! keys), `indent` (a text over several lines) and `indented` (bytes to bytes over several lines),
+//! `stream` (all bytes of a reader and to a writer) and `run` (the whole way from a reader to
 //! a writer). Over lines: `order` and `refusal` (what is asked, and what is refused), `gathered`
 //! (the line that is read, and what those before it gave) and `lines` (the whole way). Why a text is
 //! refused, in words: `stop` (where bytes stop to be JSON) and `explain`. What the programs have in
@@ -15,6 +16,8 @@ pub mod explain;
 pub mod fault;
 mod gathered;
 pub mod in_order;
+pub mod indent;
+pub mod indented;
 pub mod lines;
 pub mod mode;
 pub mod order;
