@@ -1,19 +1,22 @@
 # Completions of bash for bson.
 _bson() {
-    local word=${COMP_WORDS[COMP_CWORD]} before=${COMP_WORDS[COMP_CWORD - 1]} it mode='' options='--doubles --keep-order --output --help --version'
+    local word=${COMP_WORDS[COMP_CWORD]} before=${COMP_WORDS[COMP_CWORD - 1]} it mode='' options='--doubles --keep-order --indent --output --help --version'
     local modes='canonical relaxed show'
     for it in "${COMP_WORDS[@]:1:COMP_CWORD-1}"; do
         case $it in
-            lines) modes='canonical relaxed show check' options+=' --keep-going --jobs' ;;
+            lines) modes='canonical relaxed show check' options='--doubles --keep-order --keep-going --jobs --output --help --version' ;;
             decode) modes='canonical relaxed show check' options='--sort-keys --keep-going --jobs --output --help --version' ;;
             encode) modes='' mode=$it options='--sort-keys --keep-going --jobs --output --help --version' ;;
-            canonical | relaxed | show | check) mode=$it ;;
+            show) mode=$it options=${options/ --indent/} ;;
+            canonical | relaxed | check) mode=$it ;;
         esac
     done
     [[ $options == *--keep-going* || -n $mode ]] || modes+=' lines decode encode'
     compopt -o filenames 2>/dev/null
     if [[ $before == --jobs ]]; then
         COMPREPLY=($(compgen -W "$(nproc)" -- "$word"))
+    elif [[ $before == --indent ]]; then
+        COMPREPLY=($(compgen -W '1 2 4 8' -- "$word"))
     elif [[ $word == -* ]]; then
         COMPREPLY=($(compgen -W "$options" -- "$word"))
     elif [[ -n $mode || $before == -o || $before == --output ]]; then

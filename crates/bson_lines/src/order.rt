@@ -42,6 +42,8 @@ pub struct Order {
     pub on_refusal: OnRefusal,
     /// What the input is.
     pub input: Input,
+    /// How many spaces indent the output for each bracket, where it is laid out over several lines.
+    pub indent: Option<usize>,
     /// The file that the output goes to, or `-`.
     pub output: String,
     /// The files that are read, in this order; `-` is standard input.
@@ -66,6 +68,7 @@ pub fn asked_by(alloc: Global, words: Vec<String>) -> Result<Asked, AllocError> 
         input: Input::Lines,
         keeps_order: false,
         sorts_keys: false,
+        indent: None,
         output: None,
         inputs: Vec::new(alloc),
         next: Next::Any,
@@ -91,6 +94,7 @@ struct Given {
     input: Input,
     keeps_order: bool,
     sorts_keys: bool,
+    indent: Option<usize>,
     output: Option<String>,
     inputs: Vec<String>,
     next: Next,
@@ -102,6 +106,8 @@ enum Next {
     Any,
     /// The file of `-o`.
     Output,
+    /// The number of `--indent`.
+    Indent,
     /// No option.
     Name,
 }
@@ -125,6 +131,10 @@ impl Given {
                 self.next = Next::Any;
                 self.take_output(word)
             }
+            Next::Indent => {
+                self.next = Next::Any;
+                Ok(self.take_indent(word))
+            }
             Next::Name => self.take_name(word),
         }
     }
@@ -136,6 +146,7 @@ impl Given {
             "--version" | "-v" => Ok(Taken::Version),
             "--" => self.expect(Next::Name),
             "-o" | "--output" => self.expect(Next::Output),
+            "--indent" => self.expect(Next::Indent),
             "--keep-going" => {
                 let is_first = !self.keeps_going;
                 self.keeps_going = true;
@@ -159,12 +170,27 @@ impl Given {
                 Ok(once(is_first))
             }
             STANDARD => self.take_name(word),
-            _ => match output_in(word) {
-                Some(name) => self.take_output(name),
-                None if word.starts_with("-") => Ok(Taken::Unknown),
-                None => self.take_name(word),
-            },
+            _ => self.take_joined(word),
         }
+    }
+
+    // Takes a word that has its option in it, or a name.
+    fn take_joined(&mut self, word: &str) -> Result<Taken, AllocError> {
+        if let Some(count) = word.strip_prefix("--indent=") {
+            return Ok(self.take_indent(count));
+        }
+        match output_in(word) {
+            Some(name) => self.take_output(name),
+            None if word.starts_with("-") => Ok(Taken::Unknown),
+            None => self.take_name(word),
+        }
+    }
+
+    // A number of spaces, from 1 to 16.
+    fn take_indent(&mut self, word: &str) -> Taken {
+        let is_first = self.indent.is_none();
+        self.indent = spaces(word);
+        once(is_first && self.indent.is_some())
     }
 
     // The input is this, and nothing else was said of it.
@@ -203,14 +229,17 @@ impl Given {
     }
 
     // Whether the options stand with the task and with one another: one text is of one file, and the
-    // first that is refused ends it; the order of texts is kept where a text is written, and keys
-    // are sorted in what keeps its order by itself: the forms of BSON documents, and BSON bytes,
-    // which are made of texts; a check has no output.
+    // first that is refused ends it; its forms alone are indented; the order of texts is kept where a
+    // text is written, and keys are sorted in what keeps its order by itself: the forms of BSON
+    // documents, and BSON bytes, which are made of texts; a check has no output.
     fn fits(&self, task: Task) -> bool {
         if self.input == Input::Text && (self.keeps_going || self.inputs.len() > 1) {
             return false;
         }
         let is_form = task == Task::Write(Mode::Canonical) || task == Task::Write(Mode::Relaxed);
+        if self.indent.is_some() && !(is_form && self.input == Input::Text) {
+            return false;
+        }
         let is_encode = task == Task::Encode;
         let is_dump = self.input == Input::Documents;
         if self.sorts_keys && !(is_encode || (is_form && is_dump)) {
@@ -222,7 +251,8 @@ impl Given {
         if is_encode && is_dump {
             return false;
         }
-        self.next != Next::Output && (task != Task::Check || self.output.is_none())
+        let is_whole = self.next != Next::Output && self.next != Next::Indent;
+        is_whole && (task != Task::Check || self.output.is_none())
     }
 
     // What all words ask for.
@@ -240,6 +270,7 @@ impl Given {
             input,
             keeps_order,
             sorts_keys,
+            indent,
             output,
             inputs,
             ..
@@ -259,6 +290,7 @@ impl Given {
                 OnRefusal::Stop
             },
             input,
+            indent,
             output,
             inputs: inputs_of(alloc, inputs)?,
         }))
@@ -289,6 +321,17 @@ fn inputs_of(alloc: Global, mut names: Vec<String>) -> Result<Vec<String>, Alloc
         names.push(String::from_str(alloc, STANDARD)?)?;
     }
     Ok(names)
+}
+
+// A number from 1 to 16, with no sign and no zero before it.
+fn spaces(word: &str) -> Option<usize> {
+    if word.starts_with("+") || word.starts_with("0") {
+        return None;
+    }
+    match word.parse::<usize>() {
+        Ok(count) if count <= 16 => Some(count),
+        _ => None,
+    }
 }
 
 // The file that stands in one word with its option.

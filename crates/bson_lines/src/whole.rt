@@ -1,10 +1,12 @@
 //! A run over one text, on any number of lines.
 use crate::order::Order;
+use bson::extjson::Form;
 use bson_run::convert::convert_with;
 use bson_run::encode::{encode_in_order, encode_with};
 use bson_run::explain::explain;
 use bson_run::fault::Fault;
 use bson_run::in_order::convert_in_order;
+use bson_run::indented::{convert_in_order_indented, convert_indented};
 use bson_run::mode::Mode;
 use bson_run::order::Task;
 use bson_run::refusal::Refusal;
@@ -55,15 +57,32 @@ fn read_all<R: Read>(alloc: Global, reader: &mut R) -> Result<Vec<u8>, Fault> {
 
 // What is written of the text.
 fn given(alloc: Global, order: &Order, bytes: &[u8]) -> Result<Vec<u8>, Fault> {
+    let options = order.options;
     match order.task {
-        Task::Write(mode) => convert_with(alloc, order.options, mode, bytes),
-        Task::WriteInOrder(mode) => convert_in_order(alloc, order.options, mode, bytes),
+        Task::Write(mode) => match layout(order, mode) {
+            Some((form, spaces)) => convert_indented(alloc, options, form, spaces, bytes),
+            None => convert_with(alloc, options, mode, bytes),
+        },
+        Task::WriteInOrder(mode) => match layout(order, mode) {
+            Some((form, spaces)) => convert_in_order_indented(alloc, options, form, spaces, bytes),
+            None => convert_in_order(alloc, options, mode, bytes),
+        },
         Task::Check => {
-            convert_with(alloc, order.options, Mode::Canonical, bytes)?;
+            convert_with(alloc, options, Mode::Canonical, bytes)?;
             Ok(Vec::new(alloc))
         }
         Task::Encode => encode_with(alloc, order.options, bytes),
         Task::EncodeInOrder => encode_in_order(alloc, order.options, bytes),
+    }
+}
+
+// The form that is laid out over several lines, and by how many spaces.
+fn layout(order: &Order, mode: Mode) -> Option<(Form, usize)> {
+    let spaces = order.indent?;
+    match mode {
+        Mode::Canonical => Some((Form::Canonical, spaces)),
+        Mode::Relaxed => Some((Form::Relaxed, spaces)),
+        Mode::Show => None,
     }
 }
 

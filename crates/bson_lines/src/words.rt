@@ -6,6 +6,7 @@ pub const USAGE: &str =
        bson_lines canonical|relaxed|show --keep-order [--doubles] [--keep-going|--whole] [-o FILE] [FILE ..]
        bson_lines canonical|relaxed --bson --sort-keys [--doubles] [--keep-going] [-o FILE] [FILE ..]
        bson_lines encode [--sort-keys] [--doubles] [--keep-going|--whole] [-o FILE] [FILE ..]
+       bson_lines canonical|relaxed --whole --indent N [--keep-order] [--doubles] [-o FILE] [FILE]
 see bson_lines --help";
 
 /// What stands on standard error where there is no memory for anything else.
@@ -18,6 +19,7 @@ pub const HELP: &str =
        bson_lines canonical|relaxed|show --keep-order [--doubles] [--keep-going|--whole] [-o FILE] [FILE ..]
        bson_lines canonical|relaxed --bson --sort-keys [--doubles] [--keep-going] [-o FILE] [FILE ..]
        bson_lines encode [--sort-keys] [--doubles] [--keep-going|--whole] [-o FILE] [FILE ..]
+       bson_lines canonical|relaxed --whole --indent N [--keep-order] [--doubles] [-o FILE] [FILE]
 
 Reads MongoDB Extended JSON v2, a document a line, from the files or from standard input, and writes of each line:
   canonical   its canonical form, which keeps every type
@@ -35,6 +37,8 @@ Reads MongoDB Extended JSON v2, a document a line, from the files or from standa
                           of each, with its keys in its own order at every depth; check only looks at them
   --sort-keys             (with encode, and with --bson in both forms) keys come out in ascending order at every depth
   --whole                 the input, one file at most, is one text on any number of lines, and not a text a line
+  --indent N              (with --whole, in both forms) the text goes over several lines, a member or an element each, N
+                          spaces further in for each bracket, N from 1 to 16; it is read as the very same tree
   -o FILE, --output FILE  the output goes to FILE, and not to standard output: whole at the end, or not at all
   -h, --help; -v, --version
 

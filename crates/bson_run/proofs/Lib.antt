@@ -2,6 +2,8 @@ mod Again
 mod Converting
 pub mod EncodeLaws
 mod Explaining
+mod IndentedTexts
+mod Indenting
 pub mod LinesLaws
 pub mod LinesRuns
 mod Ordered

@@ -1,6 +1,7 @@
 pub mod Convert
 pub mod Encode
 pub mod InOrder
+pub mod Indent
 pub mod Lines
 pub mod LinesSteps
 pub mod Place

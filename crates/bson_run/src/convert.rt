@@ -84,8 +84,13 @@ pub(crate) fn convert_whole(
     output(alloc, options, mode, read)
 }
 
-// The text in the mode's form of the value that the bytes mean, or that value.
-fn converted(alloc: Global, options: Options, mode: Mode, bytes: &[u8]) -> Result<Converted, Fault>
+/// The text in the mode's form of the value that the bytes mean, or that value.
+pub(crate) fn converted(
+    alloc: Global,
+    options: Options,
+    mode: Mode,
+    bytes: &[u8],
+) -> Result<Converted, Fault>
     ensures ok { IfOk result
         (λ read. (value : model.Value) × HasTextMeaningIn options.doubles bytes.now value
         × IsConverted options mode value read) }

@@ -3,7 +3,9 @@
 //!
 //! In reading order: `mode` and `fault` (what is asked, and what is refused), `convert` (bytes to
 //! bytes) with `value` (bytes to a value) and `in_order` (bytes to bytes in the order of their
-//! keys), `encode` with `no_bytes` (bytes to the bytes of their document), `stream` (all bytes of a reader and to a writer) and `run` (the whole way from a reader to
+//! keys), `encode` with `no_bytes` (bytes to the bytes of their document), `indent` (a text over
+//! several lines) and `indented` (bytes to bytes over several lines), `stream` (all bytes of a
+//! reader and to a writer) and `run` (the whole way from a reader to
 //! a writer). Over lines: `order` and `refusal` (what is asked, and what is refused), `gathered`
 //! (the line that is read, and what those before it gave) and `lines` (the whole way). Why a text is
 //! refused, in words: `stop` (where bytes stop to be JSON) and `explain`. What the programs have in
@@ -16,6 +18,8 @@ pub mod explain;
 pub mod fault;
 mod gathered;
 pub mod in_order;
+pub mod indent;
+pub mod indented;
 pub mod lines;
 pub mod mode;
 pub mod no_bytes;

@@ -1,0 +1,123 @@
+-- The layout of tokens, a token at a time, and that it has the tokens that it was made of.
+use Rattle.std.proofs.Common.{◌≡◌, ◌+◌, ◌-◌, ℕ, zero, suc, max, List, [], ◌∷◌, ◌++◌, length, map, take, replicate, Bool, true, false, Some, inl, inr, Result, Ok, Err, OnOk, refl, sym, ap, ◌∙◌, subst, arith, append_assoc, append-nil}
+use Rattle.std.proofs.lemmas.List.{replicate-append-replicate, take-replicate, length-replicate}
+use Rattle.json.specs.Json.{Json, value as json_value}
+use Rattle.json.specs.Layout.{Last, nothing, bracket, name, value, is_value, after}
+use Rattle.json.specs.Lex.{tokens}
+use Rattle.json.specs.Print.{token_text, separator, begins, ends, print, print_from, ArePrintable}
+use Rattle.json.specs.Spaced.{IsGap, AreGaps, print_spaced}
+use Rattle.json.specs.Token.{Token, begin_object, end_object, begin_array, end_array, key, string, number, boolean, null, bad}
+use Rattle.json.specs.Tree.{json_tokens}
+use Rattle.json.proofs.Numbered.{ArePrintableOrBad-tokens, value-HasNumbers}
+use Rattle.json.proofs.Printed.Tokens.{tokens-print_spaced}
+use Rattle.json.proofs.Printed.Trees.{ArePrintable-json_tokens}
+use Rattle.json.proofs.Unique.Spelling.{value-json_tokens_back}
+use Rattle.bson_run.specs.Indent.{line, gap, stands, leaves, spaced, indented, HasSameTokens, last_of, Lays, IsWhole}
+use Rattle.bson_run.specs.declared.indent.Layout.{Layout}
+
+pub print_one : (t : Token) → print (t ∷ []) ≡ token_text t
+unfolding print_from
+print_one t = append-nil (token_text t)
+
+-- ---- the beginning of a line
+
+pub stepped_out : (spaces indent : ℕ) → take (max (length (line indent) - spaces) 1) (line indent) ≡ line (indent - spaces)
+stepped_out spaces indent =
+    let stays : max (length (line indent) - spaces) 1 ≡ suc (indent - spaces) =
+    ap (λ k. max (suc k - spaces) 1) (length-replicate indent 32) ∙ omega arith in
+    ap (λ k. take k (line indent)) stays ∙ ap (λ l. 10 ∷ l) (take-replicate (indent - spaces) indent 32 (omega arith))
+
+pub stepped_in : (n indent : ℕ) → line indent ++ replicate n 32 ≡ line (indent + n)
+stepped_in n indent = ap (λ l. 10 ∷ l) (replicate-append-replicate indent n 32)
+
+-- ---- a token more
+
+ends_value : (t : Token) → is_value (after t 0).0 ≡ ends t
+ends_value begin_object = refl
+ends_value end_object = refl
+ends_value begin_array = refl
+ends_value end_array = refl
+ends_value (key s) = refl
+ends_value (string s) = refl
+ends_value (number s) = refl
+ends_value (boolean b) = refl
+ends_value null = refl
+ends_value bad = refl
+
+regrouped : (out comma between text rest : List ℕ)
+    → (out ++ (comma ++ (between ++ text))) ++ rest ≡ out ++ (comma ++ (between ++ (text ++ rest)))
+regrouped out comma between text rest = simp append_assoc
+
+pub one_more : (n : ℕ) (all left ts : List Token) (t : Token) (s u : Layout) → left ≡ t ∷ ts → (w : IsWhole n all left s)
+    → Lays n w.indent s u t → IsWhole n all ts u
+unfolding print_spaced spaced
+one_more n all left ts t s u e w l =
+    let more = λ (last : Last). spaced n last (leaves n t w.indent) ts in
+    let last = last_of s.before in
+    record {
+      indent = leaves n t w.indent;
+      at = l.at;
+      whole = ap (λ out. out ++ print_spaced (is_value (last_of u.before)) (more (last_of u.before))) l.out
+          ∙ ap (λ now. (s.out.items ++ (separator (is_value last) t ++ (gap last (begins t) (stands n t w.indent)
+          ++ token_text t))) ++ print_spaced (is_value now) (more now)) l.before
+          ∙ regrouped s.out.items (separator (is_value last) t) (gap last (begins t) (stands n t w.indent)) (token_text t)
+          (print_spaced (is_value (after t 0).0) (more (after t 0).0))
+          ∙ ap (λ b. s.out.items ++ (separator (is_value last) t ++ (gap last (begins t) (stands n t w.indent)
+          ++ (token_text t ++ print_spaced b (more (after t 0).0))))) (ends_value t)
+          ∙ ap (λ ts. s.out.items ++ print_spaced (is_value last) (spaced n last w.indent ts)) (sym e)
+          ∙ w.whole;
+    }
+
+pub all_laid : (n : ℕ) (all left : List Token) (s : Layout) → left ≡ [] → IsWhole n all left s
+    → s.out.items ≡ indented n all
+unfolding print_spaced spaced
+all_laid n all left s e w =
+    sym (append-nil s.out.items)
+    ∙ ap (λ ts. s.out.items ++ print_spaced (is_value (last_of s.before)) (spaced n (last_of s.before) w.indent ts)) (sym e)
+    ∙ w.whole
+
+pub on_ok : {A E : Type 0} {P Q : Type 0} (r : Result A E) → OnOk r P → (P → Q) → OnOk r Q
+on_ok (Ok a) p f = f p
+on_ok (Err e) p f = tt
+
+pub joined : (out comma between text : List ℕ) → ((out ++ comma) ++ between) ++ text ≡ out ++ (comma ++ (between ++ text))
+joined out comma between text = simp append_assoc
+
+-- ---- the tokens of a layout
+
+spaces_are_gap : (k : ℕ) → IsGap (replicate k 32)
+spaces_are_gap zero = tt
+spaces_are_gap (suc k) = (inl refl, spaces_are_gap k)
+
+line_is_gap : (indent : ℕ) → IsGap (line indent)
+line_is_gap indent = (inr refl, spaces_are_gap indent)
+
+gap_is_gap : (last : Last) (b : Bool) (indent : ℕ) → IsGap (gap last b indent)
+gap_is_gap nothing b indent = tt
+gap_is_gap bracket true indent = line_is_gap indent
+gap_is_gap bracket false indent = tt
+gap_is_gap name b indent = (inl refl, tt)
+gap_is_gap value b indent = line_is_gap indent
+
+spaced_gaps : (n : ℕ) (last : Last) (indent : ℕ) (ts : List Token) → AreGaps (spaced n last indent ts)
+unfolding spaced
+spaced_gaps n last indent [] = tt
+spaced_gaps n last indent (t ∷ ts) = (gap_is_gap last (begins t) (stands n t indent), spaced_gaps n (after t 0).0 (leaves n t indent) ts)
+
+spaced_tokens : (n : ℕ) (last : Last) (indent : ℕ) (ts : List Token) → map (λ p. p.1) (spaced n last indent ts) ≡ ts
+unfolding spaced
+spaced_tokens n last indent [] = refl
+spaced_tokens n last indent (t ∷ ts) = ap (λ l. t ∷ l) (spaced_tokens n (after t 0).0 (leaves n t indent) ts)
+
+printable : (text : List ℕ) (depth : ℕ) (tree : Json) → json_value depth (tokens text) ≡ Some (tree, [])
+    → ArePrintable (tokens text)
+printable text depth tree h =
+    subst ArePrintable (sym (value-json_tokens_back depth (tokens text) [] tree h ∙ append-nil (json_tokens tree)))
+    (ArePrintable-json_tokens tree (value-HasNumbers depth (tokens text) [] tree (ArePrintableOrBad-tokens text) h))
+
+pub same_tokens : (n : ℕ) (text laid : List ℕ) → laid ≡ indented n (tokens text) → HasSameTokens text laid
+same_tokens n text laid e = λ depth tree h.
+    let ts = tokens text in
+    let back = spaced_tokens n nothing 0 ts in
+    ap tokens e ∙ tokens-print_spaced (spaced n nothing 0 ts) (spaced_gaps n nothing 0 ts)
+    (subst ArePrintable (sym back) (printable text depth tree h)) ∙ back

@@ -1,0 +1,33 @@
+use Rattle.std.proofs.Common.{◌≡◌, ◌++◌, ◌+◌, ◌-◌, ◌∷◌, [], ◌&&◌, cond, if◌then◌else◌, length, ap, ◌∙◌}
+use Rattle.std.proofs.lemmas.List.{length-replicate}
+use Rattle.json.specs.Print.{token_text, separator, begins}
+use Rattle.json.specs.Layout.{is_value}
+use Rattle.json.specs.Reads.{token_of}
+use Rattle.bson_run.specs.Indent.{line, gap, stands, last_of}
+use Rattle.bson_run.proofs.Indenting.{on_ok, joined}
+use Rattle.bson_run.proofs.indent.Layout.put.Goals as goal
+
+pub returns : goal.returns
+returns c = λ n indent at.
+    let s = c.args.self.now in
+    let t = token_of c.args.token in
+    let b = c.begins-begins.ensures in
+    let len : length c.deref.result.now ≡ n = ap length (c.deref.ensures.value ∙ at.step) ∙ length-replicate n 32 in
+    let start : c.step_out.new.start.items ≡ line (stands n t indent) =
+    c.step_out.ensures indent at.start ∙ (λ i. line (if b i then indent else (indent - len i))) in
+    let before = last_of s.before in
+    let comma : c.put_comma.new.out.items ≡ s.out.items ++ separator (is_value before) t =
+    c.in_ok-put_comma.ensures ∙ (λ i. s.out.items ++ cond (is_value before && b i) (44 ∷ []) []) in
+    let between : c.put_gap.new.out.items ≡ c.put_comma.new.out.items ++ gap before (begins t) (stands n t indent) =
+    c.in_ok-put_gap.ensures (stands n t indent) (c.deref-2.ensures.value ∙ start)
+    ∙ (λ i. c.put_comma.new.out.items ++ gap before (b i) (stands n t indent)) in
+    on_ok c.step_in.result (c.step_in.ensures n (stands n t indent) (c.deref-3.ensures.value ∙ at.step) start) (λ more. record {
+      at = record {
+        step = at.step;
+        start = more ∙ (λ i. line (if c.opens.ensures i then (stands n t indent + n) else (stands n t indent)));
+      };
+      before = c.before_next-self.ensures;
+      out = c.in_ok-put_text.ensures ∙ ap (λ o. o ++ token_text t) between
+          ∙ ap (λ o. (o ++ gap before (begins t) (stands n t indent)) ++ token_text t) comma
+          ∙ joined s.out.items (separator (is_value before) t) (gap before (begins t) (stands n t indent)) (token_text t);
+    })

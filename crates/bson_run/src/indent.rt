@@ -1,0 +1,190 @@
+//! A JSON text over several lines.
+ghost use Rattle.std.specs.Prelude.{◌≡◌, ◌≢◌, ◌++◌, ◌+◌, ◌-◌, ◌&&◌, ◌∷◌, [], ℕ, IfOk, OnOk};
+ghost use Rattle.std.specs.Prelude.{cond, if◌then◌else◌, length, replicate};
+ghost use Rattle.json.specs.Layout.{after, is_value};
+ghost use Rattle.json.specs.Lex.{tokens};
+ghost use Rattle.json.specs.Print.{begins, token_text, IsPrintable};
+ghost use Rattle.json.specs.Reads.{opens, token_of};
+ghost use Rattle.bson_run.specs.Indent.{indented, HasSameTokens, line, gap, last_of, IsAt, Lays};
+
+use json::{Reader, Scratch, Token, Writer};
+use std::alloc::{AllocError, Global};
+
+/// The JSON text over several lines, for people: each member and each element on a line of its own,
+/// indented by `spaces` for each bracket that it stands in, a space behind the colon of a key, and
+/// an empty array or object as `[]` or `{}`. No newline ends it.
+///
+/// It has the tokens of the text, so that whatever reads it finds the same tree: the same keys in
+/// the same order, the same strings, and the same digits of each number. Of a text that is no JSON
+/// the tokens before its fault are laid out.
+///
+/// ```
+/// let laid = indented(alloc, 2, r#"{"a":[1,{}]}"#)?;
+/// println!(rt; "{}", str::from_utf8(&laid)?)?;
+/// // {
+/// //   "a": [
+/// //     1,
+/// //     {}
+/// //   ]
+/// // }
+/// ```
+pub fn indented(alloc: Global, spaces: usize, text: &str) -> Result<Vec<u8>, AllocError>
+    ensures layout { IfOk result (λ laid. laid.items ≡ indented spaces (tokens text.now)) }
+    ensures same { IfOk result (λ laid. HasSameTokens text.now laid.items) }
+{
+    let mut scratch = Scratch::new(alloc);
+    let mut reader = Reader::new(text, &mut scratch)?;
+    let mut layout = Layout::new(alloc, spaces)?;
+    while let Some(token) = reader.next() {
+        layout.put(token)?;
+    }
+    Ok(layout.out)
+}
+
+// What was written last.
+#[derive(Clone, Copy, Drop)]
+pub(crate) enum Before {
+    Nothing,
+    Bracket,
+    Key,
+    Value,
+}
+
+// A text that is laid out.
+#[derive(Drop)]
+pub(crate) struct Layout {
+    alloc: Global,
+    // The spaces that a bracket adds.
+    step: Vec<u8>,
+    // The beginning of a line.
+    start: Vec<u8>,
+    before: Before,
+    out: Vec<u8>,
+}
+
+impl Layout {
+    fn new(alloc: Global, spaces: usize) -> Result<Layout, AllocError>
+        ensures at { IfOk result (λ layout. IsAt spaces 0 layout) }
+        ensures before { IfOk result (λ layout. layout.before ≡ Before.Nothing) }
+        ensures out { IfOk result (λ layout. layout.out.items ≡ []) }
+    {
+        Ok(Layout {
+            alloc,
+            step: blanks(alloc, spaces)?,
+            start: vec![in alloc; b'\n']?,
+            before: Before::Nothing,
+            out: Vec::new(alloc),
+        })
+    }
+
+    // Writes the token, and before it what stands between it and the one before.
+    fn put(&mut self, token: Token<'_>) -> Result<(), AllocError>
+        requires { token ≢ Token.Bad → IsPrintable (token_of token) }
+        ensures { (n indent : ℕ) → IsAt n indent self.old
+            → OnOk result (Lays n indent self.old self.new (token_of token.entry)) }
+    {
+        let begins = begins(token);
+        step_out(&mut self.start, begins, &self.step);
+        put_comma(&mut self.out, self.before, begins)?;
+        put_gap(&mut self.out, self.before, begins, &self.start)?;
+        put_text(self.alloc, &mut self.out, token)?;
+        self.before = before_next(token);
+        step_in(&mut self.start, opens(token), &self.step)
+    }
+}
+
+// So many spaces.
+fn blanks(alloc: Global, count: usize) -> Result<Vec<u8>, AllocError>
+    ensures { IfOk result (λ blanks. blanks.items ≡ replicate count 32) }
+{
+    let mut blanks = Vec::new(alloc);
+    for _ in 0..count {
+        blanks.push(b' ')?;
+    }
+    Ok(blanks)
+}
+
+// The token closes no bracket.
+fn begins(token: Token<'_>) -> bool
+    ensures { result ≡ begins (token_of token.entry) }
+{
+    !matches!(token, Token::EndObject | Token::EndArray)
+}
+
+// The token opens a bracket.
+fn opens(token: Token<'_>) -> bool
+    ensures { result ≡ opens (token_of token.entry ∷ []) }
+{
+    matches!(token, Token::BeginObject | Token::BeginArray)
+}
+
+// What the token is to the next one.
+fn before_next(token: Token<'_>) -> Before
+    ensures { last_of result ≡ (after (token_of token.entry) 0).0 }
+{
+    match token {
+        Token::BeginObject | Token::BeginArray => Before::Bracket,
+        Token::Key(_) => Before::Key,
+        _ => Before::Value,
+    }
+}
+
+// Where a bracket closes, takes spaces from the beginning of a line, as many as it has at most.
+fn step_out(start: &mut Vec<u8>, begins: bool, spaces: &[u8])
+    ensures { (indent : ℕ) → start.old.items ≡ line indent
+        → start.new.items ≡ line (if begins then indent else (indent - length spaces.now)) }
+{
+    if !begins {
+        let stays = start.len().saturating_sub(spaces.len()).max(1);
+        start.truncate(stays);
+    }
+}
+
+// Where a bracket opens, adds the spaces to the beginning of a line.
+#[tactic(auto, using(crate::proofs::Indenting::stepped_in))]
+fn step_in(start: &mut Vec<u8>, opens: bool, spaces: &[u8]) -> Result<(), AllocError>
+    ensures { (n indent : ℕ) → spaces.now ≡ replicate n 32 → start.old.items ≡ line indent
+        → OnOk result (start.new.items ≡ line (if opens then (indent + n) else indent)) }
+{
+    if opens {
+        start.extend_from_slice(spaces)?;
+    }
+    Ok(())
+}
+
+// A comma stands between a value and what does not close its bracket.
+fn put_comma(out: &mut Vec<u8>, before: Before, begins: bool) -> Result<(), AllocError>
+    ensures { OnOk result (out.new.items ≡ out.old.items ++ cond (is_value (last_of before) && begins) (44 ∷ []) []) }
+{
+    if begins && matches!(before, Before::Value) {
+        out.push(b',')?;
+    }
+    Ok(())
+}
+
+// What stands between what was written last and a token, behind the comma.
+fn put_gap(out: &mut Vec<u8>, before: Before, begins: bool, start: &[u8]) -> Result<(), AllocError>
+    ensures { (indent : ℕ) → start.now ≡ line indent
+        → OnOk result (out.new.items ≡ out.old.items ++ gap (last_of before) begins indent) }
+{
+    match before {
+        Before::Nothing => Ok(()),
+        Before::Bracket if !begins => Ok(()),
+        Before::Key => out.extend_from_slice(b" "),
+        _ => out.extend_from_slice(start),
+    }
+}
+
+// The text of the token alone; none of one that can't stand there.
+#[tactic(auto, using(crate::proofs::Indenting::print_one))]
+fn put_text(alloc: Global, out: &mut Vec<u8>, token: Token<'_>) -> Result<(), AllocError>
+    requires { token ≢ Token.Bad → IsPrintable (token_of token) }
+    ensures { OnOk result (out.new.items ≡ out.old.items ++ token_text (token_of token.entry)) }
+{
+    if matches!(token, Token::Bad) {
+        return Ok(());
+    }
+    let mut writer = Writer::new(Vec::new(alloc));
+    writer.token(token)?;
+    out.extend_from_slice(&writer.into_inner())
+}

@@ -1,0 +1,149 @@
+//! One text to another over several lines: from bytes to bytes.
+ghost use Rattle.std.specs.Prelude.{◌≡◌, IfOk, IfErr, IsUtf8, string_bytes};
+ghost use Rattle.serde_json.specs.Data.{Data};
+ghost use Rattle.bson_model.specs.Laws.{IsReadFormIn};
+ghost use Rattle.bson_model.specs.Means.{MeansIn};
+ghost use Rattle.bson_model.specs.Value as model;
+ghost use Rattle.bson_order.specs.Texts.{HasMeaningInOrder};
+ghost use Rattle.bson.specs.TextMeaning.{HasTextMeaningIn, IsTextOf};
+ghost use Rattle.bson.specs.Texts.{IsTextInOrder, IsTextUnder};
+ghost use Rattle.bson_run.specs.Convert.{IsConverted, IsRefusedIn, IsWritable};
+ghost use Rattle.bson_run.specs.Indent.{mode_of, ConvertsIndented, ConvertsInOrderIndented, IsLaidOut};
+
+use crate::convert::{converted, refused};
+use crate::fault::Fault;
+use crate::indent::indented;
+use crate::mode::Mode;
+use bson::Bson;
+use bson::extjson::convert::Converted;
+use bson::extjson::{Form, Options, WriteError};
+use std::alloc::Global;
+
+/// [`convert_with`](crate::convert::convert_with) in a form, its text over several lines, as
+/// [`indented`](crate::indent::indented) lays it out with `spaces` for each bracket.
+///
+/// The same bytes are refused, for the same fault. The text and its layout are in memory together.
+///
+/// ```
+/// let text = br#"{"a": {"$numberLong": "5"}, "b": []}"#;
+/// let laid = convert_indented(alloc, Options::default(), Form::Relaxed, 2, text);
+/// if let Ok(laid) = laid {
+///     rt.print(str::from_utf8(&laid)?)?;
+///     // {
+///     //   "a": 5,
+///     //   "b": []
+///     // }
+/// }
+/// ```
+pub fn convert_indented(
+    alloc: Global,
+    options: Options,
+    form: Form,
+    spaces: usize,
+    bytes: &[u8],
+) -> Result<Vec<u8>, Fault>
+    ensures ok { IfOk result (λ output. ConvertsIndented options form spaces bytes.now output.items) }
+    ensures accepts { (tree : Data) (value : model.Value) → IsTextOf bytes.now tree
+        → MeansIn options.doubles tree value → IfErr result (λ fault. fault ≡ Fault.OutOfMemory) }
+    ensures fault { IfErr result (λ fault. IsRefusedIn options fault bytes.now) }
+{
+    let read = converted(alloc, options, mode_of(form), bytes)?;
+    let text = text_of(alloc, options, form, read)?;
+    laid_out(alloc, spaces, &text)
+}
+
+/// [`convert_in_order`](crate::in_order::convert_in_order) in a form, its text over several lines in
+/// the same way.
+///
+/// ```
+/// let text = br#"{"b": "x", "a": null}"#;
+/// let laid = convert_in_order_indented(alloc, Options::default(), Form::Canonical, 4, text);
+/// if let Ok(laid) = laid {
+///     rt.print(str::from_utf8(&laid)?)?;
+///     // {
+///     //     "b": "x",
+///     //     "a": null
+///     // }
+/// }
+/// ```
+pub fn convert_in_order_indented(
+    alloc: Global,
+    options: Options,
+    form: Form,
+    spaces: usize,
+    bytes: &[u8],
+) -> Result<Vec<u8>, Fault>
+    ensures ok { IfOk result (λ output. ConvertsInOrderIndented options form spaces bytes.now output.items) }
+    ensures accepts { (tree : Data) (value : model.Value) → IsTextOf bytes.now tree
+        → MeansIn options.doubles tree value → IfErr result (λ fault. fault ≡ Fault.OutOfMemory) }
+    ensures fault { IfErr result (λ fault. IsRefusedIn options fault bytes.now) }
+{
+    let text = text_in_order(alloc, options, form, bytes)?;
+    laid_out(alloc, spaces, &text)
+}
+
+// The mode that writes the form.
+fn mode_of(form: Form) -> Mode
+    ensures { result ≡ mode_of form }
+{
+    match form {
+        Form::Canonical => Mode::Canonical,
+        Form::Relaxed => Mode::Relaxed,
+    }
+}
+
+// The text, or the value's text in the form.
+fn text_of(alloc: Global, options: Options, form: Form, read: Converted) -> Result<String, Fault>
+    requires { IsWritable options read }
+    ensures ok { (value : model.Value) → IsReadFormIn options.doubles value
+        → IsConverted options (mode_of form) value read
+        → IfOk result (λ text. IsTextUnder options.doubles form value (string_bytes text)) }
+    ensures fault { IfErr result (λ fault. fault ≡ Fault.OutOfMemory) }
+{
+    match read {
+        Converted::Text(text) => Ok(text),
+        Converted::Value(value) => written(value.into_text_with(alloc, options, form)),
+    }
+}
+
+// The text in the form of the value that the bytes mean in the order of their keys, in that order.
+fn text_in_order(alloc: Global, options: Options, form: Form, bytes: &[u8]) -> Result<String, Fault>
+    ensures ok { IfOk result
+        (λ text. (value : model.Value) × IsUtf8 bytes.now × HasMeaningInOrder options.doubles bytes.now value
+        × IsTextInOrder options.doubles form value (string_bytes text)) }
+    ensures accepts { (tree : Data) (value : model.Value) → IsTextOf bytes.now tree
+        → MeansIn options.doubles tree value → IfErr result (λ fault. fault ≡ Fault.OutOfMemory) }
+    ensures fault { IfErr result (λ fault. IsRefusedIn options fault bytes.now) }
+{
+    match Bson::try_from_text_in_order(alloc, options, bytes) {
+        Ok(value) => written(value.into_text_in_order(alloc, options, form)),
+        Err(error) => Err(refused(error)),
+    }
+}
+
+// The text that was written of a value that was read, which can be written.
+fn written(text: Result<String, WriteError>) -> Result<String, Fault>
+    requires { text ≡ Err WriteError.FiniteDouble → ⊥ }
+    ensures ok { IfOk result (λ written. text ≡ Ok written) }
+    ensures fault { IfErr result (λ fault. fault ≡ Fault.OutOfMemory) }
+{
+    match text {
+        Ok(text) => Ok(text),
+        Err(WriteError::FiniteDouble) => unreachable!(),
+        Err(WriteError::OutOfMemory) => Err(Fault::OutOfMemory),
+    }
+}
+
+// The layout of the text, and a newline.
+fn laid_out(alloc: Global, spaces: usize, text: &str) -> Result<Vec<u8>, Fault>
+    ensures ok { IfOk result (λ output. IsLaidOut spaces text.now output.items) }
+    ensures fault { IfErr result (λ fault. fault ≡ Fault.OutOfMemory) }
+{
+    let Ok(mut laid) = indented(alloc, spaces, text) else {
+        return Err(Fault::OutOfMemory);
+    };
+    match laid.push(b'\n') {
+        Ok(()) => Ok(laid),
+        Err(_) => Err(Fault::OutOfMemory),
+    }
+}
