@@ -11,7 +11,7 @@ pub enum Unfiltered {
     /// A request for memory was refused.
     OutOfMemory,
     /// It is to be read whole, since it breaks the grammar, means nothing, has a key twice, or has
-    /// code with its scope.
+    /// code behind its scope or with the scope null.
     Left,
 }
 
