@@ -1,6 +1,10 @@
 //! From texts to texts, whole and by lines.
 use bson::extjson::Options;
+use bson_codec::de::DEPTH;
+use bson_codec::from_slice;
 use bson_run::convert::convert;
+use bson_run::encode::{encode_in_order, encode_with};
+use bson_run::fault::Fault;
 use bson_run::in_order::convert_in_order;
 use bson_run::lines::run_lines;
 use bson_run::mode::{Mode, mode_of};
@@ -12,6 +16,9 @@ use std::alloc::Global;
 pub(crate) fn print(rt: &impl Print, alloc: Global) -> anyhow::Result<()> {
     convert_call(rt, alloc)?;
     convert_in_order_call(rt, alloc)?;
+    encode_call(rt, alloc)?;
+    encode_in_order_call(rt, alloc)?;
+    no_bytes(rt, alloc)?;
     mode(rt, alloc)?;
     fault(rt, alloc)?;
     counts(rt, alloc)?;
@@ -32,6 +39,29 @@ fn convert_in_order_call(rt: &impl Print, alloc: Global) -> anyhow::Result<()> {
     let text = br#"{"find": "orders", "batchSize": {"$numberInt": "10"}}"#;
     if let Ok(line) = convert_in_order(alloc, Options::default(), Mode::Relaxed, text) {
         rt.print(str::from_utf8(&line)?)?; // {"find":"orders","batchSize":10}
+    }
+    Ok(())
+}
+
+fn encode_call(rt: &impl Print, alloc: Global) -> anyhow::Result<()> {
+    if let Ok(bytes) = encode_with(alloc, Options::default(), br#"{"n": 5, "a": 2}"#) {
+        let document = from_slice(alloc, &bytes, DEPTH)?;
+        println!(rt; "{document}")?; // { "a": 2, "n": 5 }
+    }
+    Ok(())
+}
+
+fn encode_in_order_call(rt: &impl Print, alloc: Global) -> anyhow::Result<()> {
+    if let Ok(bytes) = encode_in_order(alloc, Options::default(), br#"{"n": 5, "a": 2}"#) {
+        let document = from_slice(alloc, &bytes, DEPTH)?;
+        println!(rt; "{document}")?; // { "n": 5, "a": 2 }
+    }
+    Ok(())
+}
+
+fn no_bytes(rt: &impl Print, alloc: Global) -> anyhow::Result<()> {
+    if let Err(Fault::NoBytes(why)) = encode_in_order(alloc, Options::default(), b"[1, 2]") {
+        println!(rt; "{}", why.words())?; // no document
     }
     Ok(())
 }
