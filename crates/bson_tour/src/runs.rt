@@ -1,11 +1,13 @@
 //! From texts to texts, whole and by lines.
-use bson::extjson::Options;
+use bson::extjson::{Form, Options};
 use bson_codec::de::DEPTH;
 use bson_codec::from_slice;
 use bson_run::convert::convert;
 use bson_run::encode::{encode_in_order, encode_with};
 use bson_run::fault::Fault;
 use bson_run::in_order::convert_in_order;
+use bson_run::indent::indented;
+use bson_run::indented::{convert_in_order_indented, convert_indented};
 use bson_run::lines::run_lines;
 use bson_run::mode::{Mode, mode_of};
 use bson_run::order::{OnRefusal, Task};
@@ -19,6 +21,9 @@ pub(crate) fn print(rt: &impl Print, alloc: Global) -> anyhow::Result<()> {
     encode_call(rt, alloc)?;
     encode_in_order_call(rt, alloc)?;
     no_bytes(rt, alloc)?;
+    indented_call(rt, alloc)?;
+    convert_indented_call(rt, alloc)?;
+    convert_in_order_indented_call(rt, alloc)?;
     mode(rt, alloc)?;
     fault(rt, alloc)?;
     counts(rt, alloc)?;
@@ -62,6 +67,44 @@ fn encode_in_order_call(rt: &impl Print, alloc: Global) -> anyhow::Result<()> {
 fn no_bytes(rt: &impl Print, alloc: Global) -> anyhow::Result<()> {
     if let Err(Fault::NoBytes(why)) = encode_in_order(alloc, Options::default(), b"[1, 2]") {
         println!(rt; "{}", why.words())?; // no document
+    }
+    Ok(())
+}
+
+fn indented_call(rt: &impl Print, alloc: Global) -> anyhow::Result<()> {
+    let laid = indented(alloc, 2, r#"{"a":[1,{}]}"#)?;
+    println!(rt; "{}", str::from_utf8(&laid)?)?;
+    // {
+    //   "a": [
+    //     1,
+    //     {}
+    //   ]
+    // }
+    Ok(())
+}
+
+fn convert_indented_call(rt: &impl Print, alloc: Global) -> anyhow::Result<()> {
+    let text = br#"{"a": {"$numberLong": "5"}, "b": []}"#;
+    let laid = convert_indented(alloc, Options::default(), Form::Relaxed, 2, text);
+    if let Ok(laid) = laid {
+        rt.print(str::from_utf8(&laid)?)?;
+        // {
+        //   "a": 5,
+        //   "b": []
+        // }
+    }
+    Ok(())
+}
+
+fn convert_in_order_indented_call(rt: &impl Print, alloc: Global) -> anyhow::Result<()> {
+    let text = br#"{"b": "x", "a": null}"#;
+    let laid = convert_in_order_indented(alloc, Options::default(), Form::Canonical, 4, text);
+    if let Ok(laid) = laid {
+        rt.print(str::from_utf8(&laid)?)?;
+        // {
+        //     "b": "x",
+        //     "a": null
+        // }
     }
     Ok(())
 }
