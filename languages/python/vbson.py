@@ -31,7 +31,7 @@ _Given = Union[str, bytes, bytearray, memoryview]
 # What `convert` writes: the canonical form, the relaxed form, or the value for people to read.
 CANONICAL, RELAXED, SHOW = 0, 1, 2
 _MODES = {"canonical": CANONICAL, "relaxed": RELAXED, "show": SHOW}
-DOUBLES = 1
+DOUBLES, KEEP_ORDER = 1, 2
 
 _EPOCH = datetime.datetime(1970, 1, 1, tzinfo=datetime.timezone.utc)
 _MILLISECOND = datetime.timedelta(milliseconds=1)
@@ -176,10 +176,11 @@ def _mode(mode):
     return int(mode)
 
 
-def _flags(doubles):
-    if not isinstance(doubles, bool):
-        raise TypeError(f"doubles is True or False, and not {type(doubles).__name__}")
-    return DOUBLES if doubles else 0
+def _flags(doubles, keep_order=False):
+    for name, it in (("doubles", doubles), ("keep_order", keep_order)):
+        if not isinstance(it, bool):
+            raise TypeError(f"{name} is True or False, and not {type(it).__name__}")
+    return DOUBLES * doubles | KEEP_ORDER * keep_order
 
 
 def _wants_done(status):
@@ -246,7 +247,7 @@ def version() -> str:
     return f"{number // 10000}.{number // 100 % 100}.{number % 100}"
 
 
-def convert(text: _Given, mode: Union[int, str] = CANONICAL, doubles: bool = False) -> str:
+def convert(text: _Given, mode: Union[int, str] = CANONICAL, doubles: bool = False, keep_order: bool = False) -> str:
     """The text, in the mode, of the value that a text of Extended JSON means. A mode goes by its number or its name.
 
     Keys come out in ascending order at every depth; of a key that stands twice the last value counts. The output can mean
@@ -255,9 +256,10 @@ def convert(text: _Given, mode: Union[int, str] = CANONICAL, doubles: bool = Fal
     its place, and MemoryError.
 
     With doubles finite ones are read, each as the double nearest to the number, and written as their shortest decimal,
-    {"$numberDouble":"12.5"}, in both forms.
+    {"$numberDouble":"12.5"}, in both forms. With keep_order keys come out in the order of the text; of a key that stands
+    twice the last value counts, at the place of the first.
     """
-    mode, flags, given = _mode(mode), _flags(doubles), _bytes(text)
+    mode, flags, given = _mode(mode), _flags(doubles, keep_order), _bytes(text)
     status, made = _text_of(_library.vbson_convert_with, mode, flags, given, len(given))
     _wants_accepted(status, flags, given)
     return made
@@ -273,14 +275,15 @@ def _refusal(verdict):
     return int(found[1]), _explained(_STATUSES[found[2]], found[2] + found[3])
 
 
-def convert_lines(block: _Given, mode: Union[int, str] = CANONICAL, doubles: bool = False) -> Tuple[bytes, List[Tuple[int, Error]]]:
+def convert_lines(block: _Given, mode: Union[int, str] = CANONICAL, doubles: bool = False,
+                  keep_order: bool = False) -> Tuple[bytes, List[Tuple[int, Error]]]:
     """What the lines of a block are converted to, a line each, and of each line that is refused its number and its error.
 
     Each line is read as `convert` reads a text. A newline ends a line; what stands behind the last newline is a line too,
     unless it is empty. Lines of spaces, tabs and carriage returns give nothing, and count; a byte order mark at the start of
     the block is passed over. Raises MemoryError.
     """
-    mode, flags, given = _mode(mode), _flags(doubles), _bytes(block)
+    mode, flags, given = _mode(mode), _flags(doubles, keep_order), _bytes(block)
     out = _Lines(_nothing(), _nothing(), 0, 0)
     _wants_done(_library.vbson_convert_lines(mode, flags, given, len(given), ctypes.byref(out)))
     text, told = _taken(out.text), _taken(out.told).decode()
@@ -335,14 +338,14 @@ def explain_document(document: _Bytes) -> str:
     return words
 
 
-def decode(document: _Bytes, mode: Union[int, str] = CANONICAL, doubles: bool = False) -> str:
+def decode(document: _Bytes, mode: Union[int, str] = CANONICAL, doubles: bool = False, keep_order: bool = False) -> str:
     """The text, in the mode, of the document that bytes of BSON 1.1 are.
 
-    In the two forms keys come out in ascending order at every depth, and in SHOW in the document's own; of a key that stands
-    twice the last value counts. Raises NoDocument with its place ('byte 4'), NoText in the two forms at a finite double other
-    than 0.0 where doubles is not True, and MemoryError.
+    In the two forms keys come out in ascending order at every depth, and with keep_order, or in SHOW, in the document's own;
+    of a key that stands twice the last value counts. Raises NoDocument with its place ('byte 4'), NoText in the two forms at
+    a finite double other than 0.0 where doubles is not True, and MemoryError.
     """
-    mode, flags, given = _mode(mode), _flags(doubles), _document(document)
+    mode, flags, given = _mode(mode), _flags(doubles, keep_order), _document(document)
     status, made = _text_of(_library.vbson_decode, mode, flags, given, len(given))
     if status == NO_DOCUMENT:
         # (without memory for the words, the error has no place)
@@ -351,12 +354,12 @@ def decode(document: _Bytes, mode: Union[int, str] = CANONICAL, doubles: bool = 
     return made
 
 
-def encode(text: _Given, doubles: bool = False) -> bytes:
+def encode(text: _Given, doubles: bool = False, keep_order: bool = False) -> bytes:
     """The canonical bytes of the document that a text of Extended JSON means, its keys in ascending order.
 
-    Raises as convert does, NoDocument where the text means another value, and NoBytes where the document has none.
+    With keep_order they are in that of the text. Raises as convert does, NoDocument where the text means another value, and NoBytes where the document has none.
     """
-    flags, given = _flags(doubles), _bytes(text)
+    flags, given = _flags(doubles, keep_order), _bytes(text)
     status, made = _left_by(_library.vbson_encode, flags, given, len(given))
     _wants_accepted(status, flags, given)
     return made

@@ -1,9 +1,11 @@
 -- Documents by their bytes (BSON 1.1, bsonspec.org), and by their texts.
-use Rattle.std.specs.Prelude.{◌≡◌, ◌⊎◌, ◌≤◌, ℕ, suc, List, [], ◌++◌, Some, codes, false, true}
+use Rattle.std.specs.Prelude.{◌≡◌, ◌⊎◌, ◌≤◌, ℕ, suc, List, [], ◌++◌, Some, codes, false, true, IsUtf8}
 use Rattle.std.specs.Fmt.{decimal}
+use Rattle.bson.specs.Form.{Form}
 use Rattle.bson.specs.Form.TheVariants as form
+use Rattle.bson.specs.OrderedTexts.{HasMeaningInOrder}
 use Rattle.bson.specs.TextMeaning.{HasTextMeaningIn}
-use Rattle.bson.specs.Texts.{IsTextUnder}
+use Rattle.bson.specs.Texts.{IsTextUnder, IsTextInOrder}
 use Rattle.bson.specs.declared.extjson.options.Options.{Options}
 use Rattle.bson_bytes.specs.declared.fault.FaultKind.{FaultKind}
 use Rattle.bson_codec.specs.Bytes.{reads}
@@ -19,6 +21,8 @@ use Rattle.bson_run.specs.declared.mode.Mode.{Mode}
 use Rattle.bson_run.specs.declared.mode.Mode.TheVariants.{Canonical, Relaxed, Show}
 use Rattle.vbson.specs.Convert.{IsCauseIn, mode_at}
 use Rattle.vbson.specs.Text.{IsText}
+use Rattle.vbson.specs.declared.flags.KeyOrder.{KeyOrder}
+use Rattle.vbson.specs.declared.flags.KeyOrder.TheVariants.{Ascending, AsGiven}
 use Rattle.vbson.specs.declared.text.Text.{Text}
 
 -- how deep documents, arrays and scopes may stand in each other
@@ -31,11 +35,16 @@ IsOneDocument bytes = (ps : Pairs) × IsRead depth bytes ps
 
 -- ---- from bytes to a text
 
--- the text of the document in the mode
-abbrev pub IsTextOfDocument : Options → Mode → Pairs → List ℕ → Type 0
-IsTextOfDocument o Canonical ps text = IsTextUnder o.doubles form.Canonical (document ps) text
-IsTextOfDocument o Relaxed ps text = IsTextUnder o.doubles form.Relaxed (document ps) text
-IsTextOfDocument o Show ps text = text ≡ display_text (document ps)
+-- the text of the document in the form, its keys in the order
+abbrev pub IsTextBy : KeyOrder → Options → Form → Pairs → List ℕ → Type 0
+IsTextBy Ascending o f ps text = IsTextUnder o.doubles f (document ps) text
+IsTextBy AsGiven o f ps text = IsTextInOrder o.doubles f (document ps) text
+
+-- the text of the document in the mode; what is shown has the document's own order in any case
+abbrev pub IsTextOfDocument : KeyOrder → Options → Mode → Pairs → List ℕ → Type 0
+IsTextOfDocument k o Canonical ps text = IsTextBy k o form.Canonical ps text
+IsTextOfDocument k o Relaxed ps text = IsTextBy k o form.Relaxed ps text
+IsTextOfDocument k o Show ps text = text ≡ display_text (document ps)
 
 -- the document has no text in the mode
 abbrev pub HasNoTextIn : Options → Mode → Pairs → Type 0
@@ -44,17 +53,17 @@ HasNoTextIn o Relaxed ps = writable_in o.doubles (document ps) ≡ false
 HasNoTextIn o Show ps = ⊥
 
 -- the bytes are a document, whose text in the mode this is
-pub record Decodes (o : Options) (mode : Mode) (bytes text : List ℕ) : Type 0 where
+pub record Decodes (k : KeyOrder) (o : Options) (mode : Mode) (bytes text : List ℕ) : Type 0 where
   pub pairs : Pairs
   pub read : IsRead depth bytes pairs
-  pub written : IsTextOfDocument o mode pairs text
+  pub written : IsTextOfDocument k o mode pairs text
 
 -- the text that is left is that of the document in the mode of the number
-pub record IsDecoded (o : Options) (number : ℕ) (bytes : List ℕ) (out : Text) : Type 0 where
+pub record IsDecoded (k : KeyOrder) (o : Options) (number : ℕ) (bytes : List ℕ) (out : Text) : Type 0 where
   pub mode : Mode
   pub named : mode_at number ≡ Some mode
   pub text : List ℕ
-  pub decodes : Decodes o mode bytes text
+  pub decodes : Decodes k o mode bytes text
   pub is_text : IsText text out
 
 -- the bytes are a document that has no text in the mode of the number
@@ -83,28 +92,33 @@ IsDocumentExplained bytes out = (words : List ℕ) × ExplainsDocument bytes wor
 
 -- ---- from a text to bytes
 
+-- the text means the value, its keys in the order
+abbrev pub HasMeaningBy : KeyOrder → Options → List ℕ → Value → Type 0
+HasMeaningBy Ascending o text v = HasTextMeaningIn o.doubles text v
+HasMeaningBy AsGiven o text v = IsUtf8 text × HasMeaningInOrder o.doubles text v
+
 -- the text means a document, whose canonical bytes these are; they are read back as it
-pub record Encodes (o : Options) (text bytes : List ℕ) : Type 0 where
+pub record Encodes (k : KeyOrder) (o : Options) (text bytes : List ℕ) : Type 0 where
   pub pairs : Pairs
-  pub meaning : HasTextMeaningIn o.doubles text (document pairs)
+  pub meaning : HasMeaningBy k o text (document pairs)
   pub fits : FitsDocument pairs
   pub canonical : bytes ≡ document_bytes pairs
   pub back : (d : ℕ) → NestsPairs pairs d → IsRead (suc d) bytes (as_written pairs)
 
 -- what is left are those bytes
-abbrev pub IsEncoded : Options → List ℕ → Text → Type 0
-IsEncoded o text out = (bytes : List ℕ) × Encodes o text bytes × IsText bytes out
+abbrev pub IsEncoded : KeyOrder → Options → List ℕ → Text → Type 0
+IsEncoded k o text out = (bytes : List ℕ) × Encodes k o text bytes × IsText bytes out
 
 -- the text means a value that is no document
-pub record MeansNoDocument (o : Options) (text : List ℕ) : Type 0 where
+pub record MeansNoDocument (k : KeyOrder) (o : Options) (text : List ℕ) : Type 0 where
   pub value : Value
-  pub meaning : HasTextMeaningIn o.doubles text value
+  pub meaning : HasMeaningBy k o text value
   pub other : (ps : Pairs) → value ≡ document ps → ⊥
 
 -- the text means a document that has no bytes, for this cause
-pub record HasNoBytes (o : Options) (cause : Cause) (text : List ℕ) : Type 0 where
+pub record HasNoBytes (k : KeyOrder) (o : Options) (cause : Cause) (text : List ℕ) : Type 0 where
   pub pairs : Pairs
-  pub meaning : HasTextMeaningIn o.doubles text (document pairs)
+  pub meaning : HasMeaningBy k o text (document pairs)
   pub fails : DocumentFails cause pairs
 
 -- ---- for private clauses
@@ -117,12 +131,12 @@ pub record IsUndecoded (o : Options) (mode : Mode) (status : ℕ) (bytes : List 
   pub listed : (status ≡ 5) ⊎ ((status ≡ 7) ⊎ (status ≡ 10))
 
 -- what a status says of a text that gave no bytes
-pub record IsUnencoded (o : Options) (status : ℕ) (text : List ℕ) : Type 0 where
+pub record IsUnencoded (k : KeyOrder) (o : Options) (status : ℕ) (text : List ℕ) : Type 0 where
   pub cause : IsCauseIn o status text
-  pub no_document : status ≡ 10 → MeansNoDocument o text
-  pub zero_key : status ≡ 11 → HasNoBytes o zero_in_key text
-  pub zero_regex : status ≡ 12 → HasNoBytes o zero_in_regex text
-  pub long : status ≡ 13 → HasNoBytes o too_long text
+  pub no_document : status ≡ 10 → MeansNoDocument k o text
+  pub zero_key : status ≡ 11 → HasNoBytes k o zero_in_key text
+  pub zero_regex : status ≡ 12 → HasNoBytes k o zero_in_regex text
+  pub long : status ≡ 13 → HasNoBytes k o too_long text
   pub listed : ((2 ≤ status) × (status ≤ 5)) ⊎ ((10 ≤ status) × (status ≤ 13))
 
 -- what a status says of a document that gave no bytes
