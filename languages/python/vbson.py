@@ -18,10 +18,10 @@ import decimal
 import os
 import platform
 import re
-from typing import List, Tuple, Union
+from typing import Any, List, Optional, Tuple, Union
 
 __all__ = ["CANONICAL", "RELAXED", "SHOW", "Error", "NotJson", "BadObjectId", "NotExtendedJson", "NoSuchText", "NoText",
-           "NoDocument", "NoBytes", "convert", "convert_lines", "explain", "same", "hash_of", "is_document", "explain_document",
+           "NoDocument", "NoBytes", "NoValue", "loads", "dumps", "convert", "convert_lines", "explain", "same", "hash_of", "is_document", "explain_document",
            "decode", "encode", "decimal128", "decimal128_text", "decimal_of", "object_id", "object_id_text", "date_time",
            "date_time_text", "datetime_of", "version"]
 
@@ -81,6 +81,10 @@ class NoDocument(Error):
 
 class NoBytes(Error):
     """The document has no bytes: a 0 byte in a key or a regular expression, or a part that is too long."""
+
+
+class NoValue(Error):
+    """A value has none among the types that were asked for."""
 
 
 _ERRORS = {NO_MODE: (ValueError, "no such mode or flag"), NOT_JSON: (NotJson, "not JSON"),
@@ -363,6 +367,62 @@ def encode(text: _Given, doubles: bool = False, keep_order: bool = False) -> byt
     status, made = _left_by(_library.vbson_encode, flags, given, len(given))
     _wants_accepted(status, flags, given)
     return made
+
+
+def _types(name):
+    # (a module of its own, which only they need)
+    import vbson_values
+    return vbson_values.types_of(name)
+
+
+def loads(text: _Given, doubles: bool = True, keep_order: bool = True, types: Optional[str] = None) -> Any:
+    """The value of Python that a text of Extended JSON means, of either form.
+
+    Its types are those of the package bson of PyMongo ('bson'), or those of vbson_values, which need no package ('plain');
+    the first where that package is installed, if types is None. Dates are datetimes in UTC. Doubles are read, and the keys
+    of a dict stand in the order of the text, unless these are False.
+
+    >>> loads('{"n": 1.5, "b": {"$binary": {"base64": "AQI=", "subType": "00"}}, "a": [true, null]}')
+    {'n': 1.5, 'b': b'\\x01\\x02', 'a': [True, None]}
+
+    Raises as encode does of a document with a text of that meaning under a key, so that a text that is none itself may nest
+    126 deep, one less than others. Raises NoValue, of bson alone, where that has no such value: dates outside the years 1 to
+    9999 before its version 4.3, UUIDs that are not 16 bytes.
+    """
+    # (each value is read under a key: bson makes another of a document at the top)
+    given, flags = _bytes(text), _flags(doubles, keep_order)
+    status, made = _left_by(_library.vbson_encode, flags, given, len(given))
+    if status == NO_DOCUMENT:
+        given = b'{"v":' + given + b"}"
+        status, made = _left_by(_library.vbson_encode, flags, given, len(given))
+        _wants_accepted(status, flags, given)
+        return _types(types).value_of(made)
+    _wants_accepted(status, flags, given)
+    size = len(made) + 8
+    if size > 0x7FFFFFFF:
+        raise NoBytes("a part is too long for BSON")
+    return _types(types).value_of(size.to_bytes(4, "little") + b"\x03v\0" + made + b"\0")
+
+
+def dumps(value: Any, form: Union[int, str] = CANONICAL, doubles: bool = True, keep_order: bool = True,
+          types: Optional[str] = None) -> str:
+    """The text of Extended JSON, in the form, of a value of Python. The types are those of loads.
+
+    >>> dumps({"n": 1.5, "b": bytes([1, 2]), "a": [True, 5]}, "relaxed")
+    '{"n":{"$numberDouble":"1.5"},"b":{"$binary":{"base64":"AQI=","subType":"00"}},"a":[true,5]}'
+
+    Keys come out in the order of each dict, unless keep_order is False: then they ascend. Raises TypeError where a value is
+    of no such type, or a key no str, OverflowError at an int past 64 bits, NoBytes as encode does, NoDocument where it nests
+    deeper than 100 dicts and lists (99, where the value is no dict), and NoText at a finite double other than 0.0 without
+    doubles.
+    """
+    form = _mode(form)
+    if form == SHOW:
+        raise ValueError("a form is CANONICAL, RELAXED, 'canonical' or 'relaxed'")
+    document = _types(types).document_of(value)
+    if document[4] == 3:
+        return decode(memoryview(document)[7:-1], form, doubles, keep_order)
+    return decode(document, form, doubles, keep_order)[5:-1]
 
 
 def _parsed(call, text, size):
