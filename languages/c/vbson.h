@@ -13,7 +13,8 @@
  *   - What a call may write overlaps nothing else that the call is handed.
  *   - malloc, realloc and free are of one allocator, whose blocks are aligned to 16 bytes.
  *   - No call is made from a signal handler, or from the child that fork() makes of a process with several threads.
- *   - 384 KiB of stack are left, which the deepest texts (nested 127 deep) need.
+ *   - 448 KiB of stack are left, which the deepest texts (nested 127 deep) need; and 5 MiB, where a text is read with
+ *     VBSON_KEEP_ORDER that nests deep by objects which begin with the key "$scope".
  *
  * The library keeps nothing between calls and holds no state, so any number of threads may call at once.
  *
@@ -87,9 +88,10 @@ enum vbson_mode {
     VBSON_SHOW = 2       /* the value for people to read; no JSON */
 };
 
-/* What flags are made of; 0 is none of them. */
+/* What flags are made of, which are joined by |; 0 is none of them. */
 enum vbson_flag {
-    VBSON_DOUBLES = 1 /* finite doubles are read and written */
+    VBSON_DOUBLES = 1,   /* finite doubles are read and written */
+    VBSON_KEEP_ORDER = 2 /* documents keep the order of their keys, in the place of an ascending one */
 };
 
 /* A text in a block of its own: len bytes, and a NUL behind them, so that it is a C string too (which ends earlier
@@ -132,13 +134,16 @@ uint32_t vbson_convert(uint32_t mode, const uint8_t *text, size_t len, vbson_tex
 
 /* vbson_convert with flags. With VBSON_DOUBLES a number that is no whole one of 64 bits (1.5, 1e2, -0), and any decimal
  * number under $numberDouble, is read as the double nearest to it, and refused where that is not finite; a double is
- * written as its shortest decimal, {"$numberDouble":"12.5"}, in both forms. All else is as of vbson_convert, which is
- * this with the flags 0. VBSON_NO_MODE also where the flags have a bit that is no flag.
+ * written as its shortest decimal, {"$numberDouble":"12.5"}, in both forms. With VBSON_KEEP_ORDER keys come out in the
+ * order of the text, at every depth, in every mode; of a key that stands twice the last value counts, at the place of
+ * the first. The same texts are refused either way, for the same fault. All else is as of vbson_convert, which is this
+ * with the flags 0. VBSON_NO_MODE also where the flags have a bit that is no flag.
  * VBSON_NO_MODE, VBSON_NOT_JSON, VBSON_BAD_OBJECT_ID, VBSON_NOT_EXTENDED_JSON, VBSON_OUT_OF_MEMORY. */
 uint32_t vbson_convert_with(uint32_t mode, uint32_t flags, const uint8_t *text, size_t len, vbson_text *out);
 
 /* Why vbson_convert_with refuses the text under these flags, in every mode, as a line of words (with no newline), and
- * where; an empty text where it accepts it. The words are those of the status, and behind them
+ * where; an empty text where it accepts it. VBSON_KEEP_ORDER changes nothing here. The words are those of the status, and
+ * behind them
  *     " at column N"            of what is not JSON: the column of the byte at which it stops to be, counted from 1
  *     " at column N (a number is out of range)"    of what has the grammar of JSON, and a number that is no double
  *     " at PATH (MESSAGE)"      of any other: the way to the first fault, its keys as they are and places in lists
@@ -193,18 +198,18 @@ uint32_t vbson_is_document(const uint8_t *bytes, size_t len);
 uint32_t vbson_explain_document(const uint8_t *bytes, size_t len, vbson_text *out);
 
 /* Reads the bytes as one document, and writes its text in the mode, with flags as of vbson_convert_with. In the two forms
- * keys come out in ascending order, at every depth; VBSON_SHOW has the document's own. Of a key that stands twice the
- * last value counts; the keys of an array are dropped. VBSON_NO_TEXT in the two forms at a finite double other than 0.0
- * where the flags have no VBSON_DOUBLES. The text can nest deeper than a text that is read. *out is written over: what it
- * held is not freed.
+ * keys come out in ascending order, at every depth, and with VBSON_KEEP_ORDER in the document's own, which VBSON_SHOW has
+ * in any case. Of a key that stands twice the last value counts, at the place of the first; the keys of an array are
+ * dropped. VBSON_NO_TEXT in the two forms at a finite double other than 0.0 where the flags have no VBSON_DOUBLES. The
+ * text can nest deeper than a text that is read. *out is written over: what it held is not freed.
  * VBSON_NO_MODE, VBSON_NO_DOCUMENT, VBSON_NO_TEXT, VBSON_OUT_OF_MEMORY. */
 uint32_t vbson_decode(uint32_t mode, uint32_t flags, const uint8_t *bytes, size_t len, vbson_text *out);
 
 /* Reads the len bytes as one text of Extended JSON, with flags as of vbson_convert_with, and writes the canonical bytes
- * of the document that it means, keys in ascending order: out->len bytes, and a NUL behind them. *out is written over:
- * what it held is not freed. Of what is no Extended JSON vbson_explain tells the place. VBSON_NO_MODE, VBSON_NOT_JSON,
- * VBSON_BAD_OBJECT_ID, VBSON_NOT_EXTENDED_JSON, VBSON_NO_DOCUMENT, VBSON_ZERO_IN_KEY, VBSON_ZERO_IN_REGEX,
- * VBSON_TOO_LONG, VBSON_OUT_OF_MEMORY. */
+ * of the document that it means, keys in ascending order, and with VBSON_KEEP_ORDER in that of the text: out->len bytes,
+ * and a NUL behind them. *out is written over: what it held is not freed. Of what is no Extended JSON vbson_explain tells
+ * the place. VBSON_NO_MODE, VBSON_NOT_JSON, VBSON_BAD_OBJECT_ID, VBSON_NOT_EXTENDED_JSON, VBSON_NO_DOCUMENT,
+ * VBSON_ZERO_IN_KEY, VBSON_ZERO_IN_REGEX, VBSON_TOO_LONG, VBSON_OUT_OF_MEMORY. */
 uint32_t vbson_encode(uint32_t flags, const uint8_t *text, size_t len, vbson_text *out);
 
 /* ---- small values

@@ -18,10 +18,10 @@ import decimal
 import os
 import platform
 import re
-from typing import List, Tuple, Union
+from typing import Any, List, Optional, Tuple, Union
 
 __all__ = ["CANONICAL", "RELAXED", "SHOW", "Error", "NotJson", "BadObjectId", "NotExtendedJson", "NoSuchText", "NoText",
-           "NoDocument", "NoBytes", "convert", "convert_lines", "explain", "same", "hash_of", "is_document", "explain_document",
+           "NoDocument", "NoBytes", "NoValue", "loads", "dumps", "convert", "convert_lines", "explain", "same", "hash_of", "is_document", "explain_document",
            "decode", "encode", "decimal128", "decimal128_text", "decimal_of", "object_id", "object_id_text", "date_time",
            "date_time_text", "datetime_of", "version"]
 
@@ -31,7 +31,7 @@ _Given = Union[str, bytes, bytearray, memoryview]
 # What `convert` writes: the canonical form, the relaxed form, or the value for people to read.
 CANONICAL, RELAXED, SHOW = 0, 1, 2
 _MODES = {"canonical": CANONICAL, "relaxed": RELAXED, "show": SHOW}
-DOUBLES = 1
+DOUBLES, KEEP_ORDER = 1, 2
 
 _EPOCH = datetime.datetime(1970, 1, 1, tzinfo=datetime.timezone.utc)
 _MILLISECOND = datetime.timedelta(milliseconds=1)
@@ -81,6 +81,10 @@ class NoDocument(Error):
 
 class NoBytes(Error):
     """The document has no bytes: a 0 byte in a key or a regular expression, or a part that is too long."""
+
+
+class NoValue(Error):
+    """A value has none among the types that were asked for."""
 
 
 _ERRORS = {NO_MODE: (ValueError, "no such mode or flag"), NOT_JSON: (NotJson, "not JSON"),
@@ -176,10 +180,11 @@ def _mode(mode):
     return int(mode)
 
 
-def _flags(doubles):
-    if not isinstance(doubles, bool):
-        raise TypeError(f"doubles is True or False, and not {type(doubles).__name__}")
-    return DOUBLES if doubles else 0
+def _flags(doubles, keep_order=False):
+    for name, it in (("doubles", doubles), ("keep_order", keep_order)):
+        if not isinstance(it, bool):
+            raise TypeError(f"{name} is True or False, and not {type(it).__name__}")
+    return DOUBLES * doubles | KEEP_ORDER * keep_order
 
 
 def _wants_done(status):
@@ -246,7 +251,7 @@ def version() -> str:
     return f"{number // 10000}.{number // 100 % 100}.{number % 100}"
 
 
-def convert(text: _Given, mode: Union[int, str] = CANONICAL, doubles: bool = False) -> str:
+def convert(text: _Given, mode: Union[int, str] = CANONICAL, doubles: bool = False, keep_order: bool = False) -> str:
     """The text, in the mode, of the value that a text of Extended JSON means. A mode goes by its number or its name.
 
     Keys come out in ascending order at every depth; of a key that stands twice the last value counts. The output can mean
@@ -255,9 +260,10 @@ def convert(text: _Given, mode: Union[int, str] = CANONICAL, doubles: bool = Fal
     its place, and MemoryError.
 
     With doubles finite ones are read, each as the double nearest to the number, and written as their shortest decimal,
-    {"$numberDouble":"12.5"}, in both forms.
+    {"$numberDouble":"12.5"}, in both forms. With keep_order keys come out in the order of the text; of a key that stands
+    twice the last value counts, at the place of the first.
     """
-    mode, flags, given = _mode(mode), _flags(doubles), _bytes(text)
+    mode, flags, given = _mode(mode), _flags(doubles, keep_order), _bytes(text)
     status, made = _text_of(_library.vbson_convert_with, mode, flags, given, len(given))
     _wants_accepted(status, flags, given)
     return made
@@ -273,14 +279,15 @@ def _refusal(verdict):
     return int(found[1]), _explained(_STATUSES[found[2]], found[2] + found[3])
 
 
-def convert_lines(block: _Given, mode: Union[int, str] = CANONICAL, doubles: bool = False) -> Tuple[bytes, List[Tuple[int, Error]]]:
+def convert_lines(block: _Given, mode: Union[int, str] = CANONICAL, doubles: bool = False,
+                  keep_order: bool = False) -> Tuple[bytes, List[Tuple[int, Error]]]:
     """What the lines of a block are converted to, a line each, and of each line that is refused its number and its error.
 
     Each line is read as `convert` reads a text. A newline ends a line; what stands behind the last newline is a line too,
     unless it is empty. Lines of spaces, tabs and carriage returns give nothing, and count; a byte order mark at the start of
     the block is passed over. Raises MemoryError.
     """
-    mode, flags, given = _mode(mode), _flags(doubles), _bytes(block)
+    mode, flags, given = _mode(mode), _flags(doubles, keep_order), _bytes(block)
     out = _Lines(_nothing(), _nothing(), 0, 0)
     _wants_done(_library.vbson_convert_lines(mode, flags, given, len(given), ctypes.byref(out)))
     text, told = _taken(out.text), _taken(out.told).decode()
@@ -335,14 +342,14 @@ def explain_document(document: _Bytes) -> str:
     return words
 
 
-def decode(document: _Bytes, mode: Union[int, str] = CANONICAL, doubles: bool = False) -> str:
+def decode(document: _Bytes, mode: Union[int, str] = CANONICAL, doubles: bool = False, keep_order: bool = False) -> str:
     """The text, in the mode, of the document that bytes of BSON 1.1 are.
 
-    In the two forms keys come out in ascending order at every depth, and in SHOW in the document's own; of a key that stands
-    twice the last value counts. Raises NoDocument with its place ('byte 4'), NoText in the two forms at a finite double other
-    than 0.0 where doubles is not True, and MemoryError.
+    In the two forms keys come out in ascending order at every depth, and with keep_order, or in SHOW, in the document's own;
+    of a key that stands twice the last value counts. Raises NoDocument with its place ('byte 4'), NoText in the two forms at
+    a finite double other than 0.0 where doubles is not True, and MemoryError.
     """
-    mode, flags, given = _mode(mode), _flags(doubles), _document(document)
+    mode, flags, given = _mode(mode), _flags(doubles, keep_order), _document(document)
     status, made = _text_of(_library.vbson_decode, mode, flags, given, len(given))
     if status == NO_DOCUMENT:
         # (without memory for the words, the error has no place)
@@ -351,15 +358,71 @@ def decode(document: _Bytes, mode: Union[int, str] = CANONICAL, doubles: bool = 
     return made
 
 
-def encode(text: _Given, doubles: bool = False) -> bytes:
+def encode(text: _Given, doubles: bool = False, keep_order: bool = False) -> bytes:
     """The canonical bytes of the document that a text of Extended JSON means, its keys in ascending order.
 
-    Raises as convert does, NoDocument where the text means another value, and NoBytes where the document has none.
+    With keep_order they are in that of the text. Raises as convert does, NoDocument where the text means another value, and NoBytes where the document has none.
     """
-    flags, given = _flags(doubles), _bytes(text)
+    flags, given = _flags(doubles, keep_order), _bytes(text)
     status, made = _left_by(_library.vbson_encode, flags, given, len(given))
     _wants_accepted(status, flags, given)
     return made
+
+
+def _types(name):
+    # (a module of its own, which only they need)
+    import vbson_values
+    return vbson_values.types_of(name)
+
+
+def loads(text: _Given, doubles: bool = True, keep_order: bool = True, types: Optional[str] = None) -> Any:
+    """The value of Python that a text of Extended JSON means, of either form.
+
+    Its types are those of the package bson of PyMongo ('bson'), or those of vbson_values, which need no package ('plain');
+    the first where that package is installed, if types is None. Dates are datetimes in UTC. Doubles are read, and the keys
+    of a dict stand in the order of the text, unless these are False.
+
+    >>> loads('{"n": 1.5, "b": {"$binary": {"base64": "AQI=", "subType": "00"}}, "a": [true, null]}')
+    {'n': 1.5, 'b': b'\\x01\\x02', 'a': [True, None]}
+
+    Raises as encode does of a document with a text of that meaning under a key, so that a text that is none itself may nest
+    126 deep, one less than others. Raises NoValue, of bson alone, where that has no such value: dates outside the years 1 to
+    9999 before its version 4.3, UUIDs that are not 16 bytes.
+    """
+    # (each value is read under a key: bson makes another of a document at the top)
+    given, flags = _bytes(text), _flags(doubles, keep_order)
+    status, made = _left_by(_library.vbson_encode, flags, given, len(given))
+    if status == NO_DOCUMENT:
+        given = b'{"v":' + given + b"}"
+        status, made = _left_by(_library.vbson_encode, flags, given, len(given))
+        _wants_accepted(status, flags, given)
+        return _types(types).value_of(made)
+    _wants_accepted(status, flags, given)
+    size = len(made) + 8
+    if size > 0x7FFFFFFF:
+        raise NoBytes("a part is too long for BSON")
+    return _types(types).value_of(size.to_bytes(4, "little") + b"\x03v\0" + made + b"\0")
+
+
+def dumps(value: Any, form: Union[int, str] = CANONICAL, doubles: bool = True, keep_order: bool = True,
+          types: Optional[str] = None) -> str:
+    """The text of Extended JSON, in the form, of a value of Python. The types are those of loads.
+
+    >>> dumps({"n": 1.5, "b": bytes([1, 2]), "a": [True, 5]}, "relaxed")
+    '{"n":{"$numberDouble":"1.5"},"b":{"$binary":{"base64":"AQI=","subType":"00"}},"a":[true,5]}'
+
+    Keys come out in the order of each dict, unless keep_order is False: then they ascend. Raises TypeError where a value is
+    of no such type, or a key no str, OverflowError at an int past 64 bits, NoBytes as encode does, NoDocument where it nests
+    deeper than 100 dicts and lists (99, where the value is no dict), and NoText at a finite double other than 0.0 without
+    doubles.
+    """
+    form = _mode(form)
+    if form == SHOW:
+        raise ValueError("a form is CANONICAL, RELAXED, 'canonical' or 'relaxed'")
+    document = _types(types).document_of(value)
+    if document[4] == 3:
+        return decode(memoryview(document)[7:-1], form, doubles, keep_order)
+    return decode(document, form, doubles, keep_order)[5:-1]
 
 
 def _parsed(call, text, size):

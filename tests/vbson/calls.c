@@ -85,9 +85,26 @@ static void convert_with(void) {
     CHECK(refuses_with(VBSON_RELAXED, VBSON_DOUBLES, "[1.5,{\"$oid\":\"5\"}]", VBSON_BAD_OBJECT_ID));
     CHECK(refuses_with(3, 0, "{}", VBSON_NO_MODE));
     CHECK(refuses_with(3, VBSON_DOUBLES, "{}", VBSON_NO_MODE));
-    CHECK(refuses_with(VBSON_CANONICAL, 2, "{}", VBSON_NO_MODE));
-    CHECK(refuses_with(VBSON_CANONICAL, 3, "{}", VBSON_NO_MODE));
+    CHECK(refuses_with(VBSON_CANONICAL, 4, "{}", VBSON_NO_MODE));
+    CHECK(refuses_with(VBSON_CANONICAL, 7, "{}", VBSON_NO_MODE));
     CHECK(refuses_with(VBSON_SHOW, UINT32_MAX, "not JSON", VBSON_NO_MODE));
+}
+
+static void keep_order(void) {
+    const char *text = "{\"b\":{\"d\":1,\"c\":[{\"f\":2,\"e\":3}]},\"a\":4}";
+    const char *twice = "{\"b\":1,\"a\":1.5,\"b\":2}";
+    CHECK(converts_with(VBSON_RELAXED, VBSON_KEEP_ORDER, text, text));
+    CHECK(converts_with(VBSON_RELAXED, 0, text, "{\"a\":4,\"b\":{\"c\":[{\"e\":3,\"f\":2}],\"d\":1}}"));
+    CHECK(converts_with(VBSON_RELAXED, VBSON_DOUBLES, text, "{\"a\":4,\"b\":{\"c\":[{\"e\":3,\"f\":2}],\"d\":1}}"));
+    CHECK(converts_with(VBSON_CANONICAL, VBSON_KEEP_ORDER, "{\"b\":1,\"a\":2}", "{\"b\":{\"$numberInt\":\"1\"},\"a\":{\"$numberInt\":\"2\"}}"));
+    CHECK(converts_with(VBSON_SHOW, VBSON_KEEP_ORDER, "{\"b\":1,\"a\":2}", "{ \"b\": 1, \"a\": 2 }"));
+    CHECK(converts_with(VBSON_SHOW, 0, "{\"b\":1,\"a\":2}", "{ \"a\": 2, \"b\": 1 }"));
+    CHECK(converts_with(VBSON_RELAXED, VBSON_DOUBLES | VBSON_KEEP_ORDER, twice, "{\"b\":2,\"a\":{\"$numberDouble\":\"1.5\"}}"));
+    CHECK(converts_with(VBSON_RELAXED, VBSON_DOUBLES, twice, "{\"a\":{\"$numberDouble\":\"1.5\"},\"b\":2}"));
+    CHECK(refuses_with(VBSON_RELAXED, VBSON_KEEP_ORDER, twice, VBSON_NOT_EXTENDED_JSON));
+    CHECK(refuses_with(VBSON_RELAXED, VBSON_KEEP_ORDER, "{\"b\":", VBSON_NOT_JSON));
+    CHECK(refuses_with(VBSON_RELAXED, VBSON_KEEP_ORDER, "{\"$oid\":\"5\"}", VBSON_BAD_OBJECT_ID));
+    CHECK(refuses_with(3, VBSON_KEEP_ORDER, "{}", VBSON_NO_MODE));
 }
 
 static int explains(uint32_t flags, const char *text, const char *wanted) {
@@ -113,7 +130,9 @@ static void explain(void) {
     CHECK(explains(VBSON_DOUBLES, "[1e400]", "not JSON at column 2 (a number is out of range)"));
     CHECK(explains(0, "{\"a\\u001b\":1.5}", "not Extended JSON at a text with control characters"));
     CHECK(explains(0, "{\"a\":1}", ""));
-    CHECK(vbson_explain(2, TEXT("{}"), &out) == VBSON_NO_MODE && out.bytes == before && out.size == 7 && out.len == 6);
+    CHECK(explains(VBSON_KEEP_ORDER, "{\"b\":{\"$oid\":\"5\"},\"a\":[1.5]}", "not Extended JSON at a.0 (a number is no whole number of 64 bits)"));
+    CHECK(explains(VBSON_DOUBLES | VBSON_KEEP_ORDER, "[1.5]", ""));
+    CHECK(vbson_explain(4, TEXT("{}"), &out) == VBSON_NO_MODE && out.bytes == before && out.size == 7 && out.len == 6);
     CHECK(vbson_explain(UINT32_MAX, TEXT("!"), &out) == VBSON_NO_MODE && out.bytes == before && out.len == 6);
 }
 
@@ -143,10 +162,13 @@ static void convert_lines(void) {
         "bson_lines: line 3: not Extended JSON at 0 (a number is no whole number of 64 bits)\n"
         "bson_lines: line 4: bad object id at $oid (an object id has 24 digits, but \"5\" has 1)\n", 4, 3));
     CHECK(gives(VBSON_RELAXED, VBSON_DOUBLES, "[1.5]\n", "[{\"$numberDouble\":\"1.5\"}]\n", "", 1, 0));
+    CHECK(gives(VBSON_RELAXED, VBSON_KEEP_ORDER, "{\"b\":1,\"a\":2}\n[1.5]\n", "{\"b\":1,\"a\":2}\n",
+        "bson_lines: line 2: not Extended JSON at 0 (a number is no whole number of 64 bits)\n", 2, 1));
+    CHECK(gives(VBSON_RELAXED, VBSON_DOUBLES | VBSON_KEEP_ORDER, "{\"b\":1.5,\"a\":2}", "{\"b\":{\"$numberDouble\":\"1.5\"},\"a\":2}\n", "", 1, 0));
     static const uint8_t before[] = "before";
     vbson_lines out = {{before, 7, 6}, {before, 7, 5}, 3, 4};
     CHECK(vbson_convert_lines(3, 0, TEXT("1"), &out) == VBSON_NO_MODE);
-    CHECK(vbson_convert_lines(VBSON_RELAXED, 2, TEXT("1"), &out) == VBSON_NO_MODE);
+    CHECK(vbson_convert_lines(VBSON_RELAXED, 4, TEXT("1"), &out) == VBSON_NO_MODE);
     CHECK(out.text.bytes == before && out.text.size == 7 && out.text.len == 6 && out.told.bytes == before && out.told.len == 5);
     CHECK(out.lines == 3 && out.refused == 4);
 
@@ -241,7 +263,10 @@ static void decode(void) {
     CHECK(refuses_bytes(VBSON_RELAXED, 0, pair, sizeof pair, VBSON_NO_TEXT));
     CHECK(refuses_bytes(VBSON_CANONICAL, 0, pair, sizeof pair, VBSON_NO_TEXT));
     CHECK(refuses_bytes(3, 0, five, sizeof five, VBSON_NO_MODE));
-    CHECK(refuses_bytes(VBSON_RELAXED, 2, five, sizeof five, VBSON_NO_MODE));
+    CHECK(decodes(VBSON_RELAXED, VBSON_DOUBLES | VBSON_KEEP_ORDER, pair, sizeof pair, "{\"b\":5,\"a\":{\"$numberDouble\":\"1.5\"}}"));
+    CHECK(decodes(VBSON_SHOW, VBSON_KEEP_ORDER, pair, sizeof pair, "{ \"b\": 5, \"a\": Double(0x3ff8000000000000) }"));
+    CHECK(refuses_bytes(VBSON_RELAXED, VBSON_KEEP_ORDER, pair, sizeof pair, VBSON_NO_TEXT));
+    CHECK(refuses_bytes(VBSON_RELAXED, 4, five, sizeof five, VBSON_NO_MODE));
     CHECK(refuses_bytes(UINT32_MAX, UINT32_MAX, five, 0, VBSON_NO_MODE));
     for (size_t len = 0; len < sizeof five; len++) {
         CHECK(refuses_bytes(VBSON_SHOW, 0, five, len, VBSON_NO_DOCUMENT) && vbson_is_document(five, len) == VBSON_NO_DOCUMENT);
@@ -287,7 +312,12 @@ static void encode(void) {
     CHECK(encodes(0, "{\"a\":7,\"a\":{\"$numberInt\":\"5\"}}", five, sizeof five));
     CHECK(encodes(VBSON_DOUBLES, "{\"b\":5,\"a\":1.5}", sorted, sizeof sorted));
     CHECK(encodes(0, "{}", (const uint8_t *)"\5\0\0\0", 5));
-    CHECK(refuses_text(2, "{}", VBSON_NO_MODE));
+    CHECK(encodes(VBSON_DOUBLES | VBSON_KEEP_ORDER, "{\"b\":5,\"a\":1.5}", pair, sizeof pair));
+    CHECK(encodes(VBSON_KEEP_ORDER, "{\"a\":7,\"a\":{\"$numberInt\":\"5\"}}", five, sizeof five));
+    CHECK(refuses_text(VBSON_KEEP_ORDER, "{\"b\":5,\"a\":1.5}", VBSON_NOT_EXTENDED_JSON));
+    CHECK(refuses_text(VBSON_KEEP_ORDER, "[{}]", VBSON_NO_DOCUMENT));
+    CHECK(refuses_text(VBSON_KEEP_ORDER, "{\"b\\u0000\":1,\"a\":{\"$regularExpression\":{\"pattern\":\"\\u0000\",\"options\":\"\"}}}", VBSON_ZERO_IN_KEY));
+    CHECK(refuses_text(4, "{}", VBSON_NO_MODE));
     CHECK(refuses_text(UINT32_MAX, "!", VBSON_NO_MODE));
     CHECK(refuses_text(0, "{", VBSON_NOT_JSON));
     CHECK(refuses_text(0, "{\"a\":{\"$oid\":\"5\"}}", VBSON_BAD_OBJECT_ID));
@@ -416,6 +446,7 @@ int main(void) {
     convert();
     convert_refused();
     convert_with();
+    keep_order();
     explain();
     convert_lines();
     same();

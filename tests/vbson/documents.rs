@@ -19,7 +19,7 @@ fn bytes_of(digits: &str) -> Vec<u8> {
 }
 
 fn answer(call: &str, given: &[u8]) -> (i32, Vec<u8>) {
-    let doubles = Options { doubles: true };
+    let doubles = Options { doubles: true, ..Options::default() };
     let left = match call {
         "is" => return (if is_document(given) { 0 } else { 10 }, Vec::new()),
         "explain" => return (0, explain_document(given).map_or(String::new(), |it| it.to_string()).into_bytes()),

@@ -108,6 +108,26 @@ def try_doubles():
         raises(f"doubles {it!r} explained", TypeError, vbson.explain, "{}", it)
 
 
+def try_order():
+    text, twice = '{"b":{"d":1,"c":2},"a":3}', '{"b":1,"a":1.5,"b":2}'
+    want("keys in order", vbson.convert(text, "relaxed", keep_order=True), text)
+    want("keys sorted", vbson.convert(text, "relaxed", keep_order=False), '{"a":3,"b":{"c":2,"d":1}}')
+    want("keys in order shown", vbson.convert('{"b":1,"a":2}', "show", False, True), '{ "b": 1, "a": 2 }')
+    want("a key twice", vbson.convert(twice, "relaxed", True, True), '{"b":2,"a":{"$numberDouble":"1.5"}}')
+    raises("a double in order", vbson.NotExtendedJson, vbson.convert, twice, "relaxed", False, True)
+    want("lines in order", vbson.convert_lines('{"b":1,"a":2}\n[1.5]\n', "relaxed", keep_order=True)[0], b'{"b":1,"a":2}\n')
+    document = vbson.encode(twice, doubles=True, keep_order=True)
+    want("bytes in order", document.hex(), "170000001062000200000001610000000000" + "0000f83f00")
+    want("bytes sorted", vbson.encode('{"b":null,"a":null}').hex(), "0b0000000a61000a620000")
+    want("decoded in order", vbson.decode(document, "relaxed", True, True), '{"b":2,"a":{"$numberDouble":"1.5"}}')
+    want("decoded and sorted", vbson.decode(document, "relaxed", True), '{"a":{"$numberDouble":"1.5"},"b":2}')
+    for it in (1, 0, None, "yes"):
+        raises(f"keep_order {it!r}", TypeError, vbson.convert, "{}", 0, False, it)
+        raises(f"keep_order {it!r} of bytes", TypeError, vbson.decode, document, 0, False, it)
+        raises(f"keep_order {it!r} of lines", TypeError, vbson.convert_lines, b"", 0, False, it)
+        raises(f"keep_order {it!r} to bytes", TypeError, vbson.encode, "{}", False, it)
+
+
 def refusal(call, *arguments):
     """The words, the place and the reason of an error, and its class."""
     try:
@@ -310,6 +330,7 @@ def try_threads():
 want("version", vbson.version(), signatures.version())
 try_texts()
 try_doubles()
+try_order()
 try_places()
 try_reads()
 try_hashes()

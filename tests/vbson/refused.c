@@ -37,7 +37,7 @@ static const char *const texts[] = {
     "\"i\":{\"$dbPointer\":{\"$ref\":\"n\",\"$id\":{\"$oid\":\"53e37d08776f724e42000000\"}}},\"j\":{\"$minKey\":1},"
     "\"k\":{\"$uuid\":\"c8edabc3-f738-4ca3-b68d-ab92a91478a3\"},\"l\":{\"$numberDouble\":\"-Infinity\"}}",
     "[1,{\"$oid\":\"53e3\"}]", "[{\"a\":[1.5]}]", "{\"a\":[\"b\"", "[]", "\"a\\u0000b\""};
-enum { TEXTS = sizeof texts / sizeof *texts, KINDS = 16 };
+enum { TEXTS = sizeof texts / sizeof *texts, KINDS = 20 };
 
 /* What a call of each kind answers, and all that it can write. */
 struct answer {
@@ -69,9 +69,9 @@ static void find_document(const char *text) {
     if (vbson_encode(0, TEXT(text), &document) != VBSON_DONE) document = (vbson_text){(const uint8_t *)text, 0, strlen(text)};
 }
 
-static uint32_t convert_lines(const char *text, struct answer *it) {
+static uint32_t convert_lines(uint32_t flags, const char *text, struct answer *it) {
     vbson_lines out = {it->text, it->told, it->number, it->number};
-    uint32_t status = vbson_convert_lines(VBSON_RELAXED, 0, TEXT(text), &out);
+    uint32_t status = vbson_convert_lines(VBSON_RELAXED, flags, TEXT(text), &out);
     it->text = out.text, it->told = out.told;
     it->number = 100 * (out.lines - 42) + out.refused;
     return status;
@@ -91,8 +91,11 @@ static struct answer call(int kind, const char *text, long number) {
     else if (kind < 10) it.status = vbson_explain(kind == 8 ? 0 : VBSON_DOUBLES, TEXT(text), &it.text);
     else if (kind == 10) it.status = vbson_encode(0, TEXT(text), &it.text);
     else if (kind == 11) it.status = vbson_explain_document(document.bytes, document.len, &it.text);
-    else if (kind == 15) it.status = convert_lines(text, &it);
-    else it.status = vbson_decode((uint32_t)kind - 12, 0, document.bytes, document.len, &it.text);
+    else if (kind < 15) it.status = vbson_decode((uint32_t)kind - 12, 0, document.bytes, document.len, &it.text);
+    else if (kind < 17) it.status = convert_lines(kind == 15 ? 0 : VBSON_KEEP_ORDER, text, &it);
+    else if (kind == 17) it.status = vbson_convert_with(VBSON_CANONICAL, VBSON_KEEP_ORDER, TEXT(text), &it.text);
+    else if (kind == 18) it.status = vbson_encode(VBSON_DOUBLES | VBSON_KEEP_ORDER, TEXT(text), &it.text);
+    else it.status = vbson_decode(VBSON_RELAXED, VBSON_DOUBLES | VBSON_KEEP_ORDER, document.bytes, document.len, &it.text);
     refused = 0;
     return it;
 }

@@ -1,9 +1,10 @@
-/* The deepest texts and documents on a stack of 512 KB, by every call that reads one; and how much of it was used. */
+/* The deepest texts and documents on a stack of 512 KB, and in the order of keys on one of 6 MB, by every call that reads
+ * one; and how much of it was used. */
 #include "check.h"
 #include <pthread.h>
 #include <sys/mman.h>
 
-enum { STACK = 512 * 1024, NEEDS = 384 * 1024 };
+enum { STACK = 512 * 1024, NEEDS = 448 * 1024, LARGE_STACK = 6144 * 1024, NEEDS_IN_ORDER = 5120 * 1024 };
 
 static char text[1 << 16];
 
@@ -39,9 +40,9 @@ static void nest_documents(int tag, int times) {
 
 static uint32_t status;
 
-static uint32_t lines_status(void) {
+static uint32_t lines_status(uint32_t flags) {
     vbson_lines out = VBSON_LINES_NONE;
-    uint32_t done = vbson_convert_lines(VBSON_CANONICAL, VBSON_DOUBLES, TEXT(text), &out);
+    uint32_t done = vbson_convert_lines(VBSON_CANONICAL, flags, TEXT(text), &out);
     vbson_text_free(&out.text);
     vbson_text_free(&out.told);
     return done;
@@ -56,7 +57,11 @@ static void *calls(void *kind) {
     else if (it == 4) status = vbson_hash(TEXT(text), &number);
     else if (it == 5) status = vbson_convert_with(VBSON_CANONICAL, VBSON_DOUBLES, TEXT(text), &out);
     else if (it == 6) status = vbson_explain(0, TEXT(text), &out);
-    else if (it == 13) status = lines_status();
+    else if (it == 13) status = lines_status(VBSON_DOUBLES);
+    else if (it == 14) status = lines_status(VBSON_KEEP_ORDER);
+    else if (it == 15) status = vbson_convert_with(VBSON_CANONICAL, VBSON_KEEP_ORDER, TEXT(text), &out);
+    else if (it == 16) status = vbson_encode(VBSON_KEEP_ORDER, TEXT(text), &out);
+    else if (it == 17) status = vbson_decode(VBSON_CANONICAL, VBSON_KEEP_ORDER, document, document_len, &out);
     else if (it == 7) status = vbson_encode(0, TEXT(text), &out);
     else if (it == 8) status = vbson_is_document(document, document_len);
     else if (it == 9) status = vbson_explain_document(document, document_len, &out);
@@ -65,62 +70,79 @@ static void *calls(void *kind) {
     return NULL;
 }
 
+/* Whether a call reads a text in the order of its keys. */
+static int is_in_order(int kind) { return kind >= 14 && kind <= 16; }
+
 /* How many bytes of the stack a call wrote. */
 static size_t used_by(int kind) {
-    unsigned char *at = mmap(NULL, STACK, PROT_READ | PROT_WRITE, MAP_PRIVATE | MAP_ANONYMOUS, -1, 0);
+    const size_t stack = is_in_order(kind) ? LARGE_STACK : STACK;
+    unsigned char *at = mmap(NULL, stack, PROT_READ | PROT_WRITE, MAP_PRIVATE | MAP_ANONYMOUS, -1, 0);
     size_t untouched = 0;
     pthread_attr_t attributes;
     pthread_t thread;
-    memset(at, 0xa5, STACK);
+    memset(at, 0xa5, stack);
     pthread_attr_init(&attributes);
-    pthread_attr_setstack(&attributes, at, STACK);
+    pthread_attr_setstack(&attributes, at, stack);
     CHECK(pthread_create(&thread, &attributes, calls, &kind) == 0);
     CHECK(pthread_join(thread, NULL) == 0);
-    while (untouched < STACK && at[untouched] == 0xa5) untouched++;
-    munmap(at, STACK);
-    return STACK - untouched;
+    while (untouched < stack && at[untouched] == 0xa5) untouched++;
+    munmap(at, stack);
+    CHECK(stack - untouched <= (is_in_order(kind) ? NEEDS_IN_ORDER : NEEDS));
+    return stack - untouched;
 }
 
-static void all_kinds(size_t *most, uint32_t wanted, uint32_t encoded) {
+/* The most that a call wrote, by default and in the order of keys. */
+static size_t most, most_in_order;
+
+static void count(int kind) {
+    size_t used = used_by(kind), *greatest = is_in_order(kind) ? &most_in_order : &most;
+    if (used > *greatest) *greatest = used;
+}
+
+static void all_kinds(uint32_t wanted, uint32_t encoded) {
     for (int kind = 0; kind < 8; kind++) {
-        size_t used = used_by(kind);
-        CHECK(status == (kind < 6 ? wanted : kind == 6 ? VBSON_DONE : encoded) && used <= NEEDS);
-        if (used > *most) *most = used;
+        count(kind);
+        CHECK(status == (kind < 6 ? wanted : kind == 6 ? VBSON_DONE : encoded));
     }
-    size_t used = used_by(13);
-    CHECK(status == VBSON_DONE && used <= NEEDS);
-    if (used > *most) *most = used;
+    for (int kind = 13; kind < 17; kind++) {
+        count(kind);
+        CHECK(status == (kind < 15 ? VBSON_DONE : kind == 15 ? wanted : encoded));
+    }
 }
 
-static void all_of_documents(size_t *most, uint32_t wanted) {
+static void all_of_documents(uint32_t wanted) {
     for (int kind = 8; kind < 13; kind++) {
-        size_t used = used_by(kind);
-        CHECK(status == (kind == 9 ? VBSON_DONE : wanted) && used <= NEEDS);
-        if (used > *most) *most = used;
+        count(kind);
+        CHECK(status == (kind == 9 ? VBSON_DONE : wanted));
     }
+    count(17);
+    CHECK(status == wanted);
 }
 
 int main(void) {
-    size_t most = 0;
     nest("[", "]", 127);
-    all_kinds(&most, VBSON_DONE, VBSON_NO_DOCUMENT);
+    all_kinds(VBSON_DONE, VBSON_NO_DOCUMENT);
     nest("{\"b\":1,\"a\":", "}", 127);
-    all_kinds(&most, VBSON_DONE, VBSON_DONE);
+    all_kinds(VBSON_DONE, VBSON_DONE);
     nest("{\"$code\":\"f\",\"$scope\":{\"b\":2,\"a\":", "}}", 63);
-    all_kinds(&most, VBSON_DONE, VBSON_NO_DOCUMENT);
+    all_kinds(VBSON_DONE, VBSON_NO_DOCUMENT);
+    nest("{\"$scope\":{\"b\":2,\"a\":", "},\"$code\":\"f\"}", 63);
+    all_kinds(VBSON_DONE, VBSON_NO_DOCUMENT);
+    nest("{\"$scope\":", "}", 127);
+    all_kinds(VBSON_DONE, VBSON_DONE);
     nest("[", "]", 128);
-    all_kinds(&most, VBSON_NOT_JSON, VBSON_NOT_JSON);
+    all_kinds(VBSON_NOT_JSON, VBSON_NOT_JSON);
     nest("{\"a\":", "}", 9000);
-    all_kinds(&most, VBSON_NOT_JSON, VBSON_NOT_JSON);
+    all_kinds(VBSON_NOT_JSON, VBSON_NOT_JSON);
     static const int tags[] = {3, 4, 15};
     for (int i = 0; i < 3; i++) {
         nest_documents(tags[i], 99);
-        all_of_documents(&most, VBSON_DONE);
+        all_of_documents(VBSON_DONE);
         nest_documents(tags[i], 100);
-        all_of_documents(&most, VBSON_NO_DOCUMENT);
+        all_of_documents(VBSON_NO_DOCUMENT);
         nest_documents(tags[i], 3000);
-        all_of_documents(&most, VBSON_NO_DOCUMENT);
+        all_of_documents(VBSON_NO_DOCUMENT);
     }
-    printf("the deepest texts and documents used %zu KiB of the stack\n", most >> 10);
+    printf("the deepest texts and documents used %zu KiB of the stack, texts in order %zu KiB\n", most >> 10, most_in_order >> 10);
     return end();
 }

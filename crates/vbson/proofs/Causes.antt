@@ -13,12 +13,14 @@ use Rattle.bson_run.specs.Convert.{IsRefusedIn}
 use Rattle.bson_run.specs.declared.fault.Fault.{Fault}
 use Rattle.bson_run.specs.declared.fault.Fault.TheVariants.{CannotRead, NotJson, NotExtendedJson, NoBytes, OutOfMemory}
 use Rattle.bson_run.specs.declared.fault.Fault.TheVariants.{CannotWrite}
-use Rattle.bson_run.specs.Encode.{HasNoBytesIn, IsUnencodedIn}
+use Rattle.bson_run.specs.Encode.{HasNoBytesFor}
 use Rattle.bson_run.specs.declared.no_bytes.NoBytes as without
 use Rattle.bson_run.specs.declared.no_bytes.NoBytes.TheVariants.{NoDocument, ZeroInKey, ZeroInRegex, TooLong}
 use Rattle.vbson.specs.Convert.{HasNoMeaningIn, IsBad, IsBadId, IsCauseIn, IsOfText, status_for, status_of}
 use Rattle.vbson.specs.Convert.{status_without}
-use Rattle.vbson.specs.Documents.{IsUnencoded}
+use Rattle.vbson.specs.Documents.{HasMeaningBy, IsUnencoded, IsUnencodedBy}
+use Rattle.vbson.specs.declared.flags.KeyOrder.{KeyOrder}
+use Rattle.vbson.specs.declared.flags.KeyOrder.TheVariants.{Ascending, AsGiven}
 
 is_bad_id : (f : TreeFault) (r : Reason) → IsReason f r → status_for r ≡ 3 → IsBadId f
 is_bad_id f (BadObjectId e) h is = (h.0, h.1)
@@ -70,9 +72,9 @@ no_cause o status text late = record {
 }
 
 -- a status up to 5 says nothing of what has one
-no_meaning : (o : Options) (status : ℕ) (text : List ℕ) → IsCauseIn o status text → 2 ≤ status → status ≤ 5
-    → IsUnencoded o status text
-no_meaning o status text cause least most = record {
+no_meaning : (k : KeyOrder) (o : Options) (status : ℕ) (text : List ℕ) → IsCauseIn o status text → 2 ≤ status
+    → status ≤ 5 → IsUnencoded k o status text
+no_meaning k o status text cause least most = record {
   cause = cause;
   no_document = λ is. absurd (omega (arith, most, is));
   zero_key = λ is. absurd (omega (arith, most, is));
@@ -85,9 +87,20 @@ reason_status : (r : Reason) → (2 ≤ status_for r) × (status_for r ≤ 5)
 reason_status (BadObjectId e) = (omega arith, omega arith)
 reason_status (WrongShape message) = (omega arith, omega arith)
 
-without_bytes : (o : Options) (why : without.NoBytes) (text : List ℕ) → HasNoBytesIn o why text
-    → IsUnencoded o (status_without why) text
-without_bytes o NoDocument text h = record {
+refused : (k : KeyOrder) (o : Options) (fault : Fault) (text : List ℕ) → IsRefusedIn o fault text
+    → IsUnencoded k o (status_of fault) text
+refused k o CannotRead text h = absurd h
+refused k o NotJson text h = no_meaning k o 2 text (causes o NotJson text h) (omega arith) (omega arith)
+refused k o (NotExtendedJson place) text h =
+    let r = reason_status place.reason in
+    no_meaning k o (status_for place.reason) text (causes o (NotExtendedJson place) text h) r.0 r.1
+refused k o (NoBytes why) text h = absurd h
+refused k o OutOfMemory text h = no_meaning k o 5 text (causes o OutOfMemory text h) (omega arith) (omega arith)
+refused k o CannotWrite text h = absurd h
+
+without_bytes : (k : KeyOrder) (o : Options) (why : without.NoBytes) (text : List ℕ)
+    → HasNoBytesFor (HasMeaningBy k o text) why → IsUnencoded k o (status_without why) text
+without_bytes k o NoDocument text h = record {
   cause = no_cause o 10 text (omega arith);
   no_document = λ is. h;
   zero_key = λ is. absurd (omega (arith, is));
@@ -95,7 +108,7 @@ without_bytes o NoDocument text h = record {
   long = λ is. absurd (omega (arith, is));
   listed = inr (omega arith, omega arith);
 }
-without_bytes o ZeroInKey text h = record {
+without_bytes k o ZeroInKey text h = record {
   cause = no_cause o 11 text (omega arith);
   no_document = λ is. absurd (omega (arith, is));
   zero_key = λ is. h;
@@ -103,7 +116,7 @@ without_bytes o ZeroInKey text h = record {
   long = λ is. absurd (omega (arith, is));
   listed = inr (omega arith, omega arith);
 }
-without_bytes o ZeroInRegex text h = record {
+without_bytes k o ZeroInRegex text h = record {
   cause = no_cause o 12 text (omega arith);
   no_document = λ is. absurd (omega (arith, is));
   zero_key = λ is. absurd (omega (arith, is));
@@ -111,7 +124,7 @@ without_bytes o ZeroInRegex text h = record {
   long = λ is. absurd (omega (arith, is));
   listed = inr (omega arith, omega arith);
 }
-without_bytes o TooLong text h = record {
+without_bytes k o TooLong text h = record {
   cause = no_cause o 13 text (omega arith);
   no_document = λ is. absurd (omega (arith, is));
   zero_key = λ is. absurd (omega (arith, is));
@@ -121,22 +134,29 @@ without_bytes o TooLong text h = record {
 }
 
 -- what the status of the fault says of the text
-pub unencoded : (o : Options) (fault : Fault) (text : List ℕ) → IsUnencodedIn o fault text
-    → IsUnencoded o (status_of fault) text
-unencoded o CannotRead text h = absurd h
-unencoded o NotJson text h = no_meaning o 2 text (causes o NotJson text h) (omega arith) (omega arith)
-unencoded o (NotExtendedJson place) text h =
-    let r = reason_status place.reason in
-    no_meaning o (status_for place.reason) text (causes o (NotExtendedJson place) text h) r.0 r.1
-unencoded o (NoBytes why) text h = without_bytes o why text h
-unencoded o OutOfMemory text h = no_meaning o 5 text (causes o OutOfMemory text h) (omega arith) (omega arith)
-unencoded o CannotWrite text h = absurd h
+pub unencoded : (k : KeyOrder) (o : Options) (fault : Fault) (text : List ℕ) → IsUnencodedBy k o fault text
+    → IsUnencoded k o (status_of fault) text
+unencoded Ascending o CannotRead text h = absurd h
+unencoded Ascending o NotJson text h = refused Ascending o NotJson text h
+unencoded Ascending o (NotExtendedJson place) text h = refused Ascending o (NotExtendedJson place) text h
+unencoded Ascending o (NoBytes why) text h = without_bytes Ascending o why text h
+unencoded Ascending o OutOfMemory text h = refused Ascending o OutOfMemory text h
+unencoded Ascending o CannotWrite text h = absurd h
+unencoded AsGiven o CannotRead text h = absurd h
+unencoded AsGiven o NotJson text h = refused AsGiven o NotJson text h
+unencoded AsGiven o (NotExtendedJson place) text h = refused AsGiven o (NotExtendedJson place) text h
+unencoded AsGiven o (NoBytes why) text h = without_bytes AsGiven o why text h
+unencoded AsGiven o OutOfMemory text h = refused AsGiven o OutOfMemory text h
+unencoded AsGiven o CannotWrite text h = absurd h
 
 -- a text that gives no bytes has the fault of a text
-pub of_text : (o : Options) (fault : Fault) (text : List ℕ) → IsUnencodedIn o fault text → IsOfText fault
-of_text o CannotRead text h = absurd h
-of_text o NotJson text h = tt
-of_text o (NotExtendedJson place) text h = tt
-of_text o (NoBytes why) text h = tt
-of_text o OutOfMemory text h = tt
-of_text o CannotWrite text h = absurd h
+pub of_text : (k : KeyOrder) (o : Options) (fault : Fault) (text : List ℕ) → IsUnencodedBy k o fault text
+    → IsOfText fault
+of_text k o NotJson text h = tt
+of_text k o (NotExtendedJson place) text h = tt
+of_text k o (NoBytes why) text h = tt
+of_text k o OutOfMemory text h = tt
+of_text Ascending o CannotRead text h = absurd h
+of_text Ascending o CannotWrite text h = absurd h
+of_text AsGiven o CannotRead text h = absurd h
+of_text AsGiven o CannotWrite text h = absurd h

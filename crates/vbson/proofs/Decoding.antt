@@ -1,18 +1,23 @@
 -- What the status of a document says: of its bytes, where they gave no text, and of its text, where that gave no bytes.
 use Rattle.std.proofs.Common.{◌≡◌, ◌⊎◌, inl, inr, ℕ, List, Some, true, true≢false, refl, sym, ap, subst, ◌∙◌, arith, rules}
+use Rattle.std.specs.Prelude.{IsUtf8}
 use Rattle.serde_json.specs.Data.{Data}
 use Rattle.serde_json.specs.Read.{read}
 use Rattle.bson.specs.Doubles.{Doubles}
+use Rattle.bson.specs.OrderedTexts.{HasMeaningInOrder}
 use Rattle.bson.specs.TextMeaning.{HasTextMeaningIn, IsTextOf}
 use Rattle.bson.specs.View.{bson_view, document_view}
 use Rattle.bson.specs.declared.bson.Bson.{the_lemmas}
 use Rattle.bson.specs.declared.bson.Bson.TheVariants.{Document as held}
 use Rattle.bson.specs.declared.document.Document.{Document}
 use Rattle.bson.specs.declared.extjson.options.Options.{Options}
+use Rattle.bson.specs.Kept.{read_kept}
+use Rattle.bson.specs.MeansInOrder.{MeansInOrder}
 use Rattle.bson_codec.specs.Laws.{IsRead}
 use Rattle.bson_model.specs.Means.{MeansIn}
 use Rattle.bson_model.specs.Normal.{writable_in}
-use Rattle.bson_model.specs.Value.{Pairs, document}
+use Rattle.bson_model.specs.Sorted.{sorted}
+use Rattle.bson_model.specs.Value.{Value, Pairs, document}
 use Rattle.bson_run.specs.declared.mode.Mode.{Mode}
 use Rattle.bson_run.specs.declared.mode.Mode.TheVariants.{Canonical, Relaxed, Show}
 use Rattle.vbson.specs.Documents.{HasNoTextIn, IsOneDocument, IsUndecoded, depth}
@@ -67,3 +72,20 @@ means_one D bytes tree ps qs text means it =
     let same : tree ≡ it.tree = cc in
     let one : document ps ≡ document qs = it.meaning.one (document ps) (subst (λ t. MeansIn D t (document ps)) same means) in
     cc
+
+-- nor two in order
+pub means_one_in_order : (D : Doubles) (bytes : List ℕ) (ps qs : Pairs) → HasMeaningInOrder D bytes (document ps)
+    → HasMeaningInOrder D bytes (document qs) → ps ≡ qs
+means_one_in_order D bytes ps qs it also =
+    let a : read_kept bytes ≡ Some it.tree = it.tree_read in
+    let b : read_kept bytes ≡ Some also.tree = also.tree_read in
+    let same : it.tree ≡ also.tree = cc in
+    let one : document ps ≡ document qs =
+    also.one (document ps) (subst (λ t. MeansInOrder D t (document ps)) same it.means) in
+    cc
+
+-- what means a value in order means one by default
+pub means_by_default : (D : Doubles) (bytes : List ℕ) (v : Value) → IsUtf8 bytes → HasMeaningInOrder D bytes v
+    → (tree : Data) × (w : Value) × IsTextOf bytes tree × MeansIn D tree w
+means_by_default D bytes v utf8 it =
+    (it.by_default.0, sorted v, record { utf8 = utf8; tree_read = it.by_default.1 }, it.by_default.2.means)

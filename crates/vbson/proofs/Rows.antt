@@ -8,8 +8,9 @@ use Rattle.bson_run.specs.Convert.{default_options}
 use Rattle.bson_run.specs.declared.mode.Mode.TheVariants as mode
 use Rattle.bson_run.specs.declared.fault.Fault.TheVariants as fault
 use Rattle.bson_run.specs.declared.no_bytes.NoBytes.TheVariants as without
-use Rattle.vbson.specs.Convert.{mode_at, options_of, status_for, status_of}
+use Rattle.vbson.specs.Convert.{mode_at, options_of, order_of, status_for, status_of}
 use Rattle.vbson.specs.Documents.{depth}
+use Rattle.vbson.specs.declared.flags.KeyOrder.TheVariants.{Ascending, AsGiven}
 
 -- ---- modes
 
@@ -35,6 +36,18 @@ special_doubles = refl
 
 finite_doubles : (options_of 1).doubles ≡ Finite
 finite_doubles = refl
+
+ascending : order_of 0 ≡ Ascending
+ascending = refl
+
+doubles_ascending : order_of 1 ≡ Ascending
+doubles_ascending = refl
+
+in_order : (order_of 2 ≡ AsGiven) × (options_of 2 ≡ default_options)
+in_order = (refl, refl)
+
+doubles_in_order : (order_of 3 ≡ AsGiven) × ((options_of 3).doubles ≡ Finite)
+doubles_in_order = (refl, refl)
 
 -- ---- statuses
 

@@ -1,5 +1,5 @@
--- What a conversion leaves, and which number stands for which mode and for which options.
-use Rattle.std.specs.Prelude.{◌≡◌, ◌==◌, ℕ, List, ◌++◌, Option, Some, None, if◌then◌else◌}
+-- What a conversion leaves, and which number stands for which mode, for which options and for which order of keys.
+use Rattle.std.specs.Prelude.{◌≡◌, ◌==◌, ℕ, ◌/◌, ◌%◌, List, ◌++◌, Option, Some, None, if◌then◌else◌}
 use Rattle.serde_json.specs.Data.{Data}
 use Rattle.bson_place.specs.Faults.{Fault as TreeFault, wrong_shape, wrong_id}
 use Rattle.bson_model.specs.Fault.{MeansNothingIn, fault_of_in}
@@ -9,6 +9,7 @@ use Rattle.bson.specs.Doubles.TheVariants.{Special, Finite}
 use Rattle.bson.specs.TextMeaning.{IsNoText, IsTextOf}
 use Rattle.bson.specs.declared.extjson.options.Options.{Options}
 use Rattle.bson_run.specs.Convert.{ConvertsIn, default_options, newline}
+use Rattle.bson_run.specs.InOrder.{ConvertsInOrder}
 use Rattle.bson_run.specs.declared.mode.Mode.{Mode}
 use Rattle.bson_run.specs.declared.mode.Mode.TheVariants.{Canonical, Relaxed, Show}
 use Rattle.bson_run.specs.declared.fault.Fault.{Fault}
@@ -17,21 +18,32 @@ use Rattle.bson_run.specs.declared.fault.Fault.TheVariants.{CannotWrite}
 use Rattle.bson_run.specs.declared.no_bytes.NoBytes as without
 use Rattle.bson_run.specs.declared.no_bytes.NoBytes.TheVariants.{NoDocument, ZeroInKey, ZeroInRegex, TooLong}
 use Rattle.vbson.specs.Text.{IsText}
+use Rattle.vbson.specs.declared.flags.KeyOrder.{KeyOrder}
+use Rattle.vbson.specs.declared.flags.KeyOrder.TheVariants.{Ascending, AsGiven}
 use Rattle.vbson.specs.declared.text.Text.{Text}
 
 abbrev pub mode_at : ℕ → Option Mode
 mode_at n = if n == 0 then Some Canonical else (if n == 1 then Some Relaxed else (if n == 2 then Some Show else None))
 
--- the options of flags, of which 1 is the greatest: 0 the default, 1 with finite doubles
+-- the options of flags, of which 3 is the greatest: the default, and with the bit 1 finite doubles
 abbrev pub options_of : ℕ → Options
-options_of flags = record { doubles = if flags == 1 then Finite else Special }
+options_of flags = record { doubles = if flags % 2 == 1 then Finite else Special }
+
+-- their order of keys: ascending, and with the bit 2 as given
+abbrev pub order_of : ℕ → KeyOrder
+order_of flags = if flags / 2 % 2 == 1 then AsGiven else Ascending
+
+-- the input is converted to the output, its keys in the order
+abbrev pub ConvertsBy : KeyOrder → Options → Mode → List ℕ → List ℕ → Type 0
+ConvertsBy Ascending o mode input output = ConvertsIn o mode input output
+ConvertsBy AsGiven o mode input output = ConvertsInOrder o mode input output
 
 -- the line that the input is converted to in the mode of the number, with a NUL in its newline's place
-pub record IsConvertedIn (o : Options) (number : ℕ) (input : List ℕ) (out : Text) : Type 0 where
+pub record IsConvertedBy (k : KeyOrder) (o : Options) (number : ℕ) (input : List ℕ) (out : Text) : Type 0 where
   pub mode : Mode
   pub named : mode_at number ≡ Some mode
   pub text : List ℕ
-  pub converts : ConvertsIn o mode input (text ++ newline)
+  pub converts : ConvertsBy k o mode input (text ++ newline)
   pub is_text : IsText text out
 
 -- the text of an object id alone is wrong
@@ -49,7 +61,10 @@ pub record HasNoMeaningIn (o : Options) (why : TreeFault → Type 0) (bytes : Li
   pub refused : MeansNothingIn o.doubles tree
   pub reason : why (fault_of_in o.doubles tree)
 
--- ---- where no flags are given
+-- ---- where keys ascend, and where no flags are given
+
+abbrev pub IsConvertedIn : (o : Options) (number : ℕ) (input : List ℕ) (out : Text) → Type 0
+IsConvertedIn = IsConvertedBy Ascending
 
 abbrev pub IsConverted : (number : ℕ) (input : List ℕ) (out : Text) → Type 0
 IsConverted = IsConvertedIn default_options

@@ -1,9 +1,10 @@
 -- Documents by their bytes (BSON 1.1, bsonspec.org), and by their texts.
 use Rattle.std.specs.Prelude.{◌≡◌, ◌⊎◌, ◌≤◌, ℕ, List, [], ◌++◌, Some, codes, false, true}
 use Rattle.std.specs.Fmt.{decimal}
+use Rattle.bson.specs.Form.{Form}
 use Rattle.bson.specs.Form.TheVariants as form
 use Rattle.bson.specs.TextMeaning.{HasTextMeaningIn}
-use Rattle.bson.specs.Texts.{IsTextUnder}
+use Rattle.bson.specs.Texts.{IsTextUnder, IsTextInOrder}
 use Rattle.bson.specs.declared.extjson.options.Options.{Options}
 use Rattle.bson_bytes.specs.declared.fault.FaultKind.{FaultKind}
 use Rattle.bson_codec.specs.Bytes.{reads}
@@ -13,13 +14,15 @@ use Rattle.bson_codec.specs.Laws.{IsRead}
 use Rattle.bson_codec.specs.Told.{words_for}
 use Rattle.bson_model.specs.Displayed.{display_text}
 use Rattle.bson_model.specs.Normal.{writable_in}
-use Rattle.bson_model.specs.Value.{Pairs, document}
-use Rattle.bson_run.specs.Encode.{EncodesIn, FailsFor, HasNoBytesIn}
+use Rattle.bson_model.specs.Value.{Value, Pairs, document}
+use Rattle.bson_run.specs.Encode.{FailsFor, IsBytesOf, IsNoDocument, IsUnencodedIn, IsUnencodedInOrder, MeansKept}
+use Rattle.bson_run.specs.declared.fault.Fault.{Fault}
 use Rattle.bson_run.specs.declared.mode.Mode.{Mode}
 use Rattle.bson_run.specs.declared.mode.Mode.TheVariants.{Canonical, Relaxed, Show}
-use Rattle.bson_run.specs.declared.no_bytes.NoBytes.TheVariants.{NoDocument}
 use Rattle.vbson.specs.Convert.{IsCauseIn, mode_at}
 use Rattle.vbson.specs.Text.{IsText}
+use Rattle.vbson.specs.declared.flags.KeyOrder.{KeyOrder}
+use Rattle.vbson.specs.declared.flags.KeyOrder.TheVariants.{Ascending, AsGiven}
 use Rattle.vbson.specs.declared.text.Text.{Text}
 
 -- how deep documents, arrays and scopes may stand in each other
@@ -32,11 +35,16 @@ IsOneDocument bytes = (ps : Pairs) × IsRead depth bytes ps
 
 -- ---- from bytes to a text
 
--- the text of the document in the mode
-abbrev pub IsTextOfDocument : Options → Mode → Pairs → List ℕ → Type 0
-IsTextOfDocument o Canonical ps text = IsTextUnder o.doubles form.Canonical (document ps) text
-IsTextOfDocument o Relaxed ps text = IsTextUnder o.doubles form.Relaxed (document ps) text
-IsTextOfDocument o Show ps text = text ≡ display_text (document ps)
+-- the text of the document in the form, its keys in the order
+abbrev pub IsTextBy : KeyOrder → Options → Form → Pairs → List ℕ → Type 0
+IsTextBy Ascending o f ps text = IsTextUnder o.doubles f (document ps) text
+IsTextBy AsGiven o f ps text = IsTextInOrder o.doubles f (document ps) text
+
+-- the text of the document in the mode; what is shown has the document's own order in any case
+abbrev pub IsTextOfDocument : KeyOrder → Options → Mode → Pairs → List ℕ → Type 0
+IsTextOfDocument k o Canonical ps text = IsTextBy k o form.Canonical ps text
+IsTextOfDocument k o Relaxed ps text = IsTextBy k o form.Relaxed ps text
+IsTextOfDocument k o Show ps text = text ≡ display_text (document ps)
 
 -- the document has no text in the mode
 abbrev pub HasNoTextIn : Options → Mode → Pairs → Type 0
@@ -45,17 +53,17 @@ HasNoTextIn o Relaxed ps = writable_in o.doubles (document ps) ≡ false
 HasNoTextIn o Show ps = ⊥
 
 -- the bytes are a document, whose text in the mode this is
-pub record Decodes (o : Options) (mode : Mode) (bytes text : List ℕ) : Type 0 where
+pub record Decodes (k : KeyOrder) (o : Options) (mode : Mode) (bytes text : List ℕ) : Type 0 where
   pub pairs : Pairs
   pub read : IsRead depth bytes pairs
-  pub written : IsTextOfDocument o mode pairs text
+  pub written : IsTextOfDocument k o mode pairs text
 
 -- the text that is left is that of the document in the mode of the number
-pub record IsDecoded (o : Options) (number : ℕ) (bytes : List ℕ) (out : Text) : Type 0 where
+pub record IsDecoded (k : KeyOrder) (o : Options) (number : ℕ) (bytes : List ℕ) (out : Text) : Type 0 where
   pub mode : Mode
   pub named : mode_at number ≡ Some mode
   pub text : List ℕ
-  pub decodes : Decodes o mode bytes text
+  pub decodes : Decodes k o mode bytes text
   pub is_text : IsText text out
 
 -- the bytes are a document that has no text in the mode of the number
@@ -84,21 +92,26 @@ IsDocumentExplained bytes out = (words : List ℕ) × ExplainsDocument bytes wor
 
 -- ---- from a text to bytes
 
+-- the text means the value, its keys in the order
+abbrev pub HasMeaningBy : KeyOrder → Options → List ℕ → Value → Type 0
+HasMeaningBy Ascending o text = HasTextMeaningIn o.doubles text
+HasMeaningBy AsGiven o text = MeansKept o text
+
 -- the text means a document, whose canonical bytes these are; they are read back as it
-abbrev pub Encodes : Options → (text bytes : List ℕ) → Type 0
-Encodes = EncodesIn
+abbrev pub Encodes : KeyOrder → Options → (text bytes : List ℕ) → Type 0
+Encodes k o text bytes = IsBytesOf (HasMeaningBy k o text) bytes
 
 -- what is left are those bytes
-abbrev pub IsEncoded : Options → List ℕ → Text → Type 0
-IsEncoded o text out = (bytes : List ℕ) × Encodes o text bytes × IsText bytes out
+abbrev pub IsEncoded : KeyOrder → Options → List ℕ → Text → Type 0
+IsEncoded k o text out = (bytes : List ℕ) × Encodes k o text bytes × IsText bytes out
 
 -- the text means a value that is no document
-abbrev pub MeansNoDocument : Options → List ℕ → Type 0
-MeansNoDocument o text = HasNoBytesIn o NoDocument text
+abbrev pub MeansNoDocument : KeyOrder → Options → List ℕ → Type 0
+MeansNoDocument k o text = IsNoDocument (HasMeaningBy k o text)
 
 -- the text means a document that has no bytes, for this cause
-abbrev pub HasNoBytes : Options → Cause → List ℕ → Type 0
-HasNoBytes o cause text = FailsFor (HasTextMeaningIn o.doubles text) cause
+abbrev pub HasNoBytes : KeyOrder → Options → Cause → List ℕ → Type 0
+HasNoBytes k o cause text = FailsFor (HasMeaningBy k o text) cause
 
 -- ---- for private clauses
 
@@ -110,10 +123,15 @@ pub record IsUndecoded (o : Options) (mode : Mode) (status : ℕ) (bytes : List 
   pub listed : (status ≡ 5) ⊎ ((status ≡ 7) ⊎ (status ≡ 10))
 
 -- what a status says of a text that gave no bytes
-pub record IsUnencoded (o : Options) (status : ℕ) (text : List ℕ) : Type 0 where
+pub record IsUnencoded (k : KeyOrder) (o : Options) (status : ℕ) (text : List ℕ) : Type 0 where
   pub cause : IsCauseIn o status text
-  pub no_document : status ≡ 10 → MeansNoDocument o text
-  pub zero_key : status ≡ 11 → HasNoBytes o zero_in_key text
-  pub zero_regex : status ≡ 12 → HasNoBytes o zero_in_regex text
-  pub long : status ≡ 13 → HasNoBytes o too_long text
+  pub no_document : status ≡ 10 → MeansNoDocument k o text
+  pub zero_key : status ≡ 11 → HasNoBytes k o zero_in_key text
+  pub zero_regex : status ≡ 12 → HasNoBytes k o zero_in_regex text
+  pub long : status ≡ 13 → HasNoBytes k o too_long text
   pub listed : ((2 ≤ status) × (status ≤ 5)) ⊎ ((10 ≤ status) × (status ≤ 13))
+
+-- what each fault says of a text that gave no bytes, its keys in the order
+abbrev pub IsUnencodedBy : KeyOrder → Options → Fault → List ℕ → Type 0
+IsUnencodedBy Ascending o fault text = IsUnencodedIn o fault text
+IsUnencodedBy AsGiven o fault text = IsUnencodedInOrder o fault text

@@ -4,23 +4,31 @@ use Rattle.bson.specs.declared.extjson.options.Options.{Options}
 use Rattle.bson_run.specs.Lines.{OutcomesIn, lines as lines_of}
 use Rattle.bson_run.specs.declared.mode.Mode.{Mode}
 use Rattle.bson_run.specs.declared.order.OnRefusal.TheVariants.{KeepGoing}
-use Rattle.bson_run.specs.declared.order.Task.TheVariants.{Write}
+use Rattle.bson_run.specs.declared.order.Task.{Task}
+use Rattle.bson_run.specs.declared.order.Task.TheVariants.{Write, WriteInOrder}
 use Rattle.vbson.specs.Convert.{mode_at}
 use Rattle.vbson.specs.Text.{IsText}
+use Rattle.vbson.specs.declared.flags.KeyOrder.{KeyOrder}
+use Rattle.vbson.specs.declared.flags.KeyOrder.TheVariants.{Ascending, AsGiven}
 use Rattle.vbson.specs.declared.lines.Lines.{Lines}
 
--- the lines of the block give this output in the mode, the verdicts tell of those that are refused, and so many lines
+-- what is done with each line, its keys in the order
+abbrev pub task_of : KeyOrder → Mode → Task
+task_of Ascending mode = Write mode
+task_of AsGiven mode = WriteInOrder mode
+
+-- the lines of the block give this output by the task, the verdicts tell of those that are refused, and so many lines
 -- there are, of which so many are refused
-pub record GivesLines (o : Options) (mode : Mode) (block output verdicts : List ℕ) (count refused : ℕ) : Type 0 where
-  pub outcomes : OutcomesIn o (Write mode) KeepGoing (lines_of block) output verdicts refused
+pub record GivesLines (o : Options) (task : Task) (block output verdicts : List ℕ) (count refused : ℕ) : Type 0 where
+  pub outcomes : OutcomesIn o task KeepGoing (lines_of block) output verdicts refused
   pub counted : count ≡ length (lines_of block)
 
 -- what is left is the output and the verdicts of the lines in the mode of the number, and these counts
-pub record AreConverted (o : Options) (number : ℕ) (block : List ℕ) (out : Lines) : Type 0 where
+pub record AreConverted (k : KeyOrder) (o : Options) (number : ℕ) (block : List ℕ) (out : Lines) : Type 0 where
   pub mode : Mode
   pub named : mode_at number ≡ Some mode
   pub text : List ℕ
   pub told : List ℕ
-  pub gives : GivesLines o mode block text told out.lines out.refused
+  pub gives : GivesLines o (task_of k mode) block text told out.lines out.refused
   pub is_text : IsText text out.text
   pub is_told : IsText told out.told

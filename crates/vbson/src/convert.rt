@@ -1,23 +1,25 @@
 //! One text to another.
-ghost use Rattle.std.specs.Prelude.{◌≡◌, ◌↔◌, ◌⊎◌, ◌<◌, ◌≤◌, ◌++◌, List, ℕ, Some};
+ghost use Rattle.std.specs.Prelude.{◌≡◌, ◌↔◌, ◌⊎◌, ◌<◌, ◌≤◌, ◌++◌, List, ℕ, Some, IfOk, IfErr};
 ghost use Rattle.serde_json.specs.Data.{Data};
 ghost use Rattle.bson.specs.declared.extjson.options.Options.{Options};
 ghost use Rattle.bson_model.specs.Means.{Means, MeansIn};
 ghost use Rattle.bson_model.specs.Value as model;
-ghost use Rattle.bson_run.specs.Convert.{Converts, ConvertsIn, IsRefusedIn, newline};
+ghost use Rattle.bson_run.specs.Convert.{Converts, IsRefusedIn, newline};
 ghost use Rattle.bson.specs.TextMeaning.{IsNoText, IsTextOf};
 ghost use Rattle.bson_run.specs.declared.mode.Mode.{Mode};
 ghost use Rattle.vbson.specs.Convert.{HasNoMeaning, HasNoMeaningIn, IsBad, IsBadId, IsCauseIn};
-ghost use Rattle.vbson.specs.Convert.{IsConverted, IsConvertedIn, IsOfText};
-ghost use Rattle.vbson.specs.Convert.{mode_at, options_of, status_of};
+ghost use Rattle.vbson.specs.Convert.{ConvertsBy, IsConverted, IsConvertedBy, IsOfText};
+ghost use Rattle.vbson.specs.Convert.{mode_at, options_of, order_of, status_of};
 ghost use Rattle.vbson.specs.Text.{nul};
 
-use crate::flags::{has_others, options_of};
+use crate::flags::{KeyOrder, has_others, options_of, order_of};
 use crate::status;
 use crate::text::{Text, text_of_line};
+use bson::extjson::Options;
 use bson_place::place::Reason;
 use bson_run::convert::convert_with;
 use bson_run::fault::Fault;
+use bson_run::in_order::convert_in_order;
 use bson_run::mode::Mode;
 use bson_run::no_bytes::NoBytes;
 use std::alloc::Global;
@@ -49,8 +51,9 @@ pub extern "C" fn vbson_convert(
     vbson_convert_with(alloc, mode, 0, text, out)
 }
 
-/// `vbson_convert` with flags: 1 has finite doubles read and written, in the place of refused; 0 is
-/// `vbson_convert`.
+/// `vbson_convert` with flags, which are added: 1 has finite doubles read and written, in the place
+/// of refused; 2 leaves the keys of each document in the order of the text, where one that stands
+/// twice has its last value at its first place; 0 is `vbson_convert`.
 #[unsafe(no_mangle)]
 pub extern "C" fn vbson_convert_with(
     alloc: Global,
@@ -59,14 +62,15 @@ pub extern "C" fn vbson_convert_with(
     text: &[u8],
     out: &mut Text<'static>,
 ) -> u32
-    ensures done { result ≡ 0 → IsConvertedIn (options_of flags) mode text.now out.new }
+    ensures done { result ≡ 0 → IsConvertedBy (order_of flags) (options_of flags) mode text.now out.new }
     ensures one { result ≡ 0 → (m : Mode) (other : List ℕ) → mode_at mode ≡ Some m
-        → ConvertsIn (options_of flags) m text.now (other ++ newline) → out.new.bytes.now ≡ other ++ nul }
-    ensures accepts { (tree : Data) (value : model.Value) → mode ≤ 2 → flags ≤ 1 → IsTextOf text.now tree
+        → ConvertsBy (order_of flags) (options_of flags) m text.now (other ++ newline)
+        → out.new.bytes.now ≡ other ++ nul }
+    ensures accepts { (tree : Data) (value : model.Value) → mode ≤ 2 → flags ≤ 3 → IsTextOf text.now tree
         → MeansIn (options_of flags).doubles tree value → 0 < result → result ≡ 5 }
 
     // When each other status comes, and that nothing is left then.
-    ensures no_mode { result ≡ 1 ↔ (2 < mode) ⊎ (1 < flags) }
+    ensures no_mode { result ≡ 1 ↔ (2 < mode) ⊎ (3 < flags) }
     ensures not_json { result ≡ 2 → IsNoText text.now }
     ensures bad_object_id { result ≡ 3 → HasNoMeaningIn (options_of flags) IsBadId text.now }
     ensures not_extended_json { result ≡ 4 → HasNoMeaningIn (options_of flags) IsBad text.now }
@@ -79,11 +83,32 @@ pub extern "C" fn vbson_convert_with(
     let Some(mode) = mode_of(mode) else {
         return status::NO_MODE;
     };
-    match convert_with(alloc, options_of(flags), mode, text) {
+    match converted(alloc, order_of(flags), options_of(flags), mode, text) {
         Ok(line) => *out = text_of_line(line),
         Err(fault) => return status_of(fault),
     }
     status::DONE
+}
+
+// The text in the mode, with keys in the order, and a newline.
+fn converted(
+    alloc: Global,
+    order: KeyOrder,
+    options: Options,
+    mode: Mode,
+    text: &[u8],
+) -> Result<Vec<u8>, Fault>
+    ensures ok { IfOk result (λ line. ConvertsBy order options mode text.now line.items) }
+    ensures one { IfOk result (λ line. (other : List ℕ) → ConvertsBy order options mode text.now other
+        → other ≡ line.items) }
+    ensures accepts { (tree : Data) (value : model.Value) → IsTextOf text.now tree → MeansIn options.doubles tree value
+        → IfErr result (λ fault. fault ≡ Fault.OutOfMemory) }
+    ensures fault { IfErr result (λ fault. IsRefusedIn options fault text.now) }
+{
+    match order {
+        KeyOrder::Ascending => convert_with(alloc, options, mode, text),
+        KeyOrder::AsGiven => convert_in_order(alloc, options, mode, text),
+    }
 }
 
 /// The mode of a number.

@@ -7,12 +7,12 @@ ghost use Rattle.bson_model.specs.Normal.{writable_in};
 ghost use Rattle.bson_model.specs.Value as model;
 ghost use Rattle.bson_model.specs.Value.{Pairs};
 ghost use Rattle.bson_run.specs.Convert.{newline};
-ghost use Rattle.vbson.specs.Convert.{options_of};
+ghost use Rattle.vbson.specs.Convert.{options_of, order_of};
 ghost use Rattle.vbson.specs.Documents.{Decodes, HasNoText, IsDecoded, IsOneDocument, IsTextOfDocument, IsUndecoded};
 ghost use Rattle.vbson.specs.Documents.{HasNoTextIn, depth};
 
 use crate::convert::mode_of;
-use crate::flags::{has_others, options_of};
+use crate::flags::{KeyOrder, has_others, options_of, order_of};
 use crate::status;
 use crate::text::{Text, as_line, text_of_line};
 use bson::extjson::{Form, Options, WriteError};
@@ -31,12 +31,12 @@ pub extern "C" fn vbson_decode(
     bytes: &[u8],
     out: &mut Text<'static>,
 ) -> u32
-    ensures done { result ≡ 0 → IsDecoded (options_of flags) mode bytes.now out.new }
-    ensures accepts { (ps : Pairs) → mode ≤ 2 → flags ≤ 1 → IsRead depth bytes.now ps
+    ensures done { result ≡ 0 → IsDecoded (order_of flags) (options_of flags) mode bytes.now out.new }
+    ensures accepts { (ps : Pairs) → mode ≤ 2 → flags ≤ 3 → IsRead depth bytes.now ps
         → writable_in (options_of flags).doubles (model.document ps) ≡ true → 0 < result → result ≡ 5 }
 
     // When each other status comes, and that nothing is left then.
-    ensures no_mode { result ≡ 1 ↔ (2 < mode) ⊎ (1 < flags) }
+    ensures no_mode { result ≡ 1 ↔ (2 < mode) ⊎ (3 < flags) }
     ensures no_document { result ≡ 10 → IsOneDocument bytes.now → ⊥ }
     ensures no_text { result ≡ 7 → HasNoText (options_of flags) mode bytes.now }
     ensures listed { (result ≡ 0) ⊎ (result ≡ 1) ⊎ (result ≡ 5) ⊎ (result ≡ 7) ⊎ (result ≡ 10) }
@@ -48,7 +48,7 @@ pub extern "C" fn vbson_decode(
     let Some(mode) = mode_of(mode) else {
         return status::NO_MODE;
     };
-    match decoded(alloc, options_of(flags), mode, bytes) {
+    match decoded(alloc, order_of(flags), options_of(flags), mode, bytes) {
         Ok(line) => *out = text_of_line(line),
         Err(status) => return status,
     }
@@ -56,21 +56,34 @@ pub extern "C" fn vbson_decode(
 }
 
 // The text in the mode of the document that the bytes are, and a newline; or the status.
-fn decoded(alloc: Global, options: Options, mode: Mode, bytes: &[u8]) -> Result<Vec<u8>, u32>
-    ensures ok { IfOk result (λ line. (text : List ℕ) × Decodes options mode bytes.now text
+fn decoded(
+    alloc: Global,
+    order: KeyOrder,
+    options: Options,
+    mode: Mode,
+    bytes: &[u8],
+) -> Result<Vec<u8>, u32>
+    ensures ok { IfOk result (λ line. (text : List ℕ) × Decodes order options mode bytes.now text
         × (line.items ≡ text ++ newline)) }
     ensures refused { IfErr result (λ status. IsUndecoded options mode status bytes.now) }
 {
     match from_slice(alloc, bytes, DEPTH) {
-        Ok(document) => written(alloc, options, mode, document),
+        Ok(document) => written(alloc, order, options, mode, document),
         Err(Error::Malformed { .. }) => Err(status::NO_DOCUMENT),
         Err(Error::OutOfMemory) => Err(status::OUT_OF_MEMORY),
     }
 }
 
 // The text of the document in the mode, and a newline; or the status.
-fn written(alloc: Global, options: Options, mode: Mode, document: Document) -> Result<Vec<u8>, u32>
-    ensures ok { IfOk result (λ line. (text : List ℕ) × IsTextOfDocument options mode (document_view document) text
+fn written(
+    alloc: Global,
+    order: KeyOrder,
+    options: Options,
+    mode: Mode,
+    document: Document,
+) -> Result<Vec<u8>, u32>
+    ensures ok { IfOk result (λ line. (text : List ℕ)
+        × IsTextOfDocument order options mode (document_view document) text
         × (line.items ≡ text ++ newline)) }
     ensures refused { IfErr result
         (λ status. (status ≡ 5) ⊎ ((status ≡ 7) × HasNoTextIn options mode (document_view document))) }
@@ -80,7 +93,12 @@ fn written(alloc: Global, options: Options, mode: Mode, document: Document) -> R
         Mode::Relaxed => Form::Relaxed,
         Mode::Show => return shown(alloc, &document),
     };
-    match Bson::Document(document).into_text_with(alloc, options, form) {
+    let value = Bson::Document(document);
+    let text = match order {
+        KeyOrder::Ascending => value.into_text_with(alloc, options, form),
+        KeyOrder::AsGiven => value.into_text_in_order(alloc, options, form),
+    };
+    match text {
         Ok(text) => as_line(text.into_bytes()),
         Err(WriteError::FiniteDouble) => Err(status::NO_TEXT),
         Err(WriteError::OutOfMemory) => Err(status::OUT_OF_MEMORY),

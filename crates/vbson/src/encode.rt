@@ -1,26 +1,31 @@
 //! The bytes of a text's document.
-ghost use Rattle.std.specs.Prelude.{◌≡◌, ◌⊎◌, ◌↔◌, ◌<◌, ◌≤◌, ◌++◌, List, ℕ, IfOk, IfErr};
+ghost use Rattle.std.specs.Prelude.{◌≡◌, ◌⊎◌, ◌↔◌, ◌<◌, ◌≤◌, ◌++◌, List, ℕ, IfOk, IfErr, IsUtf8};
 ghost use Rattle.serde_json.specs.Data.{Data};
+ghost use Rattle.bson.specs.OrderedTexts.{HasMeaningInOrder};
 ghost use Rattle.bson.specs.TextMeaning.{IsNoText, IsTextOf};
 ghost use Rattle.bson_codec.specs.Canonical.{FitsDocument, too_long, zero_in_key, zero_in_regex};
 ghost use Rattle.bson_model.specs.Means.{MeansIn};
 ghost use Rattle.bson_model.specs.Value as model;
 ghost use Rattle.bson_model.specs.Value.{Pairs};
 ghost use Rattle.bson_run.specs.Convert.{newline};
-ghost use Rattle.vbson.specs.Convert.{HasNoMeaningIn, IsBad, IsBadId, options_of};
-ghost use Rattle.vbson.specs.Documents.{Encodes, HasNoBytes, IsEncoded, IsUnencoded, MeansNoDocument};
+ghost use Rattle.vbson.specs.Convert.{HasNoMeaningIn, IsBad, IsBadId, options_of, order_of};
+ghost use Rattle.vbson.specs.Documents.{Encodes, HasNoBytes, IsEncoded, IsUnencoded, IsUnencodedBy};
+ghost use Rattle.vbson.specs.Documents.{MeansNoDocument};
+ghost use Rattle.vbson.specs.declared.flags.KeyOrder.TheVariants as orders;
 
 use crate::convert::status_of;
-use crate::flags::{has_others, options_of};
+use crate::flags::{KeyOrder, has_others, options_of, order_of};
 use crate::status;
 use crate::text::{Text, as_line, text_of_line};
 use bson::extjson::Options;
-use bson_run::encode::encode_with;
+use bson_run::encode::{encode_in_order, encode_with};
+use bson_run::fault::Fault;
 use std::alloc::Global;
 
 /// Leaves the canonical bytes of the document that a text of Extended JSON means, with the flags of
-/// `vbson_convert_with`: its keys in ascending order, as `vbson_convert` has them. The block of the
-/// bytes, which has a NUL behind them, is the caller's, who frees it by `free`.
+/// `vbson_convert_with`: its keys in ascending order, as `vbson_convert` has them, or in that of the
+/// text. The block of the bytes, which has a NUL behind them, is the caller's, who frees it by
+/// `free`.
 #[unsafe(no_mangle)]
 pub extern "C" fn vbson_encode(
     alloc: Global,
@@ -28,26 +33,30 @@ pub extern "C" fn vbson_encode(
     text: &[u8],
     out: &mut Text<'static>,
 ) -> u32
-    ensures done { result ≡ 0 → IsEncoded (options_of flags) text.now out.new }
+    ensures done { result ≡ 0 → IsEncoded (order_of flags) (options_of flags) text.now out.new }
     ensures accepts { (tree : Data) (ps : Pairs) → flags ≤ 1 → IsTextOf text.now tree
         → MeansIn (options_of flags).doubles tree (model.document ps) → FitsDocument ps → 0 < result → result ≡ 5 }
 
+    ensures accepts_in_order { (ps : Pairs) → 1 < flags → flags ≤ 3 → IsUtf8 text.now
+        → HasMeaningInOrder (options_of flags).doubles text.now (model.document ps) → FitsDocument ps → 0 < result
+        → result ≡ 5 }
+
     // When each other status comes, and that nothing is left then.
-    ensures no_mode { result ≡ 1 ↔ 1 < flags }
+    ensures no_mode { result ≡ 1 ↔ 3 < flags }
     ensures not_json { result ≡ 2 → IsNoText text.now }
     ensures bad_object_id { result ≡ 3 → HasNoMeaningIn (options_of flags) IsBadId text.now }
     ensures not_extended_json { result ≡ 4 → HasNoMeaningIn (options_of flags) IsBad text.now }
-    ensures no_document { result ≡ 10 → MeansNoDocument (options_of flags) text.now }
-    ensures zero_key { result ≡ 11 → HasNoBytes (options_of flags) zero_in_key text.now }
-    ensures zero_regex { result ≡ 12 → HasNoBytes (options_of flags) zero_in_regex text.now }
-    ensures long { result ≡ 13 → HasNoBytes (options_of flags) too_long text.now }
+    ensures no_document { result ≡ 10 → MeansNoDocument (order_of flags) (options_of flags) text.now }
+    ensures zero_key { result ≡ 11 → HasNoBytes (order_of flags) (options_of flags) zero_in_key text.now }
+    ensures zero_regex { result ≡ 12 → HasNoBytes (order_of flags) (options_of flags) zero_in_regex text.now }
+    ensures long { result ≡ 13 → HasNoBytes (order_of flags) (options_of flags) too_long text.now }
     ensures listed { (result ≤ 5) ⊎ ((10 ≤ result) × (result ≤ 13)) }
     ensures kept { 0 < result → out.new ≡ out.old }
 {
     if has_others(flags) {
         return status::NO_MODE;
     }
-    match encoded(alloc, options_of(flags), text) {
+    match encoded(alloc, order_of(flags), options_of(flags), text) {
         Ok(line) => *out = text_of_line(line),
         Err(status) => return status,
     }
@@ -55,14 +64,35 @@ pub extern "C" fn vbson_encode(
 }
 
 // The bytes of the document that the text means, and a newline; or the status.
-fn encoded(alloc: Global, options: Options, text: &[u8]) -> Result<Vec<u8>, u32>
-    ensures ok { IfOk result (λ line. (bytes : List ℕ) × Encodes options text.now bytes × (line.items ≡ bytes ++ newline)) }
-    ensures accepts { (tree : Data) (ps : Pairs) → IsTextOf text.now tree
+fn encoded(alloc: Global, order: KeyOrder, options: Options, text: &[u8]) -> Result<Vec<u8>, u32>
+    ensures ok { IfOk result (λ line. (bytes : List ℕ) × Encodes order options text.now bytes
+        × (line.items ≡ bytes ++ newline)) }
+    ensures accepts { (tree : Data) (ps : Pairs) → order ≡ orders.Ascending → IsTextOf text.now tree
         → MeansIn options.doubles tree (model.document ps) → FitsDocument ps → IfErr result (λ status. status ≡ 5) }
-    ensures refused { IfErr result (λ status. IsUnencoded options status text.now) }
+    ensures accepts_in_order { (ps : Pairs) → order ≡ orders.AsGiven → IsUtf8 text.now
+        → HasMeaningInOrder options.doubles text.now (model.document ps) → FitsDocument ps
+        → IfErr result (λ status. status ≡ 5) }
+    ensures refused { IfErr result (λ status. IsUnencoded order options status text.now) }
 {
-    match encode_with(alloc, options, text) {
+    match bytes_by(alloc, order, options, text) {
         Ok(bytes) => as_line(bytes),
         Err(fault) => Err(status_of(fault)),
+    }
+}
+
+// The bytes of the document that the text means, its keys in the order.
+fn bytes_by(alloc: Global, order: KeyOrder, options: Options, text: &[u8]) -> Result<Vec<u8>, Fault>
+    ensures ok { IfOk result (λ bytes. Encodes order options text.now bytes.items) }
+    ensures accepts { (tree : Data) (ps : Pairs) → order ≡ orders.Ascending → IsTextOf text.now tree
+        → MeansIn options.doubles tree (model.document ps) → FitsDocument ps
+        → IfErr result (λ fault. fault ≡ Fault.OutOfMemory) }
+    ensures accepts_in_order { (ps : Pairs) → order ≡ orders.AsGiven → IsUtf8 text.now
+        → HasMeaningInOrder options.doubles text.now (model.document ps) → FitsDocument ps
+        → IfErr result (λ fault. fault ≡ Fault.OutOfMemory) }
+    ensures refused { IfErr result (λ fault. IsUnencodedBy order options fault text.now) }
+{
+    match order {
+        KeyOrder::Ascending => encode_with(alloc, options, text),
+        KeyOrder::AsGiven => encode_in_order(alloc, options, text),
     }
 }

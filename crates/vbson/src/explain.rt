@@ -17,7 +17,7 @@ use std::alloc::{AllocError, Global};
 
 /// Leaves the words for why a text is refused, and where: `not JSON at column 7`, or
 /// `not Extended JSON at orders.0.price (MESSAGE)`; no words where it is accepted. The flags are
-/// those of `vbson_convert_with`, whose answer this explains.
+/// those of `vbson_convert_with`, whose answer this explains; the order of keys says nothing here.
 #[unsafe(no_mangle)]
 pub extern "C" fn vbson_explain(
     alloc: Global,
@@ -28,7 +28,7 @@ pub extern "C" fn vbson_explain(
     ensures done { result ≡ 0 → IsExplained (options_of flags) text.now out.new }
 
     // When each other status comes, and that nothing is left then.
-    ensures no_mode { result ≡ 1 ↔ 1 < flags }
+    ensures no_mode { result ≡ 1 ↔ 3 < flags }
     ensures listed { (result ≡ 0) ⊎ (result ≡ 1) ⊎ (result ≡ 5) }
     ensures kept { 0 < result → out.new ≡ out.old }
 {

@@ -1,11 +1,11 @@
 //! A block of lines, each a text of its own.
 ghost use Rattle.std.specs.Prelude.{◌≡◌, ◌⊎◌, ◌↔◌, ◌<◌, ◌++◌, List, ℕ, IfSome};
 ghost use Rattle.bson_run.specs.Convert.{newline};
-ghost use Rattle.vbson.specs.Convert.{options_of};
-ghost use Rattle.vbson.specs.Lines.{AreConverted, GivesLines};
+ghost use Rattle.vbson.specs.Convert.{options_of, order_of};
+ghost use Rattle.vbson.specs.Lines.{AreConverted, GivesLines, task_of};
 
 use crate::convert::mode_of;
-use crate::flags::{has_others, options_of};
+use crate::flags::{KeyOrder, has_others, options_of, order_of};
 use crate::status;
 use crate::text::{Text, as_line, text_of_line};
 use bson::extjson::Options;
@@ -36,10 +36,10 @@ pub extern "C" fn vbson_convert_lines(
     block: &[u8],
     out: &mut Lines<'static>,
 ) -> u32
-    ensures done { result ≡ 0 → AreConverted (options_of flags) mode block.now out.new }
+    ensures done { result ≡ 0 → AreConverted (order_of flags) (options_of flags) mode block.now out.new }
 
     // When each other status comes, and that nothing is left then.
-    ensures no_mode { result ≡ 1 ↔ (2 < mode) ⊎ (1 < flags) }
+    ensures no_mode { result ≡ 1 ↔ (2 < mode) ⊎ (3 < flags) }
     ensures listed { (result ≡ 0) ⊎ (result ≡ 1) ⊎ (result ≡ 5) }
     ensures kept { 0 < result → out.new ≡ out.old }
 {
@@ -49,7 +49,8 @@ pub extern "C" fn vbson_convert_lines(
     let Some(mode) = mode_of(mode) else {
         return status::NO_MODE;
     };
-    let Some(given) = converted(alloc, options_of(flags), mode, block) else {
+    let task = task_of(order_of(flags), mode);
+    let Some(given) = converted(alloc, options_of(flags), task, block) else {
         return status::OUT_OF_MEMORY;
     };
     *out = Lines {
@@ -59,6 +60,16 @@ pub extern "C" fn vbson_convert_lines(
         refused: given.refused,
     };
     status::DONE
+}
+
+// What is done with each line.
+fn task_of(order: KeyOrder, mode: Mode) -> Task
+    ensures { result ≡ task_of order mode }
+{
+    match order {
+        KeyOrder::Ascending => Task::Write(mode),
+        KeyOrder::AsGiven => Task::WriteInOrder(mode),
+    }
 }
 
 // What a block of lines gives, with a newline more behind each text.
@@ -71,19 +82,18 @@ struct Given {
 }
 
 // What the lines of the block give; none for want of memory.
-fn converted(alloc: Global, options: Options, mode: Mode, block: &[u8]) -> Option<Given>
+fn converted(alloc: Global, options: Options, task: Task, block: &[u8]) -> Option<Given>
     ensures { IfSome result (λ given. (text : List ℕ) × (told : List ℕ)
-        × GivesLines options mode block.now text told given.lines given.refused
+        × GivesLines options task block.now text told given.lines given.refused
         × (given.text.items ≡ text ++ newline) × (given.told.items ≡ told ++ newline)) }
 {
     let mut reader = block;
     let (mut text, mut told) = (Vec::new(alloc), Vec::new(alloc));
-    let (task, go_on) = (Task::Write(mode), OnRefusal::KeepGoing);
     let ran = run_lines_with(
         alloc,
         options,
         task,
-        go_on,
+        OnRefusal::KeepGoing,
         &mut reader,
         &mut text,
         &mut told,

@@ -55,6 +55,8 @@ const TOO_LONG: u32 = 13;
 
 /// Of flags: finite doubles.
 pub const DOUBLES: u32 = 1;
+/// Of flags: the order of keys.
+pub const KEEP_ORDER: u32 = 2;
 
 /// No text of a small value is longer: see the ROOMs of `vbson.h`.
 pub const ROOM: usize = 64;

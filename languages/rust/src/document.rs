@@ -40,9 +40,9 @@ pub fn explain_document(bytes: &[u8]) -> Option<Error> {
 
 /// The text, in the mode, of the document that the bytes are.
 ///
-/// In the two forms keys come out in ascending order at every depth, and a finite double other than 0.0 is `NoText`
-/// without the option for it; `Mode::Show` has the document's own order, and every double. Of a key that stands twice the
-/// last value counts. `NoDocument`, with its place, where the bytes are none.
+/// In the two forms keys come out in ascending order at every depth, unless `keep_order` has the document's own, and a
+/// finite double other than 0.0 is `NoText` without the option for it; `Mode::Show` has the document's own order, and every
+/// double. Of a key that stands twice the last value counts. `NoDocument`, with its place, where the bytes are none.
 pub fn decode(mode: Mode, options: Options, bytes: &[u8]) -> Result<Text, Error> {
     match call::decode(mode as u32, options.flags(), bytes) {
         Ok(raw) => Ok(owned(raw)),
@@ -51,7 +51,8 @@ pub fn decode(mode: Mode, options: Options, bytes: &[u8]) -> Result<Text, Error>
     }
 }
 
-/// The canonical bytes of the document that a text of Extended JSON means, keys in ascending order.
+/// The canonical bytes of the document that a text of Extended JSON means, keys in ascending order, or with `keep_order`
+/// in that of the text.
 ///
 /// `NoDocument` where the text means another value; `ZeroInKey`, `ZeroInRegex` or `TooLong` where the document has no
 /// bytes; what is no Extended JSON with its place, as of `convert_with`.

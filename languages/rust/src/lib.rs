@@ -2,7 +2,9 @@
 //! (`vbson.h` says what each answers).
 //!
 //! It runs on x86-64 Linux with glibc alone, on a processor with SSE4.2 and POPCNT: on any other the first call panics.
-//! Reading the deepest text (nested 127 deep) takes 384 KiB of stack, which the threads of `std` have.
+//! Reading the deepest text (nested 127 deep) takes 448 KiB of stack, which the threads of `std` have. With `keep_order` a
+//! text that nests deep by objects which begin with the key `$scope` takes up to 5 MiB, which they have not: give the
+//! thread more, where such a text may come.
 //!
 //! ```
 //! use vbson::{convert, Mode};

@@ -47,15 +47,16 @@ pub struct Options {
     /// Finite doubles: each number that is no whole one of 64 bits is read as the double nearest to it, and a double is
     /// written as its shortest decimal, `{"$numberDouble":"12.5"}`, in both forms.
     pub doubles: bool,
+    /// The keys of documents stay in the order of the text, or of the document, in the place of an ascending one; of a key
+    /// that stands twice the last value counts, at the place of the first.
+    pub keep_order: bool,
 }
 
 impl Options {
     pub(crate) fn flags(self) -> u32 {
-        if self.doubles {
-            call::DOUBLES
-        } else {
-            0
-        }
+        let doubles = if self.doubles { call::DOUBLES } else { 0 };
+        let keep_order = if self.keep_order { call::KEEP_ORDER } else { 0 };
+        doubles | keep_order
     }
 }
 

@@ -15,7 +15,7 @@ fn texts_are_converted() {
 
 #[test]
 fn finite_doubles_are_an_option() {
-    let (text, doubles) = (br#"{"b":1.5,"a":1e2}"#, Options { doubles: true });
+    let (text, doubles) = (br#"{"b":1.5,"a":1e2}"#, Options { doubles: true, ..Options::default() });
     let wanted = r#"{"a":{"$numberDouble":"100.0"},"b":{"$numberDouble":"1.5"}}"#;
     for mode in [Mode::Canonical, Mode::Relaxed] {
         assert_eq!(&*convert_with(mode, doubles, text).unwrap(), wanted);
@@ -26,6 +26,22 @@ fn finite_doubles_are_an_option() {
     assert_eq!(explain(doubles, text), None);
     assert!(explain(Options::default(), text).is_some());
     assert_eq!(explain(doubles, b"1e400").map(|it| it.kind()), Some(ErrorKind::NotJson));
+}
+
+#[test]
+fn the_order_of_keys_is_an_option() {
+    let (text, keeps) = (br#"{"b":{"d":1,"c":2},"a":3,"b":4}"#, Options { keep_order: true, ..Options::default() });
+    assert_eq!(&*convert_with(Mode::Relaxed, keeps, text).unwrap(), r#"{"b":4,"a":3}"#);
+    assert_eq!(&*convert_with(Mode::Relaxed, Options::default(), text).unwrap(), r#"{"a":3,"b":4}"#);
+    assert_eq!(&*convert_with(Mode::Show, keeps, br#"{"b":1,"a":2}"#).unwrap(), r#"{ "b": 1, "a": 2 }"#);
+    let both = Options { doubles: true, keep_order: true };
+    let bytes = encode(both, br#"{"b":1.5,"a":2}"#).unwrap();
+    assert_eq!(&*decode(Mode::Relaxed, both, &bytes).unwrap(), r#"{"b":{"$numberDouble":"1.5"},"a":2}"#);
+    let doubles = Options { doubles: true, ..Options::default() };
+    assert_eq!(&*decode(Mode::Relaxed, doubles, &bytes).unwrap(), r#"{"a":2,"b":{"$numberDouble":"1.5"}}"#);
+    let lines = convert_lines(Mode::Relaxed, keeps, b"{\"b\":1,\"a\":2}\n[1.5]\n").unwrap();
+    assert_eq!((&*lines.text, lines.refused.len()), ("{\"b\":1,\"a\":2}\n", 1));
+    assert_eq!(explain(keeps, b"[1.5]"), explain(Options::default(), b"[1.5]"));
 }
 
 fn kind<T>(answer: Result<T, Error>) -> Option<ErrorKind> {
@@ -85,13 +101,13 @@ fn lines_are_converted_in_one_call() {
     assert_eq!((&*lines.text, lines.count), ("[1]\n", 4));
     let wanted = [convert(Mode::Relaxed, br#"{"a":[1.5]}"#).unwrap_err(), convert(Mode::Relaxed, b"[2").unwrap_err()];
     assert_eq!(lines.refused, [(3, wanted[0].clone()), (4, wanted[1].clone())]);
-    let lines = convert_lines(Mode::Relaxed, Options { doubles: true }, b"[1.5]\n").unwrap();
+    let lines = convert_lines(Mode::Relaxed, Options { doubles: true, ..Options::default() }, b"[1.5]\n").unwrap();
     assert_eq!((&*lines.text, lines.refused.len()), ("[{\"$numberDouble\":\"1.5\"}]\n", 0));
 }
 
 #[test]
 fn documents_come_back_from_their_bytes() {
-    let (options, doubles) = (Options::default(), Options { doubles: true });
+    let (options, doubles) = (Options::default(), Options { doubles: true, ..Options::default() });
     let five = [12, 0, 0, 0, 0x10, b'n', 0, 5, 0, 0, 0, 0];
     assert_eq!(&*decode(Mode::Relaxed, options, &five).unwrap(), r#"{"n":5}"#);
     assert_eq!(&*decode(Mode::Show, options, &five).unwrap(), r#"{ "n": 5 }"#);

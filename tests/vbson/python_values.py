@@ -1,0 +1,156 @@
+"""`vbson.loads` and `vbson.dumps`, by plain values, and by those of bson where that package is there. The last line is
+'N passed, M failed'."""
+import datetime
+import decimal
+import doctest
+import pickle
+import re
+import struct
+import sys
+import uuid
+
+import vbson
+import vbson_values
+from vbson_values import Binary, Code, DBPointer, DatetimeMS, Int64, MaxKey, MinKey, ObjectId, Regex, Symbol, Timestamp, Undefined
+
+UTC = datetime.timezone.utc
+passed = failed = 0
+
+
+def want(name, found, wanted):
+    global passed, failed
+    if type(found) is type(wanted) and found == wanted:
+        passed += 1
+    else:
+        failed += 1
+        print(f"FAILED: {name}: {found!r} and not {wanted!r}")
+
+
+def raises(name, error, call, *arguments, **named):
+    try:
+        found = call(*arguments, **named)
+    except Exception as it:
+        found = type(it)
+    want(name, found, error)
+
+
+ID = bytes.fromhex("53e37d08776f724e42000000")
+TEXTS = (
+    ('{"$numberInt":"5"}', 5), ('{"$numberLong":"5"}', Int64(5)), ('{"$numberDouble":"1.5"}', 1.5), ('"a\\u0000é"', "a\0é"),
+    ("null", None), ("true", True), ("false", False), ("[]", []), ("{}", {}), ('[{"$numberInt":"1"},"a"]', [1, "a"]),
+    ('{"b":{"$numberInt":"1"},"a":{"d":null,"c":[]}}', {"b": 1, "a": {"d": None, "c": []}}),
+    ('{"$binary":{"base64":"AQI=","subType":"00"}}', b"\1\2"), ('{"$binary":{"base64":"AQI=","subType":"02"}}', Binary(b"\1\2", 2)),
+    ('{"$binary":{"base64":"AQI=","subType":"80"}}', Binary(b"\1\2", 128)),
+    ('{"$binary":{"base64":"AAAAAAAAAAAAAAAAAAAAAQ==","subType":"04"}}', uuid.UUID(int=1)),
+    ('{"$binary":{"base64":"AA==","subType":"04"}}', Binary(b"\0", 4)), ('{"$undefined":true}', Undefined()),
+    ('{"$oid":"53e37d08776f724e42000000"}', ObjectId(ID)), ('{"$date":{"$numberLong":"-1"}}', datetime.datetime(1969, 12, 31, 23, 59, 59, 999000, UTC)),
+    ('{"$date":{"$numberLong":"253402300800000"}}', DatetimeMS(253402300800000)),
+    ('{"$regularExpression":{"options":"im","pattern":"a("}}', Regex("a(", "im")),
+    ('{"$dbPointer":{"$id":{"$oid":"53e37d08776f724e42000000"},"$ref":"n"}}', DBPointer("n", ObjectId(ID))),
+    ('{"$code":"f"}', Code("f")), ('{"$code":"f","$scope":{"x":{"$numberInt":"1"}}}', Code("f", {"x": 1})), ('{"$symbol":"s"}', Symbol("s")),
+    ('{"$timestamp":{"i":2,"t":4294967295}}', Timestamp(4294967295, 2)), ('{"$numberDecimal":"19.90"}', decimal.Decimal("19.90")),
+    ('{"$numberDecimal":"-0E-6176"}', decimal.Decimal("-0E-6176")), ('{"$minKey":1}', MinKey()), ('{"$maxKey":1}', MaxKey()),
+    ('{"$ref":"n","$id":{"$numberInt":"1"}}', {"$ref": "n", "$id": 1}),
+)
+
+
+def try_plain():
+    for text, value in TEXTS:
+        found = vbson.loads(text, types="plain")
+        want(f"{text} there", found, value)
+        want(f"{text} and back", vbson.dumps(value, types="plain"), text)
+        want(f"{text} in a list", vbson.dumps(vbson.loads(f"[{text}]", types="plain"), types="plain"), f"[{text}]")
+        want(f"{text} pickled", pickle.loads(pickle.dumps(found)), value)
+    want("Decimal keeps its zeros", str(vbson.loads('{"$numberDecimal":"19.90"}', types="plain")), "19.90")
+    want("a negative zero", struct.pack("<d", vbson.loads('{"$numberDouble":"-0.0"}', types="plain")), struct.pack("<d", -0.0))
+    want("a scope", vbson.loads('{"$code":"f","$scope":{"x":{"$numberInt":"1"}}}', types="plain").scope, {"x": 1})
+    want("an id's text", str(ObjectId(ID)), ID.hex())
+    for value, text in (((1, (2,)), "[1,[2]]"), (bytearray(b"a"), '{"$binary":{"base64":"YQ==","subType":"00"}}'), (2**31, "2147483648"),
+                        (memoryview(b"a"), '{"$binary":{"base64":"YQ==","subType":"00"}}'), (Int64(1), "1"),
+                        (re.compile("a", re.I | re.X), '{"$regularExpression":{"options":"ix","pattern":"a"}}')):
+        want(f"{value!r} in the relaxed form", vbson.dumps(value, "relaxed", types="plain"), text)
+    for value, error in ((object(), TypeError), ({1: 2}, TypeError), ([{1, 2}], TypeError), (datetime.date(2020, 1, 1), TypeError),
+                         (2**63, OverflowError), (-2**63 - 1, OverflowError), ({"a\0": 1}, vbson.NoBytes), (Regex("\0"), vbson.NoBytes),
+                         (datetime.datetime(2020, 1, 1), ValueError), (decimal.Decimal("1E+7000"), vbson.NoSuchText),
+                         ("\ud800", UnicodeEncodeError), (ObjectId(b"1"), ValueError)):
+        raises(f"{value!r}", error, vbson.dumps, value, types="plain")
+
+
+def try_both(types):
+    """What holds of either types."""
+    text = '{"_id":{"$numberInt":"1"},"b":{"$numberDouble":"1.5"},"a":[{"d":true,"c":null}]}'
+    value = {"_id": 1, "b": 1.5, "a": [{"d": True, "c": None}]}
+    want("a document", vbson.loads(text, types=types), value)
+    want("its keys", list(vbson.loads('{"b":1,"a":2,"_id":3,"b":4}', types=types).items()), [("b", 4), ("a", 2), ("_id", 3)])
+    want("its keys sorted", list(vbson.loads('{"b":1,"a":2}', True, False, types)), ["a", "b"])
+    want("its text", vbson.dumps(value, types=types), text)
+    want("its text with an id behind", vbson.dumps({"b": 1, "_id": 2}, "relaxed", types=types), '{"b":1,"_id":2}')
+    want("its text sorted", vbson.dumps({"b": 1, "a": 2}, vbson.RELAXED, True, False, types), '{"a":2,"b":1}')
+    want("bytes and a relaxed text", vbson.loads(b'{"n": 5, "at": {"$date": "1970-01-01T00:00:00Z"}}', types=types),
+         {"n": 5, "at": datetime.datetime(1970, 1, 1, tzinfo=UTC)})
+    want("a UUID", vbson.loads('{"$uuid":"00000000-0000-0000-0000-000000000001"}', types=types), uuid.UUID(int=1))
+    want("a UUID's text", vbson.dumps(uuid.UUID(int=1), types=types), '{"$binary":{"base64":"AAAAAAAAAAAAAAAAAAAAAQ==","subType":"04"}}')
+    want("a decimal's text", vbson.dumps(decimal.Decimal("0.10"), types=types), '{"$numberDecimal":"0.10"}')
+    want("a number alone", (vbson.loads("5", types=types), vbson.dumps(5, "relaxed", types=types)), (5, "5"))
+    for given in ("", "[1", '1,"w":2', '5}, {"v":6', "1 2", "nul"):
+        raises(f"no text {given!r}", vbson.NotJson, vbson.loads, given, types=types)
+    raises("no Extended JSON", vbson.NotExtendedJson, vbson.loads, '[{"$numberInt":"x"}]', types=types)
+    raises("a double", vbson.NotExtendedJson, vbson.loads, "[1.5]", False, types=types)
+    raises("a double's text", vbson.NoText, vbson.dumps, [1.5], "relaxed", False, types=types)
+    raises("an id", vbson.BadObjectId, vbson.loads, '{"$oid":"5"}', types=types)
+    raises("a 0 byte in a key", vbson.NoBytes, vbson.loads, '{"a\\u0000":1}', types=types)
+    raises("a 0 byte in a key there", vbson.NoBytes, vbson.dumps, {"a\0": 1}, types=types)
+    raises("no value", TypeError, vbson.dumps, object(), types=types)
+    raises("no text", TypeError, vbson.loads, 5, types=types)
+    raises("no form", ValueError, vbson.dumps, 5, "show", types=types)
+    raises("no form by number", ValueError, vbson.dumps, 5, 3, types=types)
+    raises("a long int", OverflowError, vbson.dumps, [2**64], types=types)
+    raises("no truth value", TypeError, vbson.loads, "{}", 1, types=types)
+    deep = "[" * 126 + "]" * 126
+    raises("nested 127 deep", vbson.NotJson, vbson.loads, f"[{deep}]", types=types)
+    nested = []
+    for _ in range(98):
+        nested = [nested]
+    want("nested 99 deep", vbson.dumps(nested, types=types), "[" * 99 + "]" * 99)
+    raises("nested 100 deep", vbson.NoDocument, vbson.dumps, [nested], types=types)
+    want("nested 126 deep", type(vbson.loads(deep, types=types)), list)
+
+
+def try_bson():
+    from bson import Binary as TheirBinary, Code as TheirCode, DBRef, Decimal128, Int64 as TheirInt64, MinKey as TheirMinKey
+    from bson import ObjectId as TheirId, Regex as TheirRegex, Timestamp as TheirTimestamp
+    try_both("bson")
+    for text, value in (('{"$oid":"53e37d08776f724e42000000"}', TheirId(ID)), ('{"$numberLong":"5"}', TheirInt64(5)),
+                        ('{"$numberDecimal":"19.90"}', Decimal128("19.90")), ('{"$binary":{"base64":"AQI=","subType":"80"}}', TheirBinary(b"\1\2", 128)),
+                        ('{"$regularExpression":{"options":"im","pattern":"a("}}', TheirRegex("a(", "im")),
+                        ('{"$timestamp":{"i":2,"t":1}}', TheirTimestamp(1, 2)), ('{"$code":"f","$scope":{"x":null}}', TheirCode("f", {"x": None})),
+                        ('{"$minKey":1}', TheirMinKey()), ('{"$ref":"n","$id":{"$numberInt":"1"}}', DBRef("n", 1)),
+                        ('[{"$ref":"n","$id":{"$numberInt":"1"}}]', [DBRef("n", 1)])):
+        want(f"{text} there, bson", vbson.loads(text), value)
+        want(f"{text} and back, bson", vbson.dumps(value), text)
+    want("the types, where none are named", type(vbson.loads("[1,2]", types=None)), list)
+    raises("a UUID of one byte", vbson.NoValue, vbson.loads, '{"$binary":{"base64":"AA==","subType":"04"}}')
+
+
+def has_bson():
+    try:
+        import bson.codec_options
+    except ImportError:
+        return False
+    return True
+
+
+try_plain()
+try_both("plain")
+for name in ("other", "Bson", 5):
+    raises(f"no types {name!r}", ValueError, vbson.loads, "5", types=name)
+if has_bson():
+    try_bson()
+else:
+    want("plain types without bson", vbson.loads('{"$minKey":1}'), MinKey())
+    raises("types of bson", ModuleNotFoundError, vbson.loads, "5", types="bson")
+    for module in (vbson, vbson_values):
+        done = doctest.testmod(module)
+        want(f"the examples of {module.__name__}", (done.failed, done.attempted > 0), (0, True))
+print(f"{passed} passed, {failed} failed")
+sys.exit(1 if failed else 0)
