@@ -108,7 +108,7 @@ worth_read q p d k w r =
     sym r ∙ sym (round_same binary64 false (digits_of q * 10 ^ tens_up q) (10 ^ tens_down q) (d * 10 ^ k) (10 ^ 1100)
     (ten_to_pos (tens_down q)) (ten_to_pos 1100) w)
 
-parses : (p : ℕ) (s : List ℕ) → p < 2 ^ 64 → is_finite p ≡ true → IsDoubleText p s
+pub parses : (p : ℕ) (s : List ℕ) → p < 2 ^ 64 → is_finite p ≡ true → IsDoubleText p s
     → parse_float binary64 s ≡ Some (from_bits binary64 p)
 parses p s l finite (t, x, e) =
     let y = text_parts (p % 2 ^ 63) t (omega arith) (size_finite p finite) x in

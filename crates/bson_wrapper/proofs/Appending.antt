@@ -4,7 +4,7 @@ use Rattle.std.proofs.Common.{append-nil, refl}
 use Rattle.json.specs.Token.{Token, begin_object, end_object, key}
 use Rattle.json.specs.Tree.{members_tokens}
 use Rattle.serde_json.specs.Data.{Data, Members, no_members, member, object}
-use Rattle.serde_json.specs.Written.{members_outline}
+use Rattle.bson_wrapper.specs.TreeText.{members_outline}
 use Rattle.bson_wrapper.specs.Tokens.{tokens_of, added, members_in_turn}
 use Rattle.bson_wrapper.proofs.InTurn.{in_turn}
 

@@ -1,15 +1,15 @@
 -- `$numberDouble` in each of the two modes of doubles.
 use Rattle.std.proofs.Common.{◌≡◌, ◌<◌, ◌^◌, ℕ, List, Bool, true, false, ◌||◌, cond, Option, Some, None, refl, sym, ap}
-use Rattle.std.proofs.Common.{inl, inr, ◌∙◌, subst, nat_lt, nat_eq, ◌/◌, ◌%◌, arith}
-use Rattle.std.specs.Prelude.{Ok, codes, is_some, ◌==◌}
-use Rattle.std.proofs.lemmas.Bool.{ltb-true, lt-ltb, eqb-false, cases_lt}
+use Rattle.std.proofs.Common.{inl, inr, ◌∙◌, subst, nat_eq, ◌/◌, ◌%◌, arith}
+use Rattle.std.specs.Prelude.{Ok, codes, is_some}
+use Rattle.std.proofs.lemmas.Bool.{lt-ltb, eqb-false}
 use Rattle.serde_json.specs.Data.{Data}
 use Rattle.serde_json.specs.Data as tree
 use Rattle.bson_double.specs.Doubles.{is_finite, finite_of}
 use Rattle.bson_double.proofs.Offered.{read_back}
-use Rattle.bson_wrapper.specs.Doubles.{double_of, double_in, double_text, text_in, normal_double, is_nan, is_minus_nan}
+use Rattle.bson_wrapper.specs.Doubles.{double_of, double_in, double_text, text_in, normal_double}
 use Rattle.bson_wrapper.specs.Doubles.{is_special, is_writable, or_finite_text, or_finite_of, IsTextIn}
-use Rattle.bson_wrapper.specs.Means.{MeansScalarIn, MeansScalar, MeansFinite, number_double, nearest_to_text}
+use Rattle.bson_wrapper.specs.Means.{MeansScalarIn, MeansScalar, number_double, nearest_to_text}
 use Rattle.bson_wrapper.specs.Normal.{IsReadScalarIn, IsReadScalar}
 use Rattle.bson_wrapper.specs.Reading.{double_read_in}
 use Rattle.bson_wrapper.specs.Scalar.{Scalar, double}
@@ -20,7 +20,7 @@ use Rattle.bson_wrapper.proofs.DoubleLaws.{double_form, double_again, double_tex
 use Rattle.bson_wrapper.specs.Shortest.{finite_text}
 use Rattle.bson_wrapper.proofs.FiniteDoubles.{finite_normal, finite_text_to, special_text_is, agree}
 use Rattle.bson_wrapper.proofs.ShortestText.{finite_text-some, finite_text_is}
-use Rattle.bson_wrapper.proofs.InverseLemmas.{un_ok, un_some, text_then, some_then}
+use Rattle.bson_wrapper.proofs.InverseLemmas.{un_ok, text_then, some_then}
 
 -- ---- what is read
 

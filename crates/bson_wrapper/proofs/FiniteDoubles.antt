@@ -1,6 +1,6 @@
 -- Patterns of finite doubles, and the decimal texts that mean them.
-use Rattle.std.proofs.Common.{◌≡◌, ◌<◌, ◌^◌, ◌%◌, ◌+◌, ℕ, List, Bool, true, false, ◌&&◌, ◌||◌, cond, Option, Some, None}
-use Rattle.std.proofs.Common.{inl, inr, drop, slice_index, T, refl, sym, ap, ◌∙◌, subst, nat_eq, nat_lt, arith, length, to_bits}
+use Rattle.std.proofs.Common.{◌≡◌, ◌<◌, ◌^◌, ◌%◌, ◌+◌, ℕ, List, Bool, true, false, ◌&&◌, cond, Option, Some, None}
+use Rattle.std.proofs.Common.{inl, drop, slice_index, T, refl, sym, ap, ◌∙◌, subst, nat_eq, nat_lt, arith, length, to_bits}
 use Rattle.std.specs.Prelude.{codes, is_some, option_map, option_and_then, ◌==◌}
 use Rattle.std.specs.Float.{Float, binary64, float_is_finite, inf, nan}
 use Rattle.std.specs.Str.{bytes_eq}
@@ -24,7 +24,7 @@ use Rattle.bson_wrapper.proofs.ShortestText.{finite_text-some, finite_text_is}
 abbrev IsPattern : ℕ → Type 0
 IsPattern p = (p < 2 ^ 64) × (is_finite p ≡ true)
 
-bits_finite : (x : Float) → T (fits binary64 x) → float_is_finite x ≡ true → IsPattern (to_bits binary64 x)
+pub bits_finite : (x : Float) → T (fits binary64 x) → float_is_finite x ≡ true → IsPattern (to_bits binary64 x)
 bits_finite x fit finite =
     let small = to_bits-lt binary64 x fit in
     let sides = parts binary64 x (to_bits binary64 x) (of_bits-to_bits binary64 x fit) small (number_of_finite x finite) in
@@ -112,7 +112,7 @@ finite_normal p finite =
 
 -- ---- the text of a finite pattern
 
-some_of : {A : Type 0} (o : Option A) → is_some o ≡ true → (x : A) × (o ≡ Some x)
+pub some_of : {A : Type 0} (o : Option A) → is_some o ≡ true → (x : A) × (o ≡ Some x)
 some_of (Some x) h = (x, refl)
 some_of None h = cc
 

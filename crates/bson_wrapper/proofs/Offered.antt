@@ -6,3 +6,5 @@ pub use Rattle.bson_wrapper.proofs.InverseLemmas.{text_then}
 pub use Rattle.bson_wrapper.proofs.ScalarLaws.{back, nf_again, nf_written, scalar_form, scalar_from, scalar_no_float}
 pub use Rattle.bson_wrapper.proofs.ScalarLaws.{scalar_to, as_read_again, as_read_canonical, as_read_written}
 pub use Rattle.bson_wrapper.proofs.ScalarLaws.{writable_is, written_from, written_to, finite_range, all_writable_is}
+pub use Rattle.bson_wrapper.proofs.TreeTexts.{float_is_number, float_is_read, pattern_is_double, text_is}
+pub use Rattle.bson_wrapper.proofs.WrittenDoubles.{IsDoubleTree, double_tree_of}

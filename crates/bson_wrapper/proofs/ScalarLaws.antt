@@ -1,7 +1,7 @@
 -- One lemma a law, for all scalars.
 use Rattle.std.proofs.Common.{◌≡◌, ◌<◌, ◌^◌, ℕ, ℤ, pos, negsuc, List, [], ◌∷◌, Bool, true, false, ◌&&◌, cond, Option}
 use Rattle.std.proofs.Common.{Some, None, Result, Ok, Err, inl, inr, refl, sym, ap, ◌∙◌, subst, w32, w64, arith}
-use Rattle.std.specs.Prelude.{FitsSigned, is_ok, is_some, codes}
+use Rattle.std.specs.Prelude.{FitsSigned, is_ok, codes}
 use Rattle.std.specs.Str.{bytes_eq}
 use Rattle.std.proofs.lemmas.Bool.{and_parts}
 use Rattle.hex.specs.Hex.{encode_lower}
@@ -17,7 +17,7 @@ use Rattle.bson_decimal.proofs.Offered.{display_text-canon, parses-form}
 use Rattle.bson_wrapper.specs.Dates.{is_recent, relaxed_date_tree}
 use lib.Signed.{mag}
 use Rattle.bson_wrapper.specs.Decimals.{decimal_tree}
-use Rattle.bson_wrapper.specs.Doubles.{double_tree, normal_double, text_in}
+use Rattle.bson_wrapper.specs.Doubles.{normal_double}
 use Rattle.bson_wrapper.specs.Faults.{Fault, wrong_shape}
 use Rattle.bson_wrapper.specs.Ints.{fits_bits}
 use Rattle.bson_wrapper.specs.Means.{MeansScalar, MeansScalarIn, MeansFinite}
@@ -29,7 +29,7 @@ use Rattle.bson_wrapper.specs.Regexes.{regex_tree}
 use Rattle.bson_wrapper.specs.Scalar.{Scalar, null, undefined, min_key, max_key, boolean, double, int32, int64, text}
 use Rattle.bson_wrapper.specs.Scalar.{symbol, code, regex, timestamp, binary, object_id, date, decimal, db_pointer}
 use Rattle.bson_wrapper.specs.Table.{key_of, wrapper_of}
-use Rattle.bson_wrapper.specs.Written.{WrittenScalarIn, Refusal, ◌>>=◌, or_finite, writes_scalar_in, int32_form}
+use Rattle.bson_wrapper.specs.Written.{WrittenScalarIn, Refusal, writes_scalar_in, int32_form}
 use Rattle.bson_wrapper.specs.Written.{int64_form, date_form}
 use Rattle.bson_wrapper.specs.declared.form.Doubles.{Doubles}
 use Rattle.bson_wrapper.specs.declared.form.Doubles.TheVariants.{Special, Finite}
@@ -49,7 +49,7 @@ use Rattle.bson_wrapper.proofs.DateLaws.{date_from, recent_denoted}
 use Rattle.bson_wrapper.proofs.DecimalLaws.{decimal_from, decimal_of-some, decimal_of-display_text, canon-again}
 use Rattle.bson_wrapper.proofs.DoubleLaws.{nan_form-again}
 use Rattle.bson_wrapper.proofs.DoubleModes.{in_each, double_from, double_to, finite_to, finite_form, double_form_in}
-use Rattle.bson_wrapper.proofs.DoubleModes.{text_is, text_to, has_text, text_form, again, all_writable}
+use Rattle.bson_wrapper.proofs.DoubleModes.{again, all_writable}
 use Rattle.bson_wrapper.proofs.FiniteDoubles.{text_finite, pattern_finite}
 use Rattle.bson_wrapper.proofs.IdLaws.{oid_from, pointer_from, id_again}
 use Rattle.bson_wrapper.proofs.IntLaws.{int32_from, int64_from, number_from_in, narrow_read, wide_read, int32_again}
@@ -58,6 +58,8 @@ use Rattle.bson_wrapper.proofs.LoneLaws.{min_key_from, max_key_from, undefined_f
 use Rattle.bson_wrapper.proofs.RegexLaws.{regex_from}
 use Rattle.bson_wrapper.proofs.TextLaws.{symbol_from, code_from}
 use Rattle.bson_wrapper.proofs.TimestampLaws.{timestamp_from, natural_again}
+use Rattle.bson_wrapper.proofs.WrittenDoubles.{IsDoubleTree, double_tree_of, double_normal, double_ok, number_back}
+use Rattle.bson_wrapper.proofs.WrittenDoubles.{double_from as double_from_tree, double_to as double_to_tree}
 
 -- ---- what is read is the meaning
 
@@ -223,24 +225,15 @@ finite_range (means.nearest_to_number n p none is) = (pattern_finite _ p is).0
 
 -- ---- what is written is the grammar's one tree
 
-bind_ok : {A B : Type 0} (r : Result A Refusal) (f : A → Result B Refusal) (y : B) → (r >>= f) ≡ Ok y
-    → (x : A) × (r ≡ Ok x) × (f x ≡ Ok y)
-bind_ok (Ok x) f y h = (x, refl, h)
-bind_ok (Err e) f y h = cc
-
 un_ok : {A : Type 0} (x y : A) → ◌≡◌ {A = Result A Refusal} (Ok x) (Ok y) → y ≡ x
 un_ok x y h = cc
-
-some_from : {A : Type 0} (o : Option A) (s : A) → or_finite o ≡ Ok s → o ≡ Some s
-some_from (Some s) t h = ap Some (sym (un_ok _ _ h))
-some_from None t h = cc
 
 decimal_same : (b : List ℕ) → decimal_tree (normal_decimal b) ≡ decimal_tree b
 decimal_same b = ap (λ s. object_of_one (codes "$numberDecimal") (tree.string s)) (display_text-canon b)
 
 -- a scalar's tree is that of its normal form
 pub nf_written : (m : Doubles) (f : Form) (x : Scalar) → writes_scalar_in m f (normal_scalar x) ≡ writes_scalar_in m f x
-nf_written m f (double p) = ap (λ o. or_finite o >>= λ s. Ok (double_tree s)) (text_form m p)
+nf_written m f (double p) = double_normal m f p
 nf_written m f (regex p o) = ap (λ s. Ok (regex_tree p s)) (sorted_text-again o)
 nf_written m f (binary k bytes) =
     ap (λ n. Ok (object_of_one (codes "$binary")
@@ -259,14 +252,13 @@ nf_again x = refl
 -- of a scalar in normal form: the function and the relation
 written_at : (m : Doubles) (f : Form) (x : Scalar) (t : Data) → writes_scalar_in m f (normal_scalar x) ≡ Ok t
     → WrittenScalarIn m f (normal_scalar x) t
-written_at m f (double p) t h = let b = bind_ok (or_finite (text_in m (normal_double p))) _ t h in
-    (b.0, text_is m _ _ (some_from _ _ b.1), un_ok _ _ b.2)
+written_at m f (double p) t h = double_from_tree m f (normal_double p) t h
 written_at m f (regex p o) t h = un_ok _ _ h ∙ ap (regex_tree p) (sorted_text-again o)
 written_at m f x t h = un_ok _ _ h
 
 writes_at : (m : Doubles) (f : Form) (x : Scalar) (t : Data) → WrittenScalarIn m f (normal_scalar x) t
     → writes_scalar_in m f (normal_scalar x) ≡ Ok t
-writes_at m f (double p) t h = rw (text_to m _ _ h.1) (ap Ok (sym h.2))
+writes_at m f (double p) t h = double_to_tree m f (normal_double p) t h
 writes_at m f (regex p o) t h = ap Ok (ap (regex_tree p) (sorted_text-again o) ∙ sym h)
 writes_at m f x t h = ap Ok (sym h)
 
@@ -276,12 +268,8 @@ written_from m f x t h = written_at m f x t (nf_written m f x ∙ h)
 pub written_to : (m : Doubles) (f : Form) (x : Scalar) (t : Data) → WrittenScalarIn m f (normal_scalar x) t → writes_scalar_in m f x ≡ Ok t
 written_to m f x t h = sym (nf_written m f x) ∙ writes_at m f x t h
 
-double_ok : (o : Option (List ℕ)) → is_ok (or_finite o >>= λ s. Ok (double_tree s)) ≡ is_some o
-double_ok (Some s) = refl
-double_ok None = refl
-
 pub writable_is : (m : Doubles) (f : Form) (x : Scalar) → is_ok (writes_scalar_in m f x) ≡ writable_scalar_in m x
-writable_is m f (double p) = double_ok (text_in m p) ∙ has_text m p
+writable_is m f (double p) = double_ok m f p
 writable_is m f x = refl
 
 pub all_writable_is : (x : Scalar) → ScalarInRange x → writable_scalar_in Finite x ≡ true
@@ -309,6 +297,11 @@ date_back : (m : Doubles) (f : Form) (z : ℤ) → FitsSigned w64 z → scalar_r
 date_back m Canonical z r = rw (int64_again z r) refl
 date_back m Relaxed z r = recent_back m _ z refl r
 
+double_back : (m : Doubles) (f : Form) (p : ℕ) (t : Data) → p < 2 ^ 64 → IsDoubleTree m f p t
+    → scalar_read_in m t ≡ Ok (double (normal_double p))
+double_back m f p t r (inl (s, has, is)) = rw is (rw (again m p s r has) refl)
+double_back m f p t r (inr (finite_doubles, relaxed, finite, is)) = rw (finite_doubles, is) (number_back p r finite)
+
 pub back : (m : Doubles) (f : Form) (x : Scalar) (t : Data) → writes_scalar_in m f x ≡ Ok t → ScalarInRange x
     → scalar_read_in m t ≡ Ok (scalar_as_read f (normal_scalar x))
 back m f null t h r = rw (un_ok _ _ h) refl
@@ -316,8 +309,7 @@ back m f undefined t h r = rw (un_ok _ _ h) refl
 back m f min_key t h r = rw (un_ok _ _ h) refl
 back m f max_key t h r = rw (un_ok _ _ h) refl
 back m f (boolean b) t h r = rw (un_ok _ _ h) refl
-back m f (double p) t h r = let b = bind_ok (or_finite (text_in m p)) _ t h in
-    rw (un_ok _ _ b.2) (rw (again m p b.0 r (some_from _ _ b.1)) refl)
+back m f (double p) t h r = double_back m f p t r (double_tree_of m f p t h)
 back m f (int32 z) t h r = rw (un_ok _ _ h) (int32_back m f z r)
 back m f (int64 z) t h r = rw (un_ok _ _ h) (int64_back m f z r)
 back m f (text s) t h r = rw (un_ok _ _ h) refl
@@ -391,9 +383,15 @@ date_none : (f : Form) (z : ℤ) → has_float (date_form f z) ≡ false
 date_none Canonical z = refl
 date_none Relaxed z = recent_none _ z refl
 
-pub scalar_no_float : (m : Doubles) (f : Form) (x : Scalar) (t : Data) → writes_scalar_in m f x ≡ Ok t → has_float t ≡ false
-scalar_no_float m f (double p) t h = let b = bind_ok (or_finite (text_in m p)) _ t h in rw (un_ok _ _ b.2) refl
-scalar_no_float m f (int32 z) t h = rw (un_ok _ _ h) (int32_none f z)
-scalar_no_float m f (int64 z) t h = rw (un_ok _ _ h) (int64_none f z)
-scalar_no_float m f (date z) t h = rw (un_ok _ _ h) (date_none f z)
-scalar_no_float m f x t h = rw (un_ok _ _ h) refl
+-- (but of a finite double in the relaxed form of the mode `Finite`)
+pub scalar_no_float : (m : Doubles) (f : Form) (x : Scalar) (t : Data) → writes_scalar_in m f x ≡ Ok t
+    → ((m ≡ Finite) × (f ≡ Relaxed) → ⊥) → has_float t ≡ false
+scalar_no_float m f (double p) t h other =
+    elim (double_tree_of m f p t h) [
+      | inl (s, has, is) ↦ rw is refl
+      | inr (finite_doubles, relaxed, finite, is) ↦ absurd (other (finite_doubles, relaxed))
+    ]
+scalar_no_float m f (int32 z) t h other = rw (un_ok _ _ h) (int32_none f z)
+scalar_no_float m f (int64 z) t h other = rw (un_ok _ _ h) (int64_none f z)
+scalar_no_float m f (date z) t h other = rw (un_ok _ _ h) (date_none f z)
+scalar_no_float m f x t h other = rw (un_ok _ _ h) refl

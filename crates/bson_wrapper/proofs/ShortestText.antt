@@ -1,17 +1,16 @@
 -- The function of the shortest decimal gives it.
-use Rattle.std.proofs.Common.{◌≡◌, ◌⊎◌, ◌<◌, ◌≤◌, ◌^◌, ◌%◌, ◌+◌, ◌-◌, ◌*◌, ℕ, zero, suc, List, Bool, true, false, ◌&&◌}
+use Rattle.std.proofs.Common.{◌≡◌, ◌<◌, ◌≤◌, ◌^◌, ◌%◌, ◌+◌, ◌-◌, ◌*◌, ℕ, zero, suc, List, Bool, true, false, ◌&&◌}
 use Rattle.std.proofs.Common.{◌||◌, cond, refl, sym, ap, ◌∙◌, subst, inl, inr, nat_eq, nat_lt, arith, true≢false}
-use Rattle.std.specs.Prelude.{codes, nat_le, ◌++◌, Option, Some, None, is_some}
-use Rattle.std.specs.Fmt.{sign_text}
-use Rattle.std.proofs.lemmas.Bool.{cases_order, eqb-true, eqb-false, ltb-true, ltb-false, and_parts}
+use Rattle.std.specs.Prelude.{codes, Some, None, is_some}
+use Rattle.std.proofs.lemmas.Bool.{cases_order, eqb-true, eqb-false, ltb-true, ltb-false}
 use Rattle.bson_double.specs.Doubles.{is_finite}
 use Rattle.bson_double.specs.Shortest.{IsRead, IsShortest, IsNoneFrom, whole_of, step_of}
 use Rattle.bson_double.specs.Text.{IsDoubleText, IsUnsignedText, decimal_text}
 use Rattle.bson_double.proofs.Offered.{has_shortest, none_above, beside, floor_under, floor_over, low_taken}
 use Rattle.bson_double.proofs.Offered.{high_taken, IsPositive, step_pos, read_by_bits}
-use Rattle.bson_wrapper.specs.Shortest.{is_read, multiple_below, is_some_read, top_power, nearer, read_one, digits_at}
+use Rattle.bson_wrapper.specs.Shortest.{is_read, multiple_below, is_some_read, top_power, read_one, digits_at}
 use Rattle.bson_wrapper.specs.Shortest.{unsigned_text, finite_text}
-use Rattle.bson_wrapper.proofs.InverseLemmas.{un_some, if_some}
+use Rattle.bson_wrapper.proofs.InverseLemmas.{if_some}
 
 or_no : (a b : Bool) → (a || b) ≡ false → (a ≡ false) × (b ≡ false)
 or_no true b h = cc

@@ -16,6 +16,7 @@ pub mod Dates
 pub mod Means
 pub mod Reading
 pub mod Normal
+pub mod TreeText
 pub mod Written
 pub mod Tokens
 pub mod View

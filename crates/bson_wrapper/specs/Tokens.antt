@@ -1,15 +1,10 @@
 -- The tokens of trees, and what a function that writes a tree returns.
 use Rattle.std.specs.Prelude.{◌≡◌, ℕ, List, [], ◌∷◌, ◌++◌, codes, Result, Ok, Err}
 use Rattle.json.specs.Token.{Token, begin_object, key, string}
-use Rattle.json.specs.Tree.{json_tokens}
 use Rattle.serde_json.specs.Data.{Data, Members, no_members, member}
-use Rattle.serde_json.specs.Written.{outline}
+pub use Rattle.bson_wrapper.specs.TreeText.{tokens_of}
 use Rattle.bson_wrapper.specs.Written.{Refusal, Stops}
 use Rattle.bson_wrapper.specs.declared.write_error.WriteError.{WriteError}
-
--- the tokens of a tree that has no float
-abbrev pub tokens_of : Data → List Token
-tokens_of t = json_tokens (outline t)
 
 -- what stands before the scope of a code
 abbrev pub code_tokens : List ℕ → List Token

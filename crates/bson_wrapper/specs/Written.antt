@@ -1,12 +1,15 @@
 -- The tree of a scalar in each of the two forms (MongoDB Extended JSON v2).
-use Rattle.std.specs.Prelude.{◌≡◌, ℕ, ℤ, List, Option, Some, None, Result, Ok, Err}
-use Rattle.serde_json.specs.Data.{Data}
+use Rattle.std.specs.Prelude.{◌≡◌, ◌⊎◌, ℕ, ℤ, List, true, false, Option, Some, None, Result, Ok, Err, from_bits}
+use Rattle.std.specs.Prelude.{if◌then◌else◌}
+use Rattle.std.specs.Float.{binary64}
+use Rattle.bson_double.specs.Doubles.{is_finite}
+use Rattle.serde_json.specs.Data.{Data, float}
 use Rattle.serde_json.specs.Data as tree
 use Rattle.serde_json.specs.Find.{of_integer}
 use Rattle.bson_wrapper.specs.Binaries.{binary_tree}
 use Rattle.bson_wrapper.specs.Dates.{date_tree, relaxed_date_tree}
 use Rattle.bson_wrapper.specs.Decimals.{decimal_tree}
-use Rattle.bson_wrapper.specs.Doubles.{double_tree, IsTextIn, text_in}
+use Rattle.bson_wrapper.specs.Doubles.{double_tree, double_text, IsTextIn, text_in}
 use Rattle.bson_wrapper.specs.Ids.{oid_tree, pointer_tree}
 use Rattle.bson_wrapper.specs.Ints.{int32_tree, int64_tree}
 use Rattle.bson_wrapper.specs.Lone.{min_key_tree, max_key_tree, undefined_tree}
@@ -17,7 +20,7 @@ use Rattle.bson_wrapper.specs.Timestamps.{timestamp_tree}
 use Rattle.bson_wrapper.specs.Scalar.{Scalar, null, undefined, min_key, max_key, boolean, double, int32, int64, text}
 use Rattle.bson_wrapper.specs.Scalar.{symbol, code, regex, timestamp, binary, object_id, date, decimal, db_pointer}
 use Rattle.bson_wrapper.specs.declared.form.Doubles.{Doubles}
-use Rattle.bson_wrapper.specs.declared.form.Doubles.TheVariants.{Special}
+use Rattle.bson_wrapper.specs.declared.form.Doubles.TheVariants.{Special, Finite}
 use Rattle.bson_wrapper.specs.declared.form.Form.{Form}
 use Rattle.bson_wrapper.specs.declared.form.Form.TheVariants.{Canonical, Relaxed}
 use Rattle.bson_wrapper.specs.declared.write_error.WriteError.{WriteError}
@@ -36,6 +39,18 @@ abbrev pub date_form : Form → ℤ → Data
 date_form Canonical z = date_tree z
 date_form Relaxed z = relaxed_date_tree z
 
+-- the JSON number of a finite double
+abbrev pub number_tree : ℕ → Data
+number_tree p = tree.number (float (from_bits binary64 p))
+
+-- a finite double is a JSON number in the relaxed form of the mode `Finite`
+abbrev pub WrittenDoubleIn : Doubles → Form → ℕ → Data → Type 0
+WrittenDoubleIn Special f p t = (s : List ℕ) × IsTextIn Special p s × (t ≡ double_tree s)
+WrittenDoubleIn Finite Canonical p t = (s : List ℕ) × IsTextIn Finite p s × (t ≡ double_tree s)
+WrittenDoubleIn Finite Relaxed p t =
+    ((is_finite p ≡ true) × (t ≡ number_tree p))
+    ⊎ ((is_finite p ≡ false) × ((s : List ℕ) × (double_text p ≡ Some s) × (t ≡ double_tree s)))
+
 -- the scalar, in normal form, has this tree in the form f
 abbrev pub WrittenScalarIn : Doubles → Form → Scalar → Data → Type 0
 WrittenScalarIn m f null t = t ≡ tree.null
@@ -43,7 +58,7 @@ WrittenScalarIn m f undefined t = t ≡ undefined_tree
 WrittenScalarIn m f min_key t = t ≡ min_key_tree
 WrittenScalarIn m f max_key t = t ≡ max_key_tree
 WrittenScalarIn m f (boolean b) t = t ≡ tree.boolean b
-WrittenScalarIn m f (double p) t = (s : List ℕ) × IsTextIn m p s × (t ≡ double_tree s)
+WrittenScalarIn m f (double p) t = WrittenDoubleIn m f p t
 WrittenScalarIn m f (int32 z) t = t ≡ int32_form f z
 WrittenScalarIn m f (int64 z) t = t ≡ int64_form f z
 WrittenScalarIn m f (text s) t = t ≡ tree.string s
@@ -75,8 +90,13 @@ abbrev pub or_finite : {A : Type 0} → Option A → Result A Refusal
 or_finite (Some x) = Ok x
 or_finite None = Err finite
 
-abbrev pub double_writes_in : Doubles → ℕ → Result Data Refusal
-double_writes_in m p = or_finite (text_in m p) >>= λ s. Ok (double_tree s)
+abbrev pub wrapped_double : Option (List ℕ) → Result Data Refusal
+wrapped_double o = or_finite o >>= λ s. Ok (double_tree s)
+
+abbrev pub double_writes_in : Doubles → Form → ℕ → Result Data Refusal
+double_writes_in Special f p = wrapped_double (double_text p)
+double_writes_in Finite Canonical p = wrapped_double (text_in Finite p)
+double_writes_in Finite Relaxed p = if is_finite p then Ok (number_tree p) else wrapped_double (double_text p)
 
 abbrev pub writes_scalar_in : Doubles → Form → Scalar → Result Data Refusal
 writes_scalar_in m f null = Ok tree.null
@@ -84,7 +104,7 @@ writes_scalar_in m f undefined = Ok undefined_tree
 writes_scalar_in m f min_key = Ok min_key_tree
 writes_scalar_in m f max_key = Ok max_key_tree
 writes_scalar_in m f (boolean b) = Ok (tree.boolean b)
-writes_scalar_in m f (double p) = double_writes_in m p
+writes_scalar_in m f (double p) = double_writes_in m f p
 writes_scalar_in m f (int32 z) = Ok (int32_form f z)
 writes_scalar_in m f (int64 z) = Ok (int64_form f z)
 writes_scalar_in m f (text s) = Ok (tree.string s)

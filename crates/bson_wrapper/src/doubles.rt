@@ -1,6 +1,6 @@
 //! `$numberDouble`: one of six texts, or a decimal number where finite doubles are read and written.
-//! Read and written as `{"$numberDouble": "-0.0"}` and `{"$numberDouble": "12.5"}`; a double is its
-//! pattern of 64 bits (IEEE 754-2008 binary64).
+//! Read and written as `{"$numberDouble": "-0.0"}` and `{"$numberDouble": "12.5"}`, and a finite
+//! double in the relaxed form as `12.5`; a double is its pattern of 64 bits (IEEE 754-2008 binary64).
 ghost use Rattle.std.specs.Prelude.{◌≡◌, ℕ, List, Some, IfOk, IsTrue, option_map};
 ghost use Rattle.bson_double.specs.Doubles.{is_finite};
 ghost use Rattle.bson_wrapper.specs.Shortest.{finite_text};
@@ -11,11 +11,12 @@ ghost use Rattle.bson_wrapper.specs.Ints.{narrowest};
 ghost use Rattle.bson_wrapper.specs.Reading.{double_read_in, number_read_in};
 ghost use Rattle.bson_wrapper.specs.Tokens.{Sends};
 ghost use Rattle.bson_wrapper.specs.View.{scalar_view};
-ghost use Rattle.bson_wrapper.specs.Written.{double_writes_in};
+ghost use Rattle.bson_wrapper.specs.Written.{double_writes_in, wrapped_double};
 ghost use Rattle.bson_wrapper.specs.declared.form.Doubles.TheVariants.{Special, Finite};
+ghost use Rattle.bson_wrapper.specs.declared.form.Form.TheVariants.{Canonical, Relaxed};
 
 use crate::error::Error;
-use crate::form::Doubles;
+use crate::form::{Doubles, Form};
 use crate::scalar::Scalar;
 use crate::shapes::{expected, text_in};
 use crate::sink::Sink;
@@ -147,7 +148,7 @@ fn double_text(pattern: u64) -> Option<&'static str>
 }
 
 fn write_special<S: Sink>(pattern: u64, out: &mut S) -> Result<S::Tree, WriteError>
-    ensures written { Sends (λ d t. S.wrote out.old d t out.new) result (double_writes_in Special pattern) }
+    ensures written { Sends (λ d t. S.wrote out.old d t out.new) result (wrapped_double (spec.double_text pattern)) }
     ensures before { S.before out.new ≡ S.before out.old }
 {
     match double_text(pattern) {
@@ -170,8 +171,8 @@ fn write_finite<S: Sink>(pattern: u64, out: &mut S) -> Result<S::Tree, AllocErro
     )
 }
 
-fn write_any<S: Sink>(pattern: u64, out: &mut S) -> Result<S::Tree, WriteError>
-    ensures written { Sends (λ d t. S.wrote out.old d t out.new) result (double_writes_in Finite pattern) }
+fn write_canonical<S: Sink>(pattern: u64, out: &mut S) -> Result<S::Tree, WriteError>
+    ensures written { Sends (λ d t. S.wrote out.old d t out.new) result (double_writes_in Finite Canonical pattern) }
     ensures before { S.before out.new ≡ S.before out.old }
 {
     match double_text(pattern) {
@@ -180,19 +181,32 @@ fn write_any<S: Sink>(pattern: u64, out: &mut S) -> Result<S::Tree, WriteError>
     }
 }
 
-/// Writes the tree of a double, in both forms: a NaN as `NaN` or `-NaN` by its sign. A double that
-/// is finite and no zero is written as its shortest decimal where finite doubles are, and is
-/// refused as `FiniteDouble` where they are not.
+fn write_relaxed<S: Sink>(pattern: u64, out: &mut S) -> Result<S::Tree, WriteError>
+    ensures written { Sends (λ d t. S.wrote out.old d t out.new) result (double_writes_in Finite Relaxed pattern) }
+    ensures before { S.before out.new ≡ S.before out.old }
+{
+    if bson_double::is_finite(pattern) {
+        Ok(out.double(pattern)?)
+    } else {
+        write_special(pattern, out)
+    }
+}
+
+/// Writes the tree of a double: a NaN as `NaN` or `-NaN` by its sign. Where finite doubles are
+/// written one that is finite is its shortest decimal, which the relaxed form has as a JSON number.
+/// Where they are not one that is no zero is refused as `FiniteDouble`.
 pub fn write_double<S: Sink>(
     doubles: Doubles,
+    form: Form,
     pattern: u64,
     out: &mut S,
 ) -> Result<S::Tree, WriteError>
-    ensures written { Sends (λ d t. S.wrote out.old d t out.new) result (double_writes_in doubles pattern) }
+    ensures written { Sends (λ d t. S.wrote out.old d t out.new) result (double_writes_in doubles form pattern) }
     ensures before { S.before out.new ≡ S.before out.old }
 {
-    match doubles {
-        Doubles::Special => write_special(pattern, out),
-        Doubles::Finite => write_any(pattern, out),
+    match (doubles, form) {
+        (Doubles::Special, _) => write_special(pattern, out),
+        (Doubles::Finite, Form::Canonical) => write_canonical(pattern, out),
+        (Doubles::Finite, Form::Relaxed) => write_relaxed(pattern, out),
     }
 }

@@ -1,8 +1,12 @@
 //! The laws of scalars that the layer above builds on, each a fact of the definitions alone.
+ghost use Rattle.std.specs.Prelude.{to_bits};
+ghost use Rattle.std.specs.Float.{Float, binary64};
+ghost use Rattle.bson_double.specs.Text.{IsDoubleText};
 ghost use Rattle.bson_wrapper.specs.Laws.{Meaning, OneMeaning, ReadForm, Tree, Writable, HasText};
 ghost use Rattle.bson_wrapper.specs.Laws.{ReadsBack, NormalAgain, AsReadAgain};
 ghost use Rattle.bson_wrapper.specs.Laws.{MeaningIn, OneMeaningIn, ReadFormIn, TreeIn, WritableIn};
 ghost use Rattle.bson_wrapper.specs.Laws.{HasTextIn, AllWritable, ReadsBackIn};
+ghost use Rattle.bson_wrapper.specs.TreeText.{IsDouble, float_text};
 ghost use Rattle.bson_wrapper.specs.declared.form.Doubles.{Doubles};
 
 /// What reading a tree gives is its one meaning; what is read is writable.
@@ -37,4 +41,9 @@ pub fn each_mode()
     ensures all { AllWritable }
     ensures text { (m : Doubles) → HasTextIn m }
     ensures back { (m : Doubles) → ReadsBackIn m }
+{}
+
+/// The text of a finite double that is written as a JSON number is its shortest decimal.
+pub fn number_texts()
+    ensures { (x : Float) → IsDouble x → IsDoubleText (to_bits binary64 x) (float_text x) }
 {}

@@ -1,10 +1,12 @@
 //! Where trees are written to: into memory, or onto a text.
-ghost use Rattle.std.specs.Prelude.{◌≡◌, ℕ, List, IfOk, string_bytes};
+ghost use Rattle.std.specs.Prelude.{◌≡◌, ℕ, List, IfOk, IsTrue, string_bytes};
 ghost use Rattle.std.specs.Fmt.{signed_decimal};
 ghost use Rattle.serde_json.specs.Data.{Data, null, boolean, number, string, object, unsigned};
 ghost use Rattle.serde_json.specs.Data.{Members, no_members, put};
 ghost use Rattle.serde_json.specs.Find.{of_integer};
+ghost use Rattle.bson_double.specs.Doubles.{is_finite};
 ghost use Rattle.bson_wrapper.specs.Tokens.{added};
+ghost use Rattle.bson_wrapper.specs.Written.{number_tree};
 
 use json::Writer;
 use serde_json::{Map, Value};
@@ -53,6 +55,12 @@ pub trait Sink {
     /// Writes a number that is not below zero.
     fn natural(&mut self, n: u32) -> Result<Self::Tree, AllocError>
         ensures written { IfOk result (λ t. wrote self.old (number (unsigned n)) t self.new) }
+        ensures before { before self.new ≡ before self.old };
+
+    /// Writes a finite double, given as its pattern, as a number: on a text its shortest decimal.
+    fn double(&mut self, pattern: u64) -> Result<Self::Tree, AllocError>
+        requires { IsTrue (is_finite pattern) }
+        ensures written { IfOk result (λ t. wrote self.old (number_tree pattern) t self.new) }
         ensures before { before self.new ≡ before self.old };
 
     /// Writes the text of a number.
@@ -143,6 +151,10 @@ impl Sink for Trees {
         Ok(Value::from(n))
     }
 
+    fn double(&mut self, pattern: u64) -> Result<Value, AllocError> {
+        Ok(Value::from(f64::from_bits(pattern)))
+    }
+
     fn numeral(&mut self, z: i64) -> Result<Value, AllocError> {
         let text = format!(in self.alloc; "{z}")?;
         Ok(Value::String(text))
@@ -219,6 +231,10 @@ impl Sink for Writer {
 
     fn natural(&mut self, n: u32) -> Result<(), AllocError> {
         Writer::u64(self, n as u64)
+    }
+
+    fn double(&mut self, pattern: u64) -> Result<(), AllocError> {
+        Writer::number(self, bson_double::double_text(pattern).as_str())
     }
 
     fn numeral(&mut self, z: i64) -> Result<(), AllocError> {

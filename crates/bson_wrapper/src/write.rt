@@ -50,7 +50,7 @@ pub fn write_to<S: Sink>(
         Scalar::MinKey => write_min_key(out),
         Scalar::MaxKey => write_max_key(out),
         Scalar::Boolean(b) => out.boolean(b),
-        Scalar::Double(pattern) => return write_double(doubles, pattern, out),
+        Scalar::Double(pattern) => return write_double(doubles, form, pattern, out),
         Scalar::Int32(z) => write_int32(form, z, out),
         Scalar::Int64(z) => write_int64(form, z, out),
         Scalar::String(text) => out.owned_text(text),

@@ -1,4 +1,4 @@
-use Rattle.std.proofs.Common.{◌≡◌, Result, Ok, Err, Some, ap, sym, ◌∙◌}
+use Rattle.std.proofs.Common.{Result, Ok, Err, Some, ap, sym, ◌∙◌}
 use Rattle.std.specs.Prelude.{IfOk}
 use Rattle.bson_wrapper.proofs.FiniteDoubles.{finite_text_to}
 use Rattle.bson_wrapper.proofs.doubles.write_finite.Goals as goal

@@ -2,7 +2,7 @@ use Rattle.std.proofs.Common.{Ok, subst}
 use Rattle.bson_wrapper.specs.Doubles.{double_tree, or_finite_text}
 use Rattle.bson_wrapper.specs.Tokens.{Sends}
 use Rattle.bson_wrapper.specs.Written.{or_finite, ◌>>=◌}
-use Rattle.bson_wrapper.proofs.doubles.write_any.Goals as goal
+use Rattle.bson_wrapper.proofs.doubles.write_canonical.Goals as goal
 
 pub returns-in_ok-wrapped_text-in-Some-clause-written : goal.returns-in_ok-wrapped_text-in-Some-clause-written
 returns-in_ok-wrapped_text-in-Some-clause-written g c =
