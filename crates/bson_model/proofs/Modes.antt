@@ -4,8 +4,9 @@ use Rattle.serde_json.specs.Data.{Data, Items, Members}
 use Rattle.bson_wrapper.specs.Scalar.{Scalar, double}
 use Rattle.bson_wrapper.specs.Written.{WrittenScalar, WrittenScalarIn}
 use Rattle.bson_wrapper.specs.declared.form.Doubles.{Doubles}
-use Rattle.bson_wrapper.specs.declared.form.Doubles.TheVariants.{Special, Finite}
+use Rattle.bson_wrapper.specs.declared.form.Doubles.TheVariants.{Finite}
 use Rattle.bson_wrapper.specs.declared.form.Form.{Form}
+use Rattle.bson_wrapper.specs.declared.form.Form.TheVariants.{Canonical}
 use Rattle.bson_wrapper.proofs.Offered as scalars
 use Rattle.bson_model.specs.Value.{Value, code_scope, Values, no_values, value, Pairs, no_pairs, pair}
 use Rattle.bson_model.specs.Value as model
@@ -52,24 +53,25 @@ mutual
   wider_document empty = empty
   wider_document (entry k d v ms ps m n) = entry k d v ms ps (wider m) (wider_document n)
 
-scalar_kept : (f : Form) (x : Scalar) (t : Data) → WrittenScalar f x t → WrittenScalarIn Finite f x t
-scalar_kept f (double p) t h = (h.0, inl h.1, h.2)
-scalar_kept f x t h = h
+scalar_kept : (x : Scalar) (t : Data) → WrittenScalar Canonical x t → WrittenScalarIn Finite Canonical x t
+scalar_kept (double p) t h = (h.0, inl h.1, h.2)
+scalar_kept x t h = h
 
 mutual
-  pub kept : (f : Form) (v : Value) (t : Data) → Written f v t → WrittenIn Finite f v t
-  kept f (model.scalar x) t h = scalar_kept f x t h
-  kept f (code_scope s ps) t h = (h.0, kept_pairs f ps h.0 h.1, h.2)
-  kept f (model.array vs) t h = (h.0, kept_items f vs h.0 h.1, h.2)
-  kept f (model.document ps) t h = (h.0, kept_pairs f ps h.0 h.1, h.2)
+  pub kept : (v : Value) (t : Data) → Written Canonical v t → WrittenIn Finite Canonical v t
+  kept (model.scalar x) t h = scalar_kept x t h
+  kept (code_scope s ps) t h = (h.0, kept_pairs ps h.0 h.1, h.2)
+  kept (model.array vs) t h = (h.0, kept_items vs h.0 h.1, h.2)
+  kept (model.document ps) t h = (h.0, kept_pairs ps h.0 h.1, h.2)
 
-  kept_items : (f : Form) (vs : Values) (ds : Items) → WrittenItems f vs ds → WrittenItemsIn Finite f vs ds
-  kept_items f no_values ds h = h
-  kept_items f (value v vs) ds h = (h.0, h.1, kept f v h.0 h.2, kept_items f vs h.1 h.3, h.4)
+  kept_items : (vs : Values) (ds : Items) → WrittenItems Canonical vs ds → WrittenItemsIn Finite Canonical vs ds
+  kept_items no_values ds h = h
+  kept_items (value v vs) ds h = (h.0, h.1, kept v h.0 h.2, kept_items vs h.1 h.3, h.4)
 
-  kept_pairs : (f : Form) (ps : Pairs) (ms : Members) → WrittenDocument f ps ms → WrittenDocumentIn Finite f ps ms
-  kept_pairs f no_pairs ms h = h
-  kept_pairs f (pair k v ps) ms h = (h.0, h.1, kept f v h.0 h.2, kept_pairs f ps h.1 h.3, h.4)
+  kept_pairs : (ps : Pairs) (ms : Members) → WrittenDocument Canonical ps ms
+      → WrittenDocumentIn Finite Canonical ps ms
+  kept_pairs no_pairs ms h = h
+  kept_pairs (pair k v ps) ms h = (h.0, h.1, kept v h.0 h.2, kept_pairs ps h.1 h.3, h.4)
 
 pub grammar_tree : (D : Doubles) (f : Form) (v : Value) (t : Data) → WrittenIn D f (normal_form v) t → InRange v
     → IsTreeOfIn D f v t

@@ -1,5 +1,5 @@
 -- The laws that the crates above use. No other file of these proofs is cited from outside.
-use Rattle.std.proofs.Common.{◌≡◌, ◌<◌, List, [], ◌∷◌, length, true, false, string_bytes, Result, Ok, Err}
+use Rattle.std.proofs.Common.{◌≡◌, ◌<◌, List, ◌∷◌, length, true, false, string_bytes, Result, Ok, Err}
 use Rattle.std.specs.Prelude.{IfOk, OnOk, is_ok}
 use Rattle.serde_json.specs.Data.{Data, Members}
 use Rattle.serde_json.specs.View.{view, members_view}

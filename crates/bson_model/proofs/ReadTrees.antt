@@ -4,6 +4,8 @@ use Rattle.std.proofs.Common.{Bool, true, false, cond, Option, Some, None, optio
 use Rattle.std.proofs.Common.{arith}
 use Rattle.std.proofs.lemmas.Bool.{and_parts, ltb-true, leb-true}
 use Rattle.std.specs.Float.{binary64, float_is_finite}
+use lib.Ieee.Bits.{is_true}
+use lib.Ieee.Fits.{round-fits}
 use Rattle.fast_float.specs.Text.{minus, Parts, scan, digits_of, nearest, with_sign}
 use Rattle.json.specs.Json as json
 use Rattle.json.specs.Lex.{tokens}
@@ -31,11 +33,12 @@ after f None y h = absurd cc
 -- ---- numbers
 
 float_fits : (sign : Bool) (p : Parts) (n : Num) → float_of sign p ≡ Some n → NumberFits n
-float_fits sign p n h = float_at (float_is_finite (nearest binary64 sign p)) h
+float_fits sign p n h = float_at (float_is_finite (nearest binary64 sign p)) refl h
   where
-    float_at : (b : Bool) → cond b (Some (float (nearest binary64 sign p))) None ≡ Some n → NumberFits n
-    float_at true e = subst NumberFits (un_some _ _ e) tt
-    float_at false e = absurd cc
+    float_at : (b : Bool) → float_is_finite (nearest binary64 sign p) ≡ b
+        → cond b (Some (float (nearest binary64 sign p))) None ≡ Some n → NumberFits n
+    float_at true finite e = subst NumberFits (un_some _ _ e) (is_true _ (round-fits binary64 _ _ _), finite)
+    float_at false finite e = absurd cc
 
 plain_at : (b : Bool) (p : Parts) (n : Num) → (b ≡ true → digits_of p < 2 ^ 64)
     → cond b (Some (unsigned (digits_of p))) (float_of false p) ≡ Some n → NumberFits n

@@ -1,7 +1,6 @@
--- The compact text of a tree with no float is read as that tree.
-use Rattle.std.proofs.Common.{◌≡◌, ℕ, suc, max, ◌≤◌, pos, negsuc, List, [], false, Option, Some, option_map}
+-- The text of a tree is read as that tree.
+use Rattle.std.proofs.Common.{◌≡◌, ℕ, suc, max, ◌≤◌, pos, negsuc, List, [], Option, Some, option_map}
 use Rattle.std.proofs.Common.{option_and_then, Less, refl, sym, ap, ap₂, ◌∙◌, subst, arith, append-nil}
-use Rattle.std.proofs.lemmas.Bool.{or_parts}
 use Rattle.json.specs.Lex.{tokens}
 use Rattle.json.specs.Json as json
 use Rattle.json.specs.Tree as parsed
@@ -11,39 +10,37 @@ use Rattle.json.proofs.Printed.Decimals.{IsNumber-decimal, IsNumber-signed_decim
 use Rattle.serde_json.specs.Data.{Num, unsigned, negative, float, Data, Items, no_items, item, Members, no_members}
 use Rattle.serde_json.specs.Data.{member, put, depth, items_depth, members_depth}
 use Rattle.serde_json.specs.Data as tree
-use Rattle.serde_json.specs.Find.{is_float}
 use Rattle.serde_json.specs.Read.{number_of, of_json, of_items, of_members, read, max_depth}
-use Rattle.serde_json.specs.Written.{number_text, outline, items_outline, members_outline, has_float, items_have_float}
-use Rattle.serde_json.specs.Written.{members_have_float, compact_text}
 use Rattle.serde_json.proofs.Numbers.{number_of-decimal, number_of-negative}
-use Rattle.serde_json.proofs.Texts.{print-outline}
-use Rattle.bson_model.specs.Texts.{NumberFits, IsBelow, Ascends, IsTree, ItemsAreTrees, MembersAreTrees, HasOwnText}
+use Rattle.bson_wrapper.specs.TreeText.{number_text, outline, items_outline, members_outline, text_of, MayHaveFloat}
+use Rattle.bson_wrapper.specs.TreeText.{tree_text}
+use Rattle.bson_wrapper.specs.declared.form.Doubles.{Doubles}
+use Rattle.bson_wrapper.specs.declared.form.Form.{Form}
+use Rattle.bson_wrapper.proofs.Offered.{float_is_number, float_is_read, text_is}
+use Rattle.bson_model.specs.Texts.{NumberFits, IsBelow, Ascends, IsTree, ItemsAreTrees, MembersAreTrees, HasOwnTextIn}
 use Rattle.bson_model.proofs.PutSwap.{cmp, flipped}
 
 -- ---- the tokens of the text are those of the tree
 
 mutual
-  numbers : (d : Data) → has_float d ≡ false → IsTree d → parsed.HasNumbers (outline d)
-  numbers tree.null h t = tt
-  numbers (tree.boolean b) h t = tt
-  numbers (tree.number (unsigned n)) h t = IsNumber-decimal n t
-  numbers (tree.number (negative (pos n))) h t = absurd t
-  numbers (tree.number (negative (negsuc n))) h t = IsNumber-signed_decimal (negsuc n) t
-  numbers (tree.number (float x)) h t = cc
-  numbers (tree.string s) h t = tt
-  numbers (tree.array ds) h t = items_numbers ds h t
-  numbers (tree.object ms) h t = members_numbers ms h t.1
+  numbers : (d : Data) → IsTree d → parsed.HasNumbers (outline d)
+  numbers tree.null t = tt
+  numbers (tree.boolean b) t = tt
+  numbers (tree.number (unsigned n)) t = IsNumber-decimal n t
+  numbers (tree.number (negative (pos n))) t = absurd t
+  numbers (tree.number (negative (negsuc n))) t = IsNumber-signed_decimal (negsuc n) t
+  numbers (tree.number (float x)) t = float_is_number x t
+  numbers (tree.string s) t = tt
+  numbers (tree.array ds) t = items_numbers ds t
+  numbers (tree.object ms) t = members_numbers ms t.1
 
-  items_numbers : (ds : Items) → items_have_float ds ≡ false → ItemsAreTrees ds
-      → parsed.ItemsHaveNumbers (items_outline ds)
-  items_numbers no_items h t = tt
-  items_numbers (item d ds) h t = let p = or_parts (has_float d) _ h in (numbers d p.0 t.0, items_numbers ds p.1 t.1)
+  items_numbers : (ds : Items) → ItemsAreTrees ds → parsed.ItemsHaveNumbers (items_outline ds)
+  items_numbers no_items t = tt
+  items_numbers (item d ds) t = (numbers d t.0, items_numbers ds t.1)
 
-  members_numbers : (ms : Members) → members_have_float ms ≡ false → MembersAreTrees ms
-      → parsed.MembersHaveNumbers (members_outline ms)
-  members_numbers no_members h t = tt
-  members_numbers (member k d ms) h t =
-      let p = or_parts (has_float d) _ h in (numbers d p.0 t.0, members_numbers ms p.1 t.1)
+  members_numbers : (ms : Members) → MembersAreTrees ms → parsed.MembersHaveNumbers (members_outline ms)
+  members_numbers no_members t = tt
+  members_numbers (member k d ms) t = (numbers d t.0, members_numbers ms t.1)
 
 mutual
   same_depth : (d : Data) → parsed.depth (outline d) ≡ depth d
@@ -91,63 +88,65 @@ put_last (member l e found) k d ms h =
 
 -- ---- what is parsed is the tree
 
-number_back : (n : Num) → is_float n ≡ false → NumberFits n → number_of (number_text n) ≡ Some n
-number_back (unsigned n) h t = number_of-decimal n t
-number_back (negative (pos n)) h t = absurd t
-number_back (negative (negsuc n)) h t = number_of-negative n t
-number_back (float x) h t = cc
+pub number_back : (n : Num) → NumberFits n → number_of (number_text n) ≡ Some n
+number_back (unsigned n) t = number_of-decimal n t
+number_back (negative (pos n)) t = absurd t
+number_back (negative (negsuc n)) t = number_of-negative n t
+number_back (float x) t = float_is_read x t
 
 mutual
-  data_back : (d : Data) → has_float d ≡ false → IsTree d → of_json (outline d) ≡ Some d
-  data_back tree.null h t = refl
-  data_back (tree.boolean b) h t = refl
-  data_back (tree.number n) h t = ap (option_map tree.number) (number_back n h t)
-  data_back (tree.string s) h t = refl
-  data_back (tree.array ds) h t = ap (option_map tree.array) (items_back ds h t)
-  data_back (tree.object ms) h t = ap (option_map tree.object) (members_back ms no_members h t.0 t.1)
+  data_back : (d : Data) → IsTree d → of_json (outline d) ≡ Some d
+  data_back tree.null t = refl
+  data_back (tree.boolean b) t = refl
+  data_back (tree.number n) t = ap (option_map tree.number) (number_back n t)
+  data_back (tree.string s) t = refl
+  data_back (tree.array ds) t = ap (option_map tree.array) (items_back ds t)
+  data_back (tree.object ms) t = ap (option_map tree.object) (members_back ms no_members t.0 t.1)
 
-  items_back : (ds : Items) → items_have_float ds ≡ false → ItemsAreTrees ds → of_items (items_outline ds) ≡ Some ds
-  items_back no_items h t = refl
-  items_back (item d ds) h t =
-      let p = or_parts (has_float d) _ h in rw (data_back d p.0 t.0, items_back ds p.1 t.1) refl
+  items_back : (ds : Items) → ItemsAreTrees ds → of_items (items_outline ds) ≡ Some ds
+  items_back no_items t = refl
+  items_back (item d ds) t = rw (data_back d t.0, items_back ds t.1) refl
 
-  members_back : (ms found : Members) → members_have_float ms ≡ false → Ascends (joined found ms) → MembersAreTrees ms
+  members_back : (ms found : Members) → Ascends (joined found ms) → MembersAreTrees ms
       → of_members (members_outline ms) found ≡ Some (joined found ms)
-  members_back no_members found h up t = ap Some (sym (joined_none found))
-  members_back (member k d ms) found h up t =
-      let p = or_parts (has_float d) _ h in
+  members_back no_members found up t = ap Some (sym (joined_none found))
+  members_back (member k d ms) found up t =
       let last = put_last found k d ms up in
       let again = joined_again found k d ms in
-      rw (data_back d p.0 t.0, last)
-      (members_back ms (joined found (member k d no_members)) p.1 (subst Ascends (sym again) up) t.1
+      rw (data_back d t.0, last)
+      (members_back ms (joined found (member k d no_members)) (subst Ascends (sym again) up) t.1
       ∙ ap Some again)
 
 -- the tree that a text is, nested no deeper than n
 abbrev read_within : ℕ → List ℕ → Option Data
 read_within n text = option_and_then of_json (option_and_then (λ p. json.if_last p.0 p.1) (json.value n (tokens text)))
 
-back_within : (n : ℕ) (d : Data) → has_float d ≡ false → IsTree d → depth d ≤ n
-    → read_within n (compact_text d) ≡ Some d
-back_within n d h t shallow =
-    let printed = ap tokens (sym (print-outline d))
-    ∙ tokens-print (parsed.json_tokens (outline d)) (ArePrintable-json_tokens (outline d) (numbers d h t)) in
+back_within : (n : ℕ) (d : Data) → IsTree d → depth d ≤ n → read_within n (text_of d) ≡ Some d
+back_within n d t shallow =
+    let printed = tokens-print (parsed.json_tokens (outline d)) (ArePrintable-json_tokens (outline d) (numbers d t)) in
     let value = ap (json.value n) (printed ∙ sym (append-nil (parsed.json_tokens (outline d))))
     ∙ value-json_tokens (outline d) n [] (omega (arith, same_depth d)) in
-    ap (λ o. option_and_then of_json (option_and_then (λ p. json.if_last p.0 p.1) o)) value ∙ data_back d h t
-
--- the compact text is read as the tree, unless it nests deeper than texts may
-pub text_back : (d : Data) → has_float d ≡ false → IsTree d → depth d ≤ max_depth → read (compact_text d) ≡ Some d
-text_back d h t shallow = back_within max_depth d h t shallow
+    ap (λ o. option_and_then of_json (option_and_then (λ p. json.if_last p.0 p.1) o)) value ∙ data_back d t
 
 un_some : {A : Type 0} (x y : A) → Some x ≡ Some y → x ≡ y
 un_some x y h = cc
 
 -- two trees, however deep, have one text only where they are equal
-pub one_tree : (d e : Data) → has_float d ≡ false → IsTree d → has_float e ≡ false → IsTree e
-    → compact_text d ≡ compact_text e → d ≡ e
-one_tree d e h t g s same =
+one_text : (d e : Data) → IsTree d → IsTree e → text_of d ≡ text_of e → d ≡ e
+one_text d e t s same =
     let n = max (depth d) (depth e) in
-    un_some d e (sym (back_within n d h t (omega arith)) ∙ ap (read_within n) same ∙ back_within n e g s (omega arith))
+    un_some d e (sym (back_within n d t (omega arith)) ∙ ap (read_within n) same ∙ back_within n e s (omega arith))
 
-pub own_text : (t : Data) → has_float t ≡ false → IsTree t → HasOwnText t
-own_text t h is = (text_back t h is, λ u g s same. one_tree t u h is g s same)
+-- ---- in each mode and form
+
+module _ (D : Doubles) (f : Form) where
+  -- the text is read as the tree, unless it nests deeper than texts may
+  pub text_back : (d : Data) → MayHaveFloat D f d → IsTree d → depth d ≤ max_depth → read (tree_text D f d) ≡ Some d
+  text_back d h t shallow = ap read (text_is D f d h) ∙ back_within max_depth d t shallow
+
+  pub one_tree : (d e : Data) → MayHaveFloat D f d → IsTree d → MayHaveFloat D f e → IsTree e
+      → tree_text D f d ≡ tree_text D f e → d ≡ e
+  one_tree d e h t g s same = one_text d e t s (sym (text_is D f d h) ∙ same ∙ text_is D f e g)
+
+  pub own_text : (t : Data) → MayHaveFloat D f t → IsTree t → HasOwnTextIn D f t
+  own_text t h is = (text_back t h is, λ u g s same. one_tree t u h is g s same)

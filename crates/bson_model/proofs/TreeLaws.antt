@@ -1,6 +1,6 @@
 -- What is written is a tree that `serde_json` has.
 use Rattle.std.proofs.Common.{◌≡◌, ◌<◌, ◌^◌, ℕ, ℤ, pos, negsuc, List, Bool, true, false, Ok, Ordering, Less, Equal}
-use Rattle.std.proofs.Common.{Greater, refl, sym, subst, arith, w32, w64}
+use Rattle.std.proofs.Common.{Greater, refl, sym, subst, arith, w32, w64, inl, inr}
 use Rattle.std.specs.Prelude.{FitsSigned, codes}
 use Rattle.std.specs.Ordering.{match_ordering}
 use Rattle.std.proofs.lemmas.Cmp.{nat_list_cmp_total}
@@ -9,14 +9,14 @@ use Rattle.serde_json.specs.Data.{Data, Items, no_items, item, Members, no_membe
 use Rattle.serde_json.specs.Data as tree
 use Rattle.serde_json.specs.Find.{of_integer}
 use Rattle.bson_wrapper.specs.Dates.{is_recent, relaxed_date_tree}
-use Rattle.bson_wrapper.specs.Doubles.{text_in}
 use Rattle.bson_wrapper.specs.Normal.{ScalarInRange}
 use Rattle.bson_wrapper.specs.Scalar.{Scalar, null, undefined, min_key, max_key, boolean, double, int32, int64, text}
 use Rattle.bson_wrapper.specs.Scalar.{symbol, code, regex, timestamp, binary, object_id, date, decimal, db_pointer}
 use Rattle.bson_wrapper.specs.Shapes.{object_of_two}
-use Rattle.bson_wrapper.specs.Written.{or_finite, writes_scalar_in, int32_form, int64_form, date_form}
+use Rattle.bson_wrapper.specs.Written.{writes_scalar_in, int32_form, int64_form, date_form}
 use Rattle.bson_wrapper.specs.declared.form.Form.{Form}
 use Rattle.bson_wrapper.specs.declared.form.Form.TheVariants.{Canonical, Relaxed}
+use Rattle.bson_wrapper.proofs.Offered.{IsDoubleTree, double_tree_of, pattern_is_double}
 use Rattle.bson_model.specs.Texts.{IsBelow, Ascends, IsTree, ItemsAreTrees, MembersAreTrees}
 use Rattle.bson_model.specs.Value.{Value, scalar, code_scope, array, document, Values, no_values, value, Pairs}
 use Rattle.bson_model.specs.Value.{no_pairs, pair}
@@ -93,6 +93,10 @@ date_is : (f : Form) (z : ℤ) → IsTree (date_form f z)
 date_is Canonical z = long_date_is z
 date_is Relaxed z = recent_is _ z refl
 
+double_is : (D : Doubles) (f : Form) (p : ℕ) (t : Data) → p < 2 ^ 64 → IsDoubleTree D f p t → IsTree t
+double_is D f p t r (inl (s, has, is)) = rw is ((tt, tt), (tt, tt))
+double_is D f p t r (inr (finite_doubles, relaxed, finite, is)) = rw is (pattern_is_double p r finite)
+
 module _ (D : Doubles) where
   scalar_is : (f : Form) (x : Scalar) (t : Data) → writes_scalar_in D f x ≡ Ok t → ScalarInRange x → IsTree t
   scalar_is f null t h r = rw (un_ok _ _ h) tt
@@ -100,8 +104,7 @@ module _ (D : Doubles) where
   scalar_is f min_key t h r = rw (un_ok _ _ h) ((tt, tt), (omega arith, tt))
   scalar_is f max_key t h r = rw (un_ok _ _ h) ((tt, tt), (omega arith, tt))
   scalar_is f (boolean b) t h r = rw (un_ok _ _ h) tt
-  scalar_is f (double p) t h r =
-      let b = bind_ok (or_finite (text_in D p)) _ t h in rw (un_ok _ _ b.2) ((tt, tt), (tt, tt))
+  scalar_is f (double p) t h r = double_is D f p t r (double_tree_of D f p t h)
   scalar_is f (int32 z) t h r = rw (un_ok _ _ h) (int32_is f z r)
   scalar_is f (int64 z) t h r = rw (un_ok _ _ h) (int64_is f z r)
   scalar_is f (text s) t h r = rw (un_ok _ _ h) tt

@@ -1,5 +1,5 @@
 -- Trees as compact texts, and the law that a value that was read comes back.
-use Rattle.std.specs.Prelude.{◌≡◌, ◌<◌, ◌≤◌, ◌^◌, ◌↔◌, ℕ, pos, negsuc, List, true, false, Some}
+use Rattle.std.specs.Prelude.{◌≡◌, ◌<◌, ◌≤◌, ◌^◌, ◌↔◌, ℕ, pos, negsuc, List, true, Some}
 use Rattle.std.specs.Cmp.Lexicographic.{slice_cmp}
 use Rattle.std.specs.Ordering.{nat_cmp}
 use Rattle.std.specs.declared.cmp.Ordering.TheVariants.{Less}
@@ -7,8 +7,9 @@ use Rattle.serde_json.specs.Data.{Num, unsigned, negative, float, Data, Items, n
 use Rattle.serde_json.specs.Data.{member, depth}
 use Rattle.serde_json.specs.Data as tree
 use Rattle.serde_json.specs.Read.{read, max_depth}
-use Rattle.serde_json.specs.Written.{has_float, compact_text}
+use Rattle.bson_wrapper.specs.TreeText.{IsDouble, MayHaveFloat, tree_text}
 use Rattle.bson_wrapper.specs.declared.form.Form.{Form}
+use Rattle.bson_wrapper.specs.declared.form.Form.TheVariants.{Canonical}
 use Rattle.bson_model.specs.Value.{Value}
 use Rattle.bson_model.specs.Means.{MeansIn}
 use Rattle.bson_model.specs.Same.{same}
@@ -23,7 +24,7 @@ abbrev pub NumberFits : Num → Type 0
 NumberFits (unsigned n) = n < 2 ^ 64
 NumberFits (negative (pos n)) = ⊥
 NumberFits (negative (negsuc n)) = n < 2 ^ 63
-NumberFits (float x) = Unit {0}
+NumberFits (float x) = IsDouble x
 
 -- the key is less than each key of the map
 abbrev pub IsBelow : List ℕ → Members → Type 0
@@ -53,23 +54,26 @@ abbrev mutual
   MembersAreTrees (member k d ms) = IsTree d × MembersAreTrees ms
 
 -- the text is read as the tree again, unless that nests deeper than texts may, and no other tree has the text
+abbrev pub HasOwnTextIn : Doubles → Form → Data → Type 0
+HasOwnTextIn D f t = (depth t ≤ max_depth → read (tree_text D f t) ≡ Some t)
+    × ((u : Data) → MayHaveFloat D f u → IsTree u → tree_text D f t ≡ tree_text D f u → t ≡ u)
+
 abbrev pub HasOwnText : Data → Type 0
-HasOwnText t = (depth t ≤ max_depth → read (compact_text t) ≡ Some t)
-    × ((u : Data) → has_float u ≡ false → IsTree u → compact_text t ≡ compact_text u → t ≡ u)
+HasOwnText = HasOwnTextIn Special Canonical
 
 -- ---- texts of values
 
 -- the tree u of v, and the tree x of w
 abbrev pub HasEqualTextsIn : Doubles → Form → Value → Data → Value → Data → Type 0
 HasEqualTextsIn D f v u w x = plain w ≡ true → InRange w → WrittenIn D f (normal_form w) x
-    → ((compact_text u ≡ compact_text x) ↔ (same (as_read f (normal_form v)) (as_read f (normal_form w)) ≡ true))
+    → ((tree_text D f u ≡ tree_text D f x) ↔ (same (as_read f (normal_form v)) (as_read f (normal_form w)) ≡ true))
 
 -- what the tree u of the value v in the form f, and its compact text, are
 pub record HasTextIn (D : Doubles) (f : Form) (v : Value) (u : Data) : Type 0 where
   pub written : WrittenIn D f (normal_form v) u
   pub is_tree : IsTree u
   -- the text is read as the tree again, unless it nests deeper than texts may
-  pub read_again : depth u ≤ max_depth → read (compact_text u) ≡ Some u
+  pub read_again : depth u ≤ max_depth → read (tree_text D f u) ≡ Some u
   -- the tree means one value, the same as the normal form, and is the tree of that value too
   pub means : (w : Value) × MeansIn D u w × (same w (as_read f (normal_form v)) ≡ true) × WrittenIn D f (normal_form w) u
   -- no other value has the text
