@@ -32,6 +32,7 @@ pub use Rattle.bson_model.proofs.PutSwap.{equal_keys, flipped}
 pub use Rattle.bson_model.proofs.ReadLaws.{IsRead}
 pub use Rattle.bson_model.proofs.ReadTrees.{number_fits, read_tree}
 pub use Rattle.bson_model.proofs.SameSorted.{at_each, from_each, option_same, same_document, same_feeds, scalar_decides}
+pub use Rattle.bson_model.proofs.TextLaws.{number_back}
 pub use Rattle.bson_model.proofs.TreeLaws.{ascends_put, trees_put}
 use Rattle.bson_model.proofs.ComesBack as whole
 use Rattle.bson_model.proofs.MeansLaws as meaning
@@ -47,6 +48,7 @@ pub use Rattle.bson_model.proofs.ComesBack.{read_back_ok as read_back_ok_in}
 pub use Rattle.bson_model.proofs.MeansLaws.{means_from as means_from_in, means_to as means_to_in}
 pub use Rattle.bson_model.proofs.MeansLaws.{means_one as means_one_in}
 pub use Rattle.bson_model.proofs.Modes.{all_writable}
+pub use Rattle.bson_model.proofs.NoFloats.{may_have_float}
 pub use Rattle.bson_model.proofs.ReadForm.{normal_scalar_of}
 pub use Rattle.bson_model.proofs.RangeLaws.{in_range as in_range_in}
 pub use Rattle.bson_model.proofs.ReadBack.{forms_idempotent as forms_idempotent_in, tree_is as tree_is_in}

@@ -12,14 +12,13 @@ use Rattle.json.proofs.Printed.Decimals.{IsNumber-decimal, IsNumber-signed_decim
 use Rattle.serde_json.specs.Data.{Num, unsigned, negative, float, Data, Items, no_items, item, Members, no_members}
 use Rattle.serde_json.specs.Data.{member, depth, items_depth, members_depth}
 use Rattle.serde_json.specs.Data as tree
-use Rattle.serde_json.specs.Find.{is_float}
-use Rattle.serde_json.specs.Read.{number_of, max_depth}
-use Rattle.serde_json.specs.Written.{number_text, outline, items_outline, members_outline, has_float, items_have_float}
-use Rattle.serde_json.specs.Written.{members_have_float, compact_text}
-use Rattle.serde_json.proofs.Numbers.{number_of-decimal, number_of-negative}
-use Rattle.serde_json.proofs.Texts.{print-outline}
-use Rattle.bson_model.specs.Texts.{NumberFits}
-use Rattle.bson_order.specs.Kept.{put_kept, kept, kept_items, kept_members, unordered, has_key, KeysDiffer}
+use Rattle.serde_json.specs.Read.{max_depth}
+use Rattle.bson_wrapper.specs.TreeText.{outline, items_outline, members_outline, text_of, MayHaveFloat, tree_text}
+use Rattle.bson_wrapper.specs.declared.form.Doubles.{Doubles}
+use Rattle.bson_wrapper.specs.declared.form.Form.{Form}
+use Rattle.bson_wrapper.proofs.Offered.{float_is_number, text_is}
+use Rattle.bson_model.proofs.Offered.{number_back}
+use Rattle.bson_order.specs.Kept.{put_kept, kept, kept_items, kept_members, unordered, has_key, KeysDiffer, read_kept}
 use Rattle.bson_order.specs.Kept.{IsKeptTree, ItemsAreKept, MembersAreKept}
 use Rattle.bson_order.specs.Texts.{HasOwnTextInOrder}
 use Rattle.bson_order.proofs.Forgetting.{read_forgotten}
@@ -28,27 +27,24 @@ use Rattle.bson_order.proofs.Options.{un_some, turned}
 -- ---- the tokens of the text are those of the tree
 
 mutual
-  numbers : (d : Data) → has_float d ≡ false → IsKeptTree d → parsed.HasNumbers (outline d)
-  numbers tree.null h t = tt
-  numbers (tree.boolean b) h t = tt
-  numbers (tree.number (unsigned n)) h t = IsNumber-decimal n t
-  numbers (tree.number (negative (pos n))) h t = absurd t
-  numbers (tree.number (negative (negsuc n))) h t = IsNumber-signed_decimal (negsuc n) t
-  numbers (tree.number (float x)) h t = cc
-  numbers (tree.string s) h t = tt
-  numbers (tree.array ds) h t = items_numbers ds h t
-  numbers (tree.object ms) h t = members_numbers ms h t.1
+  numbers : (d : Data) → IsKeptTree d → parsed.HasNumbers (outline d)
+  numbers tree.null t = tt
+  numbers (tree.boolean b) t = tt
+  numbers (tree.number (unsigned n)) t = IsNumber-decimal n t
+  numbers (tree.number (negative (pos n))) t = absurd t
+  numbers (tree.number (negative (negsuc n))) t = IsNumber-signed_decimal (negsuc n) t
+  numbers (tree.number (float x)) t = float_is_number x t
+  numbers (tree.string s) t = tt
+  numbers (tree.array ds) t = items_numbers ds t
+  numbers (tree.object ms) t = members_numbers ms t.1
 
-  items_numbers : (ds : Items) → items_have_float ds ≡ false → ItemsAreKept ds
-      → parsed.ItemsHaveNumbers (items_outline ds)
-  items_numbers no_items h t = tt
-  items_numbers (item d ds) h t = let p = or_parts (has_float d) _ h in (numbers d p.0 t.0, items_numbers ds p.1 t.1)
+  items_numbers : (ds : Items) → ItemsAreKept ds → parsed.ItemsHaveNumbers (items_outline ds)
+  items_numbers no_items t = tt
+  items_numbers (item d ds) t = (numbers d t.0, items_numbers ds t.1)
 
-  members_numbers : (ms : Members) → members_have_float ms ≡ false → MembersAreKept ms
-      → parsed.MembersHaveNumbers (members_outline ms)
-  members_numbers no_members h t = tt
-  members_numbers (member k d ms) h t =
-      let p = or_parts (has_float d) _ h in (numbers d p.0 t.0, members_numbers ms p.1 t.1)
+  members_numbers : (ms : Members) → MembersAreKept ms → parsed.MembersHaveNumbers (members_outline ms)
+  members_numbers no_members t = tt
+  members_numbers (member k d ms) t = (numbers d t.0, members_numbers ms t.1)
 
 mutual
   same_depth : (d : Data) → parsed.depth (outline d) ≡ depth d
@@ -98,58 +94,52 @@ put_last (member l e found) k d ms h =
 
 -- ---- what is parsed is the tree
 
-number_back : (n : Num) → is_float n ≡ false → NumberFits n → number_of (number_text n) ≡ Some n
-number_back (unsigned n) h t = number_of-decimal n t
-number_back (negative (pos n)) h t = absurd t
-number_back (negative (negsuc n)) h t = number_of-negative n t
-number_back (float x) h t = cc
-
 mutual
-  data_back : (d : Data) → has_float d ≡ false → IsKeptTree d → kept (outline d) ≡ Some d
-  data_back tree.null h t = refl
-  data_back (tree.boolean b) h t = refl
-  data_back (tree.number n) h t = ap (option_map tree.number) (number_back n h t)
-  data_back (tree.string s) h t = refl
-  data_back (tree.array ds) h t = ap (option_map tree.array) (items_back ds h t)
-  data_back (tree.object ms) h t = ap (option_map tree.object) (members_back ms no_members h t.0 t.1)
+  data_back : (d : Data) → IsKeptTree d → kept (outline d) ≡ Some d
+  data_back tree.null t = refl
+  data_back (tree.boolean b) t = refl
+  data_back (tree.number n) t = ap (option_map tree.number) (number_back n t)
+  data_back (tree.string s) t = refl
+  data_back (tree.array ds) t = ap (option_map tree.array) (items_back ds t)
+  data_back (tree.object ms) t = ap (option_map tree.object) (members_back ms no_members t.0 t.1)
 
-  items_back : (ds : Items) → items_have_float ds ≡ false → ItemsAreKept ds
-      → kept_items (items_outline ds) ≡ Some ds
-  items_back no_items h t = refl
-  items_back (item d ds) h t =
-      let p = or_parts (has_float d) _ h in rw (data_back d p.0 t.0, items_back ds p.1 t.1) refl
+  items_back : (ds : Items) → ItemsAreKept ds → kept_items (items_outline ds) ≡ Some ds
+  items_back no_items t = refl
+  items_back (item d ds) t = rw (data_back d t.0, items_back ds t.1) refl
 
-  members_back : (ms found : Members) → members_have_float ms ≡ false → KeysDiffer (joined found ms)
-      → MembersAreKept ms → kept_members (members_outline ms) found ≡ Some (joined found ms)
-  members_back no_members found h up t = ap Some (sym (joined_none found))
-  members_back (member k d ms) found h up t =
-      let p = or_parts (has_float d) _ h in
+  members_back : (ms found : Members) → KeysDiffer (joined found ms) → MembersAreKept ms
+      → kept_members (members_outline ms) found ≡ Some (joined found ms)
+  members_back no_members found up t = ap Some (sym (joined_none found))
+  members_back (member k d ms) found up t =
       let last = put_last found k d ms up in
       let again = joined_again found k d ms in
-      rw (data_back d p.0 t.0, last)
-      (members_back ms (joined found (member k d no_members)) p.1 (subst KeysDiffer (sym again) up) t.1
+      rw (data_back d t.0, last)
+      (members_back ms (joined found (member k d no_members)) (subst KeysDiffer (sym again) up) t.1
       ∙ ap Some again)
 
 -- the tree that a text is, nested no deeper than n
 abbrev read_within : ℕ → List ℕ → Option Data
 read_within n text = option_and_then kept (option_and_then (λ p. json.if_last p.0 p.1) (json.value n (tokens text)))
 
-back_within : (n : ℕ) (d : Data) → has_float d ≡ false → IsKeptTree d → depth d ≤ n
-    → read_within n (compact_text d) ≡ Some d
-back_within n d h t shallow =
-    let printed = ap tokens (sym (print-outline d))
-    ∙ tokens-print (parsed.json_tokens (outline d)) (ArePrintable-json_tokens (outline d) (numbers d h t)) in
+back_within : (n : ℕ) (d : Data) → IsKeptTree d → depth d ≤ n → read_within n (text_of d) ≡ Some d
+back_within n d t shallow =
+    let printed = tokens-print (parsed.json_tokens (outline d)) (ArePrintable-json_tokens (outline d) (numbers d t)) in
     let value = ap (json.value n) (printed ∙ sym (append-nil (parsed.json_tokens (outline d))))
     ∙ value-json_tokens (outline d) n [] (omega (arith, same_depth d)) in
-    ap (λ o. option_and_then kept (option_and_then (λ p. json.if_last p.0 p.1) o)) value ∙ data_back d h t
+    ap (λ o. option_and_then kept (option_and_then (λ p. json.if_last p.0 p.1) o)) value ∙ data_back d t
 
-pub own_text : (t : Data) → has_float t ≡ false → IsKeptTree t → HasOwnTextInOrder t
-own_text d h t = record {
-  in_order = λ shallow. back_within max_depth d h t shallow;
-  sorted = λ shallow. read_forgotten (compact_text d)
-      ∙ ap (option_map unordered) (back_within max_depth d h t shallow);
-  one = λ e g s same.
-      let n = max (depth d) (depth e) in
-      un_some d e (sym (back_within n d h t (omega arith)) ∙ ap (read_within n) same
-      ∙ back_within n e g s (omega arith));
-}
+-- two trees, however deep, have one text only where they are equal
+one_text : (d e : Data) → IsKeptTree d → IsKeptTree e → text_of d ≡ text_of e → d ≡ e
+one_text d e t s same =
+    let n = max (depth d) (depth e) in
+    un_some d e (sym (back_within n d t (omega arith)) ∙ ap (read_within n) same ∙ back_within n e s (omega arith))
+
+pub own_text : (D : Doubles) (f : Form) (t : Data) → MayHaveFloat D f t → IsKeptTree t → HasOwnTextInOrder D f t
+own_text D f d h t =
+    let is = text_is D f d h in
+    let read = λ (shallow : depth d ≤ max_depth). back_within max_depth d t shallow in
+    record {
+      in_order = λ shallow. ap read_kept is ∙ read shallow;
+      sorted = λ shallow. read_forgotten (tree_text D f d) ∙ ap (option_map unordered) (ap read_kept is ∙ read shallow);
+      one = λ e g s same. one_text d e t s (sym is ∙ same ∙ text_is D f e g);
+    }

@@ -5,6 +5,7 @@ use Rattle.bson_wrapper.specs.Scalar.{Scalar, double}
 use Rattle.bson_wrapper.specs.Written.{WrittenScalarIn}
 use Rattle.bson_wrapper.specs.declared.form.Doubles.TheVariants.{Special, Finite}
 use Rattle.bson_wrapper.specs.declared.form.Form.{Form}
+use Rattle.bson_wrapper.specs.declared.form.Form.TheVariants.{Canonical}
 use Rattle.bson_wrapper.proofs.Offered.{in_each}
 use Rattle.bson_model.specs.Normal.{InRange, normal_form}
 use Rattle.bson_model.specs.Value.{Value, code_scope, Values, no_values, value, Pairs, no_pairs, pair}
@@ -39,23 +40,23 @@ mutual
 pub wider_text : (text : List ℕ) (v : Value) → HasMeaningInOrder Special text v → HasMeaningInOrder Finite text v
 wider_text text v m = text_means Finite text m.tree v m.tree_read (wider m.means)
 
-scalar_kept : (f : Form) (x : Scalar) (t : Data) → WrittenScalarIn Special f x t → WrittenScalarIn Finite f x t
-scalar_kept f (double p) t h = (h.0, inl h.1, h.2)
-scalar_kept f x t h = h
+scalar_kept : (x : Scalar) (t : Data) → WrittenScalarIn Special Canonical x t → WrittenScalarIn Finite Canonical x t
+scalar_kept (double p) t h = (h.0, inl h.1, h.2)
+scalar_kept x t h = h
 
 mutual
-  pub kept : (f : Form) (v : Value) (t : Data) → WrittenInOrder Special f v t → WrittenInOrder Finite f v t
-  kept f (model.scalar x) t h = scalar_kept f x t h
-  kept f (code_scope s ps) t h = (h.0, kept_pairs f ps h.0 h.1, h.2)
-  kept f (model.array vs) t h = (h.0, kept_items f vs h.0 h.1, h.2)
-  kept f (model.document ps) t h = (h.0, kept_pairs f ps h.0 h.1, h.2)
+  pub kept : (v : Value) (t : Data) → WrittenInOrder Special Canonical v t → WrittenInOrder Finite Canonical v t
+  kept (model.scalar x) t h = scalar_kept x t h
+  kept (code_scope s ps) t h = (h.0, kept_pairs ps h.0 h.1, h.2)
+  kept (model.array vs) t h = (h.0, kept_items vs h.0 h.1, h.2)
+  kept (model.document ps) t h = (h.0, kept_pairs ps h.0 h.1, h.2)
 
-  kept_items : (f : Form) (vs : Values) (ds : Items) → WrittenItemsInOrder Special f vs ds
-      → WrittenItemsInOrder Finite f vs ds
-  kept_items f no_values ds h = h
-  kept_items f (value v vs) ds h = (h.0, h.1, kept f v h.0 h.2, kept_items f vs h.1 h.3, h.4)
+  kept_items : (vs : Values) (ds : Items) → WrittenItemsInOrder Special Canonical vs ds
+      → WrittenItemsInOrder Finite Canonical vs ds
+  kept_items no_values ds h = h
+  kept_items (value v vs) ds h = (h.0, h.1, kept v h.0 h.2, kept_items vs h.1 h.3, h.4)
 
-  kept_pairs : (f : Form) (ps : Pairs) (ms : Members) → WrittenDocumentInOrder Special f ps ms
-      → WrittenDocumentInOrder Finite f ps ms
-  kept_pairs f no_pairs ms h = h
-  kept_pairs f (pair k v ps) ms h = (h.0, h.1, kept f v h.0 h.2, kept_pairs f ps h.1 h.3, h.4)
+  kept_pairs : (ps : Pairs) (ms : Members) → WrittenDocumentInOrder Special Canonical ps ms
+      → WrittenDocumentInOrder Finite Canonical ps ms
+  kept_pairs no_pairs ms h = h
+  kept_pairs (pair k v ps) ms h = (h.0, h.1, kept v h.0 h.2, kept_pairs ps h.1 h.3, h.4)

@@ -3,12 +3,15 @@ use Rattle.std.proofs.Common.{◌≡◌, ℕ, List, false, true, ◌||◌, refl,
 use Rattle.std.specs.Str.{bytes_eq}
 use Rattle.std.proofs.lemmas.Bool.{or_from}
 use Rattle.serde_json.specs.Data.{Data, Items, Members}
-use Rattle.serde_json.specs.Written.{has_float, items_have_float, members_have_float, compact_text}
+use Rattle.serde_json.specs.Written.{has_float, items_have_float, members_have_float}
+use Rattle.bson_wrapper.specs.TreeText.{MayHaveFloat, tree_text}
 use Rattle.bson_wrapper.specs.Normal.{normal_scalar, scalar_as_read}
 use Rattle.bson_wrapper.specs.Scalar.{Scalar}
 use Rattle.bson_wrapper.specs.Written.{writes_scalar_in}
 use Rattle.bson_wrapper.specs.declared.form.Doubles.{Doubles}
+use Rattle.bson_wrapper.specs.declared.form.Doubles.TheVariants.{Special, Finite}
 use Rattle.bson_wrapper.specs.declared.form.Form.{Form}
+use Rattle.bson_wrapper.specs.declared.form.Form.TheVariants.{Canonical, Relaxed}
 use Rattle.bson_wrapper.proofs.Offered as scalars
 use Rattle.bson_model.specs.Normal.{InRange, ItemsInRange, PairsInRange, normal_form, as_read, plain, map_scalars}
 use Rattle.bson_model.specs.Normal.{map_scalars_of_items, map_scalars_of_pairs}
@@ -60,26 +63,33 @@ module _ (D : Doubles) where
         subst (λ m. KeysDiffer m × MembersAreKept m) (sym h.4)
         ((same_keys f k ps h.1 h.3 ∙ a.0, is.0), (is_kept f v h.0 h.2 r.0 a.1, is.1))
 
+module _ (D : Doubles) (f : Form) (other : (D ≡ Finite) × (f ≡ Relaxed) → ⊥) where
   mutual
-    no_float : (f : Form) (v : Value) (t : Data) → WrittenInOrder D f (normal_form v) t → has_float t ≡ false
-    no_float f (scalar x) t h = scalars.scalar_no_float D f x t (scalars.written_to D f x t h)
-    no_float f (code_scope s ps) t h =
-        ap has_float h.2 ∙ or_from (members_have_float h.0) false (no_pairs_float f ps h.0 h.1) refl
-    no_float f (array vs) t h = ap has_float h.2 ∙ no_items_float f vs h.0 h.1
-    no_float f (document ps) t h = ap has_float h.2 ∙ no_pairs_float f ps h.0 h.1
+    no_float : (v : Value) (t : Data) → WrittenInOrder D f (normal_form v) t → has_float t ≡ false
+    no_float (scalar x) t h = scalars.scalar_no_float D f x t (scalars.written_to D f x t h) other
+    no_float (code_scope s ps) t h =
+        ap has_float h.2 ∙ or_from (members_have_float h.0) false (no_pairs_float ps h.0 h.1) refl
+    no_float (array vs) t h = ap has_float h.2 ∙ no_items_float vs h.0 h.1
+    no_float (document ps) t h = ap has_float h.2 ∙ no_pairs_float ps h.0 h.1
 
-    no_items_float : (f : Form) (vs : Values) (ds : Items)
+    no_items_float : (vs : Values) (ds : Items)
         → WrittenItemsInOrder D f (map_scalars_of_items normal_scalar vs) ds → items_have_float ds ≡ false
-    no_items_float f no_values ds h = ap items_have_float h
-    no_items_float f (value v vs) ds h = ap items_have_float h.4
-        ∙ or_from (has_float h.0) (items_have_float h.1) (no_float f v h.0 h.2) (no_items_float f vs h.1 h.3)
+    no_items_float no_values ds h = ap items_have_float h
+    no_items_float (value v vs) ds h = ap items_have_float h.4
+        ∙ or_from (has_float h.0) (items_have_float h.1) (no_float v h.0 h.2) (no_items_float vs h.1 h.3)
 
-    no_pairs_float : (f : Form) (ps : Pairs) (ms : Members)
+    no_pairs_float : (ps : Pairs) (ms : Members)
         → WrittenDocumentInOrder D f (map_scalars_of_pairs normal_scalar ps) ms → members_have_float ms ≡ false
-    no_pairs_float f no_pairs ms h = ap members_have_float h
-    no_pairs_float f (pair k v ps) ms h = ap members_have_float h.4
-        ∙ or_from (has_float h.0) (members_have_float h.1) (no_float f v h.0 h.2) (no_pairs_float f ps h.1 h.3)
+    no_pairs_float no_pairs ms h = ap members_have_float h
+    no_pairs_float (pair k v ps) ms h = ap members_have_float h.4
+        ∙ or_from (has_float h.0) (members_have_float h.1) (no_float v h.0 h.2) (no_pairs_float ps h.1 h.3)
 
+may_have_float : (D : Doubles) (f : Form) (v : Value) (t : Data) → WrittenInOrder D f (normal_form v) t → MayHaveFloat D f t
+may_have_float Special f v t h = no_float Special f (λ e. let never = e.0 in cc) v t h
+may_have_float Finite Canonical v t h = no_float Finite Canonical (λ e. let never = e.1 in cc) v t h
+may_have_float Finite Relaxed v t h = tt
+
+module _ (D : Doubles) where
   -- ---- the normal form, settled, has the same ordered tree
 
   mutual
@@ -116,12 +126,12 @@ module _ (D : Doubles) where
   equal_texts : (f : Form) (v : Value) (t : Data) (w : Value) (u : Data) → WrittenInOrder D f (normal_form v) t
       → plain v ≡ true → InRange v → AllDistinct v → HasEqualTextsInOrder D f v t w u
   equal_texts f v t w u h p r a q s b g =
-      let kept_t = is_kept f v t h r a in
-      let kept_u = is_kept f w u g s b in (
-        λ e. let one = (own_text t (no_float f v t h) kept_t).one u (no_float f w u g) kept_u e in
+      let kept_t = is_kept D f v t h r a in
+      let kept_u = is_kept D f w u g s b in (
+        λ e. let one = (own_text D f t (may_have_float D f v t h) kept_t).one u (may_have_float D f w u g) kept_u e in
             one_in_order D t _ _ kept_t (back_as_read D f v t h p r)
             (subst (λ d. MeansInOrder D d (as_read f (normal_form w))) (sym one) (back_as_read D f w u g q s)),
-        λ e. ap compact_text (un_ok _ _ (sym (written_to D f w u g) ∙ sym (as_read_written f w)
+        λ e. ap (tree_text D f) (un_ok _ _ (sym (written_to D f w u g) ∙ sym (as_read_written f w)
             ∙ ap (writes_in_order D f) (sym e) ∙ as_read_written f v ∙ written_to D f v t h)),
       )
 
@@ -131,7 +141,7 @@ module _ (D : Doubles) where
     written = h;
     one = λ u g. one_written D f v t u h g;
     means = back_as_read D f v t h p r;
-    own_text = own_text t (no_float f v t h) (is_kept f v t h r a);
+    own_text = own_text D f t (may_have_float D f v t h) (is_kept D f v t h r a);
     by_default = default_written D f v t h r;
     equal = λ w u. equal_texts f v t w u h p r a;
   }

@@ -1,8 +1,8 @@
 -- Texts in order: what one means, and what that of a value is.
-use Rattle.std.specs.Prelude.{◌≡◌, ◌≤◌, ◌↔◌, ℕ, List, true, false, Some}
+use Rattle.std.specs.Prelude.{◌≡◌, ◌≤◌, ◌↔◌, ℕ, List, true, Some}
 use Rattle.serde_json.specs.Data.{Data, depth}
 use Rattle.serde_json.specs.Read.{read, max_depth}
-use Rattle.serde_json.specs.Written.{has_float, compact_text}
+use Rattle.bson_wrapper.specs.TreeText.{MayHaveFloat, tree_text}
 use Rattle.bson_wrapper.specs.declared.form.Doubles.{Doubles}
 use Rattle.bson_wrapper.specs.declared.form.Form.{Form}
 use Rattle.bson_model.specs.Laws.{HasMeaningIn, IsReadFormIn}
@@ -19,10 +19,10 @@ use Rattle.bson_order.specs.Written.{WrittenInOrder}
 
 -- the compact text of the tree is read as it again, in its order, and by `serde_json` as the tree with its order
 -- forgotten, unless it nests deeper than texts may; and no other tree, whatever its order, has the text
-pub record HasOwnTextInOrder (t : Data) : Type 0 where
-  pub in_order : depth t ≤ max_depth → read_kept (compact_text t) ≡ Some t
-  pub sorted : depth t ≤ max_depth → read (compact_text t) ≡ Some (unordered t)
-  pub one : (u : Data) → has_float u ≡ false → IsKeptTree u → compact_text t ≡ compact_text u → t ≡ u
+pub record HasOwnTextInOrder (D : Doubles) (f : Form) (t : Data) : Type 0 where
+  pub in_order : depth t ≤ max_depth → read_kept (tree_text D f t) ≡ Some t
+  pub sorted : depth t ≤ max_depth → read (tree_text D f t) ≡ Some (unordered t)
+  pub one : (u : Data) → MayHaveFloat D f u → IsKeptTree u → tree_text D f t ≡ tree_text D f u → t ≡ u
 
 -- ---- reading
 
@@ -48,7 +48,7 @@ pub record HasMeaningInOrder (D : Doubles) (text : List ℕ) (v : Value) : Type 
 -- the tree u of another value w
 abbrev pub HasEqualTextsInOrder : Doubles → Form → Value → Data → Value → Data → Type 0
 HasEqualTextsInOrder D f v t w u = plain w ≡ true → InRange w → AllDistinct w → WrittenInOrder D f (normal_form w) u
-    → ((compact_text t ≡ compact_text u) ↔ (as_read f (normal_form v) ≡ as_read f (normal_form w)))
+    → ((tree_text D f t ≡ tree_text D f u) ↔ (as_read f (normal_form v) ≡ as_read f (normal_form w)))
 
 -- what the tree t of the plain value v in the form f, in the value's order, and its compact text, are
 pub record IsOrderedTextOf (D : Doubles) (f : Form) (v : Value) (t : Data) : Type 0 where
@@ -57,7 +57,7 @@ pub record IsOrderedTextOf (D : Doubles) (f : Form) (v : Value) (t : Data) : Typ
   -- it means the very value in normal form, the order of its pairs included
   pub means : MeansInOrder D t (as_read f (normal_form v))
   -- and is read from the text again
-  pub own_text : HasOwnTextInOrder t
+  pub own_text : HasOwnTextInOrder D f t
   -- with the order forgotten it is the tree that is written by default
   pub by_default : WrittenIn D f (normal_form v) (unordered t)
   -- of another value it is the text just if the normal forms are equal, the order of their pairs included

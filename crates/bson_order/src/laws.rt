@@ -3,10 +3,11 @@ ghost use Rattle.std.specs.Prelude.{◌≡◌, ◌↔◌, ℕ, List, true, false
 ghost use Rattle.json.specs.Json as json;
 ghost use Rattle.serde_json.specs.Data.{Data, Members};
 ghost use Rattle.serde_json.specs.Read.{read};
-ghost use Rattle.serde_json.specs.Written.{has_float};
+ghost use Rattle.bson_wrapper.specs.TreeText.{MayHaveFloat};
 ghost use Rattle.bson_wrapper.specs.declared.form.Doubles.{Doubles};
 ghost use Rattle.bson_wrapper.specs.declared.form.Doubles.TheVariants.{Special, Finite};
 ghost use Rattle.bson_wrapper.specs.declared.form.Form.{Form};
+ghost use Rattle.bson_wrapper.specs.declared.form.Form.TheVariants.{Canonical};
 ghost use Rattle.bson_model.specs.Means.{MeansIn};
 ghost use Rattle.bson_model.specs.Normal.{InRange, normal_form, plain, writable_in};
 ghost use Rattle.bson_model.specs.Sorted.{sorted};
@@ -39,10 +40,12 @@ pub fn texts_have_kept_trees()
     ensures { (text : List ℕ) (t : Data) → read_kept text ≡ Some t → IsKeptTree t }
 {}
 
-/// The compact text of a tree with no float, whatever the order of its keys, is read as that tree
-/// again, order included, unless it nests deeper than texts may; and no other such tree has it.
+/// The text that a mode of doubles and a form give a tree, whatever the order of its keys, is read as
+/// that tree again, order included, unless it nests deeper than texts may; and no other such tree has
+/// it. But in the relaxed form of the mode `Finite`, which has the shortest decimal of each of its
+/// floats, the tree has no float.
 pub fn kept_texts_read_back()
-    ensures { (t : Data) → has_float t ≡ false → IsKeptTree t → HasOwnTextInOrder t }
+    ensures { (D : Doubles) (f : Form) (t : Data) → MayHaveFloat D f t → IsKeptTree t → HasOwnTextInOrder D f t }
 {}
 
 /// A tree with each key once means at most one value in order.
@@ -123,10 +126,11 @@ pub fn every_value_has_ordered_tree()
 {}
 
 /// Where finite doubles are read and written a tree or a text means in order what it means without
-/// them, and a value that has a tree in its own order without them has that tree.
+/// them, and a value that has a canonical tree in its own order without them has that tree.
 pub fn finite_is_wider_in_order()
     ensures means { (t : Data) (v : Value) → MeansInOrder Special t v → MeansInOrder Finite t v }
     ensures texts { (text : List ℕ) (v : Value) → HasMeaningInOrder Special text v
         → HasMeaningInOrder Finite text v }
-    ensures written { (f : Form) (v : Value) (t : Data) → WrittenInOrder Special f v t → WrittenInOrder Finite f v t }
+    ensures written { (v : Value) (t : Data) → WrittenInOrder Special Canonical v t
+        → WrittenInOrder Finite Canonical v t }
 {}
