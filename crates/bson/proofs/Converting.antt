@@ -9,8 +9,7 @@ use Rattle.json.specs.Tree.{items_tokens}
 use Rattle.std.specs.Prelude.{is_ok, option_and_then}
 use Rattle.serde_json.specs.Data.{Data, Items, no_items, item, array}
 use Rattle.serde_json.specs.Read.{of_json, of_items, converted}
-use Rattle.serde_json.specs.Written.{compact_text, items_outline}
-use Rattle.serde_json.proofs.Texts.{print-outline}
+use Rattle.bson_wrapper.specs.TreeText.{items_outline, text_of}
 use Rattle.bson_wrapper.specs.Faults.{◌>>=◌}
 use Rattle.bson_wrapper.specs.Written as writing
 use Rattle.bson_wrapper.specs.Written.{Stops}
@@ -18,13 +17,13 @@ use Rattle.bson_wrapper.specs.declared.form.Doubles.{Doubles}
 use Rattle.bson_wrapper.specs.declared.form.Form.{Form}
 use Rattle.bson_wrapper.specs.declared.write_error.WriteError.{WriteError}
 use Rattle.bson_wrapper.specs.declared.write_error.WriteError.TheVariants.{FiniteDouble}
-use Rattle.bson_wrapper.proofs.Offered.{in_turn}
+use Rattle.bson_wrapper.proofs.Offered.{in_turn, text_is}
 use Rattle.bson_model.specs.Normal.{InRange, ItemsInRange, writable_in}
 use Rattle.bson_model.specs.Reading.{reads_in, reads_items_in}
 use Rattle.bson_model.specs.Value as model
 use Rattle.bson_model.specs.Value.{Value, Values, no_values}
 use Rattle.bson_model.specs.Writing.{writes_in, writes_items_in}
-use Rattle.bson_model.proofs.Offered.{writable_is_in, tree_is_in, has_text_in}
+use Rattle.bson_model.proofs.Offered.{writable_is_in, tree_is_in, has_text_in, may_have_float}
 use Rattle.bson.specs.Converted.{ItemsConverted, TreeConverted, TextConverted}
 use Rattle.bson.specs.Straight.{TextMeans, TreeMeans, Reads}
 use Rattle.bson.specs.Texts.{IsPrinted, IsTextUnder, tokens_of}
@@ -131,13 +130,13 @@ text_read D text v rest m last =
     (m.0, last_read (value 127 (tokens text)) m.0 (m.1 ∙ ap (λ l. Some (m.0, l)) last), m.2)
 
 pub text_written : (D : Doubles) (f : Form) (v : Value) (t : Data) (s : List ℕ) → writes_in D f v ≡ Ok t → InRange v
-    → s ≡ compact_text t
+    → s ≡ text_of t
     → IsTextUnder D f v s
 text_written D f v t s written ranged is = record {
   tree = t;
   is_tree = tree_is_in D f v t written ranged;
   reads_again = λ plain. has_text_in D f v t written plain ranged;
-  compact = is;
+  compact = is ∙ sym (text_is D f t (may_have_float D f v t written));
 }
 
 pub text_converted : (D : Doubles) (f : Form) (text s : List ℕ) (rest old new : List Token)
@@ -145,5 +144,5 @@ pub text_converted : (D : Doubles) (f : Form) (text s : List ℕ) (rest old new 
     → s ≡ print new → TextConverted D f text s
 text_converted D f text s rest old new p last none is =
     let tree = p.2 in
-    let all = is ∙ ap print (tree.2 ∙ ap (λ l. l ++ tokens_of tree.0) none) ∙ print-outline tree.0 in
+    let all = is ∙ ap print (tree.2 ∙ ap (λ l. l ++ tokens_of tree.0) none) in
     (p.0, text_read D text p.0 rest p.1 last, text_written D f p.0 tree.0 s tree.1 tree.3 all)

@@ -9,7 +9,7 @@ use Rattle.json.specs.Token.{Token, begin_object, end_object, key}
 use Rattle.json.specs.Tree.{members_tokens}
 use Rattle.serde_json.specs.Data.{Members, no_members, object, put}
 use Rattle.serde_json.specs.Read.{of_json, of_members, converted}
-use Rattle.serde_json.specs.Written.{members_outline}
+use Rattle.bson_wrapper.specs.TreeText.{members_outline}
 use Rattle.bson_wrapper.specs.Table.{wrapper_of, has_wrapper}
 use Rattle.bson_wrapper.specs.Written.{◌>>=◌}
 use Rattle.bson_wrapper.specs.declared.form.Doubles.{Doubles}

@@ -7,6 +7,7 @@ use Rattle.bson_wrapper.specs.declared.form.Doubles.{Doubles}
 use Rattle.bson_wrapper.specs.declared.form.Form.{Form}
 use Rattle.bson_wrapper.specs.declared.write_error.WriteError.{WriteError}
 use Rattle.bson_wrapper.specs.declared.write_error.WriteError.TheVariants.{FiniteDouble, OutOfMemory}
+use Rattle.bson_wrapper.proofs.Offered.{text_is}
 use Rattle.bson_model.specs.Laws.{IsTreeOfIn}
 use Rattle.bson_model.specs.Normal.{writable_in, normal_form, InRange}
 use Rattle.bson_model.specs.Value.{Value}
@@ -15,7 +16,8 @@ use Rattle.bson_model.proofs.Offered.{tree_is_in, writable_is_in}
 use Rattle.bson_order.specs.Distinct.{AllDistinct}
 use Rattle.bson_order.specs.Kept.{unordered}
 use Rattle.bson_order.specs.Written.{WrittenInOrder}
-use Rattle.bson_order.proofs.Offered.{default_written, one_written, ordered_text, written_from, writable_is}
+use Rattle.bson_order.proofs.Offered.{default_written, may_have_float, one_written, ordered_text, written_from}
+use Rattle.bson_order.proofs.Offered.{writable_is}
 use Rattle.bson.specs.KeyOrders.{writes_by}
 use Rattle.bson.specs.Texts.{GivesText, IsTextInOrder}
 use Rattle.bson.specs.declared.extjson.key_order.KeyOrder.TheVariants.{AsGiven}
@@ -48,7 +50,7 @@ module _ (D : Doubles) (f : Form) (v : Value) where
         one = λ u other. one_written D f v g.0 u h other;
         ordered = λ plain. ordered_text D f v g.0 h plain ranged distinct;
         by_default = default_tree g.0 h (is_writable g.0 g.1) ranged;
-        compact = g.2;
+        compact = g.2 ∙ sym (text_is D f g.0 (may_have_float D f v g.0 h));
       }
   ordered_is (Err e) g ranged distinct = tt
 

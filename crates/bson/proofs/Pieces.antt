@@ -7,21 +7,25 @@ use Rattle.std.proofs.lemmas.Cmp.{nat_list_cmp_total}
 use Rattle.std.proofs.lemmas.List.{drop-append-le, take-append-le, length-append, length-drop}
 use Rattle.std.proofs.lemmas.List.Elements.{All-nil, All-head, All-tail, All-push, All-weaker}
 use Rattle.std.proofs.lemmas.List.Sorted.{All-permutation}
+use Rattle.std.proofs.lemmas.List.Sums.{fold-append}
 use Rattle.std.proofs.lemmas.Str.{IsUtf8-from_ascii, IsUtf8-nil}
 use Rattle.std.proofs.Math.Seq.{drop-append_seam, take-length}
-use Rattle.std.specs.Prelude.{is_some, IfSome, IfOk}
+use Rattle.std.specs.Prelude.{is_some, IfSome, IfOk, fold}
 use Rattle.std.specs.Cmp.Lexicographic.{slice_cmp}
 use Rattle.std.specs.List.{All}
 use Rattle.std.specs.Str.{IsUtf8}
 use Rattle.json.specs.Json.{read_key, members, value, parse_map}
 use Rattle.json.specs.Lex.{tokens}
-use Rattle.json.specs.Print.{quoted, print, print_from}
+use Rattle.json.specs.Json as json
+use Rattle.json.specs.Json.{Json}
+use Rattle.json.specs.Print.{quoted, print, print_from, ends}
+use Rattle.json.specs.Tree.{json_tokens, items_tokens, members_tokens}
 use Rattle.json.specs.Token.{Token, begin_object, key}
 use Rattle.serde_json.specs.Data.{Data, Members, no_members, member, object, put}
 use Rattle.serde_json.specs.Read.{of_json, of_members, converted}
 use Rattle.serde_json.specs.Written as written
-use Rattle.serde_json.specs.Written.{compact_text}
-use Rattle.serde_json.proofs.Texts.{print-outline}
+use Rattle.bson_wrapper.specs.TreeText.{outline, members_outline, text_of}
+use Rattle.json.proofs.Printed.Tokens.{print_from-append}
 use Rattle.bson_wrapper.specs.Table.{wrapper_of, has_wrapper}
 use Rattle.bson_wrapper.specs.Written.{◌>>=◌}
 use Rattle.bson_wrapper.specs.declared.form.Doubles.{Doubles}
@@ -58,10 +62,10 @@ ok_more P Q more (Err e) h = h
 
 -- ---- the text of one member
 
-pub member_printed : (k : List ℕ) (t : Data) → print (key k ∷ tokens_of t) ≡ quoted k ++ 58 ∷ compact_text t
+pub member_printed : (k : List ℕ) (t : Data) → print (key k ∷ tokens_of t) ≡ quoted k ++ 58 ∷ text_of t
 unfolding print_from
 member_printed k t =
-    append_assoc (quoted k) (58 ∷ []) (print (tokens_of t)) ∙ ap (λ s. quoted k ++ 58 ∷ s) (print-outline t)
+    append_assoc (quoted k) (58 ∷ []) (text_of t)
 
 -- ---- texts behind others
 
@@ -87,7 +91,7 @@ last_piece : (D : Doubles) (f : Form) (k : List ℕ) (v : Value) (old new s : Li
 last_piece D f k v old new s values p is key_is start end here text utf8 =
     let long = ap length is ∙ length-append old s in
     let same = last_text old new s p is start end in
-    let some : 0 < length s = omega (arith, ap length text.3, length-append (quoted k) (58 ∷ compact_text text.0)) in (
+    let some : 0 < length s = omega (arith, ap length text.3, length-append (quoted k) (58 ∷ text_of text.0)) in (
       (omega (arith, start, end, long, some), omega (arith, end), subst IsUtf8 (sym same) utf8),
       subst (λ l. IsMemberText D f l (values p.start) (piece_text new p)) (sym key_is)
           (subst (λ w. IsMemberText D f k w (piece_text new p)) (sym here)
@@ -236,26 +240,82 @@ ascending_pairs values last (p ∷ ps) up =
     least_after values k [] up = tt
     least_after values k (p ∷ ps) up = (up.0, least_of values k (piece_key p) ps up.0 up.1)
 
+-- what stands behind a tree is printed as behind a value
+mutual
+  ends_json : (j : Json) (c : Bool) → fold (λ _ u. ends u) c (json_tokens j) ≡ true
+  ends_json json.null c = refl
+  ends_json (json.boolean b) c = refl
+  ends_json (json.number s) c = refl
+  ends_json (json.string s) c = refl
+  ends_json (json.array js) c = ends_items js false
+  ends_json (json.object ms) c = ends_members ms false
+
+  ends_items : (js : json.Items) (c : Bool) → fold (λ _ u. ends u) c (items_tokens js) ≡ true
+  ends_items json.no_items c = refl
+  ends_items (json.item j js) c = fold-append (λ _ u. ends u) c (json_tokens j) (items_tokens js) ∙ ends_items js _
+
+  ends_members : (ms : json.Members) (c : Bool) → fold (λ _ u. ends u) c (members_tokens ms) ≡ true
+  ends_members json.no_members c = refl
+  ends_members (json.member k j ms) c =
+      fold-append (λ _ u. ends u) false (json_tokens j) (members_tokens ms) ∙ ends_members ms _
+
+printed_then : (t : Data) (ts : List Token) → print_from false (tokens_of t ++ ts) ≡ text_of t ++ print_from true ts
+printed_then t ts =
+    print_from-append false (tokens_of t) ts
+    ∙ ap (λ b. text_of t ++ print_from b ts) (ends_json (outline t) false)
+
+-- the text of members, after another or at first, with the closing brace
+printed_members : Bool → Members → List ℕ
+printed_members behind ms = print_from behind (members_tokens (members_outline ms))
+
+no_more : (behind : Bool) → printed_members behind no_members ≡ 125 ∷ []
+unfolding printed_members print_from
+no_more true = refl
+no_more false = refl
+
+one_more : (behind : Bool) (k : List ℕ) (t : Data) (ms : Members)
+    → written.comma_if behind ++ ((quoted k ++ 58 ∷ text_of t) ++ printed_members true ms)
+    ≡ printed_members behind (member k t ms)
+unfolding printed_members
+one_more behind k t ms =
+    let rest = members_tokens (members_outline ms) in
+    let text = text_of t ++ print_from true rest in
+    ap (λ l. written.comma_if behind ++ l)
+    (append_assoc (quoted k) (58 ∷ text_of t) (print_from true rest)
+    ∙ sym (append_assoc (quoted k) (58 ∷ []) text)
+    ∙ ap (λ l. (quoted k ++ 58 ∷ []) ++ l) (sym (printed_then t rest)))
+    ∙ key_printed behind
+  where
+    key_printed : (b : Bool)
+        → written.comma_if b ++ ((quoted k ++ 58 ∷ []) ++ print_from false (tokens_of t ++ members_tokens (members_outline ms)))
+        ≡ print_from b (key k ∷ (tokens_of t ++ members_tokens (members_outline ms)))
+    unfolding print_from
+    key_printed true = refl
+    key_printed false = refl
+
+object_printed : (ms : Members) → 123 ∷ printed_members false ms ≡ text_of (object ms)
+unfolding printed_members print_from
+object_printed ms = refl
+
 -- the texts of members are the text of their trees
 pieces_written : (D : Doubles) (f : Form) (texts : List ℕ) (values : Values) (behind : Bool) (ps : List Piece)
     → All (IsPiece D f texts values) ps
     → (ms : Members) × (writes_in_turn (writes_in D f) (pairs_of piece_key (value_at values) ps) ≡ Ok ms)
-    × (members_text texts behind ps ≡ written.members_text behind ms)
+    × (members_text texts behind ps ≡ printed_members behind ms)
     × PairsInRange (pairs_of piece_key (value_at values) ps)
-pieces_written D f texts values behind [] h = (no_members, refl, refl, tt)
+pieces_written D f texts values behind [] h = (no_members, refl, sym (no_more behind), tt)
 pieces_written D f texts values behind (p ∷ ps) h =
     let text = (All-head (IsPiece D f texts values) p ps h).1 in
     let more = pieces_written D f texts values true ps (All-tail (IsPiece D f texts values) p ps h) in
     let k = piece_key p in
-    let one = quoted k ++ 58 ∷ compact_text text.0 in
+    let one = quoted k ++ 58 ∷ text_of text.0 in
     let comma = written.comma_if behind in (
       member k text.0 more.0,
       ap (λ q. q >>= λ d. writes_in_turn (writes_in D f) (pairs_of piece_key (value_at values) ps) >>= λ ms. Ok (member k d ms))
           text.1 ∙ ap (λ q. q >>= λ ms. Ok (member k text.0 ms)) more.1,
       ap (λ l. comma ++ (l ++ members_text texts true ps)) text.3
           ∙ ap (λ l. comma ++ (one ++ l)) more.2
-          ∙ ap (λ l. comma ++ l)
-          (append_assoc (quoted k) (58 ∷ compact_text text.0) (written.members_text true more.0)),
+          ∙ one_more behind k text.0 more.0,
       (text.2, more.3),
     )
 
@@ -281,5 +341,5 @@ text_by_key D f text done r found opened o order =
       text_read D text (document pairs) [] (object trees, tree, read) refl,
       text_written D f (document pairs) (object w.0) done
           (ap (λ q. q >>= λ ms. Ok (object ms)) (sym (written_in_order D f pairs up) ∙ w.1)) w.3
-          (order.4 ∙ ap (λ l. 123 ∷ l) w.2),
+          (order.4 ∙ ap (λ l. 123 ∷ l) w.2 ∙ object_printed w.0),
     )

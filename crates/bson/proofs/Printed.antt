@@ -11,7 +11,7 @@ use Rattle.std.specs.Str.{bytes_eq}
 use Rattle.json.specs.Token.{Token, end_object, key}
 use Rattle.json.specs.Tree.{items_tokens, members_tokens}
 use Rattle.serde_json.specs.Data.{Data, object, Items, item, Members, member, put}
-use Rattle.serde_json.specs.Written.{items_outline, members_outline}
+use Rattle.bson_wrapper.specs.TreeText.{items_outline, members_outline}
 use Rattle.bson_wrapper.proofs.Offered.{in_turn}
 use Rattle.bson_wrapper.specs.Written.{Refusal, finite, ◌>>=◌, Stops}
 use Rattle.bson_wrapper.specs.declared.form.Doubles.{Doubles}

@@ -7,8 +7,9 @@ use Rattle.std.specs.Str.{IsUtf8}
 use Rattle.json.specs.Print.{quoted}
 use Rattle.json.specs.Token.{Token}
 use Rattle.serde_json.specs.Data.{Data, Members}
-use Rattle.serde_json.specs.Written.{comma_if, compact_text}
+use Rattle.serde_json.specs.Written.{comma_if}
 use Rattle.bson_wrapper.specs.Table.{has_wrapper}
+use Rattle.bson_wrapper.specs.TreeText.{text_of}
 use Rattle.bson_wrapper.specs.declared.form.Doubles.{Doubles}
 use Rattle.bson_wrapper.specs.declared.form.Form.{Form}
 use Rattle.bson_model.specs.Normal.{InRange}
@@ -57,7 +58,7 @@ InOrder pieces texts written =
 -- the text of a member of this key and value
 abbrev pub IsMemberText : Doubles → Form → List ℕ → Value → List ℕ → Type 0
 IsMemberText D f k v s =
-    (t : Data) × (writes_in D f v ≡ Ok t) × InRange v × (s ≡ quoted k ++ 58 ∷ compact_text t)
+    (t : Data) × (writes_in D f v ≡ Ok t) × InRange v × (s ≡ quoted k ++ 58 ∷ text_of t)
 
 -- a tree was read, of which these tokens are left, and the text of the member is behind the old texts
 abbrev pub IsTextAdded : Doubles → Form → List ℕ → Option (Data × List Token) → List Token → List ℕ → List ℕ → Type 0

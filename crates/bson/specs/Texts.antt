@@ -5,8 +5,8 @@ use Rattle.std.specs.declared.alloc.Global.{Global}
 use Rattle.std.specs.declared.cmp.Ordering.TheVariants.{Less}
 use Rattle.json.specs.Token.{Token}
 use Rattle.serde_json.specs.Data.{Data, Members, no_members, member}
-use Rattle.serde_json.specs.Written.{compact_text}
 pub use Rattle.bson_wrapper.specs.Tokens.{tokens_of, code_tokens}
+use Rattle.bson_wrapper.specs.TreeText.{text_of, tree_text}
 use Rattle.bson_wrapper.specs.Written.{Refusal, Stops, ◌>>=◌}
 use Rattle.bson_wrapper.specs.declared.form.Doubles.{Doubles}
 use Rattle.bson_wrapper.specs.declared.form.Doubles.TheVariants.{Special, Finite}
@@ -28,7 +28,7 @@ pub record IsTextUnder (D : Doubles) (f : Form) (v : Value) (text : List ℕ) : 
   pub tree : Data
   pub is_tree : IsTreeOfIn D f v tree
   pub reads_again : ReadsAgainIn D f v tree
-  pub compact : text ≡ compact_text tree
+  pub compact : text ≡ tree_text D f tree
 
 abbrev pub IsTextIn : Form → Value → List ℕ → Type 0
 IsTextIn = IsTextUnder Special
@@ -43,7 +43,7 @@ pub record IsTextInOrder (D : Doubles) (f : Form) (v : Value) (text : List ℕ) 
   pub ordered : plain v ≡ true → IsOrderedTextOf D f v tree
   -- with the order forgotten it is the tree that is written by default
   pub by_default : IsTreeOfIn D f v (unordered tree)
-  pub compact : text ≡ compact_text tree
+  pub compact : text ≡ tree_text D f tree
 
 -- ---- for private clauses
 
@@ -56,7 +56,7 @@ module _ {X : Type 0} where
 
 -- the same of a whole text
 abbrev pub GivesText : Result (String Global) WriteError → Result Data Refusal → Type 0
-GivesText (Ok s) written = (t : Data) × (written ≡ Ok t) × (string_bytes s ≡ compact_text t)
+GivesText (Ok s) written = (t : Data) × (written ≡ Ok t) × (string_bytes s ≡ text_of t)
 GivesText (Err e) written = Stops e written
 
 -- why a value is not written: where finite doubles are, for want of memory alone

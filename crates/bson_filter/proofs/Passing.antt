@@ -17,15 +17,15 @@ use Rattle.json.proofs.Grammar.{items_end, items_more, value_is, value-begin_arr
 use Rattle.json.proofs.Grammar.{value-begin_object}
 use Rattle.serde_json.specs.Data.{Data, array, object, number, Items, no_items, item, Members, no_members, member}
 use Rattle.serde_json.specs.Read.{converted, number_of}
-use Rattle.serde_json.specs.Written.{items_outline, members_outline}
-use Rattle.serde_json.proofs.Texts.{print-outline}
+use Rattle.bson_wrapper.specs.TreeText.{items_outline, members_outline}
 use Rattle.bson_wrapper.specs.Table.{wrapper_of, has_wrapper}
 use Rattle.bson_wrapper.specs.Tokens.{tokens_of}
 use Rattle.bson_wrapper.specs.declared.form.Doubles.{Doubles}
 use Rattle.bson_wrapper.specs.declared.form.Form.{Form}
 use Rattle.bson_model.specs.Value as model
 use Rattle.bson_order.specs.Kept.{kept, kept_items}
-use Rattle.bson_order.proofs.Offered.{means_from, text_means, written_from, ordered_text}
+use Rattle.bson_wrapper.proofs.Offered.{text_is}
+use Rattle.bson_order.proofs.Offered.{may_have_float, means_from, text_means, written_from, ordered_text}
 use Rattle.bson_tokens.proofs.Offered.{was_read}
 use Rattle.bson_filter.specs.Filtered.{IsFilteredText, ItemsBecome, MembersBecome, TreePasses, ItemsPass}
 use Rattle.bson_filter.specs.Filtered.{MembersPass, ObjectPasses, NumberPasses}
@@ -236,5 +236,6 @@ module _ (D : Doubles) (f : Form) where
         tree = u;
         is_tree = ordered_text D f v u (written_from D f v u becomes.2) meaning.read_form.0 meaning.ranged
             meaning.distinct;
-        compact = all ∙ ap print (is ∙ ap (λ l. l ++ tokens_of u) none) ∙ print-outline u;
+        compact = all ∙ ap print (is ∙ ap (λ l. l ++ tokens_of u) none)
+            ∙ sym (text_is D f u (may_have_float D f v u (written_from D f v u becomes.2)));
       }

@@ -6,11 +6,11 @@ use Rattle.json.specs.Json.{value, members, members_step, read_key}
 use Rattle.json.specs.Token.{Token, end_object}
 use Rattle.serde_json.specs.Data.{Data, Num, number, Items, array, Members, no_members, object}
 use Rattle.serde_json.specs.Read.{converted}
-use Rattle.serde_json.specs.Written.{compact_text}
 use Rattle.bson_wrapper.specs.Reading.{single_at_in}
 use Rattle.bson_wrapper.specs.Scalar.{Scalar}
 use Rattle.bson_wrapper.specs.Table.{wrapper_of, has_wrapper}
 use Rattle.bson_wrapper.specs.Tokens.{tokens_of}
+use Rattle.bson_wrapper.specs.TreeText.{tree_text}
 use Rattle.bson_wrapper.specs.Written.{writes_scalar_in}
 use Rattle.bson_wrapper.specs.declared.form.Doubles.{Doubles}
 use Rattle.bson_wrapper.specs.declared.form.Form.{Form}
@@ -27,7 +27,7 @@ pub record IsFilteredText (D : Doubles) (f : Form) (text written : List ℕ) : T
   pub meaning : HasMeaningInOrder D text value
   pub tree : Data
   pub is_tree : IsOrderedTextOf D f value tree
-  pub compact : written ≡ compact_text tree
+  pub compact : written ≡ tree_text D f tree
 
 -- ---- for private clauses
 

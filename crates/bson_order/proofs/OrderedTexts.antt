@@ -84,7 +84,7 @@ module _ (D : Doubles) (f : Form) (other : (D ≡ Finite) × (f ≡ Relaxed) →
     no_pairs_float (pair k v ps) ms h = ap members_have_float h.4
         ∙ or_from (has_float h.0) (members_have_float h.1) (no_float v h.0 h.2) (no_pairs_float ps h.1 h.3)
 
-may_have_float : (D : Doubles) (f : Form) (v : Value) (t : Data) → WrittenInOrder D f (normal_form v) t → MayHaveFloat D f t
+pub may_have_float : (D : Doubles) (f : Form) (v : Value) (t : Data) → WrittenInOrder D f (normal_form v) t → MayHaveFloat D f t
 may_have_float Special f v t h = no_float Special f (λ e. let never = e.0 in cc) v t h
 may_have_float Finite Canonical v t h = no_float Finite Canonical (λ e. let never = e.1 in cc) v t h
 may_have_float Finite Relaxed v t h = tt

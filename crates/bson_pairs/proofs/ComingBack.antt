@@ -1,6 +1,6 @@
 -- A document comes back from its canonical text in order, and from its bytes.
 use Rattle.std.proofs.Common.{◌≡◌, ℕ, suc, List, Some, refl, sym, ap, ap₂, subst, ◌∙◌}
-use Rattle.serde_json.specs.Written.{compact_text}
+use Rattle.bson_wrapper.specs.TreeText.{tree_text}
 use Rattle.bson.specs.Doubles.{Doubles}
 use Rattle.bson.specs.Doubles.TheVariants.{Finite}
 use Rattle.bson.specs.Form.{Form}
@@ -68,7 +68,7 @@ written_again ps back =
 -- a value has one text in its own order
 pub text_one : (D : Doubles) (f : Form) (v : Value) (s t : List ℕ) → IsTextInOrder D f v s → IsTextInOrder D f v t
     → s ≡ t
-text_one D f v s t a b = a.compact ∙ ap compact_text (b.one a.tree a.written) ∙ sym b.compact
+text_one D f v s t a b = a.compact ∙ ap (tree_text D f) (b.one a.tree a.written) ∙ sym b.compact
 
 module _ (ps : Pairs) (text : List ℕ) (is : IsTextInOrder Finite Canonical (document ps) text) (back : ComesBack ps) where
   -- the text is read as its tree again

@@ -1,7 +1,7 @@
 -- The bytes have one tree, it one value, and that one output.
 use Rattle.std.proofs.Common.{◌≡◌, ◌++◌, ℕ, List, Result, Ok, Err, Vec, Global, IfOk, sym, ap, ◌∙◌, subst}
 use Rattle.serde_json.specs.Data.{Data}
-use Rattle.serde_json.specs.Written.{compact_text}
+use Rattle.bson_wrapper.specs.TreeText.{tree_text}
 use Rattle.bson_wrapper.specs.declared.form.Form.{Form}
 use Rattle.bson_wrapper.specs.declared.form.Form.TheVariants as form
 use Rattle.bson_model.specs.Means.{MeansIn}
@@ -23,7 +23,7 @@ use Rattle.bson_run.proofs.Again.{is_written}
 module _ (o : Options) where
   written_one : (f : Form) (v : Value) (a b : List ℕ) → IsWrittenIn o f v a → IsWrittenIn o f v b → b ≡ a
   written_one f v a b x y =
-      y.line.text ∙ ap (λ t. compact_text t ++ newline) (x.is_tree.one y.tree y.is_tree.written) ∙ sym x.line.text
+      y.line.text ∙ ap (λ t. tree_text o.doubles f t ++ newline) (x.is_tree.one y.tree y.is_tree.written) ∙ sym x.line.text
 
   output_one : (mode : Mode) (v : Value) (a b : List ℕ) → IsOutputIn o mode v a → IsOutputIn o mode v b → b ≡ a
   output_one Canonical v a b x y = written_one form.Canonical v a b x y

@@ -2,8 +2,8 @@
 use Rattle.std.specs.Prelude.{◌≡◌, ◌≤◌, ℕ, List, [], ◌∷◌, ◌++◌, Some, string_bytes}
 use Rattle.serde_json.specs.Data.{Data, depth}
 use Rattle.serde_json.specs.Read.{read, max_depth}
-use Rattle.serde_json.specs.Written.{compact_text}
 use Rattle.bson.specs.declared.extjson.options.Options.{Options}
+use Rattle.bson_wrapper.specs.TreeText.{tree_text}
 use Rattle.bson_wrapper.specs.declared.form.Doubles.TheVariants.{Special}
 use Rattle.bson_wrapper.specs.declared.form.Form.{Form}
 use Rattle.bson_wrapper.specs.declared.form.Form.TheVariants as form
@@ -37,15 +37,15 @@ newline = 10 ∷ []
 
 -- the compact text of the tree and a newline; where the tree nests no deeper than a text may, its text reads as the
 -- tree
-pub record IsLineOf (tree : Data) (output : List ℕ) : Type 0 where
-  pub text : output ≡ compact_text tree ++ newline
-  pub read_again : depth tree ≤ max_depth → read (compact_text tree) ≡ Some tree
+pub record IsLineOf (o : Options) (f : Form) (tree : Data) (output : List ℕ) : Type 0 where
+  pub text : output ≡ tree_text o.doubles f tree ++ newline
+  pub read_again : depth tree ≤ max_depth → read (tree_text o.doubles f tree) ≡ Some tree
 
 -- the line of the value's one tree in a form; what that tree means has the same tree
 pub record IsWrittenIn (o : Options) (f : Form) (value : Value) (output : List ℕ) : Type 0 where
   pub tree : Data
   pub is_tree : IsTreeOfIn o.doubles f value tree
-  pub line : IsLineOf tree output
+  pub line : IsLineOf o f tree output
   pub again : (w : Value) → MeansIn o.doubles tree w → WrittenIn o.doubles f (normal_form w) tree
 
 -- that line, or the text that shows the value and a newline

@@ -15,7 +15,9 @@ use Rattle.bson_wrapper.specs.Shapes.{object_of_one, object_of_two}
 use Rattle.bson_wrapper.specs.Written as scalar_tree
 use Rattle.bson_wrapper.specs.declared.form.Doubles.{Doubles}
 use Rattle.bson_wrapper.specs.declared.form.Doubles.TheVariants.{Special, Finite}
+use Rattle.bson_wrapper.specs.TreeText.{tree_text}
 use Rattle.bson_wrapper.specs.declared.form.Form.{Form}
+use Rattle.bson_wrapper.specs.declared.form.Form.TheVariants.{Canonical, Relaxed}
 use Rattle.bson_model.specs.Normal.{normal_form}
 use Rattle.bson_model.specs.Value.{Value, scalar, code_scope, array, document, no_values, value, no_pairs, pair}
 use Rattle.bson_order.specs.Kept.{kept, read_kept}
@@ -188,8 +190,8 @@ unfolding Rattle.std.specs.Float.Parse.read_float Rattle.std.specs.Float.Numeral
     Rattle.std.specs.Float.float_is_finite lib.Ieee.round lib.Ieee.to_bits
 finite_read = means_from Finite finite_tree finite refl
 
-finite_written : (f : Form) → WrittenInOrder Finite f (normal_form finite) finite_tree
-finite_written f = written_from Finite f finite finite_tree (rw one_and_a_half refl)
+finite_written : WrittenInOrder Finite Canonical (normal_form finite) finite_tree
+finite_written = written_from Finite Canonical finite finite_tree (rw one_and_a_half refl)
 
 finite_text : compact_text finite_tree ≡ codes "{\"z\":{\"$numberDouble\":\"1.5\"},\"a\":null}"
 unfolding Rattle.json.specs.Print.escape_byte
@@ -207,6 +209,15 @@ number_tree = object_of_two (codes "z") (tree.number (float (fin false 3 (negsuc
 finite_number_read : MeansInOrder Finite number_tree finite
 unfolding Rattle.std.specs.Float.float_is_finite lib.Ieee.fits lib.Ieee.to_bits
 finite_number_read = means_from Finite number_tree finite refl
+
+-- which is what the relaxed form has
+finite_number_written : WrittenInOrder Finite Relaxed (normal_form finite) number_tree
+unfolding lib.Ieee.of_bits
+finite_number_written = written_from Finite Relaxed finite number_tree refl
+
+finite_number_text : tree_text Finite Relaxed number_tree ≡ codes "{\"z\":1.5,\"a\":null}"
+unfolding Rattle.json.specs.Print.escape_byte Rattle.json.specs.Print.print_from lib.Ieee.to_bits
+finite_number_text = rw one_and_a_half refl
 
 -- without finite doubles
 finite_means_nothing : reads_in_order Special finite_tree ≡ Err wrong_shape

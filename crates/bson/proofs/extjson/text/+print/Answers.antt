@@ -5,7 +5,7 @@ use Rattle.std.specs.FinMap.Entries.{where_key}
 use Rattle.json.specs.Token.{begin_array, begin_object, key}
 use Rattle.json.specs.Tree.{items_tokens, members_tokens}
 use Rattle.serde_json.specs.Data.{object, string, no_items, no_members}
-use Rattle.serde_json.specs.Written.{items_outline, members_outline}
+use Rattle.bson_wrapper.specs.TreeText.{items_outline, members_outline}
 use Rattle.bson_wrapper.specs.View.{scalar_view}
 use Rattle.bson_wrapper.specs.Written.{Stops}
 use Rattle.bson_store.specs.Order.{in_order, key_cmp, is_above}

@@ -1,6 +1,5 @@
 use Rattle.std.proofs.Common.{◌≡◌, ◌++◌, ap, ◌∙◌}
 use Rattle.json.specs.Print.{print}
-use Rattle.serde_json.proofs.Texts.{print-outline}
 use Rattle.bson.specs.Texts.{tokens_of}
 use Rattle.bson.proofs.extjson.text.text_of.Goals as goal
 
@@ -8,4 +7,4 @@ pub returns-clause-written : goal.returns-clause-written
 returns-clause-written c =
     let p = c.in_ok-print.ensures.printed in
     let all : c.print.new.out.tokens ≡ tokens_of p.0 = p.2 ∙ ap (λ l. l ++ tokens_of p.0) c.new-out.ensures.tokens in
-    (p.0, p.1, c.finished.ensures ∙ ap print all ∙ print-outline p.0)
+    (p.0, p.1, c.finished.ensures ∙ ap print all)
