@@ -5,7 +5,7 @@ ghost use Rattle.bson_store.specs.Order.{IsLeast};
 ghost use Rattle.bson_store.specs.Pairs.{HasDistinctKeys, with_value};
 
 mod from_ascending;
-mod from_pairs;
+mod from_entries;
 mod into_iter;
 
 use crate::ascending::next_ascending;
@@ -40,7 +40,7 @@ pub struct Pair<V> {
 /// Up to sixteen pairs, and any number whose keys were pushed in ascending order, take one block of
 /// memory. Among sixteen a key is found by a walk, and among more that ascend by halves. Among n
 /// pairs with an index a key is found in the order of log n comparisons, whatever the keys are.
-/// `from_pairs` sorts the places, which takes a word of memory for each. The first key pushed that
+/// `from_entries` sorts the places, which takes a word of memory for each. The first key pushed that
 /// doesn't ascend, or behind sorted places, makes the map, which holds a copy of each key. `push`
 /// takes as many comparisons, and n times as many where it makes the map, once until no more than
 /// sixteen pairs are left; `remove_at` takes as many for each pair behind the one it takes out, and

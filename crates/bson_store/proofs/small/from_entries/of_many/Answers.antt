@@ -2,7 +2,7 @@ use Rattle.std.proofs.Common.{IfSome, sym, ap, subst, ◌∙◌}
 use Rattle.bson_store.specs.Pairs.{HasDistinctKeys}
 use Rattle.bson_store.specs.Small.{stored_pairs, AreSorted}
 use Rattle.bson_store.proofs.PutInTurn.{put_distinct}
-use Rattle.bson_store.proofs.small.from_pairs.of_many.Goals as goal
+use Rattle.bson_store.proofs.small.from_entries.of_many.Goals as goal
 
 pub returns : goal.returns
 returns g c =

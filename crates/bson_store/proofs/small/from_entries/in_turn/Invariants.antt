@@ -2,7 +2,7 @@ use Rattle.std.proofs.Common.{◌≡◌, [], length}
 use Rattle.std.specs.Vec.Iter.{into_iter_items, into_iter_len}
 use Rattle.bson_store.specs.Pairs.{put_pairs}
 use Rattle.bson_store.specs.Small.{stored_pairs}
-use Rattle.bson_store.proofs.small.from_pairs.in_turn.Given as goal
+use Rattle.bson_store.proofs.small.from_entries.in_turn.Given as goal
 
 abbrev pub invariant-pairs : goal.invariant-pairs
 invariant-pairs g l = record {

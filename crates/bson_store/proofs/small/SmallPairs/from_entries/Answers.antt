@@ -2,7 +2,7 @@ use Rattle.std.proofs.Common.{sym, ◌∙◌}
 use Rattle.bson_store.specs.Small.{stored_pairs}
 use Rattle.bson_store.proofs.Adjacent.{distinct_from}
 use Rattle.bson_store.proofs.PutInTurn.{put_distinct}
-use Rattle.bson_store.proofs.small.SmallPairs.from_pairs.Goals as goal
+use Rattle.bson_store.proofs.small.SmallPairs.from_entries.Goals as goal
 
 pub returns-in-Ok : goal.returns-in-Ok
 returns-in-Ok g c =

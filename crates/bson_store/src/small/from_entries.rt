@@ -23,9 +23,9 @@ impl<V: Drop> SmallPairs<V> {
     ///     key: String::from_str(alloc, "a")?,
     ///     value: 1,
     /// })?;
-    /// println!(rt; "{:?}", SmallPairs::from_pairs(alloc, pairs)?.find("a"))?; // Some(0)
+    /// println!(rt; "{:?}", SmallPairs::from_entries(alloc, pairs)?.find("a"))?; // Some(0)
     /// ```
-    pub fn from_pairs(alloc: Global, pairs: Vec<Pair<V>>) -> Result<SmallPairs<V>, AllocError>
+    pub fn from_entries(alloc: Global, pairs: Vec<Pair<V>>) -> Result<SmallPairs<V>, AllocError>
         ensures { IfOk result (λ store. store ≡ put_pairs (stored_pairs pairs.items) []) }
     {
         match SmallPairs::try_from_ascending(pairs) {

@@ -2,7 +2,7 @@ use Rattle.std.proofs.Common.{◌≡◌, ◌∷◌, length, sym, ap, ◌∙◌, 
 use Rattle.std.specs.Vec.Iter.{into_iter_items}
 use Rattle.bson_store.specs.Pairs.{put_pairs}
 use Rattle.bson_store.specs.Small.{stored_pairs}
-use Rattle.bson_store.proofs.small.from_pairs.in_turn.Goals as goal
+use Rattle.bson_store.proofs.small.from_entries.in_turn.Goals as goal
 
 pub pairs-preserved : goal.pairs-preserved
 pairs-preserved g c =
