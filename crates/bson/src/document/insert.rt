@@ -132,8 +132,9 @@ impl Document {
     /// The document of the entries, put in turn: of a key that comes twice the last value stays, in
     /// the place of the first.
     ///
-    /// Entries whose keys ascend become the document as they stand, in the memory that they have.
-    /// Where memory is refused they are dropped.
+    /// Entries whose keys ascend become the document as they stand, in the memory that they have, and
+    /// so do others, more than sixteen, of which no key stands twice: no key is copied. Where memory is
+    /// refused they are dropped.
     ///
     /// ```
     /// let mut entries = Vec::new(alloc);
@@ -146,23 +147,7 @@ impl Document {
     pub fn from_entries(alloc: Global, entries: Vec<Pair<Bson>>) -> Result<Document, AllocError>
         ensures { IfOk result (λ d. contents d ≡ put_entries entries.items []) }
     {
-        match SmallPairs::try_from_ascending(entries) {
-            Ok(pairs) => Ok(Document { pairs }),
-            Err(entries) => of_entries(alloc, entries),
-        }
+        let pairs = SmallPairs::from_entries(alloc, entries)?;
+        Ok(Document { pairs })
     }
-}
-
-// The document of the entries, each of which is looked up.
-fn of_entries(alloc: Global, entries: Vec<Pair<Bson>>) -> Result<Document, AllocError>
-    ensures { IfOk result (λ d. contents d ≡ put_entries entries.items []) }
-{
-    let pairs = SmallPairs::with_capacity(alloc, entries.len())?;
-    let mut document = Document { pairs };
-    'entries: for Pair { key, value } in entries {
-        let Ok(()) = document.set(key, value) else {
-            return Err(AllocError);
-        };
-    }
-    Ok(document)
 }
