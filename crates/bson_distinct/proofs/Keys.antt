@@ -19,7 +19,7 @@ pub stands : (before : List (List ℕ)) (k : List ℕ) → stands_among before k
 stands before k is =
     Contains-from_any {eq = λ q l. bytes_eq l q} (λ x y e. sym ((bytes_eq-Decides y x).0 e)) k before is
 
-turned : (before : List (List ℕ)) (k : List ℕ) → stands_among before k ≡ list_any (λ l. bytes_eq k l) before
+pub turned : (before : List (List ℕ)) (k : List ℕ) → stands_among before k ≡ list_any (λ l. bytes_eq k l) before
 turned [] k = refl
 turned (l ∷ before) k = ap (λ b. b || stands_among before k) (nat_list_eq_equiv.symm l k)
     ∙ ap (λ b. bytes_eq k l || b) (turned before k)

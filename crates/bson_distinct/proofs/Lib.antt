@@ -1,3 +1,4 @@
 pub mod Keys
 pub mod Reading
-pub mod Laws
+pub mod Relations
+pub mod Converse

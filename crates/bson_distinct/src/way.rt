@@ -10,7 +10,11 @@ use std::alloc::{AllocError, Global};
 pub type Way = Vec<Step>;
 
 /// The first way so far, or that in the next element.
-pub(crate) fn or_at(first: Option<Way>, found: Option<Way>, at: usize) -> Result<Option<Way>, AllocError>
+pub(crate) fn or_at(
+    first: Option<Way>,
+    found: Option<Way>,
+    at: usize,
+) -> Result<Option<Way>, AllocError>
     ensures { IfOk result (λ way. told way ≡ or (told first) (within (turn_of (Step.Element at)) (told found))) }
 {
     if first.is_some() {

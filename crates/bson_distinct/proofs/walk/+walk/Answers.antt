@@ -7,7 +7,7 @@ use Rattle.json.proofs.Grammar.{after_end_array-shorter, read_key-shorter, value
 use Rattle.bson_place.specs.Place.{element}
 use Rattle.bson_distinct.specs.Found.{at_key, double, double_items, double_members, or, stands_among, told, within}
 use Rattle.bson_distinct.proofs.Keys.{holds_more, holds_none, is_new}
-use Rattle.bson_distinct.proofs.Laws.{or_or, or_none}
+use Rattle.bson_distinct.proofs.Relations.{or_or, or_none}
 use Rattle.bson_distinct.proofs.Reading.{array_opened, begun, item_passed, items_broken, items_ended, member_broken}
 use Rattle.bson_distinct.proofs.Reading.{member_passed, members_ended, no_key, none_begins, object_opened, plain_begins}
 use Rattle.bson_distinct.proofs.Reading.{too_deep_array, too_deep_object}

@@ -1,7 +1,7 @@
 use Rattle.std.proofs.Common.{◌≡◌, [], Some, sym, ap, ◌∙◌, arith}
 use Rattle.json.specs.Json.{value}
 use Rattle.json.specs.Lex.{tokens}
-use Rattle.bson_distinct.proofs.Laws.{answered}
+use Rattle.bson_distinct.proofs.Relations.{answered}
 use Rattle.bson_distinct.proofs.Reading.{whole}
 use Rattle.bson_distinct.proofs.walk.first_double_key.Goals as goal
 
