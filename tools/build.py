@@ -50,6 +50,8 @@ COSTS = {
     "bson_place": (2.7, 1.7, 1.6),
     "bson_tokens": (3.7, 1.1, 1.6),
     "bson_filter": (3.4, 0.9, 1.6),
+    "bson_distinct": (1.2, 0.8, 1.6),
+    "bson_legacy": (1.4, 0.8, 1.6),
     "bson": (19.2, 2.2, 4.8),
     "bson_run": (4.5, 1.0, 2.2),
     "bson_cli": (1.7, 1.2, 1.6),

@@ -1,10 +1,10 @@
 # Completions of bash for bson.
 _bson() {
-    local word=${COMP_WORDS[COMP_CWORD]} before=${COMP_WORDS[COMP_CWORD - 1]} it mode='' options='--doubles --keep-order --indent --output --help --version'
+    local word=${COMP_WORDS[COMP_CWORD]} before=${COMP_WORDS[COMP_CWORD - 1]} it mode='' options='--doubles --keep-order --legacy --no-double-keys --indent --output --help --version'
     local modes='canonical relaxed show'
     for it in "${COMP_WORDS[@]:1:COMP_CWORD-1}"; do
         case $it in
-            lines) modes='canonical relaxed show check' options='--doubles --keep-order --keep-going --jobs --output --help --version' ;;
+            lines) modes='canonical relaxed show check' options='--doubles --keep-order --legacy --no-double-keys --keep-going --jobs --output --help --version' ;;
             decode) modes='canonical relaxed show check' options='--sort-keys --keep-going --jobs --output --help --version' ;;
             encode) modes='' mode=$it options='--sort-keys --keep-going --jobs --output --help --version' ;;
             show) mode=$it options=${options/ --indent/} ;;

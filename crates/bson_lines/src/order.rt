@@ -1,7 +1,7 @@
 //! What the arguments ask for.
 use bson::extjson::{Doubles, Options};
 use bson_run::mode::Mode;
-use bson_run::order::{OnRefusal, Task};
+use bson_run::order::{OnRefusal, Taking, Task, Work};
 use std::alloc::{AllocError, Global};
 
 /// The name of standard input among the files that are read, and of standard output.
@@ -55,6 +55,11 @@ impl Order {
     pub fn writes_bytes(&self) -> bool {
         self.task == Task::Encode || self.task == Task::EncodeInOrder
     }
+
+    /// Whether what is read is only judged.
+    pub fn writes_nothing(&self) -> bool {
+        self.task == Task::Check || matches!(self.task, Task::Taken(_, Work::Check))
+    }
 }
 
 /// What the words after the program's name ask for: a mode, then names of files, with options
@@ -68,6 +73,8 @@ pub fn asked_by(alloc: Global, words: Vec<String>) -> Result<Asked, AllocError> 
         input: Input::Lines,
         keeps_order: false,
         sorts_keys: false,
+        is_distinct: false,
+        is_legacy: false,
         indent: None,
         output: None,
         inputs: Vec::new(alloc),
@@ -94,6 +101,8 @@ struct Given {
     input: Input,
     keeps_order: bool,
     sorts_keys: bool,
+    is_distinct: bool,
+    is_legacy: bool,
     indent: Option<usize>,
     output: Option<String>,
     inputs: Vec<String>,
@@ -164,6 +173,16 @@ impl Given {
                 self.sorts_keys = true;
                 Ok(once(is_first))
             }
+            "--no-double-keys" => {
+                let is_first = !self.is_distinct;
+                self.is_distinct = true;
+                Ok(once(is_first))
+            }
+            "--legacy" => {
+                let is_first = !self.is_legacy;
+                self.is_legacy = true;
+                Ok(once(is_first))
+            }
             "--doubles" => {
                 let is_first = self.options.doubles == Doubles::Special;
                 self.options.doubles = Doubles::Finite;
@@ -231,7 +250,8 @@ impl Given {
     // Whether the options stand with the task and with one another: one text is of one file, and the
     // first that is refused ends it; its forms alone are indented; the order of texts is kept where a
     // text is written, and keys are sorted in what keeps its order by itself: the forms of BSON
-    // documents, and BSON bytes, which are made of texts; a check has no output.
+    // documents, and BSON bytes, which are made of texts; what texts are taken for stands where no
+    // bytes are; a check has no output.
     fn fits(&self, task: Task) -> bool {
         if self.input == Input::Text && (self.keeps_going || self.inputs.len() > 1) {
             return false;
@@ -246,6 +266,9 @@ impl Given {
             return false;
         }
         if self.keeps_order && (task == Task::Check || is_encode || is_dump) {
+            return false;
+        }
+        if (self.is_distinct || self.is_legacy) && (is_encode || is_dump) {
             return false;
         }
         if is_encode && is_dump {
@@ -270,6 +293,8 @@ impl Given {
             input,
             keeps_order,
             sorts_keys,
+            is_distinct,
+            is_legacy,
             indent,
             output,
             inputs,
@@ -281,8 +306,12 @@ impl Given {
         };
         let has_order = input == Input::Documents || task == Task::Encode;
         let is_in_order = keeps_order || (has_order && !sorts_keys);
+        let task = if is_in_order { in_order(task) } else { task };
         Ok(Asked::Run(Order {
-            task: if is_in_order { in_order(task) } else { task },
+            task: match taking_of(is_distinct, is_legacy) {
+                Some(taking) => taken(taking, task),
+                None => task,
+            },
             options,
             on_refusal: if keeps_going {
                 OnRefusal::KeepGoing
@@ -302,6 +331,26 @@ fn in_order(task: Task) -> Task {
     match task {
         Task::Write(mode) => Task::WriteInOrder(mode),
         Task::Encode => Task::EncodeInOrder,
+        other => other,
+    }
+}
+
+// What is looked for in a text before it is read.
+fn taking_of(is_distinct: bool, is_legacy: bool) -> Option<Taking> {
+    match (is_distinct, is_legacy) {
+        (true, true) => Some(Taking::DistinctLegacy),
+        (true, false) => Some(Taking::Distinct),
+        (false, true) => Some(Taking::Legacy),
+        (false, false) => None,
+    }
+}
+
+// The task, of texts that are taken so.
+fn taken(taking: Taking, task: Task) -> Task {
+    match task {
+        Task::Write(mode) => Task::Taken(taking, Work::Write(mode)),
+        Task::WriteInOrder(mode) => Task::Taken(taking, Work::WriteInOrder(mode)),
+        Task::Check => Task::Taken(taking, Work::Check),
         other => other,
     }
 }

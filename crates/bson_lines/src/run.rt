@@ -9,7 +9,6 @@ use crate::whole::convert_whole;
 use bson_codec::told::RunEnd;
 use bson_run::fault::Fault;
 use bson_run::lines::{Counts, run_lines_with};
-use bson_run::order::Task;
 use bson_run::refusal::Refusal;
 use std::fs;
 use std::fs::{File, Metadata};
@@ -224,7 +223,7 @@ fn try_input<'a>(rt: &HostRuntime, order: &Order, name: &'a str) -> Result<(), S
     } else {
         output
     };
-    if order.task != Task::Check && is_written(rt, &input, output) {
+    if !order.writes_nothing() && is_written(rt, &input, output) {
         return Err(Stop::Both(name));
     }
     Ok(())
@@ -242,7 +241,7 @@ fn is_written(rt: &HostRuntime, file: &Metadata, name: &str) -> bool {
 // output goes, and all that is read is files.
 fn total(rt: &HostRuntime, order: &Order) -> Option<u64> {
     let is_apart = order.output.as_str() != STANDARD
-        || order.task == Task::Check
+        || order.writes_nothing()
         || !rt.stdout().is_terminal();
     if !rt.stderr().is_terminal() || !is_apart {
         return None;

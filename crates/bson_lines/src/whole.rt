@@ -8,9 +8,10 @@ use bson_run::fault::Fault;
 use bson_run::in_order::convert_in_order;
 use bson_run::indented::{convert_in_order_indented, convert_indented};
 use bson_run::mode::Mode;
-use bson_run::order::Task;
+use bson_run::order::{Task, Work};
 use bson_run::refusal::Refusal;
 use bson_run::stop::Stop;
+use bson_run::taken::taken;
 use std::alloc::{AllocError, Global};
 use std::io::{Read, Write};
 
@@ -57,23 +58,55 @@ fn read_all<R: Read>(alloc: Global, reader: &mut R) -> Result<Vec<u8>, Fault> {
 
 // What is written of the text.
 fn given(alloc: Global, order: &Order, bytes: &[u8]) -> Result<Vec<u8>, Fault> {
-    let options = order.options;
     match order.task {
-        Task::Write(mode) => match layout(order, mode) {
-            Some((form, spaces)) => convert_indented(alloc, options, form, spaces, bytes),
-            None => convert_with(alloc, options, mode, bytes),
-        },
-        Task::WriteInOrder(mode) => match layout(order, mode) {
-            Some((form, spaces)) => convert_in_order_indented(alloc, options, form, spaces, bytes),
-            None => convert_in_order(alloc, options, mode, bytes),
-        },
-        Task::Check => {
-            convert_with(alloc, options, Mode::Canonical, bytes)?;
-            Ok(Vec::new(alloc))
-        }
+        Task::Write(mode) => written(alloc, order, mode, bytes),
+        Task::WriteInOrder(mode) => written_in_order(alloc, order, mode, bytes),
+        Task::Check => checked(alloc, order, bytes),
         Task::Encode => encode_with(alloc, order.options, bytes),
         Task::EncodeInOrder => encode_in_order(alloc, order.options, bytes),
+        Task::Taken(taking, work) => match taken(alloc, taking, bytes)? {
+            Some(modern) => worked(alloc, order, work, modern.as_bytes()),
+            None => worked(alloc, order, work, bytes),
+        },
     }
+}
+
+// What is written of a text that was taken.
+fn worked(alloc: Global, order: &Order, work: Work, bytes: &[u8]) -> Result<Vec<u8>, Fault> {
+    match work {
+        Work::Write(mode) => written(alloc, order, mode, bytes),
+        Work::WriteInOrder(mode) => written_in_order(alloc, order, mode, bytes),
+        Work::Check => checked(alloc, order, bytes),
+    }
+}
+
+// The output in the mode, over several lines where that is asked for.
+fn written(alloc: Global, order: &Order, mode: Mode, bytes: &[u8]) -> Result<Vec<u8>, Fault> {
+    let options = order.options;
+    match layout(order, mode) {
+        Some((form, spaces)) => convert_indented(alloc, options, form, spaces, bytes),
+        None => convert_with(alloc, options, mode, bytes),
+    }
+}
+
+// The same in the order of the text's keys.
+fn written_in_order(
+    alloc: Global,
+    order: &Order,
+    mode: Mode,
+    bytes: &[u8],
+) -> Result<Vec<u8>, Fault> {
+    let options = order.options;
+    match layout(order, mode) {
+        Some((form, spaces)) => convert_in_order_indented(alloc, options, form, spaces, bytes),
+        None => convert_in_order(alloc, options, mode, bytes),
+    }
+}
+
+// Nothing, of a text that means a value.
+fn checked(alloc: Global, order: &Order, bytes: &[u8]) -> Result<Vec<u8>, Fault> {
+    convert_with(alloc, order.options, Mode::Canonical, bytes)?;
+    Ok(Vec::new(alloc))
 }
 
 // The form that is laid out over several lines, and by how many spaces.

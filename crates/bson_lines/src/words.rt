@@ -4,6 +4,7 @@
 pub const USAGE: &str =
     "usage: bson_lines canonical|relaxed|show|check [--doubles] [--bson] [--keep-going|--whole] [-o FILE] [FILE ..]
        bson_lines canonical|relaxed|show --keep-order [--doubles] [--keep-going|--whole] [-o FILE] [FILE ..]
+       bson_lines canonical|relaxed|show|check --no-double-keys|--legacy [--keep-order] [--doubles] [--keep-going] ..
        bson_lines canonical|relaxed --bson --sort-keys [--doubles] [--keep-going] [-o FILE] [FILE ..]
        bson_lines encode [--sort-keys] [--doubles] [--keep-going|--whole] [-o FILE] [FILE ..]
        bson_lines canonical|relaxed --whole --indent N [--keep-order] [--doubles] [-o FILE] [FILE]
@@ -17,6 +18,7 @@ pub const VERSION: &str = "bson_lines 0.2.0";
 pub const HELP: &str =
     "usage: bson_lines canonical|relaxed|show|check [--doubles] [--bson] [--keep-going|--whole] [-o FILE] [FILE ..]
        bson_lines canonical|relaxed|show --keep-order [--doubles] [--keep-going|--whole] [-o FILE] [FILE ..]
+       bson_lines canonical|relaxed|show|check --no-double-keys|--legacy [--keep-order] [--doubles] [--keep-going] ..
        bson_lines canonical|relaxed --bson --sort-keys [--doubles] [--keep-going] [-o FILE] [FILE ..]
        bson_lines encode [--sort-keys] [--doubles] [--keep-going|--whole] [-o FILE] [FILE ..]
        bson_lines canonical|relaxed --whole --indent N [--keep-order] [--doubles] [-o FILE] [FILE]
@@ -32,6 +34,10 @@ Reads MongoDB Extended JSON v2, a document a line, from the files or from standa
                           nearest to it, and a double is written as its shortest decimal; without it they are refused
   --keep-order            (not with check, encode or --bson) each document has its keys in the order of the text, at
                           every depth, the last value of a key that stands twice at its first place; else keys ascend
+  --no-double-keys        (not with encode or --bson) a text is refused where an object has a key twice, at any depth, with
+                          the path to the first such key; keys are compared after their escapes are read
+  --legacy                (not with encode or --bson) objects of Extended JSON v1 are read as those of v2: $binary with
+                          $type and $regex with $options, each a text, and a $date whose offset is as +0100
   --keep-going            a refused line is told and left out, and the run goes on; without it the run ends there
   --bson                  the input is documents of BSON 1.1, one behind the other, as in a dump, and a line is written
                           of each, with its keys in its own order at every depth; check only looks at them

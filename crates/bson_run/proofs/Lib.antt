@@ -8,3 +8,4 @@ pub mod LinesLaws
 pub mod LinesRuns
 mod Ordered
 mod Rows
+pub mod TakenLines

@@ -5,13 +5,12 @@ use Rattle.std.proofs.Common.{add-one, take-append-drop, Result, Ok, Err, IfOk, 
 use Rattle.std.proofs.Math.Seq.{drop-cons}
 use Rattle.std.proofs.lemmas.List.{take_rest}
 use Rattle.std.proofs.lemmas.List.Elements.{All-append, All-head, All-tail}
-use Rattle.bson_run.specs.Lines.{lines, onto_first, text_of, Tells, IsBlank, IsBadLineIn, IsBadTextIn, WritesIn, OutcomesIn}
+use Rattle.bson_run.specs.Lines.{lines, onto_first, text_of, Tells, IsBlank, IsBadLineIn, WritesIn, OutcomesIn}
 use Rattle.bson_run.specs.Lines.{blank, written, passed_over, IsStoppedIn, IsStoppedAtIn}
 use Rattle.bson_run.specs.LinesSteps.{Options, IsOpen, IsJudged, IsTold, HaveSameOutcomes, TakesLine}
 use Rattle.bson_run.specs.LinesSteps.{Progress, Takes, Ends, Reached, Stopped, StopsWithin, StopsLast}
 use Rattle.bson_run.specs.LinesSteps.{Fault, CannotRead, NotJson, NotExtendedJson, NoBytes, OutOfMemory}
 use Rattle.bson_run.specs.LinesSteps.{CannotWrite, Gathered, OnRefusal, Task}
-use Rattle.bson_run.specs.Place.{IsWhere}
 use Rattle.bson_run.specs.declared.order.OnRefusal.TheVariants.{Stop}
 
 -- a newline ends what stands before it
@@ -42,17 +41,6 @@ judged_bad o task (NotExtendedJson place) text h other = h
 judged_bad o task (NoBytes why) text h other = h
 judged_bad o task OutOfMemory text h other = absurd (other refl)
 judged_bad o task CannotWrite text h other = h
-
--- where the fault of a refused line lies
-pub lies : (o : Options) (task : Task) (fault : Fault) (text words : List ℕ) → IsBadLineIn o task fault text
-    → (IsBadTextIn o fault text → IsWhere fault words) → IsWhere fault words ⊎ (words ≡ []) → IsWhere fault words
-lies o task CannotRead text words h place other = place h
-lies o task NotJson text words h place other = place h
-lies o task (NotExtendedJson way) text words h place other = place h
-lies o task (NoBytes why) text words h place (inl is) = is
-lies o task (NoBytes why) text words h place (inr is) = is
-lies o task OutOfMemory text words h place other = place h
-lies o task CannotWrite text words h place other = place h
 
 stopped_at : (o : Options) (task : Task) (on_refusal : OnRefusal) (fault : Fault) (n : ℕ) (line : List ℕ) (others : List (List ℕ))
     → IsStoppedIn o task on_refusal fault (text_of n line) → IsStoppedAtIn o task on_refusal fault n (line ∷ others)

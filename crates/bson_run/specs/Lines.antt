@@ -20,6 +20,11 @@ use Rattle.bson_run.specs.declared.order.OnRefusal.{OnRefusal}
 use Rattle.bson_run.specs.declared.order.OnRefusal.TheVariants.{Stop}
 use Rattle.bson_run.specs.declared.order.Task.{Task}
 use Rattle.bson_run.specs.declared.order.Task.TheVariants.{Write, WriteInOrder, Check, Encode, EncodeInOrder}
+use Rattle.bson_run.specs.declared.order.Task.TheVariants.{Taken}
+use Rattle.bson_run.specs.declared.order.Work.{Work}
+use Rattle.bson_run.specs.declared.order.Work.TheVariants as work
+use Rattle.bson_place.specs.declared.place.Place.{Place}
+use Rattle.bson_run.specs.Taken.{IsTakenAs, IsTurnedAway}
 
 -- ---- the lines of an input
 
@@ -47,6 +52,12 @@ text_of before line = if (before == 0) && starts_with (λ x y. x == y) line byte
 abbrev pub IsBlank : List ℕ → Type 0
 IsBlank text = All (λ x. (x ≡ 32) ⊎ ((x ≡ 9) ⊎ (x ≡ 13))) text
 
+-- what is written of a text that was taken, where it is accepted
+abbrev pub WorksIn : Options → Work → List ℕ → List ℕ → Type 0
+WorksIn o (work.Write mode) text output = ConvertsIn o mode text output
+WorksIn o (work.WriteInOrder mode) text output = ConvertsInOrder o mode text output
+WorksIn o work.Check text output = ((whole : List ℕ) × ConvertsIn o Canonical text whole) × (output ≡ [])
+
 -- what is written of a text that is accepted: its output in the mode, by ascending key or in the order of its keys, or
 -- nothing where it is only checked; or the bytes of its document
 abbrev pub WritesIn : Options → Task → List ℕ → List ℕ → Type 0
@@ -55,6 +66,8 @@ WritesIn o (WriteInOrder mode) text output = ConvertsInOrder o mode text output
 WritesIn o Check text output = ((whole : List ℕ) × ConvertsIn o Canonical text whole) × (output ≡ [])
 WritesIn o Encode text output = EncodesIn o text output
 WritesIn o EncodeInOrder text output = EncodesInOrder o text output
+WritesIn o (Taken taking work) text output =
+    (taken : List ℕ) × IsTakenAs taking text taken × WorksIn o work taken output
 
 -- the text has no meaning for the fault; one that is blank is not refused
 abbrev pub IsBadTextIn : Options → Fault → List ℕ → Type 0
@@ -72,12 +85,34 @@ IsWithoutBytes o (WriteInOrder mode) why text = ⊥
 IsWithoutBytes o Check why text = ⊥
 IsWithoutBytes o Encode why text = HasNoBytesIn o why text
 IsWithoutBytes o EncodeInOrder why text = HasNoBytesInOrder o why text
+IsWithoutBytes o (Taken taking work) why text = ⊥
+
+-- the text is none, or what is read in its place
+abbrev pub IsUnreadIn : Options → Task → List ℕ → Type 0
+IsUnreadIn o (Write mode) text = IsBadTextIn o NotJson text
+IsUnreadIn o (WriteInOrder mode) text = IsBadTextIn o NotJson text
+IsUnreadIn o Check text = IsBadTextIn o NotJson text
+IsUnreadIn o Encode text = IsBadTextIn o NotJson text
+IsUnreadIn o EncodeInOrder text = IsBadTextIn o NotJson text
+IsUnreadIn o (Taken taking work) text =
+    ((taken : List ℕ) × IsTakenAs taking text taken × IsRefusedIn o NotJson taken) × (IsBlank text → ⊥)
+
+-- the text has no meaning, or what is read in its place; or it is not taken
+abbrev pub IsMeaninglessIn : Options → Task → Place → List ℕ → Type 0
+IsMeaninglessIn o (Write mode) place text = IsBadTextIn o (NotExtendedJson place) text
+IsMeaninglessIn o (WriteInOrder mode) place text = IsBadTextIn o (NotExtendedJson place) text
+IsMeaninglessIn o Check place text = IsBadTextIn o (NotExtendedJson place) text
+IsMeaninglessIn o Encode place text = IsBadTextIn o (NotExtendedJson place) text
+IsMeaninglessIn o EncodeInOrder place text = IsBadTextIn o (NotExtendedJson place) text
+IsMeaninglessIn o (Taken taking work) place text =
+    ((taken : List ℕ) × IsTakenAs taking text taken × IsRefusedIn o (NotExtendedJson place) taken)
+    ⊎ IsTurnedAway taking place text
 
 -- nothing is written of the text, for the fault
 abbrev pub IsBadLineIn : Options → Task → Fault → List ℕ → Type 0
 IsBadLineIn o task CannotRead text = IsBadTextIn o CannotRead text
-IsBadLineIn o task NotJson text = IsBadTextIn o NotJson text
-IsBadLineIn o task (NotExtendedJson place) text = IsBadTextIn o (NotExtendedJson place) text
+IsBadLineIn o task NotJson text = IsUnreadIn o task text
+IsBadLineIn o task (NotExtendedJson place) text = IsMeaninglessIn o task place text
 IsBadLineIn o task (NoBytes why) text = IsWithoutBytes o task why text
 IsBadLineIn o task OutOfMemory text = IsBadTextIn o OutOfMemory text
 IsBadLineIn o task CannotWrite text = IsBadTextIn o CannotWrite text
@@ -178,9 +213,9 @@ CutShortAtIn o task on_refusal before after had holds told tells number =
 -- why a run stops at a text: it is refused, and refusals stop the run; or for no reason that the bytes tell
 abbrev pub IsStoppedIn : Options → Task → OnRefusal → Fault → List ℕ → Type 0
 IsStoppedIn o task on_refusal CannotRead text = Unit {0}
-IsStoppedIn o task on_refusal NotJson text = (on_refusal ≡ Stop) × IsBadTextIn o NotJson text
+IsStoppedIn o task on_refusal NotJson text = (on_refusal ≡ Stop) × IsUnreadIn o task text
 IsStoppedIn o task on_refusal (NotExtendedJson place) text =
-    (on_refusal ≡ Stop) × IsBadTextIn o (NotExtendedJson place) text
+    (on_refusal ≡ Stop) × IsMeaninglessIn o task place text
 IsStoppedIn o task on_refusal (NoBytes why) text = (on_refusal ≡ Stop) × IsWithoutBytes o task why text
 IsStoppedIn o task on_refusal OutOfMemory text = Unit {0}
 IsStoppedIn o task on_refusal CannotWrite text = ⊥

@@ -8,6 +8,9 @@ use Rattle.bson_run.specs.declared.order.Task.{Task}
 use Rattle.bson_run.specs.declared.no_bytes.NoBytes.{NoBytes}
 use Rattle.bson_run.specs.declared.no_bytes.NoBytes.TheVariants.{NoDocument, ZeroInKey, ZeroInRegex, TooLong}
 use Rattle.bson_run.specs.declared.order.Task.TheVariants.{Write, WriteInOrder, Check, Encode, EncodeInOrder}
+use Rattle.bson_run.specs.declared.order.Task.TheVariants.{Taken}
+use Rattle.bson_run.specs.declared.order.Work.{Work}
+use Rattle.bson_run.specs.declared.order.Work.TheVariants as work
 use Rattle.bson_run.specs.declared.fault.Fault.{Fault}
 use Rattle.bson_run.specs.declared.fault.Fault.TheVariants as fault
 
@@ -16,12 +19,18 @@ name_of mode.Canonical = codes "canonical"
 name_of mode.Relaxed = codes "relaxed"
 name_of mode.Show = codes "show"
 
+abbrev pub work_name : Work → List ℕ
+work_name (work.Write mode) = name_of mode
+work_name (work.WriteInOrder mode) = name_of mode
+work_name work.Check = codes "check"
+
 abbrev pub task_name : Task → List ℕ
 task_name (Write mode) = name_of mode
 task_name (WriteInOrder mode) = name_of mode
 task_name Check = codes "check"
 task_name Encode = codes "encode"
 task_name EncodeInOrder = codes "encode"
+task_name (Taken taking work) = work_name work
 
 abbrev pub words_for : Reason → List ℕ
 words_for (reason.BadObjectId e) = codes "bad object id"

@@ -30,6 +30,7 @@ pub fn explain(alloc: Global, fault: &Fault, text: &[u8]) -> Result<String, Allo
     ensures stop { IfOk result (λ words. fault.now ≡ NotJson → IsStop text.now (string_bytes words)) }
     ensures place_with { (options : Options) → IfOk result (λ words. IsBadTextIn options fault.now text.now
         → IsWhere fault.now (string_bytes words)) }
+    ensures always { IfOk result (λ words. IsWhere fault.now (string_bytes words)) }
 {
     match fault {
         Fault::NotJson => column(alloc, text),

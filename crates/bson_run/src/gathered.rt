@@ -3,13 +3,15 @@ ghost use Rattle.std.specs.Prelude.{◌≡◌, ◌⊎◌, ◌++◌, ◌+◌, [],
 ghost use Rattle.std.specs.Prelude.{OnOk, OnErr, None, Ok, IsTrue, ◌↔◌, string_bytes};
 ghost use Rattle.std.specs.Prelude.{MatchOption, IfSome, ◌≢◌, slice_index};
 ghost use Rattle.bson_run.specs.Lines.{IsBlank, IsBadLineIn, IsStoppedIn, Tells, WritesIn};
-ghost use Rattle.bson_run.specs.Lines.{told_at, text_of};
+ghost use Rattle.bson_run.specs.Convert.{IsRefusedIn};
+ghost use Rattle.bson_run.specs.Lines.{told_at, text_of, WorksIn};
 ghost use Rattle.bson_run.specs.LinesSteps.{Ends, HasRoom, HaveSameOutcomes, IsCountedOut};
 ghost use Rattle.bson_run.specs.LinesSteps.{IsJudged, IsOpen, IsStart, IsTold, StopsLast, StopsWithin};
 ghost use Rattle.bson_run.specs.LinesSteps.{Takes, TakesLine};
 ghost use Rattle.bson_run.specs.declared.order.OnRefusal.TheVariants.{Stop};
 ghost use Rattle.bson_run.specs.Place.{IsWhere};
 ghost use Rattle.bson_run.specs.declared.order.Task.{Task};
+ghost use Rattle.bson_run.specs.declared.order.Task.TheVariants.{Taken};
 ghost use Rattle.bson.specs.declared.extjson.options.Options.{Options};
 
 use crate::convert::convert_with;
@@ -18,8 +20,9 @@ use crate::explain::explain;
 use crate::fault::Fault;
 use crate::in_order::convert_in_order;
 use crate::mode::Mode;
-use crate::order::{OnRefusal, Task};
+use crate::order::{OnRefusal, Taking, Task, Work};
 use crate::refusal::Refusal;
+use crate::taken::taken;
 use bson::extjson::Options;
 use memchr::memchr;
 use std::alloc::{AllocError, Global};
@@ -85,6 +88,39 @@ fn judge(alloc: Global, options: Options, task: Task, text: &[u8]) -> Result<Opt
         }
         Task::Encode => Ok(Some(encode_with(alloc, options, text)?)),
         Task::EncodeInOrder => Ok(Some(encode_in_order(alloc, options, text)?)),
+        Task::Taken(taking, work) => Ok(Some(judge_taken(alloc, options, taking, work, text)?)),
+    }
+}
+
+// What is written of a text that is not blank, once it was taken.
+fn judge_taken(
+    alloc: Global,
+    options: Options,
+    taking: Taking,
+    work: Work,
+    text: &[u8],
+) -> Result<Vec<u8>, Fault>
+    requires { ¬ IsBlank text.now }
+    ensures ok { IfOk result (λ output. WritesIn options (Taken taking work) text.now output.items) }
+    ensures fault { IfErr result (λ fault. IsJudged options (Taken taking work) fault text.now) }
+{
+    match taken(alloc, taking, text)? {
+        Some(modern) => worked(alloc, options, work, modern.as_bytes()),
+        None => worked(alloc, options, work, text),
+    }
+}
+
+fn worked(alloc: Global, options: Options, work: Work, text: &[u8]) -> Result<Vec<u8>, Fault>
+    ensures ok { IfOk result (λ output. WorksIn options work text.now output.items) }
+    ensures fault { IfErr result (λ fault. IsRefusedIn options fault text.now) }
+{
+    match work {
+        Work::Write(mode) => convert_with(alloc, options, mode, text),
+        Work::WriteInOrder(mode) => convert_in_order(alloc, options, mode, text),
+        Work::Check => {
+            convert_with(alloc, options, Mode::Canonical, text)?;
+            Ok(Vec::new(alloc))
+        }
     }
 }
 

@@ -4,7 +4,8 @@
 //! In reading order: `mode` and `fault` (what is asked, and what is refused), `convert` (bytes to
 //! bytes) with `value` (bytes to a value) and `in_order` (bytes to bytes in the order of their
 //! keys), `encode` with `no_bytes` (bytes to the bytes of their document), `indent` (a text over
-//! several lines) and `indented` (bytes to bytes over several lines), `stream` (all bytes of a
+//! several lines) and `indented` (bytes to bytes over several lines), `taken` (what is looked for in
+//! a text before it is read), `stream` (all bytes of a
 //! reader and to a writer) and `run` (the whole way from a reader to
 //! a writer). Over lines: `order` and `refusal` (what is asked, and what is refused), `gathered`
 //! (the line that is read, and what those before it gave) and `lines` (the whole way). Why a text is
@@ -29,4 +30,5 @@ pub mod refusal;
 pub mod run;
 pub mod stop;
 mod stream;
+pub mod taken;
 pub mod value;

@@ -28,6 +28,30 @@ pub enum Task {
     Encode,
     /// The same, with the keys of each document in the order of the text.
     EncodeInOrder,
+    /// This of the text that is taken so, where it is not refused.
+    Taken(Taking, Work),
+}
+
+/// What is looked for in a text before it is read.
+#[derive(Clone, Copy, PartialEq, Eq, Debug)]
+pub enum Taking {
+    /// A text in which an object has a key twice is refused.
+    Distinct,
+    /// In the place of a text of Extended JSON v1 that of v2 is read for which it stands.
+    Legacy,
+    /// Both: a text in which an object has a key twice is refused, and that of v2 is read.
+    DistinctLegacy,
+}
+
+/// What is done with a text that was taken.
+#[derive(Clone, Copy, PartialEq, Eq, Debug)]
+pub enum Work {
+    /// Its output in the mode is written.
+    Write(Mode),
+    /// The same, with the keys of each document in the order of the text.
+    WriteInOrder(Mode),
+    /// It is only judged, and nothing is written.
+    Check,
 }
 
 impl Task {

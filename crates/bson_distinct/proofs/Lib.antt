@@ -1,0 +1,4 @@
+pub mod Keys
+pub mod Reading
+pub mod Relations
+pub mod Converse

@@ -1,0 +1,61 @@
+-- The way to the first key that stands twice, as a function. For private clauses.
+use Rattle.std.specs.Prelude.{◌≡◌, ◌++◌, ◌+◌, ℕ, List, [], ◌∷◌, Option, Some, None, Bool, true, false, not, option_map}
+use Rattle.std.specs.Prelude.{Vec}
+use Rattle.std.specs.List.{list_any}
+use Rattle.std.specs.Str.{bytes_eq}
+use Rattle.std.specs.declared.alloc.Global.{Global}
+use Rattle.json.specs.Token.{Token}
+use Rattle.json.specs.Json.{Json, Items, no_items, item, Members, no_members, member}
+use Rattle.json.specs.Json as json
+use Rattle.bson_place.specs.Place.{Turn, key, element}
+use Rattle.bson_place.specs.declared.place.Step.{Step}
+use Rattle.bson_distinct.specs.Double.{turns}
+
+-- a way, or none
+abbrev pub Verdict : Type 0
+Verdict = Option (List Turn)
+
+abbrev pub within : Turn → Verdict → Verdict
+within t None = None
+within t (Some way) = Some (way ++ t ∷ [])
+
+abbrev pub or : Verdict → Verdict → Verdict
+or None w = w
+or (Some way) w = Some way
+
+-- of a member, whose key is new or stood before
+abbrev pub at_key : Bool → List ℕ → Verdict → Verdict
+at_key true k v = within (key k) v
+at_key false k v = Some (key k ∷ [])
+
+abbrev pub stands_among : List (List ℕ) → List ℕ → Bool
+stands_among before k = list_any (λ l. bytes_eq l k) before
+
+abbrev mutual
+  pub double : Json → Verdict
+  double json.null = None
+  double (json.boolean b) = None
+  double (json.number s) = None
+  double (json.string s) = None
+  double (json.array js) = double_items 0 js
+  double (json.object ms) = double_members [] ms
+
+  -- of elements, the first of which has this place in its list
+  pub double_items : ℕ → Items → Verdict
+  double_items n no_items = None
+  double_items n (item j js) = or (within (element n) (double j)) (double_items (n + 1) js)
+
+  -- of members that stand behind others with these keys
+  pub double_members : List (List ℕ) → Members → Verdict
+  double_members before no_members = None
+  double_members before (member k j ms) =
+      or (at_key (not (stands_among before k)) k (double j)) (double_members (k ∷ before) ms)
+
+-- what an answer tells
+abbrev pub told : Option (Vec Step Global) → Verdict
+told way = option_map turns way
+
+-- a value or some were read, of which these tokens are left, and the answer tells their verdict
+abbrev pub Finds : {D : Type 0} → (D → Verdict) → Option (D × List Token) → Option (Vec Step Global) → List Token
+    → Type 0
+Finds {D} f values way rest = (d : D) × (values ≡ Some (d, rest)) × (told way ≡ f d)

@@ -1,0 +1,5 @@
+pub mod Double
+pub mod Found
+-- what public clauses cite of the crates below, so that a caller names this crate alone
+pub use Rattle.bson_tokens.specs.Parts
+pub use Rattle.json.specs.Strict

@@ -1,0 +1,101 @@
+//! How the first key that stands twice is found.
+ghost use Rattle.std.specs.Prelude.{◌<◌, [], length, IfOk, IfErr, OnOk};
+ghost use Rattle.json.specs.Json.{value, items, members};
+ghost use Rattle.bson_tokens.specs.Parts.{IsBroken};
+ghost use Rattle.bson_distinct.specs.Double.{json_of, IsFirstDouble};
+ghost use Rattle.bson_distinct.specs.Found.{Finds, double, double_items, double_members};
+
+use crate::way::{Way, or_at, or_member};
+use bson_tokens::unread::Unread;
+use json::{Reader, Scratch, Token};
+use std::alloc::Global;
+use std::collections::BTreeSet;
+
+/// How deep arrays and objects may nest.
+const MAX_DEPTH: usize = 127;
+
+/// The way to the first key of the text that stands in its object before, from the key outward; or
+/// nothing where no object, at any depth, has a key twice.
+///
+/// Keys are compared after their escapes are read. `Broken` is answered where the text is no JSON
+/// text of at most 127 levels. Memory is that of the keys of the objects that are open, and of the
+/// longest text with an escape.
+///
+/// ```
+/// if let Some(way) = first_double_key(alloc, r#"{"a": [{"b": 1, "\u0062": 2}]}"#)? {
+///     println!(rt; "{way:?}")?; // [Key("b"), Element(0), Key("a")]
+/// }
+/// ```
+pub fn first_double_key(alloc: Global, text: &str) -> Result<Option<Way>, Unread>
+    ensures ok { IfOk result (λ way. IsFirstDouble text.now way) }
+    ensures broken { IfErr result (IsBroken (json_of text.now)) }
+{
+    let mut scratch = Scratch::new(alloc);
+    let mut reader = Reader::new(text, &mut scratch)?;
+    let found = walk_value(alloc, &mut reader, MAX_DEPTH)?;
+    if reader.next().is_some() {
+        return Err(Unread::Broken);
+    }
+    Ok(found)
+}
+
+#[cycle(walk)]
+fn walk_value(alloc: Global, reader: &mut Reader<'_>, depth: usize) -> Result<Option<Way>, Unread>
+    ensures ok { IfOk result (λ way. Finds double (value depth reader.old) way reader.new) }
+    ensures broken { IfErr result (IsBroken (value depth reader.old)) }
+    ensures shorter { OnOk result (length reader.new < length reader.old) }
+{
+    let token = reader.next().ok_or(Unread::Broken)?;
+    match token {
+        Token::String(_) | Token::Number(_) | Token::Bool(_) | Token::Null => Ok(None),
+        Token::EndObject | Token::EndArray | Token::Key(_) | Token::Bad => Err(Unread::Broken),
+        Token::BeginArray => {
+            if depth == 0 {
+                return Err(Unread::Broken);
+            }
+            Ok(walk_items(alloc, reader, depth - 1)?)
+        }
+        Token::BeginObject => {
+            if depth == 0 {
+                return Err(Unread::Broken);
+            }
+            Ok(walk_members(alloc, reader, depth - 1)?)
+        }
+    }
+}
+
+// The elements of a list whose bracket was read.
+#[cycle(walk)]
+fn walk_items(alloc: Global, reader: &mut Reader<'_>, depth: usize) -> Result<Option<Way>, Unread>
+    ensures ok { IfOk result
+        (λ way. Finds (double_items 0) (items (value depth) (length reader.old) reader.old) way reader.new) }
+    ensures broken { IfErr result (IsBroken (items (value depth) (length reader.old) reader.old)) }
+    ensures shorter { OnOk result (length reader.new < length reader.old) }
+{
+    let mut at = 0usize;
+    let mut first: Option<Way> = None;
+    'items: while !reader.take_end_array() {
+        let item = walk_value(alloc, reader, depth)?;
+        first = or_at(first, item, at)?;
+        at = at.checked_add(1).ok_or(Unread::OutOfMemory)?;
+    }
+    Ok(first)
+}
+
+// The members of an object whose brace was read.
+#[cycle(walk)]
+fn walk_members(alloc: Global, reader: &mut Reader<'_>, depth: usize) -> Result<Option<Way>, Unread>
+    ensures ok { IfOk result
+        (λ way. Finds (double_members []) (members (value depth) (length reader.old) reader.old) way reader.new) }
+    ensures broken { IfErr result (IsBroken (members (value depth) (length reader.old) reader.old)) }
+    ensures shorter { OnOk result (length reader.new < length reader.old) }
+{
+    let mut keys = BTreeSet::new(alloc);
+    let mut first: Option<Way> = None;
+    'members: while let Some(name) = reader.next_key()? {
+        let is_new = keys.insert(name)?;
+        let member = walk_value(alloc, reader, depth)?;
+        first = or_member(alloc, first, is_new, name, member)?;
+    }
+    Ok(first)
+}

@@ -1,0 +1,57 @@
+-- Texts that are looked at before they are read: whether a key stands twice, and which text of Extended JSON v2 stands in
+-- the place of one of v1.
+use Rattle.std.specs.Prelude.{◌≡◌, ◌⊎◌, ℕ, List, Option, None, Some, IsUtf8, string_bytes, String}
+use Rattle.std.specs.declared.alloc.Global.{Global}
+use Rattle.json.specs.Json.{Json}
+use Rattle.json.specs.Strict.{HasUniqueKeys}
+use Rattle.bson_distinct.specs.Double.{json_of, HasDoubleKey}
+use Rattle.bson_legacy.specs.Text.{IsModernText}
+use Rattle.bson_place.specs.Place.{way_of}
+use Rattle.bson_place.specs.declared.place.Place.{Place}
+use Rattle.bson_run.specs.declared.fault.Fault.{Fault}
+use Rattle.bson_run.specs.declared.fault.Fault.TheVariants.{CannotRead, NotJson, NotExtendedJson, NoBytes, OutOfMemory}
+use Rattle.bson_run.specs.declared.fault.Fault.TheVariants.{CannotWrite}
+use Rattle.bson_run.specs.declared.order.Taking.{Taking}
+use Rattle.bson_run.specs.declared.order.Taking.TheVariants.{Distinct, Legacy, DistinctLegacy}
+
+-- no object of the JSON text that the bytes are, if they are one, has a key twice, at any depth
+abbrev pub HasNoDoubleKey : List ℕ → Type 0
+HasNoDoubleKey bytes = (j : Json) → IsUtf8 bytes → json_of bytes ≡ Some j → HasUniqueKeys j
+
+-- the bytes are a JSON text, whose first key that stands twice lies at the place
+abbrev pub HasDoubleKeyAt : Place → List ℕ → Type 0
+HasDoubleKeyAt place bytes = IsUtf8 bytes × HasDoubleKey bytes (way_of place)
+
+-- the bytes are no JSON text
+abbrev pub IsNoJson : List ℕ → Type 0
+IsNoJson bytes = (j : Json) → IsUtf8 bytes → json_of bytes ≡ Some j → ⊥
+
+-- in the place of a JSON text stands that of the tree for which its tree stands; other bytes stay
+abbrev pub StandsFor : List ℕ → List ℕ → Type 0
+StandsFor bytes modern = (IsUtf8 bytes × IsModernText bytes modern) ⊎ (IsNoJson bytes × (modern ≡ bytes))
+
+-- the bytes are let through, and these are read in their place
+abbrev pub IsTakenAs : Taking → List ℕ → List ℕ → Type 0
+IsTakenAs Distinct bytes taken = HasNoDoubleKey bytes × (taken ≡ bytes)
+IsTakenAs Legacy bytes taken = StandsFor bytes taken
+IsTakenAs DistinctLegacy bytes taken = HasNoDoubleKey bytes × StandsFor bytes taken
+
+-- the bytes are refused before they are read
+abbrev pub IsTurnedAway : Taking → Place → List ℕ → Type 0
+IsTurnedAway Distinct place bytes = HasDoubleKeyAt place bytes
+IsTurnedAway Legacy place bytes = ⊥
+IsTurnedAway DistinctLegacy place bytes = HasDoubleKeyAt place bytes
+
+-- what each fault says of the bytes
+abbrev pub IsUntaken : Taking → Fault → List ℕ → Type 0
+IsUntaken taking CannotRead bytes = ⊥
+IsUntaken taking NotJson bytes = ⊥
+IsUntaken taking (NotExtendedJson place) bytes = IsTurnedAway taking place bytes
+IsUntaken taking (NoBytes why) bytes = ⊥
+IsUntaken taking OutOfMemory bytes = Unit {0}
+IsUntaken taking CannotWrite bytes = ⊥
+
+-- the text, or the bytes where there is none
+abbrev pub taken_of : List ℕ → Option (String Global) → List ℕ
+taken_of bytes None = bytes
+taken_of bytes (Some text) = string_bytes text

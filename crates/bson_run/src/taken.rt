@@ -1,0 +1,78 @@
+//! Texts that are looked at before they are read.
+ghost use Rattle.std.specs.Prelude.{◌≡◌, IfErr, IfOk, OnOk};
+ghost use Rattle.bson_run.specs.Taken.{HasNoDoubleKey, IsTakenAs, IsUntaken, StandsFor, taken_of};
+ghost use Rattle.bson_run.specs.declared.order.Taking.TheVariants.{Distinct};
+
+use crate::fault::Fault;
+use crate::order::Taking;
+use bson_distinct::walk::first_double_key;
+use bson_legacy::modern::modern_text;
+use bson_place::place::{Place, Reason};
+use bson_tokens::unread::Unread;
+use std::alloc::Global;
+
+/// What is told of a key that stands twice.
+const DOUBLE_KEY: &str = "a key that stands twice in its object";
+
+/// The text that is read in the place of the bytes, or nothing where they are read themselves.
+///
+/// With `Distinct` and `DistinctLegacy` a JSON text is refused in which an object has a key twice,
+/// at any depth and in wrappers too, as `NotExtendedJson` with the way to the first key that stands
+/// in its object before. Keys are compared after their escapes are read. With `Legacy` and
+/// `DistinctLegacy` the text is [`modern_text`]'s. Bytes that are no JSON text are left to the
+/// reader.
+///
+/// ```
+/// if let Err(fault) = taken(alloc, Taking::Distinct, br#"{"a": [{"b": 1, "b": 2}]}"#) {
+///     rt.print(&explain(alloc, &fault, b"")?)?; //  at a.0.b (a key that stands twice in its object)
+/// }
+/// ```
+pub fn taken(alloc: Global, taking: Taking, bytes: &[u8]) -> Result<Option<String>, Fault>
+    ensures ok { IfOk result (λ text. IsTakenAs taking bytes.now (taken_of bytes.now text)) }
+    ensures fault { IfErr result (λ fault. IsUntaken taking fault bytes.now) }
+{
+    match taking {
+        Taking::Distinct => {
+            refuse_double_keys(alloc, bytes)?;
+            Ok(None)
+        }
+        Taking::Legacy => modern(alloc, bytes),
+        Taking::DistinctLegacy => {
+            refuse_double_keys(alloc, bytes)?;
+            modern(alloc, bytes)
+        }
+    }
+}
+
+// Refuses a text in which a key stands twice.
+fn refuse_double_keys(alloc: Global, bytes: &[u8]) -> Result<(), Fault>
+    ensures ok { OnOk result (HasNoDoubleKey bytes.now) }
+    ensures fault { IfErr result (λ fault. IsUntaken Distinct fault bytes.now) }
+{
+    let Ok(text) = simdutf8::compat::from_utf8(bytes) else {
+        return Ok(());
+    };
+    match first_double_key(alloc, text) {
+        Ok(None) | Err(Unread::Broken) => Ok(()),
+        Ok(Some(steps)) => {
+            let reason = Reason::WrongShape(DOUBLE_KEY);
+            Err(Fault::NotExtendedJson(Place { reason, steps }))
+        }
+        Err(Unread::OutOfMemory) => Err(Fault::OutOfMemory),
+    }
+}
+
+// The text in the place of one of v1; none for what is no JSON text.
+fn modern(alloc: Global, bytes: &[u8]) -> Result<Option<String>, Fault>
+    ensures ok { IfOk result (λ text. StandsFor bytes.now (taken_of bytes.now text)) }
+    ensures fault { IfErr result (λ fault. fault ≡ Fault.OutOfMemory) }
+{
+    let Ok(text) = simdutf8::compat::from_utf8(bytes) else {
+        return Ok(None);
+    };
+    match modern_text(alloc, text) {
+        Ok(text) => Ok(Some(text)),
+        Err(Unread::Broken) => Ok(None),
+        Err(Unread::OutOfMemory) => Err(Fault::OutOfMemory),
+    }
+}
