@@ -140,10 +140,9 @@ impl Bson {
         self.to_relaxed_text(alloc)
     }
 
-    /// The compact text of the tree of the value in a form, as [`Bson::into_extjson_with`] makes it
-    /// and `serde_json` writes it, but that a number that is a double is its shortest decimal
-    /// (`1e16`, which `serde_json` writes as `1e+16`). It is written straight from the value, with no
-    /// tree.
+    /// The compact text of the tree of the value in a form, as [`Bson::into_extjson_with`] makes it.
+    /// It is the one that `serde_json` writes, but that a number that is a double is its shortest
+    /// decimal: `1e16`, and not `1e+16`. It is written straight from the value, with no tree.
     ///
     /// With `Doubles::Finite` every value has a text, and only want of memory may come in its
     /// place.
