@@ -1,5 +1,5 @@
 -- A turn of the grammar's loops over tokens in either order of keys, and what stands by default where a part was read.
-use Rattle.std.proofs.Common.{◌≡◌, ℕ, suc, ◌-◌, ◌<◌, ◌≤◌, List, length, Bool, Option, Some, None, Result, Ok, Err}
+use Rattle.std.proofs.Common.{◌≡◌, ℕ, ◌-◌, ◌<◌, ◌≤◌, List, length, Bool, Option, Some, None, Result}
 use Rattle.std.proofs.Common.{option_map, refl, sym, ap, ◌∙◌, arith, append-nil, ◌∷◌, []}
 use Rattle.std.proofs.lemmas.Option.{same_Some}
 use Rattle.json.specs.Lex.{tokens}
@@ -22,7 +22,7 @@ use Rattle.bson_tokens.specs.Parts.{IsBroken, NoMembers, NoObject}
 use Rattle.bson_tokens.specs.declared.unread.Unread.{Unread}
 use Rattle.bson_tokens.specs.declared.unread.Unread.TheVariants.{Broken}
 use Rattle.bson_tokens.proofs.Offered.{was_read, no_members_behind}
-use Rattle.bson_tokens.proofs.Offered.{Lists, none_listed, one_listed, Gathers, none_yet, one_gathered}
+use Rattle.bson_tokens.proofs.Offered.{Gathers, none_yet, one_gathered}
 use Rattle.bson.specs.ByOrder.{tree_by, items_by, members_by, insert_by, default_tree, default_members}
 use Rattle.bson.specs.ByOrder.{ItemsAreBy, MembersAreBy, ObjectIsBy}
 use Rattle.bson.specs.Straight.{HasTree, IsHeld, ReadsHeld, given}

@@ -23,7 +23,7 @@ use Rattle.bson_model.specs.Reading.{reads_in, reads_items_in}
 use Rattle.bson_model.specs.Value as model
 use Rattle.bson_model.specs.Value.{Value, Values, no_values}
 use Rattle.bson_model.specs.Writing.{writes_in, writes_items_in}
-use Rattle.bson_model.proofs.Offered.{writable_is_in, tree_is_in, has_text_in, may_have_float}
+use Rattle.bson_model.proofs.Offered.{writable_is_in, tree_is_in, has_text_in, has_no_float}
 use Rattle.bson.specs.Converted.{ItemsConverted, TreeConverted, TextConverted}
 use Rattle.bson.specs.Straight.{TextMeans, TreeMeans, Reads}
 use Rattle.bson.specs.Texts.{IsPrinted, IsTextUnder, tokens_of}
@@ -136,7 +136,7 @@ text_written D f v t s written ranged is = record {
   tree = t;
   is_tree = tree_is_in D f v t written ranged;
   reads_again = λ plain. has_text_in D f v t written plain ranged;
-  compact = is ∙ sym (text_is D f t (may_have_float D f v t written));
+  compact = is ∙ sym (text_is D f t (has_no_float D f v t written));
 }
 
 pub text_converted : (D : Doubles) (f : Form) (text s : List ℕ) (rest old new : List Token)

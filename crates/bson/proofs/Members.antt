@@ -1,13 +1,9 @@
 -- Members in ascending order, by their places.
 use Rattle.std.proofs.Common.{◌≡◌, ℕ, zero, suc, ◌+◌, ◌<◌, ◌≤◌, List, [], ◌∷◌, ◌++◌, length, get_or, set, String}
-use Rattle.std.proofs.Common.{Global, string_bytes, Less, Equal, Greater, nat_cmp, refl, sym, ap, ◌∙◌, subst, arith}
+use Rattle.std.proofs.Common.{Global, string_bytes, Less, Equal, Greater, nat_cmp, refl, sym, ap, subst, arith}
 use Rattle.std.specs.Cmp.Lexicographic.{slice_cmp}
 use Rattle.std.specs.List.{insert}
-use Rattle.std.specs.Ordering.{is_eq}
 use Rattle.std.proofs.lemmas.Cmp.{nat_list_cmp_total}
-use Rattle.std.proofs.lemmas.Map.Text.{is_eq-slice_cmp}
-use Rattle.std.specs.Cmp.Lexicographic.{nat_list_eq_equiv}
-use Rattle.bson.proofs.Fresh.{AllApart, Fresh}
 use Rattle.bson.specs.View.{bson_view}
 use Rattle.bson.specs.declared.bson.Bson.{Bson}
 use Rattle.bson_model.specs.Sorted.{put_pair, IsLeast, KeysAscend}

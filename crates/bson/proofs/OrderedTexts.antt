@@ -16,7 +16,7 @@ use Rattle.bson_model.proofs.Offered.{tree_is_in, writable_is_in}
 use Rattle.bson_order.specs.Distinct.{AllDistinct}
 use Rattle.bson_order.specs.Kept.{unordered}
 use Rattle.bson_order.specs.Written.{WrittenInOrder}
-use Rattle.bson_order.proofs.Offered.{default_written, may_have_float, one_written, ordered_text, written_from}
+use Rattle.bson_order.proofs.Offered.{default_written, has_no_float, one_written, ordered_text, written_from}
 use Rattle.bson_order.proofs.Offered.{writable_is}
 use Rattle.bson.specs.KeyOrders.{writes_by}
 use Rattle.bson.specs.Texts.{GivesText, IsTextInOrder}
@@ -50,7 +50,7 @@ module _ (D : Doubles) (f : Form) (v : Value) where
         one = λ u other. one_written D f v g.0 u h other;
         ordered = λ plain. ordered_text D f v g.0 h plain ranged distinct;
         by_default = default_tree g.0 h (is_writable g.0 g.1) ranged;
-        compact = g.2 ∙ sym (text_is D f g.0 (may_have_float D f v g.0 h));
+        compact = g.2 ∙ sym (text_is D f g.0 (has_no_float D f v g.0 h));
       }
   ordered_is (Err e) g ranged distinct = tt
 

@@ -273,25 +273,23 @@ unfolding printed_members print_from
 no_more true = refl
 no_more false = refl
 
+key_printed : (behind : Bool) (k : List ℕ) (ts : List Token)
+    → written.comma_if behind ++ ((quoted k ++ 58 ∷ []) ++ print_from false ts) ≡ print_from behind (key k ∷ ts)
+unfolding print_from
+key_printed true k ts = refl
+key_printed false k ts = refl
+
 one_more : (behind : Bool) (k : List ℕ) (t : Data) (ms : Members)
     → written.comma_if behind ++ ((quoted k ++ 58 ∷ text_of t) ++ printed_members true ms)
     ≡ printed_members behind (member k t ms)
 unfolding printed_members
 one_more behind k t ms =
     let rest = members_tokens (members_outline ms) in
-    let text = text_of t ++ print_from true rest in
     ap (λ l. written.comma_if behind ++ l)
     (append_assoc (quoted k) (58 ∷ text_of t) (print_from true rest)
-    ∙ sym (append_assoc (quoted k) (58 ∷ []) text)
+    ∙ sym (append_assoc (quoted k) (58 ∷ []) (text_of t ++ print_from true rest))
     ∙ ap (λ l. (quoted k ++ 58 ∷ []) ++ l) (sym (printed_then t rest)))
-    ∙ key_printed behind
-  where
-    key_printed : (b : Bool)
-        → written.comma_if b ++ ((quoted k ++ 58 ∷ []) ++ print_from false (tokens_of t ++ members_tokens (members_outline ms)))
-        ≡ print_from b (key k ∷ (tokens_of t ++ members_tokens (members_outline ms)))
-    unfolding print_from
-    key_printed true = refl
-    key_printed false = refl
+    ∙ key_printed behind k (tokens_of t ++ rest)
 
 object_printed : (ms : Members) → 123 ∷ printed_members false ms ≡ text_of (object ms)
 unfolding printed_members print_from

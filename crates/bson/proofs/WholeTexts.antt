@@ -10,7 +10,7 @@ use Rattle.bson_wrapper.proofs.Offered.{text_is as as_text}
 use Rattle.bson_model.specs.Value.{Value}
 use Rattle.bson_model.specs.Normal.{writable_in, InRange}
 use Rattle.bson_model.specs.Writing.{writes_in}
-use Rattle.bson_model.proofs.Offered.{has_text_in, may_have_float, tree_is_in, writable_from_in, writable_is_in}
+use Rattle.bson_model.proofs.Offered.{has_text_in, has_no_float, tree_is_in, writable_from_in, writable_is_in}
 use Rattle.bson.specs.KeyOrders.{writes_by}
 use Rattle.bson.specs.Texts.{GivesText, IsTextUnder}
 use Rattle.bson.specs.declared.extjson.key_order.KeyOrder.TheVariants.{Ascending}
@@ -28,7 +28,7 @@ text_is D f v (Ok s) g r =
       tree = g.0;
       is_tree = tree_is_in D f v g.0 g.1 r;
       reads_again = λ p. has_text_in D f v g.0 g.1 p r;
-      compact = g.2 ∙ sym (as_text D f g.0 (may_have_float D f v g.0 g.1));
+      compact = g.2 ∙ sym (as_text D f g.0 (has_no_float D f v g.0 g.1));
     }
 text_is D f v (Err e) g r = tt
 

@@ -1,6 +1,6 @@
 -- An object whose first key is a wrapper's or `$scope`: of that key alone, of code and its scope, and of others.
-use Rattle.std.proofs.Common.{◌≡◌, ℕ, ◌<◌, ◌&&◌, ◌||◌, ◌⊎◌, inl, inr, List, length, Bool, true, false, not, codes, Option}
-use Rattle.std.proofs.Common.{Some, None, Result, Ok, Err, refl, sym, ap, ◌∙◌, subst, arith}
+use Rattle.std.proofs.Common.{◌≡◌, ℕ, ◌&&◌, ◌||◌, inl, inr, List, Bool, true, false, not, codes, Option}
+use Rattle.std.proofs.Common.{None, Result, Ok, Err, refl, sym, ap, ◌∙◌, subst}
 use Rattle.std.proofs.Common.{Equal, nat_cmp}
 use Rattle.std.proofs.lemmas.Cmp.{nat_list_cmp_total, tied_itself}
 use Rattle.std.specs.Cmp.Lexicographic.{slice_cmp}
@@ -8,14 +8,14 @@ use Rattle.std.specs.Prelude.{is_some}
 use Rattle.std.specs.Str.{bytes_eq}
 use Rattle.std.proofs.lemmas.Slice.Eq.{bytes_eq-Decides}
 use Rattle.json.specs.Token.{Token}
-use Rattle.json.specs.Json.{read_key, value}
+use Rattle.json.specs.Json.{value}
 use Rattle.serde_json.specs.Data.{Data, null, boolean, number, string, array, Members, no_members, member, object, put}
 use Rattle.serde_json.specs.Read.{of_json, converted}
 use Rattle.bson_wrapper.specs.Faults.{Fault}
 use Rattle.bson_wrapper.specs.Reading.{single_at_in, on_text}
 use Rattle.bson_wrapper.specs.Table.{wrapper_of, has_wrapper}
 use Rattle.bson_wrapper.specs.declared.form.Doubles.{Doubles}
-use Rattle.bson_model.specs.Reading.{reads_in, reads_scope_in, scalar_value, scope_value, code_at}
+use Rattle.bson_model.specs.Reading.{reads_in, scalar_value, scope_value}
 use Rattle.bson_model.specs.Sorted.{sorted}
 use Rattle.bson_model.specs.Value.{Value, Pairs}
 use Rattle.bson_model.proofs.Offered.{means_to_in}
@@ -23,8 +23,8 @@ use Rattle.bson_order.specs.Kept.{unordered}
 use Rattle.bson_order.specs.Reading.{reads_in_order, scope_in_order}
 use Rattle.bson_order.proofs.Offered.{forgets, means_from}
 use Rattle.bson_tokens.specs.Parts.{NoObject}
-use Rattle.bson_tokens.proofs.Offered.{no_key, no_member}
-use Rattle.bson.specs.ByOrder.{tree_by, insert_by, default_tree, default_members, reads_by, reads_scope_by}
+use Rattle.bson_tokens.proofs.Offered.{no_member}
+use Rattle.bson.specs.ByOrder.{insert_by, default_tree, default_members, reads_by, reads_scope_by}
 use Rattle.bson.specs.Straight.{given, code_given, any_key, is_wrapper, is_other, is_code, is_scope, is_stray, IsOdd}
 use Rattle.bson.specs.Straight.{AreTwo, IsCode}
 use Rattle.bson.specs.declared.extjson.key_order.KeyOrder.{KeyOrder}

@@ -25,7 +25,7 @@ use Rattle.bson_wrapper.specs.declared.form.Form.{Form}
 use Rattle.bson_model.specs.Value as model
 use Rattle.bson_order.specs.Kept.{kept, kept_items}
 use Rattle.bson_wrapper.proofs.Offered.{text_is}
-use Rattle.bson_order.proofs.Offered.{may_have_float, means_from, text_means, written_from, ordered_text}
+use Rattle.bson_order.proofs.Offered.{has_no_float, means_from, text_means, written_from, ordered_text}
 use Rattle.bson_tokens.proofs.Offered.{was_read}
 use Rattle.bson_filter.specs.Filtered.{IsFilteredText, ItemsBecome, MembersBecome, TreePasses, ItemsPass}
 use Rattle.bson_filter.specs.Filtered.{MembersPass, ObjectPasses, NumberPasses}
@@ -237,5 +237,5 @@ module _ (D : Doubles) (f : Form) where
         is_tree = ordered_text D f v u (written_from D f v u becomes.2) meaning.read_form.0 meaning.ranged
             meaning.distinct;
         compact = all ∙ ap print (is ∙ ap (λ l. l ++ tokens_of u) none)
-            ∙ sym (text_is D f u (may_have_float D f v u (written_from D f v u becomes.2)));
+            ∙ sym (text_is D f u (has_no_float D f v u (written_from D f v u becomes.2)));
       }

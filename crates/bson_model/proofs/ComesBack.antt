@@ -16,7 +16,7 @@ use Rattle.bson_model.specs.Normal.{normal_form, as_read, plain, writable_in, In
 use Rattle.bson_model.specs.Written.{WrittenIn}
 use Rattle.bson_model.specs.Writing.{writes_in}
 use Rattle.bson_model.proofs.MeansLaws.{means_from}
-use Rattle.bson_model.proofs.NoFloats.{may_have_float}
+use Rattle.bson_model.proofs.NoFloats.{has_no_float}
 use Rattle.bson_model.proofs.RangeLaws.{in_range}
 use Rattle.bson_model.proofs.ReadBack.{reads_back_is, equal_is, same_trees, as_read_form}
 use Rattle.bson_model.proofs.ReadForm.{form}
@@ -53,7 +53,7 @@ module _ (D : Doubles) where
   equal_texts f v u w x h p r q s c =
       let g = canon_to D f w x c in
       let trees = equal_is D f v u w x h r p q s c in (
-        λ e. trees.0 (one_tree D f u x (may_have_float D f v u h) (tree_is D f v u h r) (may_have_float D f w x g)
+        λ e. trees.0 (one_tree D f u x (has_no_float D f v u h) (tree_is D f v u h r) (has_no_float D f w x g)
             (tree_is D f w x g s) e),
         λ e. ap (tree_text D f) (trees.1 e),
       )
@@ -62,7 +62,7 @@ module _ (D : Doubles) where
   has_text f v u h p r = record {
     written = canon_from D f v u h;
     is_tree = tree_is D f v u h r;
-    read_again = text_back D f u (may_have_float D f v u h) (tree_is D f v u h r);
+    read_again = text_back D f u (has_no_float D f v u h) (tree_is D f v u h r);
     means = let b = reads_back_is D f v u h r p in (b.0, b.1, b.2, same_tree f v u b.0 h b.1 b.2);
     equal = λ w x. equal_texts f v u w x h p r;
   }

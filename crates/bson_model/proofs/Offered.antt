@@ -48,7 +48,7 @@ pub use Rattle.bson_model.proofs.ComesBack.{read_back_ok as read_back_ok_in}
 pub use Rattle.bson_model.proofs.MeansLaws.{means_from as means_from_in, means_to as means_to_in}
 pub use Rattle.bson_model.proofs.MeansLaws.{means_one as means_one_in}
 pub use Rattle.bson_model.proofs.Modes.{all_writable}
-pub use Rattle.bson_model.proofs.NoFloats.{may_have_float}
+pub use Rattle.bson_model.proofs.NoFloats.{has_no_float}
 pub use Rattle.bson_model.proofs.ReadForm.{normal_scalar_of}
 pub use Rattle.bson_model.proofs.RangeLaws.{in_range as in_range_in}
 pub use Rattle.bson_model.proofs.ReadBack.{forms_idempotent as forms_idempotent_in, tree_is as tree_is_in}

@@ -12,7 +12,7 @@ use Rattle.serde_json.specs.Data.{member, put, depth, items_depth, members_depth
 use Rattle.serde_json.specs.Data as tree
 use Rattle.serde_json.specs.Read.{number_of, of_json, of_items, of_members, read, max_depth}
 use Rattle.serde_json.proofs.Numbers.{number_of-decimal, number_of-negative}
-use Rattle.bson_wrapper.specs.TreeText.{number_text, outline, items_outline, members_outline, text_of, MayHaveFloat}
+use Rattle.bson_wrapper.specs.TreeText.{number_text, outline, items_outline, members_outline, text_of, HasNoFloatIn}
 use Rattle.bson_wrapper.specs.TreeText.{tree_text}
 use Rattle.bson_wrapper.specs.declared.form.Doubles.{Doubles}
 use Rattle.bson_wrapper.specs.declared.form.Form.{Form}
@@ -141,12 +141,12 @@ one_text d e t s same =
 
 module _ (D : Doubles) (f : Form) where
   -- the text is read as the tree, unless it nests deeper than texts may
-  pub text_back : (d : Data) → MayHaveFloat D f d → IsTree d → depth d ≤ max_depth → read (tree_text D f d) ≡ Some d
+  pub text_back : (d : Data) → HasNoFloatIn D f d → IsTree d → depth d ≤ max_depth → read (tree_text D f d) ≡ Some d
   text_back d h t shallow = ap read (text_is D f d h) ∙ back_within max_depth d t shallow
 
-  pub one_tree : (d e : Data) → MayHaveFloat D f d → IsTree d → MayHaveFloat D f e → IsTree e
+  pub one_tree : (d e : Data) → HasNoFloatIn D f d → IsTree d → HasNoFloatIn D f e → IsTree e
       → tree_text D f d ≡ tree_text D f e → d ≡ e
   one_tree d e h t g s same = one_text d e t s (sym (text_is D f d h) ∙ same ∙ text_is D f e g)
 
-  pub own_text : (t : Data) → MayHaveFloat D f t → IsTree t → HasOwnTextIn D f t
+  pub own_text : (t : Data) → HasNoFloatIn D f t → IsTree t → HasOwnTextIn D f t
   own_text t h is = (text_back t h is, λ u g s same. one_tree t u h is g s same)

@@ -2,7 +2,7 @@
 use Rattle.std.specs.Prelude.{◌≡◌, ◌↔◌, true}
 use Rattle.serde_json.specs.Data.{Data, Members}
 use Rattle.serde_json.specs.Data as tree
-use Rattle.bson_wrapper.specs.TreeText.{MayHaveFloat}
+use Rattle.bson_wrapper.specs.TreeText.{HasNoFloatIn}
 use Rattle.bson_wrapper.specs.declared.form.Form.{Form}
 use Rattle.bson_model.specs.Value.{Value, document, Pairs}
 use Rattle.bson_model.specs.Means.{MeansIn, MeansDocumentIn}
@@ -40,7 +40,7 @@ pub record IsTreeOfIn (D : Doubles) (f : Form) (v : Value) (t : Data) : Type 0 w
   -- the grammar's tree of the normal form, and its only one
   pub written : WrittenIn D f (normal_form v) t
   pub one : (u : Data) → WrittenIn D f (normal_form v) u → u ≡ t
-  pub no_float : MayHaveFloat D f t
+  pub no_float : HasNoFloatIn D f t
   -- the tree of every value that is the same
   pub alike : (w : Value) (u : Data) → HasSameTreeIn D f v t w u
   -- read again, and told from the trees of other values

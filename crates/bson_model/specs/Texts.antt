@@ -7,7 +7,7 @@ use Rattle.serde_json.specs.Data.{Num, unsigned, negative, float, Data, Items, n
 use Rattle.serde_json.specs.Data.{member, depth}
 use Rattle.serde_json.specs.Data as tree
 use Rattle.serde_json.specs.Read.{read, max_depth}
-use Rattle.bson_wrapper.specs.TreeText.{IsDouble, MayHaveFloat, tree_text}
+use Rattle.bson_wrapper.specs.TreeText.{IsDouble, HasNoFloatIn, tree_text}
 use Rattle.bson_wrapper.specs.declared.form.Form.{Form}
 use Rattle.bson_wrapper.specs.declared.form.Form.TheVariants.{Canonical}
 use Rattle.bson_model.specs.Value.{Value}
@@ -56,7 +56,7 @@ abbrev mutual
 -- the text is read as the tree again, unless that nests deeper than texts may, and no other tree has the text
 abbrev pub HasOwnTextIn : Doubles → Form → Data → Type 0
 HasOwnTextIn D f t = (depth t ≤ max_depth → read (tree_text D f t) ≡ Some t)
-    × ((u : Data) → MayHaveFloat D f u → IsTree u → tree_text D f t ≡ tree_text D f u → t ≡ u)
+    × ((u : Data) → HasNoFloatIn D f u → IsTree u → tree_text D f t ≡ tree_text D f u → t ≡ u)
 
 abbrev pub HasOwnText : Data → Type 0
 HasOwnText = HasOwnTextIn Special Canonical

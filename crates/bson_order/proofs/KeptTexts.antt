@@ -13,7 +13,7 @@ use Rattle.serde_json.specs.Data.{Num, unsigned, negative, float, Data, Items, n
 use Rattle.serde_json.specs.Data.{member, depth, items_depth, members_depth}
 use Rattle.serde_json.specs.Data as tree
 use Rattle.serde_json.specs.Read.{max_depth}
-use Rattle.bson_wrapper.specs.TreeText.{outline, items_outline, members_outline, text_of, MayHaveFloat, tree_text}
+use Rattle.bson_wrapper.specs.TreeText.{outline, items_outline, members_outline, text_of, HasNoFloatIn, tree_text}
 use Rattle.bson_wrapper.specs.declared.form.Doubles.{Doubles}
 use Rattle.bson_wrapper.specs.declared.form.Form.{Form}
 use Rattle.bson_wrapper.proofs.Offered.{float_is_number, text_is}
@@ -134,7 +134,7 @@ one_text d e t s same =
     let n = max (depth d) (depth e) in
     un_some d e (sym (back_within n d t (omega arith)) ∙ ap (read_within n) same ∙ back_within n e s (omega arith))
 
-pub own_text : (D : Doubles) (f : Form) (t : Data) → MayHaveFloat D f t → IsKeptTree t → HasOwnTextInOrder D f t
+pub own_text : (D : Doubles) (f : Form) (t : Data) → HasNoFloatIn D f t → IsKeptTree t → HasOwnTextInOrder D f t
 own_text D f d h t =
     let is = text_is D f d h in
     let read = λ (shallow : depth d ≤ max_depth). back_within max_depth d t shallow in

@@ -4,7 +4,7 @@ use Rattle.std.specs.Str.{bytes_eq}
 use Rattle.std.proofs.lemmas.Bool.{or_from}
 use Rattle.serde_json.specs.Data.{Data, Items, Members}
 use Rattle.serde_json.specs.Written.{has_float, items_have_float, members_have_float}
-use Rattle.bson_wrapper.specs.TreeText.{MayHaveFloat, tree_text}
+use Rattle.bson_wrapper.specs.TreeText.{HasNoFloatIn, tree_text}
 use Rattle.bson_wrapper.specs.Normal.{normal_scalar, scalar_as_read}
 use Rattle.bson_wrapper.specs.Scalar.{Scalar}
 use Rattle.bson_wrapper.specs.Written.{writes_scalar_in}
@@ -84,10 +84,10 @@ module _ (D : Doubles) (f : Form) (other : (D ≡ Finite) × (f ≡ Relaxed) →
     no_pairs_float (pair k v ps) ms h = ap members_have_float h.4
         ∙ or_from (has_float h.0) (members_have_float h.1) (no_float v h.0 h.2) (no_pairs_float ps h.1 h.3)
 
-pub may_have_float : (D : Doubles) (f : Form) (v : Value) (t : Data) → WrittenInOrder D f (normal_form v) t → MayHaveFloat D f t
-may_have_float Special f v t h = no_float Special f (λ e. let never = e.0 in cc) v t h
-may_have_float Finite Canonical v t h = no_float Finite Canonical (λ e. let never = e.1 in cc) v t h
-may_have_float Finite Relaxed v t h = tt
+pub has_no_float : (D : Doubles) (f : Form) (v : Value) (t : Data) → WrittenInOrder D f (normal_form v) t → HasNoFloatIn D f t
+has_no_float Special f v t h = no_float Special f (λ e. let never = e.0 in cc) v t h
+has_no_float Finite Canonical v t h = no_float Finite Canonical (λ e. let never = e.1 in cc) v t h
+has_no_float Finite Relaxed v t h = tt
 
 module _ (D : Doubles) where
   -- ---- the normal form, settled, has the same ordered tree
@@ -128,7 +128,7 @@ module _ (D : Doubles) where
   equal_texts f v t w u h p r a q s b g =
       let kept_t = is_kept D f v t h r a in
       let kept_u = is_kept D f w u g s b in (
-        λ e. let one = (own_text D f t (may_have_float D f v t h) kept_t).one u (may_have_float D f w u g) kept_u e in
+        λ e. let one = (own_text D f t (has_no_float D f v t h) kept_t).one u (has_no_float D f w u g) kept_u e in
             one_in_order D t _ _ kept_t (back_as_read D f v t h p r)
             (subst (λ d. MeansInOrder D d (as_read f (normal_form w))) (sym one) (back_as_read D f w u g q s)),
         λ e. ap (tree_text D f) (un_ok _ _ (sym (written_to D f w u g) ∙ sym (as_read_written f w)
@@ -141,7 +141,7 @@ module _ (D : Doubles) where
     written = h;
     one = λ u g. one_written D f v t u h g;
     means = back_as_read D f v t h p r;
-    own_text = own_text D f t (may_have_float D f v t h) (is_kept D f v t h r a);
+    own_text = own_text D f t (has_no_float D f v t h) (is_kept D f v t h r a);
     by_default = default_written D f v t h r;
     equal = λ w u. equal_texts f v t w u h p r a;
   }

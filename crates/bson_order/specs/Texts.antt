@@ -2,7 +2,7 @@
 use Rattle.std.specs.Prelude.{◌≡◌, ◌≤◌, ◌↔◌, ℕ, List, true, Some}
 use Rattle.serde_json.specs.Data.{Data, depth}
 use Rattle.serde_json.specs.Read.{read, max_depth}
-use Rattle.bson_wrapper.specs.TreeText.{MayHaveFloat, tree_text}
+use Rattle.bson_wrapper.specs.TreeText.{HasNoFloatIn, tree_text}
 use Rattle.bson_wrapper.specs.declared.form.Doubles.{Doubles}
 use Rattle.bson_wrapper.specs.declared.form.Form.{Form}
 use Rattle.bson_model.specs.Laws.{HasMeaningIn, IsReadFormIn}
@@ -22,7 +22,7 @@ use Rattle.bson_order.specs.Written.{WrittenInOrder}
 pub record HasOwnTextInOrder (D : Doubles) (f : Form) (t : Data) : Type 0 where
   pub in_order : depth t ≤ max_depth → read_kept (tree_text D f t) ≡ Some t
   pub sorted : depth t ≤ max_depth → read (tree_text D f t) ≡ Some (unordered t)
-  pub one : (u : Data) → MayHaveFloat D f u → IsKeptTree u → tree_text D f t ≡ tree_text D f u → t ≡ u
+  pub one : (u : Data) → HasNoFloatIn D f u → IsKeptTree u → tree_text D f t ≡ tree_text D f u → t ≡ u
 
 -- ---- reading
 

@@ -3,7 +3,7 @@ ghost use Rattle.std.specs.Prelude.{◌≡◌, ◌↔◌, ℕ, List, true, false
 ghost use Rattle.json.specs.Json as json;
 ghost use Rattle.serde_json.specs.Data.{Data, Members};
 ghost use Rattle.serde_json.specs.Read.{read};
-ghost use Rattle.bson_wrapper.specs.TreeText.{MayHaveFloat};
+ghost use Rattle.bson_wrapper.specs.TreeText.{HasNoFloatIn};
 ghost use Rattle.bson_wrapper.specs.declared.form.Doubles.{Doubles};
 ghost use Rattle.bson_wrapper.specs.declared.form.Doubles.TheVariants.{Special, Finite};
 ghost use Rattle.bson_wrapper.specs.declared.form.Form.{Form};
@@ -45,7 +45,7 @@ pub fn texts_have_kept_trees()
 /// it. But in the relaxed form of the mode `Finite`, which has the shortest decimal of each of its
 /// floats, the tree has no float.
 pub fn kept_texts_read_back()
-    ensures { (D : Doubles) (f : Form) (t : Data) → MayHaveFloat D f t → IsKeptTree t → HasOwnTextInOrder D f t }
+    ensures { (D : Doubles) (f : Form) (t : Data) → HasNoFloatIn D f t → IsKeptTree t → HasOwnTextInOrder D f t }
 {}
 
 /// A tree with each key once means at most one value in order.

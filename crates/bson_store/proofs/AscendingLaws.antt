@@ -37,7 +37,7 @@ by_test true h = absurd (h refl)
 by_test false h = refl
 
 -- what a place is: there is none, or this one
-by_option : {A : Type 0} (P : Option A → Type 0) (r : Option A) → (r ≡ None → P None)
+pub by_option : {A : Type 0} (P : Option A → Type 0) (r : Option A) → (r ≡ None → P None)
     → ((x : A) → r ≡ Some x → P (Some x)) → P r
 by_option P None n s = n refl
 by_option P (Some x) n s = s x refl

@@ -18,7 +18,7 @@ use Rattle.std.specs.BTreeMap.{get_by_text}
 use Rattle.std.specs.BTreeMap.Range.{IsFromStart, IsRangeOf}
 use Rattle.bson_store.specs.Order.{key_cmp, is_above, IsLeast}
 use Rattle.bson_store.specs.Pairs.{position_of}
-use Rattle.bson_store.specs.Small.{Places, HasPlaces}
+use Rattle.bson_store.specs.Small.{Places}
 use Rattle.bson_store.proofs.Found.{none_at, place-within}
 use Rattle.bson_store.specs.Next.{IsNext}
 use Rattle.bson_store.proofs.Least.{key_total, same_key, less_of}
@@ -72,7 +72,7 @@ some_there None x e = cc
 some_there (Some y) x e = search rules
 
 pub none_next : (m : Places) (last : Option (Bor Text)) (r : List (Text × ℕ))
-    → IsRangeOf string_cmp (bound_text last) Unbounded m r → r ≡ [] → IsNext m (bytes_of last) None
+    → IsRangeOf string_cmp (bound_text last) Unbounded m r → r ≡ [] → IsNext (get_by_text m) (bytes_of last) None
 none_next m last r is empty q a = go (get_by_text m q) refl
   where
     go : (o : Option ℕ) → get_by_text m q ≡ o → get_by_text m q ≡ None
@@ -83,7 +83,7 @@ none_next m last r is empty q a = go (get_by_text m q) refl
         (inside last k.0 (subst (λ y. is_above (bytes_of last) y ≡ true) k.1 a), tt)
 
 pub some_next : (m : Places) (last : Option (Bor Text)) (e : Text × ℕ) (t : List (Text × ℕ))
-    → IsRangeOf string_cmp (bound_text last) Unbounded m (e ∷ t) → IsNext m (bytes_of last) (Some e.1)
+    → IsRangeOf string_cmp (bound_text last) Unbounded m (e ∷ t) → IsNext (get_by_text m) (bytes_of last) (Some e.1)
 some_next m last e t is = (string_bytes e.0, above last e.0 is.1.0.0, is.1.1, λ q a l. go q a l (get_by_text m q) refl)
   where
     go : (q : List ℕ) → is_above (bytes_of last) q ≡ true → key_cmp q (string_bytes e.0) ≡ Less → (o : Option ℕ)
@@ -134,15 +134,15 @@ module _ {V : Type 0} where
   found k [] i e = cc
   found k (p ∷ ps) i e = found_or k p ps i (bytes_eq k p.0) (position_of k ps) refl refl e (λ j h. found k ps j h)
 
-  -- the next place in the map is that of the least pair
-  pub least_from : (m : Places) (ps : List (List ℕ × V)) (last : Option (List ℕ)) (r : Option ℕ) → HasPlaces m ps
-      → IsNext m last r → IsLeast last ps (option_and_then (slice_get ps) r)
-  least_from m ps last None has next = λ q a. lacks q ps (sym (has q) ∙ next q a)
-  least_from m ps last (Some i) has next =
-      let f = found next.0 ps i (sym (has next.0) ∙ next.2) in
-      subst (IsLeast last ps) (sym f.1) (next.1, f.2, λ q a l. lacks q ps (sym (has q) ∙ next.3 q a l))
+  -- the next place is that of the least pair
+  pub least_from : (f : List ℕ → Option ℕ) (ps : List (List ℕ × V)) (last : Option (List ℕ)) (r : Option ℕ)
+      → ((k : List ℕ) → f k ≡ position_of k ps) → IsNext f last r → IsLeast last ps (option_and_then (slice_get ps) r)
+  least_from f ps last None has next = λ q a. lacks q ps (sym (has q) ∙ next q a)
+  least_from f ps last (Some i) has next =
+      let at = found next.0 ps i (sym (has next.0) ∙ next.2) in
+      subst (IsLeast last ps) (sym at.1) (next.1, at.2, λ q a l. lacks q ps (sym (has q) ∙ next.3 q a l))
 
-  pub within_from : (m : Places) (ps : List (List ℕ × V)) (last : Option (List ℕ)) (r : Option ℕ) → HasPlaces m ps
-      → IsNext m last r → IfSome r (λ i. i < length ps)
-  within_from m ps last None has next = tt
-  within_from m ps last (Some i) has next = place-within next.0 ps i (sym (has next.0) ∙ next.2)
+  pub within_from : (f : List ℕ → Option ℕ) (ps : List (List ℕ × V)) (last : Option (List ℕ)) (r : Option ℕ)
+      → ((k : List ℕ) → f k ≡ position_of k ps) → IsNext f last r → IfSome r (λ i. i < length ps)
+  within_from f ps last None has next = tt
+  within_from f ps last (Some i) has next = place-within next.0 ps i (sym (has next.0) ∙ next.2)

@@ -1,6 +1,6 @@
 -- The places of keys, as pairs come and go.
 use Rattle.std.proofs.Common.{◌≡◌, ℕ, zero, suc, ◌+◌, ◌<◌, ◌≤◌, Bool, true, false, cond, List, [], ◌∷◌, ◌++◌, take}
-use Rattle.std.proofs.Common.{remove, option_map, length, length-take-le, get_or, set, Result, Ok, Err, OnOk, Option}
+use Rattle.std.proofs.Common.{map, slice_index_or, remove, option_map, length, length-take-le, get_or, set, Result, Ok, Err, OnOk, OnErr, Option}
 use Rattle.std.proofs.Common.{None, Some, slice_get, string_bytes, refl, sym, ap, subst, ◌∙◌, true≢false, arith}
 use Rattle.std.specs.Cmp.Lexicographic.{nat_list_eq_equiv}
 use lib.ListN.{length-map}
@@ -9,10 +9,12 @@ use Rattle.std.specs.List.Sorted.{IsStrictlySortedBy}
 use Rattle.std.specs.Map.{update}
 use Rattle.std.specs.Str.{bytes_eq}
 use Rattle.std.proofs.lemmas.Slice.Eq.{bytes_eq-Decides}
+use Rattle.bson_store.specs.declared.places.Index.{Index}
+use Rattle.bson_store.specs.declared.places.Index.TheVariants.{Sorted, Map}
 use Rattle.bson_store.specs.declared.small.Pair.{Pair}
 use Rattle.bson_store.specs.Order.{key_cmp}
-use Rattle.bson_store.specs.Pairs.{keys, values, position_of, with_value, HasDistinctKeys}
-use Rattle.bson_store.specs.Small.{Index, stored_pairs, IsPlaced, IsIndexed}
+use Rattle.bson_store.specs.Pairs.{keys, values, get, position_of, with_value, HasDistinctKeys}
+use Rattle.bson_store.specs.Small.{IndexOrNone, stored_pairs, keyed, KeysAscend, Indexes, IsPlaced, IsIndexed}
 use Rattle.std.proofs.lemmas.Option.{slice_get-map, slice_get-get_or}
 use Rattle.bson_store.specs.Removal.{index_before_removal}
 use Rattle.bson_store.proofs.Distinct.{apart, absent-before, take-next}
@@ -32,7 +34,7 @@ same_bytes k l e = (bytes_eq-Decides k l).0 e
 pub own : (k : List ℕ) → bytes_eq k k ≡ true
 own k = (bytes_eq-Decides k k).1 refl
 
-swapped : (k l : List ℕ) → bytes_eq k l ≡ bytes_eq l k
+pub swapped : (k l : List ℕ) → bytes_eq k l ≡ bytes_eq l k
 swapped k l = nat_list_eq_equiv.symm k l
 
 first_out : (c b : Bool) (r : Option ℕ) → b ≡ c → (c ≡ true → r ≡ None)
@@ -223,14 +225,23 @@ module _ {V : Type 0} where
   seen-set (q ∷ ps) (suc i) p w l h =
       ap (λ r. (string_bytes q.key, q.value) ∷ r) (seen-set ps i p w (omega (arith, l)) h)
 
-  placed-with : (ps : List (List ℕ × V)) (o : Index) (i : ℕ) (w : V) → IsPlaced ps o → IsPlaced (with_value ps i w) o
+  indexes-with : (x : Index) (ps : List (List ℕ × V)) (i : ℕ) (w : V) → Indexes x ps → Indexes x (with_value ps i w)
+  indexes-with (Sorted v) ps i w h =
+      let same : keyed v.items (with_value ps i w) ≡ keyed v.items ps =
+      ap (λ ks. map (λ j. (slice_index_or ks j [], j)) v.items) (keys-with_value ps i w) in (
+        subst (λ es. KeysAscend es) (sym same) h.0,
+        λ k. ap (get k) same ∙ h.1 k ∙ sym (place-with_value ps i w k),
+      )
+  indexes-with (Map m) ps i w h = λ k. h k ∙ sym (place-with_value ps i w k)
+
+  placed-with : (ps : List (List ℕ × V)) (o : IndexOrNone) (i : ℕ) (w : V) → IsPlaced ps o → IsPlaced (with_value ps i w) o
   placed-with ps None i w h =
       λ more. subst (IsStrictlySortedBy key_cmp) (sym (keys-with_value ps i w))
       (h (omega (arith, more, length-with_value ps i w)))
-  placed-with ps (Some m) i w h =
-      (omega (arith, h.0, length-with_value ps i w), λ k. h.1 k ∙ sym (place-with_value ps i w k))
+  placed-with ps (Some x) i w h =
+      (omega (arith, h.0, length-with_value ps i w), indexes-with x.value ps i w h.1)
 
-  indexed-with : (ps : List (List ℕ × V)) (o : Index) (i : ℕ) (w : V) → IsIndexed ps o → IsIndexed (with_value ps i w) o
+  indexed-with : (ps : List (List ℕ × V)) (o : IndexOrNone) (i : ℕ) (w : V) → IsIndexed ps o → IsIndexed (with_value ps i w) o
   indexed-with ps o i w h = (subst (IsDistinct bytes_eq) (sym (keys-with_value ps i w)) h.0, placed-with ps o i w h.1)
 
   -- a value written at a place of the fields
@@ -240,7 +251,7 @@ module _ {V : Type 0} where
   written ps qs i p w e l h =
       seen-set ps i p w (omega (arith, l, ap length e, length-seen ps)) h ∙ ap (λ r. with_value r i w) e
 
-  pub indexed-written : (ps : List (Pair V)) (qs : List (List ℕ × V)) (o : Index) (i : ℕ) (p : Pair V) (w : V)
+  pub indexed-written : (ps : List (Pair V)) (qs : List (List ℕ × V)) (o : IndexOrNone) (i : ℕ) (p : Pair V) (w : V)
       → stored_pairs ps ≡ qs → i < length qs → p ≡ get_or ps i p → IsIndexed (stored_pairs ps) o
       → IsIndexed (stored_pairs (set ps i (record { key = p.key; value = w }))) o
   indexed-written ps qs o i p w e l h is =
@@ -284,6 +295,10 @@ module _ {V : Type 0} where
 pub on_ok : {A E : Type 0} (r : Result A E) {P Q : Type 0} → (P → Q) → OnOk r P → OnOk r Q
 on_ok (Ok x) f p = f p
 on_ok (Err e) f p = tt
+
+pub on_err : {A E : Type 0} (r : Result A E) {P Q : Type 0} → (P → Q) → OnErr r P → OnErr r Q
+on_err (Ok x) f p = tt
+on_err (Err e) f p = f p
 
 pub none_if : {A : Type 0} (o : Option A) → ((x : A) → o ≡ Some x → ⊥) → o ≡ None
 none_if None h = refl

@@ -1,19 +1,23 @@
--- Pairs with a map of their keys' places, which is there where they are more than sixteen and their keys do not ascend.
-use Rattle.std.specs.Prelude.{◌≡◌, ℕ, ◌<◌, List, map, length, Option, None, Some, String, Box, string_bytes}
+-- Pairs with an index of their keys' places, which is there where they are more than sixteen and their keys do not
+-- ascend.
+use Rattle.std.specs.Prelude.{◌≡◌, ℕ, ◌<◌, List, [], map, length, Option, None, Some, String, Box, string_bytes}
+use Rattle.std.specs.Prelude.{slice_index_or}
 use Rattle.std.specs.BTreeMap.{BTreeMap, get_by_text}
 use Rattle.std.specs.List.Sorted.{IsStrictlySortedBy}
 use Rattle.std.specs.declared.alloc.Global.{Global}
+use Rattle.bson_store.specs.declared.places.Index.{Index}
+use Rattle.bson_store.specs.declared.places.Index.TheVariants.{Sorted, Map}
 use Rattle.bson_store.specs.declared.small.Pair.{Pair}
 use Rattle.bson_store.specs.Order.{key_cmp}
-use Rattle.bson_store.specs.Pairs.{keys, position_of, HasDistinctKeys}
+use Rattle.bson_store.specs.Pairs.{keys, get, position_of, HasDistinctKeys}
 
 -- a place for each of some keys
 abbrev pub Places : Type 0
 Places = BTreeMap (String Global) ℕ
 
--- the map of the places, where there is one
-abbrev pub Index : Type 0
-Index = Option (Box Places Global)
+-- the index of the places, where there is one
+abbrev pub IndexOrNone : Type 0
+IndexOrNone = Option (Box Index Global)
 
 module _ {V : Type 0} where
   -- the pairs, each by its key's bytes and its value
@@ -28,11 +32,25 @@ module _ {V : Type 0} where
   abbrev pub KeysAscend : List (List ℕ × V) → Type 0
   KeysAscend ps = IsStrictlySortedBy key_cmp (keys ps)
 
-  -- with no map, pairs that are more than sixteen have keys that ascend; with one, they are more than sixteen
-  abbrev pub IsPlaced : List (List ℕ × V) → Index → Type 0
-  IsPlaced ps None = 16 < length ps → KeysAscend ps
-  IsPlaced ps (Some m) = (16 < length ps) × HasPlaces m.value ps
+module _ {V : Type 0} where
+  -- the key at each place, with the place
+  abbrev pub keyed : List ℕ → List (List ℕ × V) → List (List ℕ × ℕ)
+  keyed is ps = map (λ i. (slice_index_or (keys ps) i [], i)) is
 
-  -- what always holds of the pairs and of their map
-  abbrev pub IsIndexed : List (List ℕ × V) → Index → Type 0
+  -- the places have their keys ascend, and are those of the keys
+  abbrev pub AreSorted : List ℕ → List (List ℕ × V) → Type 0
+  AreSorted is ps = KeysAscend (keyed is ps) × ((k : List ℕ) → get k (keyed is ps) ≡ position_of k ps)
+
+  -- the index has each key at its place, and no other
+  abbrev pub Indexes : Index → List (List ℕ × V) → Type 0
+  Indexes (Sorted v) ps = AreSorted v.items ps
+  Indexes (Map m) ps = HasPlaces m ps
+
+  -- with no index, pairs that are more than sixteen have keys that ascend; with one, they are more than sixteen
+  abbrev pub IsPlaced : List (List ℕ × V) → IndexOrNone → Type 0
+  IsPlaced ps None = 16 < length ps → KeysAscend ps
+  IsPlaced ps (Some x) = (16 < length ps) × Indexes x.value ps
+
+  -- what always holds of the pairs and of their index
+  abbrev pub IsIndexed : List (List ℕ × V) → IndexOrNone → Type 0
   IsIndexed ps o = HasDistinctKeys ps × IsPlaced ps o

@@ -1,4 +1,4 @@
-//! Pairs that have no map since their keys ascend: a key is found by halves.
+//! Pairs that have no index since their keys ascend: a key is found by halves.
 ghost use Rattle.std.specs.Prelude.{◌≡◌, ◌<◌, ◌≤◌, [], ◌∷◌, ◌++◌, Some, None, length, take};
 ghost use Rattle.std.specs.Prelude.{slice_get, option_map, option_and_then, string_bytes, IfSome};
 ghost use Rattle.std.specs.Prelude.{IsTrue, false};
@@ -86,9 +86,9 @@ fn ascends<V>(pairs: &Vec<Pair<V>>) -> bool
     count == pairs.len()
 }
 
-// Whether there need be no map with one more key behind the pairs: they are few, or their keys
+// Whether there need be no index with one more key behind the pairs: they are few, or their keys
 // ascend.
-pub(crate) fn needs_no_map<V>(pairs: &Vec<Pair<V>>, key: &str) -> bool
+pub(crate) fn needs_no_index<V>(pairs: &Vec<Pair<V>>, key: &str) -> bool
     requires { IsPlaced (stored_pairs pairs.now.items) None }
     ensures yes { IsTrue result → (v : V) → IsPlaced (stored_pairs pairs.now.items ++ (key.now, v) ∷ []) None }
     ensures no { result ≡ false → 16 ≤ length (stored_pairs pairs.now.items) }

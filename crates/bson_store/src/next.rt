@@ -1,5 +1,6 @@
 //! The least key above another, in a map of places.
 ghost use Rattle.std.specs.Prelude.{◌≡◌, string_bytes, option_map};
+ghost use Rattle.std.specs.BTreeMap.{get_by_text};
 ghost use Rattle.bson_store.specs.Next.{IsNext};
 
 use std::collections::BTreeMap;
@@ -7,7 +8,7 @@ use std::ops::Bound;
 
 // The place of the least key above the last one, or of the least of all.
 pub(crate) fn next_place(places: &BTreeMap<String, usize>, last: Option<&String>) -> Option<usize>
-    ensures { IsNext places.now (option_map (λ s. string_bytes s.now) last.entry) result }
+    ensures { IsNext (get_by_text places.now) (option_map (λ s. string_bytes s.now) last.entry) result }
 {
     let start = match last {
         Some(key) => Bound::Excluded(key),

@@ -1,23 +1,64 @@
-//! The places of the keys of a small store: how they are found, and how its map of them is made and
-//! kept.
+//! The places of the keys of a small store: how they are found, and how its index of them is made
+//! and kept.
 ghost use Rattle.std.specs.Prelude.{◌≡◌, ℕ, List, [], ◌∷◌, ◌++◌, Some, None, slice_get, remove};
-ghost use Rattle.std.specs.Prelude.{option_map, string_bytes, IfOk, OnOk, OnErr};
+ghost use Rattle.std.specs.Prelude.{◌<◌, length, option_map, option_and_then, string_bytes, IfOk, IfSome};
+ghost use Rattle.std.specs.Prelude.{OnOk, OnErr};
 ghost use Rattle.std.specs.Str.{bytes_eq};
 ghost use Rattle.std.specs.Map.{update};
 ghost use Rattle.std.specs.BTreeMap.{get_by_text};
+ghost use Rattle.bson_store.specs.Order.{IsLeast};
 ghost use Rattle.bson_store.specs.Pairs.{position_of, HasDistinctKeys};
-ghost use Rattle.bson_store.specs.Small.{stored_pairs, HasPlaces, IsIndexed};
+ghost use Rattle.bson_store.specs.Small.{stored_pairs, HasPlaces, Indexes, IsIndexed};
 ghost use Rattle.bson_store.specs.Removal.{index_before_removal};
 
-use crate::ascending::{find_ascending, needs_no_map};
+use crate::ascending::{find_ascending, needs_no_index};
+use crate::next::next_place;
 use crate::small::Pair;
+use crate::sorted::{find_sorted, leave, next_sorted};
 use std::alloc::{AllocError, Global};
 use std::collections::BTreeMap;
 
-// So many pairs have no map.
+// So many pairs have no index.
 pub(crate) const FEW: usize = 16;
 
-// The place of the key where there is no map.
+/// How the places of many keys are found that don't ascend.
+#[derive(Drop)]
+pub(crate) enum Index {
+    /// The places by ascending key.
+    Sorted(Vec<usize>),
+    /// A copy of each key, with its place.
+    Map(BTreeMap<String, usize>),
+}
+
+// The place of the key by an index.
+pub(crate) fn find_by<V>(index: &Index, pairs: &Vec<Pair<V>>, key: &str) -> Option<usize>
+    requires { Indexes index.now (stored_pairs pairs.now.items) }
+    ensures { result ≡ position_of key.now (stored_pairs pairs.now.items) }
+{
+    match index {
+        Index::Sorted(places) => find_sorted(pairs, places, key),
+        Index::Map(map) => map.get(key).copied(),
+    }
+}
+
+// The place of the least key above the last one, or of the least of all, by an index.
+pub(crate) fn next_by<V>(
+    index: &Index,
+    pairs: &Vec<Pair<V>>,
+    last: Option<&String>,
+) -> Option<usize>
+    requires { Indexes index.now (stored_pairs pairs.now.items) }
+    ensures in_bounds { IfSome result (λ i. i < length (stored_pairs pairs.now.items)) }
+    ensures least { IsLeast (option_map (λ s. string_bytes s.now) last.entry) (stored_pairs pairs.now.items)
+        (option_and_then (slice_get (stored_pairs pairs.now.items)) result) }
+{
+    match index {
+        Index::Sorted(places) => next_sorted(pairs, places, last),
+        Index::Map(map) => next_place(map, last),
+    }
+}
+
+// The place of the key where there is no index.
 pub(crate) fn find_in<V>(pairs: &Vec<Pair<V>>, key: &str) -> Option<usize>
     requires { IsIndexed (stored_pairs pairs.now.items) None }
     ensures { result ≡ position_of key.now (stored_pairs pairs.now.items) }
@@ -71,10 +112,34 @@ fn index_all<V>(
     Ok(places)
 }
 
-// Makes the place of one more key, where there is a map or begins to be.
+// Puts one more key in the index.
+fn index_next<V>(
+    alloc: Global,
+    index: &mut Index,
+    pairs: &Vec<Pair<V>>,
+    key: &String,
+) -> Result<(), AllocError>
+    requires distinct { HasDistinctKeys (stored_pairs pairs.now.items) }
+    requires absent { position_of (string_bytes key.now) (stored_pairs pairs.now.items) ≡ None }
+    requires indexes { Indexes index.old (stored_pairs pairs.now.items) }
+    ensures ok { OnOk result ((v : V)
+        → Indexes index.new (stored_pairs pairs.now.items ++ (string_bytes key.now, v) ∷ [])) }
+    ensures err { OnErr result (Indexes index.new (stored_pairs pairs.now.items)) }
+{
+    match index {
+        Index::Map(map) => add(map, key, pairs.len()),
+        Index::Sorted(_) => {
+            *index = Index::Map(index_all(alloc, pairs, key)?);
+            Ok(())
+        }
+    }
+}
+
+// Makes the place of one more key, where there is an index or begins to be. Sorted places give way to
+// a map.
 pub(crate) fn place_next<V>(
     alloc: Global,
-    places: &mut Option<Box<BTreeMap<String, usize>>>,
+    places: &mut Option<Box<Index>>,
     pairs: &Vec<Pair<V>>,
     key: &String,
 ) -> Result<(), AllocError>
@@ -84,14 +149,14 @@ pub(crate) fn place_next<V>(
         → IsIndexed (stored_pairs pairs.now.items ++ (string_bytes key.now, v) ∷ []) places.new) }
     ensures err { OnErr result (IsIndexed (stored_pairs pairs.now.items) places.new) }
 {
-    if let Some(map) = places {
-        return add(map, key, pairs.len());
+    if let Some(index) = places {
+        return index_next(alloc, index, pairs, key);
     }
-    if needs_no_map(pairs, key.as_str()) {
+    if needs_no_index(pairs, key.as_str()) {
         return Ok(());
     }
-    let map = Box::new(alloc, index_all(alloc, pairs, key)?)?;
-    *places = Some(map);
+    let map = index_all(alloc, pairs, key)?;
+    *places = Some(Box::new(alloc, Index::Map(map))?);
     Ok(())
 }
 
@@ -110,9 +175,24 @@ fn lower<V>(places: &mut BTreeMap<String, usize>, pairs: &Vec<Pair<V>>, at: usiz
     }
 }
 
-// Takes out the place of a key that was taken out, and drops the map where sixteen keys are left.
+// Takes the key out of the index, where it was at the place.
+fn index_without<V>(index: &mut Index, pairs: &Vec<Pair<V>>, key: &str, at: usize)
+    requires { (ps : List (List ℕ × V)) × (v : V) × (slice_get ps at ≡ Some (key.now, v))
+        × (stored_pairs pairs.now.items ≡ remove ps at) × HasDistinctKeys ps × Indexes index.old ps }
+    ensures { Indexes index.new (stored_pairs pairs.now.items) }
+{
+    match index {
+        Index::Sorted(places) => leave(places, at),
+        Index::Map(map) => {
+            map.remove(key);
+            lower(map, pairs, at);
+        }
+    }
+}
+
+// Takes out the place of a key that was taken out, and drops the index where sixteen keys are left.
 pub(crate) fn take_place<V>(
-    places: &mut Option<Box<BTreeMap<String, usize>>>,
+    places: &mut Option<Box<Index>>,
     pairs: &Vec<Pair<V>>,
     key: &str,
     at: usize,
@@ -125,10 +205,7 @@ pub(crate) fn take_place<V>(
         *places = None;
     } else {
         match places {
-            Some(map) => {
-                map.remove(key);
-                lower(map, pairs, at);
-            }
+            Some(index) => index_without(index, pairs, key, at),
             None => {}
         }
     }

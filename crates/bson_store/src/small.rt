@@ -5,16 +5,15 @@ ghost use Rattle.bson_store.specs.Order.{IsLeast};
 ghost use Rattle.bson_store.specs.Pairs.{HasDistinctKeys, with_value};
 
 mod from_ascending;
+mod from_entries;
 mod into_iter;
 
 use crate::ascending::next_ascending;
-use crate::next::next_place;
 use crate::order::next_above;
 use crate::pair_store::PairStore;
-use crate::places::{FEW, find_in, place_next, take_place};
+use crate::places::{FEW, Index, find_by, find_in, next_by, place_next, take_place};
 pub use into_iter::IntoIter;
 use std::alloc::{AllocError, Global};
-use std::collections::BTreeMap;
 use std::marker::Model;
 
 /// A key and its value. Where the keys of a list of pairs ascend, it becomes a store as it stands.
@@ -36,14 +35,16 @@ pub struct Pair<V> {
 }
 
 /// A store whose pairs stand in one `Vec`, and, where more than sixteen have keys that don't ascend,
-/// beside an ordered map from each key to its place.
+/// beside an index: their places by ascending key, or an ordered map from each key to its place.
 ///
 /// Up to sixteen pairs, and any number whose keys were pushed in ascending order, take one block of
-/// memory. Among sixteen a key is found by a walk, and among more that ascend by halves. The first
-/// key that doesn't ascend makes the map, which holds a copy of each key, so that among n pairs a
-/// key is found in the order of log n comparisons, whatever the keys are. `push` takes as many, and
-/// n times as many where it makes the map, once until no more than sixteen pairs are left;
-/// `remove_at` takes as many for each pair behind the one it takes out, and no memory.
+/// memory. Among sixteen a key is found by a walk, and among more that ascend by halves. Among n
+/// pairs with an index a key is found in the order of log n comparisons, whatever the keys are.
+/// `from_entries` sorts the places, which takes a word of memory for each. The first key pushed that
+/// doesn't ascend, or behind sorted places, makes the map, which holds a copy of each key. `push`
+/// takes as many comparisons, and n times as many where it makes the map, once until no more than
+/// sixteen pairs are left; `remove_at` takes as many for each pair behind the one it takes out, and
+/// no memory.
 ///
 /// ```
 /// let mut pairs: SmallPairs<u32> = SmallPairs::new(alloc);
@@ -52,7 +53,7 @@ pub struct Pair<V> {
 /// ```
 pub struct SmallPairs<V> {
     pairs: Vec<Pair<V>>,
-    places: Option<Box<BTreeMap<String, usize>>>,
+    places: Option<Box<Index>>,
 }
 
 impl<V> Model for SmallPairs<V> {
@@ -95,7 +96,7 @@ impl<V> SmallPairs<V> {
 }
 
 impl<V: Drop> SmallPairs<V> {
-    /// A store of no pairs, with room for so many. A map is made by the push that needs it.
+    /// A store of no pairs, with room for so many. An index is made by the push that needs it.
     pub fn with_capacity(alloc: Global, pairs: usize) -> Result<SmallPairs<V>, AllocError>
         ensures { IfOk result (λ store. store ≡ []) }
     {
@@ -105,7 +106,7 @@ impl<V: Drop> SmallPairs<V> {
         })
     }
 
-    /// The pairs by value, in their order. The map is dropped.
+    /// The pairs by value, in their order. The index is dropped.
     pub fn into_pairs(self) -> IntoIter<V>
         ensures pairs { result ≡ self }
         ensures distinct { HasDistinctKeys self }
@@ -126,7 +127,7 @@ impl<V: Drop> SmallPairs<V> {
             (option_and_then (slice_get self.now) result) }
     {
         match &self.places {
-            Some(places) => next_place(places, last),
+            Some(index) => next_by(index, &self.pairs, last),
             None if self.pairs.len() > FEW => next_ascending(&self.pairs, last),
             None => next_by_walk(self, last),
         }
@@ -156,7 +157,7 @@ impl<V: Drop> PairStore<V> for SmallPairs<V> {
 
     fn find(&self, key: &str) -> Option<usize> {
         match &self.places {
-            Some(places) => places.get(key).copied(),
+            Some(index) => find_by(index, &self.pairs, key),
             None => find_in(&self.pairs, key),
         }
     }

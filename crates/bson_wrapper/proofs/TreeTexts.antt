@@ -30,7 +30,7 @@ use Rattle.bson_double.proofs.Offered.{bits_back, finite_value, json_number, par
 use Rattle.bson_wrapper.specs.Shortest.{finite_text}
 use Rattle.bson_wrapper.specs.TreeText.{float_text, number_text, outline, items_outline, members_outline, tokens_of}
 use Rattle.bson_wrapper.specs.TreeText as own
-use Rattle.bson_wrapper.specs.TreeText.{IsDouble, MayHaveFloat, tree_text}
+use Rattle.bson_wrapper.specs.TreeText.{IsDouble, HasNoFloatIn, tree_text}
 use Rattle.bson_wrapper.specs.declared.form.Doubles.{Doubles}
 use Rattle.bson_wrapper.specs.declared.form.Doubles.TheVariants.{Special, Finite}
 use Rattle.bson_wrapper.specs.declared.form.Form.{Form}
@@ -151,7 +151,7 @@ mutual
 compact_is : (t : Data) → has_float t ≡ false → kit.compact_text t ≡ own.text_of t
 compact_is t h = sym (print-outline t) ∙ ap (λ j. print (json_tokens j)) (sym (outline_same t h))
 
-pub text_is : (D : Doubles) (f : Form) (t : Data) → MayHaveFloat D f t → tree_text D f t ≡ own.text_of t
+pub text_is : (D : Doubles) (f : Form) (t : Data) → HasNoFloatIn D f t → tree_text D f t ≡ own.text_of t
 text_is Special f t h = compact_is t h
 text_is Finite Canonical t h = compact_is t h
 text_is Finite Relaxed t h = refl

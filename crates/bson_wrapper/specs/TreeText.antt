@@ -56,10 +56,10 @@ text_of t = print (tokens_of t)
 -- ---- in each of the two modes and forms
 
 -- but in the relaxed form of the mode `Finite` no float is written
-abbrev pub MayHaveFloat : Doubles → Form → Data → Type 0
-MayHaveFloat Special f t = has_float t ≡ false
-MayHaveFloat Finite Canonical t = has_float t ≡ false
-MayHaveFloat Finite Relaxed t = Unit {0}
+abbrev pub HasNoFloatIn : Doubles → Form → Data → Type 0
+HasNoFloatIn Special f t = has_float t ≡ false
+HasNoFloatIn Finite Canonical t = has_float t ≡ false
+HasNoFloatIn Finite Relaxed t = Unit {0}
 
 abbrev pub tree_text : Doubles → Form → Data → List ℕ
 tree_text Special f t = compact_text t

@@ -1,6 +1,8 @@
 -- `SmallPairs` as a type that may hold the type that holds it, by its values.
 use Rattle.std.specs.Prelude.{◌≡◌, ℕ, suc, ◌<◌, cond, List, [], ◌∷◌, map, None, Some, option_map, string_bytes, String}
-use mathlib.Core.Path.{refl, sym, ap, ◌∙◌, subst}
+use Rattle.std.specs.Prelude.{slice_index_or}
+use Rattle.std.specs.BTreeMap.{get_by_text}
+use mathlib.Core.Path.{refl, sym, ap, subst}
 use mathlib.Core.HLevel.{Π_prop, ×_prop}
 use mathlib.Core.Former.{Former, one_more, this, const, pair, list, via, children}
 use native.Mathlib.Bridge.{le_prop}
@@ -21,6 +23,8 @@ use Rattle.std.specs.declared.alloc.Global.{Global}
 use Rattle.std.specs.contracts.alloc.Global as heap
 use Rattle.std.specs.contracts.impls.GlobalAllocator.TheImpl.{ghosts}
 use Rattle.std.specs.formers.vec.Vec as vec
+use Rattle.bson_store.specs.declared.places.Index.{Index}
+use Rattle.bson_store.specs.declared.places.Index.TheVariants.{Sorted, Map}
 use Rattle.bson_store.specs.declared.small.Pair.{Pair}
 use Rattle.bson_store.specs.contracts.small.Pair as P
 use Rattle.bson_store.specs.declared.small.SmallPairs.TheInside.{Inside}
@@ -28,8 +32,8 @@ use Rattle.bson_store.specs.declared.small.SmallPairs.TheView.{view, invariant}
 use Rattle.bson_store.specs.contracts.small.SmallPairs as C
 use Rattle.bson_store.specs.contracts.small.SmallPairs.TheInside as I
 use Rattle.bson_store.specs.Order.{key_cmp}
-use Rattle.bson_store.specs.Pairs.{keys, position_of}
-use Rattle.bson_store.specs.Small.{Index, stored_pairs, IsPlaced, IsIndexed}
+use Rattle.bson_store.specs.Pairs.{keys, get, position_of}
+use Rattle.bson_store.specs.Small.{IndexOrNone, stored_pairs, keyed, KeysAscend, Indexes, IsPlaced, IsIndexed}
 use Rattle.bson_store.specs.formers.indexed.IndexedPairs as indexed
 
 abbrev pub on_value : {X Y : Type 0} → (X → Y) → List ℕ × X → List ℕ × Y
@@ -57,7 +61,7 @@ one = via (pair (const (String Global)) this) Pair (λ X p. (p.key, p.value)) (�
 
 abbrev fields : Former {0}
 fields =
-    via (pair (vec.the_former one Global) (const Index)) Inside (λ X a. (a.pairs, a.places))
+    via (pair (vec.the_former one Global) (const IndexOrNone)) Inside (λ X a. (a.pairs, a.places))
     (λ X v. record { pairs = v.0; places = v.1 }) (λ X a. refl) (λ X v. refl)
 
 seen-map : {X Y : Type 0} (h : X → Y) (ps : List (Pair X))
@@ -79,34 +83,48 @@ place-on : {X Y : Type 0} (h : X → Y) (k : List ℕ) (ps : List (List ℕ × X
 place-on h k [] = refl
 place-on h k (p ∷ ps) = ap (λ r. cond (bytes_eq k p.0) (Some 0) (option_map suc r)) (place-on h k ps)
 
-IsPlaced-prop : {X : Type 0} (ps : List (List ℕ × X)) (o : Index) → IsProp (IsPlaced ps o)
-IsPlaced-prop ps None = Π_prop (λ more. IsStrictlySortedBy-prop key_cmp (keys ps))
-IsPlaced-prop ps (Some m) = ×_prop le_prop (Π_prop (λ k. Coded-set (coded_option coded_ℕ) _ _))
+Indexes-prop : {X : Type 0} (x : Index) (ps : List (List ℕ × X)) → IsProp (Indexes x ps)
+Indexes-prop (Sorted v) ps =
+    ×_prop (IsStrictlySortedBy-prop key_cmp (keys (keyed v.items ps))) (Π_prop (λ k. Coded-set (coded_option coded_ℕ) _ _))
+Indexes-prop (Map m) ps = Π_prop (λ k. Coded-set (coded_option coded_ℕ) _ _)
 
-IsIndexed-prop : {X : Type 0} (ps : List (List ℕ × X)) (o : Index) → IsProp (IsIndexed ps o)
+IsPlaced-prop : {X : Type 0} (ps : List (List ℕ × X)) (o : IndexOrNone) → IsProp (IsPlaced ps o)
+IsPlaced-prop ps None = Π_prop (λ more. IsStrictlySortedBy-prop key_cmp (keys ps))
+IsPlaced-prop ps (Some x) = ×_prop le_prop (Indexes-prop x.value ps)
+
+IsIndexed-prop : {X : Type 0} (ps : List (List ℕ × X)) (o : IndexOrNone) → IsProp (IsIndexed ps o)
 IsIndexed-prop ps o = ×_prop (IsDistinct-prop bytes_eq (keys ps)) (IsPlaced-prop ps o)
 
 module _ {X Y : Type 0} (h : X → Y) where
-  placed-on : (ps : List (List ℕ × X)) (o : Index) → IsPlaced ps o → IsPlaced (map (on_value h) ps) o
+  keyed-on : (is : List ℕ) (ps : List (List ℕ × X)) → keyed is (map (on_value h) ps) ≡ keyed is ps
+  keyed-on is ps = ap (λ ks. map (λ i. (slice_index_or ks i [], i)) is) (keys-on h ps)
+
+  indexes-on : (x : Index) (ps : List (List ℕ × X)) → Indexes x (map (on_value h) ps) ≡ Indexes x ps
+  indexes-on (Sorted v) ps =
+      λ i. KeysAscend (keyed-on v.items ps i) × ((k : List ℕ) → get k (keyed-on v.items ps i) ≡ place-on h k ps i)
+  indexes-on (Map m) ps = λ i. (k : List ℕ) → get_by_text m k ≡ place-on h k ps i
+
+  placed-on : (ps : List (List ℕ × X)) (o : IndexOrNone) → IsPlaced ps o → IsPlaced (map (on_value h) ps) o
   placed-on ps None p =
       λ more. subst (IsStrictlySortedBy key_cmp) (sym (keys-on h ps))
       (p (subst (λ n. 16 < n) (length-map ps (on_value h)) more))
-  placed-on ps (Some m) p =
-      (subst (λ n. 16 < n) (sym (length-map ps (on_value h))) p.0, λ k. p.1 k ∙ sym (place-on h k ps))
+  placed-on ps (Some x) p =
+      (subst (λ n. 16 < n) (sym (length-map ps (on_value h))) p.0, subst (λ t. t) (sym (indexes-on x.value ps)) p.1)
 
-  placed-back : (ps : List (List ℕ × X)) (o : Index) → IsPlaced (map (on_value h) ps) o → IsPlaced ps o
+  placed-back : (ps : List (List ℕ × X)) (o : IndexOrNone) → IsPlaced (map (on_value h) ps) o → IsPlaced ps o
   placed-back ps None p =
       λ more. subst (IsStrictlySortedBy key_cmp) (keys-on h ps)
       (p (subst (λ n. 16 < n) (sym (length-map ps (on_value h))) more))
-  placed-back ps (Some m) p = (subst (λ n. 16 < n) (length-map ps (on_value h)) p.0, λ k. p.1 k ∙ place-on h k ps)
+  placed-back ps (Some x) p =
+      (subst (λ n. 16 < n) (length-map ps (on_value h)) p.0, subst (λ t. t) (indexes-on x.value ps) p.1)
 
-  indexed-on : (ps : List (Pair X)) (o : Index) → IsIndexed (stored_pairs ps) o
+  indexed-on : (ps : List (Pair X)) (o : IndexOrNone) → IsIndexed (stored_pairs ps) o
       → IsIndexed (stored_pairs (map (one.map X Y h) ps)) o
   indexed-on ps o p =
       subst (λ qs. IsIndexed qs o) (sym (seen-map h ps))
       (subst (λ ks. IsDistinct bytes_eq ks) (sym (keys-on h (stored_pairs ps))) p.0, placed-on (stored_pairs ps) o p.1)
 
-  indexed-back : (ps : List (Pair X)) (o : Index) → IsIndexed (stored_pairs (map (one.map X Y h) ps)) o
+  indexed-back : (ps : List (Pair X)) (o : IndexOrNone) → IsIndexed (stored_pairs (map (one.map X Y h) ps)) o
       → IsIndexed (stored_pairs ps) o
   indexed-back ps o p =
       let q = subst (λ qs. IsIndexed qs o) (seen-map h ps) p in

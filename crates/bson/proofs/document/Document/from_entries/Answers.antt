@@ -1,6 +1,4 @@
-use Rattle.std.proofs.Common.{◌∙◌, sym, ap}
-use Rattle.bson_store.specs.Small.{stored_pairs}
-use Rattle.bson.specs.Put.{put_entries}
+use Rattle.std.proofs.Common.{◌∙◌, sym}
 use Rattle.bson.proofs.Entered.{put_ascending}
 use Rattle.bson.proofs.document.Document.from_entries.Goals as goal
 

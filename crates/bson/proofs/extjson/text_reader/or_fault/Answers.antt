@@ -1,4 +1,4 @@
-use Rattle.std.proofs.Common.{◌≡◌, Some, None, Ok, IfOk, option_map, ap, ◌∙◌, subst}
+use Rattle.std.proofs.Common.{Ok, IfOk, option_map, ap, ◌∙◌, subst}
 use Rattle.bson.specs.Straight.{TextReads}
 use Rattle.bson.specs.View.{bson_view}
 use Rattle.bson.proofs.Meant.{meant_by, no_meaning_by}

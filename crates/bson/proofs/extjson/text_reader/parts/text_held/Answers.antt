@@ -1,4 +1,4 @@
-use Rattle.std.proofs.Common.{◌≡◌, ◌++◌, Some, [], sym, ap, ◌∙◌, subst, string_bytes}
+use Rattle.std.proofs.Common.{◌++◌, sym, ap, ◌∙◌, subst, string_bytes}
 use Rattle.std.proofs.lemmas.Result.{err_from_is_err_and}
 use Rattle.json.specs.Json.{value}
 use Rattle.json.specs.Lex.{tokens}

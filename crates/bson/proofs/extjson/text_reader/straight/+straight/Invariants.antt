@@ -1,9 +1,7 @@
-use Rattle.std.proofs.Common.{◌≡◌, ◌+◌, ◌*◌, length, map, true, option_map, string_bytes}
+use Rattle.std.proofs.Common.{◌≡◌, ◌+◌, ◌*◌, length, map, true, option_map}
 use Rattle.serde_json.specs.Data.{Data, Items, Members, no_members, member}
 use Rattle.serde_json.specs.View.{view}
-use Rattle.bson_wrapper.specs.Table.{has_wrapper}
 use Rattle.bson_tokens.proofs.Offered.{Lists}
-use Rattle.bson.specs.ByOrder.{default_tree, default_members}
 use Rattle.bson.specs.View.{bson_view, document_view}
 use Rattle.bson.specs.Gathered.{gathered, IsInOrder}
 use Rattle.bson.specs.Straight.{marked_by, IsFound, IsCode}

@@ -1,30 +1,28 @@
 -- Members, and documents of them.
-use Rattle.std.proofs.Common.{◌≡◌, ◌&&◌, not, true, false, codes, Some, None}
-use Rattle.std.proofs.Common.{string_bytes, length, option_map, refl, sym, ap, ◌∙◌, subst, arith, rules}
+use Rattle.std.proofs.Common.{◌≡◌, not, true, false, Some, None}
+use Rattle.std.proofs.Common.{string_bytes, length, option_map, sym, ap, ◌∙◌, subst, arith, rules}
 use Rattle.std.proofs.lemmas.Result.{err_from_is_err_and}
-use Rattle.std.proofs.lemmas.Slice.Eq.{bytes_eq-Decides}
 use Rattle.std.specs.Prelude.{is_some}
 use Rattle.json.specs.Json.{read_key, value}
 use Rattle.json.proofs.Grammar.{read_key-shorter}
-use Rattle.serde_json.specs.Data.{no_members, member}
+use Rattle.serde_json.specs.Data.{no_members}
 use Rattle.bson_wrapper.proofs.Offered.{on_ok}
-use Rattle.bson_wrapper.specs.Table.{has_wrapper}
 use Rattle.bson_model.specs.Value as model
 use Rattle.bson_model.specs.Value.{no_pairs}
 use Rattle.bson.specs.View.{bson_view, document_view}
 use Rattle.bson.specs.ByOrder.{default_members, insert_by, insert_pair_by, reads_by}
 use Rattle.bson.specs.Gathered.{gathered, order_of}
-use Rattle.bson.specs.Straight.{marked, unless_nothing, is_wrapper, is_scope, IsOdd}
+use Rattle.bson.specs.Straight.{marked, unless_nothing, is_wrapper, is_scope}
 use Rattle.bson.specs.declared.bson.Bson.{the_lemmas}
 use Rattle.bson.specs.declared.bson.Bson.TheVariants as bson
 use Rattle.bson.specs.declared.document.Document.{Document}
-use Rattle.bson.proofs.ByOrder.{by_default, none_passed, member_passed, one_gathered_by, all_gathered_by, default_none}
-use Rattle.bson.proofs.ByOrder.{first_insert, no_more_members_by}
+use Rattle.bson.proofs.ByOrder.{by_default, none_passed, member_passed, one_gathered_by, all_gathered_by}
+use Rattle.bson.proofs.ByOrder.{no_more_members_by}
 use Rattle.bson.proofs.Gathering.{from_first, from_second}
-use Rattle.bson.proofs.Keys.{odd_refused, ordinary_stray}
+use Rattle.bson.proofs.Keys.{odd_refused}
 use Rattle.bson.proofs.Marks.{put_marked, reads_marked}
 use Rattle.bson_tokens.proofs.Offered.{if_ok, if_err, no_key, no_member, no_members_behind}
-use Rattle.bson.proofs.Wrapped.{none_by, plain_insert, odd_insert, odd_first}
+use Rattle.bson.proofs.Wrapped.{none_by}
 use Rattle.bson.proofs.Held.{held_value, document_given, empty_given, first_found, found_more}
 use Rattle.bson.proofs.extjson.text_reader.straight.+straight.Goals as goal
 

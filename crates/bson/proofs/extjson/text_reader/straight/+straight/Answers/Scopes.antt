@@ -1,10 +1,9 @@
 -- Scopes, and objects that begin with `$scope`.
-use Rattle.std.proofs.Common.{◌≡◌, ◌<◌, ◌&&◌, [], ◌∷◌, true, false, not, Some, None, codes, string_bytes}
-use Rattle.std.proofs.Common.{length, option_map, refl, sym, ap, ◌∙◌, subst, arith, rules}
+use Rattle.std.proofs.Common.{◌≡◌, ◌<◌, [], ◌∷◌, true, false, not, Some, None, codes, string_bytes}
+use Rattle.std.proofs.Common.{length, option_map, sym, ap, ◌∙◌, subst, arith}
 use Rattle.std.proofs.lemmas.Result.{err_from_is_err_and}
 use Rattle.std.proofs.lemmas.Slice.Eq.{bytes_eq-Decides}
 use Rattle.std.specs.Prelude.{is_some}
-use Rattle.std.specs.Str.{bytes_eq}
 use Rattle.json.specs.Token.{Token}
 use Rattle.json.specs.Json.{parse_map, read_key, value}
 use Rattle.json.specs.Lex.{tokens}
@@ -13,10 +12,7 @@ use Rattle.json.proofs.Grammar.{value_is, read_key-shorter}
 use Rattle.serde_json.specs.Data.{null, object, no_members, member}
 use Rattle.serde_json.specs.Read.{of_json, converted}
 use Rattle.serde_json.specs.View.{view}
-use Rattle.bson_wrapper.specs.Reading.{single_at_in}
-use Rattle.bson_wrapper.specs.Table.{wrapper_of}
 use Rattle.bson_wrapper.proofs.Offered.{on_ok}
-use Rattle.bson_model.specs.Reading.{scalar_value}
 use Rattle.bson_order.specs.Kept.{kept, unordered}
 use Rattle.bson_order.specs.Reading.{reads_in_order, scope_in_order}
 use Rattle.bson.specs.ByOrder.{tree_by, insert_by}
@@ -26,12 +22,12 @@ use Rattle.bson.specs.Straight.{IsCode, ReadsHeld, is_code, is_scope, unless_not
 use Rattle.bson_tokens.specs.Parts.{IsBroken}
 use Rattle.bson.specs.declared.extjson.key_order.KeyOrder.TheVariants.{AsGiven}
 use Rattle.bson_tokens.proofs.Offered.{object_opened, if_ok, if_err, no_key, no_member, too_deep_object}
-use Rattle.bson.proofs.ByOrder.{by_default, by_order, null_read, object_opened_by, first_insert, FollowsBy}
-use Rattle.bson.proofs.ByOrder.{none_passed, member_passed, first_passed, one_passed, first_follows, more_follows}
-use Rattle.bson.proofs.ByOrder.{all_follow, one_gathered_by, all_gathered_by, held_tree, held_read, held_whole}
+use Rattle.bson.proofs.ByOrder.{by_default, by_order, null_read, object_opened_by, FollowsBy}
+use Rattle.bson.proofs.ByOrder.{first_passed, one_passed, first_follows, more_follows}
+use Rattle.bson.proofs.ByOrder.{all_follow, held_tree, held_read, held_whole}
 use Rattle.bson.proofs.Gathering.{with_rest}
-use Rattle.bson.proofs.Wrapped.{no_first, IsAlone, alone_again, alone_given, not_alone, tied, code_then_scope}
-use Rattle.bson.proofs.Wrapped.{scope_then_code, scope_again, code_again, code_read, code_refused}
+use Rattle.bson.proofs.Wrapped.{no_first, tied}
+use Rattle.bson.proofs.Wrapped.{scope_then_code}
 use Rattle.bson.proofs.Held.{code_keys, other_scope, null_scope, object_scope, second_false, not_twice, stray_from}
 use Rattle.bson.proofs.Held.{scope_found, lone_document}
 use Rattle.bson.proofs.extjson.text_reader.straight.+straight.Goals.{read_wrapped-else-is_alone-via-then-is_alone+else-is_code_with_scope}

@@ -2,7 +2,7 @@ use Rattle.std.proofs.Common.{◌≡◌, ◌++◌, ◌∷◌, [], length, subst,
 use Rattle.std.proofs.lemmas.List.{take_all}
 use Rattle.bson_store.specs.Small.{stored_pairs, KeysAscend}
 use Rattle.bson_store.proofs.Placed.{length-seen}
-use Rattle.bson_store.proofs.ascending.needs_no_map.Goals as goal
+use Rattle.bson_store.proofs.ascending.needs_no_index.Goals as goal
 
 pub returns-clause-yes : goal.returns-clause-yes
 returns-clause-yes g c = λ t v more.

@@ -1,0 +1,65 @@
+//! Pairs in any order become a store as they stand, where no key stands twice.
+ghost use Rattle.std.specs.Prelude.{◌≡◌, ◌<◌, [], length, IfOk};
+ghost use Rattle.bson_store.specs.Pairs.{put_pairs};
+ghost use Rattle.bson_store.specs.Small.{stored_pairs};
+
+use crate::by_key::put;
+use crate::places::{FEW, Index};
+use crate::small::{Pair, SmallPairs};
+use crate::sorted::sorted_places;
+use std::alloc::{AllocError, Global};
+
+impl<V: Drop> SmallPairs<V> {
+    /// The store of the pairs, put in turn: of a key that comes twice the last value stays, in the
+    /// place of the first.
+    ///
+    /// Pairs whose keys ascend become the store as they stand, in the memory that they have, and so
+    /// do others, more than sixteen, of which no key stands twice: their places are sorted, and no
+    /// key is copied. Where memory is refused the pairs are dropped.
+    ///
+    /// ```
+    /// let mut pairs = Vec::new(alloc);
+    /// pairs.push(Pair {
+    ///     key: String::from_str(alloc, "a")?,
+    ///     value: 1,
+    /// })?;
+    /// println!(rt; "{:?}", SmallPairs::from_entries(alloc, pairs)?.find("a"))?; // Some(0)
+    /// ```
+    pub fn from_entries(alloc: Global, pairs: Vec<Pair<V>>) -> Result<SmallPairs<V>, AllocError>
+        ensures { IfOk result (λ store. store ≡ put_pairs (stored_pairs pairs.items) []) }
+    {
+        match SmallPairs::try_from_ascending(pairs) {
+            Ok(store) => Ok(store),
+            Err(pairs) if pairs.len() <= FEW => in_turn(alloc, pairs),
+            Err(pairs) => of_many(alloc, pairs),
+        }
+    }
+}
+
+fn of_many<V: Drop>(alloc: Global, mut pairs: Vec<Pair<V>>) -> Result<SmallPairs<V>, AllocError>
+    requires { 16 < length (stored_pairs pairs.items) }
+    ensures { IfOk result (λ store. store ≡ put_pairs (stored_pairs pairs.items) []) }
+{
+    let Some(places) = sorted_places(alloc, &pairs)? else {
+        return in_turn(alloc, pairs);
+    };
+    pairs.shrink_to_fit();
+    let index = Box::new(alloc, Index::Sorted(places))?;
+    Ok(SmallPairs {
+        pairs,
+        places: Some(index),
+    })
+}
+
+// Each is looked up.
+fn in_turn<V: Drop>(alloc: Global, pairs: Vec<Pair<V>>) -> Result<SmallPairs<V>, AllocError>
+    ensures { IfOk result (λ store. store ≡ put_pairs (stored_pairs pairs.items) []) }
+{
+    let mut store = SmallPairs::with_capacity(alloc, pairs.len())?;
+    'pairs: for Pair { key, value } in pairs {
+        let Ok(_) = put(&mut store, key, value) else {
+            return Err(AllocError);
+        };
+    }
+    Ok(store)
+}
