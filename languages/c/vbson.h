@@ -133,11 +133,12 @@ static inline void vbson_text_free(vbson_text *text) {
 uint32_t vbson_convert(uint32_t mode, const uint8_t *text, size_t len, vbson_text *out);
 
 /* vbson_convert with flags. With VBSON_DOUBLES a number that is no whole one of 64 bits (1.5, 1e2, -0), and any decimal
- * number under $numberDouble, is read as the double nearest to it, and refused where that is not finite; a double is
- * written as its shortest decimal, {"$numberDouble":"12.5"}, in both forms. With VBSON_KEEP_ORDER keys come out in the
- * order of the text, at every depth, in every mode; of a key that stands twice the last value counts, at the place of
- * the first. The same texts are refused either way, for the same fault. All else is as of vbson_convert, which is this
- * with the flags 0. VBSON_NO_MODE also where the flags have a bit that is no flag.
+ * number under $numberDouble, is read as the double nearest to it, and refused where that is not finite; a finite
+ * double is written as its shortest decimal, {"$numberDouble":"12.5"} in the canonical form and 12.5 in the relaxed one,
+ * where a zero is a number too. With VBSON_KEEP_ORDER keys come out in the order of the text, at every depth, in every
+ * mode; of a key that stands twice the last value counts, at the place of the first. The same texts are refused either
+ * way, for the same fault. All else is as of vbson_convert, which is this with the flags 0. VBSON_NO_MODE also where the
+ * flags have a bit that is no flag.
  * VBSON_NO_MODE, VBSON_NOT_JSON, VBSON_BAD_OBJECT_ID, VBSON_NOT_EXTENDED_JSON, VBSON_OUT_OF_MEMORY. */
 uint32_t vbson_convert_with(uint32_t mode, uint32_t flags, const uint8_t *text, size_t len, vbson_text *out);
 

@@ -260,8 +260,8 @@ def convert(text: _Given, mode: Union[int, str] = CANONICAL, doubles: bool = Fal
     its place, and MemoryError.
 
     With doubles finite ones are read, each as the double nearest to the number, and written as their shortest decimal,
-    {"$numberDouble":"12.5"}, in both forms. With keep_order keys come out in the order of the text; of a key that stands
-    twice the last value counts, at the place of the first.
+    {"$numberDouble":"12.5"} in the canonical form and 12.5 in the relaxed one. With keep_order keys come out in the order of
+    the text; of a key that stands twice the last value counts, at the place of the first.
     """
     mode, flags, given = _mode(mode), _flags(doubles, keep_order), _bytes(text)
     status, made = _text_of(_library.vbson_convert_with, mode, flags, given, len(given))
@@ -409,7 +409,7 @@ def dumps(value: Any, form: Union[int, str] = CANONICAL, doubles: bool = True, k
     """The text of Extended JSON, in the form, of a value of Python. The types are those of loads.
 
     >>> dumps({"n": 1.5, "b": bytes([1, 2]), "a": [True, 5]}, "relaxed")
-    '{"n":{"$numberDouble":"1.5"},"b":{"$binary":{"base64":"AQI=","subType":"00"}},"a":[true,5]}'
+    '{"n":1.5,"b":{"$binary":{"base64":"AQI=","subType":"00"}},"a":[true,5]}'
 
     Keys come out in the order of each dict, unless keep_order is False: then they ascend. Raises TypeError where a value is
     of no such type, or a key no str, OverflowError at an int past 64 bits, NoBytes as encode does, NoDocument where it nests

@@ -1,7 +1,8 @@
 """What the program writes of a value: the canonical and the relaxed form of Extended JSON v2, and the shown text.
 
-Both forms are compact JSON text, the keys of each object ascending by their bytes. The relaxed form differs in three
-kinds: Int32 and Int64 are plain numbers, and a date of the years 1970 to 9999 is a text of RFC 3339.
+Both forms are compact JSON text, the keys of each object ascending by their bytes. The relaxed form differs in four
+kinds: Int32 and Int64 are plain numbers, a date of the years 1970 to 9999 is a text of RFC 3339, and where finite doubles
+are taken (TAKEN) a finite double is its shortest decimal as a JSON number, a zero too.
 """
 import base64
 import json
@@ -9,28 +10,39 @@ import json
 import dates
 import decimal128
 import doubles
+from grammar import TAKEN
 
 LAST_RELAXED_DATE = 253402300799999
+WITHOUT_SPACES = json.JSONEncoder(ensure_ascii=False, separators=(',', ':')).encode
+
+
+class Number(str):
+    """A number of JSON as it is written."""
 
 
 def canonical(value):
     """The compact text of the canonical form."""
-    return compact(tree(value, False))
+    return compact(tree(value, False), sorted)
 
 
 def relaxed(value):
     """The compact text of the relaxed form."""
-    return compact(tree(value, True))
-
-
-def compact(written):
-    """JSON text without spaces; only quotes, backslashes and characters below U+0020 are escaped."""
-    return json.dumps(written, ensure_ascii=False, sort_keys=True, separators=(',', ':'))
+    return compact(tree(value, True), sorted)
 
 
 def in_order(value, is_relaxed):
     """The compact text of a form in which the pairs of each document stand as they are, and a wrapper's keys ascend."""
-    return json.dumps(tree(value, is_relaxed), ensure_ascii=False, separators=(',', ':'))
+    return compact(tree(value, is_relaxed), list)
+
+
+def compact(written, arranged):
+    """JSON text without spaces; only quotes, backslashes and characters below U+0020 are escaped."""
+    kind = type(written)
+    if kind is dict:
+        return '{' + ','.join([f'{WITHOUT_SPACES(key)}:{compact(written[key], arranged)}' for key in arranged(written)]) + '}'
+    if kind is list:
+        return '[' + ','.join([compact(item, arranged) for item in written]) + ']'
+    return written if kind is Number else WITHOUT_SPACES(written)
 
 
 def tree(value, is_relaxed):
@@ -47,6 +59,8 @@ def tree(value, is_relaxed):
         return {'$code': code, '$scope': object_of(scope, is_relaxed)}
     if is_relaxed and kind in ('Int32', 'Int64'):
         return content
+    if is_relaxed and kind == 'Double' and 'doubles' in TAKEN and content not in NOT_FINITE:
+        return Number(content)
     if is_relaxed and kind == 'DateTime' and 0 <= content <= LAST_RELAXED_DATE:
         return {'$date': dates.rfc3339(content)}
     key, inner = WRAPPERS[kind]
@@ -114,6 +128,7 @@ SHOWN = {
     'DbPointer': lambda pointer: f'DbPointer({pointer[0]}, {pointer[1]})',
 }
 
+
 def pattern_of(text):
     return DOUBLES[text] if text in DOUBLES else doubles.pattern_of(float(text))
 
@@ -127,3 +142,4 @@ DOUBLES = {
     'NaN': 0x7FF8000000000000,
     '-NaN': 0xFFF8000000000000,
 }
+NOT_FINITE = DOUBLES.keys() - {'0.0', '-0.0'}

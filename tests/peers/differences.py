@@ -60,13 +60,13 @@ def other_order(kind, content, theirs):
 
 
 def double_text(content, theirs):
-    """Other digits or another layout of the same double."""
+    """Other digits or another layout of the same double, under $numberDouble."""
     return keys(theirs) == ["$numberDouble"] and isinstance(theirs[0][1], str) and pattern_of(theirs[0][1]) == content
 
 
 def double_number(content, theirs):
-    """The same double as a JSON number."""
-    return isinstance(theirs, Number) and pattern_of(theirs) == content
+    """The same of a JSON number with a point or an exponent, which a finite double is in the relaxed form."""
+    return isinstance(theirs, Number) and not set(".eE").isdisjoint(theirs) and pattern_of(theirs) == content
 
 
 def fraction(content, theirs):
@@ -88,24 +88,23 @@ def reference(content, theirs):
 
 
 IN_ANY_FORM = {
-    "libbson": {"Double": {"layout of doubles": double_text},
-                "DbPointer": {"order in $dbPointer": lambda *it: other_order("DbPointer", *it)}},
-    "json_util": {"Double": {"layout of doubles": double_text}, "DbPointer": {"pointers as references": reference},
+    "libbson": {"DbPointer": {"order in $dbPointer": lambda *it: other_order("DbPointer", *it)}},
+    "json_util": {"DbPointer": {"pointers as references": reference},
                   "Undefined": {"undefined as null": lambda _, theirs: theirs is None},
                   "Symbol": {"symbols as strings": lambda content, theirs: theirs == content}},
 }
 IN_BOTH = {"Timestamp": {"order in $timestamp": lambda *it: other_order("Timestamp", *it)},
            "RegularExpression": {"order in $regularExpression": lambda *it: other_order("RegularExpression", *it)}}
 IN_RELAXED = {
-    "libbson": {"Double": {"doubles as numbers": double_number},
-                "DateTime": {"three digits of a fraction": fraction, "dates past 9999 as texts": is_later}},
-    "json_util": {"Double": {"doubles as numbers": double_number}, "DateTime": {"three digits of a fraction": fraction}},
+    "libbson": {"DateTime": {"three digits of a fraction": fraction, "dates past 9999 as texts": is_later}},
+    "json_util": {"DateTime": {"three digits of a fraction": fraction}},
 }
 
 
 def rules(peer, is_relaxed):
     """Of each kind its rules by name."""
     found = {kind: dict(its) for kind, its in [*IN_BOTH.items(), *IN_ANY_FORM[peer].items()]}
+    found["Double"] = {"layout of doubles": double_number if is_relaxed else double_text}
     for kind, its in IN_RELAXED[peer].items() if is_relaxed else ():
         found[kind] = {**its, **found.get(kind, {})}
     return found

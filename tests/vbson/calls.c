@@ -75,7 +75,10 @@ static void convert_with(void) {
     const char *doubles = "{\"b\":1.5,\"a\":[1e2,-0]}";
     const char *written = "{\"a\":[{\"$numberDouble\":\"100.0\"},{\"$numberDouble\":\"-0.0\"}],\"b\":{\"$numberDouble\":\"1.5\"}}";
     CHECK(converts_with(VBSON_CANONICAL, VBSON_DOUBLES, doubles, written));
-    CHECK(converts_with(VBSON_RELAXED, VBSON_DOUBLES, doubles, written));
+    CHECK(converts_with(VBSON_RELAXED, VBSON_DOUBLES, doubles, "{\"a\":[100.0,-0.0],\"b\":1.5}"));
+    CHECK(converts_with(VBSON_RELAXED, VBSON_DOUBLES, "[1e16,{\"$numberDouble\":\"NaN\"}]", "[1e16,{\"$numberDouble\":\"NaN\"}]"));
+    CHECK(converts_with(VBSON_RELAXED, VBSON_DOUBLES, "{\"$numberDouble\":\"0.0\"}", "0.0"));
+    CHECK(converts_with(VBSON_RELAXED, 0, "{\"$numberDouble\":\"0.0\"}", "{\"$numberDouble\":\"0.0\"}"));
     CHECK(converts_with(VBSON_RELAXED, VBSON_DOUBLES, "[5]", "[5]"));
     CHECK(converts_with(VBSON_SHOW, VBSON_DOUBLES, "{\"$code\":\"\"}", ""));
     CHECK(converts_with(VBSON_CANONICAL, 0, "[5]", "[{\"$numberInt\":\"5\"}]"));
@@ -99,8 +102,8 @@ static void keep_order(void) {
     CHECK(converts_with(VBSON_CANONICAL, VBSON_KEEP_ORDER, "{\"b\":1,\"a\":2}", "{\"b\":{\"$numberInt\":\"1\"},\"a\":{\"$numberInt\":\"2\"}}"));
     CHECK(converts_with(VBSON_SHOW, VBSON_KEEP_ORDER, "{\"b\":1,\"a\":2}", "{ \"b\": 1, \"a\": 2 }"));
     CHECK(converts_with(VBSON_SHOW, 0, "{\"b\":1,\"a\":2}", "{ \"a\": 2, \"b\": 1 }"));
-    CHECK(converts_with(VBSON_RELAXED, VBSON_DOUBLES | VBSON_KEEP_ORDER, twice, "{\"b\":2,\"a\":{\"$numberDouble\":\"1.5\"}}"));
-    CHECK(converts_with(VBSON_RELAXED, VBSON_DOUBLES, twice, "{\"a\":{\"$numberDouble\":\"1.5\"},\"b\":2}"));
+    CHECK(converts_with(VBSON_RELAXED, VBSON_DOUBLES | VBSON_KEEP_ORDER, twice, "{\"b\":2,\"a\":1.5}"));
+    CHECK(converts_with(VBSON_RELAXED, VBSON_DOUBLES, twice, "{\"a\":1.5,\"b\":2}"));
     CHECK(refuses_with(VBSON_RELAXED, VBSON_KEEP_ORDER, twice, VBSON_NOT_EXTENDED_JSON));
     CHECK(refuses_with(VBSON_RELAXED, VBSON_KEEP_ORDER, "{\"b\":", VBSON_NOT_JSON));
     CHECK(refuses_with(VBSON_RELAXED, VBSON_KEEP_ORDER, "{\"$oid\":\"5\"}", VBSON_BAD_OBJECT_ID));
@@ -161,10 +164,10 @@ static void convert_lines(void) {
         "bson_lines: line 1: not JSON at column 2\n"
         "bson_lines: line 3: not Extended JSON at 0 (a number is no whole number of 64 bits)\n"
         "bson_lines: line 4: bad object id at $oid (an object id has 24 digits, but \"5\" has 1)\n", 4, 3));
-    CHECK(gives(VBSON_RELAXED, VBSON_DOUBLES, "[1.5]\n", "[{\"$numberDouble\":\"1.5\"}]\n", "", 1, 0));
+    CHECK(gives(VBSON_RELAXED, VBSON_DOUBLES, "[1.5]\n", "[1.5]\n", "", 1, 0));
     CHECK(gives(VBSON_RELAXED, VBSON_KEEP_ORDER, "{\"b\":1,\"a\":2}\n[1.5]\n", "{\"b\":1,\"a\":2}\n",
         "bson_lines: line 2: not Extended JSON at 0 (a number is no whole number of 64 bits)\n", 2, 1));
-    CHECK(gives(VBSON_RELAXED, VBSON_DOUBLES | VBSON_KEEP_ORDER, "{\"b\":1.5,\"a\":2}", "{\"b\":{\"$numberDouble\":\"1.5\"},\"a\":2}\n", "", 1, 0));
+    CHECK(gives(VBSON_RELAXED, VBSON_DOUBLES | VBSON_KEEP_ORDER, "{\"b\":1.5,\"a\":2}", "{\"b\":1.5,\"a\":2}\n", "", 1, 0));
     static const uint8_t before[] = "before";
     vbson_lines out = {{before, 7, 6}, {before, 7, 5}, 3, 4};
     CHECK(vbson_convert_lines(3, 0, TEXT("1"), &out) == VBSON_NO_MODE);
@@ -257,13 +260,13 @@ static void decode(void) {
     CHECK(decodes(VBSON_CANONICAL, 0, five, sizeof five, "{\"a\":{\"$numberInt\":\"5\"}}"));
     CHECK(decodes(VBSON_RELAXED, 0, five, sizeof five, "{\"a\":5}"));
     CHECK(decodes(VBSON_SHOW, 0, five, sizeof five, "{ \"a\": 5 }"));
-    CHECK(decodes(VBSON_RELAXED, VBSON_DOUBLES, pair, sizeof pair, "{\"a\":{\"$numberDouble\":\"1.5\"},\"b\":5}"));
+    CHECK(decodes(VBSON_RELAXED, VBSON_DOUBLES, pair, sizeof pair, "{\"a\":1.5,\"b\":5}"));
     CHECK(decodes(VBSON_SHOW, 0, pair, sizeof pair, "{ \"b\": 5, \"a\": Double(0x3ff8000000000000) }"));
     CHECK(decodes(VBSON_CANONICAL, 0, (const uint8_t *)"\5\0\0\0", 5, "{}"));
     CHECK(refuses_bytes(VBSON_RELAXED, 0, pair, sizeof pair, VBSON_NO_TEXT));
     CHECK(refuses_bytes(VBSON_CANONICAL, 0, pair, sizeof pair, VBSON_NO_TEXT));
     CHECK(refuses_bytes(3, 0, five, sizeof five, VBSON_NO_MODE));
-    CHECK(decodes(VBSON_RELAXED, VBSON_DOUBLES | VBSON_KEEP_ORDER, pair, sizeof pair, "{\"b\":5,\"a\":{\"$numberDouble\":\"1.5\"}}"));
+    CHECK(decodes(VBSON_RELAXED, VBSON_DOUBLES | VBSON_KEEP_ORDER, pair, sizeof pair, "{\"b\":5,\"a\":1.5}"));
     CHECK(decodes(VBSON_SHOW, VBSON_KEEP_ORDER, pair, sizeof pair, "{ \"b\": 5, \"a\": Double(0x3ff8000000000000) }"));
     CHECK(refuses_bytes(VBSON_RELAXED, VBSON_KEEP_ORDER, pair, sizeof pair, VBSON_NO_TEXT));
     CHECK(refuses_bytes(VBSON_RELAXED, 4, five, sizeof five, VBSON_NO_MODE));

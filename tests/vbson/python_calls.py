@@ -97,11 +97,19 @@ def try_texts():
 
 
 def try_doubles():
-    written = '{"a":{"$numberDouble":"100.0"},"b":{"$numberDouble":"1.5"}}'
-    for mode in ("canonical", "relaxed"):
+    canonical, relaxed = '{"a":{"$numberDouble":"100.0"},"b":{"$numberDouble":"1.5"}}', '{"a":100.0,"b":1.5}'
+    for mode, written in (("canonical", canonical), ("relaxed", relaxed)):
         want(f"doubles in the {mode} form", vbson.convert('{"b":1.5,"a":1e2}', mode, True), written)
         want(f"none in the {mode} form", vbson.convert("[5]", mode, doubles=False), vbson.convert("[5]", mode))
         raises(f"a double in the {mode} form", vbson.NotExtendedJson, vbson.convert, "1.5", mode, False)
+    for text in ("12.5", "1.0", "-0.0", "0.0", "5e-324", "1e16", "1.7976931348623157e308"):
+        wrapped = f'{{"$numberDouble":"{text}"}}'
+        want(f"{text} in the relaxed form", vbson.convert(wrapped, "relaxed", True), text)
+        want(f"{text} in the canonical form", vbson.convert(text, "canonical", True), wrapped)
+    for text in ("NaN", "-NaN", "Infinity", "-Infinity"):
+        wrapped = f'{{"$numberDouble":"{text}"}}'
+        want(f"{text} in the relaxed form", vbson.convert(wrapped, "relaxed", True), wrapped)
+    want("a zero without", vbson.convert('{"$numberDouble":"-0.0"}', "relaxed"), '{"$numberDouble":"-0.0"}')
     raises("a double that is not finite", vbson.NotExtendedJson, vbson.convert, '{"$numberDouble":"1e400"}', 0, True)
     for it in (1, 0, None, "yes", 2):
         raises(f"doubles {it!r}", TypeError, vbson.convert, "{}", 0, it)
@@ -113,14 +121,14 @@ def try_order():
     want("keys in order", vbson.convert(text, "relaxed", keep_order=True), text)
     want("keys sorted", vbson.convert(text, "relaxed", keep_order=False), '{"a":3,"b":{"c":2,"d":1}}')
     want("keys in order shown", vbson.convert('{"b":1,"a":2}', "show", False, True), '{ "b": 1, "a": 2 }')
-    want("a key twice", vbson.convert(twice, "relaxed", True, True), '{"b":2,"a":{"$numberDouble":"1.5"}}')
+    want("a key twice", vbson.convert(twice, "relaxed", True, True), '{"b":2,"a":1.5}')
     raises("a double in order", vbson.NotExtendedJson, vbson.convert, twice, "relaxed", False, True)
     want("lines in order", vbson.convert_lines('{"b":1,"a":2}\n[1.5]\n', "relaxed", keep_order=True)[0], b'{"b":1,"a":2}\n')
     document = vbson.encode(twice, doubles=True, keep_order=True)
     want("bytes in order", document.hex(), "170000001062000200000001610000000000" + "0000f83f00")
     want("bytes sorted", vbson.encode('{"b":null,"a":null}').hex(), "0b0000000a61000a620000")
-    want("decoded in order", vbson.decode(document, "relaxed", True, True), '{"b":2,"a":{"$numberDouble":"1.5"}}')
-    want("decoded and sorted", vbson.decode(document, "relaxed", True), '{"a":{"$numberDouble":"1.5"},"b":2}')
+    want("decoded in order", vbson.decode(document, "relaxed", True, True), '{"b":2,"a":1.5}')
+    want("decoded and sorted", vbson.decode(document, "relaxed", True), '{"a":1.5,"b":2}')
     for it in (1, 0, None, "yes"):
         raises(f"keep_order {it!r}", TypeError, vbson.convert, "{}", 0, False, it)
         raises(f"keep_order {it!r} of bytes", TypeError, vbson.decode, document, 0, False, it)
@@ -209,7 +217,7 @@ def try_lines():
     for _, error in refused:
         line = {vbson.NotExtendedJson: '{"a":[1.5]}', vbson.NotJson: "[", vbson.BadObjectId: '{"$oid":"5"}'}[type(error)]
         want(f"{line} among lines", (str(error), error.place, error.why, type(error)), refusal(vbson.convert, line))
-    want("lines of doubles", vbson.convert_lines("[1.5]\n", "relaxed", True), (b'[{"$numberDouble":"1.5"}]\n', []))
+    want("lines of doubles", vbson.convert_lines("[1.5]\n", "relaxed", True), (b"[1.5]\n", []))
     raises("lines in no mode", ValueError, vbson.convert_lines, b"", 3)
     raises("lines of a list", TypeError, vbson.convert_lines, ["1"])
 
@@ -226,6 +234,7 @@ def try_documents():
     want("a document", vbson.is_document(memoryview(five)), True)
     want("no document", [vbson.is_document(five[:n]) for n in range(12)], [False] * 12)
     want("a double", vbson.decode(double, doubles=True), '{"a":{"$numberDouble":"1.5"}}')
+    want("a double, relaxed", vbson.decode(double, "relaxed", doubles=True), '{"a":1.5}')
     want("a double shown", vbson.decode(double, "show"), '{ "a": Double(0x3ff8000000000000) }')
     want("a double there", vbson.encode('{"a":1.5}', doubles=True), double)
     raises("a double without", vbson.NoText, vbson.decode, double)

@@ -63,6 +63,11 @@ def try_plain():
         want(f"{text} pickled", pickle.loads(pickle.dumps(found)), value)
     want("Decimal keeps its zeros", str(vbson.loads('{"$numberDecimal":"19.90"}', types="plain")), "19.90")
     want("a negative zero", struct.pack("<d", vbson.loads('{"$numberDouble":"-0.0"}', types="plain")), struct.pack("<d", -0.0))
+    for text, value in (("1.5", 1.5), ("1.0", 1.0), ("1e16", 1e16), ("-0.0", -0.0), ("5e-324", 5e-324),
+                        ("1.7976931348623157e308", sys.float_info.max)):
+        want(f"{text} there, relaxed", repr(vbson.loads(text, types="plain")), repr(value))
+        want(f"{text} and back, relaxed", vbson.dumps(value, "relaxed", types="plain"), text)
+    want("an infinity, relaxed", vbson.dumps([float("-inf")], "relaxed", types="plain"), '[{"$numberDouble":"-Infinity"}]')
     want("a scope", vbson.loads('{"$code":"f","$scope":{"x":{"$numberInt":"1"}}}', types="plain").scope, {"x": 1})
     want("an id's text", str(ObjectId(ID)), ID.hex())
     for value, text in (((1, (2,)), "[1,[2]]"), (bytearray(b"a"), '{"$binary":{"base64":"YQ==","subType":"00"}}'), (2**31, "2147483648"),
@@ -88,6 +93,8 @@ def try_both(types):
     want("its text sorted", vbson.dumps({"b": 1, "a": 2}, vbson.RELAXED, True, False, types), '{"a":2,"b":1}')
     want("bytes and a relaxed text", vbson.loads(b'{"n": 5, "at": {"$date": "1970-01-01T00:00:00Z"}}', types=types),
          {"n": 5, "at": datetime.datetime(1970, 1, 1, tzinfo=UTC)})
+    want("a relaxed text with doubles", vbson.dumps(value, "relaxed", types=types), '{"_id":1,"b":1.5,"a":[{"d":true,"c":null}]}')
+    want("that text again", vbson.loads(vbson.dumps(value, "relaxed", types=types), types=types), value)
     want("a UUID", vbson.loads('{"$uuid":"00000000-0000-0000-0000-000000000001"}', types=types), uuid.UUID(int=1))
     want("a UUID's text", vbson.dumps(uuid.UUID(int=1), types=types), '{"$binary":{"base64":"AAAAAAAAAAAAAAAAAAAAAQ==","subType":"04"}}')
     want("a decimal's text", vbson.dumps(decimal.Decimal("0.10"), types=types), '{"$numberDecimal":"0.10"}')

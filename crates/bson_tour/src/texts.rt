@@ -57,7 +57,7 @@ fn to_text_with_call(rt: &impl Print, alloc: Global) -> anyhow::Result<()> {
     };
     let price = Bson::Double(0x4029_0000_0000_0000);
     println!(rt; "{}", price.to_text_with(alloc, options, Form::Relaxed)?)?;
-    // {"$numberDouble":"12.5"}
+    // 12.5
     Ok(())
 }
 

@@ -15,7 +15,8 @@ pub enum Form {
 pub enum Doubles {
     /// No others: a double that is finite and no zero has no tree, and a JSON number is an i64.
     Special,
-    /// Every double: `$numberDouble` holds its shortest decimal, any decimal number is read as the
-    /// double nearest to it, and so is a JSON number that is no i64.
+    /// Every double: a finite one is its shortest decimal, under `$numberDouble` in the canonical
+    /// form and as a JSON number in the relaxed one; any decimal number there is read as the double
+    /// nearest to it, and so is a JSON number that is no i64.
     Finite,
 }

@@ -45,7 +45,7 @@ impl fmt::Debug for Text {
 #[derive(Clone, Copy, Debug, Default, PartialEq, Eq)]
 pub struct Options {
     /// Finite doubles: each number that is no whole one of 64 bits is read as the double nearest to it, and a double is
-    /// written as its shortest decimal, `{"$numberDouble":"12.5"}`, in both forms.
+    /// written as its shortest decimal, `{"$numberDouble":"12.5"}` in the canonical form and `12.5` in the relaxed one.
     pub doubles: bool,
     /// The keys of documents stay in the order of the text, or of the document, in the place of an ascending one; of a key
     /// that stands twice the last value counts, at the place of the first.

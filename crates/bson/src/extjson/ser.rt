@@ -59,9 +59,9 @@ impl Bson {
     /// name.
     ///
     /// With `Doubles::Finite` every value has a tree, in which a finite double is its shortest
-    /// decimal, as in `{"$numberDouble": "12.5"}`; only want of memory may come in its place. With
-    /// `Doubles::Special` it is [`Bson::into_canonical_extjson`] or
-    /// [`Bson::into_relaxed_extjson`].
+    /// decimal, as in `{"$numberDouble": "12.5"}`, and in the relaxed form a number; only want of
+    /// memory may come in its place. With `Doubles::Special` it is
+    /// [`Bson::into_canonical_extjson`] or [`Bson::into_relaxed_extjson`].
     pub fn into_extjson_with(
         self,
         alloc: Global,
@@ -140,8 +140,9 @@ impl Bson {
         self.to_relaxed_text(alloc)
     }
 
-    /// The compact text of the tree of the value in a form, as [`Bson::into_extjson_with`] makes it
-    /// and `serde_json` writes it. It is written straight from the value, with no tree.
+    /// The compact text of the tree of the value in a form, as [`Bson::into_extjson_with`] makes it.
+    /// It is the one that `serde_json` writes, but that a number that is a double is its shortest
+    /// decimal: `1e16`, and not `1e+16`. It is written straight from the value, with no tree.
     ///
     /// With `Doubles::Finite` every value has a text, and only want of memory may come in its
     /// place.
@@ -152,7 +153,7 @@ impl Bson {
     /// };
     /// let price = Bson::Double(0x4029_0000_0000_0000);
     /// println!(rt; "{}", price.to_text_with(alloc, options, Form::Relaxed)?)?;
-    /// // {"$numberDouble":"12.5"}
+    /// // 12.5
     /// ```
     pub fn to_text_with(
         &self,
