@@ -37,7 +37,8 @@ pub enum Task {
 /// ```
 /// let mut lines: &[u8] = br#"{"a": 1, "a": 2}"#;
 /// let (mut output, mut told) = (Vec::new(alloc), Vec::new(alloc));
-/// let (task, go_on) = (Task::Taken(Taking::Distinct, Work::Check), OnRefusal::KeepGoing);
+/// let task = Task::Taken(Taking::Distinct, Work::Check);
+/// let go_on = OnRefusal::KeepGoing;
 /// drop(run_lines(alloc, task, go_on, &mut lines, &mut output, &mut told));
 /// rt.print(str::from_utf8(&told)?)?;
 /// // bson_lines: line 1: not Extended JSON at a (a key that stands twice in its object)
