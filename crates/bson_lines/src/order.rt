@@ -309,7 +309,7 @@ impl Given {
         let task = if is_in_order { in_order(task) } else { task };
         Ok(Asked::Run(Order {
             task: match taking_of(is_distinct, is_legacy) {
-                Some(taking) => taken(taking, task),
+                Some(taking) => first_taken(taking, task),
                 None => task,
             },
             options,
@@ -346,7 +346,7 @@ fn taking_of(is_distinct: bool, is_legacy: bool) -> Option<Taking> {
 }
 
 // The task, of texts that are taken so.
-fn taken(taking: Taking, task: Task) -> Task {
+fn first_taken(taking: Taking, task: Task) -> Task {
     match task {
         Task::Write(mode) => Task::Taken(taking, Work::Write(mode)),
         Task::WriteInOrder(mode) => Task::Taken(taking, Work::WriteInOrder(mode)),

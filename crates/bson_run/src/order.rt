@@ -33,6 +33,16 @@ pub enum Task {
 }
 
 /// What is looked for in a text before it is read.
+///
+/// ```
+/// let mut lines: &[u8] = br#"{"a": 1, "a": 2}"#;
+/// let (mut output, mut told) = (Vec::new(alloc), Vec::new(alloc));
+/// let task = Task::Taken(Taking::Distinct, Work::Check);
+/// let go_on = OnRefusal::KeepGoing;
+/// drop(run_lines(alloc, task, go_on, &mut lines, &mut output, &mut told));
+/// rt.print(str::from_utf8(&told)?)?;
+/// // bson_lines: line 1: not Extended JSON at a (a key that stands twice in its object)
+/// ```
 #[derive(Clone, Copy, PartialEq, Eq, Debug)]
 pub enum Taking {
     /// A text in which an object has a key twice is refused.
@@ -44,6 +54,15 @@ pub enum Taking {
 }
 
 /// What is done with a text that was taken.
+///
+/// ```
+/// let mut lines: &[u8] = br#"{"$type": "00", "$binary": "AQI="}"#;
+/// let (mut output, mut told) = (Vec::new(alloc), Vec::new(alloc));
+/// let work = Work::Write(Mode::Relaxed);
+/// let (task, stop) = (Task::Taken(Taking::Legacy, work), OnRefusal::Stop);
+/// drop(run_lines(alloc, task, stop, &mut lines, &mut output, &mut told));
+/// rt.print(str::from_utf8(&output)?)?; // {"$binary":{"base64":"AQI=","subType":"00"}}
+/// ```
 #[derive(Clone, Copy, PartialEq, Eq, Debug)]
 pub enum Work {
     /// Its output in the mode is written.

@@ -23,8 +23,9 @@ const DOUBLE_KEY: &str = "a key that stands twice in its object";
 /// reader.
 ///
 /// ```
-/// if let Err(fault) = taken(alloc, Taking::Distinct, br#"{"a": [{"b": 1, "b": 2}]}"#) {
-///     rt.print(&explain(alloc, &fault, b"")?)?; //  at a.0.b (a key that stands twice in its object)
+/// let text = br#"{"$regex": "^a", "$options": "i"}"#;
+/// if let Ok(Some(newer)) = taken(alloc, Taking::Legacy, text) {
+///     println!(rt; "{newer}")?; // {"$regularExpression":{"pattern":"^a","options":"i"}}
 /// }
 /// ```
 pub fn taken(alloc: Global, taking: Taking, bytes: &[u8]) -> Result<Option<String>, Fault>

@@ -10,8 +10,9 @@ use bson_run::indent::indented;
 use bson_run::indented::{convert_in_order_indented, convert_indented};
 use bson_run::lines::run_lines;
 use bson_run::mode::{Mode, mode_of};
-use bson_run::order::{OnRefusal, Task};
+use bson_run::order::{OnRefusal, Taking, Task, Work};
 use bson_run::stop::Stop;
+use bson_run::taken::taken;
 use bson_run::value::value_of;
 use std::alloc::Global;
 
@@ -30,7 +31,10 @@ pub(crate) fn print(rt: &impl Print, alloc: Global) -> anyhow::Result<()> {
     refusal(rt, alloc)?;
     task(rt, alloc)?;
     on_refusal(rt, alloc)?;
-    stop(rt, alloc)
+    stop(rt, alloc)?;
+    taken_call(rt, alloc)?;
+    taking(rt, alloc)?;
+    work(rt, alloc)
 }
 
 fn convert_call(rt: &impl Print, alloc: Global) -> anyhow::Result<()> {
@@ -168,5 +172,34 @@ fn stop(rt: &impl Print, alloc: Global) -> anyhow::Result<()> {
     let text: &[u8] = b"[1,\n 2 3]";
     let stop = Stop::of(alloc, text)?;
     println!(rt; "{}:{}", stop.line(text), stop.column(text))?; // 2:4
+    Ok(())
+}
+
+fn taken_call(rt: &impl Print, alloc: Global) -> anyhow::Result<()> {
+    let text = br#"{"$regex": "^a", "$options": "i"}"#;
+    if let Ok(Some(newer)) = taken(alloc, Taking::Legacy, text) {
+        println!(rt; "{newer}")?; // {"$regularExpression":{"pattern":"^a","options":"i"}}
+    }
+    Ok(())
+}
+
+fn taking(rt: &impl Print, alloc: Global) -> anyhow::Result<()> {
+    let mut lines: &[u8] = br#"{"a": 1, "a": 2}"#;
+    let (mut output, mut told) = (Vec::new(alloc), Vec::new(alloc));
+    let task = Task::Taken(Taking::Distinct, Work::Check);
+    let go_on = OnRefusal::KeepGoing;
+    drop(run_lines(alloc, task, go_on, &mut lines, &mut output, &mut told));
+    rt.print(str::from_utf8(&told)?)?;
+    // bson_lines: line 1: not Extended JSON at a (a key that stands twice in its object)
+    Ok(())
+}
+
+fn work(rt: &impl Print, alloc: Global) -> anyhow::Result<()> {
+    let mut lines: &[u8] = br#"{"$type": "00", "$binary": "AQI="}"#;
+    let (mut output, mut told) = (Vec::new(alloc), Vec::new(alloc));
+    let work = Work::Write(Mode::Relaxed);
+    let (task, stop) = (Task::Taken(Taking::Legacy, work), OnRefusal::Stop);
+    drop(run_lines(alloc, task, stop, &mut lines, &mut output, &mut told));
+    rt.print(str::from_utf8(&output)?)?; // {"$binary":{"base64":"AQI=","subType":"00"}}
     Ok(())
 }
