@@ -1,12 +1,13 @@
-//! The program `bson_streams`: runs of the library `bson_run` over readers that give their bytes in
-//! pieces and writers that take one byte a call, and that fail. tests/streams has the runs and what
-//! each must give.
+//! The program `bson_streams`: runs of the libraries `bson_run` and `bson_codec` over readers that
+//! give their bytes in pieces and writers that take one byte a call, and that fail. tests/streams has
+//! the runs and what each must give.
 //!
 //! Standard input has an order a line, then an empty line, and then the input of each run. For each
 //! order it writes a line `WRITTEN REPORTED ANSWER`, the bytes that the writer took and those that
 //! the report took, and a newline: the first two words are the numbers of these bytes.
 #![tactic(auto)]
 
+mod coded;
 mod failing;
 mod order;
 mod ran;

@@ -1,5 +1,7 @@
 //! What a line orders.
 use crate::failing::End;
+use bson::extjson::Form;
+use bson_codec::documents::Line;
 use bson_run::mode::Mode;
 use bson_run::order::{OnRefusal, Task};
 use std::io::ErrorKind;
@@ -12,6 +14,9 @@ pub(crate) enum Call {
     Convert(Mode),
     ConvertInOrder(Mode),
     RunLines(Task, OnRefusal),
+    FromReader,
+    ToWriter,
+    RunDocuments(Line, OnRefusal),
 }
 
 /// A line `CALL PIECE READS WRITES REPORTS END`.
@@ -43,22 +48,42 @@ pub(crate) fn order_of(line: &[u8]) -> Option<Order> {
     })
 }
 
-/// `MODE`, `convert:MODE`, `in_order:MODE`, or `lines:TASK:stop` or `lines:TASK:keep-going`.
+/// `MODE`, `convert:MODE`, `in_order:MODE`, `lines:TASK:stop` or `lines:TASK:keep-going`; of BSON
+/// bytes `from_reader`, `to_writer`, `documents:LINE:stop` or `documents:LINE:keep-going`.
 fn call_of(word: &str) -> Option<Call> {
     let Some((name, rest)) = word.split_once(':') else {
-        return Some(Call::Run(Mode::from_name(word)?));
+        return match word {
+            "from_reader" => Some(Call::FromReader),
+            "to_writer" => Some(Call::ToWriter),
+            _ => Some(Call::Run(Mode::from_name(word)?)),
+        };
     };
-    if name == "convert" {
-        return Some(Call::Convert(Mode::from_name(rest)?));
+    match name {
+        "convert" => Some(Call::Convert(Mode::from_name(rest)?)),
+        "in_order" => Some(Call::ConvertInOrder(Mode::from_name(rest)?)),
+        "lines" => {
+            let (task, on_refusal) = rest.split_once(':')?;
+            Some(Call::RunLines(Task::from_name(task)?, on_refusal_of(on_refusal)?))
+        }
+        "documents" => {
+            let (line, on_refusal) = rest.split_once(':')?;
+            Some(Call::RunDocuments(line_of(line)?, on_refusal_of(on_refusal)?))
+        }
+        _ => None,
     }
-    if name == "in_order" {
-        return Some(Call::ConvertInOrder(Mode::from_name(rest)?));
+}
+
+/// What a run over documents writes of each, as the rows of tests/rows name it.
+fn line_of(word: &str) -> Option<Line> {
+    match word {
+        "canonical" => Some(Line::Text(Form::Canonical)),
+        "relaxed" => Some(Line::Text(Form::Relaxed)),
+        "canonical_in_order" => Some(Line::TextInOrder(Form::Canonical)),
+        "relaxed_in_order" => Some(Line::TextInOrder(Form::Relaxed)),
+        "show" => Some(Line::Shown),
+        "check" => Some(Line::Nothing),
+        _ => None,
     }
-    if name != "lines" {
-        return None;
-    }
-    let (task, on_refusal) = rest.split_once(':')?;
-    Some(Call::RunLines(Task::from_name(task)?, on_refusal_of(on_refusal)?))
 }
 
 fn on_refusal_of(word: &str) -> Option<OnRefusal> {

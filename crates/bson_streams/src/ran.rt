@@ -1,4 +1,5 @@
 //! A run, and what is told of it.
+use crate::coded;
 use crate::failing::{Drip, Pieces};
 use crate::order::{Call, Order};
 use bson::extjson::Options;
@@ -16,10 +17,10 @@ const ROOM: usize = 4096;
 
 /// The reader and the writers of a run.
 #[derive(Drop)]
-struct Ends<'a> {
-    reader: Pieces<'a>,
-    writer: Drip,
-    report: Drip,
+pub(crate) struct Ends<'a> {
+    pub reader: Pieces<'a>,
+    pub writer: Drip,
+    pub report: Drip,
 }
 
 impl<'a> Ends<'a> {
@@ -60,6 +61,11 @@ pub(crate) fn ran(alloc: Global, order: Order, input: &[u8]) -> Result<Vec<u8>, 
             )?
         }
         Call::RunLines(task, on_refusal) => by_lines(alloc, task, on_refusal, &mut ends)?,
+        Call::FromReader => coded::read(alloc, &mut ends)?,
+        Call::ToWriter => coded::written(alloc, input, &mut ends)?,
+        Call::RunDocuments(line, on_refusal) => {
+            coded::documents(alloc, line, on_refusal, &mut ends)?
+        }
     };
     told(
         alloc,

@@ -1,0 +1,73 @@
+//! Runs of the calls on BSON bytes.
+use crate::ran::Ends;
+use bson::extjson::{Doubles, Options};
+use bson::{Bson, Document};
+use bson_codec::de::DEPTH;
+use bson_codec::documents::{Line, Run, run_documents};
+use bson_codec::stream::{from_reader, to_writer};
+use bson_codec::to_vec;
+use bson_run::order::OnRefusal;
+use std::alloc::{AllocError, Global};
+
+/// The answer of `from_reader`: `done` and how many bytes the reader has left, or its error. The
+/// document's bytes stand where a writer would have taken them.
+pub(crate) fn read(alloc: Global, ends: &mut Ends<'_>) -> Result<String, AllocError> {
+    match from_reader(alloc, &mut ends.reader, DEPTH) {
+        Ok(document) => {
+            match to_vec(alloc, &document) {
+                Ok(bytes) => ends.writer.taken = bytes,
+                Err(error) => return format!(in alloc; "{error}"),
+            }
+            format!(in alloc; "done, {} left", ends.reader.rest.len())
+        }
+        Err(error) => format!(in alloc; "{error}"),
+    }
+}
+
+/// The answer of `to_writer` for the document of the text: `done`, or its error.
+pub(crate) fn written(
+    alloc: Global,
+    text: &[u8],
+    ends: &mut Ends<'_>,
+) -> Result<String, AllocError> {
+    let Some(document) = document_of(alloc, text) else {
+        return String::from_str(alloc, "no document");
+    };
+    match to_writer(alloc, &document, &mut ends.writer) {
+        Ok(()) => String::from_str(alloc, "done"),
+        Err(error) => format!(in alloc; "{error}"),
+    }
+}
+
+fn document_of(alloc: Global, text: &[u8]) -> Option<Document> {
+    match Bson::try_from_text(alloc, text) {
+        Ok(Bson::Document(document)) => Some(document),
+        _ => None,
+    }
+}
+
+/// The answer of `run_documents`, with finite doubles: `DOCUMENTS REFUSED`, or the document where it
+/// ended and the words for its fault.
+pub(crate) fn documents(
+    alloc: Global,
+    line: Line,
+    on_refusal: OnRefusal,
+    ends: &mut Ends<'_>,
+) -> Result<String, AllocError> {
+    let run = Run {
+        options: Options {
+            doubles: Doubles::Finite,
+        },
+        line,
+        keep_going: on_refusal == OnRefusal::KeepGoing,
+        ..Run::default()
+    };
+    let (reader, writer, report) = (&mut ends.reader, &mut ends.writer, &mut ends.report);
+    match run_documents(alloc, run, reader, writer, report) {
+        Ok(counts) => format!(in alloc; "{} {}", counts.documents, counts.refused),
+        Err(end) => {
+            let words = end.fault.words();
+            format!(in alloc; "document {} at byte {}: {words}", end.number, end.start)
+        }
+    }
+}
