@@ -7,6 +7,7 @@ use std::alloc::Global;
 pub(crate) fn print(rt: &impl Print, alloc: Global) -> anyhow::Result<()> {
     pair_store(rt, &given::pairs(alloc)?)?;
     pair(rt, alloc)?;
+    small_from_entries(rt, alloc)?;
     small_pairs(rt, alloc)?;
     small_into_iter(rt, given::pairs(alloc)?)?;
     indexed_pairs(rt, alloc)?;
@@ -22,6 +23,16 @@ fn pair(rt: &impl Print, alloc: Global) -> anyhow::Result<()> {
         value: 1,
     })?;
     println!(rt; "{}", SmallPairs::try_from_ascending(pairs).is_ok())?; // true
+    Ok(())
+}
+
+fn small_from_entries(rt: &impl Print, alloc: Global) -> anyhow::Result<()> {
+    let mut pairs = Vec::new(alloc);
+    pairs.push(Pair {
+        key: String::from_str(alloc, "a")?,
+        value: 1,
+    })?;
+    println!(rt; "{:?}", SmallPairs::from_entries(alloc, pairs)?.find("a"))?; // Some(0)
     Ok(())
 }
 
