@@ -1,5 +1,5 @@
 //! What a refused request for memory leaves of a store. Each test runs on both stores.
-use bson::store::{Command, IndexedPairs, PairStore, SmallPairs, Stopped, replay};
+use bson::store::{Command, IndexedPairs, Pair, PairStore, SmallPairs, Stopped, replay};
 use bson_store::by_key::{put, take};
 use std::alloc::{AllocError, Global};
 use std::process::Abort;
@@ -88,6 +88,32 @@ fn refused_push_to_a_small_store(rt: HostRuntime) -> Result<(), Fail> {
     let alloc = rt.alloc();
     pushes(&rt, alloc, &mut SmallPairs::new(alloc))?;
     pushes(&rt, alloc, &mut SmallPairs::with_capacity(alloc, 9)?)
+}
+
+/// Entries whose keys don't ascend are found by their sorted places. A refused push hands the pair
+/// back and leaves them; two keys are then taken out, which takes no memory.
+#[test]
+fn refused_from_entries(rt: HostRuntime) -> Result<(), Fail> {
+    let alloc = rt.alloc();
+    let mut entries = Vec::new(alloc);
+    for &(key, value) in &PAIRS[..19] {
+        let key = String::from_str(alloc, key)?;
+        entries.push(Pair { key, value })?;
+    }
+    let mut store = SmallPairs::from_entries(alloc, entries)?;
+    assert!(rt; holds(&store, &PAIRS[..19]));
+    let (key, value) = PAIRS[19];
+    if let Err((back, same)) = store.push(String::from_str(alloc, key)?, value) {
+        assert!(rt; back.as_str() == key && same == value);
+        assert!(rt; holds(&store, &PAIRS[..19]));
+        for i in 0..2 {
+            assert!(rt; take(&mut store, PAIRS[i].0) == Some(PAIRS[i].1));
+            assert!(rt; holds(&store, &PAIRS[i + 1..19]));
+        }
+        return Err(Fail::from(AllocError));
+    }
+    assert!(rt; holds(&store, &PAIRS));
+    Ok(())
 }
 
 /// Nine keys are taken out one by one, the rest is cleared, and none of it takes memory.
