@@ -1,6 +1,13 @@
--- Why bytes gave no text.
-use Rattle.std.specs.Prelude.{◌≡◌}
+-- Why bytes gave no text, and a text no bytes.
+use Rattle.std.specs.Prelude.{◌≡◌, ℕ, List}
+use Rattle.bson.specs.TextMeaning.{HasTextMeaning, IsTextFault}
+use Rattle.bson.specs.Value.{Pairs, Value, document}
+use Rattle.bson.specs.declared.extjson.text_error.TextError.TheVariants as text_errors
+use Rattle.bson_codec.specs.Writing.{IsRefusal}
 use Rattle.bson_codec.specs.declared.de.Error.TheVariants as errors
+use Rattle.bson_codec.specs.declared.ser.Error.TheVariants as causes
+use Rattle.bson_pairs.specs.declared.bytes.NoBytes.{NoBytes}
+use Rattle.bson_pairs.specs.declared.bytes.NoBytes.TheVariants as refusals
 use Rattle.bson_pairs.specs.declared.bytes.NoText.{NoText}
 use Rattle.bson_pairs.specs.declared.bytes.NoText.TheVariants.{NoDocument, FiniteDouble, OutOfMemory}
 
@@ -9,3 +16,19 @@ abbrev pub IsWantOfMemory : NoText → Type 0
 IsWantOfMemory (NoDocument e) = e ≡ errors.OutOfMemory
 IsWantOfMemory FiniteDouble = ⊥
 IsWantOfMemory OutOfMemory = Unit {0}
+
+-- the text means a value that is no document
+abbrev pub MeansNoDocument : List ℕ → Type 0
+MeansNoDocument text = (v : Value) × HasTextMeaning text v × ((ps : Pairs) → v ≡ document ps → ⊥)
+
+-- why the text gives no bytes: it means nothing, or no document, or a document that fails; or memory ran out
+abbrev pub IsRefusedText : List ℕ → NoBytes → Type 0
+IsRefusedText text (refusals.NoValue e) = IsTextFault text e
+IsRefusedText text refusals.NoDocument = MeansNoDocument text
+IsRefusedText text (refusals.NoBytes e) = (ps : Pairs) × HasTextMeaning text (document ps) × IsRefusal e ps
+
+-- a request for memory was refused
+abbrev pub IsWantOfBytes : NoBytes → Type 0
+IsWantOfBytes (refusals.NoValue e) = e ≡ text_errors.OutOfMemory
+IsWantOfBytes refusals.NoDocument = ⊥
+IsWantOfBytes (refusals.NoBytes e) = e ≡ causes.OutOfMemory
