@@ -9,3 +9,4 @@ pub use Rattle.bson_bytes.proofs.Putting.{Told, told_document, document_fits}
 pub use Rattle.bson_bytes.proofs.Within.{front_fault, fault_stands}
 pub use Rattle.bson_bytes.proofs.Standing.{new_from, new_again}
 pub use Rattle.bson_bytes.proofs.PartLaws.{wide32, length-le, size_again}
+pub use Rattle.bson_bytes.proofs.Passed.{passed_ok, passed_err}

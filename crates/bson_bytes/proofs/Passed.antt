@@ -1,5 +1,6 @@
 -- Documents as they are read with nothing kept.
-use Rattle.std.proofs.Common.{◌≡◌, ℕ, ◌+◌, ◌-◌, ◌<◌, ◌≤◌, List, length, Some, None, Result, Ok, Err, refl, sym, ap, ◌∙◌, arith}
+use Rattle.std.proofs.Common.{◌≡◌, ℕ, ◌+◌, ◌-◌, ◌<◌, ◌≤◌, true, List, length, Some, None, Result, Ok, Err, refl, sym, ap, ◌∙◌, arith}
+use Rattle.std.specs.Str.{is_utf8}
 use Rattle.std.proofs.lemmas.Bool.{eq-eqb, ne_eqb}
 use Rattle.bson_scalar.specs.declared.spec.ElementType.{ElementType}
 use Rattle.bson_scalar.specs.declared.spec.ElementType.TheVariants as tag
@@ -9,7 +10,7 @@ use Rattle.bson_bytes.specs.declared.fault.FaultKind.TheVariants.{Length, Traili
 use Rattle.bson_bytes.specs.Fault.{at, ◌>>=◌}
 use Rattle.bson_bytes.specs.Grammar.{settle, values}
 use Rattle.bson_bytes.specs.Reading.{passed, byte_at, name_at, size_at, text_at, mapped, settled, scope_at, value_with}
-use Rattle.bson_bytes.specs.Reading.{document_at, document_in, reads, reads_in}
+use Rattle.bson_bytes.specs.Reading.{document_at, document_in, reads, reads_in, split_zero}
 use Rattle.bson_bytes.specs.declared.keys.DuplicateKeys.TheVariants.{Replace}
 use Rattle.bson_bytes.specs.Tags.{kind_of}
 use Rattle.bson_bytes.proofs.PartLaws.{ok_is}
@@ -167,3 +168,10 @@ unfolding reads_in
 passed_refused d bytes f e =
     let doc : settled no_pairs (document_at d bytes) ≡ Err f = ap (settled no_pairs) (passed_err (document_at d bytes) f e) in
     rw doc refl
+
+-- ---- a name
+
+pub passed_name : (bytes s rest : List ℕ) → Some (s, rest) ≡ split_zero bytes → is_utf8 s ≡ true
+    → passed (name_at bytes) ≡ Ok rest
+unfolding name_at
+passed_name bytes s rest split u = rw (sym split, u) refl

@@ -8,7 +8,8 @@ ghost use Rattle.bson_model.specs.Value.{Pairs};
 
 use crate::fault::{Fault, FaultKind, fault_at};
 use crate::parts::{
-    byte_at, bytes_at, kind_of, name_at, sixteen_at, size_at, text_at, twelve_at, u32_at, u64_at,
+    behind_name, byte_at, bytes_at, kind_of, sixteen_at, size_at, text_at, twelve_at, u32_at,
+    u64_at,
 };
 use bson_scalar::spec::ElementType;
 
@@ -106,7 +107,7 @@ fn list_at(bytes: &[u8], depth: usize) -> Result<&[u8], Fault>
         let Some(kind) = kind_of(tag) else {
             return Err(fault_at(FaultKind::Tag, rest));
         };
-        let (_, after) = name_at(after)?;
+        let after = behind_name(after)?;
         let behind = value_at(kind, after, depth)?;
         rest = behind;
     }
@@ -159,9 +160,8 @@ fn regex_at(bytes: &[u8]) -> Result<&[u8], Fault>
     ensures given { Gives (λ x. x.now) result (passed (regex_at bytes.now)) }
     ensures shorter { IfOk result (λ x. length x.now ≤ length bytes.now) }
 {
-    let (_, rest) = name_at(bytes)?;
-    let (_, rest) = name_at(rest)?;
-    Ok(rest)
+    let rest = behind_name(bytes)?;
+    behind_name(rest)
 }
 
 #[tactic(auto, unfolding(crate::specs::Reading::pointer_at))]

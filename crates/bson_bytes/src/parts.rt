@@ -1,9 +1,10 @@
 //! The parts of an element: each reader answers a value and the bytes behind it.
-ghost use Rattle.std.specs.Prelude.{◌≡◌, ◌≤◌, ◌<◌, ◌^◌, length, option_map, string_bytes, IfOk, IfSome};
+ghost use Rattle.std.specs.Prelude.{◌≡◌, ◌≤◌, ◌<◌, ◌^◌, length, option_map, string_bytes, IfOk, IfSome, IsTrue};
 ghost use Rattle.std.specs.Int.{w32, w64};
+ghost use Rattle.std.specs.Str.{IsAscii};
 ghost use Rattle.bson_bytes.specs.Fault.{Gives};
 ghost use Rattle.bson_bytes.specs.Reading.{byte_at, bytes_at, number_at, size_at, zero_at, split_zero};
-ghost use Rattle.bson_bytes.specs.Reading.{utf8_at, name_at, text_at};
+ghost use Rattle.bson_bytes.specs.Reading.{utf8_at, name_at, passed, text_at};
 ghost use Rattle.bson_bytes.specs.Putting.{is_free};
 ghost use Rattle.bson_bytes.specs.Tags.{kind_of};
 
@@ -129,6 +130,38 @@ pub fn name_at(bytes: &[u8]) -> Result<(&str, &[u8]), Fault>
         return Err(fault_at(FaultKind::Short, bytes));
     };
     Ok((utf8_at(name, bytes)?, rest))
+}
+
+// The bytes before the first 0, those behind it, and whether the first ones are ASCII.
+fn split_name(bytes: &[u8]) -> Option<(&[u8], &[u8], bool)>
+    ensures given { option_map (λ p. (p.0.now, p.1.now)) result ≡ split_zero bytes.now }
+    ensures ascii { IfSome result (λ p. IsTrue p.2 → IsAscii p.0.now) }
+    ensures shorter { IfSome result (λ p. length p.1.now ≤ length bytes.now) }
+{
+    let mut is_ascii = true;
+    for (i, byte) in bytes.iter().enumerate() {
+        if *byte == 0 {
+            return Some((&bytes[..i], &bytes[i + 1..], is_ascii));
+        }
+        is_ascii = is_ascii && *byte < 0x80;
+    }
+    None
+}
+
+/// What stands behind the name of an element. A name of ASCII is UTF-8, and is looked at once.
+#[tactic(auto, unfolding(crate::specs::Reading::name_at))]
+pub fn behind_name(bytes: &[u8]) -> Result<&[u8], Fault>
+    ensures given { Gives (λ x. x.now) result (passed (name_at bytes.now)) }
+    ensures shorter { IfOk result (λ x. length x.now ≤ length bytes.now) }
+{
+    let Some((name, rest, is_ascii)) = split_name(bytes) else {
+        return Err(fault_at(FaultKind::Short, bytes));
+    };
+    if is_ascii {
+        return Ok(rest);
+    }
+    utf8_at(name, bytes)?;
+    Ok(rest)
 }
 
 /// A text of its own length, in which a 0 may stand.

@@ -1,11 +1,11 @@
 use Rattle.std.proofs.Common.{◌≡◌, ◌≤◌, ◌+◌, length, arith, sym, ◌∙◌, None, Some}
 use Rattle.std.proofs.lemmas.Result.{err_from_is_err_and}
-use Rattle.bson_bytes.specs.Reading.{document_at}
+use Rattle.bson_bytes.specs.Reading.{document_at, name_at}
 use Rattle.bson_bytes.specs.Tags.{kind_of}
 use Rattle.bson_bytes.specs.declared.keys.DuplicateKeys.TheVariants.{Replace}
 use Rattle.bson_bytes.proofs.Passed.{list_start, list_fault, list_end, list_more, list_stop, passed_fault, passed_list}
 use Rattle.bson_bytes.proofs.Passed.{passed_wrong, passed_done, passed_scope}
-use Rattle.bson_bytes.proofs.Passed.{passed_short_scope, passed_bad_scope}
+use Rattle.bson_bytes.proofs.Passed.{passed_short_scope, passed_bad_scope, passed_ok, passed_err}
 use Rattle.bson_bytes.proofs.Turns.{bad_byte, bad_tag, bad_name, too_deep, bad_size}
 use Rattle.bson_bytes.proofs.check.+check.Goals as goal
 
@@ -41,26 +41,29 @@ list_at-returns-in_err-after-clause-given t c =
     let k : kind_of c.in_ok-tag.tag ≡ Some c.in-Some.kind = sym c.kind_of.ensures ∙ c.in-Some.is in
     rw (p.1, p.2) (list_fault c.args.depth c.elements.rest.now _ i _
     (bad_name Replace c.args.depth None i.turns c.elements.rest.now c.in_ok-tag.tag c.in_ok-tag.after.now c.in-Some.kind _ i.enough
-    c.in_ok-tag.ensures.given c.if-tag-eq0.false k c.in_err-after.ensures.given))
+    c.in_ok-tag.ensures.given c.if-tag-eq0.false k
+    (passed_err (name_at c.in_ok-tag.after.now) _ c.in_err-after.ensures.given)))
 
 pub list_at-returns-in_err-behind-clause-given : goal.list_at-returns-in_err-behind-clause-given
 list_at-returns-in_err-behind-clause-given t c =
     let p = err_from_is_err_and c.from_residual-in_err-behind.result c.from_residual-in_err-behind.ensures.1 in
     let i = c.elements.invariant.0 in
     let k : kind_of c.in_ok-tag.tag ≡ Some c.in-Some.kind = sym c.kind_of.ensures ∙ c.in-Some.is in
-    rw (p.1, p.2) (list_stop c.args.depth c.elements.rest.now _ c.in_ok-tag.tag c.in_ok-tag.after.now c.in-Some.kind _
-    c.in_ok-after.after.now _ i c.in_ok-tag.ensures.given c.if-tag-eq0.false k c.in_ok-after.ensures.given
+    let name = passed_ok (name_at c.in_ok-tag.after.now) _ c.in_ok-after.ensures.given in
+    rw (p.1, p.2) (list_stop c.args.depth c.elements.rest.now _ c.in_ok-tag.tag c.in_ok-tag.after.now c.in-Some.kind name.value
+    c.in_ok-after.after.now _ i c.in_ok-tag.ensures.given c.if-tag-eq0.false k name.read
     c.in_err-behind.ensures.given)
 
 pub list_at-elements-preserved : goal.list_at-elements-preserved
 list_at-elements-preserved t c =
     let i = c.elements.invariant.0 in
     let k : kind_of c.in_ok-tag.tag ≡ Some c.in-Some.kind = sym c.kind_of.ensures ∙ c.in-Some.is in
+    let name = passed_ok (name_at c.in_ok-tag.after.now) _ c.in_ok-after.ensures.given in
     let shorter : length c.in_ok-behind.behind.now + 1 ≤ length c.elements.rest.now =
     omega (arith, c.in_ok-tag.ensures.shorter, c.in_ok-after.ensures.shorter, c.in_ok-behind.ensures.shorter) in (
-      list_more c.args.depth c.elements.rest.now _ c.in_ok-tag.tag c.in_ok-tag.after.now c.in-Some.kind _
+      list_more c.args.depth c.elements.rest.now _ c.in_ok-tag.tag c.in_ok-tag.after.now c.in-Some.kind name.value
           c.in_ok-after.after.now c.in_ok-behind.behind.now i (omega (arith, shorter)) c.in_ok-tag.ensures.given
-          c.if-tag-eq0.false k c.in_ok-after.ensures.given c.in_ok-behind.ensures.given,
+          c.if-tag-eq0.false k name.read c.in_ok-behind.ensures.given,
       omega (arith, shorter, c.elements.invariant.1),
     )
 
