@@ -183,7 +183,7 @@ def cell(seconds):
 
 
 def ratio(one, other):
-    return "" if one is None or other is None else f"{one / other:.2f}"
+    return "" if one is None or not other else f"{one / other:.2f}"
 
 
 def main():
