@@ -9,7 +9,11 @@ sys.path += [str(HERE.parent / "fuzz"), str(HERE.parent / "rows")]
 
 import bson_bytes
 import forms
+from grammar import TAKEN
 from rows import rows
+
+# Documents of bytes have finite doubles.
+TAKEN.add("doubles")
 
 LINES = ("canonical", "relaxed", "canonical_in_order", "relaxed_in_order", "show", "check")
 WORDS = {"Depth": "nests too deep", "Short": "ends too early", "Length": "a wrong length", "Tag": "no type of BSON",
