@@ -52,7 +52,7 @@ fn fill<S: PairStore<u32>>(
     Ok(())
 }
 
-/// A refused push hands the pair back and leaves the store as it was; the same pair is then pushed
+/// A refused put hands the pair back and leaves the store as it was; the same pair is then pushed
 /// again.
 fn pushes<S: PairStore<u32>>(rt: &impl Abort, alloc: Global, store: &mut S) -> Result<(), Fail> {
     let mut was_refused = false;
@@ -90,7 +90,7 @@ fn refused_push_to_a_small_store(rt: HostRuntime) -> Result<(), Fail> {
     pushes(&rt, alloc, &mut SmallPairs::with_capacity(alloc, 9)?)
 }
 
-/// Entries whose keys don't ascend are found by their sorted places. A refused push hands the pair
+/// Entries whose keys don't ascend are found by their sorted places. A refused put hands the pair
 /// back and leaves them; two keys are then taken out, which takes no memory.
 #[test]
 fn refused_from_entries(rt: HostRuntime) -> Result<(), Fail> {
@@ -103,7 +103,7 @@ fn refused_from_entries(rt: HostRuntime) -> Result<(), Fail> {
     let mut store = SmallPairs::from_entries(alloc, entries)?;
     assert!(rt; holds(&store, &PAIRS[..19]));
     let (key, value) = PAIRS[19];
-    if let Err((back, same)) = store.push(String::from_str(alloc, key)?, value) {
+    if let Err((back, same)) = put(&mut store, String::from_str(alloc, key)?, value) {
         assert!(rt; back.as_str() == key && same == value);
         assert!(rt; holds(&store, &PAIRS[..19]));
         for i in 0..2 {
