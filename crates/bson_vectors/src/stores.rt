@@ -90,17 +90,22 @@ fn refused_push_to_a_small_store(rt: HostRuntime) -> Result<(), Fail> {
     pushes(&rt, alloc, &mut SmallPairs::with_capacity(alloc, 9)?)
 }
 
+/// The first nineteen pairs.
+fn entries(alloc: Global) -> Result<Vec<Pair<u32>>, AllocError> {
+    let mut all = Vec::new(alloc);
+    for &(key, value) in &PAIRS[..19] {
+        let key = String::from_str(alloc, key)?;
+        all.push(Pair { key, value })?;
+    }
+    Ok(all)
+}
+
 /// Entries whose keys don't ascend are found by their sorted places. A refused put hands the pair
 /// back and leaves them; two keys are then taken out, which takes no memory.
 #[test]
 fn refused_from_entries(rt: HostRuntime) -> Result<(), Fail> {
     let alloc = rt.alloc();
-    let mut entries = Vec::new(alloc);
-    for &(key, value) in &PAIRS[..19] {
-        let key = String::from_str(alloc, key)?;
-        entries.push(Pair { key, value })?;
-    }
-    let mut store = SmallPairs::from_entries(alloc, entries)?;
+    let mut store = SmallPairs::from_entries(alloc, entries(alloc)?)?;
     assert!(rt; holds(&store, &PAIRS[..19]));
     let (key, value) = PAIRS[19];
     if let Err((back, same)) = put(&mut store, String::from_str(alloc, key)?, value) {
