@@ -1,20 +1,25 @@
 -- What converting a text gives.
-use Rattle.std.specs.Prelude.{◌≡◌, ℕ, List, Option, None, Some, string_bytes}
+use Rattle.std.specs.Prelude.{◌≡◌, ℕ, List, ◌++◌, Option, None, Some, Ok, string_bytes}
 use Rattle.std.specs.Cmp.Lexicographic.{slice_cmp}
 use Rattle.std.specs.Ordering.{nat_cmp}
+use Rattle.std.specs.Str.{IsUtf8}
 use Rattle.std.specs.declared.cmp.Ordering.TheVariants.{Less}
 use Rattle.json.specs.Token.{Token}
 use Rattle.serde_json.specs.Data.{Data, Items, Members}
 use Rattle.bson_wrapper.specs.declared.form.Doubles.{Doubles}
 use Rattle.bson_wrapper.specs.declared.form.Doubles.TheVariants.{Special}
 use Rattle.bson_wrapper.specs.declared.form.Form.{Form}
+use Rattle.bson_wrapper.specs.TreeText.{text_of}
+use Rattle.bson_model.specs.Normal.{InRange}
 use Rattle.bson_model.specs.Value as model
-use Rattle.bson.specs.Straight.{TextMeans, TreeMeans, ItemsMean, ObjectMeans}
+use Rattle.bson_model.specs.Writing.{writes_in}
+use Rattle.bson.specs.Straight.{TextMeans, TreeMeans, ItemsMean, ObjectMeans, ObjectReads}
 use Rattle.bson.specs.TextMeaning.{HasTextMeaningIn}
-use Rattle.bson.specs.Texts.{IsPrinted, IsTextUnder}
+use Rattle.bson.specs.Texts.{IsTextUnder}
 use Rattle.bson.specs.View.{bson_view}
 use Rattle.bson.specs.declared.extjson.convert.Converted.{Converted}
 use Rattle.bson.specs.declared.extjson.convert.Converted.TheVariants.{Text, Value}
+use Rattle.bson.specs.declared.extjson.key_order.KeyOrder.TheVariants.{Ascending}
 
 -- a text in the form of the value that the bytes mean, or that value
 abbrev pub IsConversionIn : Doubles → Form → List ℕ → Converted → Type 0
@@ -30,19 +35,28 @@ IsConversion = IsConversionIn Special
 abbrev pub TextConverted : Doubles → Form → List ℕ → List ℕ → Type 0
 TextConverted D f text written = (v : model.Value) × TextMeans D text v × IsTextUnder D f v written
 
--- a tree was read, of which these tokens are left, and its value printed behind the old tokens
-abbrev pub TreeConverted : Doubles → Form → Option (Data × List Token) → List Token → List Token → List Token → Type 0
-TreeConverted D f tree rest old new = (v : model.Value) × TreeMeans D tree v rest × IsPrinted D f v old new
+-- the text of the value in the form comes after the old text
+abbrev pub IsBehind : Doubles → Form → model.Value → List ℕ → List ℕ → Type 0
+IsBehind D f v old new =
+    (t : Data) × (writes_in D f v ≡ Ok t) × InRange v × IsUtf8 (text_of t) × (new ≡ old ++ text_of t)
+
+-- a tree was read, of which these tokens are left, and the text of its value comes after the old text
+abbrev pub TreeConverted : Doubles → Form → Option (Data × List Token) → List Token → List ℕ → List ℕ → Type 0
+TreeConverted D f tree rest old new = (v : model.Value) × TreeMeans D tree v rest × IsBehind D f v old new
 
 -- the same of the trees of a list
-abbrev pub ItemsConverted : Doubles → Form → Option (Items × List Token) → List Token → List Token → List Token → Type 0
+abbrev pub ItemsConverted : Doubles → Form → Option (Items × List Token) → List Token → List ℕ → List ℕ → Type 0
 ItemsConverted D f trees rest old new =
-    (vs : model.Values) × ItemsMean D trees vs rest × IsPrinted D f (model.array vs) old new
+    (vs : model.Values) × ItemsMean D trees vs rest × IsBehind D f (model.array vs) old new
 
 -- the same of the members of an object
-abbrev pub ObjectConverted : Doubles → Form → Option (Members × List Token) → List Token → List Token → List Token
-    → Type 0
-ObjectConverted D f members rest old new = (v : model.Value) × ObjectMeans D members v rest × IsPrinted D f v old new
+abbrev pub ObjectConverted : Doubles → Form → Option (Members × List Token) → List Token → List ℕ → List ℕ → Type 0
+ObjectConverted D f members rest old new = (v : model.Value) × ObjectMeans D members v rest × IsBehind D f v old new
+
+-- the same of an object whose first key was read
+abbrev pub WrapperConverted : Doubles → Form → ℕ → List ℕ → List Token → List Token → List ℕ → List ℕ → Type 0
+WrapperConverted D f depth k ts rest old new =
+    (v : model.Value) × ObjectReads Ascending D depth k ts (Some v) rest × IsBehind D f v old new
 
 -- the key is greater than the last one, by bytes
 abbrev pub Follows : Option (List ℕ) → List ℕ → Type 0

@@ -1,32 +1,39 @@
 //! A text to another of the same value, part by part.
-ghost use Rattle.std.specs.Prelude.{◌≡◌, ◌<◌, ◌≤◌, ◌∷◌, List, length, true, None, option_map, IfOk, IfErr};
-ghost use Rattle.std.specs.Prelude.{OnOk, IfSome, IsTrue, string_bytes};
+ghost use Rattle.std.specs.Prelude.{◌≡◌, ◌<◌, ◌||◌, length, true, None, is_some, IfOk, IfErr};
+ghost use Rattle.std.specs.Prelude.{OnOk, IsTrue, option_map, string_bytes};
 ghost use Rattle.json.specs.Json.{value, items, members};
-ghost use Rattle.json.specs.Reads.{token_of};
 ghost use Rattle.serde_json.specs.Data.{Data, no_members};
 ghost use Rattle.serde_json.specs.Read.{of_json, of_items, of_members, converted, read};
+ghost use Rattle.bson_wrapper.specs.Table.{wrapper_of};
 ghost use Rattle.bson_model.specs.Means.{Means, MeansIn};
 ghost use Rattle.bson_model.specs.Value as model;
 ghost use Rattle.bson.specs.Converted.{IsConversion, IsConversionIn, TreeConverted, ItemsConverted};
-ghost use Rattle.bson.specs.Converted.{ObjectConverted, TextConverted, Follows};
+ghost use Rattle.bson.specs.Converted.{ObjectConverted, TextConverted, WrapperConverted};
+ghost use Rattle.bson.specs.Pieces.{IsAdded};
+ghost use Rattle.bson.specs.Straight.{is_scope, ObjectReads};
 ghost use Rattle.bson.specs.TextMeaning.{IsTextOf, IsTextFault, IsTextFaultIn};
+ghost use Rattle.bson.specs.View.{bson_view};
+ghost use Rattle.bson.specs.declared.extjson.key_order.KeyOrder.TheVariants.{Ascending};
 ghost use Rattle.bson.specs.declared.extjson.text_error.TextError.TheVariants.{OutOfMemory};
 ghost use Rattle.bson.specs.declared.extjson.convert.Unconverted.TheVariants as unconverted;
 
 mod by_key;
+mod output;
 
 use crate::bson::Bson;
-use crate::extjson::convert::by_key::convert_by_key;
+use crate::extjson::convert::by_key::{Piece, end_object, with_last};
+use crate::extjson::convert::output::{Output, put_byte, put_comma, put_key, put_value, text_of};
 use crate::extjson::key_order::KeyOrder;
 use crate::extjson::options::Options;
-use crate::extjson::text::{finished, print_read};
 use crate::extjson::text_error::TextError;
-use crate::extjson::text_reader::straight::{read_begun, read_value};
-use crate::extjson::text_reader::{MAX_DEPTH, find_fault, or_fault, read_bytes, read_text};
+use crate::extjson::text_reader::straight::scope_first::read_scoped;
+use crate::extjson::text_reader::straight::{read_begun, read_wrapped};
+use crate::extjson::text_reader::{MAX_DEPTH, find_fault, read_bytes};
 use bson_tokens::unread::Unread;
+use bson_wrapper::code::is_scope;
 use bson_wrapper::form::{Doubles, Form};
 use bson_wrapper::wrapper::named;
-use json::{Invalid, Reader, Scratch, Token, Writer};
+use json::{Invalid, Reader, Scratch, Token};
 use std::alloc::{AllocError, Global};
 
 /// What [`Bson::convert_text`] gives.
@@ -82,16 +89,15 @@ impl From<Unread> for Unconverted {
     }
 }
 
-// A text of fewer bytes is read whole.
-const LEAST_LENGTH: usize = 4096;
-
 impl Bson {
     /// The text in the form of the value that the bytes mean, as [`Bson::try_from_text`] reads it;
-    /// or that value, where there is little to save.
+    /// or that value, where it was read whole.
     ///
-    /// A list is read and written an element at a time, and so is a list in an object; other
-    /// members of an object are read and written one at a time. Where the keys do not ascend by
-    /// bytes, the texts of the members are put in order at the end.
+    /// A list is read and written an element at a time, a document a member at a time, at every
+    /// depth. Where the keys of a document do not ascend by bytes, the texts of its members are put
+    /// in order at its end; of a key that stands twice the last is taken. An object that begins with
+    /// a wrapper's key or `$scope` is read whole. So is the text where a value that means nothing
+    /// gives way to a later one of its key.
     ///
     /// It is Ok and refused as `try_from_text` is, with the same errors.
     pub fn convert_text(alloc: Global, form: Form, bytes: &[u8]) -> Result<Converted, TextError>
@@ -135,12 +141,7 @@ fn convert(
     };
     let mut scratch = Scratch::new(alloc);
     match convert_parts(alloc, doubles, form, text, &mut scratch) {
-        Ok(Some(written)) => Ok(Converted::Text(written)),
-        Ok(None) => {
-            let read = read_text(alloc, doubles, KeyOrder::Ascending, text, &mut scratch);
-            drop(scratch);
-            Ok(Converted::Value(or_fault(alloc, doubles, KeyOrder::Ascending, bytes, text, read)?))
-        }
+        Ok(written) => Ok(Converted::Text(written)),
         Err(why) => {
             drop(scratch);
             refuse(alloc, doubles, bytes, text, why)?;
@@ -183,38 +184,8 @@ fn breaks_grammar(alloc: Global, text: &str) -> Result<bool, AllocError>
     }
 }
 
-// How a text is converted.
-#[derive(Clone, Copy, Drop)]
-enum Parts {
-    // It is read whole.
-    None,
-    // Its parts are written as they come.
-    InTurn,
-    // The texts of its members are put in order.
-    ByKey,
-}
-
-// The text, written as its parts are read; none where it is to be read whole.
+// The text, written as its parts are read.
 fn convert_parts(
-    alloc: Global,
-    doubles: Doubles,
-    form: Form,
-    text: &str,
-    scratch: &mut Scratch,
-) -> Result<Option<String>, Unconverted>
-    ensures { IfOk result (λ s. IfSome s (λ written. TextConverted doubles form text.now (string_bytes written))) }
-{
-    if text.len() < LEAST_LENGTH {
-        return Ok(None);
-    }
-    match parts_of(text, scratch)? {
-        Parts::None => Ok(None),
-        Parts::InTurn => Ok(Some(convert_in_turn(alloc, doubles, form, text, scratch)?)),
-        Parts::ByKey => convert_by_key(alloc, doubles, form, text, scratch),
-    }
-}
-
-fn convert_in_turn(
     alloc: Global,
     doubles: Doubles,
     form: Form,
@@ -224,165 +195,181 @@ fn convert_in_turn(
     ensures { IfOk result (λ written. TextConverted doubles form text.now (string_bytes written)) }
 {
     let mut reader = Reader::new(text, scratch)?;
-    let mut out = Writer::new(Vec::with_capacity(alloc, text.len())?);
-    convert_root(alloc, doubles, form, &mut reader, &mut out)?;
+    let mut out = Output {
+        text: Vec::with_capacity(alloc, text.len())?,
+        part: Vec::new(alloc),
+    };
+    convert_value(alloc, doubles, form, &mut reader, MAX_DEPTH, &mut out)?;
     if reader.next().is_some() {
         return Err(Unconverted::Broken);
     }
-    Ok(finished(out))
+    Ok(text_of(out))
 }
 
-// How the text is converted, as its first token and its keys tell. It only saves a try: the keys
-// are looked at again as the members are written.
-fn parts_of(text: &str, scratch: &mut Scratch) -> Result<Parts, Unconverted> {
-    let mut reader = Reader::new(text, scratch)?;
-    match reader.next() {
-        Some(Token::BeginArray) => Ok(Parts::InTurn),
-        Some(Token::BeginObject) => parts_of_object(&mut reader),
-        _ => Ok(Parts::None),
-    }
-}
-
-fn parts_of_object(reader: &mut Reader<'_>) -> Result<Parts, Unconverted> {
-    let mut last: Option<&str> = None;
-    'members: while let Some(name) = reader.next_key()? {
-        if named(name).is_some() {
-            return Ok(Parts::None);
-        }
-        if !follows(last, name) {
-            return Ok(Parts::ByKey);
-        }
-        reader.skip_value(MAX_DEPTH - 1)?;
-        last = Some(name);
-    }
-    Ok(Parts::InTurn)
-}
-
-// The key is greater than the last one, by bytes.
-pub(crate) fn follows(last: Option<&str>, key: &str) -> bool
-    ensures { result ≡ true → Follows (option_map (λ s. s.now) last.entry) key.now }
-{
-    match last {
-        Some(last) => last.cmp(key).is_lt(),
-        None => true,
-    }
-}
-
-fn convert_root(
+// A list an element at a time, an object a member at a time, and any other value whole.
+#[cycle(converting)]
+fn convert_value<'a>(
     alloc: Global,
     doubles: Doubles,
     form: Form,
-    reader: &mut Reader<'_>,
-    out: &mut Writer,
+    reader: &mut Reader<'a>,
+    depth: usize,
+    out: &mut Output,
 ) -> Result<(), Unconverted>
     ensures ok { OnOk result
-        (TreeConverted doubles form (converted of_json (value 127 reader.old)) reader.new out.old.tokens
-        out.new.tokens) }
-    ensures before { out.new.before ≡ out.old.before }
+        (TreeConverted doubles form (converted of_json (value depth reader.old)) reader.new out.old.text.items
+        out.new.text.items) }
+    ensures shorter { OnOk result (length reader.new < length reader.old) }
 {
     let token = reader.next().ok_or(Unconverted::Broken)?;
     match token {
-        Token::BeginObject => convert_members(alloc, doubles, form, reader, MAX_DEPTH - 1, out),
-        token => convert_begun(alloc, doubles, form, reader, MAX_DEPTH, token, out),
+        Token::BeginArray if depth > 0 => {
+            convert_items(alloc, doubles, form, reader, depth - 1, out)
+        }
+        Token::BeginObject if depth > 0 => {
+            convert_object(alloc, doubles, form, reader, depth - 1, out)
+        }
+        token => {
+            let value = read_begun(
+                alloc,
+                doubles,
+                KeyOrder::Ascending,
+                reader,
+                depth,
+                token,
+            )?.ok_or(Unconverted::Left)?;
+            Ok(put_value(alloc, doubles, form, value, out)?)
+        }
     }
 }
 
-// The value that begins with the token: a list an element at a time, and any other whole.
-fn convert_begun(
+// A list whose bracket was read.
+#[cycle(converting)]
+fn convert_items<'a>(
     alloc: Global,
     doubles: Doubles,
     form: Form,
-    reader: &mut Reader<'_>,
+    reader: &mut Reader<'a>,
     depth: usize,
-    token: Token<'_>,
-    out: &mut Writer,
+    out: &mut Output,
 ) -> Result<(), Unconverted>
     ensures ok { OnOk result
-        (TreeConverted doubles form (converted of_json (value depth (token_of token.entry ∷ reader.old))) reader.new
-        out.old.tokens out.new.tokens) }
-    ensures before { out.new.before ≡ out.old.before }
-    ensures shorter { OnOk result (length reader.new ≤ length reader.old) }
+        (ItemsConverted doubles form (converted of_items (items (value depth) (length reader.old) reader.old))
+        reader.new out.old.text.items out.new.text.items) }
+    ensures shorter { OnOk result (length reader.new < length reader.old) }
 {
-    if let Token::BeginArray = token {
-        if depth == 0 {
-            return Err(Unconverted::Broken);
-        }
-        return convert_items(alloc, doubles, form, reader, depth - 1, out);
+    put_byte(b'[', &mut out.text)?;
+    let mut behind = false;
+    'items: while !reader.take_end_array() {
+        put_comma(behind, &mut out.text)?;
+        convert_value(alloc, doubles, form, reader, depth, out)?;
+        behind = true;
     }
-    let value = read_begun(alloc, doubles, KeyOrder::Ascending, reader, depth, token)?.ok_or(
-        Unconverted::Left,
-    )?;
-    Ok(print_read(alloc, doubles, form, value, out)?)
+    Ok(put_byte(b']', &mut out.text)?)
 }
 
-// An object whose brace was read, a member at a time.
-fn convert_members(
+// An object whose brace was read.
+#[cycle(converting)]
+fn convert_object<'a>(
     alloc: Global,
     doubles: Doubles,
     form: Form,
-    reader: &mut Reader<'_>,
+    reader: &mut Reader<'a>,
     depth: usize,
-    out: &mut Writer,
+    out: &mut Output,
 ) -> Result<(), Unconverted>
     ensures ok { OnOk result
         (ObjectConverted doubles form
         (converted (λ ms. of_members ms no_members) (members (value depth) (length reader.old) reader.old)) reader.new
-        out.old.tokens out.new.tokens) }
-    ensures before { out.new.before ≡ out.old.before }
+        out.old.text.items out.new.text.items) }
+    ensures shorter { OnOk result (length reader.new < length reader.old) }
 {
-    out.begin_object()?;
-    let mut last: Option<&str> = None;
-    'members: while let Some(name) = reader.next_key()? {
-        if named(name).is_some() || !follows(last, name) {
+    let mut next = reader.next_key()?;
+    if let Some(key) = next {
+        if begins_wrapper(key) {
+            return convert_wrapper(alloc, doubles, form, reader, depth, key, out);
+        }
+    }
+    let start = out.text.len();
+    put_byte(b'{', &mut out.text)?;
+    let mut pieces = Vec::new(alloc);
+    'members: while let Some(key) = next {
+        if named(key).is_some() {
             return Err(Unconverted::Left);
         }
-        out.key(name)?;
-        convert_member(alloc, doubles, form, reader, depth, out)?;
-        last = Some(name);
+        pieces = convert_member(alloc, doubles, form, reader, depth, key, pieces, out)?;
+        next = reader.next_key()?;
     }
-    Ok(out.end_object()?)
+    end_object(alloc, pieces, start, out)
 }
 
-// The value of a member whose key was read.
-pub(crate) fn convert_member(
+// The member whose key was read.
+#[cycle(converting)]
+fn convert_member<'a>(
+    alloc: Global,
+    doubles: Doubles,
+    form: Form,
+    reader: &mut Reader<'a>,
+    depth: usize,
+    key: &'a str,
+    pieces: Vec<Piece<'a>>,
+    out: &mut Output,
+) -> Result<Vec<Piece<'a>>, Unconverted>
+    ensures ok { IfOk result (λ now. IsAdded doubles form key.entry.now (converted of_json (value depth reader.old))
+        reader.new out.old.text.items pieces.entry.items out.new.text.items now.items) }
+    ensures shorter { IfOk result (λ now. length reader.new < length reader.old) }
+{
+    put_comma(!pieces.is_empty(), &mut out.text)?;
+    let start = out.text.len();
+    put_key(alloc, key, out)?;
+    convert_value(alloc, doubles, form, reader, depth, out)?;
+    let end = out.text.len();
+    Ok(with_last(pieces, Piece { key, start, end })?)
+}
+
+// Only what follows tells what an object means that begins with such a key.
+fn begins_wrapper(key: &str) -> bool
+    ensures { result ≡ (is_scope key.now || is_some (wrapper_of key.now)) }
+{
+    is_scope(key) || named(key).is_some()
+}
+
+// The object whose first key was read, which is read whole.
+#[inline(never)]
+fn convert_wrapper(
     alloc: Global,
     doubles: Doubles,
     form: Form,
     reader: &mut Reader<'_>,
     depth: usize,
-    out: &mut Writer,
+    key: &str,
+    out: &mut Output,
 ) -> Result<(), Unconverted>
+    requires { (is_scope key.now || is_some (wrapper_of key.now)) ≡ true }
     ensures ok { OnOk result
-        (TreeConverted doubles form (converted of_json (value depth reader.old)) reader.new out.old.tokens
-        out.new.tokens) }
-    ensures before { out.new.before ≡ out.old.before }
+        (WrapperConverted doubles form depth key.now reader.old reader.new out.old.text.items out.new.text.items) }
     ensures shorter { OnOk result (length reader.new < length reader.old) }
 {
-    let token = reader.next().ok_or(Unconverted::Broken)?;
-    convert_begun(alloc, doubles, form, reader, depth, token, out)
+    let value = read_named(alloc, doubles, reader, depth, key)?.ok_or(Unconverted::Left)?;
+    Ok(put_value(alloc, doubles, form, value, out)?)
 }
 
-// A list whose bracket was read, an element at a time.
-fn convert_items(
+fn read_named(
     alloc: Global,
     doubles: Doubles,
-    form: Form,
     reader: &mut Reader<'_>,
     depth: usize,
-    out: &mut Writer,
-) -> Result<(), Unconverted>
-    ensures ok { OnOk result
-        (ItemsConverted doubles form (converted of_items (items (value depth) (length reader.old) reader.old))
-        reader.new out.old.tokens out.new.tokens) }
-    ensures before { out.new.before ≡ out.old.before }
+    key: &str,
+) -> Result<Option<Bson>, Unread>
+    requires { (is_scope key.now || is_some (wrapper_of key.now)) ≡ true }
+    ensures ok { IfOk result
+        (λ v. ObjectReads Ascending doubles depth key.now reader.old (option_map bson_view v) reader.new) }
     ensures shorter { OnOk result (length reader.new < length reader.old) }
 {
-    out.begin_array()?;
-    'items: while !reader.take_end_array() {
-        let item = read_value(alloc, doubles, KeyOrder::Ascending, reader, depth)?.ok_or(
-            Unconverted::Left,
-        )?;
-        print_read(alloc, doubles, form, item, out)?;
+    let order = KeyOrder::Ascending;
+    if is_scope(key) {
+        read_scoped(alloc, doubles, order, reader, depth, key)
+    } else {
+        read_wrapped(alloc, doubles, order, reader, depth, key)
     }
-    Ok(out.end_array()?)
 }

@@ -1,155 +1,130 @@
-//! An object whose keys do not ascend, converted a member at a time: the texts of its members are
-//! put in order.
-ghost use Rattle.std.specs.Prelude.{◌≡◌, ◌<◌, [], ◌∷◌, ◌++◌, length, None, is_some, IfOk, IfSome, OnOk, string_bytes};
+//! The texts of an object's members, put in order where their keys do not ascend.
+ghost use Rattle.std.specs.Prelude.{◌≡◌, ◌<◌, ◌∷◌, ◌++◌, [], List, length, None, drop, is_some, option_map, suc, take, true};
+ghost use Rattle.std.specs.Prelude.{IfOk, IfSome, OnOk};
 ghost use Rattle.std.specs.List.{All};
 ghost use Rattle.std.specs.List.Sorted.{IsPermutation};
-ghost use Rattle.std.specs.Str.{IsUtf8};
-ghost use Rattle.json.specs.Json.{members, value};
-ghost use Rattle.serde_json.specs.Data.{no_members};
-ghost use Rattle.serde_json.specs.Read.{of_json, of_members, converted};
 ghost use Rattle.serde_json.specs.Written.{comma_if};
-ghost use Rattle.bson.specs.Converted.{TextConverted};
+ghost use Rattle.bson.specs.Converted.{Follows};
 ghost use Rattle.bson.specs.Gathered.{HaveTurns};
-ghost use Rattle.bson.specs.Pieces.{piece_key, object_text, Ascend, IsWithin, IsAdded};
-ghost use Rattle.bson.specs.Pieces.{InOrder, ObjectInPieces, IsTextAdded};
+ghost use Rattle.bson.specs.Pieces.{piece_key, object_text, last_ones, stands_again, Ascend, IsWithin};
+ghost use Rattle.bson.specs.Pieces.{InOrder, IsEnded, IsOpen};
 
-use crate::extjson::convert::{Unconverted, convert_member, follows};
-use crate::extjson::text_reader::MAX_DEPTH;
+use crate::extjson::convert::Unconverted;
+use crate::extjson::convert::output::{Output, put_byte, put_comma};
 use crate::extjson::text_reader::gathered::prefix_of;
-use bson_wrapper::form::{Doubles, Form};
-use bson_wrapper::wrapper::named;
-use json::{Reader, Scratch, Token, Writer};
 use std::alloc::{AllocError, Global};
 
-// Room for the text of a member of usual length.
-const SHORT: usize = 128;
+// So many members or fewer are sorted with no memory.
+const FEW: usize = 20;
 
 // The key of a member, and the place of its text, as in `"a":1`.
 #[derive(Clone, Copy, Drop)]
-pub(crate) struct Piece<'a> {
-    key: &'a str,
-    start: usize,
-    end: usize,
+pub(super) struct Piece<'a> {
+    pub(super) key: &'a str,
+    pub(super) start: usize,
+    pub(super) end: usize,
 }
 
-// The members so far, as they come.
-#[derive(Drop)]
-pub(crate) struct Pieces<'a> {
-    pieces: Vec<Piece<'a>>,
-    texts: Vec<u8>,
-}
-
-/// The text of the object; none where it is to be read whole, since a key is a wrapper's or stands
-/// twice.
-pub(crate) fn convert_by_key(
-    alloc: Global,
-    doubles: Doubles,
-    form: Form,
-    text: &str,
-    scratch: &mut Scratch,
-) -> Result<Option<String>, Unconverted>
-    ensures { IfOk result (λ s. IfSome s (λ written. TextConverted doubles form text.now (string_bytes written))) }
-{
-    let mut reader = Reader::new(text, scratch)?;
-    let Some(Token::BeginObject) = reader.next() else {
-        return Ok(None);
-    };
-    let Some(found) = gather(alloc, doubles, form, &mut reader)? else {
-        return Ok(None);
-    };
-    if reader.next().is_some() {
-        return Err(Unconverted::Broken);
-    }
-    Ok(in_order(alloc, found)?)
-}
-
-// The texts of the members of an object whose brace was read; none where a key is a wrapper's.
-fn gather<'a>(
-    alloc: Global,
-    doubles: Doubles,
-    form: Form,
-    reader: &mut Reader<'a>,
-) -> Result<Option<Pieces<'a>>, Unconverted>
-    ensures { IfOk result (λ found. IfSome found (λ pieces. ObjectInPieces doubles form
-        (converted (λ ms. of_members ms no_members) (members (value 126) (length reader.old) reader.old)) reader.new
-        pieces)) }
-{
-    let mut found = Pieces {
-        pieces: Vec::new(alloc),
-        texts: Vec::new(alloc),
-    };
-    'members: while let Some(key) = reader.next_key()? {
-        if named(key).is_some() {
-            return Ok(None);
-        }
-        found = add(alloc, doubles, form, reader, key, found)?;
-    }
-    Ok(Some(found))
-}
-
-// Adds the member whose key was read.
-fn add<'a>(
-    alloc: Global,
-    doubles: Doubles,
-    form: Form,
-    reader: &mut Reader<'a>,
-    key: &'a str,
-    found: Pieces<'a>,
-) -> Result<Pieces<'a>, Unconverted>
-    ensures ok { IfOk result (λ now. IsAdded doubles form key.entry.now (converted of_json (value 126 reader.old))
-        reader.new found.entry now) }
-    ensures shorter { IfOk result (λ now. length reader.new < length reader.old) }
-{
-    let Pieces { pieces, mut texts } = found;
-    let start = texts.len();
-    add_text(alloc, doubles, form, reader, key, &mut texts)?;
-    let end = texts.len();
-    let pieces = with_last(pieces, Piece { key, start, end })?;
-    Ok(Pieces { pieces, texts })
-}
-
-fn with_last<'a>(mut pieces: Vec<Piece<'a>>, last: Piece<'a>) -> Result<Vec<Piece<'a>>, AllocError>
+pub(super) fn with_last<'a>(
+    mut pieces: Vec<Piece<'a>>,
+    last: Piece<'a>,
+) -> Result<Vec<Piece<'a>>, AllocError>
     ensures { IfOk result (λ now. now.items ≡ pieces.entry.items ++ last.entry ∷ []) }
 {
     pieces.push(last)?;
     Ok(pieces)
 }
 
-// Adds the text of the member whose key was read. It has a writer of its own, since one that stands
-// in a long text takes much room ahead.
-fn add_text(
+// Ends the object that begins at the start, whose members are the pieces: by ascending key, and of
+// those of one key the last.
+pub(super) fn end_object(
     alloc: Global,
-    doubles: Doubles,
-    form: Form,
-    reader: &mut Reader<'_>,
-    key: &str,
-    texts: &mut Vec<u8>,
+    pieces: Vec<Piece<'_>>,
+    start: usize,
+    out: &mut Output,
 ) -> Result<(), Unconverted>
-    ensures ok { OnOk result (IsTextAdded doubles form key.now (converted of_json (value 126 reader.old)) reader.new
-        texts.old.items texts.new.items) }
-    ensures shorter { OnOk result (length reader.new < length reader.old) }
+    requires within { All (IsWithin out.old.text.items) pieces.items }
+    requires opened { IsOpen (take start out.old.text.items) out.old.text.items pieces.items }
+    ensures { OnOk result
+        (IsEnded pieces.entry.items (take start out.old.text.items) out.old.text.items out.new.text.items) }
 {
-    let mut out = Writer::new(Vec::with_capacity(alloc, SHORT)?);
-    out.key(key)?;
-    convert_member(alloc, doubles, form, reader, MAX_DEPTH - 1, &mut out)?;
-    texts.extend_from_slice(&out.into_inner())?;
-    Ok(())
+    if ascend(&pieces) {
+        return Ok(put_byte(b'}', &mut out.text)?);
+    }
+    let text = in_order(alloc, pieces, start, &out.text)?.ok_or(Unconverted::Left)?;
+    out.text.truncate(start);
+    Ok(out.text.extend_from_slice(&text)?)
 }
 
-// The text of the object; none where a key stands twice. The first bytes of the keys tell most of
-// them apart.
-fn in_order(alloc: Global, found: Pieces<'_>) -> Result<Option<String>, AllocError>
-    requires { All (IsWithin found.texts.items) found.pieces.items }
-    ensures { IfOk result (λ s. IfSome s (λ written. InOrder found.entry.pieces.items found.entry.texts.items
-        (string_bytes written))) }
+fn ascend(pieces: &Vec<Piece<'_>>) -> bool
+    ensures { result ≡ true → Ascend None pieces.now.items }
 {
-    let Pieces { mut pieces, texts } = found;
+    let mut last: Option<&str> = None;
+    for at in 0..pieces.len() {
+        let Piece { key, .. } = pieces[at];
+        if !follows(last, key) {
+            return false;
+        }
+        last = Some(key);
+    }
+    true
+}
+
+// The key is greater than the last one, by bytes.
+fn follows(last: Option<&str>, key: &str) -> bool
+    ensures { result ≡ true → Follows (option_map (λ s. s.now) last.entry) key.now }
+{
+    match last {
+        Some(last) => last.cmp(key).is_lt(),
+        None => true,
+    }
+}
+
+// The text of the object that begins at the start. None never comes.
+fn in_order(
+    alloc: Global,
+    pieces: Vec<Piece<'_>>,
+    start: usize,
+    texts: &Vec<u8>,
+) -> Result<Option<Vec<u8>>, AllocError>
+    requires { All (IsWithin texts.now.items) pieces.items }
+    ensures { IfOk result (λ s. IfSome s (λ written. InOrder pieces.entry.items texts.now.items written.items)) }
+{
+    if pieces.len() > FEW {
+        many_in_order(alloc, pieces, start, texts)
+    } else {
+        few_in_order(alloc, pieces, start, texts)
+    }
+}
+
+// The first bytes of the keys tell most of them apart.
+fn many_in_order(
+    alloc: Global,
+    mut pieces: Vec<Piece<'_>>,
+    start: usize,
+    texts: &Vec<u8>,
+) -> Result<Option<Vec<u8>>, AllocError>
+    requires { All (IsWithin texts.now.items) pieces.items }
+    ensures { IfOk result (λ s. IfSome s (λ written. InOrder pieces.entry.items texts.now.items written.items)) }
+{
     sort_by_prefix(&mut pieces)?;
-    if let Some(written) = joined(alloc, &pieces, &texts)? {
+    if let Some(written) = joined(alloc, &pieces, start, texts)? {
         return Ok(Some(written));
     }
+    few_in_order(alloc, pieces, start, texts)
+}
+
+fn few_in_order(
+    alloc: Global,
+    mut pieces: Vec<Piece<'_>>,
+    start: usize,
+    texts: &Vec<u8>,
+) -> Result<Option<Vec<u8>>, AllocError>
+    requires { All (IsWithin texts.now.items) pieces.items }
+    ensures { IfOk result (λ s. IfSome s (λ written. InOrder pieces.entry.items texts.now.items written.items)) }
+{
     sort_by_key(&mut pieces)?;
-    joined(alloc, &pieces, &texts)
+    joined(alloc, &pieces, start, texts)
 }
 
 fn sort_by_prefix(pieces: &mut Vec<Piece<'_>>) -> Result<(), AllocError>
@@ -168,49 +143,45 @@ fn sort_by_key(pieces: &mut Vec<Piece<'_>>) -> Result<(), AllocError>
     Ok(())
 }
 
-// The texts in the order of the pieces, as an object; none where the keys do not ascend.
+// The texts in the order of the pieces, as an object, of those of one key that stand side by side
+// the last; none where the keys do not ascend.
 fn joined(
     alloc: Global,
     pieces: &Vec<Piece<'_>>,
+    start: usize,
     texts: &Vec<u8>,
-) -> Result<Option<String>, AllocError>
+) -> Result<Option<Vec<u8>>, AllocError>
     requires { All (IsWithin texts.now.items) pieces.now.items }
-    ensures { IfOk result (λ s. IfSome s (λ written. Ascend None pieces.now.items
-        × (string_bytes written ≡ object_text texts.now.items pieces.now.items))) }
+    ensures { IfOk result (λ s. IfSome s (λ written. Ascend None (last_ones pieces.now.items)
+        × (written.items ≡ object_text texts.now.items (last_ones pieces.now.items)))) }
 {
-    let room = texts.len().saturating_add(pieces.len()).saturating_add(1);
+    let room = texts.len().saturating_sub(start).saturating_add(1);
     let mut out = Vec::with_capacity(alloc, room)?;
     out.push(b'{')?;
     let mut last: Option<&str> = None;
     for at in 0..pieces.len() {
         let Piece { key, start, end } = pieces[at];
+        if has_next(pieces, at, key) {
+            continue;
+        }
         if !follows(last, key) {
             return Ok(None);
         }
-        put_comma(last, &mut out)?;
+        put_comma(last.is_some(), &mut out)?;
         out.extend_from_slice(&texts[start..end])?;
         last = Some(key);
     }
     out.push(b'}')?;
-    Ok(Some(text_of(out)))
+    Ok(Some(out))
 }
 
-// The comma behind the last member, if there is one.
-fn put_comma(last: Option<&str>, out: &mut Vec<u8>) -> Result<(), AllocError>
-    ensures { OnOk result (out.new.items ≡ out.old.items ++ comma_if (is_some last.entry)) }
+// The piece behind the place has the key too.
+fn has_next(pieces: &Vec<Piece<'_>>, at: usize, key: &str) -> bool
+    requires { at < length pieces.now.items }
+    ensures { result ≡ stands_again key.now (drop (suc at) pieces.now.items) }
 {
-    if last.is_some() {
-        out.push(b',')?;
+    match pieces.get(at + 1) {
+        Some(next) => next.key == key,
+        None => false,
     }
-    Ok(())
-}
-
-fn text_of(bytes: Vec<u8>) -> String
-    requires { IsUtf8 bytes.items }
-    ensures { string_bytes result ≡ bytes.items }
-{
-    let Ok(text) = String::from_utf8(bytes) else {
-        unreachable!();
-    };
-    text
 }

@@ -17,7 +17,7 @@ ghost use Rattle.bson.specs.Gathered.{gathered, IsInOrder};
 ghost use Rattle.bson.specs.Straight.{Reads, IsJoined, MembersRead, RestReads, ObjectReads, IsFound, IsCode};
 ghost use Rattle.bson_tokens.specs.declared.unread.Unread.TheVariants.{Broken};
 
-mod scope_first;
+pub(crate) mod scope_first;
 
 use crate::bson::Bson;
 use crate::document::Document;
@@ -228,7 +228,7 @@ fn read_document(
 // that stands again the last value counts.
 #[cycle(straight)]
 #[inline(never)]
-fn read_wrapped(
+pub(crate) fn read_wrapped(
     alloc: Global,
     doubles: Doubles,
     order: KeyOrder,

@@ -1,15 +1,11 @@
-use Rattle.std.proofs.Common.{◌≡◌, Some, Ok, string_bytes, subst}
-use Rattle.std.specs.Prelude.{IfSome}
+use Rattle.std.proofs.Common.{◌≡◌, Some, Ok, subst}
 use Rattle.serde_json.specs.Read.{read}
 use Rattle.bson_model.proofs.Offered.{value_read_in}
-use Rattle.bson.specs.Converted.{TextConverted}
 use Rattle.bson.proofs.extjson.convert.convert.Goals as goal
 
-pub returns-in-Ok-Some-clause-ok : goal.returns-in-Ok-Some-clause-ok
-returns-in-Ok-Some-clause-ok c =
-    let done = subst (λ o. IfSome o (λ written. TextConverted c.args.doubles c.args.form c.in-Ok.text.now
-    (string_bytes written)))
-    c.in-Ok-Some.field-0-is c.in-Ok-Some.ensures in
+pub returns-in-Ok-convert_parts-clause-ok : goal.returns-in-Ok-convert_parts-clause-ok
+returns-in-Ok-convert_parts-clause-ok c =
+    let done = c.in-Ok-convert_parts.ensures in
     let m = done.1 in
     let same = c.in-Ok.ensures.cases in (
       done.0,

@@ -28,7 +28,7 @@ use std::alloc::Global;
 // What the object means that begins with `$scope`, whose key was read. Only what follows tells
 // whether a scope stands there, whose keys are not tested, or a value like any other.
 #[cycle(straight)]
-pub(super) fn read_scoped(
+pub(crate) fn read_scoped(
     alloc: Global,
     doubles: Doubles,
     order: KeyOrder,
