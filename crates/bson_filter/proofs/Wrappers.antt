@@ -10,7 +10,7 @@ use Rattle.std.proofs.lemmas.Bool.{and_parts}
 use Rattle.std.proofs.lemmas.Slice.Eq.{bytes_eq-Decides}
 use Rattle.serde_json.specs.Data.{Data, Num, string, object, no_members, member}
 use Rattle.serde_json.specs.Read.{of_json, converted}
-use Rattle.bson_wrapper.specs.Reading.{number_read_in, single_at_in}
+use Rattle.bson_wrapper.specs.Reading.{number_read_in, single_at_in, single_in}
 use Rattle.bson_wrapper.specs.Scalar.{Scalar}
 use Rattle.bson_wrapper.specs.Table.{wrapper_of}
 use Rattle.bson_wrapper.specs.declared.wrapper.Wrapper.{Wrapper}
@@ -32,10 +32,6 @@ use Rattle.bson_filter.proofs.Objects.{object_of, begins, kept_from, alone, alon
 module _ (D : Doubles) (f : Form) where
   -- ---- scalars
 
-  has_key_of_wrapper : (o : Option Wrapper) (d : Data) (x : Scalar) → single_at_in D o d ≡ Ok x → is_some o ≡ true
-  has_key_of_wrapper (Some w) d x h = refl
-  has_key_of_wrapper None d x h = cc
-
   printed : (done : Unit {0}) (w : Result Data Refusal) (old new : List Token) → Puts (Ok done) w old new
       → (u : Data) × (w ≡ Ok u) × (new ≡ old ++ tokens_of u)
   printed done (Ok u) old new h = (u, refl, h)
@@ -47,27 +43,28 @@ module _ (D : Doubles) (f : Form) where
       let w = printed done (writes_scalar_in D f x) old new written in
       (n, w.0, is, (model.scalar x, ap scalar_value read, w.1), w.2)
 
-  pub single_written : (done : Unit {0}) (k : List ℕ) (held : Data) (x : Scalar) (old new : List Token)
-      → single_at_in D (wrapper_of k) held ≡ Ok x → Puts (Ok done) (writes_scalar_in D f x) old new
-      → SingleWritten D f k held old new
-  single_written done k held x old new single written =
+  pub single_written : (done : Unit {0}) (wrapper : Wrapper) (held : Data) (x : Scalar) (old new : List Token)
+      → single_in D wrapper held ≡ Ok x → Puts (Ok done) (writes_scalar_in D f x) old new
+      → SingleWritten D f wrapper held old new
+  single_written done wrapper held x old new single written =
       let w = printed done (writes_scalar_in D f x) old new written in (x, w.0, single, w.1, w.2)
 
-  pub single_passes : {E : Type 0} (done : Result (Unit {0}) E) (depth : ℕ) (k : List ℕ) (ts r s old new : List Token)
-      (held : Data) → converted of_json (value depth ts) ≡ Some (held, r) → length r < length ts
-      → read_key r ≡ Some (None, s) → OnOk done (SingleWritten D f k held old new)
+  pub single_passes : {E : Type 0} (done : Result (Unit {0}) E) (depth : ℕ) (k : List ℕ) (wrapper : Wrapper)
+      (ts r s old new : List Token) (held : Data) → wrapper_of k ≡ Some wrapper
+      → converted of_json (value depth ts) ≡ Some (held, r) → length r < length ts
+      → read_key r ≡ Some (None, s) → OnOk done (SingleWritten D f wrapper held old new)
       → OnOk done (ObjectPasses D f (kept_object (from_key depth (Some k) ts)) s old new)
-  single_passes (Ok u) depth k ts r s old new held read less ended (x, w, single, written, is) =
+  single_passes (Ok u) depth k wrapper ts r s old new held named read less ended (x, w, single, written, is) =
       let j = was_read of_json (value depth ts) held r read in
       let d = kept_from j.0 held j.2 in (
         member k d.0 no_members,
         w,
         ap kept_object (alone depth k ts r s j.0 less j.1 ended) ∙ alone_kept k j.0 d.0 s d.1,
-        wrapper_becomes D f k d.0 w x (has_key_of_wrapper (wrapper_of k) held x single)
-            (ap (single_at_in D (wrapper_of k)) d.2 ∙ single) written,
+        wrapper_becomes D f k d.0 w x (ap is_some named)
+            (ap (single_at_in D (wrapper_of k)) d.2 ∙ ap (λ o. single_at_in D o held) named ∙ single) written,
         is,
       )
-  single_passes (Err e) depth k ts r s old new held read less ended h = tt
+  single_passes (Err e) depth k wrapper ts r s old new held named read less ended h = tt
 
   -- ---- code with its scope
 

@@ -6,14 +6,15 @@ use Rattle.json.specs.Json.{value, members, members_step, read_key}
 use Rattle.json.specs.Token.{Token, end_object}
 use Rattle.serde_json.specs.Data.{Data, Num, number, Items, array, Members, no_members, object}
 use Rattle.serde_json.specs.Read.{converted}
-use Rattle.bson_wrapper.specs.Reading.{single_at_in}
+use Rattle.bson_wrapper.specs.Reading.{single_in}
 use Rattle.bson_wrapper.specs.Scalar.{Scalar}
-use Rattle.bson_wrapper.specs.Table.{wrapper_of, has_wrapper}
+use Rattle.bson_wrapper.specs.Table.{has_wrapper}
 use Rattle.bson_wrapper.specs.Tokens.{tokens_of}
 use Rattle.bson_wrapper.specs.TreeText.{tree_text}
 use Rattle.bson_wrapper.specs.Written.{writes_scalar_in}
 use Rattle.bson_wrapper.specs.declared.form.Doubles.{Doubles}
 use Rattle.bson_wrapper.specs.declared.form.Form.{Form}
+use Rattle.bson_wrapper.specs.declared.wrapper.Wrapper.{Wrapper}
 use Rattle.bson_model.specs.Value.{Value, Values, Pairs}
 use Rattle.bson_order.specs.Kept.{kept, kept_members}
 use Rattle.bson_order.specs.Reading.{reads_in_order, items_in_order, members_in_order}
@@ -65,9 +66,9 @@ module _ (D : Doubles) (f : Form) where
       (ts : Members) × (us : Members) × (trees ≡ Some (ts, rest)) × MembersBecome ts us
       × (is_document ≡ true → has_wrapper ts ≡ false) × (new ≡ old ++ tokens_of (object us))
 
-  -- the object of this key alone that holds the tree means a scalar, which was written
-  abbrev pub SingleWritten : List ℕ → Data → List Token → List Token → Type 0
-  SingleWritten k held old new = (x : Scalar) × (u : Data) × (single_at_in D (wrapper_of k) held ≡ Ok x)
+  -- the wrapper that holds the tree means a scalar, which was written
+  abbrev pub SingleWritten : Wrapper → Data → List Token → List Token → Type 0
+  SingleWritten w held old new = (x : Scalar) × (u : Data) × (single_in D w held ≡ Ok x)
       × (writes_scalar_in D f x ≡ Ok u) × (new ≡ old ++ tokens_of u)
 
   -- a scope was read and the end of the object that it stands in, and both were written

@@ -1,3 +1,4 @@
+pub mod Digest
 pub mod Filtered
 -- what public clauses cite of the crates below, so that a caller names this crate alone
 pub use Rattle.bson_order.specs.Texts

@@ -1,8 +1,7 @@
 //! From text to text, token by token.
-ghost use Rattle.std.specs.Prelude.{◌≡◌, ◌<◌, ◌≤◌, ◌&&◌, [], length, Some, is_some, option_map};
-ghost use Rattle.std.specs.Prelude.{IfOk, OnOk, string_bytes};
+ghost use Rattle.std.specs.Prelude.{◌≡◌, ◌<◌, ◌≤◌, ◌&&◌, length, Some, is_some, option_map};
+ghost use Rattle.std.specs.Prelude.{IfOk, OnOk};
 ghost use Rattle.json.specs.Json.{value, items};
-ghost use Rattle.json.specs.Print.{print};
 ghost use Rattle.serde_json.specs.Read.{converted};
 ghost use Rattle.bson_wrapper.specs.Table.{wrapper_of};
 ghost use Rattle.bson_order.specs.Kept.{kept, kept_items};
@@ -15,7 +14,7 @@ use crate::unfiltered::Unfiltered;
 use bson_tokens::tree::read_tree;
 use bson_wrapper::code::{is_code_with_scope, put_code};
 use bson_wrapper::form::{Doubles, Form};
-use bson_wrapper::wrapper::named;
+use bson_wrapper::wrapper::{Wrapper, named};
 use json::{Reader, Scratch, Token, Writer};
 use serde_json::Value;
 use std::alloc::Global;
@@ -23,7 +22,7 @@ use std::alloc::Global;
 // How deep arrays and objects may nest.
 const MAX_DEPTH: usize = 127;
 
-/// The compact text in the form of the value that the text means, each document's keys in the order
+/// The bytes of the compact text in the form of the value that the text means, each document's keys in the order
 /// of the text, at every depth: it is written as the text is read, with no value in memory.
 ///
 /// `Left` says nothing of the text: it is to be read whole. It comes where the text is no JSON text
@@ -34,8 +33,8 @@ pub fn filter_text(
     doubles: Doubles,
     form: Form,
     text: &str,
-) -> Result<String, Unfiltered>
-    ensures ok { IfOk result (λ written. IsFilteredText doubles form text.now (string_bytes written)) }
+) -> Result<Vec<u8>, Unfiltered>
+    ensures ok { IfOk result (λ written. IsFilteredText doubles form text.now written.items) }
 {
     let mut scratch = Scratch::new(alloc);
     let mut reader = Reader::new(text, &mut scratch)?;
@@ -53,18 +52,7 @@ pub fn filter_text(
     if reader.next().is_some() {
         return Err(Unfiltered::Left);
     }
-    Ok(finished(out))
-}
-
-// The text that was written.
-fn finished(out: Writer) -> String
-    requires { out.before ≡ [] }
-    ensures { string_bytes result ≡ print out.tokens }
-{
-    let Ok(text) = String::from_utf8(out.into_inner()) else {
-        unreachable!();
-    };
-    text
+    Ok(out.into_inner())
 }
 
 // The keys of the objects that are open are held, each object's behind those around it.
@@ -149,12 +137,14 @@ fn filter_object<'a>(
     ensures shorter { OnOk result (length reader.new < length reader.old) }
 {
     let first = reader.next_key()?;
-    match first {
-        Some(name) if named(name).is_some() => {
-            filter_wrapper(alloc, doubles, form, reader, depth, name, keys, out)
+    if let Some(name) = first {
+        if let Some(wrapper) = named(name) {
+            return filter_wrapper(
+                alloc, doubles, form, reader, depth, wrapper, name, keys, out,
+            );
         }
-        first => filter_members(alloc, doubles, form, reader, depth, first, true, keys, out),
     }
+    filter_members(alloc, doubles, form, reader, depth, first, true, keys, out)
 }
 
 // The members of an object from one on whose key was read, or none of them: none stands twice, and
@@ -191,7 +181,7 @@ fn filter_members<'a>(
         filter_value(alloc, doubles, form, reader, depth, keys, out)?;
         next = reader.next_key()?;
     }
-    if !are_distinct(&mut keys.as_mut_slice()[open..]) {
+    if !are_distinct(alloc, &mut keys.as_mut_slice()[open..]) {
         return Err(Unfiltered::Left);
     }
     keys.truncate(open);
@@ -214,10 +204,12 @@ fn filter_wrapper<'a>(
     form: Form,
     reader: &mut Reader<'a>,
     depth: usize,
+    wrapper: Wrapper,
     key: &str,
     keys: &mut Vec<&'a str>,
     out: &mut Writer,
 ) -> Result<(), Unfiltered>
+    requires { wrapper_of key.now ≡ Some wrapper }
     ensures ok { OnOk result
         (ObjectPasses doubles form (kept_object (from_key depth (Some key.now) reader.old)) reader.new out.old.tokens
         out.new.tokens) }
@@ -227,7 +219,7 @@ fn filter_wrapper<'a>(
 {
     let held = read_tree(alloc, reader, depth)?;
     let Some(other) = reader.next_key()? else {
-        return put_single(alloc, doubles, form, key, held, out);
+        return put_single(alloc, doubles, form, wrapper, held, out);
     };
     if !is_code_with_scope(key, other) {
         return Err(Unfiltered::Left);

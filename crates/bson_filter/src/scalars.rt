@@ -8,7 +8,8 @@ use crate::unfiltered::Unfiltered;
 use bson_tokens::number::number;
 use bson_wrapper::doubles::read_number;
 use bson_wrapper::form::{Doubles, Form};
-use bson_wrapper::read::read_single_in;
+use bson_wrapper::read::read_wrapper;
+use bson_wrapper::wrapper::Wrapper;
 use bson_wrapper::write::print_scalar_in;
 use json::Writer;
 use serde_json::Value;
@@ -30,18 +31,18 @@ pub(crate) fn filter_number(
     Ok(print_scalar_in(alloc, doubles, form, scalar, out)?)
 }
 
-/// Writes the wrapper of this key alone.
+/// Writes the wrapper, of its key alone.
 pub(crate) fn put_single(
     alloc: Global,
     doubles: Doubles,
     form: Form,
-    key: &str,
+    wrapper: Wrapper,
     held: Value,
     out: &mut Writer,
 ) -> Result<(), Unfiltered>
-    ensures ok { OnOk result (SingleWritten doubles form key.now (view held) out.old.tokens out.new.tokens) }
+    ensures ok { OnOk result (SingleWritten doubles form wrapper (view held) out.old.tokens out.new.tokens) }
     ensures before { out.new.before ≡ out.old.before }
 {
-    let scalar = read_single_in(alloc, doubles, key, held)?;
+    let scalar = read_wrapper(alloc, doubles, wrapper, held)?;
     Ok(print_scalar_in(alloc, doubles, form, scalar, out)?)
 }

@@ -180,7 +180,14 @@ pub(crate) fn line(text: String) -> Result<Vec<u8>, Fault>
     ensures ok { IfOk result (λ line. line.items ≡ string_bytes text ++ newline) }
     ensures fault { IfErr result (λ fault. fault ≡ Fault.OutOfMemory) }
 {
-    let mut line = text.into_bytes();
+    ended(text.into_bytes())
+}
+
+/// The bytes, and a newline.
+pub(crate) fn ended(mut line: Vec<u8>) -> Result<Vec<u8>, Fault>
+    ensures ok { IfOk result (λ ended. ended.items ≡ line.items ++ newline) }
+    ensures fault { IfErr result (λ fault. fault ≡ Fault.OutOfMemory) }
+{
     match line.push(b'\n') {
         Ok(()) => Ok(line),
         Err(_) => Err(Fault::OutOfMemory),

@@ -9,13 +9,15 @@ ghost use Rattle.bson.specs.TextMeaning.{IsTextOf};
 ghost use Rattle.bson_run.specs.Convert.{IsRefusedIn};
 ghost use Rattle.bson_run.specs.InOrder.{ConvertsInOrder, IsOutputInOrder};
 
-use crate::convert::{displayed_line, line, refused};
+use crate::convert::{displayed_line, ended, line, refused};
 use crate::fault::Fault;
 use crate::mode::Mode;
 use bson::Bson;
 use bson::extjson::{Form, Options, WriteError};
 use bson_filter::filter::filter_text;
 use bson_filter::unfiltered::Unfiltered;
+use bson_tokens::unread::Unread;
+use bson_tokens::walk::first_fault_in;
 use std::alloc::Global;
 
 /// [`convert_with`](crate::convert::convert_with) where each document of the text has its keys in
@@ -49,7 +51,7 @@ pub fn convert_in_order(
 }
 
 // The text that is written as the bytes are read, and a newline; none where they are to be read
-// whole.
+// whole. Where they mean nothing their first fault is told, and no value is made.
 fn filtered(
     alloc: Global,
     options: Options,
@@ -57,7 +59,7 @@ fn filtered(
     bytes: &[u8],
 ) -> Result<Option<Vec<u8>>, Fault>
     ensures ok { IfOk result (λ found. IfSome found (λ output. ConvertsInOrder options mode bytes.now output.items)) }
-    ensures fault { IfErr result (λ fault. fault ≡ Fault.OutOfMemory) }
+    ensures fault { IfErr result (λ fault. IsRefusedIn options fault bytes.now) }
 {
     let form = match mode {
         Mode::Canonical => Form::Canonical,
@@ -68,9 +70,25 @@ fn filtered(
         return Ok(None);
     };
     match filter_text(alloc, options.doubles, form, text) {
-        Ok(text) => Ok(Some(line(text)?)),
-        Err(Unfiltered::Left) => Ok(None),
+        Ok(written) => Ok(Some(ended(written)?)),
+        Err(Unfiltered::Left) => {
+            refuse(alloc, options, bytes, text)?;
+            Ok(None)
+        }
         Err(Unfiltered::OutOfMemory) => Err(Fault::OutOfMemory),
+    }
+}
+
+// Refuses bytes that mean nothing, with the first fault of their tree.
+fn refuse(alloc: Global, options: Options, bytes: &[u8], text: &str) -> Result<(), Fault>
+    requires { bytes.now ≡ text.now }
+    ensures { IfErr result (λ fault. IsRefusedIn options fault bytes.now) }
+{
+    match first_fault_in(alloc, options.doubles, text) {
+        Ok(None) => Ok(()),
+        Ok(Some(place)) => Err(Fault::NotExtendedJson(place)),
+        Err(Unread::Broken) => Err(Fault::NotJson),
+        Err(Unread::OutOfMemory) => Err(Fault::OutOfMemory),
     }
 }
 

@@ -170,8 +170,8 @@ filter_value-returns-else-depth-eq0-2-clause-ok t c =
     c.args.out.now.tokens c.filter_object.new.out.tokens
     (first ∙ ap (λ k. token_of k ∷ c.next.new.self) c.in-BeginObject.is) (omega arith) c.filter_object.ensures.ok
 
-pub filter_object-returns-in-Some-clause-ok : goal.filter_object-returns-in-Some-clause-ok
-filter_object-returns-in-Some-clause-ok t c =
+pub filter_object-returns-in-Some-named-clause-ok : goal.filter_object-returns-in-Some-named-clause-ok
+filter_object-returns-in-Some-named-clause-ok t c =
     let ts = c.args.reader.now in
     let k = c.in-Some.name.now in
     let r = c.next_key.new.self in
@@ -179,8 +179,8 @@ filter_object-returns-in-Some-clause-ok t c =
     wrapper_passes c.args.doubles c.args.form c.filter_wrapper.result c.args.depth (Some k) ts r
     c.filter_wrapper.new.reader c.args.out.now.tokens c.filter_wrapper.new.out.tokens key c.filter_wrapper.ensures.ok
 
-pub filter_object-returns-in_default-clause-ok : goal.filter_object-returns-in_default-clause-ok
-filter_object-returns-in_default-clause-ok t c =
+pub filter_object-returns-clause-ok : goal.filter_object-returns-clause-ok
+filter_object-returns-clause-ok t c =
     document_passes c.args.doubles c.args.form c.filter_members.result c.args.depth
     (option_map (λ x. x.now) c.in_ok-first.first) c.args.reader.now c.next_key.new.self c.filter_members.new.reader
     c.args.out.now.tokens c.filter_members.new.out.tokens c.in_ok-first.ensures.value c.filter_members.ensures.ok
@@ -203,9 +203,10 @@ filter_wrapper-returns-in_default-clause-ok t c =
     let r = c.read_tree.new.reader in
     let s = c.next_key.new.self in
     let ended : read_key r ≡ Some (None, s) = grind arith in
-    single_passes c.args.doubles c.args.form c.put_single.result c.args.depth c.args.key.now c.args.reader.now r s
-    c.args.out.now.tokens c.put_single.new.out.tokens (view c.in_ok-held.held) c.in_ok-held.ensures.ok
-    c.in_ok-held.ensures.shorter ended c.put_single.ensures.ok
+    let named : wrapper_of c.args.key.now ≡ Some c.args.wrapper = grind arith in
+    single_passes c.args.doubles c.args.form c.put_single.result c.args.depth c.args.key.now c.args.wrapper
+    c.args.reader.now r s c.args.out.now.tokens c.put_single.new.out.tokens (view c.in_ok-held.held) named
+    c.in_ok-held.ensures.ok c.in_ok-held.ensures.shorter ended c.put_single.ensures.ok
 
 pub filter_wrapper-returns-clause-ok : goal.filter_wrapper-returns-clause-ok
 filter_wrapper-returns-clause-ok t c =
