@@ -2,5 +2,6 @@ pub mod Becoming
 pub mod Keys
 pub mod Members
 pub mod Objects
+pub mod Offered
 pub mod Passing
 pub mod Wrappers

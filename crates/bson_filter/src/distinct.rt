@@ -8,7 +8,7 @@ ghost use Rattle.json.specs.Strict.{AreDistinct};
 const FEW: usize = 32;
 
 /// Whether no two of the keys are equal. Many that do not ascend are put in order.
-pub(crate) fn are_distinct(keys: &mut [&str]) -> bool
+pub fn are_distinct(keys: &mut [&str]) -> bool
     ensures { IsTrue result ↔ AreDistinct (map (λ k. k.now) keys.old) }
 {
     if ascend(keys) {
