@@ -50,6 +50,7 @@ COSTS = {
     "bson_place": (2.7, 1.7, 1.6),
     "bson_tokens": (3.7, 1.1, 1.6),
     "bson_filter": (3.4, 0.9, 1.6),
+    "bson_pack": (3.4, 0.9, 1.6),
     "bson_distinct": (1.2, 0.8, 1.6),
     "bson_legacy": (1.4, 0.8, 1.6),
     "bson": (19.2, 2.2, 4.8),

@@ -8,10 +8,10 @@ use Rattle.json.specs.Strict.{AreDistinct}
 use Rattle.json.specs.Token.{Token}
 use Rattle.json.proofs.Grammar.{members_end, read_key_is}
 use Rattle.json.proofs.Grammar.{key_token, read_key-shorter, members_more}
-use Rattle.serde_json.specs.Data.{Data, object, Members, no_members, member}
+use Rattle.serde_json.specs.Data.{Data, array, object, Items, Members, no_members, member}
 use Rattle.serde_json.specs.Read.{of_json, converted}
 use Rattle.bson_wrapper.specs.declared.wrapper.Wrapper.{Wrapper}
-use Rattle.bson_order.specs.Kept.{kept, kept_members, unordered}
+use Rattle.bson_order.specs.Kept.{kept, kept_items, kept_members, unordered}
 use Rattle.bson_order.proofs.Offered.{forgotten}
 use Rattle.bson_tokens.proofs.Offered.{was_read}
 use Rattle.bson_filter.specs.Filtered.{kept_object, inside, from_key}
@@ -76,6 +76,20 @@ pub object_of : (x : Option (json.Members × List Token)) (ms : Members) (r : Li
 object_of x ms r e = let p = was_read (λ js. kept_members js no_members) x ms r e in
     ap (λ o. converted kept (parse_map json.object o)) p.1
     ∙ ap (λ o. option_map (λ d. (d, r)) (option_map object o)) p.2
+
+-- ---- a list, and a text
+
+pub array_of : (x : Option (json.Items × List Token)) (ts : Items) (r : List Token)
+    → converted kept_items x ≡ Some (ts, r) → converted kept (parse_map json.array x) ≡ Some (array ts, r)
+array_of x ts r e = let p = was_read kept_items x ts r e in
+    ap (λ o. converted kept (parse_map json.array o)) p.1
+    ∙ ap (λ o. option_map (λ d. (d, r)) (option_map array o)) p.2
+
+pub last_read : (o : Option (json.Json × List Token)) (d : Data) → converted kept o ≡ Some (d, [])
+    → option_and_then kept (option_and_then (λ p. if_last p.0 p.1) o) ≡ Some d
+last_read o d h =
+    let j = was_read kept o d [] h in
+    ap (λ q. option_and_then kept (option_and_then (λ p. if_last p.0 p.1) q)) j.1 ∙ j.2
 
 -- ---- an object of one key
 

@@ -3,10 +3,10 @@
 -- Of a list or an object that is open it is told what the whole will be, whatever the rest turns out to be. So each
 -- turn puts one item or member before that rest, and nothing is ever put behind what was read.
 use Rattle.std.proofs.Common.{◌≡◌, ℕ, ◌-◌, ◌<◌, ◌≤◌, List, [], ◌∷◌, ◌++◌, length, Option, Some, None}
-use Rattle.std.proofs.Common.{Result, Ok, Err, OnOk, true, false, option_map, option_and_then, refl, sym, ap, ◌∙◌}
+use Rattle.std.proofs.Common.{Result, Ok, Err, OnOk, true, false, option_map, refl, sym, ap, ◌∙◌}
 use Rattle.std.proofs.Common.{Bool, append_assoc, subst}
 use Rattle.json.specs.Json as json
-use Rattle.json.specs.Json.{Parse, parse_map, after_end_array, read_key, items, members, members_step, value, if_last}
+use Rattle.json.specs.Json.{Parse, parse_map, after_end_array, read_key, items, members, members_step, value}
 use Rattle.json.specs.Lex.{tokens}
 use Rattle.json.specs.Print.{print}
 use Rattle.json.specs.Strict.{AreDistinct}
@@ -15,7 +15,7 @@ use Rattle.json.specs.Token.{Token}
 use Rattle.json.specs.Tree.{items_tokens, members_tokens}
 use Rattle.json.proofs.Grammar.{items_end, items_more, value_is, value-begin_array}
 use Rattle.json.proofs.Grammar.{value-begin_object}
-use Rattle.serde_json.specs.Data.{Data, array, object, number, Items, no_items, item, Members, no_members, member}
+use Rattle.serde_json.specs.Data.{array, object, number, Items, no_items, item, Members, no_members, member}
 use Rattle.serde_json.specs.Read.{converted, number_of}
 use Rattle.bson_wrapper.specs.TreeText.{items_outline, members_outline}
 use Rattle.bson_wrapper.specs.Table.{wrapper_of, has_wrapper}
@@ -32,7 +32,8 @@ use Rattle.bson_filter.specs.Filtered.{MembersPass, ObjectPasses, NumberPasses}
 use Rattle.bson_filter.specs.Filtered.{kept_object, inside, from_key}
 use Rattle.bson_filter.proofs.Becoming.{item_becomes, member_becomes, array_becomes, object_becomes}
 use Rattle.bson_filter.proofs.Members.{names, as_they_stand, kept_as_they_stand}
-use Rattle.bson_filter.proofs.Objects.{Key, texts, append_none, texts_more, step_more, begins, object_of}
+use Rattle.bson_filter.proofs.Objects.{Key, texts, append_none, texts_more, step_more, begins, object_of, array_of}
+use Rattle.bson_filter.proofs.Objects.{last_read}
 
 module _ (D : Doubles) (f : Form) where
   -- ---- lists
@@ -168,12 +169,6 @@ module _ (D : Doubles) (f : Form) where
 
   -- ---- a whole value
 
-  array_of : (x : Option (json.Items × List Token)) (ts : Items) (r : List Token)
-      → converted kept_items x ≡ Some (ts, r) → converted kept (parse_map json.array x) ≡ Some (array ts, r)
-  array_of x ts r e = let p = was_read kept_items x ts r e in
-      ap (λ o. converted kept (parse_map json.array o)) p.1
-      ∙ ap (λ o. option_map (λ d. (d, r)) (option_map array o)) p.2
-
   pub array_passes : {E : Type 0} (done : Result (Unit {0}) E) (depth : ℕ) (ts s r old new : List Token)
       → ts ≡ token.begin_array ∷ s → 0 < depth
       → OnOk done (ItemsPass D f (converted kept_items (items (value (depth - 1)) (length s) s)) r old new)
@@ -216,12 +211,6 @@ module _ (D : Doubles) (f : Form) where
   number_passes (Err e) depth k ts s old new is h = tt
 
   -- ---- a whole text
-
-  last_read : (o : Option (json.Json × List Token)) (d : Data) → converted kept o ≡ Some (d, [])
-      → option_and_then kept (option_and_then (λ p. if_last p.0 p.1) o) ≡ Some d
-  last_read o d h =
-      let j = was_read kept o d [] h in
-      ap (λ q. option_and_then kept (option_and_then (λ p. if_last p.0 p.1) q)) j.1 ∙ j.2
 
   pub text_passes : (text written : List ℕ) (rest old new : List Token)
       → TreePasses D f (converted kept (value 127 (tokens text))) rest old new → rest ≡ [] → old ≡ []

@@ -5,7 +5,7 @@
 //! `distinct` (whether a key stands twice), `unfiltered` (why a text was not written so).
 #![tactic(auto)]
 
-mod distinct;
+pub mod distinct;
 pub mod filter;
 mod scalars;
 pub mod unfiltered;

@@ -1,5 +1,6 @@
 -- The bytes of what a text means: there is one such, and what has none by one meaning has none by another.
 use Rattle.std.proofs.Common.{◌≡◌, ℕ, List, Some, sym, ap, ◌∙◌, subst, rules}
+use Rattle.std.specs.Prelude.{IsUtf8}
 use Rattle.serde_json.specs.Data.{Data}
 use Rattle.bson.specs.TextMeaning.{HasTextMeaningIn, IsTextOf}
 use Rattle.bson.specs.View.{bson_view, document_view}
@@ -12,6 +13,7 @@ use Rattle.bson_model.specs.Means.{MeansIn}
 use Rattle.bson_model.specs.Value.{Value, Pairs, document}
 use Rattle.bson_order.specs.Kept.{read_kept}
 use Rattle.bson_order.specs.Means.{MeansInOrder}
+use Rattle.bson_pack.specs.Packed.{IsPackedText}
 use Rattle.bson_run.specs.Convert.{IsRefusedIn}
 use Rattle.bson_run.specs.Encode.{EncodesIn, EncodesInOrder, FailsAlone, FailsFor, IsBytesOf}
 use Rattle.bson_run.specs.Encode.{IsUnencodedFor, IsUnencodedIn, IsUnencodedInOrder, MeansKept}
@@ -110,6 +112,22 @@ module _ (o : Options) (text : List ℕ) where
   pub kept_encoded_one : (value : Value) (out other : List ℕ) → MeansKept o text value
       → IsBytesOf (λ v. v ≡ value) out → EncodesInOrder o text other → other ≡ out
   kept_encoded_one value out other h b e = bytes_one (MeansKept o text) value (kept_one value h) out other b e
+
+  -- what was written from the tokens of a text
+  pub packed : (out : List ℕ) → IsUtf8 text → IsPackedText o.doubles text out → EncodesInOrder o text out
+  packed out utf8 x = record {
+    pairs = x.pairs;
+    meaning = (utf8, x.meaning);
+    fits = x.fits;
+    canonical = x.canonical;
+    back = x.back;
+  }
+
+  pub in_order_one : (out other : List ℕ) → EncodesInOrder o text out → EncodesInOrder o text other → other ≡ out
+  in_order_one out other x y =
+      let same : document y.pairs ≡ document x.pairs =
+      kept_one (document x.pairs) x.meaning (document y.pairs) y.meaning in
+      y.canonical ∙ ap document_bytes (same_pairs same) ∙ sym x.canonical
 
   -- ---- what gives no bytes
 

@@ -1,5 +1,5 @@
 //! One text to the bytes of its document (BSON 1.1, bsonspec.org).
-ghost use Rattle.std.specs.Prelude.{◌≡◌, IfOk, IfErr, ℕ, List, Some, IsUtf8};
+ghost use Rattle.std.specs.Prelude.{◌≡◌, IfOk, IfErr, IfSome, ℕ, List, Some, IsUtf8};
 ghost use Rattle.serde_json.specs.Data.{Data};
 ghost use Rattle.bson_model.specs.Means.{MeansIn};
 ghost use Rattle.bson_model.specs.Value.{Pairs, document};
@@ -19,6 +19,8 @@ use crate::no_bytes::NoBytes;
 use bson::Bson;
 use bson::extjson::Options;
 use bson_codec::{ser, to_vec};
+use bson_pack::pack::pack_text;
+use bson_pack::unpacked::Unpacked;
 use std::alloc::Global;
 
 /// The canonical bytes of the document that the text means, its keys in ascending order at every
@@ -61,6 +63,35 @@ pub fn encode_in_order(alloc: Global, options: Options, bytes: &[u8]) -> Result<
     ensures ok { IfOk result (λ out. EncodesInOrder options bytes.now out.items) }
     ensures one { IfOk result (λ out. (other : List ℕ) → EncodesInOrder options bytes.now other
         → other ≡ out.items) }
+    ensures accepts { (tree : Data) (ps : Pairs) → IsUtf8 bytes.now → read_kept bytes.now ≡ Some tree
+        → MeansInOrder options.doubles tree (document ps) → FitsDocument ps
+        → IfErr result (λ fault. fault ≡ Fault.OutOfMemory) }
+    ensures fault { IfErr result (λ fault. IsUnencodedInOrder options fault bytes.now) }
+{
+    match packed(alloc, options, bytes)? {
+        Some(document) => Ok(document),
+        None => encoded_whole(alloc, options, bytes),
+    }
+}
+
+// The bytes that are written as the text is read; none where it is to be read whole.
+fn packed(alloc: Global, options: Options, bytes: &[u8]) -> Result<Option<Vec<u8>>, Fault>
+    ensures ok { IfOk result (λ found. IfSome found (λ out. EncodesInOrder options bytes.now out.items)) }
+    ensures fault { IfErr result (λ fault. fault ≡ Fault.OutOfMemory) }
+{
+    let Ok(text) = simdutf8::compat::from_utf8(bytes) else {
+        return Ok(None);
+    };
+    match pack_text(alloc, options.doubles, text) {
+        Ok(document) => Ok(Some(document)),
+        Err(Unpacked::Left) => Ok(None),
+        Err(Unpacked::OutOfMemory) => Err(Fault::OutOfMemory),
+    }
+}
+
+// The bytes of the value, which is read whole.
+fn encoded_whole(alloc: Global, options: Options, bytes: &[u8]) -> Result<Vec<u8>, Fault>
+    ensures ok { IfOk result (λ out. EncodesInOrder options bytes.now out.items) }
     ensures accepts { (tree : Data) (ps : Pairs) → IsUtf8 bytes.now → read_kept bytes.now ≡ Some tree
         → MeansInOrder options.doubles tree (document ps) → FitsDocument ps
         → IfErr result (λ fault. fault ≡ Fault.OutOfMemory) }

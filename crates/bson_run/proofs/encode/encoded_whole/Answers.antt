@@ -1,5 +1,5 @@
 use Rattle.bson_run.proofs.EncodeLaws.{unread_kept}
-use Rattle.bson_run.proofs.encode.encode_in_order.Goals as goal
+use Rattle.bson_run.proofs.encode.encoded_whole.Goals as goal
 
 pub returns-in-Err-clause-fault : goal.returns-in-Err-clause-fault
 returns-in-Err-clause-fault c =

@@ -1,0 +1,4 @@
+pub mod Once
+pub mod Packing
+pub mod Put
+pub mod Texts
