@@ -1,48 +1,37 @@
 -- The texts of members, as they come.
 use Rattle.std.proofs.Common.{◌≡◌, ℕ, suc, ◌+◌, ◌-◌, ◌<◌, ◌≤◌, Bool, true, false, cond, not, ◌==◌, List, [], ◌∷◌, ◌++◌, length, drop, take}
-use Rattle.std.proofs.Common.{Option, Some, None, Result, Ok, Err, Less, Equal, Greater, Ordering, nat_cmp, bytes_eq}
+use Rattle.std.proofs.Common.{Some, None, Ok}
 use Rattle.std.proofs.Common.{refl, sym, ap, ◌∙◌, subst, arith, append_assoc, append-nil}
 use Rattle.std.proofs.lemmas.Bool.{eq-eqb, ne_eqb}
-use Rattle.std.proofs.lemmas.Cmp.{nat_list_cmp_total, tied_itself}
 use Rattle.std.proofs.lemmas.List.{drop-append-le, take-append-le, length-append, length-drop}
-use Rattle.std.proofs.lemmas.List.Elements.{All-nil, All-head, All-tail, All-push, All-weaker, All-cons}
-use Rattle.std.proofs.lemmas.List.Sorted.{All-permutation, IsPermutation-refl}
-use Rattle.std.proofs.lemmas.Slice.Eq.{bytes_eq-Decides}
-use Rattle.std.proofs.lemmas.Str.{IsUtf8-append, IsUtf8-from_ascii}
+use Rattle.std.proofs.lemmas.List.Elements.{All-nil, All-head, All-tail, All-push, All-weaker}
+use Rattle.std.proofs.lemmas.Str.{IsUtf8-append}
 use Rattle.std.proofs.Math.Seq.{drop-append_seam, take-length}
-use Rattle.std.specs.Prelude.{is_some, IfSome, IfOk}
-use Rattle.std.specs.Cmp.Lexicographic.{slice_cmp}
+use Rattle.std.specs.Prelude.{is_some}
 use Rattle.std.specs.List.{All}
 use Rattle.std.specs.Str.{IsUtf8}
 use Rattle.json.specs.Json.{read_key, members, value}
 use Rattle.json.specs.Print.{quoted}
 use Rattle.json.specs.Token.{Token}
-use Rattle.serde_json.specs.Data.{Data, Members, no_members, member, object, put}
+use Rattle.serde_json.specs.Data.{Members, no_members, put}
 use Rattle.serde_json.specs.Read.{of_json, of_members, converted}
 use Rattle.serde_json.specs.Written.{comma_if}
 use Rattle.bson_wrapper.specs.TreeText.{text_of}
 use Rattle.bson_wrapper.specs.Table.{wrapper_of, has_wrapper}
-use Rattle.bson_wrapper.specs.Written.{◌>>=◌}
 use Rattle.bson_wrapper.specs.declared.form.Doubles.{Doubles}
 use Rattle.bson_wrapper.specs.declared.form.Form.{Form}
-use Rattle.bson_model.specs.Normal.{PairsInRange}
 use Rattle.bson_model.specs.Reading.{reads_members_in}
-use Rattle.bson_model.specs.Sorted.{put_pair, IsLeast, KeysAscend}
-use Rattle.bson_model.specs.Value.{Value, Pairs, no_pairs, pair, document}
-use Rattle.bson_model.specs.Writing.{writes_in, writes_pairs_in}
-use Rattle.bson.specs.Converted.{IsBehind, TreeConverted, ObjectConverted, Follows}
-use Rattle.bson.specs.Gathered.{put_each, pairs_of}
-use Rattle.bson.specs.Pieces.{piece_key, piece_text, open_text, members_text, object_text, Ascend, IsWithin, InOrder}
-use Rattle.bson.specs.Pieces.{last_ones, stands_again, with_comma, IsOpen, IsEnded, IsMemberText}
+use Rattle.bson_model.specs.Sorted.{put_pair}
+use Rattle.bson_model.specs.Value.{Value, Pairs, no_pairs, document}
+use Rattle.bson.specs.Converted.{IsBehind}
+use Rattle.bson.specs.Gathered.{put_each}
+use Rattle.bson.specs.Pieces.{piece_key, piece_text, open_text, members_text, IsWithin}
+use Rattle.bson.specs.Pieces.{with_comma, IsOpen, IsMemberText}
 use Rattle.bson.specs.Pieces.{Values, value_at, IsPiece, IsAdded, ObjectInPieces}
-use Rattle.bson.specs.Texts.{writes_in_turn}
 use Rattle.bson.specs.declared.extjson.convert.by_key.Piece.{Piece}
-use Rattle.bson.proofs.OntoTree.{bind_same}
-use Rattle.bson.proofs.PartTexts.{printed_members, no_more_members, one_more_member, object_printed, member_printed}
-use Rattle.bson.proofs.PartTexts.{comma_utf8}
-use Rattle.bson.proofs.Printed.{put_first}
-use Rattle.bson.proofs.PutReads.{put_plain, put_reads, object_read}
-use Rattle.bson.proofs.Turned.{turned, put_ascending, put_last}
+use Rattle.bson.proofs.PartTexts.{member_printed}
+use Rattle.bson.proofs.PutReads.{put_plain, put_reads}
+use Rattle.bson.proofs.Turned.{put_last}
 use Rattle.bson_tokens.proofs.Offered.{Gathers, none_yet, one_gathered, all_gathered}
 
 -- ---- one member

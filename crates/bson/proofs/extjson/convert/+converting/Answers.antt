@@ -1,11 +1,9 @@
-use Rattle.std.proofs.Common.{◌≡◌, ◌≤◌, ◌<◌, ◌∷◌, [], ◌++◌, length, drop, take, Some, None, false, true, option_map}
+use Rattle.std.proofs.Common.{◌≡◌, ◌<◌, ◌∷◌, [], ◌++◌, length, Some, None, false, option_map}
 use Rattle.std.proofs.Common.{refl, sym, ap, ◌∙◌, subst, arith}
-use Rattle.std.proofs.lemmas.List.{take-append-le}
 use Rattle.std.specs.Prelude.{is_some}
 use Rattle.json.proofs.Grammar.{read_key-shorter}
 use Rattle.json.specs.Json.{after_end_array, read_key, members, value}
 use Rattle.json.specs.Reads.{token_of}
-use Rattle.json.specs.Token.{begin_array, begin_object}
 use Rattle.serde_json.specs.Read.{of_json, of_members, converted}
 use Rattle.serde_json.specs.Data.{no_members}
 use Rattle.json.specs.Print.{quoted}

@@ -1,4 +1,4 @@
-use Rattle.std.proofs.Common.{◌≡◌, ℕ, ◌+◌, ◌*◌, ◌≤◌, ◌<◌, List, length, Some, option_map}
+use Rattle.std.proofs.Common.{◌≡◌, ℕ, ◌+◌, ◌*◌, ◌≤◌, List, length, Some, option_map}
 use Rattle.json.specs.Json.{read_key}
 use Rattle.json.specs.Token.{Token}
 use Rattle.bson.proofs.Converting.{ItemsPass}

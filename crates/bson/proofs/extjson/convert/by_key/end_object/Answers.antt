@@ -1,4 +1,4 @@
-use Rattle.std.proofs.Common.{◌≡◌, ◌++◌, take, ap, ◌∙◌, subst}
+use Rattle.std.proofs.Common.{◌++◌, take, ap, ◌∙◌, subst}
 use Rattle.std.specs.Prelude.{IfSome}
 use Rattle.bson.specs.Pieces.{InOrder}
 use Rattle.bson.proofs.PiecesInOrder.{ended_in_place}

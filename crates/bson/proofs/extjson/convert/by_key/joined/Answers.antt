@@ -1,10 +1,10 @@
-use Rattle.std.proofs.Common.{◌≡◌, suc, ◌<◌, ◌∷◌, ◌++◌, [], drop, length, option_map, true, false, sym, ap, ◌∙◌, subst, arith}
+use Rattle.std.proofs.Common.{◌≡◌, suc, ◌<◌, ◌∷◌, ◌++◌, [], drop, length, option_map, sym, ap, ◌∙◌, subst, arith}
 use Rattle.std.proofs.Common.{add-one}
 use Rattle.std.specs.Prelude.{is_some}
 use Rattle.std.proofs.Math.Seq.{drop-cons}
 use Rattle.std.proofs.lemmas.List.{drop_all}
 use Rattle.serde_json.specs.Written.{comma_if}
-use Rattle.bson.specs.Pieces.{piece_key, piece_text, members_text, last_ones, stands_again, Ascend}
+use Rattle.bson.specs.Pieces.{piece_text, members_text, last_ones, Ascend}
 use Rattle.bson.proofs.PiecesInOrder.{kept_one, passed_one, next_joined, next_ascends}
 use Rattle.bson.proofs.extjson.convert.by_key.joined.Goals as goal
 
