@@ -2,6 +2,7 @@ pub mod Turns
 pub mod Elements
 pub mod Gathering
 pub mod Trees
+pub mod Pruned
 pub mod Keys
 pub mod Faulty
 pub mod Entered

@@ -7,6 +7,7 @@
 #![tactic(auto)]
 
 mod faults;
+pub mod held;
 pub mod number;
 pub mod tree;
 pub mod unread;
