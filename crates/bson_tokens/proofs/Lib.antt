@@ -7,5 +7,6 @@ pub mod Keys
 pub mod Faulty
 pub mod Entered
 pub mod Verdicts
+pub mod Wrapped
 pub mod Found
 pub mod Offered

@@ -1,6 +1,6 @@
 -- What a wrapper reads of a tree it reads of the pruned one.
 use Rattle.std.proofs.Common.{◌≡◌, ℕ, zero, suc, ◌-◌, List, Option, Some, None, Result, Ok, Err, option_map, Bool, true, false}
-use Rattle.std.proofs.Common.{cond, refl, sym, ap, ◌∙◌, codes, ◌&&◌, bytes_eq, ℤ, option_and_then}
+use Rattle.std.proofs.Common.{cond, refl, ap, ◌∙◌, codes, ◌&&◌, bytes_eq, ℤ, option_and_then}
 use Rattle.std.proofs.Common.{◌<◌, ◌≤◌, [], ◌∷◌, length, String, Global, arith}
 use Rattle.std.proofs.Common.{Ordering, Less, Equal, Greater, nat_cmp}
 use Rattle.std.specs.Cmp.Lexicographic.{slice_cmp}
@@ -12,7 +12,7 @@ use Rattle.serde_json.specs.declared.value.Value.{Value}
 use Rattle.serde_json.specs.Find.{as_i64, as_str, as_number}
 use Rattle.bson_wrapper.specs.Faults.{Fault, wrong_shape, ◌>>=◌, or_wrong_shape}
 use Rattle.bson_wrapper.specs.Reading.{single_in, single_at_in, lone_member, two_members, on_text, on_lone, on_two}
-use Rattle.bson_wrapper.specs.Reading.{millis_of, is_one, regex_read, pointer_read, timestamp_read, date_read, binary_read}
+use Rattle.bson_wrapper.specs.Reading.{millis_of, is_one}
 use Rattle.bson_wrapper.specs.Reading.{one_read, undefined_read}
 use Rattle.bson_wrapper.specs.Scalar.{Scalar, date, min_key, max_key}
 use Rattle.bson_wrapper.specs.Shapes.{whole, u32_at, small_number}

@@ -72,11 +72,7 @@ fn held_value(
 
 // Passes over the elements of a list whose bracket was read.
 #[cycle(held)]
-pub(crate) fn pass_items(
-    alloc: Global,
-    reader: &mut Reader<'_>,
-    depth: usize,
-) -> Result<(), Unread>
+pub(crate) fn pass_items(alloc: Global, reader: &mut Reader<'_>, depth: usize) -> Result<(), Unread>
     ensures ok { OnOk result
         (ArePassed (converted of_items (items (value depth) (length reader.old) reader.old)) reader.new) }
     ensures broken { IfErr result
