@@ -1,6 +1,6 @@
 -- An object whose first key is a wrapper's or `$scope`: of that key alone, of code and its scope, and of others.
 use Rattle.std.proofs.Common.{◌≡◌, ℕ, ◌&&◌, ◌||◌, inl, inr, List, Bool, true, false, not, codes, Option}
-use Rattle.std.proofs.Common.{None, Result, Ok, Err, refl, sym, ap, ◌∙◌, subst}
+use Rattle.std.proofs.Common.{Some, None, Result, Ok, Err, refl, sym, ap, ◌∙◌, subst}
 use Rattle.std.proofs.Common.{Equal, nat_cmp}
 use Rattle.std.proofs.lemmas.Cmp.{nat_list_cmp_total, tied_itself}
 use Rattle.std.specs.Cmp.Lexicographic.{slice_cmp}
@@ -8,10 +8,11 @@ use Rattle.std.specs.Prelude.{is_some}
 use Rattle.std.specs.Str.{bytes_eq}
 use Rattle.std.proofs.lemmas.Slice.Eq.{bytes_eq-Decides}
 use Rattle.json.specs.Token.{Token}
-use Rattle.json.specs.Json.{value}
+use Rattle.json.specs.Json.{Json, value}
 use Rattle.serde_json.specs.Data.{Data, null, boolean, number, string, array, Members, no_members, member, object, put}
 use Rattle.serde_json.specs.Read.{of_json, converted}
-use Rattle.bson_wrapper.specs.Faults.{Fault}
+use Rattle.serde_json.specs.Find.{as_str}
+use Rattle.bson_wrapper.specs.Faults.{Fault, or_wrong_shape, ◌>>=◌}
 use Rattle.bson_wrapper.specs.Reading.{single_at_in, on_text}
 use Rattle.bson_wrapper.specs.Table.{wrapper_of, has_wrapper}
 use Rattle.bson_wrapper.specs.declared.form.Doubles.{Doubles}
@@ -22,14 +23,15 @@ use Rattle.bson_model.proofs.Offered.{means_to_in}
 use Rattle.bson_order.specs.Kept.{unordered}
 use Rattle.bson_order.specs.Reading.{reads_in_order, scope_in_order}
 use Rattle.bson_order.proofs.Offered.{forgets, means_from}
+use Rattle.bson_tokens.specs.Held.{StandsFor, IsHeldAs}
 use Rattle.bson_tokens.specs.Parts.{NoObject}
 use Rattle.bson_tokens.proofs.Offered.{no_member}
-use Rattle.bson.specs.ByOrder.{insert_by, default_tree, default_members, reads_by, reads_scope_by}
+use Rattle.bson.specs.ByOrder.{insert_by, tree_by, default_tree, default_members, reads_by, reads_scope_by}
 use Rattle.bson.specs.Straight.{given, code_given, any_key, is_wrapper, is_other, is_code, is_scope, is_stray, IsOdd}
 use Rattle.bson.specs.Straight.{AreTwo, IsCode}
 use Rattle.bson.specs.declared.extjson.key_order.KeyOrder.{KeyOrder}
 use Rattle.bson.specs.declared.extjson.key_order.KeyOrder.TheVariants.{Ascending, AsGiven}
-use Rattle.bson.proofs.ByOrder.{default_insert}
+use Rattle.bson.proofs.ByOrder.{by_order, default_insert}
 use Rattle.bson.proofs.Keys.{any_new, any_kept, any_other, wrapper_key, stray_refused, IsStrange, strange_kept}
 use Rattle.bson.proofs.Keys.{strange_from, strange_refused}
 use Rattle.bson.proofs.Marks.{given_none}
@@ -96,7 +98,7 @@ module _ (o : KeyOrder) (k : List ℕ) (d : Data) (ms : Members) where
 
 -- the key is alone, with what was read last, or stands beside another
 abbrev pub IsAlone : KeyOrder → Bool → List ℕ → Data → Members → Type 0
-IsAlone o true k held ms = (c : Data) × (ms ≡ member k c no_members) × (default_tree o c ≡ held)
+IsAlone o true k held ms = (c : Data) × (ms ≡ member k c no_members) × StandsFor (default_tree o c) held
 IsAlone o false k held ms = IsStrange k (default_members o ms)
 
 same_bytes : (k : List ℕ) → bytes_eq k k ≡ true
@@ -115,7 +117,7 @@ single Ascending k c = let is = same_bytes k in rw is refl
 single AsGiven k c = let is = same_bytes k in rw is refl
 
 alone_at : (o : KeyOrder) (b same : Bool) (k l : List ℕ) (held d e : Data) (ms : Members) → bytes_eq k l ≡ same
-    → (b ≡ true → (is_code k && is_scope l) ≡ false) → default_tree o e ≡ d → IsAlone o b k held ms
+    → (b ≡ true → (is_code k && is_scope l) ≡ false) → StandsFor (default_tree o e) d → IsAlone o b k held ms
     → IsAlone o (b && same) k d (insert_by o l e ms)
 alone_at o true true k l held d e ms is unlike from h =
     let one : k ≡ l = (bytes_eq-Decides k l).0 is in (
@@ -133,7 +135,7 @@ alone_at o false same k l held d e ms is unlike from h =
     subst (IsStrange k) (sym (default_insert o l e ms)) (strange_kept k l (default_tree o e) (default_members o ms) h)
 
 pub alone_again : (o : KeyOrder) (b : Bool) (k l : List ℕ) (held d e : Data) (ms : Members)
-    → (b ≡ true → (is_code k && is_scope l) ≡ false) → default_tree o e ≡ d → IsAlone o b k held ms
+    → (b ≡ true → (is_code k && is_scope l) ≡ false) → StandsFor (default_tree o e) d → IsAlone o b k held ms
     → IsAlone o (b && bytes_eq k l) k d (insert_by o l e ms)
 alone_again o b k l held d e ms unlike from h = alone_at o b (bytes_eq k l) k l held d e ms refl unlike from h
 
@@ -146,11 +148,20 @@ pub alone_given : (o : KeyOrder) (D : Doubles) (k : List ℕ) (held : Data) (ms 
     → is_some (wrapper_of k) ≡ true → IsAlone o true k held ms
     → given (scalar_value (single_at_in D (wrapper_of k) held)) ≡ v → given (reads_by o D (object ms)) ≡ v
 alone_given o D k held ms v some h is = ap (λ x. given (reads_by o D (object x))) h.1
-    ∙ ap given (lone_read o D k h.0 some) ∙ ap (λ x. given (scalar_value (single_at_in D (wrapper_of k) x))) h.2 ∙ is
+    ∙ ap given (lone_read o D k h.0 some) ∙ ap (λ r. given (scalar_value r)) (sym (h.2.0 D (wrapper_of k))) ∙ is
 
 pub not_alone : (o : KeyOrder) (D : Doubles) (k : List ℕ) (held : Data) (ms : Members)
     → is_some (wrapper_of k) ≡ true → IsAlone o false k held ms → given (reads_by o D (object ms)) ≡ None
 not_alone o D k held ms some h = none_by o D ms (strange_refused D k (default_members o ms) some h)
+
+-- ---- what it holds
+
+-- the tree in its order that was read, for which d stands
+pub held_by : (o : KeyOrder) (x : Option (Json × List Token)) (d : Data) (r : List Token)
+    → IsHeldAs (converted of_json x) d r
+    → (e : Data) × (converted (tree_by o) x ≡ Some (e, r)) × StandsFor (default_tree o e) d
+held_by o x d r h =
+    let e = by_order o x h.0 r h.1 in (e.0, e.1, subst (λ t. StandsFor t d) (sym e.2) h.2)
 
 -- ---- where the text breaks
 
@@ -169,9 +180,9 @@ pub code_then_scope : (o : KeyOrder) (D : Doubles) (d e : Data) (scope : Option 
     → IsAlone o true (codes "$code") d ms → given (reads_scope_by o D e) ≡ scope
     → IsCode o D true d scope (insert_by o (codes "$scope") e ms)
 code_then_scope o D d e scope ms h is =
-    (h.0, e, subst (λ x. AreTwo o h.0 e (insert_by o (codes "$scope") e x)) (sym h.1) (two_first o h.0 e), h.2, is)
+    (h.0, e, subst (λ x. AreTwo o h.0 e (insert_by o (codes "$scope") e x)) (sym h.1) (two_first o h.0 e), sym h.2.1, is)
 
-pub scope_then_code : (D : Doubles) (c d e : Data) (scope : Option (Option Pairs)) → unordered c ≡ d
+pub scope_then_code : (D : Doubles) (c d e : Data) (scope : Option (Option Pairs)) → as_str (unordered c) ≡ as_str d
     → given (scope_in_order D e) ≡ scope
     → IsCode AsGiven D true d scope (insert_by AsGiven (codes "$code") c (member (codes "$scope") e no_members))
 scope_then_code D c d e scope from is = (c, e, inr refl, from, is)
@@ -204,8 +215,8 @@ scope_again o D false k e d old new ms same is h = (any_insert o k e ms is_code 
 
 -- the value of another key, `$code` or not
 other_key : (o : KeyOrder) (D : Doubles) (c b : Bool) (k : List ℕ) (t d e : Data) (scope : Option (Option Pairs))
-    (ms : Members) → bytes_eq k (codes "$code") ≡ c → bytes_eq k (codes "$scope") ≡ false → default_tree o e ≡ t
-    → IsCode o D b d scope ms → IsCode o D (b && (c && true)) t scope (insert_by o k e ms)
+    (ms : Members) → bytes_eq k (codes "$code") ≡ c → bytes_eq k (codes "$scope") ≡ false
+    → as_str (default_tree o e) ≡ as_str t → IsCode o D b d scope ms → IsCode o D (b && (c && true)) t scope (insert_by o k e ms)
 other_key o D true true k t d e scope ms is not_scope from h = (
   e,
   h.1,
@@ -222,7 +233,8 @@ other_key o D false false k t d e scope ms is not_scope from h =
     (any_insert o k e ms is_code h.0, any_insert o k e ms is_stray h.1)
 
 pub code_again : (o : KeyOrder) (D : Doubles) (b : Bool) (k : List ℕ) (t d e : Data) (scope : Option (Option Pairs))
-    (ms : Members) → bytes_eq k (codes "$scope") ≡ false → default_tree o e ≡ t → IsCode o D b d scope ms
+    (ms : Members) → bytes_eq k (codes "$scope") ≡ false → as_str (default_tree o e) ≡ as_str t
+    → IsCode o D b d scope ms
     → IsCode o D (b && (bytes_eq k (codes "$code") && true)) t scope (insert_by o k e ms)
 code_again o D b k t d e scope ms not_scope from h =
     other_key o D (bytes_eq k (codes "$code")) b k t d e scope ms refl not_scope from h
@@ -251,7 +263,7 @@ two_read AsGiven D c e ms (inr h) = ap (λ x. given (reads_in_order D (object x)
 pub code_read : (o : KeyOrder) (D : Doubles) (d : Data) (scope : Option (Option Pairs)) (ms : Members)
     → IsCode o D true d scope ms → given (reads_by o D (object ms)) ≡ code_given d scope
 code_read o D d scope ms h = two_read o D h.0 h.1 ms h.2
-    ∙ ap (λ x. given (on_text x (λ s. scope_value s (reads_scope_by o D h.1)))) h.3
+    ∙ ap (λ s. given (or_wrong_shape s >>= λ t. scope_value t (reads_scope_by o D h.1))) h.3
     ∙ text_given d (reads_scope_by o D h.1) scope h.4
 
 pub code_refused : (o : KeyOrder) (D : Doubles) (d : Data) (scope : Option (Option Pairs)) (ms : Members)

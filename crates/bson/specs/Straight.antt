@@ -6,6 +6,7 @@ use Rattle.json.specs.Token.{Token}
 use Rattle.json.specs.Json.{Json, members, value}
 use Rattle.json.specs.Lex.{tokens}
 use Rattle.serde_json.specs.Data.{Data, string, Items, Members, no_members, member, object}
+use Rattle.serde_json.specs.Find.{as_str}
 use Rattle.serde_json.specs.Read.{of_json, converted, read}
 use Rattle.bson_wrapper.specs.Faults.{Fault}
 use Rattle.bson_wrapper.specs.Scalar.{double}
@@ -135,7 +136,7 @@ AreTwo AsGiven c e ms = (ms ≡ member (codes "$code") c (member (codes "$scope"
 
 -- the two keys alone, with that code and scope, or others with `$code`
 abbrev pub IsCode : KeyOrder → Doubles → Bool → Data → Option (Option Pairs) → Members → Type 0
-IsCode o D true d scope ms = (c : Data) × (e : Data) × AreTwo o c e ms × (default_tree o c ≡ d)
+IsCode o D true d scope ms = (c : Data) × (e : Data) × AreTwo o c e ms × (as_str (default_tree o c) ≡ as_str d)
     × (given (reads_scope_by o D e) ≡ scope)
 IsCode o D false d scope ms =
     (any_key is_code (default_members o ms) ≡ true) × (any_key is_stray (default_members o ms) ≡ true)

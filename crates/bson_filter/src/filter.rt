@@ -11,7 +11,7 @@ ghost use Rattle.bson_filter.specs.Filtered.{MembersPass, ScopePasses, kept_obje
 use crate::distinct::are_distinct;
 use crate::scalars::{filter_number, put_single};
 use crate::unfiltered::Unfiltered;
-use bson_tokens::tree::read_tree;
+use bson_tokens::held::read_held;
 use bson_wrapper::code::{is_code_with_scope, put_code};
 use bson_wrapper::form::{Doubles, Form};
 use bson_wrapper::wrapper::{Wrapper, named};
@@ -217,7 +217,7 @@ fn filter_wrapper<'a>(
     ensures keys { OnOk result (keys.new.items ≡ keys.old.items) }
     ensures shorter { OnOk result (length reader.new < length reader.old) }
 {
-    let held = read_tree(alloc, reader, depth)?;
+    let held = read_held(alloc, reader, depth)?;
     let Some(other) = reader.next_key()? else {
         return put_single(alloc, doubles, form, wrapper, held, out);
     };

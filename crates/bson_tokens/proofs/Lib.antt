@@ -2,9 +2,11 @@ pub mod Turns
 pub mod Elements
 pub mod Gathering
 pub mod Trees
+pub mod Pruned
 pub mod Keys
 pub mod Faulty
 pub mod Entered
 pub mod Verdicts
+pub mod Wrapped
 pub mod Found
 pub mod Offered

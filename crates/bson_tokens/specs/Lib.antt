@@ -1,4 +1,5 @@
 pub mod Found
+pub mod Held
 pub mod Parts
 pub mod Told
 -- what public clauses cite of the crates below, so that a caller names this crate alone

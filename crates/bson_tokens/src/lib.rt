@@ -1,12 +1,13 @@
 //! The first fault of a text of MongoDB Extended JSON v2 and the path to it, found over the tokens
 //! of the text, with no tree of the whole.
 //!
-//! In reading order: `walk` (how it is found), `faults` (the faulty members of an object), `tree`
-//! (trees of parts of a text, for objects that may be wrappers), `number` (the number of a token),
-//! `unread` (why a text has no tree).
+//! In reading order: `walk` (how it is found), `faults` (the faulty members of an object), `held`
+//! (what stands in a wrapper, as far as wrappers read it), `tree` (trees of parts of a text),
+//! `number` (the number of a token), `unread` (why a text has no tree).
 #![tactic(auto)]
 
 mod faults;
+pub mod held;
 pub mod number;
 pub mod tree;
 pub mod unread;

@@ -12,10 +12,13 @@ ghost use Rattle.bson_tokens.specs.Parts.{IsBroken, NoMembers, NoObject};
 ghost use Rattle.bson_tokens.specs.Told.{Tells, Finds, FindsNumber, ObjectFinds, IsPlaceIn, IsTextPlaceIn};
 ghost use Rattle.bson_tokens.specs.declared.unread.Unread.TheVariants.{OutOfMemory, Broken};
 
+mod wrapped;
+
 use crate::faults::{enter, here, inside, least};
 use crate::number::number;
 use crate::tree::read_from;
 use crate::unread::Unread;
+use crate::walk::wrapped::walk_wrapper;
 use bson_place::place::{Place, Step};
 use bson_place::shape::beside_others;
 use bson_place::walk::place_of_fault_in;
@@ -35,8 +38,8 @@ const MAX_DEPTH: usize = 127;
 ///
 /// It is the place that `place_of_fault` finds in the tree, and no tree of the whole is made: of a
 /// list the first fault is kept, of an object the faults by key, since a later value of a key takes
-/// the place of an earlier one. Only an object that begins with a wrapper's key, or with `$scope`,
-/// is read as a tree. `Broken` is answered where the text as a whole has no tree.
+/// the place of an earlier one. Only an object that begins with `$scope` is read as a tree. `Broken`
+/// is answered where the text as a whole has no tree.
 pub fn first_fault(alloc: Global, text: &str) -> Result<Option<Place>, Unread>
     ensures place { IfOk result (λ found. IsPlaceIn text.now found) }
     ensures broken { IfErr result (IsBroken (read text.now)) }
@@ -162,7 +165,7 @@ fn walk_members(
     let mut wrapper: Option<(&str, Wrapper)> = None;
     'members: while let Some(name) = reader.next_key()? {
         if may_be_wrapper(is_first, name) {
-            return walk_tree(alloc, doubles, reader, depth, name);
+            return walk_first(alloc, doubles, reader, depth, name);
         }
         is_first = false;
         wrapper = lesser(wrapper, name);
@@ -196,7 +199,26 @@ fn lesser<'a>(first: Option<(&'a str, Wrapper)>, key: &'a str) -> Option<(&'a st
     }
 }
 
-// An object whose first key was read, by a tree of its own.
+// An object whose first key was read, a wrapper's or `$scope`.
+#[cycle(walk)]
+fn walk_first(
+    alloc: Global,
+    doubles: Doubles,
+    reader: &mut Reader<'_>,
+    depth: usize,
+    key: &str,
+) -> Result<Option<Place>, Unread>
+    ensures ok { IfOk result (λ p. ObjectFinds doubles depth key.now reader.old p reader.new) }
+    ensures broken { IfErr result (λ e. e ≡ Broken → NoObject depth key.now reader.old) }
+    ensures shorter { OnOk result (length reader.new < length reader.old) }
+{
+    if named(key).is_some() {
+        return walk_wrapper(alloc, doubles, reader, depth, key);
+    }
+    walk_tree(alloc, doubles, reader, depth, key)
+}
+
+// The same by a tree of its own.
 #[inline(never)]
 fn walk_tree(
     alloc: Global,

@@ -21,7 +21,8 @@ use crate::extjson::key_order::KeyOrder;
 use crate::extjson::read::{read, with_scope};
 use crate::extjson::text::finished;
 use crate::extjson::text_reader::gathered::{Gathered, NOTHING, document_of, none, put};
-use bson_tokens::tree::{read_from, read_tree};
+use bson_tokens::held::read_held;
+use bson_tokens::tree::read_from;
 use bson_tokens::unread::Unread;
 use bson_wrapper::error::Error;
 use bson_wrapper::form::Doubles;
@@ -125,6 +126,6 @@ fn find_tree(alloc: Global, text: &str, depth: usize) -> Result<(), Unread>
 {
     let mut scratch = Scratch::new(alloc);
     let mut reader = Reader::new(text, &mut scratch)?;
-    drop(read_tree(alloc, &mut reader, depth)?);
+    drop(read_held(alloc, &mut reader, depth)?);
     Ok(())
 }

@@ -26,8 +26,8 @@ use crate::extjson::read::{number_value, single_value};
 use crate::extjson::text_reader::gathered::{Gathered, NOTHING, document_of, none, put};
 use crate::extjson::text_reader::parts::{coded, document_value, meant};
 use crate::extjson::text_reader::straight::scope_first::read_scoped;
+use bson_tokens::held::read_held;
 use bson_tokens::number::number;
-use bson_tokens::tree::read_tree;
 use bson_tokens::unread::Unread;
 use bson_wrapper::code::{is_code_with_scope, is_scope};
 use bson_wrapper::form::Doubles;
@@ -242,14 +242,14 @@ pub(crate) fn read_wrapped(
     ensures broken { IfErr result (λ e. e ≡ Broken → NoObject depth key.now reader.old) }
     ensures shorter { OnOk result (length reader.new < length reader.old) }
 {
-    let mut held = read_tree(alloc, reader, depth)?;
+    let mut held = read_held(alloc, reader, depth)?;
     let mut is_alone = true;
     'members: while let Some(other) = reader.next_key()? {
         if is_alone && is_code_with_scope(key, other) {
             let scope = read_scope(alloc, doubles, order, reader, depth)?;
             return read_code(alloc, doubles, order, reader, depth, held, scope);
         }
-        held = read_tree(alloc, reader, depth)?;
+        held = read_held(alloc, reader, depth)?;
         is_alone = is_alone & (key == other);
     }
     if !is_alone {
@@ -282,7 +282,7 @@ fn read_code(
         if is_scope(name) {
             scope = read_scope(alloc, doubles, order, reader, depth)?;
         } else {
-            code = read_tree(alloc, reader, depth)?;
+            code = read_held(alloc, reader, depth)?;
             is_code = is_code & is_code_with_scope(name, "$scope");
         }
     }

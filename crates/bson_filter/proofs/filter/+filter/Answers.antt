@@ -200,7 +200,7 @@ filter_scope-returns-clause-ok t c =
 
 pub filter_wrapper-returns-in_default-clause-ok : goal.filter_wrapper-returns-in_default-clause-ok
 filter_wrapper-returns-in_default-clause-ok t c =
-    let r = c.read_tree.new.reader in
+    let r = c.read_held.new.reader in
     let s = c.next_key.new.self in
     let ended : read_key r ≡ Some (None, s) = grind arith in
     let named : wrapper_of c.args.key.now ≡ Some c.args.wrapper = grind arith in
@@ -210,7 +210,7 @@ filter_wrapper-returns-in_default-clause-ok t c =
 
 pub filter_wrapper-returns-clause-ok : goal.filter_wrapper-returns-clause-ok
 filter_wrapper-returns-clause-ok t c =
-    let r = c.read_tree.new.reader in
+    let r = c.read_held.new.reader in
     let q = c.next_key.new.self in
     let k = c.args.key.now in
     let l = c.in-Some.other.now in

@@ -17,7 +17,7 @@ use crate::extjson::text_reader::parts::{document_value, lone, read_sorted, text
 use crate::extjson::text_reader::straight::{
     read_code, read_document, read_member, read_scope, read_value,
 };
-use bson_tokens::tree::read_tree;
+use bson_tokens::held::read_held;
 use bson_tokens::unread::Unread;
 use bson_wrapper::code::{is_code_with_scope, is_scope};
 use bson_wrapper::form::Doubles;
@@ -70,7 +70,7 @@ fn read_scope_first(
     'members: while let Some(name) = reader.next_key()? {
         if is_code_with_scope(name, key) {
             let scope = scope_held(alloc, doubles, held.as_str(), depth)?;
-            let code = read_tree(alloc, reader, depth)?;
+            let code = read_held(alloc, reader, depth)?;
             return read_code(alloc, doubles, order, reader, depth, code, scope);
         }
         if !is_scope(name) {

@@ -22,11 +22,11 @@ use Rattle.bson.specs.Straight.{IsCode, ReadsHeld, is_code, is_scope, unless_not
 use Rattle.bson_tokens.specs.Parts.{IsBroken}
 use Rattle.bson.specs.declared.extjson.key_order.KeyOrder.TheVariants.{AsGiven}
 use Rattle.bson_tokens.proofs.Offered.{object_opened, if_ok, if_err, no_key, no_member, too_deep_object}
-use Rattle.bson.proofs.ByOrder.{by_default, by_order, null_read, object_opened_by, FollowsBy}
+use Rattle.bson.proofs.ByOrder.{by_default, null_read, object_opened_by, FollowsBy}
 use Rattle.bson.proofs.ByOrder.{first_passed, one_passed, first_follows, more_follows}
 use Rattle.bson.proofs.ByOrder.{all_follow, held_tree, held_read, held_whole}
 use Rattle.bson.proofs.Gathering.{with_rest}
-use Rattle.bson.proofs.Wrapped.{no_first, tied}
+use Rattle.bson.proofs.Wrapped.{held_by, no_first, tied}
 use Rattle.bson.proofs.Wrapped.{scope_then_code}
 use Rattle.bson.proofs.Held.{code_keys, other_scope, null_scope, object_scope, second_false, not_twice, stray_from}
 use Rattle.bson.proofs.Held.{scope_found, lone_document}
@@ -177,12 +177,12 @@ scope_first::read_scope_first-returns-then-is_code_with_scope-clause-ok t c =
     let k = c.args.key.now in
     let j = c.in-Some.name.now in
     let s = c.next_key.new.self in
-    let r = c.read_tree.new.reader in
+    let r = c.read_held.new.reader in
     let named : read_key l.reader ≡ Some (Some j, s) = grind arith in
     let read = c.in_ok-code.ensures in
     let tree = view c.in_ok-code.code in
     let e = l.invariant.1 in
-    let d = by_order AsGiven (value c.args.depth s) tree r read.ok in
+    let d = held_by AsGiven (value c.args.depth s) tree r read.ok in
     let scope = option_map (λ x. option_map document_view x) c.in_ok-scope.scope in
     let keys = code_keys j k (sym c.if-is_code_with_scope.ensures) in
     let held = held_read (scope_in_order D) c.args.depth (string_bytes l.held) e scope l.invariant.3
@@ -191,7 +191,7 @@ scope_first::read_scope_first-returns-then-is_code_with_scope-clause-ok t c =
     let two : IsCode AsGiven D true tree scope (insert_by AsGiven j d.0 (member k e no_members)) =
     subst (λ x. IsCode AsGiven D true tree scope (insert_by AsGiven x d.0 (member k e no_members))) (sym keys.0)
     (subst (λ x. IsCode AsGiven D true tree scope (insert_by AsGiven (codes "$code") d.0 (member x e no_members)))
-    (sym keys.1) (scope_then_code D d.0 tree e scope d.2 held)) in
+    (sym keys.1) (scope_then_code D d.0 tree e scope (sym d.2.1) held)) in
     if_ok c.read_code.result (c.read_code.ensures.ok (insert_by AsGiven j d.0 (member k e no_members)) two) (λ v m.
     with_rest AsGiven D c.args.depth k c.args.reader.now r c.read_code.new.reader
     (insert_by AsGiven j d.0 (member k e no_members)) (option_map bson_view v)
@@ -203,11 +203,11 @@ scope_first::read_scope_first-returns-then-is_code_with_scope-clause-broken t c 
     let l = c.members in
     let j = c.in-Some.name.now in
     let s = c.next_key.new.self in
-    let r = c.read_tree.new.reader in
+    let r = c.read_held.new.reader in
     let named : read_key l.reader ≡ Some (Some j, s) = grind arith in
     let read = c.in_ok-code.ensures in
-    let passed = one_passed c.args.depth c.args.key.now j c.args.reader.now l.reader s r (view c.in_ok-code.code)
-    l.invariant.0 named read.ok read.shorter in
+    let passed = one_passed c.args.depth c.args.key.now j c.args.reader.now l.reader s r read.ok.0
+    l.invariant.0 named read.ok.1 read.shorter in
     if_err c.read_code.result c.read_code.ensures.broken (λ e none broken. passed.none (none broken))
 
 pub scope_first::read_scope_first-returns-then-is_code_with_scope-clause-shorter : goal.scope_first::read_scope_first-returns-then-is_code_with_scope-clause-shorter

@@ -17,11 +17,11 @@ use Rattle.bson.specs.ByOrder.{insert_by}
 use Rattle.bson.specs.View.{bson_view, document_view}
 use Rattle.bson.specs.Straight.{IsCode, is_code, is_scope}
 use Rattle.bson_tokens.proofs.Offered.{if_ok, if_err, no_key, no_member}
-use Rattle.bson.proofs.ByOrder.{by_default, by_order, first_insert}
+use Rattle.bson.proofs.ByOrder.{by_default, first_insert}
 use Rattle.bson.proofs.ByOrder.{none_passed, member_passed, first_passed, one_passed, first_follows, more_follows}
 use Rattle.bson.proofs.ByOrder.{all_follow, one_gathered_by, all_gathered_by}
 use Rattle.bson.proofs.Gathering.{with_rest}
-use Rattle.bson.proofs.Wrapped.{no_first, IsAlone, alone_again, alone_given, not_alone, code_then_scope}
+use Rattle.bson.proofs.Wrapped.{held_by, no_first, IsAlone, alone_again, alone_given, not_alone, code_then_scope}
 use Rattle.bson.proofs.Wrapped.{scope_again, code_again, code_read, code_refused}
 use Rattle.bson.proofs.Held.{code_keys}
 use Rattle.bson.proofs.extjson.text_reader.straight.+straight.Goals.{read_wrapped-else-is_alone-via-then-is_alone+else-is_code_with_scope}
@@ -87,21 +87,21 @@ read_code-members-preserved t c =
     let o = c.args.order in
     let k = c.in-Some.name.now in
     let s = c.next_key.new.self in
-    let r = c.read_tree.new.reader in
+    let r = c.read_held.new.reader in
     let named : read_key l.reader ≡ Some (Some k, s) = grind arith in
     let read = c.in_ok-code.ensures in
     let tree = view c.in_ok-code.code in
     let scope = option_map (λ d. option_map document_view d) l.scope in
     let other : bytes_eq k (codes "$scope") ≡ false = sym c.if-is_scope.ensures in
-    let e = by_order o (value c.args.depth s) tree r read.ok in (
-      member_passed c.args.depth k c.args.reader.now l.reader s r tree l.invariant.0 named read.ok read.shorter,
+    let e = held_by o (value c.args.depth s) tree r read.ok in (
+      member_passed c.args.depth k c.args.reader.now l.reader s r read.ok.0 l.invariant.0 named read.ok.1 read.shorter,
       λ old is.
           let i = l.invariant.1 old is in (
             insert_by o k e.0 i.0,
             one_gathered_by o c.args.depth old k c.args.reader.now l.reader s r i.0 e.0 i.1 named e.1 read.shorter,
             subst (λ b. IsCode o c.args.doubles (l.is_code && b) tree scope (insert_by o k e.0 i.0))
                 (sym c.is_code_with_scope-is_code.ensures)
-                (code_again o c.args.doubles l.is_code k tree (view l.code) e.0 scope i.0 other e.2 i.2),
+                (code_again o c.args.doubles l.is_code k tree (view l.code) e.0 scope i.0 other (sym e.2.1) i.2),
           ),
     )
 
@@ -145,11 +145,11 @@ read_wrapped-members-init t c =
     let o = c.args.order in
     let k = c.args.key.now in
     let ts = c.args.reader.now in
-    let s = c.read_tree.new.reader in
+    let s = c.read_held.new.reader in
     let held = c.in_ok-held.ensures in
     let d = view c.in_ok-held.held in
-    let e = by_order o (value c.args.depth ts) d s held.ok in (
-      first_passed c.args.depth k ts s d held.ok held.shorter,
+    let e = held_by o (value c.args.depth ts) d s held.ok in (
+      first_passed c.args.depth k ts s held.ok.0 held.ok.1 held.shorter,
       insert_by o k e.0 no_members,
       first_follows o c.args.depth k ts s e.0 e.1 held.shorter,
       (e.0, first_insert o k e.0, e.2),
@@ -237,18 +237,18 @@ read_wrapped-members-preserved t c =
     let k = c.args.key.now in
     let j = c.in-Some.other.now in
     let s = c.next_key.new.self in
-    let r = c.read_tree-in-Some.new.reader in
+    let r = c.read_held-in-Some.new.reader in
     let named : read_key l.reader ≡ Some (Some j, s) = grind arith in
     let read = c.in_ok-held-2.ensures in
     let tree = view c.in_ok-held-2.held in
-    let e = by_order o (value c.args.depth s) tree r read.ok in
+    let e = held_by o (value c.args.depth s) tree r read.ok in
     let so_far = l.invariant.1 in
     let no : l.is_alone ≡ true → (is_code k && is_scope j) ≡ false = elim c.else-is_alone.branch [
       | read_wrapped-else-is_alone-via-then-is_alone+else-is_code_with_scope w ↦ λ alone.
           sym w.if-is_code_with_scope.ensures
       | read_wrapped-else-is_alone-via-else-is_alone w ↦ λ alone. let no = w.if-is_alone.false in cc
     ] in (
-      one_passed c.args.depth k j c.args.reader.now l.reader s r tree l.invariant.0 named read.ok read.shorter,
+      one_passed c.args.depth k j c.args.reader.now l.reader s r read.ok.0 l.invariant.0 named read.ok.1 read.shorter,
       insert_by o j e.0 so_far,
       more_follows o c.args.depth k j c.args.reader.now l.reader s r so_far e.0 l.invariant.2 named e.1 read.shorter,
       subst (λ b. IsAlone o (l.is_alone && b) k tree (insert_by o j e.0 so_far)) (sym c.eq.ensures)

@@ -1,0 +1,10 @@
+use Rattle.std.proofs.Common.{subst, sym}
+use Rattle.bson_tokens.specs.Held.{StandsFor}
+use Rattle.bson_tokens.proofs.Pruned.{pruned_stands}
+use Rattle.bson_tokens.proofs.Turns.{if_ok}
+use Rattle.bson_tokens.proofs.held.read_held.Goals as goal
+
+pub returns-clause-ok : goal.returns-clause-ok
+returns-clause-ok c =
+    if_ok c.held_value.result c.held_value.ensures.ok (λ held m.
+    (m.0, m.1, subst (StandsFor m.0) (sym m.2) (pruned_stands m.0)))

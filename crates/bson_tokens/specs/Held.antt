@@ -1,0 +1,68 @@
+-- What stands in a wrapper, as far as wrappers read it: of a tree that none of them can read a small one is enough.
+use Rattle.std.specs.Prelude.{◌≡◌, ℕ, zero, suc, List, Option, Some, None}
+use Rattle.json.specs.Token.{Token}
+use Rattle.serde_json.specs.Data.{Data, Items, no_items, Members, no_members, member, put}
+use Rattle.serde_json.specs.Data as tree
+use Rattle.serde_json.specs.Find.{as_str}
+use Rattle.bson_wrapper.specs.Reading.{single_at_in}
+use Rattle.bson_wrapper.specs.declared.form.Doubles.{Doubles}
+use Rattle.bson_wrapper.specs.declared.wrapper.Wrapper.{Wrapper}
+
+-- each wrapper reads of d what it reads of t, also why it reads nothing
+abbrev pub StandsFor : Data → Data → Type 0
+StandsFor t d = ((D : Doubles) (w : Option Wrapper) → single_at_in D w d ≡ single_at_in D w t) × (as_str d ≡ as_str t)
+
+-- a tree was read, of which these tokens are left, and d stands for it
+abbrev pub IsHeldAs : Option (Data × List Token) → Data → List Token → Type 0
+IsHeldAs tree d rest = (t : Data) × (tree ≡ Some (t, rest)) × StandsFor t d
+
+-- ---- for private clauses
+
+-- the members, unless they are more than any wrapper reads
+abbrev pub few : Members → Option Members
+few no_members = Some no_members
+few (member k d no_members) = Some (member k d no_members)
+few (member k d (member l e no_members)) = Some (member k d (member l e no_members))
+few (member k d (member l e (member m f ms))) = None
+
+abbrev pub or_empty : Option Members → Members
+or_empty None = no_members
+or_empty (Some ms) = ms
+
+-- the tree without what no wrapper reads: elements of lists, members of an object that has more than two, or that lies
+-- so many levels down
+abbrev mutual
+  pub pruned : ℕ → Data → Data
+  pruned n tree.null = tree.null
+  pruned n (tree.boolean b) = tree.boolean b
+  pruned n (tree.number m) = tree.number m
+  pruned n (tree.string s) = tree.string s
+  pruned n (tree.array ds) = tree.array no_items
+  pruned zero (tree.object ms) = tree.object no_members
+  pruned (suc n) (tree.object ms) = tree.object (or_empty (few (pruned_members n ms)))
+
+  pub pruned_members : ℕ → Members → Members
+  pruned_members n no_members = no_members
+  pruned_members n (member k d ms) = member k (pruned n d) (pruned_members n ms)
+
+-- what is kept of an object's members
+abbrev pub kept_of : ℕ → Members → Option Members
+kept_of zero ms = None
+kept_of (suc n) ms = few (pruned_members n ms)
+
+-- the same with one more
+abbrev pub entered : List ℕ → Data → Option Members → Option Members
+entered k d None = None
+entered k d (Some ms) = few (put k d ms)
+
+-- a tree was read, of which these tokens are left, and it was pruned
+abbrev pub IsPruned : ℕ → Option (Data × List Token) → Data → List Token → Type 0
+IsPruned n tree d rest = (t : Data) × (tree ≡ Some (t, rest)) × (d ≡ pruned n t)
+
+-- the elements of a list were read
+abbrev pub ArePassed : Option (Items × List Token) → List Token → Type 0
+ArePassed trees rest = (ds : Items) × (trees ≡ Some (ds, rest))
+
+-- the members of an object were read, and these are kept
+abbrev pub AreKept : ℕ → Option (Members × List Token) → Members → List Token → Type 0
+AreKept n members kept rest = (ms : Members) × (members ≡ Some (ms, rest)) × (kept ≡ or_empty (kept_of n ms))

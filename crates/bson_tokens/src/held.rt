@@ -1,0 +1,149 @@
+//! What stands in a wrapper, as far as wrappers read it.
+ghost use Rattle.std.specs.Prelude.{◌≡◌, ◌<◌, length, option_map, IfOk, IfErr, OnOk};
+ghost use Rattle.json.specs.Json.{value, items, members};
+ghost use Rattle.serde_json.specs.Data.{no_members};
+ghost use Rattle.serde_json.specs.Read.{of_json, of_items, of_members, converted};
+ghost use Rattle.serde_json.specs.View.{view, members_view};
+ghost use Rattle.bson_tokens.specs.Held.{IsHeldAs, IsPruned, ArePassed, AreKept, entered, kept_of, or_empty};
+ghost use Rattle.bson_tokens.specs.Parts.{IsBroken, NoMembers};
+ghost use Rattle.bson_tokens.specs.declared.unread.Unread.TheVariants.{Broken};
+
+use crate::number::number;
+use crate::unread::Unread;
+use json::{Reader, Token};
+use serde_json::{Map, Value};
+use std::alloc::{AllocError, Global};
+
+// How many objects a wrapper reads, one in the other.
+const LEVELS: usize = 2;
+
+// How many keys an object has that a wrapper reads.
+const MAX_KEYS: usize = 2;
+
+/// A tree that each wrapper reads as it would read the value that stands next, nested at most
+/// `depth` deep. Elements of lists, members of objects that have more keys than any wrapper reads,
+/// and those of objects that lie deeper, are passed over.
+pub fn read_held(alloc: Global, reader: &mut Reader<'_>, depth: usize) -> Result<Value, Unread>
+    ensures ok { IfOk result
+        (λ held. IsHeldAs (converted of_json (value depth reader.old)) (view held) reader.new) }
+    ensures broken { IfErr result (IsBroken (converted of_json (value depth reader.old))) }
+    ensures shorter { OnOk result (length reader.new < length reader.old) }
+{
+    held_value(alloc, reader, depth, LEVELS)
+}
+
+#[cycle(held)]
+fn held_value(
+    alloc: Global,
+    reader: &mut Reader<'_>,
+    depth: usize,
+    levels: usize,
+) -> Result<Value, Unread>
+    ensures ok { IfOk result
+        (λ held. IsPruned levels (converted of_json (value depth reader.old)) (view held) reader.new) }
+    ensures broken { IfErr result (IsBroken (converted of_json (value depth reader.old))) }
+    ensures shorter { OnOk result (length reader.new < length reader.old) }
+{
+    let token = reader.next().ok_or(Unread::Broken)?;
+    match token {
+        Token::String(text) => Ok(Value::String(String::from_str(alloc, text)?)),
+        Token::Number(text) => match number(text) {
+            Some(n) => Ok(Value::Number(n)),
+            None => Err(Unread::Broken),
+        },
+        Token::Bool(b) => Ok(Value::Bool(b)),
+        Token::Null => Ok(Value::Null),
+        Token::EndObject | Token::EndArray | Token::Key(_) | Token::Bad => Err(Unread::Broken),
+        Token::BeginArray => {
+            if depth == 0 {
+                return Err(Unread::Broken);
+            }
+            pass_items(alloc, reader, depth - 1)?;
+            Ok(Value::Array(Vec::new(alloc)))
+        }
+        Token::BeginObject => {
+            if depth == 0 {
+                return Err(Unread::Broken);
+            }
+            Ok(Value::Object(held_members(alloc, reader, depth - 1, levels)?))
+        }
+    }
+}
+
+// Passes over the elements of a list whose bracket was read.
+#[cycle(held)]
+pub(crate) fn pass_items(alloc: Global, reader: &mut Reader<'_>, depth: usize) -> Result<(), Unread>
+    ensures ok { OnOk result
+        (ArePassed (converted of_items (items (value depth) (length reader.old) reader.old)) reader.new) }
+    ensures broken { IfErr result
+        (IsBroken (converted of_items (items (value depth) (length reader.old) reader.old))) }
+    ensures shorter { OnOk result (length reader.new < length reader.old) }
+{
+    'items: while !reader.take_end_array() {
+        drop(held_value(alloc, reader, depth, 0)?);
+    }
+    Ok(())
+}
+
+// The members of an object whose brace was read, or none where they are too many or lie too deep.
+#[cycle(held)]
+fn held_members(
+    alloc: Global,
+    reader: &mut Reader<'_>,
+    depth: usize,
+    levels: usize,
+) -> Result<Map<String, Value>, Unread>
+    ensures ok { IfOk result
+        (λ m. AreKept levels
+        (converted (λ js. of_members js no_members) (members (value depth) (length reader.old) reader.old))
+        (members_view m.entries) reader.new) }
+    ensures broken { IfErr result (λ e. e ≡ Broken → NoMembers depth reader.old) }
+    ensures shorter { OnOk result (length reader.new < length reader.old) }
+{
+    let mut found = first(alloc, levels);
+    'members: while let Some(name) = reader.next_key()? {
+        let member = held_value(alloc, reader, depth, levels.saturating_sub(1))?;
+        found = enter(alloc, found, name, member)?;
+    }
+    Ok(or_empty(alloc, found))
+}
+
+// No members yet, where any are kept.
+fn first(alloc: Global, levels: usize) -> Option<Map<String, Value>>
+    ensures { option_map (λ m. members_view m.entries) result ≡ kept_of levels no_members }
+{
+    if levels == 0 {
+        None
+    } else {
+        Some(Map::new(alloc))
+    }
+}
+
+// The members that were found and one more, or none where they are too many.
+fn enter(
+    alloc: Global,
+    found: Option<Map<String, Value>>,
+    key: &str,
+    member: Value,
+) -> Result<Option<Map<String, Value>>, AllocError>
+    ensures { IfOk result (λ now. option_map (λ m. members_view m.entries) now
+        ≡ entered key.now (view member) (option_map (λ m. members_view m.entries) found)) }
+{
+    let Some(mut members) = found else {
+        return Ok(None);
+    };
+    drop(members.insert(String::from_str(alloc, key)?, member)?);
+    if members.len() > MAX_KEYS {
+        return Ok(None);
+    }
+    Ok(Some(members))
+}
+
+fn or_empty(alloc: Global, found: Option<Map<String, Value>>) -> Map<String, Value>
+    ensures { members_view result.entries ≡ or_empty (option_map (λ m. members_view m.entries) found) }
+{
+    match found {
+        Some(members) => members,
+        None => Map::new(alloc),
+    }
+}
