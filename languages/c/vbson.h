@@ -147,12 +147,12 @@ uint32_t vbson_convert_with(uint32_t mode, uint32_t flags, const uint8_t *text, 
  * behind them
  *     " at column N"            of what is not JSON: the column of the byte at which it stops to be, counted from 1
  *     " at column N (a number is out of range)"    of what has the grammar of JSON, and a number that is no double
- *     " at PATH (MESSAGE)"      of any other: the way to the first fault, its keys as they are and places in lists
- *                               counted from 0, with points between, as orders.3._id.$oid, and what is wrong there
+ *     " at PATH (MESSAGE)"      of any other: the way to the first fault, its keys and places in lists counted from 0,
+ *                               with points between, as orders.3._id.$oid, and what is wrong there
  *     " (MESSAGE)"              where the fault is that of the whole text
- *     " at a text with control characters"    in place of such words that have a character which breaks a line or steers
- *                               a terminal
- * A key with a point, or of digits, is not told from an index. It reads the text as vbson_convert_with does, so ask only
+ * In PATH and MESSAGE control characters, U+2028 and U+2029 are escaped as JSON does, as \u001b, and every other character
+ * is as it stands; of more than 300 characters 300 are told, and ".." behind them. A key with a point, or of digits, is not
+ * told from an index, nor one with a backslash from an escape. It reads the text as vbson_convert_with does, so ask only
  * where that has refused. *out is written over: what it held is not freed. VBSON_NO_MODE, VBSON_OUT_OF_MEMORY. */
 uint32_t vbson_explain(uint32_t flags, const uint8_t *text, size_t len, vbson_text *out);
 

@@ -219,12 +219,13 @@ def _text_of(call, *arguments):
 
 
 # The words behind those for the class: a column, with a message where a number is out of range, or a path and a
-# message. The message on an object id may hold any characters, but its path ends in a wrapper's key; no other message
-# holds a bracket.
+# message. The message on an object id may hold any characters, but its path ends in a wrapper's key, or in two points
+# where it is not told whole; no other message holds a bracket.
 _COLUMN = re.compile(r" at (column \d+)(?: \((a number is out of range)\))?")
-_OF_ID = re.compile(r" at (.*?\$(?:oid|dbPointer)) \(((?:the character '|an object id has ).*)\)", re.S)
+_ON_ID = r" \(((?:the character '|an object id has ).*)\)"
+_OF_ID = re.compile(r" at (.*?\$(?:oid|dbPointer))" + _ON_ID, re.S)
+_OF_LONG = re.compile(r" at (.*?\.\.)" + _ON_ID, re.S)
 _OF_SHAPE = re.compile(r"(?: at (.*))? \(([^(]*)\)", re.S)
-_KEPT_BACK = re.compile(r" at (a text with control characters)()")
 
 
 def _explained(status, words):
@@ -232,7 +233,7 @@ def _explained(status, words):
     error, kind = _ERRORS[status]
     behind = words.removeprefix(kind)
     shape = {NOT_JSON: _COLUMN, BAD_OBJECT_ID: _OF_ID}.get(status, _OF_SHAPE)
-    found = shape.fullmatch(behind) or _KEPT_BACK.fullmatch(behind)
+    found = shape.fullmatch(behind) or status == BAD_OBJECT_ID and _OF_LONG.fullmatch(behind)
     return error(words or kind, (found[1] or "") if found else "", found[2] if found and found[2] else kind)
 
 

@@ -131,7 +131,8 @@ static void explain(void) {
     CHECK(explains(0, "{\"a\" 1}", "not JSON at column 6"));
     CHECK(explains(VBSON_DOUBLES, "\"\xff\"", "not JSON at column 2"));
     CHECK(explains(VBSON_DOUBLES, "[1e400]", "not JSON at column 2 (a number is out of range)"));
-    CHECK(explains(0, "{\"a\\u001b\":1.5}", "not Extended JSON at a text with control characters"));
+    CHECK(explains(0, "{\"a\\u001b\":1.5}", "not Extended JSON at a\\u001b (a number is no whole number of 64 bits)"));
+    CHECK(explains(0, "{\"$oid\":\"5\\u2028\"}", "bad object id at $oid (the character '\xc3\xa2' at 1 in \"5\\u2028\" is no hexadecimal digit)"));
     CHECK(explains(0, "{\"a\":1}", ""));
     CHECK(explains(VBSON_KEEP_ORDER, "{\"b\":{\"$oid\":\"5\"},\"a\":[1.5]}", "not Extended JSON at a.0 (a number is no whole number of 64 bits)"));
     CHECK(explains(VBSON_DOUBLES | VBSON_KEEP_ORDER, "[1.5]", ""));

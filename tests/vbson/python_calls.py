@@ -150,6 +150,8 @@ def try_places():
     no_digit = "the character '%s' at %d in \"%s\" is no hexadecimal digit"
     blank, letter = no_digit % (" ", 1, "5 (xy)"), no_digit % ("z", 0, "zz (a)")
     both = vbson.NotExtendedJson, vbson.BadObjectId
+    # (of a path and of a message 300 characters are told)
+    long, cut = "a" * 1000, "a" * 300 + ".."
     for text, words, place, why, error in (
             ("[1, 2", "not JSON at column 5", "column 5", "not JSON", vbson.NotJson),
             ("[1e400]", "not JSON at column 2 (a number is out of range)", "column 2", "a number is out of range", vbson.NotJson),
@@ -161,8 +163,9 @@ def try_places():
             ('{"$oid":"5 (xy)"}', f"bad object id at $oid ({blank})", "$oid", blank, both[1]),
             ('[{"$dbPointer":{"$ref":"a","$id":{"$oid":"zz (a)"}}}]', f"bad object id at 0.$dbPointer ({letter})",
              "0.$dbPointer", letter, both[1]),
-            ('{"a\\u0007":1.5}', "not Extended JSON at a text with control characters", "a text with control characters",
-             "not Extended JSON", both[0])):
+            ('{"a\\u0007\\u2028":1.5}', f"not Extended JSON at a\\u0007\\u2028 ({number})", "a\\u0007\\u2028", number, both[0]),
+            ('{"%s":{"$oid":"zz (a)"}}' % long, f"bad object id at {cut} ({letter})", cut, letter, both[1]),
+            ('{"$oid":"%s"}' % long, f"bad object id at $oid ({digits[:33]}{cut[:267]}..)", "$oid", f"{digits[:33]}{cut[:267]}..", both[1])):
         wanted = words, place, why, error
         want(f"{text} explained", vbson.explain(text), words)
         want(f"{text} converted", refusal(vbson.convert, text), wanted)

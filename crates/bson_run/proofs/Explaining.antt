@@ -1,10 +1,18 @@
 -- The place of a refused text's fault.
-use Rattle.std.proofs.Common.{◌≡◌, ◌<◌, ◌↔◌, ◌++◌, ℕ, List, [], ◌∷◌, Bool, true, false, length, codes, refl, sym, ap}
-use Rattle.std.proofs.Common.{◌∙◌, arith, Some, IsTrue}
-use Rattle.std.specs.List.{All}
-use Rattle.std.proofs.lemmas.List.Elements.{All-pop, All-push}
-use Rattle.bson_place.specs.Place.{Turn, dotted}
-use Rattle.bson_run.specs.Place.{IsDisplayed, IsVisible, at_path}
+use Rattle.std.proofs.Common.{◌≡◌, ◌<◌, ◌≤◌, ◌==◌, ◌^◌, ◌-◌, ◌++◌, ℕ, List, [], ◌∷◌, true, false, cond, length, codes, refl, sym, ap}
+use Rattle.std.proofs.Common.{◌∙◌, inl, inr, arith, Option, Some, None, Result, Ok, Err, OnOk, take, append-nil}
+use Rattle.std.specs.Char.{is_control}
+use Rattle.std.specs.Fmt.{digits, digits_output, format_spec, padded_integral, radix_digits, styled_digits_output, ◌++?◌}
+use Rattle.std.specs.List.{flat_map, slice_get}
+use Rattle.std.specs.Option.{is_some, option_map, IfSome}
+use Rattle.std.specs.Result.{is_ok}
+use Rattle.std.specs.Str.{chars}
+use Rattle.std.proofs.lemmas.Bool.{le-ltb, lt-ltb}
+use Rattle.std.proofs.lemmas.Fmt.{hex_byte}
+use Rattle.std.proofs.lemmas.Option.{slice_get_cases, slice_get_within}
+use Rattle.bson_place.specs.Place.{dotted, way_of}
+use Rattle.bson_place.specs.declared.place.Place.{Place}
+use Rattle.bson_run.specs.Place.{IsPlaced, at_path, shown, told_as}
 
 at_none : (path : List ℕ) → length path ≡ 0 → at_path path ≡ []
 at_none [] h = refl
@@ -14,29 +22,60 @@ at_some : (path : List ℕ) → 0 < length path → at_path path ≡ codes " at 
 at_some [] h = absurd (omega arith)
 at_some (x ∷ xs) h = refl
 
-pub displayed_bare : (way : List Turn) (path message words : List ℕ) → path ≡ dotted way → length path ≡ 0
-    → words ≡ codes " (" ++ message ++ codes ")" → IsDisplayed way words
-displayed_bare way path message words e none is =
-    (message, is ∙ ap (λ p. p ++ codes " (" ++ message ++ codes ")") (sym (at_none path none) ∙ ap at_path e))
+pub placed_bare : (place : Place) (path reason message words : List ℕ) → path ≡ told_as (dotted (way_of place))
+    → message ≡ told_as reason → length path ≡ 0 → words ≡ codes " (" ++ message ++ codes ")" → IsPlaced place words
+placed_bare place path reason message words e m none is = (
+  reason,
+  is ∙ ap (λ p. p ++ codes " (" ++ message ++ codes ")") (sym (at_none path none) ∙ ap at_path e)
+      ∙ ap (λ t. at_path (told_as (dotted (way_of place))) ++ codes " (" ++ t ++ codes ")") m,
+)
 
-pub displayed_at : (way : List Turn) (path message words : List ℕ) → path ≡ dotted way → 0 < length path
-    → words ≡ codes " at " ++ path ++ codes " (" ++ message ++ codes ")" → IsDisplayed way words
-displayed_at way path message words e some is =
-    (message, is ∙ ap (λ p. p ++ codes " (" ++ message ++ codes ")") (sym (at_some path some) ∙ ap at_path e))
+pub placed_at : (place : Place) (path reason message words : List ℕ) → path ≡ told_as (dotted (way_of place))
+    → message ≡ told_as reason → 0 < length path
+    → words ≡ codes " at " ++ path ++ codes " (" ++ message ++ codes ")" → IsPlaced place words
+placed_at place path reason message words e m some is = (
+  reason,
+  is ∙ ap (λ p. p ++ codes " (" ++ message ++ codes ")") (sym (at_some path some) ∙ ap at_path e)
+      ∙ ap (λ t. at_path (told_as (dotted (way_of place))) ++ codes " (" ++ t ++ codes ")") m,
+)
 
--- ---- visible characters
+-- ---- words as they are told
 
-before_last : (cs : List ℕ) (c : ℕ) → All IsVisible (cs ++ c ∷ []) → All IsVisible cs × IsVisible c
-before_last cs c h = All-pop IsVisible (cs ++ c ∷ []) cs (Some c) refl h
+pub added : {E : Type 0} (r : Result (Unit {0}) E) (old new text wanted : List ℕ)
+    → new ≡ cond (is_ok r) (old ++ text) old → text ≡ wanted → OnOk r (new ≡ old ++ wanted)
+added (Ok x) old new text wanted e is = e ∙ ap (λ t. old ++ t) is
+added (Err x) old new text wanted e is = tt
 
--- after visible characters one more
-pub one_more : (cs : List ℕ) (c : ℕ) (b : Bool) → All IsVisible cs → IsTrue b ↔ IsVisible c
-    → IsTrue b ↔ All IsVisible (cs ++ c ∷ [])
-one_more cs c b all each =
-    (λ t. All-push IsVisible cs c all (each.0 t), λ h. each.1 (before_last cs c h).1)
+-- the escape of a control character
+pub shown_control : (c : ℕ) → c < 256 → (c == 0x2028) ≡ false → (c == 0x2029) ≡ false → is_control c ≡ true
+    → codes "\\u00" ++ padded_integral (format_spec 32 0 4 2 (2 ^ 64 - 1)) false [] (digits 16 false c) ≡ shown c
+shown_control c small line paragraph control =
+    rw (line, paragraph, control) (ap (λ ds. codes "\\u00" ++ ds) (hex_byte false c small))
 
--- after one that is not
-pub no_more : (cs : List ℕ) (c : ℕ) (b : Bool) → b ≡ false → IsTrue b ↔ All IsVisible cs
-    → IsTrue b ↔ All IsVisible (cs ++ c ∷ [])
-no_more cs c true e so_far = absurd cc
-no_more cs c false e so_far = (λ t. absurd cc, λ h. so_far.1 (before_last cs c h).0)
+-- what a hole of two hexadecimal digits writes behind a text
+pub hole : (d : _) (s : _) (text : List ℕ) (n : ℕ) → digits_output d ≡ Some (radix_digits 16 false n)
+    → s ≡ format_spec 32 0 4 2 (2 ^ 64 - 1) → IfSome (Some (codes "\\u00") ++? styled_digits_output d s) (λ bs. text ≡ bs)
+    → text ≡ codes "\\u00" ++ padded_integral (format_spec 32 0 4 2 (2 ^ 64 - 1)) false [] (digits 16 false n)
+hole d s text n e f h = rw (f, e) at h
+
+-- whether there are more characters than so many
+pub are_more : (r : Option ℕ) (cs : List ℕ) (n : ℕ) → option_map (λ c. c) r ≡ slice_get cs n → is_some r ≡ true → n < length cs
+are_more None cs n is some = absurd cc
+are_more (Some x) cs n is some = slice_get_within cs n x (sym is)
+
+pub no_more : (r : Option ℕ) (cs : List ℕ) (n : ℕ) → option_map (λ c. c) r ≡ slice_get cs n → is_some r ≡ false → length cs ≤ n
+no_more (Some x) cs n is none = absurd cc
+no_more None cs n is none = elim (slice_get_cases cs n).1 [
+  | inl h ↦ absurd cc
+  | inr h ↦ h.0
+]
+
+pub told_short : (words said : List ℕ) → said ≡ flat_map shown (take 300 (chars words)) → length (chars words) ≤ 300 → said ≡ told_as words
+told_short words said e short =
+    e ∙ sym (append-nil _) ∙ ap (λ b. flat_map shown (take 300 (chars words)) ++ cond b (codes "..") []) (sym (le-ltb 300 (length (chars words)) short))
+
+pub told_long : (words said more : List ℕ) → said ≡ flat_map shown (take 300 (chars words)) → 300 < length (chars words)
+    → more ≡ said ++ codes ".." → more ≡ told_as words
+told_long words said more e long is =
+    is ∙ ap (λ s. s ++ codes "..") e
+    ∙ ap (λ b. flat_map shown (take 300 (chars words)) ++ cond b (codes "..") []) (sym (lt-ltb 300 (length (chars words)) long))

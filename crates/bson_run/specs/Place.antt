@@ -1,13 +1,14 @@
 -- Where the fault of a refused text lies, in words.
-use Rattle.std.specs.Prelude.{◌≡◌, ◌≢◌, ◌⊎◌, ℕ, List, [], ◌∷◌, ◌++◌, codes, false, Some, IsUtf8}
-use Rattle.std.specs.Char.{is_control}
+use Rattle.std.specs.Prelude.{◌≡◌, ◌⊎◌, ◌/◌, ◌%◌, ◌==◌, ℕ, List, [], ◌∷◌, ◌++◌, codes, length, nat_lt, take, Some, IsUtf8}
+use Rattle.std.specs.Prelude.{if◌then◌else◌}
+use Rattle.std.specs.Char.{is_control, digit_char, encode_utf8}
 use Rattle.std.specs.Fmt.{decimal}
-use Rattle.std.specs.List.{All}
+use Rattle.std.specs.List.{flat_map}
 use Rattle.std.specs.Str.{chars}
 use Rattle.json.specs.Json.{skip_value}
 use Rattle.json.specs.Lex.{tokens}
 use Rattle.serde_json.specs.Read.{max_depth}
-use Rattle.bson_place.specs.Place.{Turn, dotted, way_of}
+use Rattle.bson_place.specs.Place.{dotted, way_of}
 use Rattle.bson_place.specs.declared.place.Place.{Place}
 use Rattle.bson_run.specs.declared.fault.Fault.{Fault}
 use Rattle.bson_run.specs.declared.fault.Fault.TheVariants.{CannotRead, NotJson, NotExtendedJson, NoBytes, OutOfMemory}
@@ -18,23 +19,21 @@ abbrev pub at_path : List ℕ → List ℕ
 at_path [] = []
 at_path (x ∷ xs) = codes " at " ++ x ∷ xs
 
--- the way, and a message
-abbrev pub IsDisplayed : List Turn → List ℕ → Type 0
-IsDisplayed way words = (message : List ℕ) × (words ≡ at_path (dotted way) ++ codes " (" ++ message ++ codes ")")
+-- a character as it is told: one that breaks a line or steers a terminal by its escape in JSON, any other as it is
+abbrev pub shown : ℕ → List ℕ
+shown c = if c == 0x2028 then codes "\\u2028"
+    else (if c == 0x2029 then codes "\\u2029"
+    else (if is_control c then codes "\\u00" ++ digit_char (c / 16) ∷ digit_char (c % 16) ∷ [] else encode_utf8 c))
 
--- no control character, and no separator of lines or paragraphs: none that breaks a line or steers a terminal
-abbrev pub IsVisible : ℕ → Type 0
-IsVisible c = (is_control c ≡ false) × (c ≢ 0x2028) × (c ≢ 0x2029)
-
--- the words as they are, where each of their characters is visible; else that they have others
-abbrev pub IsTold : List ℕ → List ℕ → Type 0
-IsTold words told =
-    (All IsVisible (chars words) × (told ≡ words))
-    ⊎ (¬ (All IsVisible (chars words)) × (told ≡ codes " at a text with control characters"))
+-- words as they are told: 300 characters, and two points for any others
+abbrev pub told_as : List ℕ → List ℕ
+told_as words =
+    flat_map shown (take 300 (chars words)) ++ (if nat_lt 300 (length (chars words)) then codes ".." else [])
 
 -- the way to the place, and a message
 abbrev pub IsPlaced : Place → List ℕ → Type 0
-IsPlaced place words = (displayed : List ℕ) × IsDisplayed (way_of place) displayed × IsTold displayed words
+IsPlaced place words =
+    (message : List ℕ) × (words ≡ at_path (told_as (dotted (way_of place))) ++ codes " (" ++ told_as message ++ codes ")")
 
 -- the bytes are UTF-8 and one value by the grammar of JSON, arrays and objects nesting as deep as texts may (RFC 8259)
 abbrev pub HasGrammar : List ℕ → Type 0

@@ -1,11 +1,8 @@
 //! Where the fault of a refused text lies, in words.
-ghost use Rattle.std.specs.Prelude.{◌≡◌, ◌⊎◌, ◌↔◌, [], IfOk, IsTrue, string_bytes};
-ghost use Rattle.std.specs.List.{All};
-ghost use Rattle.std.specs.Str.{chars};
-ghost use Rattle.bson_place.specs.Place.{way_of};
+ghost use Rattle.std.specs.Prelude.{◌≡◌, ◌⊎◌, ◌++◌, [], IfOk, OnOk, string_bytes};
 ghost use Rattle.bson_run.specs.Lines.{IsBadText, IsBadTextIn};
 ghost use Rattle.bson.specs.declared.extjson.options.Options.{Options};
-ghost use Rattle.bson_run.specs.Place.{IsDisplayed, IsStop, IsTold, IsVisible, IsWhere};
+ghost use Rattle.bson_run.specs.Place.{IsPlaced, IsStop, IsWhere, shown, told_as};
 ghost use Rattle.bson_run.specs.declared.fault.Fault.TheVariants.{NotJson};
 
 use crate::fault::Fault;
@@ -13,17 +10,21 @@ use crate::stop::Stop;
 use bson_place::place::Place;
 use std::alloc::{AllocError, Global};
 
+/// How many characters are told of a way, and of a message.
+const MOST: usize = 300;
+
 /// Where the fault of a refused text lies, to be put behind the words for it; empty for a fault
 /// that no text has.
 ///
 /// For `NotJson` it is ` at column N`, the column in its line, counted from 1, of the byte at which
 /// the text stops to be JSON, and ` at column N (a number is out of range)` where it has the grammar
 /// of JSON, for the first number whose nearest double is not finite. For `NotExtendedJson` it is what the fault itself
-/// tells, ` at orders.3._id.$oid (MESSAGE)`: the way to the first
-/// fault, its keys as they are and places in lists counted from 0, and what is wrong there; with
-/// the message alone where the fault is that of the whole text. Where a control character or a
-/// separator of lines or paragraphs stands in it, which could break a line or steer a terminal,
-/// only that is told.
+/// tells, ` at orders.3._id.$oid (MESSAGE)`: the way to the first fault, its keys and places in
+/// lists counted from 0, and what is wrong there; with the message alone where the fault is that of
+/// the whole text. A control character (`\u001b`) and a separator of lines (`\u2028`) or of
+/// paragraphs, which could break a line or steer a terminal, is told by its escape in JSON, and
+/// every other character as it is. Of a way or a message of more than 300 characters these are
+/// told, and `..` for the others.
 pub fn explain(alloc: Global, fault: &Fault, text: &[u8]) -> Result<String, AllocError>
     ensures place { IfOk result (λ words. IsBadText fault.now text.now → IsWhere fault.now (string_bytes words)) }
     ensures other { IfOk result (λ words. IsWhere fault.now (string_bytes words) ⊎ (string_bytes words ≡ [])) }
@@ -34,7 +35,7 @@ pub fn explain(alloc: Global, fault: &Fault, text: &[u8]) -> Result<String, Allo
 {
     match fault {
         Fault::NotJson => column(alloc, text),
-        Fault::NotExtendedJson(place) => told(alloc, displayed(alloc, place)?),
+        Fault::NotExtendedJson(place) => displayed(alloc, place),
         _ => Ok(String::new(alloc)),
     }
 }
@@ -53,40 +54,46 @@ fn column(alloc: Global, text: &[u8]) -> Result<String, AllocError>
 
 // The words for a place.
 fn displayed(alloc: Global, place: &Place) -> Result<String, AllocError>
-    ensures { IfOk result (λ words. IsDisplayed (way_of place.now) (string_bytes words)) }
+    ensures { IfOk result (λ words. IsPlaced place.now (string_bytes words)) }
 {
-    let path = place.path(alloc)?;
-    let message = format!(in alloc; "{}", place.reason)?;
+    let way = place.path(alloc)?;
+    let path = told(alloc, way.as_str())?;
+    let reason = format!(in alloc; "{}", place.reason)?;
+    let message = told(alloc, reason.as_str())?;
     if path.is_empty() {
         return format!(in alloc; " ({message})");
     }
     format!(in alloc; " at {path} ({message})")
 }
 
-// The words, where each of their characters is visible.
-fn told(alloc: Global, words: String) -> Result<String, AllocError>
-    ensures { IfOk result (λ said. IsTold (string_bytes words) (string_bytes said)) }
+// The words as they are told.
+fn told(alloc: Global, words: &str) -> Result<String, AllocError>
+    ensures { IfOk result (λ said. string_bytes said ≡ told_as words.now) }
 {
-    if are_visible(words.as_str()) {
-        return Ok(words);
+    let mut said = String::new(alloc);
+    for c in words.chars().take(MOST) {
+        push_shown(alloc, &mut said, c)?;
     }
-    String::from_str(alloc, " at a text with control characters")
+    if words.chars().nth(MOST).is_none() {
+        return Ok(said);
+    }
+    said.push_str("..")?;
+    Ok(said)
 }
 
-// Whether each character is visible.
-fn are_visible(words: &str) -> bool
-    ensures { IsTrue result ↔ All IsVisible (chars words.now) }
+// Adds a character as it is told.
+fn push_shown(alloc: Global, said: &mut String, c: char) -> Result<(), AllocError>
+    ensures { OnOk result (string_bytes said.new ≡ string_bytes said.old ++ shown c) }
 {
-    let mut visible = true;
-    for c in words.chars() {
-        visible = visible && is_visible(c);
+    if c == '\u{2028}' {
+        return said.push_str("\\u2028");
     }
-    visible
-}
-
-// Whether the character is none that breaks a line or steers a terminal.
-fn is_visible(c: char) -> bool
-    ensures { IsTrue result ↔ IsVisible c }
-{
-    !c.is_control() && c != '\u{2028}' && c != '\u{2029}'
+    if c == '\u{2029}' {
+        return said.push_str("\\u2029");
+    }
+    if c.is_control() {
+        let escape = format!(in alloc; "\\u00{:02x}", u32::from(c))?;
+        return said.push_str(&escape);
+    }
+    said.push(c)
 }

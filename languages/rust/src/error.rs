@@ -57,7 +57,7 @@ impl Error {
         self.kind
     }
 
-    /// Where the fault of a text lies: `orders.0.price`, or `column 7` of what is no JSON. Keys are in it as they are. Of
+    /// Where the fault of a text lies: `orders.0.price`, or `column 7` of what is no JSON. Of
     /// bytes that are no document, the number of bytes before the fault, as `byte 4`.
     /// Empty where the fault is that of the whole text, and where the call reads neither.
     pub fn at(&self) -> &str {
@@ -82,13 +82,16 @@ impl Error {
     }
 
     /// Where the message begins. That on an object id may hold any characters, but behind a wrapper's key, at which its
-    /// path ends, it begins with these words; no other message holds a bracket.
+    /// path ends, or behind the two points of one that is not told whole, it begins with these words; no other message
+    /// holds a bracket.
     fn seam(&self) -> Option<usize> {
-        let keys = ["$oid", "$dbPointer"];
         let begins = [" (the character '", " (an object id has "];
         let of_id = || begins.iter().flat_map(|it| self.behind.match_indices(it)).map(|(at, _)| at);
         match self.kind {
-            ErrorKind::BadObjectId => of_id().filter(|&at| keys.iter().any(|it| self.behind[..at].ends_with(it))).min(),
+            ErrorKind::BadObjectId => {
+                let behind = |ends: &[&str]| of_id().filter(|&at| ends.iter().any(|it| self.behind[..at].ends_with(it))).min();
+                behind(&["$oid", "$dbPointer"]).or_else(|| behind(&[".."]))
+            }
             _ => self.behind.rfind(" ("),
         }
     }

@@ -67,14 +67,16 @@ fn faults_are_told() {
 fn places_are_told() {
     let number = "a number is no whole number of 64 bits";
     let digit = "the character ' ' at 4 in \"53e3 (\" is no hexadecimal digit";
+    // (of a path and of a message 300 characters are told)
+    let (long, cut) = ("a".repeat(1000), "a".repeat(300) + "..");
     for (text, words, at, why) in [
         ("[1, 2", "not JSON at column 5".to_owned(), "column 5", "not JSON"),
         ("[1e400]", "not JSON at column 2 (a number is out of range)".to_owned(), "column 2", "a number is out of range"),
         (r#"{"a (":[{"b":1.5}]}"#, format!("not Extended JSON at a (.0.b ({number})"), "a (.0.b", number),
         ("1.5", format!("not Extended JSON ({number})"), "", number),
         (r#"{"a":{"$oid":"53e3 ("}}"#, format!("bad object id at a.$oid ({digit})"), "a.$oid", digit),
-        (r#"{"\u0007":1.5}"#, "not Extended JSON at a text with control characters".to_owned(),
-         "a text with control characters", "not Extended JSON"),
+        (r#"{"\u0007":1.5}"#, format!(r"not Extended JSON at \u0007 ({number})"), r"\u0007", number),
+        (&*format!(r#"{{"{long}":{{"$oid":"53e3 ("}}}}"#), format!("bad object id at {cut} ({digit})"), cut.as_str(), digit),
     ] {
         let error = convert(Mode::Relaxed, text.as_bytes()).unwrap_err();
         assert_eq!((error.to_string(), error.at(), error.why()), (words, at, why));
