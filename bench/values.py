@@ -1,13 +1,22 @@
 #!/usr/bin/env python3
 """Times vbson.loads and vbson.dumps beside json_util of PyMongo (Debian's python3-pymongo) on the same texts.
 
-    bench/values.py [MEGABYTES]        (1 where none is given)
+    bench/values.py [MEGABYTES]            (1 where none is given)
+    bench/values.py --ways [MEGABYTES]     each way to the values that was tried, milliseconds
 
 For each kind of input, canonical text by text to values of Python and back: by json_util, by the library with the types
 of bson, and with plain ones. A time is the processor time of one call, the least of five in turns; which package bson it is,
 and whether it has its part in C (python3-bson-ext), stands at the end. Documents are read one by one, as `loads` is called
-on lines, and as one list.
+on lines, and as one list. VBSON_EXTENSION= leaves the compiled module _vbson.
+
+The ways: json_util; json.loads alone, and with a hook that finds an object's type by one look-up of its only key (neither
+refuses what is no Extended JSON); the library's bytes alone; PyMongo's reader of bytes alone, and documents that it reads only
+when they are asked for; the library's canonical text by json.loads with that hook; vbson.loads by ctypes with the text read
+twice, as before, and once; by _vbson, and over lines in one call; with plain types by ctypes and by _vbson.
 """
+import base64
+import datetime
+import json
 import os
 import random
 import sys
@@ -28,6 +37,8 @@ os.environ.setdefault("VBSON_LIBRARY", f"{TOP}/languages/out/lib/libvbson.so")
 
 import bson
 import vbson
+import vbson_values
+from bson import raw_bson
 from run import binary, decimal, small_document
 
 OPTIONS = json_util.JSONOptions(json_mode=json_util.JSONMode.CANONICAL, tz_aware=True)
@@ -86,8 +97,78 @@ def row(name, texts):
     print(f"| {name} | {' | '.join(cells)} |", flush=True)
 
 
+EPOCH, MILLISECOND = datetime.datetime(1970, 1, 1, tzinfo=datetime.timezone.utc), datetime.timedelta(milliseconds=1)
+MADE = {"$oid": bson.ObjectId, "$numberInt": int, "$numberLong": bson.Int64, "$numberDouble": float, "$numberDecimal": bson.Decimal128,
+        "$date": lambda it: EPOCH + it * MILLISECOND if isinstance(it, int) else vbson.datetime_of(vbson.date_time(it)),
+        "$binary": lambda it: base64.b64decode(it["base64"])}
+
+
+def hook(found):
+    if len(found) == 1:
+        for key in found:
+            made = MADE.get(key)
+            return found if made is None else made(found[key])
+    return found
+
+
+def without_extension(call):
+    def called():
+        extension, vbson._sooner = vbson._sooner, None
+        try:
+            return call()
+        finally:
+            vbson._sooner = extension
+    return called
+
+
+def ways(texts, block):
+    types, flags = vbson_values.types_of("bson"), 3
+    given = [it.encode() for it in texts]
+    under = [vbson._under_a_key(flags, it) for it in given]
+    found = {
+        "`json_util`": lambda: [json_util.loads(it, json_options=OPTIONS) for it in texts],
+        "`json.loads` alone": lambda: [json.loads(it) for it in texts],
+        "`json.loads`, hook": lambda: [json.loads(it, object_hook=hook) for it in texts],
+        "the library's bytes": lambda: [vbson._encoded(flags, b'{"~":' + it + b"}") for it in given],
+        "bytes by PyMongo": lambda: [types._only(it)[0] for it in under],
+        "text read twice, PyMongo": without_extension(lambda: [types._only(vbson._under_a_key(flags, vbson._bytes(it)))[0] for it in texts]),
+        "raw documents": lambda: [raw_bson.RawBSONDocument(vbson._under_a_key(flags, it)) for it in given],
+        "raw, each read": lambda: [raw_bson.RawBSONDocument(vbson._under_a_key(flags, it), types._reading.with_options(
+            document_class=raw_bson.RawBSONDocument)).items() for it in given],
+        "canonical text, hook": lambda: [json.loads(vbson.convert(it, 0, True, True), object_hook=hook) for it in texts],
+        "`loads`, ctypes": without_extension(lambda: [vbson.loads(it, types="bson") for it in texts]),
+        "`loads`, plain, ctypes": without_extension(lambda: [vbson.loads(it, types="plain") for it in texts]),
+        "`loads`, `_vbson`": lambda: [vbson.loads(it, types="bson") for it in texts],
+        "`loads`, plain, `_vbson`": lambda: [vbson.loads(it, types="plain") for it in texts],
+    }
+    if block:
+        found["`loads_lines`, ctypes"] = without_extension(lambda: vbson.loads_lines(block, types="bson"))
+        found["`loads_lines`, `_vbson`"] = lambda: vbson.loads_lines(block, types="bson")
+    return found
+
+
+def ways_table(size):
+    columns, names = [], []
+    for name, make in KINDS:
+        texts = pieces(make, size)
+        for words, given, block in (("one list", [f"[{','.join(texts)}]"], ""), ("one by one", texts, "\n".join(texts) if texts[0][:2] != '{"$' else "")):
+            tried = ways(given, block)
+            times = dict(zip(tried, least_of_five([*tried.values()])))
+            names.append(f"{name}, {words}")
+            columns.append(times)
+            print(names[-1], *(f"{way} {1000 * it:.1f}" for way, it in times.items()), file=sys.stderr, flush=True)
+    rows = {way: None for column in columns for way in column}
+    print(f"| ms | {' | '.join(names)} |\n|---|{'---|' * len(names)}")
+    for way in rows:
+        print(f"| {way} | {' | '.join(f'{1000 * it[way]:.1f}' if way in it else '' for it in columns)} |")
+
+
 def main():
-    size = int(1_000_000 * float(sys.argv[1] if len(sys.argv) > 1 else 1))
+    words = [it for it in sys.argv[1:] if it != "--ways"]
+    size = int(1_000_000 * float(words[0] if words else 1))
+    if len(words) < len(sys.argv) - 1:
+        ways_table(size)
+        return
     print("| input | json_util loads, s | vbson loads, s | plain, s | ratio | json_util dumps, s | vbson dumps, s | plain, s | ratio |")
     print("|---|---|---|---|---|---|---|---|---|")
     for name, make in KINDS:

@@ -213,6 +213,30 @@ uint32_t vbson_decode(uint32_t mode, uint32_t flags, const uint8_t *bytes, size_
  * VBSON_ZERO_IN_KEY, VBSON_ZERO_IN_REGEX, VBSON_TOO_LONG, VBSON_OUT_OF_MEMORY. */
 uint32_t vbson_encode(uint32_t flags, const uint8_t *text, size_t len, vbson_text *out);
 
+/* Reads each line of the block as vbson_encode reads a text: out->text has the bytes of the documents that the lines mean,
+ * one behind the other, and a NUL behind the last. Lines are those of vbson_convert_lines, and what is told of one that is
+ * refused is as there; of a text that means a value and has no bytes the words are those of vbson_status_text alone.
+ * *out is written over: what it held is not freed. VBSON_NO_MODE, VBSON_OUT_OF_MEMORY. */
+uint32_t vbson_encode_lines(uint32_t flags, const uint8_t *block, size_t len, vbson_lines *out);
+
+/* What a block of documents gives. Its holder frees both texts by vbson_text_free. */
+typedef struct vbson_documents {
+    vbson_text text;    /* the text of each document, in their order, a newline behind each */
+    vbson_text told;    /* a line on each that is refused: "document 3 at byte 40: ends too early at its byte 4" */
+    uint64_t documents; /* how many documents there are, refused ones too */
+    uint64_t done;      /* the bytes of the block that were documents: all, or those before the one at which it ends early */
+} vbson_documents;
+
+#define VBSON_DOCUMENTS_NONE { VBSON_TEXT_NONE, VBSON_TEXT_NONE, 0, 0 }
+
+/* Reads the block as documents one behind the other, each as vbson_decode reads one. A document that is refused gives
+ * nothing but what is told of it: its number from 1, the bytes of the block before it, and the words of
+ * vbson_explain_document with the bytes of the document before the fault; or "a finite double", where those have no text.
+ * The next one begins where its length says; where the block has no such length, or fewer bytes than it says, that
+ * document is the last, and what stands behind is not looked at. VBSON_DONE is answered in each case.
+ * *out is written over: what it held is not freed. VBSON_NO_MODE, VBSON_OUT_OF_MEMORY. */
+uint32_t vbson_decode_documents(uint32_t mode, uint32_t flags, const uint8_t *block, size_t len, vbson_documents *out);
+
 /* ---- small values
  *
  * A call named print puts a text, with no NUL, at the front of the room, leaves the rest of the room as it was, and

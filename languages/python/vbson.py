@@ -7,7 +7,8 @@
 
 The library is looked for in the variable VBSON_LIBRARY (its path), beside this file, in ../out/lib (where ./vbson build
 puts it), in ../.. (where it is installed beside this file) and where the system keeps libraries. It runs on x86-64 Linux
-with glibc and a processor with SSE4.2.
+with glibc and a processor with SSE4.2. The module _vbson, which is built where there is a Python.h, answers the same sooner;
+the variable VBSON_EXTENSION has its path, or is empty for none.
 Texts are `str`, or `bytes` (any other that lends its bytes) in UTF-8; anything else is a TypeError. Any number of threads
 may call at once.
 """
@@ -15,15 +16,17 @@ import ctypes
 import ctypes.util
 import datetime
 import decimal
+import importlib.machinery
+import importlib.util
 import os
 import platform
 import re
 from typing import Any, List, Optional, Tuple, Union
 
 __all__ = ["CANONICAL", "RELAXED", "SHOW", "Error", "NotJson", "BadObjectId", "NotExtendedJson", "NoSuchText", "NoText",
-           "NoDocument", "NoBytes", "NoValue", "loads", "dumps", "convert", "convert_lines", "explain", "same", "hash_of", "is_document", "explain_document",
-           "decode", "encode", "decimal128", "decimal128_text", "decimal_of", "object_id", "object_id_text", "date_time",
-           "date_time_text", "datetime_of", "version"]
+           "NoDocument", "NoBytes", "NoValue", "loads", "loads_lines", "dumps", "convert", "convert_lines", "explain", "same", "hash_of",
+           "is_document", "explain_document", "decode", "decode_documents", "encode", "encode_lines", "decimal128",
+           "decimal128_text", "decimal_of", "object_id", "object_id_text", "date_time", "date_time_text", "datetime_of", "version"]
 
 _Bytes = Union[bytes, bytearray, memoryview]
 _Given = Union[str, bytes, bytearray, memoryview]
@@ -96,11 +99,15 @@ _ERRORS = {NO_MODE: (ValueError, "no such mode or flag"), NOT_JSON: (NotJson, "n
 
 
 class _Text(ctypes.Structure):
-    _fields_ = [("bytes", ctypes.POINTER(ctypes.c_uint8)), ("size", ctypes.c_size_t), ("len", ctypes.c_size_t)]
+    _fields_ = [("bytes", ctypes.c_void_p), ("size", ctypes.c_size_t), ("len", ctypes.c_size_t)]
 
 
 class _Lines(ctypes.Structure):
     _fields_ = [("text", _Text), ("told", _Text), ("lines", ctypes.c_uint64), ("refused", ctypes.c_uint64)]
+
+
+class _Documents(ctypes.Structure):
+    _fields_ = [("text", _Text), ("told", _Text), ("documents", ctypes.c_uint64), ("done", ctypes.c_uint64)]
 
 
 _HERE = os.path.dirname(os.path.realpath(__file__))
@@ -130,6 +137,8 @@ def _loaded():
     parameters = {
         "version": [], "convert_with": [number, number, text, size, ctypes.POINTER(_Text)],
         "convert_lines": [number, number, text, size, ctypes.POINTER(_Lines)],
+        "encode_lines": [number, text, size, ctypes.POINTER(_Lines)],
+        "decode_documents": [number, number, text, size, ctypes.POINTER(_Documents)],
         "explain": [number, text, size, ctypes.POINTER(_Text)], "same": [text, size, text, size],
         "hash": [text, size, ctypes.POINTER(ctypes.c_uint64)],
         "is_document": [text, size], "explain_document": [text, size, ctypes.POINTER(_Text)],
@@ -147,12 +156,34 @@ def _loaded():
 
 
 _library = _loaded()
+
+
+def _extension():
+    """The module _vbson, where it is built and this Python takes it."""
+    near = [f"{_HERE}/_vbson.abi3.so", f"{os.path.dirname(_HERE)}/out/lib/_vbson.abi3.so", f"{_HERE}/../../vbson/_vbson.abi3.so"]
+    path = os.environ.get("VBSON_EXTENSION", next(filter(os.path.exists, near), ""))
+    if not path:
+        return None
+    spec = importlib.util.spec_from_file_location("_vbson", path, loader=importlib.machinery.ExtensionFileLoader("_vbson", path))
+    try:
+        found = importlib.util.module_from_spec(spec)
+        spec.loader.exec_module(found)
+    except ImportError:
+        return None
+    return found
+
+
+_sooner = _extension()
+_ADDRESSES = {name: ctypes.cast(getattr(_library, f"vbson_{name}"), ctypes.c_void_p).value
+              for name in ("convert_with", "decode", "encode", "decimal128_print")}
 # The C library's, which the texts' blocks come from.
 _free = ctypes.CDLL(None).free
 _free.argtypes, _free.restype = [ctypes.c_void_p], None
 
 
 def _lent(value, what):
+    if type(value) is bytes:
+        return value
     try:
         return bytes(memoryview(value))
     except TypeError:
@@ -173,6 +204,8 @@ def _number(value, what):
 
 
 def _mode(mode):
+    if type(mode) is int and 0 <= mode <= SHOW:
+        return mode
     if isinstance(mode, str):
         mode = _MODES.get(mode, -1)
     if _number(mode, "a mode is CANONICAL, RELAXED, SHOW or its name") not in _MODES.values():
@@ -181,9 +214,9 @@ def _mode(mode):
 
 
 def _flags(doubles, keep_order=False):
-    for name, it in (("doubles", doubles), ("keep_order", keep_order)):
-        if not isinstance(it, bool):
-            raise TypeError(f"{name} is True or False, and not {type(it).__name__}")
+    if type(doubles) is not bool or type(keep_order) is not bool:
+        name, it = ("keep_order", keep_order) if type(doubles) is bool else ("doubles", doubles)
+        raise TypeError(f"{name} is True or False, and not {type(it).__name__}")
     return DOUBLES * doubles | KEEP_ORDER * keep_order
 
 
@@ -201,8 +234,12 @@ def _taken(out):
         _free(out.bytes)
 
 
+_NO_BYTES = ctypes.create_string_buffer(1)
+_AT_NO_BYTES = ctypes.addressof(_NO_BYTES)
+
+
 def _nothing():
-    return _Text((ctypes.c_uint8 * 1)(), 0, 0)
+    return _Text(_AT_NO_BYTES, 0, 0)
 
 
 def _left_by(call, *arguments):
@@ -216,6 +253,22 @@ def _text_of(call, *arguments):
     """The status of a call that leaves a text, and the text."""
     status, left = _left_by(call, *arguments)
     return status, left.decode()
+
+
+def _text_by(name, mode, flags, given):
+    """The same of a call with a mode, by its name."""
+    if _sooner is None:
+        return _text_of(getattr(_library, f"vbson_{name}"), mode, flags, given, len(given))
+    made = _sooner.text_by(_ADDRESSES[name], mode, flags, given)
+    return (DONE, made) if isinstance(made, str) else (made, "")
+
+
+def _encoded(flags, given):
+    """The status of encode, and the bytes that it leaves."""
+    if _sooner is None:
+        return _left_by(_library.vbson_encode, flags, given, len(given))
+    made = _sooner.bytes_by(_ADDRESSES["encode"], flags, given)
+    return (DONE, made) if isinstance(made, bytes) else (made, b"")
 
 
 # The words behind those for the class: a column, with a message where a number is out of range, or a path and a
@@ -265,13 +318,14 @@ def convert(text: _Given, mode: Union[int, str] = CANONICAL, doubles: bool = Fal
     the text; of a key that stands twice the last value counts, at the place of the first.
     """
     mode, flags, given = _mode(mode), _flags(doubles, keep_order), _bytes(text)
-    status, made = _text_of(_library.vbson_convert_with, mode, flags, given, len(given))
+    status, made = _text_by("convert_with", mode, flags, given)
     _wants_accepted(status, flags, given)
     return made
 
 
-_VERDICT = re.compile(r"bson_lines: line (\d+): (not JSON|bad object id|not Extended JSON)(.*)")
 _STATUSES = {words: status for status, (_, words) in _ERRORS.items()}
+_OF_LINES = (NOT_JSON, BAD_OBJECT_ID, NOT_EXTENDED_JSON, NO_DOCUMENT, ZERO_IN_KEY, ZERO_IN_REGEX, TOO_LONG)
+_VERDICT = re.compile(rf"bson_lines: line (\d+): ({'|'.join(_ERRORS[it][1] for it in _OF_LINES)})(.*)")
 
 
 def _refusal(verdict):
@@ -291,8 +345,11 @@ def convert_lines(block: _Given, mode: Union[int, str] = CANONICAL, doubles: boo
     mode, flags, given = _mode(mode), _flags(doubles, keep_order), _bytes(block)
     out = _Lines(_nothing(), _nothing(), 0, 0)
     _wants_done(_library.vbson_convert_lines(mode, flags, given, len(given), ctypes.byref(out)))
-    text, told = _taken(out.text), _taken(out.told).decode()
-    return text, [_refusal(it) for it in told.split("\n")[:-1]]
+    return _taken(out.text), _refusals(out.told)
+
+
+def _refusals(told):
+    return [_refusal(it) for it in _taken(told).decode().split("\n")[:-1]]
 
 
 def explain(text: _Given, doubles: bool = False) -> str:
@@ -350,8 +407,11 @@ def decode(document: _Bytes, mode: Union[int, str] = CANONICAL, doubles: bool = 
     of a key that stands twice the last value counts. Raises NoDocument with its place ('byte 4'), NoText in the two forms at
     a finite double other than 0.0 where doubles is not True, and MemoryError.
     """
-    mode, flags, given = _mode(mode), _flags(doubles, keep_order), _document(document)
-    status, made = _text_of(_library.vbson_decode, mode, flags, given, len(given))
+    return _decoded(_mode(mode), _flags(doubles, keep_order), _document(document))
+
+
+def _decoded(mode, flags, given):
+    status, made = _text_by("decode", mode, flags, given)
     if status == NO_DOCUMENT:
         # (without memory for the words, the error has no place)
         raise _explained(status, _text_of(_library.vbson_explain_document, given, len(given))[1])
@@ -365,15 +425,62 @@ def encode(text: _Given, doubles: bool = False, keep_order: bool = False) -> byt
     With keep_order they are in that of the text. Raises as convert does, NoDocument where the text means another value, and NoBytes where the document has none.
     """
     flags, given = _flags(doubles, keep_order), _bytes(text)
-    status, made = _left_by(_library.vbson_encode, flags, given, len(given))
+    status, made = _encoded(flags, given)
     _wants_accepted(status, flags, given)
     return made
 
 
+def encode_lines(block: _Given, doubles: bool = False, keep_order: bool = False) -> Tuple[bytes, List[Tuple[int, Error]]]:
+    """The bytes of the documents that the lines of a block mean, one behind the other, and of each line that is refused its
+    number and its error.
+
+    Each line is read as `encode` reads a text, and lines are those of `convert_lines`. Raises MemoryError.
+    """
+    flags, given = _flags(doubles, keep_order), _bytes(block)
+    out = _Lines(_nothing(), _nothing(), 0, 0)
+    _wants_done(_library.vbson_encode_lines(flags, given, len(given), ctypes.byref(out)))
+    return _taken(out.text), _refusals(out.told)
+
+
+_OF_DOCUMENT = re.compile(r"document (\d+) at byte (\d+): (.*?)(?: at its byte (\d+))?")
+
+
+def _refused_document(verdict):
+    """The number of a document that is refused, the bytes before it, and its error, of what is told of it."""
+    number, start, why, at = _OF_DOCUMENT.fullmatch(verdict).groups()
+    if at is None:
+        error, words = _ERRORS[NO_TEXT]
+        return int(number), int(start), error(words)
+    return int(number), int(start), _explained(NO_DOCUMENT, f"no document at byte {at} ({why})")
+
+
+def decode_documents(block: _Bytes, mode: Union[int, str] = CANONICAL, doubles: bool = False,
+                     keep_order: bool = False) -> Tuple[bytes, List[Tuple[int, int, Error]]]:
+    """The texts of the documents of a block, one behind the other, a line each, and of each document that is refused its
+    number, the number of bytes before it, and its error.
+
+    Each is read as `decode` reads one. Behind one that is refused the next begins where its length says; where the block has
+    no such length, or fewer bytes than it says, that document is the last, and what stands behind is not looked at. Raises
+    MemoryError.
+    """
+    mode, flags, given = _mode(mode), _flags(doubles, keep_order), _document(block)
+    out = _Documents(_nothing(), _nothing(), 0, 0)
+    _wants_done(_library.vbson_decode_documents(mode, flags, given, len(given), ctypes.byref(out)))
+    text, told = _taken(out.text), _taken(out.told).decode()
+    return text, [_refused_document(it) for it in told.split("\n")[:-1]]
+
+
+_kinds = {}
+
+
 def _types(name):
-    # (a module of its own, which only they need)
-    import vbson_values
-    return vbson_values.types_of(name)
+    try:
+        return _kinds[name]
+    except (KeyError, TypeError):
+        # (a module of its own, which only they need)
+        import vbson_values
+        found = _kinds[name] = vbson_values.types_of(name)
+        return found
 
 
 def loads(text: _Given, doubles: bool = True, keep_order: bool = True, types: Optional[str] = None) -> Any:
@@ -390,19 +497,41 @@ def loads(text: _Given, doubles: bool = True, keep_order: bool = True, types: Op
     126 deep, one less than others. Raises NoValue, of bson alone, where that has no such value: dates outside the years 1 to
     9999 before its version 4.3, UUIDs that are not 16 bytes.
     """
+    given, flags, kinds = _bytes(text), _flags(doubles, keep_order), _types(types)
     # (each value is read under a key: bson makes another of a document at the top)
-    given, flags = _bytes(text), _flags(doubles, keep_order)
-    status, made = _left_by(_library.vbson_encode, flags, given, len(given))
+    if b'"~"' not in given and b"\\u" not in given:
+        # No further key is read as that one, so that a document of one key has in it the value of the whole text.
+        found = kinds.only_value(flags, b'{"~":' + given + b"}")
+        if found is not None:
+            return found[0]
+    return kinds.value_of(_under_a_key(flags, given))
+
+
+def _under_a_key(flags, given):
+    """The bytes of the document that has under its one key what the text means; raises why there are none."""
+    status, made = _encoded(flags, given)
     if status == NO_DOCUMENT:
         given = b'{"v":' + given + b"}"
-        status, made = _left_by(_library.vbson_encode, flags, given, len(given))
+        status, made = _encoded(flags, given)
         _wants_accepted(status, flags, given)
-        return _types(types).value_of(made)
+        return made
     _wants_accepted(status, flags, given)
     size = len(made) + 8
     if size > 0x7FFFFFFF:
         raise NoBytes("a part is too long for BSON")
-    return _types(types).value_of(size.to_bytes(4, "little") + b"\x03v\0" + made + b"\0")
+    return size.to_bytes(4, "little") + b"\x03v\0" + made + b"\0"
+
+
+def loads_lines(block: _Given, doubles: bool = True, keep_order: bool = True,
+                types: Optional[str] = None) -> Tuple[List[Any], List[Tuple[int, Error]]]:
+    """The values of Python of the documents that the lines of a block mean, and of each line that is refused its number and
+    its error.
+
+    Lines are those of `encode_lines`, and values those of `loads`. Raises NoValue where one has no value, and MemoryError.
+    """
+    kinds = _types(types)
+    documents, refused = encode_lines(block, doubles, keep_order)
+    return kinds.values_of(documents), refused
 
 
 def dumps(value: Any, form: Union[int, str] = CANONICAL, doubles: bool = True, keep_order: bool = True,
@@ -420,10 +549,10 @@ def dumps(value: Any, form: Union[int, str] = CANONICAL, doubles: bool = True, k
     form = _mode(form)
     if form == SHOW:
         raise ValueError("a form is CANONICAL, RELAXED, 'canonical' or 'relaxed'")
-    document = _types(types).document_of(value)
+    document, flags = _types(types).document_of(value), _flags(doubles, keep_order)
     if document[4] == 3:
-        return decode(memoryview(document)[7:-1], form, doubles, keep_order)
-    return decode(document, form, doubles, keep_order)[5:-1]
+        return _decoded(form, flags, document[7:-1])
+    return _decoded(form, flags, document)[5:-1]
 
 
 def _parsed(call, text, size):
@@ -456,7 +585,12 @@ def decimal128(value: Union[_Given, decimal.Decimal]) -> bytes:
 
 def decimal128_text(value: _Bytes) -> str:
     """The text of a decimal of 16 bytes."""
-    return _printed(_library.vbson_decimal128_print, _of_size(value, 16, "a decimal"))
+    given = _of_size(value, 16, "a decimal")
+    if _sooner is not None:
+        made = _sooner.printed(_ADDRESSES["decimal128_print"], given)
+        if isinstance(made, str):
+            return made
+    return _printed(_library.vbson_decimal128_print, given)
 
 
 def decimal_of(value: _Bytes) -> decimal.Decimal:

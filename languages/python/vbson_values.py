@@ -138,6 +138,13 @@ class Undefined:
 
 # ---- reading bytes that the library has written
 
+def _object_id(binary):
+    made = object.__new__(ObjectId)
+    # (past the call that keeps it from being written)
+    made.__dict__["binary"] = binary
+    return made
+
+
 _LENGTH, _LONG, _DOUBLE, _STAMP = struct.Struct("<i"), struct.Struct("<q"), struct.Struct("<d"), struct.Struct("<II")
 
 
@@ -220,7 +227,7 @@ def _read_scoped(data, at):
 
 _READERS = {
     0x01: _fixed(_DOUBLE), 0x02: _read_text, 0x03: _read_document, 0x04: _read_array, 0x05: _read_binary,
-    0x06: _constant(Undefined()), 0x07: lambda data, at: (ObjectId(data[at:at + 12]), at + 12),
+    0x06: _constant(Undefined()), 0x07: lambda data, at: (_object_id(data[at:at + 12]), at + 12),
     0x08: lambda data, at: (data[at] == 1, at + 1), 0x09: _read_date, 0x0A: _constant(None), 0x0B: _read_regex,
     0x0C: _read_pointer, 0x0D: functools.partial(_read_text, made=Code), 0x0E: functools.partial(_read_text, made=Symbol),
     0x0F: _read_scoped, 0x10: _fixed(_LENGTH), 0x11: _fixed(_STAMP, lambda increment, time: Timestamp(time, increment)),
@@ -317,47 +324,109 @@ _WRITERS = {
 KEY = "v"
 
 
-class Plain:
-    """The types of this file."""
+class Types:
+    """Types, of which a class below makes the values."""
+
+    def only_value(self, flags: int, text: bytes) -> Optional[tuple]:
+        """The value under the one key of the document that a text means, in a tuple; None where there is no such value."""
+        try:
+            if vbson._sooner is not None:
+                found = vbson._sooner.value_by(vbson._ADDRESSES["encode"], flags, text, self._made)
+                return found if isinstance(found, tuple) else None
+            status, made = vbson._encoded(flags, text)
+            return self._only(made) if status == vbson.DONE else None
+        except vbson.NoValue:
+            return None
 
     def value_of(self, document: bytes) -> Any:
-        """The value under the key of a document that the library has written."""
-        return _read_document(document, 0)[0][KEY]
+        """The value under the one key of a document that the library has written."""
+        found = vbson._sooner.value_of(document, self._made) if vbson._sooner is not None else self._only(document)
+        return found[0]
+
+    def values_of(self, documents: bytes) -> list:
+        """The values of documents that the library has written, one behind the other."""
+        if vbson._sooner is not None:
+            return vbson._sooner.values_of(documents, self._made)
+        parts, at = [], 0
+        while at < len(documents):
+            behind = at + _LENGTH.unpack_from(documents, at)[0]
+            # (under one key as an array, whose own keys nobody reads)
+            parts.append(b"\x030\0" + documents[at:behind])
+            at = behind
+        return self._listed(parts)
+
+    def _listed(self, parts):
+        inside = b"".join(parts)
+        size = len(inside) + 5
+        if size + 8 > 0x7FFFFFFF:
+            half = len(parts) // 2
+            return self._listed(parts[:half]) + self._listed(parts[half:])
+        return self._only((size + 8).to_bytes(4, "little") + b"\x04v\0" + size.to_bytes(4, "little") + inside + b"\0\0")[0]
+
+
+class Plain(Types):
+    """The types of this file."""
+
+    def __init__(self):
+        # (what _vbson makes values by)
+        self._made = (_object_id, Int64, datetime.datetime, datetime.timezone.utc, vbson.decimal_of, self._other, None)
+
+    @staticmethod
+    def _other(tag, content):
+        """The value of a tag and the bytes behind its key."""
+        return _READERS[tag](content, 0)[0]
+
+    @staticmethod
+    def _only(document):
+        found = _read_document(document, 0)[0]
+        return tuple(found.values()) if len(found) == 1 else None
 
     def document_of(self, value: Any) -> bytes:
-        """The document that has the value under the key."""
+        """The document that has the value under a key."""
         return _pairs([(KEY, value)])
 
 
-class Bson:
+class Bson(Types):
     """The types of the package bson of PyMongo: dates are datetimes in UTC, and a UUID is one of subtype 4."""
 
     def __init__(self):
         # (another package of that name has no codec_options)
         import bson
-        from bson import binary, codec_options, decimal128, errors
+        from bson import binary, codec_options, decimal128, errors, int64, objectid, tz_util
         options = {"tz_aware": True, "uuid_representation": binary.STANDARD}
         if hasattr(codec_options, "DatetimeConversion"):
             options["datetime_conversion"] = codec_options.DatetimeConversion.DATETIME_AUTO
-        others = codec_options.TypeRegistry(fallback_encoder=functools.partial(self._other, decimal128.Decimal128))
+        others = codec_options.TypeRegistry(fallback_encoder=functools.partial(self._fallback, decimal128.Decimal128))
         self._bson, self._errors = bson, errors
         self._reading = codec_options.CodecOptions(**options)
         self._writing = codec_options.CodecOptions(type_registry=others, **options)
+        # (what _vbson makes values by)
+        self._made = (objectid.ObjectId, int64.Int64, datetime.datetime, tz_util.utc, decimal128.Decimal128.from_bid, self._other,
+                      functools.partial(self._other, 3))
 
     @staticmethod
-    def _other(made, value):
+    def _fallback(made, value):
         """Decimals are taken too, exactly."""
         return made.from_bid(vbson.decimal128(value)) if isinstance(value, decimal.Decimal) else value
 
-    def value_of(self, document: bytes) -> Any:
+    def _other(self, tag, content):
         """As of Plain."""
+        size = (len(content) + 8).to_bytes(4, "little")
+        return self._only(size + bytes([tag]) + b"v\0" + content + b"\0")[0]
+
+    def _only(self, document):
         try:
-            return self._bson.decode(document, self._reading)[KEY]
+            found = self._bson.decode(document, self._reading)
         except self._errors.InvalidBSON as error:
             raise vbson.NoValue(f"the package bson has no such value: {error}") from error
+        return tuple(found.values()) if isinstance(found, dict) and len(found) == 1 else None
 
     def document_of(self, value: Any) -> bytes:
         """As of Plain."""
+        if type(value) is datetime.datetime:
+            # (as bson makes it, sooner: one with no time zone is in UTC, and a part of a millisecond is cut)
+            moment = value if value.tzinfo is not None else value.replace(tzinfo=datetime.timezone.utc)
+            return b"\x10\0\0\0\x09v\0" + _LONG.pack((moment - vbson._EPOCH) // vbson._MILLISECOND) + b"\0"
         try:
             return self._bson.encode({KEY: value}, codec_options=self._writing)
         except self._errors.InvalidDocument as error:

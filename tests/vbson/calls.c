@@ -140,54 +140,6 @@ static void explain(void) {
     CHECK(vbson_explain(UINT32_MAX, TEXT("!"), &out) == VBSON_NO_MODE && out.bytes == before && out.len == 6);
 }
 
-/* ---- lines */
-
-static int is_text(const vbson_text *text, const char *wanted) {
-    return text->len == strlen(wanted) && text->size == text->len + 1 && memcmp(text->bytes, wanted, text->size) == 0;
-}
-
-static int gives(uint32_t mode, uint32_t flags, const char *block, const char *text, const char *told, uint64_t lines, uint64_t refused) {
-    vbson_lines out = VBSON_LINES_NONE;
-    int is_right = vbson_convert_lines(mode, flags, TEXT(block), &out) == VBSON_DONE && is_text(&out.text, text)
-        && is_text(&out.told, told) && out.lines == lines && out.refused == refused;
-    if (!is_right) printf("%s%s", vbson_chars(&out.text), vbson_chars(&out.told));
-    vbson_text_free(&out.text);
-    vbson_text_free(&out.told);
-    return is_right;
-}
-
-static void convert_lines(void) {
-    CHECK(gives(VBSON_RELAXED, 0, "", "", "", 0, 0));
-    CHECK(gives(VBSON_RELAXED, 0, "[ 1 ]", "[1]\n", "", 1, 0));
-    CHECK(gives(VBSON_CANONICAL, 0, "\xef\xbb\xbf[1]\n\n \t\r\n2\n", "[{\"$numberInt\":\"1\"}]\n{\"$numberInt\":\"2\"}\n", "", 4, 0));
-    CHECK(gives(VBSON_SHOW, 0, "[1]\n", "[1]\n", "", 1, 0));
-    CHECK(gives(VBSON_RELAXED, 0, "[1\n{\"b\":2,\"a\":1}\n[1.5]\n{\"$oid\":\"5\"}", "{\"a\":1,\"b\":2}\n",
-        "bson_lines: line 1: not JSON at column 2\n"
-        "bson_lines: line 3: not Extended JSON at 0 (a number is no whole number of 64 bits)\n"
-        "bson_lines: line 4: bad object id at $oid (an object id has 24 digits, but \"5\" has 1)\n", 4, 3));
-    CHECK(gives(VBSON_RELAXED, VBSON_DOUBLES, "[1.5]\n", "[1.5]\n", "", 1, 0));
-    CHECK(gives(VBSON_RELAXED, VBSON_KEEP_ORDER, "{\"b\":1,\"a\":2}\n[1.5]\n", "{\"b\":1,\"a\":2}\n",
-        "bson_lines: line 2: not Extended JSON at 0 (a number is no whole number of 64 bits)\n", 2, 1));
-    CHECK(gives(VBSON_RELAXED, VBSON_DOUBLES | VBSON_KEEP_ORDER, "{\"b\":1.5,\"a\":2}", "{\"b\":1.5,\"a\":2}\n", "", 1, 0));
-    static const uint8_t before[] = "before";
-    vbson_lines out = {{before, 7, 6}, {before, 7, 5}, 3, 4};
-    CHECK(vbson_convert_lines(3, 0, TEXT("1"), &out) == VBSON_NO_MODE);
-    CHECK(vbson_convert_lines(VBSON_RELAXED, 4, TEXT("1"), &out) == VBSON_NO_MODE);
-    CHECK(out.text.bytes == before && out.text.size == 7 && out.text.len == 6 && out.told.bytes == before && out.told.len == 5);
-    CHECK(out.lines == 3 && out.refused == 4);
-
-    /* more than a block of the library's own */
-    enum { LINES = 50000 };
-    char *many = malloc(4 * LINES + 1);
-    for (int i = 0; i < LINES; i++) memcpy(many + 4 * i, i % 7 == 3 ? "[!]\n" : "[1]\n", 5);
-    vbson_lines all = VBSON_LINES_NONE;
-    CHECK(vbson_convert_lines(VBSON_RELAXED, 0, TEXT(many), &all) == VBSON_DONE && all.lines == LINES && all.refused == 7143);
-    CHECK(all.text.len == 4 * (LINES - 7143) && strncmp(vbson_chars(&all.told), "bson_lines: line 4: not JSON at column 2\n", 41) == 0);
-    vbson_text_free(&all.text);
-    vbson_text_free(&all.told);
-    free(many);
-}
-
 /* ---- values */
 
 static void same(void) {
@@ -452,7 +404,6 @@ int main(void) {
     convert_with();
     keep_order();
     explain();
-    convert_lines();
     same();
     hash();
     decode();

@@ -110,3 +110,42 @@ def round_trips():
                 continue
             again = vbson.encode(vbson.decode(written, doubles=True), doubles=True)
             yield f"{name}, and back", None if vbson.is_document(written) and again == written else f"{written.hex()} and {again.hex()}"
+
+
+def alone(call, given, *how):
+    """What a call gives of one text or document, or its error."""
+    try:
+        return call(given, *how), None
+    except vbson.Error as error:
+        return b"", (type(error), str(error), error.place, error.why)
+
+
+def told_alike(refused):
+    return [(*it[:-1], (type(it[-1]), str(it[-1]), it[-1].place, it[-1].why)) for it in refused]
+
+
+def blocks():
+    """Of all bytes of the rows one behind the other, and of all their texts as lines, what is wrong with the calls on blocks
+    beside those on each, or None. Bytes that do not begin with their length end a block of their own."""
+    strings = [bytes.fromhex(line[3:]) for _, line, _ in cases() if line.startswith("is ")]
+    whole = [it for it in strings if len(it) >= 5 and int.from_bytes(it[:4], "little") == len(it)]
+    for mode in ("canonical", "relaxed", "show"):
+        yield f"a block of documents, {mode}", block_fault(whole, mode)
+        for number, it in enumerate([it for it in strings if it and it not in whole]):
+            if int.from_bytes(it[:4], "little") > len(it) or len(it) < 5:
+                yield f"a block that ends early, {number}, {mode}", block_fault([b"\5\0\0\0\0", it], mode)
+    texts = [it for _, line, _ in cases() if line.startswith("encode ") for it in [bytes.fromhex(line[7:])] if b"\n" not in it and it.strip()]
+    for keep_order in (False, True):
+        left, refused = vbson.encode_lines(b"\n".join(texts), True, keep_order)
+        made = [alone(vbson.encode, it, True, keep_order) for it in texts]
+        wanted = b"".join(it for it, _ in made), [(number, error) for number, (_, error) in enumerate(made, 1) if error]
+        yield f"a block of lines, {keep_order}", None if (left, told_alike(refused)) == wanted else f"{left.hex()} {refused}"
+
+
+def block_fault(parts, mode):
+    left, refused = vbson.decode_documents(b"".join(parts), mode, True, True)
+    made = [alone(vbson.decode, it, mode, True, True) for it in parts]
+    starts = [sum(map(len, parts[:at])) for at in range(len(parts))]
+    wanted = "".join(f"{it}\n" for it, error in made if not error).encode()
+    faults = [(number, start, error) for number, (start, (_, error)) in enumerate(zip(starts, made), 1) if error]
+    return None if (left, told_alike(refused)) == (wanted, faults) else f"{left} {refused}"

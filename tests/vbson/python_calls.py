@@ -184,7 +184,9 @@ def try_places():
 
 
 def try_reads():
-    """A text that is accepted is read once, and one that is refused twice."""
+    """A text that is accepted is read once, and one that is refused twice. (Calls by _vbson are not seen here.)"""
+    if vbson._sooner is not None:
+        return
     calls = []
 
     class Counted:
@@ -223,6 +225,31 @@ def try_lines():
     want("lines of doubles", vbson.convert_lines("[1.5]\n", "relaxed", True), (b"[1.5]\n", []))
     raises("lines in no mode", ValueError, vbson.convert_lines, b"", 3)
     raises("lines of a list", TypeError, vbson.convert_lines, ["1"])
+
+
+def try_blocks():
+    five, bad = vbson.encode('{"n": 5}'), bytes([9, 0, 0, 0, 8, 97, 0, 2, 0])
+    text, refused = vbson.decode_documents(five + bad + five, "relaxed")
+    want("documents that are left", text, b'{"n":5}\n{"n":5}\n')
+    want("documents that are refused", [it[:2] for it in refused], [(2, 12)])
+    error = refused[0][2]
+    want("one among documents", (str(error), error.place, error.why, type(error)), refusal(vbson.decode, bad))
+    text, refused = vbson.decode_documents(five + b"\6\0\0\0", vbson.SHOW)
+    want("a block that ends early", (text, [it[:2] for it in refused]), (b'{ "n": 5 }\n', [(2, 12)]))
+    want("no documents", vbson.decode_documents(b""), (b"", []))
+    double = vbson.encode('{"b":1.5,"a":2}', True, True)
+    want("documents with doubles", vbson.decode_documents(double, "relaxed", True, True), (b'{"b":1.5,"a":2}\n', []))
+    error = vbson.decode_documents(double)[1][0][2]
+    want("a double among documents", (str(error), error.place, error.why, type(error)), refusal(vbson.decode, double))
+    raises("documents in no mode", ValueError, vbson.decode_documents, b"", 3)
+    raises("documents of a text", TypeError, vbson.decode_documents, "")
+    given, refused = vbson.encode_lines('{"n": 5}\n[1]\n\n{"a":[1.5]}\n{"a\\u0000":1}\n{"n": 5}')
+    want("lines that are encoded", given, five + five)
+    want("lines that are not encoded", [it[0] for it in refused], [2, 4, 5])
+    for (_, error), line in zip(refused, ("[1]", '{"a":[1.5]}', '{"a\\u0000":1}')):
+        want(f"{line} among encoded lines", (str(error), error.place, error.why, type(error)), refusal(vbson.encode, line))
+    want("lines that are encoded in order", vbson.encode_lines('{"b":1.5,"a":2}', True, True), (double, []))
+    raises("encoded lines of a list", TypeError, vbson.encode_lines, ["1"])
 
 
 def try_documents():
@@ -347,6 +374,7 @@ try_places()
 try_reads()
 try_hashes()
 try_lines()
+try_blocks()
 try_documents()
 try_small_values()
 try_decimals()

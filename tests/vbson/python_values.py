@@ -109,6 +109,16 @@ def try_both(types):
     raises("a 0 byte in a key there", vbson.NoBytes, vbson.dumps, {"a\0": 1}, types=types)
     raises("no value", TypeError, vbson.dumps, object(), types=types)
     raises("no text", TypeError, vbson.loads, 5, types=types)
+    values, refused = vbson.loads_lines('{"b":1,"a":[{"$ref":"x","$id":1}]}\n[1]\n{"$oid":"5"}\n\n{"b":1.5}\n', types=types)
+    want("values of lines", values, [vbson.loads('{"b":1,"a":[{"$ref":"x","$id":1}]}', types=types), {"b": 1.5}])
+    want("the keys of lines", [*map(list, values)], [["b", "a"], ["b"]])
+    want("lines of no values", [(number, type(it)) for number, it in refused], [(2, vbson.NoDocument), (3, vbson.BadObjectId)])
+    want("no lines", vbson.loads_lines("", types=types), ([], []))
+    for given in ('"~"', '["~"]', '{"~":"~"}', '"\\u007e"', '{"\\u007e":1,"~":2}', '{"a":{"~":1}}'):
+        want(f"{given} there and back", vbson.dumps(vbson.loads(given, types=types), "relaxed", types=types),
+             '{"~":2}' if ":2" in given else given.replace("\\u007e", "~"))
+    for given in ('1,"~":2', '1,"\\u007e":2', '5},{"~":6', '[1],"a":[2]', '{"a":1},"a":2', '1,', '1}', "\ufeff1"):
+        raises(f"no text {given!r}", vbson.NotJson, vbson.loads, given, types=types)
     raises("no form", ValueError, vbson.dumps, 5, "show", types=types)
     raises("no form by number", ValueError, vbson.dumps, 5, 3, types=types)
     raises("a long int", OverflowError, vbson.dumps, [2**64], types=types)
@@ -127,6 +137,7 @@ def try_bson():
     from bson import Binary as TheirBinary, Code as TheirCode, DBRef, Decimal128, Int64 as TheirInt64, MinKey as TheirMinKey
     from bson import ObjectId as TheirId, Regex as TheirRegex, Timestamp as TheirTimestamp
     try_both("bson")
+    try_damaged("bson")
     for text, value in (('{"$oid":"53e37d08776f724e42000000"}', TheirId(ID)), ('{"$numberLong":"5"}', TheirInt64(5)),
                         ('{"$numberDecimal":"19.90"}', Decimal128("19.90")), ('{"$binary":{"base64":"AQI=","subType":"80"}}', TheirBinary(b"\1\2", 128)),
                         ('{"$regularExpression":{"options":"im","pattern":"a("}}', TheirRegex("a(", "im")),
@@ -135,8 +146,39 @@ def try_bson():
                         ('[{"$ref":"n","$id":{"$numberInt":"1"}}]', [DBRef("n", 1)])):
         want(f"{text} there, bson", vbson.loads(text), value)
         want(f"{text} and back, bson", vbson.dumps(value), text)
+    import bson
+    zone = datetime.timezone(datetime.timedelta(hours=-5, minutes=-30))
+    for moment in (datetime.datetime(2020, 1, 1), datetime.datetime(1969, 12, 31, 23, 59, 59, 999999), datetime.datetime(1, 1, 1, 0, 0, 0, 1),
+                   datetime.datetime(9999, 12, 31, 23, 59, 59, 999999, UTC), datetime.datetime(1960, 2, 29, 1, 2, 3, 4567, zone)):
+        want(f"{moment!r} alone", vbson.dumps(moment), vbson.dumps([moment])[1:-1])
+        want(f"{moment!r} as bson has it", bson.decode(vbson.encode('{"v":%s}' % vbson.dumps(moment)))["v"], bson.decode(bson.encode({"v": moment}))["v"])
     want("the types, where none are named", type(vbson.loads("[1,2]", types=None)), list)
     raises("a UUID of one byte", vbson.NoValue, vbson.loads, '{"$binary":{"base64":"AA==","subType":"04"}}')
+
+
+def try_damaged(types):
+    """What the compiled module reads of damaged bytes: whatever it is, it stays in them, and whole ones are read as without."""
+    if vbson._sooner is None:
+        return
+    kinds, seen = vbson._types(types), 0
+    for text, _ in TEXTS:
+        document = vbson.encode(f'{{"a":{text},"b":[{text}]}}', True, True)
+        for given in (document, vbson.encode(f'{{"v":{text}}}', True, True), vbson.encode(f'{{"v":{{"a":1,"$ref":"b","c":[{text}]}}}}', True, True)):
+            want(f"{given.hex()} as without", outcome(vbson._sooner.value_of, given, kinds._made), outcome(kinds._only, given))
+        whole = [document[:at] for at in range(len(document))]
+        whole += [document[:at // 8] + bytes([document[at // 8] ^ 1 << at % 8]) + document[at // 8 + 1:] for at in range(8 * len(document))]
+        for given in whole:
+            outcome(vbson._sooner.value_of, given, kinds._made)
+            outcome(vbson._sooner.values_of, given, kinds._made)
+            seen += 1
+    want("damaged bytes", seen > 10000, True)
+
+
+def outcome(call, *arguments):
+    try:
+        return repr(call(*arguments))
+    except Exception as error:
+        return type(error).__name__
 
 
 def has_bson():
@@ -149,6 +191,7 @@ def has_bson():
 
 try_plain()
 try_both("plain")
+try_damaged("plain")
 for name in ("other", "Bson", 5):
     raises(f"no types {name!r}", ValueError, vbson.loads, "5", types=name)
 if has_bson():

@@ -37,7 +37,7 @@ static const char *const texts[] = {
     "\"i\":{\"$dbPointer\":{\"$ref\":\"n\",\"$id\":{\"$oid\":\"53e37d08776f724e42000000\"}}},\"j\":{\"$minKey\":1},"
     "\"k\":{\"$uuid\":\"c8edabc3-f738-4ca3-b68d-ab92a91478a3\"},\"l\":{\"$numberDouble\":\"-Infinity\"}}",
     "[1,{\"$oid\":\"53e3\"}]", "[{\"a\":[1.5]}]", "{\"a\":[\"b\"", "[]", "\"a\\u0000b\""};
-enum { TEXTS = sizeof texts / sizeof *texts, KINDS = 20 };
+enum { TEXTS = sizeof texts / sizeof *texts, KINDS = 24 };
 
 /* What a call of each kind answers, and all that it can write. */
 struct answer {
@@ -77,6 +77,27 @@ static uint32_t convert_lines(uint32_t flags, const char *text, struct answer *i
     return status;
 }
 
+static uint32_t encode_lines(uint32_t flags, const char *text, struct answer *it) {
+    vbson_lines out = {it->text, it->told, it->number, it->number};
+    uint32_t status = vbson_encode_lines(flags, TEXT(text), &out);
+    it->text = out.text, it->told = out.told;
+    it->number = 100 * (out.lines - 42) + out.refused;
+    return status;
+}
+
+/* The document twice, which has no length where the text means none. */
+static uint32_t decode_documents(uint32_t flags, struct answer *it) {
+    static uint8_t twice[1 << 16];
+    size_t len = document.len < sizeof twice / 2 ? document.len : sizeof twice / 2;
+    memcpy(twice, document.bytes, len);
+    memcpy(twice + len, document.bytes, len);
+    vbson_documents out = {it->text, it->told, it->number, it->number};
+    uint32_t status = vbson_decode_documents(VBSON_RELAXED, flags, twice, 2 * len, &out);
+    it->text = out.text, it->told = out.told;
+    it->number = 100 * (out.documents - 42) + out.done;
+    return status;
+}
+
 static struct answer call(int kind, const char *text, long number) {
     static const uint8_t decimal[16] = {5, 0, 0, 0, 0, 0, 0, 0, 0, 0, 0, 0, 0, 0, 0x40, 0x30};
     struct answer it = nothing();
@@ -95,7 +116,9 @@ static struct answer call(int kind, const char *text, long number) {
     else if (kind < 17) it.status = convert_lines(kind == 15 ? 0 : VBSON_KEEP_ORDER, text, &it);
     else if (kind == 17) it.status = vbson_convert_with(VBSON_CANONICAL, VBSON_KEEP_ORDER, TEXT(text), &it.text);
     else if (kind == 18) it.status = vbson_encode(VBSON_DOUBLES | VBSON_KEEP_ORDER, TEXT(text), &it.text);
-    else it.status = vbson_decode(VBSON_RELAXED, VBSON_DOUBLES | VBSON_KEEP_ORDER, document.bytes, document.len, &it.text);
+    else if (kind == 19) it.status = vbson_decode(VBSON_RELAXED, VBSON_DOUBLES | VBSON_KEEP_ORDER, document.bytes, document.len, &it.text);
+    else if (kind < 22) it.status = encode_lines(kind == 20 ? 0 : VBSON_DOUBLES | VBSON_KEEP_ORDER, text, &it);
+    else it.status = decode_documents(kind == 22 ? 0 : VBSON_DOUBLES | VBSON_KEEP_ORDER, &it);
     refused = 0;
     return it;
 }

@@ -8,7 +8,7 @@ SOURCES = ROOT / "crates/vbson/src"
 LANGUAGES = ROOT / "languages"
 HEADER = LANGUAGES / "c/vbson.h"
 NUMBERS = {"u32": "uint32_t", "i64": "int64_t", "u64": "uint64_t", "usize": "size_t"}
-STRUCTS = {"Text<'static>": "vbson_text", "Lines<'static>": "vbson_lines"}
+STRUCTS = {"Text<'static>": "vbson_text", "Lines<'static>": "vbson_lines", "Documents<'static>": "vbson_documents"}
 EXPORT = re.compile(
     r'#\[unsafe\(no_mangle\)\]\npub (?:unsafe )?extern "C" fn (\w+)\(([^)]*)\) -> (\w+)\n(.*?)\n\{\n', re.S)
 
@@ -51,7 +51,7 @@ def of_rust(name, kind):
         return f"{NUMBERS[kind]} {name}"
     found = re.fullmatch(r"\*(const|mut) (?:\[u8; (\d+)\]|(\w+))", kind)
     const = "const " if found[1] == "const" else ""
-    kinds = {"u8": "uint8_t", "RawText": "vbson_text", "RawLines": "vbson_lines", **NUMBERS}
+    kinds = {"u8": "uint8_t", "RawText": "vbson_text", "RawLines": "vbson_lines", "RawDocuments": "vbson_documents", **NUMBERS}
     if found[2]:
         return f"{const}uint8_t {name}[{found[2]}]"
     return f"{const}{kinds[found[3]]} *{name}"
@@ -184,14 +184,16 @@ def text_fault():
     return None if has_fields and names == ["const uint8_t *bytes", "size_t size", "size_t len"] else f"{names}"
 
 
-def lines_fault():
-    wanted = "#[repr(C)]\n#[derive(Drop)]\npub struct Lines<'a> {\n    pub text: Text<'a>,\n    pub told: Text<'a>,\n"
-    wanted += "    pub lines: u64,\n    pub refused: u64,\n}"
-    rust = "pub struct RawLines {\n    pub text: RawText,\n    pub told: RawText,\n    pub lines: u64,\n    pub refused: u64,\n}"
-    has_fields = wanted in (SOURCES / "lines.rt").read_text() and rust in (LANGUAGES / "rust/src/call.rs").read_text()
-    fields = re.search(r"typedef struct vbson_lines \{(.*?)\} vbson_lines;", HEADER.read_text(), flags=re.S)[1]
+def block_fault(name, file, numbers):
+    """Two texts and two numbers, as the sources, the header and the wrapper in Rust have them."""
+    wanted = f"#[repr(C)]\n#[derive(Drop)]\npub struct {name}<'a> {{\n    pub text: Text<'a>,\n    pub told: Text<'a>,\n"
+    rust = f"pub struct Raw{name} {{\n    pub text: RawText,\n    pub told: RawText,\n"
+    behind = "".join(f"    pub {it}: u64,\n" for it in numbers) + "}"
+    has_fields = wanted + behind in (SOURCES / file).read_text() and rust + behind in (LANGUAGES / "rust/src/call.rs").read_text()
+    in_c = f"vbson_{name.lower()}"
+    fields = re.search(rf"typedef struct {in_c} \{{(.*?)\}} {in_c};", HEADER.read_text(), flags=re.S)[1]
     names = re.findall(r"(\S[^;/*]*\w+);", re.sub(r"/\*.*?\*/", "", fields))
-    return None if has_fields and names == ["vbson_text text", "vbson_text told", "uint64_t lines", "uint64_t refused"] else f"{names}"
+    return None if has_fields and names == ["vbson_text text", "vbson_text told", *(f"uint64_t {it}" for it in numbers)] else f"{names}"
 
 
 def version():
@@ -221,7 +223,8 @@ def faults():
     yield from status_faults()
     yield from room_faults()
     yield "the fields of vbson_text", text_fault()
-    yield "the fields of vbson_lines", lines_fault()
+    yield "the fields of vbson_lines", block_fault("Lines", "lines.rt", ("lines", "refused"))
+    yield "the fields of vbson_documents", block_fault("Documents", "dump.rt", ("documents", "done"))
     yield from version_faults()
 
 

@@ -1,4 +1,5 @@
 mod Causes
 mod Decoding
+mod Dumps
 mod Explained
 mod Rows

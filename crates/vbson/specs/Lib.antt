@@ -1,5 +1,6 @@
 pub mod Convert
 pub mod Documents
+pub mod Dumps
 pub mod Explain
 pub mod Lines
 pub mod Room

@@ -6,14 +6,15 @@
 //! any other number an out parameter is as it was, except where its call says more. In reading
 //! order: `status`, `flags`, `text` (a text that the caller has and frees) with `convert` (one text
 //! to another), `explain` (why a text is refused, and where) and `lines` (a block of lines), `values` (two texts by what they
-//! mean), `documents` (whether bytes are a document of BSON) with `decode` (their text) and `encode`
-//! (the bytes of a text), and `room` (room of the caller's) with `scalars` (decimals, object ids,
+//! mean), `documents` (whether bytes are a document of BSON) with `decode` (their text), `encode`
+//! (the bytes of a text) and `dump` (a block of documents), and `room` (room of the caller's) with `scalars` (decimals, object ids,
 //! moments).
 #![tactic(auto)]
 
 mod convert;
 mod decode;
 mod documents;
+mod dump;
 mod encode;
 mod explain;
 mod flags;

@@ -2,7 +2,7 @@
 ghost use Rattle.std.specs.Prelude.{◌≡◌, ◌⊎◌, ◌↔◌, ◌<◌, ◌++◌, List, ℕ, IfSome};
 ghost use Rattle.bson_run.specs.Convert.{newline};
 ghost use Rattle.vbson.specs.Convert.{options_of, order_of};
-ghost use Rattle.vbson.specs.Lines.{AreConverted, GivesLines, task_of};
+ghost use Rattle.vbson.specs.Lines.{AreConverted, AreEncoded, AreGiven, GivesLines, encoding_of, task_of};
 
 use crate::convert::mode_of;
 use crate::flags::{KeyOrder, has_others, options_of, order_of};
@@ -50,15 +50,39 @@ pub extern "C" fn vbson_convert_lines(
         return status::NO_MODE;
     };
     let task = task_of(order_of(flags), mode);
-    let Some(given) = converted(alloc, options_of(flags), task, block) else {
+    let Some(lines) = lines_of(alloc, options_of(flags), task, block) else {
         return status::OUT_OF_MEMORY;
     };
-    *out = Lines {
-        text: text_of_line(given.text),
-        told: text_of_line(given.told),
-        lines: given.lines,
-        refused: given.refused,
+    *out = lines;
+    status::DONE
+}
+
+/// Reads each line of the block as one text of Extended JSON, and leaves the bytes of the document
+/// that each means, one behind the other, in their order, and a line on each that is refused, with
+/// its number and place. The block of the bytes, which has a NUL behind them, and that of the text
+/// are the caller's, who frees them by `free`.
+#[unsafe(no_mangle)]
+pub extern "C" fn vbson_encode_lines(
+    alloc: Global,
+    flags: u32,
+    block: &[u8],
+    out: &mut Lines<'static>,
+) -> u32
+    ensures done { result ≡ 0 → AreEncoded (order_of flags) (options_of flags) block.now out.new }
+
+    // When each other status comes, and that nothing is left then.
+    ensures no_mode { result ≡ 1 ↔ 3 < flags }
+    ensures listed { (result ≡ 0) ⊎ (result ≡ 1) ⊎ (result ≡ 5) }
+    ensures kept { 0 < result → out.new ≡ out.old }
+{
+    if has_others(flags) {
+        return status::NO_MODE;
+    }
+    let task = encoding_of(order_of(flags));
+    let Some(encoded) = lines_of(alloc, options_of(flags), task, block) else {
+        return status::OUT_OF_MEMORY;
     };
+    *out = encoded;
     status::DONE
 }
 
@@ -72,6 +96,29 @@ fn task_of(order: KeyOrder, mode: Mode) -> Task
     }
 }
 
+// The same where each line becomes the bytes of its document.
+fn encoding_of(order: KeyOrder) -> Task
+    ensures { result ≡ encoding_of order }
+{
+    match order {
+        KeyOrder::Ascending => Task::Encode,
+        KeyOrder::AsGiven => Task::EncodeInOrder,
+    }
+}
+
+// What the lines of the block give; none for want of memory.
+fn lines_of(alloc: Global, options: Options, task: Task, block: &[u8]) -> Option<Lines<'static>>
+    ensures { IfSome result (λ lines. AreGiven options task block.now lines) }
+{
+    let given = gathered(alloc, options, task, block)?;
+    Some(Lines {
+        text: text_of_line(given.text),
+        told: text_of_line(given.told),
+        lines: given.lines,
+        refused: given.refused,
+    })
+}
+
 // What a block of lines gives, with a newline more behind each text.
 #[derive(Drop)]
 struct Given {
@@ -81,8 +128,8 @@ struct Given {
     refused: u64,
 }
 
-// What the lines of the block give; none for want of memory.
-fn converted(alloc: Global, options: Options, task: Task, block: &[u8]) -> Option<Given>
+// The same with a newline more behind each text.
+fn gathered(alloc: Global, options: Options, task: Task, block: &[u8]) -> Option<Given>
     ensures { IfSome result (λ given. (text : List ℕ) × (told : List ℕ)
         × GivesLines options task block.now text told given.lines given.refused
         × (given.text.items ≡ text ++ newline) × (given.told.items ≡ told ++ newline)) }

@@ -18,6 +18,15 @@ pub struct RawLines {
     pub refused: u64,
 }
 
+/// `vbson_documents`.
+#[repr(C)]
+pub struct RawDocuments {
+    pub text: RawText,
+    pub told: RawText,
+    pub documents: u64,
+    pub done: u64,
+}
+
 extern "C" {
     fn vbson_version() -> u32;
     fn vbson_convert(mode: u32, text: *const u8, len: usize, out: *mut RawText) -> u32;
@@ -30,6 +39,8 @@ extern "C" {
     fn vbson_explain_document(bytes: *const u8, len: usize, out: *mut RawText) -> u32;
     fn vbson_decode(mode: u32, flags: u32, bytes: *const u8, len: usize, out: *mut RawText) -> u32;
     fn vbson_encode(flags: u32, text: *const u8, len: usize, out: *mut RawText) -> u32;
+    fn vbson_encode_lines(flags: u32, block: *const u8, len: usize, out: *mut RawLines) -> u32;
+    fn vbson_decode_documents(mode: u32, flags: u32, block: *const u8, len: usize, out: *mut RawDocuments) -> u32;
     fn vbson_decimal128_parse(text: *const u8, len: usize, out: *mut [u8; 16]) -> u32;
     fn vbson_decimal128_print(bytes: *const [u8; 16], room: *mut u8, size: usize, len: *mut usize) -> u32;
     fn vbson_object_id_parse(text: *const u8, len: usize, out: *mut [u8; 12]) -> u32;
@@ -140,6 +151,24 @@ pub fn convert_lines(mode: u32, flags: u32, block: &[u8]) -> Result<RawLines, Er
     let mut out = RawLines { text: none(), told: none(), lines: 0, refused: 0 };
     // SAFETY: the slice is readable, and `out` is valid and overlaps nothing.
     wants_done(unsafe { vbson_convert_lines(mode, flags, block.as_ptr(), block.len(), &mut out) })?;
+    Ok(out)
+}
+
+/// The bytes and the text in blocks of their own, as above.
+pub fn encode_lines(flags: u32, block: &[u8]) -> Result<RawLines, ErrorKind> {
+    wants_processor();
+    let mut out = RawLines { text: none(), told: none(), lines: 0, refused: 0 };
+    // SAFETY: as above.
+    wants_done(unsafe { vbson_encode_lines(flags, block.as_ptr(), block.len(), &mut out) })?;
+    Ok(out)
+}
+
+/// The texts in blocks of their own, as above.
+pub fn decode_documents(mode: u32, flags: u32, block: &[u8]) -> Result<RawDocuments, ErrorKind> {
+    wants_processor();
+    let mut out = RawDocuments { text: none(), told: none(), documents: 0, done: 0 };
+    // SAFETY: as above.
+    wants_done(unsafe { vbson_decode_documents(mode, flags, block.as_ptr(), block.len(), &mut out) })?;
     Ok(out)
 }
 

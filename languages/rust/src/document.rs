@@ -6,7 +6,7 @@ use std::fmt;
 use std::ops::Deref;
 
 /// Bytes of the library's own, freed when they are dropped.
-pub struct Bytes(Block);
+pub struct Bytes(pub(crate) Block);
 
 impl Deref for Bytes {
     type Target = [u8];

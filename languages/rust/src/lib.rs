@@ -6,6 +6,8 @@
 //! text that nests deep by objects which begin with the key `$scope` takes up to 5 MiB, which they have not: give the
 //! thread more, where such a text may come.
 //!
+//! With the feature `serde_json`, which is off by default, the module `json` has texts and documents as its values.
+//!
 //! ```
 //! use vbson::{convert, Mode};
 //! let text = convert(Mode::Relaxed, br#"{"at": {"$date": {"$numberLong": "0"}}}"#)?;
@@ -20,13 +22,15 @@ mod block;
 mod call;
 mod document;
 mod error;
+#[cfg(feature = "serde_json")]
+pub mod json;
 mod lines;
 mod scalar;
 mod text;
 
 pub use document::{decode, encode, explain_document, is_document, Bytes};
 pub use error::{Error, ErrorKind};
-pub use lines::{convert_lines, Lines};
+pub use lines::{convert_lines, decode_documents, encode_lines, Documents, EncodedLines, Lines, RefusedDocument};
 pub use scalar::{DateTime, Decimal128, ObjectId};
 pub use text::{convert, convert_with, explain, hash, same, Mode, Options, Text};
 

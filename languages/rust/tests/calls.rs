@@ -1,7 +1,7 @@
 //! Each call of the wrapper, and each error.
 use std::thread;
 use vbson::{convert, convert_lines, convert_with, decode, encode, explain, explain_document, hash, is_document, same, version};
-use vbson::{DateTime, Decimal128, Error, ErrorKind, Mode, ObjectId, Options, Text};
+use vbson::{decode_documents, encode_lines, DateTime, Decimal128, Error, ErrorKind, Mode, ObjectId, Options, Text};
 
 #[test]
 fn texts_are_converted() {
@@ -105,6 +105,36 @@ fn lines_are_converted_in_one_call() {
     assert_eq!(lines.refused, [(3, wanted[0].clone()), (4, wanted[1].clone())]);
     let lines = convert_lines(Mode::Relaxed, Options { doubles: true, ..Options::default() }, b"[1.5]\n").unwrap();
     assert_eq!((&*lines.text, lines.refused.len()), ("[1.5]\n", 0));
+}
+
+#[test]
+fn lines_are_encoded_in_one_call() {
+    let (options, keeps) = (Options::default(), Options { doubles: true, keep_order: true });
+    let lines = encode_lines(options, b"{\"n\": 5}\n\n[1]\n{\"a\":[1.5]}\n{\"a\\u0000\":1}\n{}").unwrap();
+    assert_eq!(&*lines.bytes, &[12, 0, 0, 0, 0x10, b'n', 0, 5, 0, 0, 0, 0, 5, 0, 0, 0, 0]);
+    let wanted = [encode(options, b"[1]").unwrap_err(), encode(options, br#"{"a":[1.5]}"#).unwrap_err(), ErrorKind::ZeroInKey.into()];
+    let refused: Vec<_> = [3, 4, 5].into_iter().zip(wanted).collect();
+    assert_eq!((lines.count, lines.refused), (6, refused));
+    let text = br#"{"b":1.5,"a":2}"#;
+    assert_eq!(&*encode_lines(keeps, text).unwrap().bytes, &*encode(keeps, text).unwrap());
+}
+
+#[test]
+fn documents_are_decoded_in_one_call() {
+    let (options, keeps) = (Options::default(), Options { doubles: true, keep_order: true });
+    let double = encode(keeps, br#"{"b":1.5,"a":2}"#).unwrap();
+    let bad = [9, 0, 0, 0, 8, b'a', 0, 2, 0];
+    let block = [&double[..], &bad, b"\x05\0\0\0\0", b"\x06\0\0"].concat();
+    let found = decode_documents(Mode::Relaxed, keeps, &block).unwrap();
+    assert_eq!((&*found.text, found.count, found.done), ("{\"b\":1.5,\"a\":2}\n{}\n", 4, 40));
+    let refused: Vec<_> = found.refused.iter().map(|it| (it.number, it.start, it.error.to_string())).collect();
+    let boolean = explain_document(&bad).unwrap().to_string();
+    assert_eq!(refused, [(2, 26, boolean), (4, 40, "no document at byte 0 (ends too early)".to_owned())]);
+    let found = decode_documents(Mode::Canonical, options, &double).unwrap();
+    assert_eq!((&*found.text, found.count, found.done, found.refused.len()), ("", 1, 26, 1));
+    assert_eq!(found.refused[0].error, decode(Mode::Canonical, options, &double).unwrap_err());
+    let found = decode_documents(Mode::Show, options, b"").unwrap();
+    assert_eq!((&*found.text, found.count, found.done, found.refused.len()), ("", 0, 0, 0));
 }
 
 #[test]

@@ -1,0 +1,85 @@
+-- A block of documents, one behind the other.
+use Rattle.std.specs.Prelude.{◌≡◌, ◌⊎◌, ◌+◌, ℕ, List, ◌++◌, Some, length, true}
+use Rattle.bson.specs.declared.extjson.options.Options.{Options}
+use Rattle.bson_codec.specs.Documents.{Dump, HasNoLine}
+use Rattle.bson_codec.specs.Told.{told_of}
+use Rattle.bson_codec.specs.declared.documents.Line.{Line}
+use Rattle.bson_codec.specs.declared.documents.Line.TheVariants.{Text, TextInOrder, Shown}
+use Rattle.bson_codec.specs.declared.documents.Run.{Run}
+use Rattle.bson_codec.specs.declared.told.RunEnd.{RunEnd}
+use Rattle.bson_codec.specs.declared.told.RunFault.{RunFault}
+use Rattle.bson_codec.specs.declared.told.RunFault.TheVariants.{Malformed, FiniteDouble, CannotRead, CannotWrite}
+use Rattle.bson_codec.specs.declared.told.RunFault.TheVariants.{OutOfMemory}
+use Rattle.bson_run.specs.declared.mode.Mode.{Mode}
+use Rattle.bson_run.specs.declared.mode.Mode.TheVariants.{Canonical, Relaxed, Show}
+use Rattle.bson.specs.Form.TheVariants as form
+use Rattle.vbson.specs.Convert.{mode_at}
+use Rattle.vbson.specs.Documents.{depth}
+use Rattle.vbson.specs.Text.{IsText}
+use Rattle.vbson.specs.declared.dump.Documents as given
+use Rattle.vbson.specs.declared.flags.KeyOrder.{KeyOrder}
+use Rattle.vbson.specs.declared.flags.KeyOrder.TheVariants.{Ascending, AsGiven}
+
+-- what is written of each document; what is shown has its own order in any case
+abbrev pub line_of : KeyOrder → Mode → Line
+line_of Ascending Canonical = Text form.Canonical
+line_of Ascending Relaxed = Text form.Relaxed
+line_of Ascending Show = Shown
+line_of AsGiven Canonical = TextInOrder form.Canonical
+line_of AsGiven Relaxed = TextInOrder form.Relaxed
+line_of AsGiven Show = Shown
+
+-- a document that is refused is told and passed over
+abbrev pub run_of : KeyOrder → Options → Mode → Run
+run_of k o mode = record { depth = depth; options = o; line = line_of k mode; keep_going = true }
+
+-- the block is so many documents, which give this output and these verdicts
+pub record AreAll (run : Run) (block output verdicts : List ℕ) (count done : ℕ) : Type 0 where
+  pub refused : ℕ
+  pub documents : Dump run block output verdicts count refused
+  pub whole : done ≡ length block
+
+-- the documents before the last give this output; of the last nothing can be written, for the fault of which the verdict
+-- behind theirs tells, and what stands behind the bytes that were taken of it is not looked at
+pub record AreCut (run : Run) (block output verdicts : List ℕ) (count done : ℕ) : Type 0 where
+  pub before : List ℕ
+  pub taken : List ℕ
+  pub rest : List ℕ
+  pub told : List ℕ
+  pub number : ℕ
+  pub refused : ℕ
+  pub fault : RunFault
+  pub cut : block ≡ before ++ taken ++ rest
+  pub documents : Dump run before output told number refused
+  pub counted : count ≡ number + 1
+  pub place : done ≡ length before
+  pub reason : HasNoLine fault run taken
+  pub said : verdicts ≡ told ++ told_of count done fault
+
+abbrev pub GivesDocuments : Run → (block output verdicts : List ℕ) → (count done : ℕ) → Type 0
+GivesDocuments run block output verdicts count done =
+    AreAll run block output verdicts count done ⊎ AreCut run block output verdicts count done
+
+-- what is left is the output and the verdicts of the documents in the mode of the number, and these counts
+pub record AreDecoded (k : KeyOrder) (o : Options) (number : ℕ) (block : List ℕ) (out : given.Documents) : Type 0 where
+  pub mode : Mode
+  pub named : mode_at number ≡ Some mode
+  pub text : List ℕ
+  pub told : List ℕ
+  pub gives : GivesDocuments (run_of k o mode) block text told out.documents out.done
+  pub is_text : IsText text out.text
+  pub is_told : IsText told out.told
+
+-- ---- for private clauses
+
+-- the fault is that of the bytes
+abbrev pub IsOfBytes : RunFault → Type 0
+IsOfBytes (Malformed k n) = Unit {0}
+IsOfBytes FiniteDouble = Unit {0}
+IsOfBytes CannotRead = ⊥
+IsOfBytes CannotWrite = ⊥
+IsOfBytes OutOfMemory = ⊥
+
+-- the verdicts, and that on the last document
+abbrev pub EndsAs : RunEnd → (told all : List ℕ) → Type 0
+EndsAs end told all = IsOfBytes end.fault × (all ≡ told ++ told_of end.number end.start end.fault)

@@ -1,0 +1,152 @@
+//! A block of documents, one behind the other, as dumps have them.
+ghost use Rattle.std.specs.Prelude.{◌≡◌, ◌⊎◌, ◌↔◌, ◌<◌, ◌++◌, List, ℕ, IfSome};
+ghost use Rattle.bson_codec.specs.Documents.{Dump};
+ghost use Rattle.bson_codec.specs.declared.documents.Run.{Run};
+ghost use Rattle.bson_run.specs.Convert.{newline};
+ghost use Rattle.vbson.specs.Convert.{options_of, order_of};
+ghost use Rattle.vbson.specs.Dumps.{AreDecoded, EndsAs, GivesDocuments, line_of, run_of};
+
+use crate::convert::mode_of;
+use crate::flags::{KeyOrder, has_others, options_of, order_of};
+use crate::status;
+use crate::text::{Text, as_line, text_of_line};
+use bson::extjson::{Form, Options};
+use bson_codec::de::DEPTH;
+use bson_codec::documents::{Line, Run, run_documents};
+use bson_codec::told::{RunEnd, RunFault};
+use bson_run::mode::Mode;
+use std::alloc::Global;
+
+/// What a block of documents gives: the text of each, what is told of those that are refused, how
+/// many there are, and how many bytes stand before the one at which the block ends early, or all.
+#[repr(C)]
+#[derive(Drop)]
+pub struct Documents<'a> {
+    pub text: Text<'a>,
+    pub told: Text<'a>,
+    pub documents: u64,
+    pub done: u64,
+}
+
+/// Reads the block as documents one behind the other, and leaves the text of each in a mode, a line
+/// each, in their order, and a line on each that is refused, with its number and place. One of which
+/// there are not as many bytes as it begins with is the last. The blocks of both texts are the
+/// caller's, who frees them by `free`.
+#[unsafe(no_mangle)]
+pub extern "C" fn vbson_decode_documents(
+    alloc: Global,
+    mode: u32,
+    flags: u32,
+    block: &[u8],
+    out: &mut Documents<'static>,
+) -> u32
+    ensures done { result ≡ 0 → AreDecoded (order_of flags) (options_of flags) mode block.now out.new }
+
+    // When each other status comes, and that nothing is left then.
+    ensures no_mode { result ≡ 1 ↔ (2 < mode) ⊎ (3 < flags) }
+    ensures listed { (result ≡ 0) ⊎ (result ≡ 1) ⊎ (result ≡ 5) }
+    ensures kept { 0 < result → out.new ≡ out.old }
+{
+    if has_others(flags) {
+        return status::NO_MODE;
+    }
+    let Some(mode) = mode_of(mode) else {
+        return status::NO_MODE;
+    };
+    let run = run_of(order_of(flags), options_of(flags), mode);
+    let Some(given) = decoded(alloc, run, block) else {
+        return status::OUT_OF_MEMORY;
+    };
+    *out = Documents {
+        text: text_of_line(given.text),
+        told: text_of_line(given.told),
+        documents: given.documents,
+        done: given.done,
+    };
+    status::DONE
+}
+
+// What is asked of each document.
+fn run_of(order: KeyOrder, options: Options, mode: Mode) -> Run
+    ensures { result ≡ run_of order options mode }
+{
+    Run {
+        depth: DEPTH,
+        options,
+        line: line_of(order, mode),
+        keep_going: true,
+    }
+}
+
+// What is written of each document.
+fn line_of(order: KeyOrder, mode: Mode) -> Line
+    ensures { result ≡ line_of order mode }
+{
+    let form = match mode {
+        Mode::Canonical => Form::Canonical,
+        Mode::Relaxed => Form::Relaxed,
+        Mode::Show => return Line::Shown,
+    };
+    match order {
+        KeyOrder::Ascending => Line::Text(form),
+        KeyOrder::AsGiven => Line::TextInOrder(form),
+    }
+}
+
+// What a block of documents gives, with a newline more behind each text.
+#[derive(Drop)]
+struct Given {
+    text: Vec<u8>,
+    told: Vec<u8>,
+    documents: u64,
+    done: u64,
+}
+
+// What the documents of the block give; none for want of memory.
+fn decoded(alloc: Global, run: Run, block: &[u8]) -> Option<Given>
+    ensures { IfSome result (λ given. (text : List ℕ) × (told : List ℕ)
+        × GivesDocuments run block.now text told given.documents given.done
+        × (given.text.items ≡ text ++ newline) × (given.told.items ≡ told ++ newline)) }
+{
+    let mut reader = block;
+    let (mut text, mut told) = (Vec::new(alloc), Vec::new(alloc));
+    match run_documents(alloc, run, &mut reader, &mut text, &mut told) {
+        Ok(counts) => with_newlines(text, told, counts.documents, block.len() as u64),
+        Err(end) => with_newlines(text, told_too(alloc, end, told)?, end.number, end.start),
+    }
+}
+
+// The texts, with a newline more behind each; none for want of memory.
+fn with_newlines(text: Vec<u8>, told: Vec<u8>, documents: u64, done: u64) -> Option<Given>
+    ensures { IfSome result (λ given. (given.text.items ≡ text.items ++ newline)
+        × (given.told.items ≡ told.items ++ newline) × (given.documents ≡ documents) × (given.done ≡ done)) }
+{
+    let (Ok(text), Ok(told)) = (as_line(text), as_line(told)) else {
+        return None;
+    };
+    Some(Given {
+        text,
+        told,
+        documents,
+        done,
+    })
+}
+
+// The verdicts, and that on the document at which the run ended; none where memory, a reader or a
+// writer was wanting.
+fn told_too(alloc: Global, end: RunEnd, mut told: Vec<u8>) -> Option<Vec<u8>>
+    ensures { IfSome result (λ all. EndsAs end told.items all.items) }
+{
+    match end.fault {
+        RunFault::Malformed { .. } | RunFault::FiniteDouble => {
+            let Ok(said) = end.told(alloc) else {
+                return None;
+            };
+            let Ok(()) = told.extend_from_slice(said.as_bytes()) else {
+                return None;
+            };
+            Some(told)
+        }
+        RunFault::CannotRead | RunFault::CannotWrite | RunFault::OutOfMemory => None,
+    }
+}

@@ -1,0 +1,95 @@
+//! Values of `serde_json`, by the feature of this name: what `loads` and `dumps` of the module for Python are.
+//!
+//! A `Value` holds Extended JSON as it is written: of the canonical form each type of BSON, `{"$numberLong":"5"}`, and of the
+//! relaxed one plain numbers. Objects keep the order of their keys, and so does what is made of them with
+//! `Options::keep_order`.
+use crate::text::Text;
+use crate::{convert_with, decode, encode, Bytes, Error, ErrorKind, Mode, Options};
+use serde_json::{Deserializer, Value};
+
+/// The form of a value.
+#[derive(Clone, Copy, Debug, PartialEq, Eq)]
+pub enum Form {
+    /// The canonical form of Extended JSON v2, which keeps every type.
+    Canonical,
+    /// The relaxed form, with plain numbers, and dates as texts.
+    Relaxed,
+}
+
+impl Form {
+    fn mode(self) -> Mode {
+        match self {
+            Form::Canonical => Mode::Canonical,
+            Form::Relaxed => Mode::Relaxed,
+        }
+    }
+}
+
+/// The value, in the form, of what a text of Extended JSON means. Errors are those of `convert_with`.
+///
+/// ```
+/// use vbson::{json, Options};
+/// let value = json::from_text(json::Form::Relaxed, Options::default(), br#"{"n": {"$numberInt": "5"}}"#)?;
+/// assert_eq!(value["n"], 5);
+/// # Ok::<(), vbson::Error>(())
+/// ```
+pub fn from_text(form: Form, options: Options, text: &[u8]) -> Result<Value, Error> {
+    convert_with(form.mode(), options, text).map(parsed)
+}
+
+/// The text, in the form, of what a value means as Extended JSON, of either form. Errors are those of `convert_with`.
+///
+/// Each number is written exactly: a whole one past `i64::MAX` is `NotExtendedJson` also with finite doubles, as the
+/// nearest double is another.
+///
+/// ```
+/// use vbson::{json, Options};
+/// let value = serde_json::json!({"n": 5});
+/// assert_eq!(&*json::to_text(json::Form::Canonical, Options::default(), &value)?, r#"{"n":{"$numberInt":"5"}}"#);
+/// # Ok::<(), vbson::Error>(())
+/// ```
+pub fn to_text(form: Form, options: Options, value: &Value) -> Result<Text, Error> {
+    convert_with(form.mode(), options, &written(value)?)
+}
+
+/// The value, in the form, of the document that the bytes are. Errors are those of `decode`.
+pub fn from_document(form: Form, options: Options, bytes: &[u8]) -> Result<Value, Error> {
+    decode(form.mode(), options, bytes).map(parsed)
+}
+
+/// The canonical bytes of the document that a value means. Errors are those of `encode`, and of `to_text`.
+pub fn to_document(options: Options, value: &Value) -> Result<Bytes, Error> {
+    encode(options, &written(value)?)
+}
+
+/// The tree of a text that the library has written. (It nests no deeper than the library lets it.)
+fn parsed(text: Text) -> Value {
+    let mut reader = Deserializer::from_str(&text);
+    reader.disable_recursion_limit();
+    let found = reader.into_iter().next().expect("the library writes a text");
+    found.expect("the library writes JSON")
+}
+
+fn written(value: &Value) -> Result<Vec<u8>, Error> {
+    match far_number(value) {
+        Some(way) => {
+            let way: Vec<_> = way.into_iter().rev().collect();
+            let place = if way.is_empty() { String::new() } else { format!(" at {}", way.join(".")) };
+            let words = format!("not Extended JSON{place} (a number is no whole number of 64 bits)");
+            Err(Error::explained(ErrorKind::NotExtendedJson, &words))
+        }
+        None => Ok(serde_json::to_vec(value).expect("a value has a text")),
+    }
+}
+
+/// The way, its end first, to a whole number past those of 64 bits.
+fn far_number(value: &Value) -> Option<Vec<String>> {
+    let (mut way, key) = match value {
+        Value::Number(number) if number.is_u64() && !number.is_i64() => return Some(Vec::new()),
+        Value::Array(items) => items.iter().enumerate().find_map(|(at, it)| Some((far_number(it)?, at.to_string()))),
+        Value::Object(items) => items.iter().find_map(|(key, it)| Some((far_number(it)?, key.clone()))),
+        _ => None,
+    }?;
+    way.push(key);
+    Some(way)
+}
