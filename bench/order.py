@@ -2,10 +2,13 @@
 """Compares the program with --keep-order to itself without it, on the same texts.
 
     bench/order.py
+    bench/order.py --time [MEGABYTES ..]        (10 and 50 where none is given)
 
 For each kind of input of bench/run.py, and for a file of a document a line, it prints the instructions with --keep-order
 over those without it, on 1 MB, as valgrind's callgrind counts them (so that what else the machine does says nothing), and
-the peak of memory of both over the size of the text, on 10 MB. bson_lines has to be built (./bson lines does).
+the peak of memory of both over the size of the text, on 10 MB. With --time it prints the processor seconds of both, the
+least of five runs in turns (of three from 50 MB on), beside those of libbson on the same document, as bench/libbson.py
+does. bson_lines has to be built (./bson lines does).
 """
 import os
 import random
@@ -15,7 +18,8 @@ import sys
 import tempfile
 
 sys.dont_write_bytecode = True
-from run import KINDS, TOP, generate, small_document
+import libbson
+from run import KINDS, TOP, code_with_scope, generate, small_document
 
 PROGRAM = f"{TOP}/crates/bson_lines/out/bson_lines"
 COUNTED = ["valgrind", "--tool=callgrind", "--callgrind-out-file=/dev/null"]
@@ -42,7 +46,28 @@ def peak(words, path):
     return usage.ru_maxrss * 1024
 
 
+def times(sizes):
+    ways = [[PROGRAM, "canonical", "--whole"], [PROGRAM, "canonical", "--whole", "--keep-order"]]
+    print("| Input | MB | By default, s | In order, s | libbson, s | In order over the default | over libbson |")
+    print("|---|---|---|---|---|---|---|")
+    with tempfile.TemporaryDirectory() as room:
+        theirs = libbson.libbson(room)
+        for name, make, opening, closing in KINDS[:-1]:
+            make = libbson.deep_value if name == "deep and mixed" else make
+            opening, closing = ('{"a":[', "]}") if opening == "[" else (opening, closing)
+            for size in sizes:
+                path, rounds = f"{room}/input.json", 5 if size < 50 else 3
+                generate(path, make, opening, closing, size * 1_000_000)
+                others = [] if make is code_with_scope else [[theirs]]
+                by_default, in_order, *other = [own for own, _ in libbson.best_of(rounds, [*ways, *others], path)]
+                cells = [f"{by_default:.3f}", f"{in_order:.3f}", f"{other[0]:.3f}" if other else ""]
+                cells += [f"{in_order / by_default:.2f}", f"{in_order / other[0]:.2f}" if other else ""]
+                print(f"| {name} | {size} | {' | '.join(cells)} |", flush=True)
+
+
 def main():
+    if sys.argv[1:2] == ["--time"]:
+        return times([int(word) for word in sys.argv[2:]] or [10, 50])
     inputs = [(kind[0], ["--whole"], lambda path, size, kind=kind: generate(path, *kind[1:], size)) for kind in KINDS[:-1]]
     inputs.append(("small documents, one a line", [], lines))
     print("| Input | Instructions | Peak over size, by default | in order |\n|---|---|---|---|")
