@@ -23,6 +23,7 @@ pub(super) struct Output {
 }
 
 // Adds the text of a value that was read.
+#[inline(never)]
 pub(super) fn put_value(
     alloc: Global,
     doubles: Doubles,
@@ -39,6 +40,7 @@ pub(super) fn put_value(
 }
 
 // Adds a key and its colon.
+#[inline(never)]
 pub(super) fn put_key(alloc: Global, key: &str, out: &mut Output) -> Result<(), AllocError>
     ensures ok { OnOk result (out.new.text.items ≡ out.old.text.items ++ (quoted key.now ++ 58 ∷ [])) }
     ensures utf8 { OnOk result (IsUtf8 (quoted key.now ++ 58 ∷ [])) }
