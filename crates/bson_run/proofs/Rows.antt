@@ -1,10 +1,12 @@
 -- Rows of tables that no law rests on: the names, the words and the bytes that a run over lines goes by. A definition
 -- that is changed together with its code is refused here.
 use Rattle.std.proofs.Common.{◌≡◌, zero, suc, [], ◌∷◌, inl, inr, refl, arith}
+use Rattle.std.specs.Char.{encode_utf8}
 use Rattle.std.specs.Prelude.{codes}
 use Rattle.bson_place.specs.declared.place.Reason.{Reason}
 use Rattle.bson_place.specs.declared.place.Reason.TheVariants as reason
 use Rattle.bson_run.specs.Lines.{lines, text_of, IsBlank}
+use Rattle.bson_run.specs.Place.{shown}
 use Rattle.bson_run.specs.Words.{name_of, task_name, words_for, words_of, line_of}
 use Rattle.bson_run.specs.declared.mode.Mode.TheVariants as mode
 use Rattle.bson_run.specs.declared.no_bytes.NoBytes.TheVariants as without
@@ -49,6 +51,27 @@ cannot_write_told = refl
 
 line_told : line_of fault.NotJson ≡ codes "bson_cli: not JSON"
 line_told = refl
+
+-- ---- characters as they are told
+
+escape_told : shown 0x1B ≡ codes "\\u001b"
+escape_told = refl
+
+newline_told : shown 10 ≡ codes "\\u000a"
+newline_told = refl
+
+last_control_told : shown 0x9F ≡ codes "\\u009f"
+last_control_told = refl
+
+line_separator_told : shown 0x2028 ≡ codes "\\u2028"
+line_separator_told = refl
+
+paragraph_separator_told : shown 0x2029 ≡ codes "\\u2029"
+paragraph_separator_told = refl
+
+backslash_told : shown 92 ≡ 92 ∷ []
+unfolding encode_utf8
+backslash_told = refl
 
 -- ---- lines
 
