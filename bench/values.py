@@ -151,7 +151,7 @@ def ways_table(size):
     columns, names = [], []
     for name, make in KINDS:
         texts = pieces(make, size)
-        for words, given, block in (("one list", [f"[{','.join(texts)}]"], ""), ("one by one", texts, "\n".join(texts) if texts[0][:2] != '{"$' else "")):
+        for words, given, block in (("one list", [f"[{','.join(texts)}]"], ""), ("one by one", texts, "\n".join(texts) if texts[0][:3] != '{"$' else "")):
             tried = ways(given, block)
             times = dict(zip(tried, least_of_five([*tried.values()])))
             names.append(f"{name}, {words}")
