@@ -23,8 +23,9 @@ use Rattle.bson_wrapper.specs.Table.{has_wrapper}
 use Rattle.bson_wrapper.specs.declared.form.Doubles.{Doubles}
 use Rattle.bson_model.specs.Reading.{reads_members_in, scalar_value}
 use Rattle.bson_model.specs.Value.{Value, scalar, Pairs, no_pairs, pair, document}
-use Rattle.bson.specs.Straight.{given, marked, marked_by, nothing, unless_nothing, any_key, is_wrapper, is_other}
-use Rattle.bson.specs.Straight.{is_code, is_scope, is_stray, IsFound}
+use Rattle.bson.specs.Straight.{given, marked, marked_by, nothing, unless_nothing, is_other}
+use Rattle.bson_tokens.specs.Keys.{any_key, is_wrapper, is_code, is_scope}
+use Rattle.bson.specs.Straight.{is_stray, IsFound}
 use Rattle.bson.specs.View.{bson_view}
 use Rattle.bson.specs.declared.bson.Bson.{Bson, the_lemmas}
 use Rattle.bson.specs.declared.bson.Bson.TheVariants as bson

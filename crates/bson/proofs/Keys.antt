@@ -1,11 +1,9 @@
 -- Keys of a map, whether there is one of a kind.
 use Rattle.std.proofs.Common.{◌≡◌, ℕ, List, Bool, true, false, not, ◌&&◌, ◌||◌, codes, None, Ok, subst}
-use Rattle.std.proofs.Common.{Ordering, Less, Equal, Greater, nat_cmp, if◌then◌else◌, inl, inr, ◌⊎◌, refl, sym, ap, ◌∙◌}
-use Rattle.std.proofs.lemmas.Bool.{both_ways, not-true, or_left, or_right, or_cases, and_from, and_parts}
+use Rattle.std.proofs.Common.{if◌then◌else◌, inl, inr, ◌⊎◌, refl, sym, ap, ◌∙◌}
+use Rattle.std.proofs.lemmas.Bool.{both_ways, not-true, or_cases, and_from, and_parts}
 use Rattle.std.proofs.lemmas.Bool.{and_left, and_right}
 use Rattle.std.proofs.lemmas.Slice.Eq.{bytes_eq-Decides}
-use Rattle.std.specs.Cmp.Lexicographic.{slice_cmp}
-use Rattle.std.specs.Ordering.{match_ordering}
 use Rattle.std.specs.Str.{bytes_eq}
 use Rattle.serde_json.specs.Data.{Data, null, Members, no_members, member, object, put}
 use Rattle.bson_wrapper.specs.Faults.{◌>>=◌}
@@ -13,59 +11,11 @@ use Rattle.bson_wrapper.specs.Table.{has_wrapper}
 use Rattle.bson_wrapper.specs.declared.form.Doubles.{Doubles}
 use Rattle.bson_model.specs.Reading.{reads_in, reads_members_in, reads_wrapper_in}
 use Rattle.bson_model.specs.Value.{document}
-use Rattle.bson_model.proofs.Offered.{equal_keys}
-use Rattle.bson.specs.Straight.{given, any_key, is_wrapper, is_code, is_scope, is_stray, is_other, IsOdd}
-
-pub wrapper_key : (ms : Members) → has_wrapper ms ≡ any_key is_wrapper ms
-wrapper_key no_members = refl
-wrapper_key (member k d ms) = ap (λ b. is_wrapper k || b) (wrapper_key ms)
-
--- ---- one more member
-
-or_from : (a b c d : Bool) → (a ≡ true → c ≡ true) → (b ≡ true → d ≡ true) → (a || b) ≡ true → (c || d) ≡ true
-or_from true b c d f g h = or_left c d (f refl)
-or_from false b c d f g h = or_right c d (g h)
-
-module _ (f : List ℕ → Bool) (k : List ℕ) (d : Data) where
-  new_at : (o : Ordering) (l : List ℕ) (e : Data) (ms : Members) → slice_cmp nat_cmp k l ≡ o → f k ≡ true
-      → any_key f (put k d ms) ≡ true
-      → any_key f (match_ordering o (member k d (member l e ms)) (member l d ms) (member l e (put k d ms))) ≡ true
-  new_at Less l e ms at h more = or_left (f k) (any_key f (member l e ms)) h
-  new_at Equal l e ms at h more = or_left (f l) (any_key f ms) (ap f (sym (equal_keys k l at)) ∙ h)
-  new_at Greater l e ms at h more = or_right (f l) (any_key f (put k d ms)) more
-
-  pub any_new : (ms : Members) → f k ≡ true → any_key f (put k d ms) ≡ true
-  any_new no_members h = or_left (f k) false h
-  any_new (member l e ms) h = new_at (slice_cmp nat_cmp k l) l e ms refl h (any_new ms h)
-
-  kept_at : (o : Ordering) (l : List ℕ) (e : Data) (ms : Members)
-      → (any_key f ms ≡ true → any_key f (put k d ms) ≡ true) → any_key f (member l e ms) ≡ true
-      → any_key f (match_ordering o (member k d (member l e ms)) (member l d ms) (member l e (put k d ms))) ≡ true
-  kept_at Less l e ms more h = or_right (f k) (any_key f (member l e ms)) h
-  kept_at Equal l e ms more h = h
-  kept_at Greater l e ms more h = or_from (f l) (any_key f ms) (f l) (any_key f (put k d ms)) (λ e. e) more h
-
-  pub any_kept : (ms : Members) → any_key f ms ≡ true → any_key f (put k d ms) ≡ true
-  any_kept no_members h = cc
-  any_kept (member l e ms) h = kept_at (slice_cmp nat_cmp k l) l e ms (any_kept ms) h
-
-  other_at : (o : Ordering) (l : List ℕ) (e : Data) (ms : Members) → f k ≡ false
-      → any_key f (put k d ms) ≡ any_key f ms
-      → any_key f (match_ordering o (member k d (member l e ms)) (member l d ms) (member l e (put k d ms)))
-      ≡ any_key f (member l e ms)
-  other_at Less l e ms h is = ap (λ b. b || any_key f (member l e ms)) h
-  other_at Equal l e ms h is = refl
-  other_at Greater l e ms h is = ap (λ b. f l || b) is
-
-  pub any_other : (ms : Members) → f k ≡ false → any_key f (put k d ms) ≡ any_key f ms
-  any_other no_members h = ap (λ b. b || false) h
-  any_other (member l e ms) h = other_at (slice_cmp nat_cmp k l) l e ms h (any_other ms h)
+use Rattle.bson_tokens.proofs.Offered.{any_kept, any_new, any_other, one_true, or_from, wrapper_key}
+use Rattle.bson.specs.Straight.{given, is_stray, is_other, IsOdd}
+use Rattle.bson_tokens.specs.Keys.{any_key, is_wrapper, is_code, is_scope}
 
 -- ---- keys of two kinds
-
-one_true : (a : Bool) → (a || false) ≡ true → a ≡ true
-one_true true h = refl
-one_true false h = h
 
 all_more : (f g : List ℕ → Bool) → ((k : List ℕ) → f k ≡ true → g k ≡ true) → (ms : Members)
     → any_key f ms ≡ true → any_key g ms ≡ true

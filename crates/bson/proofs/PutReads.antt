@@ -13,8 +13,8 @@ use Rattle.bson_model.specs.Reading.{reads_in, reads_members_in}
 use Rattle.bson_model.specs.Sorted.{put_pair, IsLeast, KeysAscend}
 use Rattle.bson_model.specs.Value.{Value, Pairs, no_pairs, pair, document}
 use Rattle.bson_model.proofs.Offered.{flipped}
-use Rattle.bson.specs.Straight.{is_wrapper}
-use Rattle.bson.proofs.Keys.{wrapper_key, any_other}
+use Rattle.bson_tokens.specs.Keys.{is_wrapper}
+use Rattle.bson_tokens.proofs.Offered.{any_other, wrapper_key}
 
 -- ---- what the map is read as
 

@@ -27,12 +27,14 @@ use Rattle.bson_tokens.specs.Held.{StandsFor, IsHeldAs}
 use Rattle.bson_tokens.specs.Parts.{NoObject}
 use Rattle.bson_tokens.proofs.Offered.{no_member}
 use Rattle.bson.specs.ByOrder.{insert_by, tree_by, default_tree, default_members, reads_by, reads_scope_by}
-use Rattle.bson.specs.Straight.{given, code_given, any_key, is_wrapper, is_other, is_code, is_scope, is_stray, IsOdd}
+use Rattle.bson.specs.Straight.{given, code_given, is_other, is_stray, IsOdd}
+use Rattle.bson_tokens.specs.Keys.{any_key, is_wrapper, is_code, is_scope}
 use Rattle.bson.specs.Straight.{AreTwo, IsCode}
 use Rattle.bson.specs.declared.extjson.key_order.KeyOrder.{KeyOrder}
 use Rattle.bson.specs.declared.extjson.key_order.KeyOrder.TheVariants.{Ascending, AsGiven}
 use Rattle.bson.proofs.ByOrder.{by_order, default_insert}
-use Rattle.bson.proofs.Keys.{any_new, any_kept, any_other, wrapper_key, stray_refused, IsStrange, strange_kept}
+use Rattle.bson_tokens.proofs.Offered.{any_kept, any_new, any_other, wrapper_key}
+use Rattle.bson.proofs.Keys.{stray_refused, IsStrange, strange_kept}
 use Rattle.bson.proofs.Keys.{strange_from, strange_refused}
 use Rattle.bson.proofs.Marks.{given_none}
 

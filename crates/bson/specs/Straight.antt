@@ -1,7 +1,6 @@
 -- What the tokens of a text mean, where they are read with no tree of the whole. For private clauses.
 use Rattle.std.specs.Prelude.{◌≡◌, ◌==◌, ◌||◌, ◌&&◌, ◌⊎◌, if◌then◌else◌, ℕ, List, [], length, codes, Bool, true, false, not}
-use Rattle.std.specs.Prelude.{Option, Some, None, is_some, Result, Ok, Err}
-use Rattle.std.specs.Str.{bytes_eq}
+use Rattle.std.specs.Prelude.{Option, Some, None, Result, Ok, Err}
 use Rattle.json.specs.Token.{Token}
 use Rattle.json.specs.Json.{Json, members, value}
 use Rattle.json.specs.Lex.{tokens}
@@ -10,11 +9,12 @@ use Rattle.serde_json.specs.Find.{as_str}
 use Rattle.serde_json.specs.Read.{of_json, converted, read}
 use Rattle.bson_wrapper.specs.Faults.{Fault}
 use Rattle.bson_wrapper.specs.Scalar.{double}
-use Rattle.bson_wrapper.specs.Table.{wrapper_of, has_wrapper}
+use Rattle.bson_wrapper.specs.Table.{has_wrapper}
 use Rattle.bson_wrapper.specs.declared.form.Doubles.{Doubles}
 use Rattle.bson_model.specs.Reading.{reads_in, reads_items_in, code_value}
 use Rattle.bson_model.specs.Value.{Value, scalar, Values, Pairs, no_pairs, pair}
 use Rattle.bson_order.specs.Kept.{kept}
+use Rattle.bson_tokens.specs.Keys.{any_key, is_wrapper, is_code, is_scope}
 use Rattle.bson.specs.ByOrder.{read_by, members_by, insert_pair_by, reads_by, reads_scope_by, MembersAreBy, ObjectIsBy}
 use Rattle.bson.specs.ByOrder.{default_tree, default_members}
 use Rattle.bson.specs.declared.extjson.key_order.KeyOrder.{KeyOrder}
@@ -99,19 +99,6 @@ ObjectReads o D depth k ts v rest =
     (ms : Members) × ObjectIsBy o depth k ts ms rest × (given (reads_by o D (object ms)) ≡ v)
 
 -- a key that is no wrapper's, and one that stands beside no code: with a wrapper's key they mean nothing
-abbrev pub any_key : (List ℕ → Bool) → Members → Bool
-any_key f no_members = false
-any_key f (member k d ms) = f k || any_key f ms
-
-abbrev pub is_wrapper : List ℕ → Bool
-is_wrapper k = is_some (wrapper_of k)
-
-abbrev pub is_code : List ℕ → Bool
-is_code k = bytes_eq k (codes "$code")
-
-abbrev pub is_scope : List ℕ → Bool
-is_scope k = bytes_eq k (codes "$scope")
-
 abbrev pub is_stray : List ℕ → Bool
 is_stray k = not (is_code k) && not (is_scope k)
 

@@ -2,7 +2,6 @@ pub mod Seen
 pub mod Loop
 pub mod Distinct
 pub mod Ends
-pub mod Weights
 pub mod Elements
 pub mod Typed
 pub mod Streams

@@ -1,4 +1,5 @@
 pub mod Becoming
+pub mod Differ
 pub mod Digests
 pub mod Keys
 pub mod Members

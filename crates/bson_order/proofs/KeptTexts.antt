@@ -65,16 +65,16 @@ mutual
 
 -- ---- the members go in one after another
 
-abbrev joined : Members → Members → Members
+abbrev pub joined : Members → Members → Members
 joined no_members ms = ms
 joined (member l e found) ms = member l e (joined found ms)
 
-joined_again : (found : Members) (k : List ℕ) (d : Data) (ms : Members)
+pub joined_again : (found : Members) (k : List ℕ) (d : Data) (ms : Members)
     → joined (joined found (member k d no_members)) ms ≡ joined found (member k d ms)
 joined_again no_members k d ms = refl
 joined_again (member l e found) k d ms = ap (member l e) (joined_again found k d ms)
 
-joined_none : (found : Members) → joined found no_members ≡ found
+pub joined_none : (found : Members) → joined found no_members ≡ found
 joined_none no_members = refl
 joined_none (member l e found) = ap (member l e) (joined_none found)
 
@@ -85,7 +85,7 @@ apart_from l (member a e found) k d ms h =
     apart_from l found k d ms (or_parts (bytes_eq l a) (has_key l (joined found (member k d ms))) h).1
 
 -- a new key goes last
-put_last : (found : Members) (k : List ℕ) (d : Data) (ms : Members) → KeysDiffer (joined found (member k d ms))
+pub put_last : (found : Members) (k : List ℕ) (d : Data) (ms : Members) → KeysDiffer (joined found (member k d ms))
     → put_kept k d found ≡ joined found (member k d no_members)
 put_last no_members k d ms h = refl
 put_last (member l e found) k d ms h =

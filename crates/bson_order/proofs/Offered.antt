@@ -10,7 +10,8 @@ pub use Rattle.bson_order.proofs.ReadForm.{form, in_range, distinct}
 pub use Rattle.bson_order.proofs.SortedKeys.{same_wrapper}
 pub use Rattle.bson_order.proofs.TextMeaning.{text_means, meant_by_text}
 -- ---- for writers: `writes_in_order` gives just what `WrittenInOrder` says, part by part
-pub use Rattle.bson_order.proofs.KeptTexts.{own_text}
+pub use Rattle.bson_order.proofs.KeptTexts.{own_text, joined, joined_again, joined_none, put_last}
+pub use Rattle.bson_order.proofs.Options.{turned}
 pub use Rattle.bson_order.proofs.OrderedTexts.{ordered_text, comes_back, has_no_float}
 pub use Rattle.bson_order.proofs.WriteLaws.{written_from, written_to, one_written, writable_is, default_written}
 pub use Rattle.bson_order.proofs.WriteLaws.{items_from as items_written_from, items_to as items_written_to}

@@ -1,4 +1,3 @@
-pub mod Weights
 pub mod Seen
 pub mod SameLaws
 pub mod Steps

@@ -10,7 +10,7 @@ use Rattle.bson.specs.declared.bson.Bson.{Bson}
 use Rattle.bson.specs.declared.document.Document.{Document}
 use Rattle.bson_same.specs.Same.{same_in_order, items_in_order, pairs_in_order}
 use Rattle.bson_same.proofs.Seen.{document_view-pairs}
-use Rattle.bson_same.proofs.Weights.{weight, weight_pairs}
+use Rattle.bson.proofs.Offered.{weight, weight_pairs}
 
 abbrev pub Entries : Type 0
 Entries = List (List ℕ × Bson)

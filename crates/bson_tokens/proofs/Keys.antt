@@ -7,25 +7,12 @@ use Rattle.std.proofs.lemmas.Slice.Eq.{bytes_eq-Decides}
 use Rattle.std.specs.Cmp.Lexicographic.{slice_cmp}
 use Rattle.std.specs.Ordering.{match_ordering}
 use Rattle.std.specs.Prelude.{is_some}
-use Rattle.std.specs.Str.{bytes_eq}
 use Rattle.serde_json.specs.Data.{Data, Members, no_members, member, object, put}
 use Rattle.bson_wrapper.specs.Table.{wrapper_of, has_wrapper}
 use Rattle.bson_wrapper.specs.declared.form.Doubles.{Doubles}
 use Rattle.bson_model.proofs.Offered.{equal_keys}
 use Rattle.bson_tokens.specs.Found.{found, found_wrapper, found_members, here}
-
-abbrev pub any_key : (List ℕ → Bool) → Members → Bool
-any_key f no_members = false
-any_key f (member k d ms) = f k || any_key f ms
-
-abbrev pub is_wrapper : List ℕ → Bool
-is_wrapper k = is_some (wrapper_of k)
-
-abbrev pub is_code : List ℕ → Bool
-is_code k = bytes_eq k (codes "$code")
-
-abbrev pub is_scope : List ℕ → Bool
-is_scope k = bytes_eq k (codes "$scope")
+use Rattle.bson_tokens.specs.Keys.{any_key, is_wrapper, is_code, is_scope}
 
 -- a key that stands beside no wrapper's
 abbrev pub is_ordinary : List ℕ → Bool
@@ -37,7 +24,7 @@ wrapper_key (member k d ms) = ap (λ b. is_wrapper k || b) (wrapper_key ms)
 
 -- ---- one more member
 
-or_from : (a b c d : Bool) → (a ≡ true → c ≡ true) → (b ≡ true → d ≡ true) → (a || b) ≡ true → (c || d) ≡ true
+pub or_from : (a b c d : Bool) → (a ≡ true → c ≡ true) → (b ≡ true → d ≡ true) → (a || b) ≡ true → (c || d) ≡ true
 or_from true b c d f g h = or_left c d (f refl)
 or_from false b c d f g h = or_right c d (g h)
 
@@ -78,7 +65,7 @@ module _ (f : List ℕ → Bool) (k : List ℕ) (d : Data) where
 
 -- ---- a wrapper's key beside an ordinary one
 
-one_true : (a : Bool) → (a || false) ≡ true → a ≡ true
+pub one_true : (a : Bool) → (a || false) ≡ true → a ≡ true
 one_true true h = refl
 one_true false h = h
 

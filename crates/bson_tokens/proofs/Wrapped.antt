@@ -22,7 +22,8 @@ use Rattle.bson_tokens.specs.Held.{StandsFor}
 use Rattle.bson_tokens.specs.Parts.{NoMembers, NoObject, ObjectIs}
 use Rattle.bson_tokens.specs.Told.{Tells}
 use Rattle.bson_tokens.proofs.Gathering.{Gathers, none_yet, one_gathered, all_gathered}
-use Rattle.bson_tokens.proofs.Keys.{any_key, any_new, any_kept, is_wrapper, is_code, is_scope, wrapper_key}
+use Rattle.bson_tokens.specs.Keys.{any_key, is_wrapper, is_code, is_scope}
+use Rattle.bson_tokens.proofs.Keys.{any_new, any_kept, wrapper_key}
 use Rattle.bson_tokens.proofs.Turns.{no_member}
 use Rattle.bson_tokens.proofs.Verdicts.{told}
 

@@ -1,5 +1,6 @@
 pub mod Found
 pub mod Held
+pub mod Keys
 pub mod Parts
 pub mod Told
 -- what public clauses cite of the crates below, so that a caller names this crate alone

@@ -13,7 +13,7 @@ use Rattle.bson_codec.proofs.Elements.{document_end, next_pair}
 use Rattle.bson_codec.proofs.Seen.{scoped_seen}
 use Rattle.bson_codec.proofs.Typed.{string_utf8, pairs_typed, document_typed, items_typed, on_ok, string_typed}
 use Rattle.bson_codec.proofs.Typed.{code_typed, symbol_typed, regex_typed, scope_typed}
-use Rattle.bson_codec.proofs.Weights.{weight, weight_items, weight_pairs, lighter_item}
+use Rattle.bson.proofs.Offered.{weight, weight_items, weight_pairs, lighter_item}
 use Rattle.bson_codec.proofs.write.+write.Goals as goal
 
 pub put_value-put_scoped-requires : goal.put_value-put_scoped-requires

@@ -3,7 +3,7 @@ use Rattle.bson_bytes.specs.Putting.{put_items, put_pairs}
 use Rattle.bson_bytes.specs.Writing.{TypedItems, TypedPairs}
 use Rattle.bson.specs.Iter.{pairs_left}
 use Rattle.bson.specs.View.{bson_view, scoped_view, document_view, values_view, pairs_view, contents}
-use Rattle.bson_codec.proofs.Weights.{weight, weight_items, weight_pairs}
+use Rattle.bson.proofs.Offered.{weight, weight_items, weight_pairs}
 use Rattle.bson_codec.proofs.write.+write.Given as goal
 
 abbrev pub decreases-put_value : goal.decreases-put_value

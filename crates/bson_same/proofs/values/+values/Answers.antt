@@ -5,7 +5,7 @@ use Rattle.bson.specs.View.{bson_view, values_view}
 use Rattle.bson.specs.declared.bson.Bson.{Bson}
 use Rattle.bson_same.proofs.Steps.{whole, one_longer, other_key, other_value, next_pair, lighter, ended, lengths_differ}
 use Rattle.bson_same.proofs.Steps.{equal, not_equal, none_left, next_item, other_item, items_ended}
-use Rattle.bson_same.proofs.Weights.{weight, weight_items, lighter_item}
+use Rattle.bson.proofs.Offered.{weight, weight_items, lighter_item}
 use Rattle.bson_same.proofs.values.+values.Goals as goal
 use Rattle.bson_same.proofs.values.+values.Goals.{lists_in_order-then-items-test+else-values_in_order}
 use Rattle.bson_same.proofs.values.+values.Goals.{lists_in_order-else-items-test}

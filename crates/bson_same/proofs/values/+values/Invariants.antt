@@ -2,7 +2,7 @@ use Rattle.std.proofs.Common.{◌≡◌, ◌+◌, ◌-◌, ◌≤◌, length, dr
 use Rattle.bson.specs.Iter.{pairs_left}
 use Rattle.bson.specs.View.{bson_view, document_view, scoped_view, values_view, pairs_view, contents}
 use Rattle.bson_same.specs.Same.{items_in_order, pairs_in_order}
-use Rattle.bson_same.proofs.Weights.{weight, weight_items, weight_pairs}
+use Rattle.bson.proofs.Offered.{weight, weight_items, weight_pairs}
 use Rattle.bson_same.proofs.values.+values.Given as goal
 
 abbrev pub decreases-values_in_order : goal.decreases-values_in_order

@@ -12,7 +12,8 @@ use Rattle.bson_model.specs.Value.{no_pairs}
 use Rattle.bson.specs.View.{bson_view, document_view}
 use Rattle.bson.specs.ByOrder.{default_members, insert_by, insert_pair_by, reads_by}
 use Rattle.bson.specs.Gathered.{gathered, order_of}
-use Rattle.bson.specs.Straight.{marked, unless_nothing, is_wrapper, is_scope}
+use Rattle.bson.specs.Straight.{marked, unless_nothing}
+use Rattle.bson_tokens.specs.Keys.{is_wrapper, is_scope}
 use Rattle.bson.specs.declared.bson.Bson.{the_lemmas}
 use Rattle.bson.specs.declared.bson.Bson.TheVariants as bson
 use Rattle.bson.specs.declared.document.Document.{Document}

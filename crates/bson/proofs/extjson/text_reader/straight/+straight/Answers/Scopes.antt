@@ -18,7 +18,8 @@ use Rattle.bson_order.specs.Reading.{reads_in_order, scope_in_order}
 use Rattle.bson.specs.ByOrder.{tree_by, insert_by}
 use Rattle.bson.specs.View.{bson_view, document_view}
 use Rattle.bson.specs.Gathered.{gathered}
-use Rattle.bson.specs.Straight.{IsCode, ReadsHeld, is_code, is_scope, unless_nothing}
+use Rattle.bson.specs.Straight.{IsCode, ReadsHeld, unless_nothing}
+use Rattle.bson_tokens.specs.Keys.{is_code, is_scope}
 use Rattle.bson_tokens.specs.Parts.{IsBroken}
 use Rattle.bson.specs.declared.extjson.key_order.KeyOrder.TheVariants.{AsGiven}
 use Rattle.bson_tokens.proofs.Offered.{object_opened, if_ok, if_err, no_key, no_member, too_deep_object}

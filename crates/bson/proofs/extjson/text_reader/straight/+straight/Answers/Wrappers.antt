@@ -15,7 +15,8 @@ use Rattle.bson_wrapper.proofs.Offered.{on_ok}
 use Rattle.bson_model.specs.Reading.{scalar_value}
 use Rattle.bson.specs.ByOrder.{insert_by}
 use Rattle.bson.specs.View.{bson_view, document_view}
-use Rattle.bson.specs.Straight.{IsCode, is_code, is_scope}
+use Rattle.bson.specs.Straight.{IsCode}
+use Rattle.bson_tokens.specs.Keys.{is_code, is_scope}
 use Rattle.bson_tokens.proofs.Offered.{if_ok, if_err, no_key, no_member}
 use Rattle.bson.proofs.ByOrder.{by_default, first_insert}
 use Rattle.bson.proofs.ByOrder.{none_passed, member_passed, first_passed, one_passed, first_follows, more_follows}
