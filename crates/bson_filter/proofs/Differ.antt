@@ -4,7 +4,7 @@ use Rattle.std.proofs.lemmas.Slice.Eq.{bytes_eq-Decides}
 use Rattle.std.specs.Str.{bytes_eq}
 use Rattle.json.specs.Strict.{AreDistinct}
 
-abbrev stands : List ℕ → List (List ℕ) → Bool
+abbrev pub stands : List ℕ → List (List ℕ) → Bool
 stands k [] = false
 stands k (l ∷ ks) = bytes_eq k l || stands k ks
 
