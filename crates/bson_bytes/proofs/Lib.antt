@@ -12,4 +12,5 @@ pub mod Forgets
 pub mod First
 pub mod Within
 pub mod Passed
+pub mod Texts
 pub mod Offered

@@ -5,8 +5,9 @@ pub use Rattle.bson_bytes.proofs.Turns.{Read, elements, then_pairs, bad_byte, no
 pub use Rattle.bson_bytes.proofs.Turns.{Goes, one_more, too_deep, bad_size, bad_list, unmapped, mapped_done}
 pub use Rattle.bson_bytes.proofs.Turns.{mapped_wrong}
 pub use Rattle.bson_bytes.proofs.Turns.{scope_done}
-pub use Rattle.bson_bytes.proofs.Putting.{Told, told_document, document_fits}
+pub use Rattle.bson_bytes.proofs.Putting.{told_ok, told_err, document_fits}
 pub use Rattle.bson_bytes.proofs.Within.{front_fault, fault_stands}
 pub use Rattle.bson_bytes.proofs.Standing.{new_from, new_again}
 pub use Rattle.bson_bytes.proofs.PartLaws.{wide32, length-le, size_again}
 pub use Rattle.bson_bytes.proofs.Passed.{passed_ok, passed_err}
+pub use Rattle.bson_bytes.proofs.Texts.{string_utf8}

@@ -242,6 +242,14 @@ pub told_document : (ps : Pairs) (out : List ℕ)
 told_document ps out =
     told_end out (put_pairs ps (put_room out)) (list_bytes ps) (FitsList ps) (λ c. ListFails c ps) (told_pairs ps (put_room out))
 
+pub told_ok : (ps : Pairs) (new : List ℕ) → put_document ps [] ≡ Ok new → FitsDocument ps × (new ≡ document_bytes ps)
+told_ok ps new h =
+    subst (λ (r : Put). Told [] r (document_bytes ps) (FitsDocument ps) (λ c. DocumentFails c ps)) h (told_document ps [])
+
+pub told_err : (ps : Pairs) (c : Cause) → put_document ps [] ≡ Err c → DocumentFails c ps
+told_err ps c h =
+    subst (λ (r : Put). Told [] r (document_bytes ps) (FitsDocument ps) (λ c. DocumentFails c ps)) h (told_document ps [])
+
 -- ---- what fits has no cause
 
 pub long_is : (c : Cause) (n : ℕ) → IsSize n → IsLong c n → ⊥

@@ -1,7 +1,6 @@
 -- Bytes put behind others, as a function that stops at the first cause: for the proofs. `Writing` has the bytes.
 use Rattle.std.specs.Prelude.{ℕ, ◌+◌, ◌-◌, ◌^◌, List, [], ◌∷◌, ◌++◌, length, take, drop, Result, Ok, Err, Bool, cond}
-use Rattle.std.specs.Prelude.{is_none}
-use Rattle.std.specs.Prelude.{nat_lt, ◌&&◌, decimal}
+use Rattle.std.specs.Prelude.{◌≡◌, is_none, nat_lt, ◌&&◌, decimal}
 use Rattle.std.specs.Int.{w32}
 use Rattle.bson_scalar.specs.declared.spec.ElementType.{ElementType}
 use Rattle.bson_scalar.specs.Subtype.{subtype_byte}
@@ -12,6 +11,8 @@ use Rattle.bson_bytes.specs.Grammar.{le, text_bytes}
 use Rattle.bson_bytes.specs.Reading.{split_zero}
 use Rattle.bson_bytes.specs.Writing.{Cause, zero_in_key, zero_in_regex, too_long, scalar_bytes, subtyped_bytes}
 use Rattle.bson_bytes.specs.Writing.{subtyped_size, regex_bytes, name_bytes, type_of}
+use Rattle.bson_bytes.specs.declared.error.Error.{Error}
+use Rattle.bson_bytes.specs.declared.error.Error.TheVariants as errors
 
 abbrev pub Put : Type 0
 Put = Result (List ℕ) Cause
@@ -88,3 +89,17 @@ unfoldable mutual
 
 abbrev pub put_document : Pairs → List ℕ → Put
 put_document ps out = then (put_pairs ps (put_room out)) (put_end (length out))
+
+-- ---- what a function that puts returns
+
+-- putting stops for the cause that the error says, unless memory ran out
+abbrev pub StopsFor : Error → Put → Type 0
+StopsFor errors.OutOfMemory put = Unit {0}
+StopsFor errors.Key put = put ≡ Err zero_in_key
+StopsFor errors.Regex put = put ≡ Err zero_in_regex
+StopsFor errors.Size put = put ≡ Err too_long
+
+-- these bytes are what is put, unless memory ran out
+abbrev pub Puts : {X : Type 0} → Result X Error → List ℕ → Put → Type 0
+Puts (Ok x) new put = put ≡ Ok new
+Puts (Err e) new put = StopsFor e put

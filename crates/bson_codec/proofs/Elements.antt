@@ -1,25 +1,23 @@
 -- Elements one after the other, as a loop writes them.
-use Rattle.std.proofs.Common.{◌≡◌, ℕ, ◌+◌, ◌<◌, ◌≤◌, ◌++◌, [], ◌∷◌, List, length, get_or, drop, Ok, Err, refl, sym}
+use Rattle.std.proofs.Common.{◌≡◌, ℕ, ◌+◌, ◌<◌, ◌≤◌, ◌++◌, [], ◌∷◌, List, length, get_or, drop, Ok, refl, sym}
 use Rattle.std.proofs.Common.{ap, subst, ◌∙◌}
 use Rattle.std.specs.Prelude.{decimal}
 use Rattle.std.proofs.lemmas.List.{drop_all, drop_more}
 use Rattle.bson_scalar.specs.declared.spec.ElementType.{ElementType}
 use Rattle.bson_model.specs.Value.{Value, Values, no_values, value, Pairs, no_pairs, pair, scalar, code_scope, array}
 use Rattle.bson_model.specs.Value.{document}
-use Rattle.bson_bytes.proofs.Offered.{Told, told_document, document_fits}
+use Rattle.bson_bytes.proofs.Offered.{told_err, document_fits}
 use Rattle.bson_bytes.specs.Putting.{Put, then, put_name, put_value, put_items, put_pairs, put_room, put_end}
-use Rattle.bson_bytes.specs.Putting.{put_document}
-use Rattle.bson_bytes.specs.Writing.{type_of, name_bytes, document_bytes, FitsDocument, DocumentFails, Cause}
-use Rattle.bson_bytes.specs.Writing.{zero_in_key}
-use Rattle.bson_bytes.specs.Writing.{zero_in_regex, too_long}
+use Rattle.bson_bytes.specs.Putting.{put_document, StopsFor}
+use Rattle.bson_bytes.specs.Writing.{type_of, name_bytes, FitsDocument, zero_in_key, zero_in_regex, too_long}
 use Rattle.bson_codec.proofs.Seen.{document_view-pairs}
 use Rattle.bson.specs.ElementType.{value_type}
 use Rattle.bson.specs.View.{bson_view, document_view, values_view, pairs_view, contents}
 use Rattle.bson.specs.declared.bson.Bson.{Bson}
 use Rattle.bson.specs.declared.document.Document.{Document}
-use Rattle.bson_codec.specs.Writing.{StopsFor, IsRefusal}
-use Rattle.bson_codec.specs.declared.ser.Error.{Error}
-use Rattle.bson_codec.specs.declared.ser.Error.TheVariants as errors
+use Rattle.bson_codec.specs.Writing.{IsRefusal}
+use Rattle.bson_bytes.specs.declared.error.Error.{Error}
+use Rattle.bson_bytes.specs.declared.error.Error.TheVariants as errors
 
 pub same_type : (v : Value) → value_type v ≡ type_of v
 same_type (scalar x) = refl
@@ -195,14 +193,6 @@ document_end d left old start out none room inv =
     ap (λ (r : Put). then r (put_end (length old))) (last_pair out (put_pairs (document_view d) (put_room old)) over)
 
 -- ---- what was written
-
-pub told_ok : (ps : Pairs) (new : List ℕ) → put_document ps [] ≡ Ok new → FitsDocument ps × (new ≡ document_bytes ps)
-told_ok ps new h =
-    subst (λ (r : Put). Told [] r (document_bytes ps) (FitsDocument ps) (λ c. DocumentFails c ps)) h (told_document ps [])
-
-told_err : (ps : Pairs) (c : Cause) → put_document ps [] ≡ Err c → DocumentFails c ps
-told_err ps c h =
-    subst (λ (r : Put). Told [] r (document_bytes ps) (FitsDocument ps) (λ c. DocumentFails c ps)) h (told_document ps [])
 
 pub refusal : (e : Error) (ps : Pairs) → StopsFor e (put_document ps []) → IsRefusal e ps
 refusal errors.OutOfMemory ps h = tt

@@ -7,8 +7,8 @@ use Rattle.bson_bytes.specs.declared.fault.Fault.{Fault}
 use Rattle.bson_codec.specs.Errors.{located, IsFaultOf, IsFaultAlone, StandsIn}
 use Rattle.bson_codec.specs.Reading.{Stops}
 use Rattle.bson_codec.specs.declared.de.Error.TheVariants as errors
-use Rattle.bson_codec.specs.declared.ser.Error.{Error as CauseError}
-use Rattle.bson_codec.specs.declared.ser.Error.TheVariants as causes
+use Rattle.bson_bytes.specs.declared.error.Error.{Error as CauseError}
+use Rattle.bson_bytes.specs.declared.error.Error.TheVariants as causes
 use Rattle.bson_codec.specs.declared.stopped.Stopped.{Stopped}
 use Rattle.bson_codec.specs.declared.stopped.Stopped.TheVariants as stopped
 

@@ -6,11 +6,11 @@ use Rattle.std.specs.Cmp.Lexicographic.{nat_list_eq_equiv}
 use Rattle.std.specs.List.{IsDistinct, AllByRecursion}
 use Rattle.std.specs.Str.{bytes_eq, is_utf8}
 use Rattle.std.proofs.lemmas.List.{append-nil}
-use Rattle.std.proofs.lemmas.Str.{is_utf8-from_IsUtf8, IsUtf8-string_bytes}
 use Rattle.bson.specs.Pairs.{keys, HasDistinctKeys}
 use Rattle.bson_scalar.specs.declared.regex.Regex.{Regex}
 use Rattle.bson.specs.Scalar.{text, code, symbol, regex}
 use Rattle.bson_model.specs.Value.{Pairs, pair, scalar, code_scope}
+use Rattle.bson_bytes.proofs.Offered.{string_utf8}
 use Rattle.bson_bytes.specs.Grammar.{insert_value, settle, one_each}
 use Rattle.bson_bytes.specs.Writing.{Typed, TypedItems, TypedPairs, TypedDocument}
 use Rattle.bson.specs.View.{bson_view, scoped_view, document_view, values_view, pairs_view, contents}
@@ -20,9 +20,6 @@ use Rattle.bson.specs.declared.bson.Bson.TheVariants as kinds
 use Rattle.bson.specs.declared.document.Document.{Document}
 use Rattle.bson_codec.proofs.Elements.{item_here}
 use Rattle.bson_codec.proofs.Seen.{document_view-pairs}
-
-pub string_utf8 : {Z : Type 0} (s : String Z) → is_utf8 (string_bytes s) ≡ true
-string_utf8 s = is_utf8-from_IsUtf8 (string_bytes s) (IsUtf8-string_bytes s)
 
 -- ---- no key stands twice
 

@@ -9,4 +9,5 @@ pub use Rattle.bson_bytes.specs.Grammar
 pub use Rattle.bson_bytes.specs.Laws
 pub use Rattle.bson_bytes.specs.Reading as Bytes
 pub use Rattle.bson_bytes.specs.Writing as Canonical
+pub use Rattle.bson_bytes.specs.declared.error.Error as Unwritten
 pub use Rattle.bson.specs.View

@@ -8,7 +8,7 @@ use Rattle.bson_bytes.specs.Reading.{reads, size_at}
 use Rattle.bson_bytes.specs.Writing.{document_bytes, FitsDocument}
 use Rattle.bson_codec.specs.Errors.{IsPlacedFault}
 use Rattle.bson_codec.specs.Writing.{IsRefusal}
-use Rattle.bson_codec.specs.declared.ser.Error.TheVariants as errors
+use Rattle.bson_bytes.specs.declared.error.Error.TheVariants as errors
 use Rattle.bson_codec.specs.declared.stream.ReaderError.{ReaderError}
 use Rattle.bson_codec.specs.declared.stream.ReaderError.TheVariants as read_errors
 use Rattle.bson_codec.specs.declared.stream.WriterError.{WriterError}

@@ -3,12 +3,12 @@ ghost use Rattle.std.specs.Prelude.{◌≡◌, ◌↔◌, ◌-◌, IfOk, IfErr, 
 ghost use Rattle.bson_model.specs.Value.{Pairs, no_pairs};
 ghost use Rattle.bson_bytes.specs.Laws.{IsRead, IsReadIn, IsFront, IsFrontIn, IsCanonical};
 ghost use Rattle.bson_bytes.specs.Reading.{document_at, document_in, reads, reads_in, settled, none_before};
+ghost use Rattle.bson_bytes.specs.declared.error.Error.TheVariants as causes;
 ghost use Rattle.bson_bytes.specs.declared.keys.DuplicateKeys.TheVariants.{Replace};
 ghost use Rattle.bson.specs.View.{document_view};
 ghost use Rattle.bson_codec.specs.Errors.{IsFaultOf, IsFaultAlone, StandsIn, located};
 ghost use Rattle.bson_codec.specs.Reading.{Reads};
 ghost use Rattle.bson_codec.specs.declared.de.Error.TheVariants as errors;
-ghost use Rattle.bson_codec.specs.declared.ser.Error.TheVariants as causes;
 
 use crate::read::document_at;
 use crate::ser;

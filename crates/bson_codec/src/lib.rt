@@ -4,7 +4,6 @@
 
 pub mod de;
 pub mod documents;
-mod parts;
 mod read;
 mod scalars;
 pub mod ser;

@@ -2,57 +2,17 @@
 ghost use Rattle.std.specs.Prelude.{◌≡◌, ℕ, suc, IfOk, OnOk, IfErr};
 ghost use Rattle.bson_bytes.specs.Laws.{IsRead};
 ghost use Rattle.bson_bytes.specs.Writing.{document_bytes, as_written, FitsDocument, TypedDocument, NestsPairs};
+ghost use Rattle.bson_bytes.specs.declared.error.Error.TheVariants as errors;
 ghost use Rattle.bson.specs.View.{document_view};
 ghost use Rattle.bson_codec.specs.Writing.{IsRefusal};
-ghost use Rattle.bson_codec.specs.declared.ser.Error.TheVariants as errors;
 
 use crate::write::put_document;
 use bson::Document;
-use std::alloc::{AllocError, AllocFailed, Global};
-
-/// Why a document has no bytes.
-///
-/// ```
-/// let mut document = Document::new(alloc);
-/// drop(document.insert(String::from_str(alloc, "a\0b")?, Bson::Null)?);
-/// if let Err(error) = to_vec(alloc, &document) {
-///     println!(rt; "{error}")?; // a key has a 0 byte in it
-/// }
-/// ```
-#[derive(Clone, Copy, Debug, Drop, PartialEq, Eq, thiserror::Error)]
-pub enum Error {
-    /// A key has a 0 byte in it, which would end it.
-    #[error("a key has a 0 byte in it")]
-    Key,
-    /// The pattern or the options of a regular expression have a 0 byte in them.
-    #[error("a regular expression has a 0 byte in it")]
-    Regex,
-    /// A text, a binary, a document, an array, or code with its scope has 2^31 bytes or more.
-    #[error("a part is too long for BSON")]
-    Size,
-    /// A request for memory was refused.
-    #[error("out of memory")]
-    OutOfMemory,
-}
+pub use bson_bytes::error::Error;
+use std::alloc::Global;
 
 /// Bytes, or why a document has none.
 pub type Result<T, E = Error> = std::result::Result<T, E>;
-
-impl From<AllocError> for Error {
-    ghost from_gives = { λ _ e. e ≡ errors.OutOfMemory };
-
-    fn from(_refused: AllocError) -> Error {
-        Error::OutOfMemory
-    }
-}
-
-impl<T: Drop> From<AllocFailed<T>> for Error {
-    ghost from_gives = { λ _ e. e ≡ errors.OutOfMemory };
-
-    fn from(_refused: AllocFailed<T>) -> Error {
-        Error::OutOfMemory
-    }
-}
 
 /// The bytes of the document (BSON 1.1): its pairs in their order, the elements of an array under
 /// the keys "0", "1", "2" and so on, and a binary under the byte of its subtype.

@@ -1,24 +1,23 @@
 //! Values behind the bytes that are written.
-ghost use Rattle.std.specs.Prelude.{◌≡◌, ◌≤◌, ◌+◌, length, vec_len, OnOk};
-ghost use Rattle.bson_bytes.specs.Putting.{put_value, put_items, put_document, put_end, put_length, put_room};
+ghost use Rattle.std.specs.Prelude.{◌≡◌, ◌≤◌, length, OnOk};
+ghost use Rattle.bson_bytes.specs.Putting.{put_value, put_document, put_room, Puts};
 ghost use Rattle.bson_bytes.specs.Writing.{type_of, Typed, TypedDocument};
 ghost use Rattle.bson.specs.View.{bson_view, scoped_view, document_view, values_view, contents};
 ghost use Rattle.bson.specs.Pairs.{HasDistinctKeys};
 ghost use Rattle.bson_model.specs.Value.{array};
-ghost use Rattle.bson_codec.specs.Writing.{Puts};
 
-use crate::parts::{
-    put_binary, put_key, put_length, put_name, put_pointer, put_regex, put_text, put_timestamp,
-    put_u32, put_u64,
-};
 use crate::ser::Result;
 use bson::{Bson, Document, JavaScriptCodeWithScope};
+use bson_bytes::put::{
+    put_binary, put_end, put_key, put_length, put_name, put_pointer, put_regex, put_room, put_text,
+    put_timestamp, put_u32, put_u64,
+};
 use bson_scalar::spec::ElementType;
 use itoa::Buffer;
 use std::alloc::AllocError;
 
 #[cycle(write)]
-#[tactic(auto, unfolding(bson_bytes::specs::Putting::put_value), using(crate::proofs::Typed::string_utf8))]
+#[tactic(auto, unfolding(bson_bytes::specs::Putting::put_value), using(bson_bytes::proofs::Offered::string_utf8))]
 fn put_value(out: &mut Vec<u8>, value: &Bson) -> Result<()>
     ensures put { Puts result out.new.items (put_value (bson_view value.now) out.old.items) }
     ensures typed { OnOk result (Typed (bson_view value.now)) }
@@ -50,14 +49,14 @@ fn put_value(out: &mut Vec<u8>, value: &Bson) -> Result<()>
 }
 
 #[cycle(write)]
-#[tactic(auto, unfolding(bson_bytes::specs::Putting::put_value), using(crate::proofs::Typed::string_utf8))]
+#[tactic(auto, unfolding(bson_bytes::specs::Putting::put_value), using(bson_bytes::proofs::Offered::string_utf8))]
 fn put_scoped(out: &mut Vec<u8>, scoped: &JavaScriptCodeWithScope) -> Result<()>
     ensures put { Puts result out.new.items (put_value (scoped_view scoped.now) out.old.items) }
     ensures typed { OnOk result (Typed (scoped_view scoped.now)) }
     ensures grows { OnOk result (length out.old.items ≤ length out.new.items) }
 {
     let start = out.len();
-    out.extend_from_slice(&[0, 0, 0, 0])?;
+    put_room(out)?;
     put_text(out, scoped.code.as_str())?;
     put_document(out, &scoped.scope)?;
     put_length(out, start)
@@ -86,7 +85,7 @@ fn put_array(out: &mut Vec<u8>, values: &Vec<Bson>) -> Result<()>
     ensures grows { OnOk result (length out.old.items ≤ length out.new.items) }
 {
     let start = out.len();
-    out.extend_from_slice(&[0, 0, 0, 0])?;
+    put_room(out)?;
     let mut buffer = Buffer::new();
     for (i, value) in values.iter().enumerate() {
         put_name(out, type_of(value), buffer.format(i))?;
@@ -104,17 +103,7 @@ fn make_room(out: &mut Vec<u8>, document: &Document) -> Result<(), AllocError>
     ensures distinct { HasDistinctKeys (contents document.now) }
 {
     out.reserve(document.len().saturating_mul(LEAST_ROOM))?;
-    out.extend_from_slice(&[0, 0, 0, 0])
-}
-
-// The 0 behind a list of elements, and the length of the document at its place.
-fn put_end(out: &mut Vec<u8>, start: usize) -> Result<()>
-    requires { start + 4 ≤ vec_len out.old }
-    ensures put { Puts result out.new.items (put_end start out.old.items) }
-    ensures grows { OnOk result (length out.old.items ≤ length out.new.items) }
-{
-    out.push(0)?;
-    put_length(out, start)
+    put_room(out)
 }
 
 fn type_of(value: &Bson) -> ElementType

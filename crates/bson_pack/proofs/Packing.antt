@@ -14,10 +14,10 @@ use Rattle.json.specs.Strict.{AreDistinct}
 use Rattle.json.specs.Token as token
 use Rattle.json.specs.Token.{Token}
 use Rattle.json.proofs.Grammar.{items_end, items_more, value_is, value-begin_array, value-begin_object}
-use Rattle.serde_json.specs.Data.{Data, Num, array, object, number, Items, no_items, item, Members, no_members, member}
+use Rattle.serde_json.specs.Data.{Data, array, object, number, Items, no_items, item, Members, no_members, member}
 use Rattle.serde_json.specs.Read.{of_json, converted, number_of}
 use Rattle.bson_scalar.specs.declared.spec.ElementType.TheVariants as tag
-use Rattle.bson_wrapper.specs.Reading.{number_read_in, single_at_in}
+use Rattle.bson_wrapper.specs.Reading.{single_at_in}
 use Rattle.bson_wrapper.specs.Scalar.{Scalar}
 use Rattle.bson_wrapper.specs.Table.{wrapper_of, has_wrapper}
 use Rattle.bson_wrapper.specs.declared.form.Doubles.{Doubles}
@@ -32,16 +32,16 @@ use Rattle.bson_bytes.specs.Putting.{is_free, put_value, put_items, put_pairs, p
 use Rattle.bson_bytes.specs.Putting.{put_document}
 use Rattle.bson_bytes.specs.Laws.{IsRead}
 use Rattle.bson_bytes.specs.Writing.{name_bytes, as_written, TypedItems, TypedPairs}
-use Rattle.bson_bytes.proofs.Offered.{written_read}
+use Rattle.bson_bytes.proofs.Offered.{told_ok, written_read}
 use Rattle.bson_tokens.proofs.Offered.{was_read}
 use Rattle.bson_filter.specs.Filtered.{kept_object, inside, from_key}
 use Rattle.bson_filter.proofs.Offered.{Key, texts, append_none, texts_more, step_more, begins, object_of, array_of}
 use Rattle.bson_filter.proofs.Offered.{last_read, kept_from, alone, alone_kept, names, as_they_stand}
 use Rattle.bson_filter.proofs.Offered.{kept_as_they_stand}
-use Rattle.bson_pack.specs.Packed.{IsPackedText, PutUnder, TreePacks, ItemsPack, ObjectPacks, NumberPacks, MembersPack}
+use Rattle.bson_pack.specs.Packed.{IsPackedText, TreePacks, ItemsPack, ObjectPacks, NumberPacks, MembersPack}
 use Rattle.bson_pack.specs.Packed.{SinglePacks}
 use Rattle.bson_pack.proofs.Once.{keys_of, once}
-use Rattle.bson_pack.proofs.Put.{next_item, array_put, next_pair, document_put, embedded_put, told_ok}
+use Rattle.bson_pack.proofs.Put.{next_item, array_put, next_pair, document_put, embedded_put}
 
 no_wrapper : (o : Option Wrapper) → is_none o ≡ true → o ≡ None
 no_wrapper None h = refl
@@ -87,7 +87,7 @@ module _ (D : Doubles) where
         g.7 ∙ next_item place v vs now later put.1,
       )
 
-  items_passed : (whole : Option (json.Items × List Token)) (p : Parse json.Json) (n place : ℕ) (ts r : List Token)
+  pub items_passed : (whole : Option (json.Items × List Token)) (p : Parse json.Json) (n place : ℕ) (ts r : List Token)
       (k old named begun now later : List ℕ) → length ts ≤ n → after_end_array ts ≡ Some r
       → named ≡ old ++ name_bytes tag.Array k → begun ≡ put_room named → put_end (length named) now ≡ Ok later
       → ItemsToGo whole (items p n ts) place begun now → ItemsPack D (converted kept_items whole) r k old later
@@ -103,15 +103,6 @@ module _ (D : Doubles) where
               (array_put place g.2 named begun now later room g.7 ended),
         ),
       )
-
-  pub array_closes : {E : Type 0} (done : Result (Unit {0}) E) (whole : Option (json.Items × List Token))
-      (p : Parse json.Json) (n place : ℕ) (ts r : List Token) (k old named begun now later : List ℕ) → length ts ≤ n
-      → after_end_array ts ≡ Some r → named ≡ old ++ name_bytes tag.Array k → begun ≡ put_room named
-      → OnOk done (put_end (length named) now ≡ Ok later) → ItemsToGo whole (items p n ts) place begun now
-      → OnOk done (ItemsPack D (converted kept_items whole) r k old later)
-  array_closes (Ok u) whole p n place ts r k old named begun now later enough closed name room ended go =
-      items_passed whole p n place ts r k old named begun now later enough closed name room ended go
-  array_closes (Err e) whole p n place ts r k old named begun now later enough closed name room ended go = tt
 
   -- ---- objects
 
@@ -156,7 +147,7 @@ module _ (D : Doubles) where
         g.10 ∙ next_pair k.now v ps now later free put.1,
       )
 
-  members_passed : (whole : Option (json.Members × List Token)) (p : Parse json.Json) (n : ℕ) (s : List Token)
+  pub members_passed : (whole : Option (json.Members × List Token)) (p : Parse json.Json) (n : ℕ) (s : List Token)
       (keys : List Key) (old begun now later : List ℕ) → begun ≡ put_room old → put_end (length old) now ≡ Ok later
       → AreDistinct (texts keys) → ToGo whole (members_step p (members p n) None s) keys begun now
       → MembersPack D (kept_object whole) s old later
@@ -172,15 +163,6 @@ module _ (D : Doubles) where
         (g.7, once g.2 differ),
         document_put g.2 old begun now later room g.10 ended,
       )
-
-  pub document_closes : {E : Type 0} (done : Result (Unit {0}) E) (whole : Option (json.Members × List Token))
-      (p : Parse json.Json) (n : ℕ) (s : List Token) (keys : List Key) (old begun now later : List ℕ)
-      → begun ≡ put_room old → OnOk done (put_end (length old) now ≡ Ok later) → AreDistinct (texts keys)
-      → ToGo whole (members_step p (members p n) None s) keys begun now
-      → OnOk done (MembersPack D (kept_object whole) s old later)
-  document_closes (Ok u) whole p n s keys old begun now later room ended distinct go =
-      members_passed whole p n s keys old begun now later room ended distinct go
-  document_closes (Err e) whole p n s keys old begun now later room ended distinct go = tt
 
   -- ---- an object
 
@@ -276,18 +258,6 @@ module _ (D : Doubles) where
     put,
   )
   number_packs (Err e) depth text ts s k old new is h = tt
-
-  pub number_means : {E : Type 0} (done : Result (Unit {0}) E) (o : Option Num) (n : Num) (x : Scalar)
-      (k old new : List ℕ) → o ≡ Some n → number_read_in D n ≡ Ok x
-      → OnOk done (PutUnder k (model.scalar x) old new) → OnOk done (NumberPacks D o k old new)
-  number_means (Ok u) o n x k old new is read put = (n, model.scalar x, is, ap scalar_value read, put)
-  number_means (Err e) o n x k old new is read h = tt
-
-  pub single_means : {E : Type 0} (done : Result (Unit {0}) E) (key : List ℕ) (held : Data) (x : Scalar)
-      (k old new : List ℕ) → single_at_in D (wrapper_of key) held ≡ Ok x
-      → OnOk done (PutUnder k (model.scalar x) old new) → OnOk done (SinglePacks D key held k old new)
-  single_means (Ok u) key held x k old new single put = (x, single, put)
-  single_means (Err e) key held x k old new single h = tt
 
   -- ---- a whole text
 

@@ -1,24 +1,23 @@
 -- Bytes of an element, an array and a document, behind others.
-use Rattle.std.proofs.Common.{◌≡◌, ℕ, ◌+◌, ◌++◌, List, [], length, true, Result, Ok, Err, OnOk, cond, refl, ap, ◌∙◌, subst}
+use Rattle.std.proofs.Common.{◌≡◌, ℕ, ◌+◌, ◌++◌, List, length, true, Result, Ok, Err, OnOk, cond, refl, ap, ◌∙◌, subst}
 use Rattle.std.specs.Prelude.{decimal}
 use Rattle.bson_scalar.specs.declared.spec.ElementType.{ElementType}
 use Rattle.bson_wrapper.specs.Scalar.{Scalar}
 use Rattle.bson_kind.specs.ElementType.{scalar_type}
 use Rattle.bson_model.specs.Value.{Value, Values, no_values, value, Pairs, no_pairs, pair, scalar, array, document}
 use Rattle.bson_bytes.specs.Putting.{Put, then, is_free, put_scalar, put_name, put_value, put_items, put_pairs}
-use Rattle.bson_bytes.specs.Putting.{put_room, put_end, put_document}
-use Rattle.bson_bytes.specs.Writing.{type_of, name_bytes, document_bytes, FitsDocument, DocumentFails, zero_in_key}
-use Rattle.bson_bytes.specs.Writing.{TypedScalar}
-use Rattle.bson_bytes.proofs.Offered.{Told, told_document}
+use Rattle.bson_bytes.specs.Putting.{put_room, put_end, put_document, Puts}
+use Rattle.bson_bytes.specs.Writing.{type_of, name_bytes, zero_in_key, TypedScalar}
+use Rattle.bson_bytes.specs.declared.error.Error.{Error}
 use Rattle.bson_pack.specs.Packed.{PutUnder}
 
 pub scalar_put : (x : Scalar) (out new : List ℕ) → put_scalar x out ≡ Ok new → put_value (scalar x) out ≡ Ok new
 unfolding put_value
 scalar_put x out new h = h
 
-pub element_put : {E : Type 0} (done : Result (Unit {0}) E) (x : Scalar) (t : ElementType) (k old named new : List ℕ)
+pub element_put : (done : Result (Unit {0}) Error) (x : Scalar) (t : ElementType) (k old named new : List ℕ)
     → t ≡ scalar_type x → named ≡ old ++ name_bytes t k → OnOk done (TypedScalar x)
-    → OnOk done (put_scalar x named ≡ Ok new) → OnOk done (PutUnder k (scalar x) old new)
+    → Puts done new (put_scalar x named) → OnOk done (PutUnder k (scalar x) old new)
 element_put (Ok u) x t k old named new kind name typed put = (
   typed,
   scalar_put x (old ++ name_bytes (scalar_type x) k) new
@@ -78,9 +77,3 @@ pub embedded_put : (ps : Pairs) (out new : List ℕ) → put_document ps out ≡
     → put_value (document ps) out ≡ Ok new
 unfolding put_value
 embedded_put ps out new h = h
-
--- ---- what was written
-
-pub told_ok : (ps : Pairs) (new : List ℕ) → put_document ps [] ≡ Ok new → FitsDocument ps × (new ≡ document_bytes ps)
-told_ok ps new h =
-    subst (λ (r : Put). Told [] r (document_bytes ps) (FitsDocument ps) (λ c. DocumentFails c ps)) h (told_document ps [])

@@ -10,10 +10,10 @@ ghost use Rattle.bson_bytes.specs.Putting.{is_free};
 ghost use Rattle.bson_filter.specs.Filtered.{kept_object, inside, from_key};
 ghost use Rattle.bson_pack.specs.Packed.{IsPackedText, TreePacks, ItemsPack, ObjectPacks, MembersPack};
 
-use crate::parts::{put_end, put_name, put_room};
 use crate::scalars::{pack_boolean, pack_null, pack_number, pack_single, pack_string};
 use crate::unpacked::Unpacked;
 use bson_bytes::parts::is_free;
+use bson_bytes::put::{put_end, put_name, put_room};
 use bson_filter::distinct::are_distinct;
 use bson_scalar::spec::ElementType;
 use bson_tokens::tree::read_tree;
@@ -126,7 +126,7 @@ fn pack_array<'a>(
         pack_value(alloc, doubles, reader, depth, name, keys, out)?;
         place = place.checked_add(1).ok_or(Unpacked::Left)?;
     }
-    put_end(out, start)
+    Ok(put_end(out, start)?)
 }
 
 // An object whose brace was read.
@@ -194,7 +194,7 @@ fn pack_document<'a>(
         return Err(Unpacked::Left);
     }
     keys.truncate(open);
-    put_end(out, start)
+    Ok(put_end(out, start)?)
 }
 
 // The key is no wrapper's, and has no 0 in it.

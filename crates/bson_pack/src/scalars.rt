@@ -1,19 +1,20 @@
 //! Elements that hold a scalar: of a token alone, numbers, and wrappers of one key.
-ghost use Rattle.std.specs.Prelude.{◌≡◌, ◌≤◌, ◌++◌, length, OnOk, Ok};
+ghost use Rattle.std.specs.Prelude.{◌≡◌, ◌≤◌, length, OnOk};
 ghost use Rattle.serde_json.specs.Read.{number_of};
 ghost use Rattle.serde_json.specs.View.{view};
 ghost use Rattle.bson_wrapper.specs.Scalar as kind;
 ghost use Rattle.bson_wrapper.specs.View.{scalar_view};
 ghost use Rattle.bson_kind.specs.ElementType.{scalar_type};
 ghost use Rattle.bson_model.specs.Value.{scalar};
-ghost use Rattle.bson_bytes.specs.Putting.{put_scalar};
-ghost use Rattle.bson_bytes.specs.Writing.{name_bytes, TypedScalar};
+ghost use Rattle.bson_bytes.specs.Putting.{put_scalar, Puts};
+ghost use Rattle.bson_bytes.specs.Writing.{TypedScalar};
 ghost use Rattle.bson_pack.specs.Packed.{PutUnder, NumberPacks, SinglePacks};
 
-use crate::parts::{
+use crate::unpacked::Unpacked;
+use bson_bytes::error::Error;
+use bson_bytes::put::{
     put_binary, put_name, put_pointer, put_regex, put_text, put_timestamp, put_u32, put_u64,
 };
-use crate::unpacked::Unpacked;
 use bson_scalar::spec::ElementType;
 use bson_tokens::number::number;
 use bson_wrapper::doubles::read_number;
@@ -21,9 +22,9 @@ use bson_wrapper::form::Doubles;
 use bson_wrapper::read::read_single_in;
 use bson_wrapper::scalar::Scalar;
 use serde_json::Value;
-use std::alloc::Global;
+use std::alloc::{AllocError, Global};
 
-pub(crate) fn pack_string(name: &str, string: &str, out: &mut Vec<u8>) -> Result<(), Unpacked>
+pub(crate) fn pack_string(name: &str, string: &str, out: &mut Vec<u8>) -> Result<(), Error>
     ensures ok { OnOk result (PutUnder name.now (scalar (kind.text string.now)) out.old.items out.new.items) }
     ensures grows { OnOk result (length out.old.items ≤ length out.new.items) }
 {
@@ -31,7 +32,7 @@ pub(crate) fn pack_string(name: &str, string: &str, out: &mut Vec<u8>) -> Result
     put_text(out, string)
 }
 
-pub(crate) fn pack_boolean(name: &str, truth: bool, out: &mut Vec<u8>) -> Result<(), Unpacked>
+pub(crate) fn pack_boolean(name: &str, truth: bool, out: &mut Vec<u8>) -> Result<(), AllocError>
     ensures ok { OnOk result (PutUnder name.now (scalar (kind.boolean truth)) out.old.items out.new.items) }
     ensures grows { OnOk result (length out.old.items ≤ length out.new.items) }
 {
@@ -40,7 +41,7 @@ pub(crate) fn pack_boolean(name: &str, truth: bool, out: &mut Vec<u8>) -> Result
     Ok(())
 }
 
-pub(crate) fn pack_null(name: &str, out: &mut Vec<u8>) -> Result<(), Unpacked>
+pub(crate) fn pack_null(name: &str, out: &mut Vec<u8>) -> Result<(), AllocError>
     ensures ok { OnOk result (PutUnder name.now (scalar kind.null) out.old.items out.new.items) }
     ensures grows { OnOk result (length out.old.items ≤ length out.new.items) }
 {
@@ -60,7 +61,7 @@ pub(crate) fn pack_number(
 {
     let n = number(text).ok_or(Unpacked::Left)?;
     let scalar = read_number(doubles, &n)?;
-    pack_scalar(name, &scalar, out)
+    Ok(pack_scalar(name, &scalar, out)?)
 }
 
 /// Writes the wrapper of this key alone.
@@ -76,10 +77,10 @@ pub(crate) fn pack_single(
     ensures grows { OnOk result (length out.old.items ≤ length out.new.items) }
 {
     let scalar = read_single_in(alloc, doubles, key, held)?;
-    pack_scalar(name, &scalar, out)
+    Ok(pack_scalar(name, &scalar, out)?)
 }
 
-fn pack_scalar(name: &str, held: &Scalar, out: &mut Vec<u8>) -> Result<(), Unpacked>
+fn pack_scalar(name: &str, held: &Scalar, out: &mut Vec<u8>) -> Result<(), Error>
     ensures ok { OnOk result (PutUnder name.now (scalar (scalar_view held.now)) out.old.items out.new.items) }
     ensures grows { OnOk result (length out.old.items ≤ length out.new.items) }
 {
@@ -113,9 +114,9 @@ fn type_of(scalar: &Scalar) -> ElementType
 }
 
 // What stands behind the name of an element.
-#[tactic(auto, using(crate::proofs::Texts::string_utf8))]
-fn put_scalar(out: &mut Vec<u8>, scalar: &Scalar) -> Result<(), Unpacked>
-    ensures put { OnOk result (put_scalar (scalar_view scalar.now) out.old.items ≡ Ok out.new.items) }
+#[tactic(auto, using(bson_bytes::proofs::Offered::string_utf8))]
+fn put_scalar(out: &mut Vec<u8>, scalar: &Scalar) -> Result<(), Error>
+    ensures put { Puts result out.new.items (put_scalar (scalar_view scalar.now) out.old.items) }
     ensures typed { OnOk result (TypedScalar (scalar_view scalar.now)) }
     ensures grows { OnOk result (length out.old.items ≤ length out.new.items) }
 {

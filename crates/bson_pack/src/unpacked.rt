@@ -1,4 +1,5 @@
 //! Why a text was not packed.
+use bson_bytes::error::Error as Unwritten;
 use bson_tokens::unread::Unread;
 use bson_wrapper::error::Error;
 use json::Invalid;
@@ -45,6 +46,15 @@ impl From<Error> for Unpacked {
     fn from(error: Error) -> Unpacked {
         match error {
             Error::OutOfMemory => Unpacked::OutOfMemory,
+            _ => Unpacked::Left,
+        }
+    }
+}
+
+impl From<Unwritten> for Unpacked {
+    fn from(unwritten: Unwritten) -> Unpacked {
+        match unwritten {
+            Unwritten::OutOfMemory => Unpacked::OutOfMemory,
             _ => Unpacked::Left,
         }
     }

@@ -5,7 +5,7 @@ use Rattle.bson.specs.Value.{Pairs, Value, document}
 use Rattle.bson.specs.declared.extjson.text_error.TextError.TheVariants as text_errors
 use Rattle.bson_codec.specs.Writing.{IsRefusal}
 use Rattle.bson_codec.specs.declared.de.Error.TheVariants as errors
-use Rattle.bson_codec.specs.declared.ser.Error.TheVariants as causes
+use Rattle.bson_codec.specs.Unwritten.TheVariants as causes
 use Rattle.bson_pairs.specs.declared.bytes.NoBytes.{NoBytes}
 use Rattle.bson_pairs.specs.declared.bytes.NoBytes.TheVariants as refusals
 use Rattle.bson_pairs.specs.declared.bytes.NoText.{NoText}

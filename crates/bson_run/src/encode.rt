@@ -9,7 +9,7 @@ ghost use Rattle.bson.specs.View.{bson_view};
 ghost use Rattle.bson.specs.TextMeaning.{IsTextOf};
 ghost use Rattle.bson_codec.specs.Canonical.{FitsDocument};
 ghost use Rattle.bson_codec.specs.Writing.{IsRefusal};
-ghost use Rattle.bson_codec.specs.declared.ser.Error.TheVariants as errors;
+ghost use Rattle.bson_codec.specs.Unwritten.TheVariants as errors;
 ghost use Rattle.bson_run.specs.Encode.{EncodesIn, EncodesInOrder, FailsAlone, IsBytesOf, IsUnencodedFor};
 ghost use Rattle.bson_run.specs.Encode.{IsUnencodedIn, IsUnencodedInOrder};
 

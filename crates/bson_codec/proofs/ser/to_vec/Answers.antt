@@ -1,12 +1,11 @@
 use Rattle.std.proofs.Common.{List, ℕ, suc, sym, ap, subst, ◌∙◌}
 use Rattle.std.proofs.lemmas.Result.{err_from_is_err_and}
-use Rattle.bson_bytes.proofs.Offered.{written_read}
+use Rattle.bson_bytes.proofs.Offered.{written_read, told_ok}
 use Rattle.bson_bytes.specs.Laws.{IsRead}
-use Rattle.bson_bytes.specs.Putting.{put_document}
+use Rattle.bson_bytes.specs.Putting.{put_document, StopsFor}
 use Rattle.bson_bytes.specs.Writing.{as_written}
 use Rattle.bson.specs.View.{document_view}
-use Rattle.bson_codec.specs.Writing.{StopsFor}
-use Rattle.bson_codec.proofs.Elements.{told_ok, refusal, only_memory}
+use Rattle.bson_codec.proofs.Elements.{refusal, only_memory}
 use Rattle.bson_codec.proofs.ser.to_vec.Goals as goal
 
 pub returns-in_err-put_document-clause-cause : goal.returns-in_err-put_document-clause-cause

@@ -1,17 +1,17 @@
 use Rattle.std.proofs.Common.{◌≡◌, ℕ, ◌+◌, ◌<◌, List, length, arith, sym, ap, subst, ◌∙◌, string_bytes}
 use Rattle.std.proofs.lemmas.List.{length-append}
 use Rattle.std.proofs.lemmas.Result.{err_from_is_err_and}
-use Rattle.bson_bytes.specs.Putting.{Put, put_end}
+use Rattle.bson_bytes.proofs.Offered.{string_utf8}
+use Rattle.bson_bytes.specs.Putting.{Put, Puts, put_end}
 use Rattle.bson_bytes.specs.Writing.{name_bytes}
 use Rattle.bson.specs.Iter.{pairs_left}
 use Rattle.bson.specs.View.{bson_view, values_view, pairs_view, contents}
 use Rattle.bson.specs.declared.bson.Bson.{Bson}
-use Rattle.bson_codec.specs.Writing.{Puts}
 use Rattle.bson_codec.proofs.Elements.{array_bad, array_next, array_end, named, left_is, key_stops, key_put}
 use Rattle.bson_codec.proofs.Elements.{value_stops}
 use Rattle.bson_codec.proofs.Elements.{document_end, next_pair}
 use Rattle.bson_codec.proofs.Seen.{scoped_seen}
-use Rattle.bson_codec.proofs.Typed.{string_utf8, pairs_typed, document_typed, items_typed, on_ok, string_typed}
+use Rattle.bson_codec.proofs.Typed.{pairs_typed, document_typed, items_typed, on_ok, string_typed}
 use Rattle.bson_codec.proofs.Typed.{code_typed, symbol_typed, regex_typed, scope_typed}
 use Rattle.bson.proofs.Offered.{weight, weight_items, weight_pairs, lighter_item}
 use Rattle.bson_codec.proofs.write.+write.Goals as goal
@@ -43,8 +43,8 @@ put_array-returns-in_err-put_value-clause-put t c =
     let name = named out c.put_name.new.out.items c.format.result.now c.type_of.result v c.loop-i.i
     c.in_ok-put_name.ensures.put c.type_of.ensures c.format.ensures.text in
     rw (p.1, p.2) (array_bad c.in_err-put_value.field-0.0 c.deref-value-items.result.now c.args.values.now.items c.loop-i.i v
-    c.args.out.now.items c.extend_from_slice.new.self.items out c.put_name.new.out.items (omega (arith, c.loop-i-test.true))
-    c.value-item.is c.deref-value-items.ensures.value c.in_ok-extend_from_slice.ensures.items c.loop-i.invariant.put name
+    c.args.out.now.items c.put_room.new.out.items out c.put_name.new.out.items (omega (arith, c.loop-i-test.true))
+    c.value-item.is c.deref-value-items.ensures.value c.in_ok-put_room.ensures c.loop-i.invariant.put name
     c.in_err-put_value.ensures.put)
 
 pub put_array-loop-i-preserved : goal.put_array-loop-i-preserved
@@ -67,8 +67,8 @@ put_array-returns-clause-put t c =
     let old = c.args.out.now.items in
     let start : c.len-start.result ≡ length old = omega (arith, c.len-start.ensures, c.args.out.now.ok) in
     let ended = array_end c.deref-value-items.result.now c.args.values.now.items c.loop-i.i old
-    c.extend_from_slice.new.self.items c.loop-i.out.items (omega (arith, c.loop-i-test.false))
-    c.deref-value-items.ensures.value c.in_ok-extend_from_slice.ensures.items c.loop-i.invariant.put in
+    c.put_room.new.out.items c.loop-i.out.items (omega (arith, c.loop-i-test.false))
+    c.deref-value-items.ensures.value c.in_ok-put_room.ensures c.loop-i.invariant.put in
     subst (λ (r : Put). Puts c.put_end.result c.put_end.new.out.items r) (sym ended)
     (subst (λ (n : ℕ). Puts c.put_end.result c.put_end.new.out.items (put_end n c.loop-i.out.items)) start
     c.put_end.ensures.put)

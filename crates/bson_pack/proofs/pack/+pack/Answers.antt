@@ -1,5 +1,5 @@
 use Rattle.std.proofs.Common.{◌≡◌, ◌-◌, ◌+◌, ◌<◌, ◌++◌, [], ◌∷◌, length, option_map, Some, None, sym, ap, ◌∙◌, arith, refl}
-use Rattle.std.proofs.Common.{append_assoc, subst, Ok, OnOk, take, drop, take_all, length-drop, length-append}
+use Rattle.std.proofs.Common.{append_assoc, subst, Ok, take, drop, take_all, length-drop, length-append}
 use Rattle.json.specs.Token.{Token}
 use Rattle.json.specs.Json.{after_end_array, read_key, items, members, members_step, value}
 use Rattle.json.proofs.Grammar.{read_key-shorter, value_is}
@@ -14,9 +14,9 @@ use Rattle.bson_bytes.specs.Putting.{put_end}
 use Rattle.bson_filter.specs.Filtered.{from_key}
 use Rattle.bson_filter.proofs.Offered.{append_none, pushed, texts}
 use Rattle.bson_pack.specs.Packed.{TreePacks}
-use Rattle.bson_pack.proofs.Packing.{items_begun, item_passed, array_closes, members_begun, member_passed}
+use Rattle.bson_pack.proofs.Packing.{items_begun, item_passed, items_passed, members_begun, member_passed}
 use Rattle.bson_pack.proofs.Packing.{plain_parts, ItemsToGo, ToGo, array_packs, object_packs, number_packs}
-use Rattle.bson_pack.proofs.Packing.{document_closes, document_packs, wrapper_packs}
+use Rattle.bson_pack.proofs.Packing.{members_passed, document_packs, wrapper_packs}
 use Rattle.bson_pack.proofs.pack.+pack.Goals as goal
 
 -- ---- arrays
@@ -67,12 +67,11 @@ pack_array-returns-clause-ok t c =
     let l = c.items in
     let ts = c.args.reader.now in
     let start : c.len-start.result ≡ length c.put_name.new.out.items = omega (arith, c.len-start.ensures, c.put_name.new.out.ok) in
-    let done = c.put_end.result in
-    array_closes c.args.doubles done (items (value c.args.depth) (length ts) ts) (value c.args.depth) l.invariant.4 l.place
+    items_passed c.args.doubles (items (value c.args.depth) (length ts) ts) (value c.args.depth) l.invariant.4 l.place
     l.reader c.take_end_array.new.self c.args.name.now c.args.out.now.items c.put_name.new.out.items
     c.put_room.new.out.items l.out.items c.put_end.new.out.items l.invariant.5 (grind arith)
     c.in_ok-put_name.ensures.put c.in_ok-put_room.ensures
-    (subst (λ n. OnOk done (put_end n l.out.items ≡ Ok c.put_end.new.out.items)) start c.put_end.ensures.put) l.invariant.6
+    (subst (λ n. put_end n l.out.items ≡ Ok c.put_end.new.out.items) start c.in_ok-put_end.ensures.put) l.invariant.6
 
 -- ---- documents
 
@@ -138,10 +137,9 @@ pack_document-returns-clause-ok t c =
     subst (λ x. AreDistinct (texts (drop (length c.args.keys.now.items) x))) c.as_mut_slice.ensures.value
     (subst (λ n. AreDistinct (texts (drop n all))) (grind arith)
     (subst (λ x. AreDistinct (texts x)) slice (c.are_distinct.ensures.0 (grind arith)))) in
-    let done = c.put_end.result in
-    document_closes D done (from_key c.args.depth (option_map (λ x. x.now) c.args.first) ts) (value c.args.depth)
+    members_passed D (from_key c.args.depth (option_map (λ x. x.now) c.args.first) ts) (value c.args.depth)
     l.invariant.5 l.reader ks old c.put_room.new.out.items l.out.items c.put_end.new.out.items c.in_ok-put_room.ensures
-    (subst (λ n. OnOk done (put_end n l.out.items ≡ Ok c.put_end.new.out.items)) start c.put_end.ensures.put)
+    (subst (λ n. put_end n l.out.items ≡ Ok c.put_end.new.out.items) start c.in_ok-put_end.ensures.put)
     (pushed c.args.keys.now.items ks l.keys.items l.invariant.4 told)
     (subst (λ o. ToGo D (from_key c.args.depth (option_map (λ x. x.now) c.args.first) ts)
     (members_step (value c.args.depth) (members (value c.args.depth) l.invariant.5) (option_map (λ x. x.now) o) l.reader) ks

@@ -10,5 +10,5 @@ returns-clause-ok c =
     let b = c.args.truth in
     let named = c.put_name.new.out.items in
     let put : c.push.new.self.items ≡ named ++ bool_byte b ∷ [] = grind arith in
-    element_put {E = Unit {0}} (Ok tt) (boolean b) tag.Boolean c.args.name.now c.args.out.now.items named
+    element_put (Ok tt) (boolean b) tag.Boolean c.args.name.now c.args.out.now.items named
     c.push.new.self.items refl c.in_ok-put_name.ensures.put tt (ap Ok (sym put))

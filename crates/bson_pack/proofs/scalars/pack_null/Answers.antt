@@ -7,5 +7,5 @@ use Rattle.bson_pack.proofs.scalars.pack_null.Goals as goal
 pub returns-clause-ok : goal.returns-clause-ok
 returns-clause-ok c =
     let named = c.put_name.new.out.items in
-    element_put {E = Unit {0}} (Ok tt) null tag.Null c.args.name.now c.args.out.now.items named named refl
+    element_put (Ok tt) null tag.Null c.args.name.now c.args.out.now.items named named refl
     c.in_ok-put_name.ensures.put tt (ap Ok (append-nil named))

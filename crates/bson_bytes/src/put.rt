@@ -1,35 +1,41 @@
-//! The parts of an element, behind the bytes that are written.
+//! The parts of an element put behind the bytes that are written, as `parts` reads them.
 ghost use Rattle.std.specs.Prelude.{◌≡◌, ◌≤◌, ◌+◌, ◌++◌, length, vec_len, OnOk, string_bytes};
 ghost use Rattle.std.specs.Int.{w32, w64};
 ghost use Rattle.bson_bytes.specs.Grammar.{le, old_binary_bytes, binary_bytes};
-ghost use Rattle.bson_bytes.specs.Putting.{put_sized, put_text, put_regex, put_binary, put_pointer, put_name, put_length};
+ghost use Rattle.bson_bytes.specs.Putting.{put_sized, put_text, put_regex, put_binary, put_pointer, put_name};
+ghost use Rattle.bson_bytes.specs.Putting.{put_room, put_length, put_end, Puts};
 ghost use Rattle.bson_bytes.specs.Writing.{name_bytes, TypedScalar};
-ghost use Rattle.bson.specs.Scalar as kind;
+ghost use Rattle.bson_wrapper.specs.Scalar as kind;
 ghost use Rattle.bson_scalar.specs.DbPointer.{namespace_of, id_of};
 ghost use Rattle.bson_scalar.specs.Subtype.{subtype_byte};
-ghost use Rattle.bson_codec.specs.Writing.{Puts};
 
-use crate::ser::{Error, Result};
-use bson::{Binary, DbPointer, Regex, Timestamp};
-use bson_bytes::parts::is_free;
+use crate::error::Error;
+use crate::parts::is_free;
+use bson_scalar::binary::Binary;
+use bson_scalar::db_pointer::DbPointer;
+use bson_scalar::regex::Regex;
 use bson_scalar::spec::ElementType;
+use bson_scalar::timestamp::Timestamp;
 use std::alloc::AllocError;
 
-#[tactic(auto, unfolding(bson_bytes::specs::Grammar::le))]
-pub(crate) fn put_u32(out: &mut Vec<u8>, number: u32) -> Result<(), AllocError>
+#[inline]
+#[tactic(auto, unfolding(crate::specs::Grammar::le))]
+pub fn put_u32(out: &mut Vec<u8>, number: u32) -> Result<(), AllocError>
     ensures { OnOk result (out.new.items ≡ out.old.items ++ le w32 number) }
 {
     out.extend_from_slice(&number.to_le_bytes())
 }
 
-#[tactic(auto, unfolding(bson_bytes::specs::Grammar::le))]
-pub(crate) fn put_u64(out: &mut Vec<u8>, number: u64) -> Result<(), AllocError>
+#[inline]
+#[tactic(auto, unfolding(crate::specs::Grammar::le))]
+pub fn put_u64(out: &mut Vec<u8>, number: u64) -> Result<(), AllocError>
     ensures { OnOk result (out.new.items ≡ out.old.items ++ le w64 number) }
 {
     out.extend_from_slice(&number.to_le_bytes())
 }
 
-pub(crate) fn put_timestamp(out: &mut Vec<u8>, timestamp: Timestamp) -> Result<(), AllocError>
+#[inline]
+pub fn put_timestamp(out: &mut Vec<u8>, timestamp: Timestamp) -> Result<(), AllocError>
     ensures put { OnOk result (out.new.items ≡ out.old.items ++ (le w32 timestamp.increment ++ le w32 timestamp.time)) }
     ensures typed { TypedScalar (kind.timestamp timestamp.time timestamp.increment) }
 {
@@ -37,7 +43,8 @@ pub(crate) fn put_timestamp(out: &mut Vec<u8>, timestamp: Timestamp) -> Result<(
     put_u32(out, timestamp.time)
 }
 
-pub(crate) fn put_text(out: &mut Vec<u8>, text: &str) -> Result<()>
+#[inline]
+pub fn put_text(out: &mut Vec<u8>, text: &str) -> Result<(), Error>
     ensures put { Puts result out.new.items (put_text text.now out.old.items) }
     ensures grows { OnOk result (length out.old.items ≤ length out.new.items) }
 {
@@ -50,7 +57,7 @@ pub(crate) fn put_text(out: &mut Vec<u8>, text: &str) -> Result<()>
     Ok(())
 }
 
-pub(crate) fn put_binary(out: &mut Vec<u8>, binary: &Binary) -> Result<()>
+pub fn put_binary(out: &mut Vec<u8>, binary: &Binary) -> Result<(), Error>
     ensures put { Puts result out.new.items
         (put_binary (subtype_byte binary.now.subtype) binary.now.bytes.items out.old.items) }
     ensures typed { TypedScalar (kind.binary binary.now.subtype binary.now.bytes.items) }
@@ -64,7 +71,7 @@ pub(crate) fn put_binary(out: &mut Vec<u8>, binary: &Binary) -> Result<()>
     }
 }
 
-fn put_plain_binary(out: &mut Vec<u8>, byte: u8, bytes: &[u8]) -> Result<()>
+fn put_plain_binary(out: &mut Vec<u8>, byte: u8, bytes: &[u8]) -> Result<(), Error>
     ensures put { Puts result out.new.items (put_sized (length bytes.now) (binary_bytes byte bytes.now) out.old.items) }
     ensures grows { OnOk result (length out.old.items ≤ length out.new.items) }
 {
@@ -77,7 +84,7 @@ fn put_plain_binary(out: &mut Vec<u8>, byte: u8, bytes: &[u8]) -> Result<()>
     Ok(())
 }
 
-fn put_old_binary(out: &mut Vec<u8>, bytes: &[u8]) -> Result<()>
+fn put_old_binary(out: &mut Vec<u8>, bytes: &[u8]) -> Result<(), Error>
     ensures put { Puts result out.new.items (put_sized (length bytes.now + 4) (old_binary_bytes bytes.now) out.old.items) }
     ensures grows { OnOk result (length out.old.items ≤ length out.new.items) }
 {
@@ -91,7 +98,7 @@ fn put_old_binary(out: &mut Vec<u8>, bytes: &[u8]) -> Result<()>
     Ok(())
 }
 
-pub(crate) fn put_regex(out: &mut Vec<u8>, regex: &Regex) -> Result<()>
+pub fn put_regex(out: &mut Vec<u8>, regex: &Regex) -> Result<(), Error>
     ensures put { Puts result out.new.items
         (put_regex (string_bytes regex.now.pattern) (string_bytes regex.now.options) out.old.items) }
     ensures grows { OnOk result (length out.old.items ≤ length out.new.items) }
@@ -109,8 +116,8 @@ pub(crate) fn put_regex(out: &mut Vec<u8>, regex: &Regex) -> Result<()>
     Ok(())
 }
 
-#[tactic(auto, using(crate::proofs::Typed::string_utf8))]
-pub(crate) fn put_pointer(out: &mut Vec<u8>, pointer: &DbPointer) -> Result<()>
+#[tactic(auto, using(crate::proofs::Texts::string_utf8))]
+pub fn put_pointer(out: &mut Vec<u8>, pointer: &DbPointer) -> Result<(), Error>
     ensures put { Puts result out.new.items (put_pointer (namespace_of pointer.now) (id_of pointer.now) out.old.items) }
     ensures typed { OnOk result (TypedScalar (kind.db_pointer (namespace_of pointer.now) (id_of pointer.now))) }
     ensures grows { OnOk result (length out.old.items ≤ length out.new.items) }
@@ -120,8 +127,9 @@ pub(crate) fn put_pointer(out: &mut Vec<u8>, pointer: &DbPointer) -> Result<()>
     Ok(())
 }
 
-// The tag and the key of an element of a document.
-pub(crate) fn put_key(out: &mut Vec<u8>, kind: ElementType, key: &str) -> Result<()>
+/// The tag and the key of an element of a document.
+#[inline]
+pub fn put_key(out: &mut Vec<u8>, kind: ElementType, key: &str) -> Result<(), Error>
     ensures put { Puts result out.new.items (put_name kind key.now out.old.items) }
     ensures grows { OnOk result (length out.old.items ≤ length out.new.items) }
 {
@@ -131,8 +139,9 @@ pub(crate) fn put_key(out: &mut Vec<u8>, kind: ElementType, key: &str) -> Result
     Ok(put_name(out, kind, key)?)
 }
 
-// The tag and the name of an element; the name has no 0 in it.
-pub(crate) fn put_name(out: &mut Vec<u8>, kind: ElementType, name: &str) -> Result<(), AllocError>
+/// The tag and the name of an element; the name has no 0 in it.
+#[inline]
+pub fn put_name(out: &mut Vec<u8>, kind: ElementType, name: &str) -> Result<(), AllocError>
     ensures put { OnOk result (out.new.items ≡ out.old.items ++ name_bytes kind name.now) }
 {
     out.push(kind.tag())?;
@@ -141,9 +150,10 @@ pub(crate) fn put_name(out: &mut Vec<u8>, kind: ElementType, name: &str) -> Resu
     Ok(())
 }
 
-// The length of what stands from the place on, into the four bytes there.
-#[tactic(auto, unfolding(bson_bytes::specs::Grammar::le, bson_bytes::specs::Putting::put_length))]
-pub(crate) fn put_length(out: &mut Vec<u8>, start: usize) -> Result<()>
+/// The length of what stands from the place on, into the four bytes there.
+#[inline]
+#[tactic(auto, unfolding(crate::specs::Grammar::le, crate::specs::Putting::put_length))]
+pub fn put_length(out: &mut Vec<u8>, start: usize) -> Result<(), Error>
     requires { start + 4 ≤ vec_len out.old }
     ensures put { Puts result out.new.items (put_length start out.old.items) }
     ensures grows { OnOk result (length out.old.items ≤ length out.new.items) }
@@ -156,4 +166,23 @@ pub(crate) fn put_length(out: &mut Vec<u8>, start: usize) -> Result<()>
     let slot = &mut out.as_mut_slice()[start..start + 4];
     slot.copy_from_slice(&bytes);
     Ok(())
+}
+
+/// Four bytes for a length that is not known yet.
+#[inline]
+pub fn put_room(out: &mut Vec<u8>) -> Result<(), AllocError>
+    ensures { OnOk result (out.new.items ≡ put_room out.old.items) }
+{
+    out.extend_from_slice(&[0, 0, 0, 0])
+}
+
+/// The 0 behind a list of elements, and the length of the document at its place.
+#[inline]
+pub fn put_end(out: &mut Vec<u8>, start: usize) -> Result<(), Error>
+    requires { start + 4 ≤ vec_len out.old }
+    ensures put { Puts result out.new.items (put_end start out.old.items) }
+    ensures grows { OnOk result (length out.old.items ≤ length out.new.items) }
+{
+    out.push(0)?;
+    put_length(out, start)
 }
