@@ -33,6 +33,7 @@ use Rattle.bson_bytes.specs.Putting.{put_document}
 use Rattle.bson_bytes.specs.Laws.{IsRead}
 use Rattle.bson_bytes.specs.Writing.{name_bytes, as_written, TypedItems, TypedPairs}
 use Rattle.bson_bytes.proofs.Offered.{told_ok, written_read}
+use Rattle.bson_tokens.specs.Held.{IsHeldAs}
 use Rattle.bson_tokens.proofs.Offered.{was_read}
 use Rattle.bson_filter.specs.Filtered.{kept_object, inside, from_key}
 use Rattle.bson_filter.proofs.Offered.{Key, texts, append_none, texts_more, step_more, begins, object_of, array_of}
@@ -201,17 +202,18 @@ module _ (D : Doubles) where
   has_key_of_wrapper None d x h = cc
 
   pub single_packs : {E : Type 0} (done : Result (Unit {0}) E) (depth : ℕ) (key : List ℕ) (ts r s : List Token)
-      (k old new : List ℕ) (held : Data) → converted of_json (value depth ts) ≡ Some (held, r) → length r < length ts
+      (k old new : List ℕ) (held : Data) → IsHeldAs (converted of_json (value depth ts)) held r → length r < length ts
       → read_key r ≡ Some (None, s) → OnOk done (SinglePacks D key held k old new)
       → OnOk done (ObjectPacks D (kept_object (from_key depth (Some key) ts)) s k old new)
   single_packs (Ok u) depth key ts r s k old new held read less ended (x, single, put) =
-      let j = was_read of_json (value depth ts) held r read in
-      let d = kept_from j.0 held j.2 in (
+      let j = was_read of_json (value depth ts) read.0 r read.1 in
+      let d = kept_from j.0 read.0 j.2 in
+      let means : single_at_in D (wrapper_of key) read.0 ≡ Ok x = sym (read.2.0 D (wrapper_of key)) ∙ single in (
         member key d.0 no_members,
         model.scalar x,
         ap kept_object (alone depth key ts r s j.0 less j.1 ended) ∙ alone_kept key j.0 d.0 s d.1,
-        wrapper_means key d.0 x (has_key_of_wrapper (wrapper_of key) held x single)
-            (ap (single_at_in D (wrapper_of key)) d.2 ∙ single),
+        wrapper_means key d.0 x (has_key_of_wrapper (wrapper_of key) read.0 x means)
+            (ap (single_at_in D (wrapper_of key)) d.2 ∙ means),
         put,
       )
   single_packs (Err e) depth key ts r s k old new held read less ended h = tt

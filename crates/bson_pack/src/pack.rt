@@ -16,7 +16,7 @@ use bson_bytes::parts::is_free;
 use bson_bytes::put::{put_end, put_name, put_room};
 use bson_filter::distinct::are_distinct;
 use bson_scalar::spec::ElementType;
-use bson_tokens::tree::read_tree;
+use bson_tokens::held::read_held;
 use bson_wrapper::form::Doubles;
 use bson_wrapper::wrapper::named;
 use itoa::Buffer;
@@ -222,7 +222,7 @@ fn pack_wrapper(
     ensures shorter { OnOk result (length reader.new < length reader.old) }
     ensures grows { OnOk result (length out.old.items ≤ length out.new.items) }
 {
-    let held = read_tree(alloc, reader, depth)?;
+    let held = read_held(alloc, reader, depth)?;
     if reader.next_key()?.is_some() {
         return Err(Unpacked::Left);
     }

@@ -6,7 +6,7 @@ use Rattle.bson_pack.proofs.pack.pack_wrapper.Goals as goal
 
 pub returns-clause-ok : goal.returns-clause-ok
 returns-clause-ok c =
-    let r = c.read_tree.new.reader in
+    let r = c.read_held.new.reader in
     let s = c.next_key.new.self in
     let ended : read_key r ≡ Some (None, s) = grind arith in
     single_packs c.args.doubles c.pack_single.result c.args.depth c.args.key.now c.args.reader.now r s c.args.name.now
