@@ -156,9 +156,8 @@ list_converted D f depth ts r rest old end is left p =
 
 pub object_converted : (D : Doubles) (f : Form) (depth : ℕ) (ts r rest : List Token) (old end : List ℕ)
     → ts ≡ begin_object ∷ r → 0 < depth
-    → ObjectConverted D f (converted (λ js. of_members js no_members) (members (value (depth - 1)) (length r) r)) rest
-    old
-    end
+    → ObjectConverted D f true (converted (λ js. of_members js no_members) (members (value (depth - 1)) (length r) r))
+    rest old end
     → TreeConverted D f (converted of_json (value depth ts)) rest old end
 object_converted D f depth ts r rest old end is left p =
     let read = p.1 in
@@ -166,8 +165,8 @@ object_converted D f depth ts r rest old end is left p =
 
 pub wrapper_converted : (D : Doubles) (f : Form) (depth : ℕ) (k : List ℕ) (start ts rest : List Token)
     (old end : List ℕ) → read_key start ≡ Some (Some k, ts) → WrapperConverted D f depth k ts rest old end
-    → ObjectConverted D f (converted (λ js. of_members js no_members) (members (value depth) (length start) start)) rest
-    old end
+    → ObjectConverted D f true
+    (converted (λ js. of_members js no_members) (members (value depth) (length start) start)) rest old end
 wrapper_converted D f depth k start ts rest old end named w =
     let o = w.1 in
     (w.0, (o.0, o.1 start named (length start) (omega arith), given_ok (reads_in D (object o.0)) w.0 o.2), w.2)

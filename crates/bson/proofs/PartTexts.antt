@@ -7,12 +7,14 @@ use Rattle.std.specs.Str.{IsUtf8}
 use Rattle.json.specs.Json as json
 use Rattle.json.specs.Json.{Json}
 use Rattle.json.specs.Print.{quoted, print, print_from, ends}
-use Rattle.json.specs.Token.{Token, key}
+use Rattle.json.specs.Token.{Token, key, end_object}
 use Rattle.json.specs.Tree.{json_tokens, items_tokens, members_tokens}
 use Rattle.json.proofs.Printed.Tokens.{print_from-append}
 use Rattle.serde_json.specs.Data.{Data, Items, no_items, item, array, Members, no_members, member, object}
 use Rattle.serde_json.specs.Written.{comma_if}
 use Rattle.bson_wrapper.specs.TreeText.{outline, items_outline, members_outline, text_of}
+use Rattle.bson_wrapper.specs.Tokens.{code_tokens}
+use Rattle.bson_model.specs.Writing.{with_scope}
 use Rattle.bson.specs.Texts.{tokens_of}
 
 -- what stands behind a tree is printed as behind a value
@@ -113,3 +115,21 @@ one_more_member behind k t ms =
 pub object_printed : (ms : Members) → 123 ∷ printed_members false ms ≡ text_of (object ms)
 unfolding print_from
 object_printed ms = refl
+
+-- ---- code with its scope
+
+front_printed : (s : List ℕ) (ts : List Token) → print_from false (code_tokens s ++ ts)
+    ≡ print (code_tokens s) ++ print_from false ts
+front_printed s ts = print_from-append false (code_tokens s) ts
+
+end_printed : print_from true (end_object ∷ []) ≡ 125 ∷ []
+unfolding print_from
+end_printed = refl
+
+pub code_printed : (s : List ℕ) (ms : Members)
+    → print (code_tokens s) ++ (text_of (object ms) ++ 125 ∷ []) ≡ text_of (with_scope s ms)
+code_printed s ms =
+    let front = print (code_tokens s) in
+    ap (λ l. front ++ (text_of (object ms) ++ l)) (sym end_printed)
+    ∙ ap (λ l. front ++ l) (sym (printed_then (object ms) (end_object ∷ [])))
+    ∙ sym (front_printed s (tokens_of (object ms) ++ end_object ∷ []))

@@ -185,23 +185,23 @@ closed texts behind (p ∷ ps) =
 
 -- ---- the members so far
 
-pub record PiecesPass (D : Doubles) (f : Form) (depth : ℕ) (start here : List Token) (old texts : List ℕ)
+pub record PiecesPass (D : Doubles) (f : Form) (tested : Bool) (depth : ℕ) (start here : List Token) (old texts : List ℕ)
     (ps : List Piece) : Type 0 where
   pub values : Values
   pub trees : Members
   pub gathers : Gathers depth no_members start here trees
-  pub plain : has_wrapper trees ≡ false
+  pub plain : tested ≡ true → has_wrapper trees ≡ false
   pub read : reads_members_in D trees ≡ Ok (put_each piece_key (value_at values) ps no_pairs)
   pub all : All (IsPiece D f texts values) ps
   pub opened : IsOpen old texts ps
 
-pub none_in_pieces : (D : Doubles) (f : Form) (depth : ℕ) (ts : List Token) (old texts : List ℕ) (ps : List Piece)
-    → ps ≡ [] → texts ≡ old ++ 123 ∷ [] → PiecesPass D f depth ts ts old texts ps
-none_in_pieces D f depth ts old texts ps none opened = record {
+pub none_in_pieces : (D : Doubles) (f : Form) (tested : Bool) (depth : ℕ) (ts : List Token) (old texts : List ℕ) (ps : List Piece)
+    → ps ≡ [] → texts ≡ old ++ 123 ∷ [] → PiecesPass D f tested depth ts ts old texts ps
+none_in_pieces D f tested depth ts old texts ps none opened = record {
   values = λ i. document no_pairs;
   trees = no_members;
   gathers = none_yet depth no_members ts;
-  plain = refl;
+  plain = λ t. refl;
   read = ap (λ l. Ok (put_each piece_key (λ p. document no_pairs) l no_pairs)) (sym none);
   all = subst (All (IsPiece D f texts (λ i. document no_pairs))) (sym none) (All-nil _);
   opened = opened ∙ ap (λ l. old ++ 123 ∷ open_text texts false l) (sym none);
@@ -211,13 +211,13 @@ pub all_within : (D : Doubles) (f : Form) (texts : List ℕ) (values : Values) (
     → All (IsPiece D f texts values) ps → All (IsWithin texts) ps
 all_within D f texts values ps h = All-weaker (IsPiece D f texts values) (IsWithin texts) (λ p i. i.0) ps h
 
-pub one_in_pieces : (D : Doubles) (f : Form) (depth : ℕ) (k : List ℕ) (start here s r : List Token)
+pub one_in_pieces : (D : Doubles) (f : Form) (tested : Bool) (depth : ℕ) (k : List ℕ) (start here s r : List Token)
     (old texts new : List ℕ) (ps qs : List Piece)
-    → PiecesPass D f depth start here old texts ps → read_key here ≡ Some (Some k, s)
-    → is_some (wrapper_of k) ≡ false
+    → PiecesPass D f tested depth start here old texts ps → read_key here ≡ Some (Some k, s)
+    → (tested ≡ true → is_some (wrapper_of k) ≡ false)
     → IsAdded D f k (converted of_json (value depth s)) r texts ps new qs → length r < length s
-    → PiecesPass D f depth start r old new qs
-one_in_pieces D f depth k start here s r old texts new ps qs g named plain added less =
+    → PiecesPass D f tested depth start r old new qs
+one_in_pieces D f tested depth k start here s r old texts new ps qs g named plain added less =
     let v = added.0 in
     let m = added.1 in
     let text = added.2 in
@@ -247,19 +247,19 @@ one_in_pieces D f depth k start here s r old texts new ps qs g named plain added
       values = values;
       trees = put k m.0 g.trees;
       gathers = one_gathered depth no_members k start here s r g.trees m.0 g.gathers named m.1 less;
-      plain = put_plain k m.0 plain g.trees ∙ g.plain;
+      plain = λ t. put_plain k m.0 (plain t) g.trees ∙ g.plain t;
       read = put_reads D k m.0 v m.2 g.trees _ g.read ∙ ap Ok (sym pairs);
       all = subst (All (IsPiece D f new values)) (sym is.4) (All-push (IsPiece D f new values) ps p before last);
       opened = subst (IsOpen old new) (sym is.4)
           (open_more old texts new text.0 ps p g.opened (all_within D f texts g.values ps g.all) text.3 own);
     }
 
-pub all_in_pieces : (D : Doubles) (f : Form) (depth : ℕ) (start here rest : List Token) (old texts : List ℕ)
-    (ps : List Piece) → PiecesPass D f depth start here old texts ps
+pub all_in_pieces : (D : Doubles) (f : Form) (tested : Bool) (depth : ℕ) (start here rest : List Token)
+    (old texts : List ℕ) (ps : List Piece) → PiecesPass D f tested depth start here old texts ps
     → read_key here ≡ Some (None, rest)
-    → ObjectInPieces D f (converted (λ js. of_members js no_members) (members (value depth) (length start) start)) rest
+    → ObjectInPieces D f tested (converted (λ js. of_members js no_members) (members (value depth) (length start) start)) rest
     texts ps
-all_in_pieces D f depth start here rest old texts ps g ended = (
+all_in_pieces D f tested depth start here rest old texts ps g ended = (
   g.values,
   g.trees,
   all_gathered depth no_members start here rest g.trees g.gathers ended (length start) (omega arith),

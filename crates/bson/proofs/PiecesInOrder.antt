@@ -16,15 +16,17 @@ use Rattle.json.specs.Print.{quoted}
 use Rattle.json.specs.Token.{Token}
 use Rattle.serde_json.specs.Data.{Members, no_members, member, object, put}
 use Rattle.serde_json.specs.Written.{comma_if}
+use Rattle.bson_wrapper.specs.Table.{has_wrapper}
 use Rattle.bson_wrapper.specs.TreeText.{text_of}
 use Rattle.bson_wrapper.specs.Written.{◌>>=◌}
 use Rattle.bson_wrapper.specs.declared.form.Doubles.{Doubles}
 use Rattle.bson_wrapper.specs.declared.form.Form.{Form}
 use Rattle.bson_model.specs.Normal.{PairsInRange}
+use Rattle.bson_model.specs.Reading.{reads_members_in}
 use Rattle.bson_model.specs.Sorted.{put_pair, IsLeast, KeysAscend}
 use Rattle.bson_model.specs.Value.{Value, Pairs, no_pairs, pair, document}
 use Rattle.bson_model.specs.Writing.{writes_in, writes_pairs_in}
-use Rattle.bson.specs.Converted.{ObjectConverted, Follows}
+use Rattle.bson.specs.Converted.{IsBehind, ObjectConverted, Follows}
 use Rattle.bson.specs.Gathered.{HaveTurns, put_each, pairs_of}
 use Rattle.bson.specs.Pieces.{piece_key, piece_text, open_text, members_text, object_text, Ascend, IsWithin, InOrder}
 use Rattle.bson.specs.Pieces.{last_ones, stands_again, IsOpen, IsEnded}
@@ -223,11 +225,18 @@ written_in_order D f (pair k v (pair l w ps)) up =
     bind_same (writes_in D f v) _ _ (λ d. put_first k l d up.0.0 (writes_in D f w) (writes_in_turn (writes_in D f) ps)
     ∙ ap (λ r. r >>= λ ms. Ok (put k d ms)) rest)
 
+object_of_pairs : (D : Doubles) (f : Form) (tested : Bool) (trees : Option (Members × List Token)) (rest : List Token)
+    (old new : List ℕ) (ms : Members) (ps : Pairs) → trees ≡ Some (ms, rest) → (tested ≡ true → has_wrapper ms ≡ false)
+    → reads_members_in D ms ≡ Ok ps → IsBehind D f (document ps) old new → ObjectConverted D f tested trees rest old new
+object_of_pairs D f true trees rest old new ms ps is plain read behind =
+    (document ps, (ms, is, object_read D ms ps (plain refl) read), behind)
+object_of_pairs D f false trees rest old new ms ps is plain read behind = (ps, (ms, is, read), behind)
+
 -- the object that the pieces in order give has the text of its tree
-pub object_in_order : (D : Doubles) (f : Form) (trees : Option (Members × List Token)) (rest : List Token)
-    (old texts new : List ℕ) (ps : List Piece) → ObjectInPieces D f trees rest texts ps → IsEnded ps old texts new
-    → ObjectConverted D f trees rest old new
-object_in_order D f trees rest old texts new ps o ended =
+pub object_in_order : (D : Doubles) (f : Form) (tested : Bool) (trees : Option (Members × List Token))
+    (rest : List Token) (old texts new : List ℕ) (ps : List Piece) → ObjectInPieces D f tested trees rest texts ps
+    → IsEnded ps old texts new → ObjectConverted D f tested trees rest old new
+object_in_order D f tested trees rest old texts new ps o ended =
     let values = o.0 in
     let order = ended.1 in
     let qs = order.0 in
@@ -243,14 +252,11 @@ object_in_order D f trees rest old texts new ps o ended =
     let w = pieces_written D f texts values false ks all in
     let printed : object_text texts ks ≡ text_of (object w.0) = ap (λ l. 123 ∷ l) w.2 ∙ object_printed w.0 in
     let utf8 = IsUtf8-append (123 ∷ []) (members_text texts false ks) (IsUtf8-from_ascii (123 ∷ []) (grind arith))
-    (members_utf8 texts false ks (all_within D f texts values ks all)) in (
-      document pairs,
-      (o.1, o.2, object_read D o.1 pairs o.3 (o.4 ∙ ap Ok put)),
-      (
-        object w.0,
-        ap (λ q. q >>= λ ms. Ok (object ms)) (sym (written_in_order D f pairs up) ∙ w.1),
-        w.3,
-        subst IsUtf8 printed utf8,
-        ended.2 ∙ ap (λ l. old ++ l) (order.4 ∙ printed),
-      ),
+    (members_utf8 texts false ks (all_within D f texts values ks all)) in
+    object_of_pairs D f tested trees rest old new o.1 pairs o.2 o.3 (o.4 ∙ ap Ok put) (
+      object w.0,
+      ap (λ q. q >>= λ ms. Ok (object ms)) (sym (written_in_order D f pairs up) ∙ w.1),
+      w.3,
+      subst IsUtf8 printed utf8,
+      ended.2 ∙ ap (λ l. old ++ l) (order.4 ∙ printed),
     )

@@ -1,19 +1,20 @@
 -- What converting a text gives.
-use Rattle.std.specs.Prelude.{◌≡◌, ℕ, List, ◌++◌, Option, None, Some, Ok, string_bytes}
+use Rattle.std.specs.Prelude.{◌≡◌, ℕ, List, ◌++◌, Bool, true, false, Option, None, Some, Ok, string_bytes}
 use Rattle.std.specs.Cmp.Lexicographic.{slice_cmp}
 use Rattle.std.specs.Ordering.{nat_cmp}
 use Rattle.std.specs.Str.{IsUtf8}
 use Rattle.std.specs.declared.cmp.Ordering.TheVariants.{Less}
 use Rattle.json.specs.Token.{Token}
-use Rattle.serde_json.specs.Data.{Data, Items, Members}
+use Rattle.serde_json.specs.Data.{Data, Items, Members, object}
 use Rattle.bson_wrapper.specs.declared.form.Doubles.{Doubles}
 use Rattle.bson_wrapper.specs.declared.form.Doubles.TheVariants.{Special}
 use Rattle.bson_wrapper.specs.declared.form.Form.{Form}
 use Rattle.bson_wrapper.specs.TreeText.{text_of}
 use Rattle.bson_model.specs.Normal.{InRange}
+use Rattle.bson_model.specs.Reading.{reads_members_in}
 use Rattle.bson_model.specs.Value as model
 use Rattle.bson_model.specs.Writing.{writes_in}
-use Rattle.bson.specs.Straight.{TextMeans, TreeMeans, ItemsMean, ObjectMeans, ObjectReads}
+use Rattle.bson.specs.Straight.{TextMeans, TreeMeans, ItemsMean, ObjectMeans, PairsMean, ObjectReads}
 use Rattle.bson.specs.TextMeaning.{HasTextMeaningIn}
 use Rattle.bson.specs.Texts.{IsTextUnder}
 use Rattle.bson.specs.View.{bson_view}
@@ -49,9 +50,19 @@ abbrev pub ItemsConverted : Doubles → Form → Option (Items × List Token) �
 ItemsConverted D f trees rest old new =
     (vs : model.Values) × ItemsMean D trees vs rest × IsBehind D f (model.array vs) old new
 
--- the same of the members of an object
-abbrev pub ObjectConverted : Doubles → Form → Option (Members × List Token) → List Token → List ℕ → List ℕ → Type 0
-ObjectConverted D f members rest old new = (v : model.Value) × ObjectMeans D members v rest × IsBehind D f v old new
+-- the same of the members of an object, whose keys are tested or not
+abbrev pub ObjectConverted : Doubles → Form → Bool → Option (Members × List Token) → List Token → List ℕ → List ℕ
+    → Type 0
+ObjectConverted D f true members rest old new =
+    (v : model.Value) × ObjectMeans D members v rest × IsBehind D f v old new
+ObjectConverted D f false members rest old new =
+    (ps : model.Pairs) × PairsMean D members ps rest × IsBehind D f (model.document ps) old new
+
+-- the tree of a scope was read, and the text of the code with that scope comes after the old text
+abbrev pub ScopeConverted : Doubles → Form → List ℕ → Option (Data × List Token) → List Token → List ℕ → List ℕ
+    → Type 0
+ScopeConverted D f s tree rest old new = (ms : Members) × (tree ≡ Some (object ms, rest))
+    × (ps : model.Pairs) × (reads_members_in D ms ≡ Ok ps) × IsBehind D f (model.code_scope s ps) old new
 
 -- the same of an object whose first key was read
 abbrev pub WrapperConverted : Doubles → Form → ℕ → List ℕ → List Token → List Token → List ℕ → List ℕ → Type 0

@@ -107,8 +107,9 @@ IsAdded D f k tree rest old ps new qs =
     × (qs ≡ ps ++ p ∷ []))
 
 -- the members of an object were read, of which the pieces have the texts
-abbrev pub ObjectInPieces : Doubles → Form → Option (Members × List Token) → List Token → List ℕ → List Piece → Type 0
-ObjectInPieces D f members rest texts ps =
-    (values : Values) × (trees : Members) × (members ≡ Some (trees, rest)) × (has_wrapper trees ≡ false)
+abbrev pub ObjectInPieces : Doubles → Form → Bool → Option (Members × List Token) → List Token → List ℕ → List Piece
+    → Type 0
+ObjectInPieces D f tested members rest texts ps = (values : Values) × (trees : Members)
+    × (members ≡ Some (trees, rest)) × (tested ≡ true → has_wrapper trees ≡ false)
     × (reads_members_in D trees ≡ Ok (put_each piece_key (value_at values) ps no_pairs))
     × All (IsPiece D f texts values) ps

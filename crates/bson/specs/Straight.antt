@@ -11,7 +11,7 @@ use Rattle.bson_wrapper.specs.Faults.{Fault}
 use Rattle.bson_wrapper.specs.Scalar.{double}
 use Rattle.bson_wrapper.specs.Table.{has_wrapper}
 use Rattle.bson_wrapper.specs.declared.form.Doubles.{Doubles}
-use Rattle.bson_model.specs.Reading.{reads_in, reads_items_in, code_value}
+use Rattle.bson_model.specs.Reading.{reads_in, reads_items_in, reads_members_in, code_value}
 use Rattle.bson_model.specs.Value.{Value, scalar, Values, Pairs, no_pairs, pair}
 use Rattle.bson_order.specs.Kept.{kept}
 use Rattle.bson_tokens.specs.Keys.{any_key, is_wrapper, is_code, is_scope}
@@ -53,6 +53,10 @@ module _ (D : Doubles) where
 
   abbrev pub ObjectMeans : Option (Members × List Token) → Value → List Token → Type 0
   ObjectMeans members v rest = (ms : Members) × (members ≡ Some (ms, rest)) × (reads_in D (object ms) ≡ Ok v)
+
+  -- the same of a scope
+  abbrev pub PairsMean : Option (Members × List Token) → Pairs → List Token → Type 0
+  PairsMean members ps rest = (ms : Members) × (members ≡ Some (ms, rest)) × (reads_members_in D ms ≡ Ok ps)
 
 -- ---- values of no meaning
 

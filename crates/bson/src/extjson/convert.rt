@@ -1,5 +1,5 @@
 //! A text to another of the same value, part by part.
-ghost use Rattle.std.specs.Prelude.{◌≡◌, ◌<◌, ◌||◌, length, true, None, is_some, IfOk, IfErr};
+ghost use Rattle.std.specs.Prelude.{◌≡◌, ◌<◌, ◌||◌, ◌&&◌, length, true, None, is_some, IfOk, IfErr};
 ghost use Rattle.std.specs.Prelude.{OnOk, IsTrue, option_map, string_bytes};
 ghost use Rattle.json.specs.Json.{value, items, members};
 ghost use Rattle.serde_json.specs.Data.{Data, no_members};
@@ -10,8 +10,8 @@ ghost use Rattle.bson_model.specs.Value as model;
 ghost use Rattle.bson.specs.Converted.{IsConversion, IsConversionIn, TreeConverted, ItemsConverted};
 ghost use Rattle.bson.specs.Converted.{ObjectConverted, TextConverted, WrapperConverted};
 ghost use Rattle.bson.specs.Pieces.{IsAdded};
-ghost use Rattle.bson.specs.Straight.{ObjectReads};
 ghost use Rattle.bson_tokens.specs.Keys.{is_scope};
+ghost use Rattle.bson.specs.Straight.{ObjectReads};
 ghost use Rattle.bson.specs.TextMeaning.{IsTextOf, IsTextFault, IsTextFaultIn};
 ghost use Rattle.bson.specs.View.{bson_view};
 ghost use Rattle.bson.specs.declared.extjson.key_order.KeyOrder.TheVariants.{Ascending};
@@ -19,10 +19,12 @@ ghost use Rattle.bson.specs.declared.extjson.text_error.TextError.TheVariants.{O
 ghost use Rattle.bson.specs.declared.extjson.convert.Unconverted.TheVariants as unconverted;
 
 mod by_key;
+mod code;
 mod output;
 
 use crate::bson::Bson;
 use crate::extjson::convert::by_key::{Piece, end_object, with_last};
+use crate::extjson::convert::code::convert_code;
 use crate::extjson::convert::output::{Output, put_byte, put_comma, put_key, put_value, text_of};
 use crate::extjson::key_order::KeyOrder;
 use crate::extjson::options::Options;
@@ -31,7 +33,7 @@ use crate::extjson::text_reader::straight::scope_first::read_scoped;
 use crate::extjson::text_reader::straight::{read_begun, read_wrapped};
 use crate::extjson::text_reader::{MAX_DEPTH, find_fault, read_bytes};
 use bson_tokens::unread::Unread;
-use bson_wrapper::code::is_scope;
+use bson_wrapper::code::{is_code_with_scope, is_scope};
 use bson_wrapper::form::{Doubles, Form};
 use bson_wrapper::wrapper::named;
 use json::{Invalid, Reader, Scratch, Token};
@@ -94,11 +96,12 @@ impl Bson {
     /// The text in the form of the value that the bytes mean, as [`Bson::try_from_text`] reads it;
     /// or that value, where it was read whole.
     ///
-    /// A list is read and written an element at a time, a document a member at a time, at every
-    /// depth. Where the keys of a document do not ascend by bytes, the texts of its members are put
-    /// in order at its end; of a key that stands twice the last is taken. An object that begins with
-    /// a wrapper's key or `$scope` is read whole. So is the text where a value that means nothing
-    /// gives way to a later one of its key.
+    /// A list is read and written an element at a time, a document or the scope of code a member at
+    /// a time, at every depth. Where the keys of a document do not ascend by bytes, the texts of its
+    /// members are put in order at its end; of a key that stands twice the last is taken. An object
+    /// that begins with another wrapper's key or `$scope` is read whole. So is the text where a
+    /// value that means nothing gives way to a later one of its key, or code has a key twice or a
+    /// scope that is null.
     ///
     /// It is Ok and refused as `try_from_text` is, with the same errors.
     pub fn convert_text(alloc: Global, form: Form, bytes: &[u8]) -> Result<Converted, TextError>
@@ -228,7 +231,7 @@ fn convert_value<'a>(
             convert_items(alloc, doubles, form, reader, depth - 1, out)
         }
         Token::BeginObject if depth > 0 => {
-            convert_object(alloc, doubles, form, reader, depth - 1, out)
+            convert_object(alloc, doubles, form, reader, depth - 1, true, out)
         }
         token => {
             let value = read_begun(
@@ -269,7 +272,7 @@ fn convert_items<'a>(
     Ok(put_byte(b']', &mut out.text)?)
 }
 
-// An object whose brace was read.
+// An object whose brace was read, whose keys are tested unless it is the scope of code.
 #[cycle(converting)]
 fn convert_object<'a>(
     alloc: Global,
@@ -277,17 +280,18 @@ fn convert_object<'a>(
     form: Form,
     reader: &mut Reader<'a>,
     depth: usize,
+    tested: bool,
     out: &mut Output,
 ) -> Result<(), Unconverted>
     ensures ok { OnOk result
-        (ObjectConverted doubles form
+        (ObjectConverted doubles form tested
         (converted (λ ms. of_members ms no_members) (members (value depth) (length reader.old) reader.old)) reader.new
         out.old.text.items out.new.text.items) }
     ensures shorter { OnOk result (length reader.new < length reader.old) }
 {
     let mut next = reader.next_key()?;
     if let Some(key) = next {
-        if begins_wrapper(key) {
+        if tested && begins_wrapper(key) {
             return convert_wrapper(alloc, doubles, form, reader, depth, key, out);
         }
     }
@@ -295,7 +299,7 @@ fn convert_object<'a>(
     put_byte(b'{', &mut out.text)?;
     let mut pieces = Vec::new(alloc);
     'members: while let Some(key) = next {
-        if named(key).is_some() {
+        if is_misplaced(tested, key) {
             return Err(Unconverted::Left);
         }
         pieces = convert_member(alloc, doubles, form, reader, depth, key, pieces, out)?;
@@ -335,7 +339,15 @@ fn begins_wrapper(key: &str) -> bool
     is_scope(key) || named(key).is_some()
 }
 
-// The object whose first key was read, which is read whole.
+// A wrapper's key behind another key means nothing, where keys are tested.
+fn is_misplaced(tested: bool, key: &str) -> bool
+    ensures { result ≡ (tested && is_some (wrapper_of key.now)) }
+{
+    tested && named(key).is_some()
+}
+
+// The object whose first key was read: code, or another that is read whole.
+#[cycle(converting)]
 #[inline(never)]
 fn convert_wrapper(
     alloc: Global,
@@ -351,6 +363,9 @@ fn convert_wrapper(
         (WrapperConverted doubles form depth key.now reader.old reader.new out.old.text.items out.new.text.items) }
     ensures shorter { OnOk result (length reader.new < length reader.old) }
 {
+    if is_code_with_scope(key, "$scope") {
+        return convert_code(alloc, doubles, form, reader, depth, out);
+    }
     let value = read_named(alloc, doubles, reader, depth, key)?.ok_or(Unconverted::Left)?;
     Ok(put_value(alloc, doubles, form, value, out)?)
 }

@@ -3,12 +3,14 @@ ghost use Rattle.std.specs.Prelude.{◌≡◌, ◌∷◌, ◌++◌, [], true, On
 ghost use Rattle.std.specs.Str.{IsUtf8};
 ghost use Rattle.json.specs.Print.{quoted, print};
 ghost use Rattle.serde_json.specs.Written.{comma_if};
+ghost use Rattle.bson_wrapper.specs.Tokens.{code_tokens};
 ghost use Rattle.bson_model.specs.Normal.{writable_in};
 ghost use Rattle.bson.specs.Converted.{IsBehind};
 ghost use Rattle.bson.specs.View.{bson_view};
 
 use crate::bson::Bson;
 use crate::extjson::text::print_read;
+use bson_wrapper::code;
 use bson_wrapper::form::{Doubles, Form};
 use json::Writer;
 use std::alloc::{AllocError, Global};
@@ -47,6 +49,17 @@ pub(super) fn put_key(alloc: Global, key: &str, out: &mut Output) -> Result<(), 
 {
     let mut part = writer(alloc, out);
     part.key(key)?;
+    put_part(part, out)
+}
+
+// Adds what stands before the scope in the text of code with its scope.
+#[inline(never)]
+pub(super) fn put_code(alloc: Global, code: &str, out: &mut Output) -> Result<(), AllocError>
+    ensures ok { OnOk result (out.new.text.items ≡ out.old.text.items ++ print (code_tokens code.now)) }
+    ensures utf8 { OnOk result (IsUtf8 (print (code_tokens code.now))) }
+{
+    let mut part = writer(alloc, out);
+    code::put_code(code, &mut part)?;
     put_part(part, out)
 }
 
