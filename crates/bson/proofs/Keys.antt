@@ -11,7 +11,7 @@ use Rattle.bson_wrapper.specs.Table.{has_wrapper}
 use Rattle.bson_wrapper.specs.declared.form.Doubles.{Doubles}
 use Rattle.bson_model.specs.Reading.{reads_in, reads_members_in, reads_wrapper_in}
 use Rattle.bson_model.specs.Value.{document}
-use Rattle.bson_tokens.proofs.Offered.{any_kept, any_new, any_other, one_true, or_from, wrapper_key}
+use Rattle.bson_tokens.proofs.Offered.{any_kept, any_new, one_true, or_from, wrapper_key}
 use Rattle.bson.specs.Straight.{given, is_stray, is_other, IsOdd}
 use Rattle.bson_tokens.specs.Keys.{any_key, is_wrapper, is_code, is_scope}
 

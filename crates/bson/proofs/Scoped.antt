@@ -1,6 +1,6 @@
 -- Code with its scope, read and written part by part.
-use Rattle.std.proofs.Common.{◌≡◌, ℕ, ◌∷◌, ◌++◌, [], ◌<◌, ◌-◌, List, length, codes, Option, Some, None, Result, Ok, Err, option_map}
-use Rattle.std.proofs.Common.{true, false, refl, sym, ap, ◌∙◌, subst, arith, append_assoc}
+use Rattle.std.proofs.Common.{◌≡◌, ℕ, ◌∷◌, ◌++◌, [], ◌<◌, ◌-◌, List, length, codes, Some, None, Result, Ok, Err, option_map}
+use Rattle.std.proofs.Common.{false, refl, ap, ◌∙◌, subst, arith, append_assoc}
 use Rattle.std.proofs.lemmas.Str.{IsUtf8-append, IsUtf8-from_ascii}
 use Rattle.std.specs.Str.{IsUtf8}
 use Rattle.json.specs.Json.{read_key, members, value, parse_map}
@@ -18,7 +18,6 @@ use Rattle.bson_wrapper.specs.declared.form.Form.{Form}
 use Rattle.bson_model.specs.Reading.{reads_in, reads_members_in}
 use Rattle.bson_model.specs.Value.{Pairs, scalar, code_scope, document}
 use Rattle.bson_model.specs.Writing.{writes_pairs_in, with_scope}
-use Rattle.bson.specs.ByOrder.{ObjectIsBy}
 use Rattle.bson.specs.Converted.{IsBehind, ObjectConverted, ScopeConverted, WrapperConverted}
 use Rattle.bson.specs.Straight.{given}
 use Rattle.bson.specs.declared.extjson.key_order.KeyOrder.TheVariants.{Ascending}

@@ -13,7 +13,7 @@ use Rattle.bson_wrapper.proofs.Offered.{on_ok}
 use Rattle.bson_wrapper.specs.Scalar.{code}
 use Rattle.bson_wrapper.specs.Table.{wrapper_of}
 use Rattle.bson_model.specs.Value.{scalar}
-use Rattle.bson.specs.Converted.{IsBehind, ObjectConverted, ScopeConverted, WrapperConverted}
+use Rattle.bson.specs.Converted.{IsBehind, ObjectConverted, WrapperConverted}
 use Rattle.bson.specs.Pieces.{IsOpen, IsEnded, with_comma, open_text}
 use Rattle.bson.specs.Straight.{TreeMeans}
 use Rattle.bson.specs.View.{bson_view}
