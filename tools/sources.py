@@ -8,7 +8,7 @@ from dataclasses import dataclass, field
 from functools import cache
 
 TOP = os.path.dirname(os.path.dirname(os.path.realpath(__file__)))
-EDIT_FOLDERS = ("must-fail", "wrong-bodies")
+EDIT_FOLDERS = ("must-fail", "first-ring", "wrong-bodies")
 FUNCTION = re.compile(r'( *)(pub(?:\([a-z]+\))? )?(?:const )?(?:extern "C" )?fn (\w+)')
 IMPL = re.compile(r"(?:pub )?(?:(impl)(?:<[^{]*?>)? (?:(?:\w+::)*(\w+)(?:<.*?>)? for )?&?(?:'\w+ )?|(trait) )(\w+)")
 CLAUSE = re.compile(r"^ *(ensures\*?|requires) ?([a-z_0-9]*) *\{", re.M)
@@ -217,7 +217,7 @@ def words_of(clause: Clause, file: str) -> list[Definition]:
 
 @dataclass(frozen=True)
 class WrongBody:
-    """An edit of must-fail/ or wrong-bodies/: its file, and the files and functions that it changes or names."""
+    """A wrong body of EDIT_FOLDERS: its file, and the files and functions that it changes or names."""
 
     path: str
     crate: str
