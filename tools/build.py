@@ -39,25 +39,26 @@ PROVED = re.compile(
 # minutes of them that further jobs do not share, and the memory in GB of its first job. From the lines of out/build.log:
 # processor seconds / 60, and what then gives the seconds by the jobs that it had.
 COSTS = {
-    "bson_datetime": (2.8, 0.3, 1.6),
-    "bson_decimal": (2.4, 0.3, 1.6),
+    "bson_datetime": (2.4, 0.2, 1.6),
+    "bson_decimal": (2.0, 0.2, 1.6),
     "bson_double": (1.1, 0.2, 1.6),
-    "bson_store": (4.2, 1.0, 1.8),
-    "bson_scalar": (4.6, 0.6, 1.6),
-    "bson_wrapper": (7.3, 1.0, 2.3),
+    "bson_store": (4.5, 1.2, 2.0),
+    "bson_scalar": (4.0, 0.5, 1.6),
+    "bson_wrapper": (6.3, 1.0, 2.4),
     "bson_model": (0.5, 0.2, 1.6),
-    "bson_kind": (2.6, 1.2, 1.6),
-    "bson_place": (2.7, 1.7, 1.6),
-    "bson_tokens": (3.7, 1.1, 1.6),
-    "bson_filter": (3.4, 0.9, 1.6),
-    "bson_pack": (3.4, 0.9, 1.6),
-    "bson_distinct": (1.2, 0.8, 1.6),
-    "bson_legacy": (1.4, 0.8, 1.6),
-    "bson": (19.2, 2.2, 4.8),
-    "bson_run": (4.5, 1.0, 2.2),
-    "bson_cli": (1.7, 1.2, 1.6),
-    "bson_bytes": (2.9, 0.9, 1.6),
-    "bson_codec": (10.0, 1.2, 2.4),
+    "bson_order": (0.4, 0.1, 1.6),
+    "bson_kind": (1.8, 0.3, 1.6),
+    "bson_place": (1.8, 0.5, 1.6),
+    "bson_tokens": (4.5, 1.0, 1.8),
+    "bson_filter": (2.0, 0.6, 1.6),
+    "bson_pack": (2.1, 0.7, 1.6),
+    "bson_distinct": (0.8, 0.3, 1.6),
+    "bson_legacy": (1.5, 0.3, 1.6),
+    "bson": (16.5, 1.5, 4.8),
+    "bson_run": (5.1, 0.7, 2.5),
+    "bson_cli": (1.5, 0.9, 1.6),
+    "bson_bytes": (3.0, 0.3, 1.7),
+    "bson_codec": (5.8, 1.1, 2.4),
     "bson_lines": (6.8, 1.2, 2.5),
     "vbson": (2.5, 1.2, 1.6),
 }
@@ -178,11 +179,23 @@ class Schedule:
 
     def __init__(self, steps, processors, memory):
         self.steps, self.processors, self.memory = steps, processors, memory
+        # The jobs of those crates that do better with other than their share.
+        self.jobs = {}
         # Of each crate, the minutes from its start to the end of the last crate that waits for it.
         self.chain = {}
         for name in reversed([*steps]):
             users = [it.name for it in steps.values() if name in [dep.name for dep in it.crate.deps]]
             self.chain[name] = steps[name].minutes(2) + max((self.chain[it] for it in users), default=0)
+        self.improve()
+
+    def improve(self):
+        """Gives each crate, the longest first, the jobs with which the whole plan is shortest."""
+        best = max(self.planned(()).values())
+        for name in sorted(self.steps, key=lambda it: -self.steps[it].minutes_alone):
+            for jobs in range(1, min(4, self.processors) + 1):
+                before, self.jobs = self.jobs, {**self.jobs, name: jobs}
+                end = max(self.planned(()).values())
+                best, self.jobs = (end, self.jobs) if end < best else (best, before)
 
     def next(self, done, running):
         """The crates to start now, each with its jobs: its share of the free processors, or fewer where memory is short."""
@@ -193,7 +206,7 @@ class Schedule:
             room = self.memory - sum(self.steps[it].need(jobs) for it, jobs in running.items())
             free = self.processors - sum(running.values())
             # (two jobs each at least, so that the longest chains come first)
-            share = -(-free // min(len(ready) - at, max(1, free // 2)))
+            share = min(free, self.jobs.get(name, -(-free // min(len(ready) - at, max(1, free // 2)))))
             # One that all others wait for takes all processors: what runs beside it ends sooner.
             is_head = len(ready) == 1 and all(self.chain[name] > self.chain[it] for it in running)
             most = min(4, self.processors if is_head else share)
