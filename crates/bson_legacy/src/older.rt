@@ -1,44 +1,14 @@
-//! Objects of one or two texts: which are of an older shape, and what is written for them.
+//! Objects of one or two texts, which may be of an older shape, and what is written for them.
 ghost use Rattle.std.specs.Prelude.{◌≡◌, ◌++◌, ◌∷◌, [], OnOk};
 ghost use Rattle.json.specs.Json.{string};
 ghost use Rattle.json.specs.Token as token;
 ghost use Rattle.json.specs.Tree.{json_tokens};
-ghost use Rattle.bson_legacy.specs.Modern.{of_one, of_texts, strings};
+ghost use Rattle.bson_legacy.specs.Modern.{binary_tree, of_one, of_texts, regex_tree};
 ghost use Rattle.bson_legacy.specs.Passed.{of_value};
-ghost use Rattle.bson_legacy.specs.Seen.{shape_of};
 
 use crate::date::with_colon;
 use json::Writer;
 use std::alloc::{AllocError, Global};
-
-/// What an object of two texts stands for.
-#[derive(Clone, Copy, Debug)]
-enum Shape<'a> {
-    /// The base64 text and the subtype of a binary.
-    Binary(&'a str, &'a str),
-    /// The pattern and the options of a regular expression.
-    Regex(&'a str, &'a str),
-    /// It is of no older shape.
-    Other,
-}
-
-fn older<'k, 'a>(key: &'k str, text: &'a str, other: &'k str, more: &'a str) -> Shape<'a>
-    ensures { shape_of result ≡ strings key.now text.now other.now more.now }
-{
-    if key == "$binary" && other == "$type" {
-        return Shape::Binary(text, more);
-    }
-    if key == "$type" && other == "$binary" {
-        return Shape::Binary(more, text);
-    }
-    if key == "$regex" && other == "$options" {
-        return Shape::Regex(text, more);
-    }
-    if key == "$options" && other == "$regex" {
-        return Shape::Regex(more, text);
-    }
-    Shape::Other
-}
 
 /// Writes what the object of this member alone stands for: a date, or itself.
 pub(crate) fn write_lone(
@@ -78,20 +48,40 @@ pub(crate) fn write_pair(
         (out.new.tokens ≡ out.old.tokens ++ of_value (of_texts key.now text.now other.now more.now)) }
     ensures before { out.new.before ≡ out.old.before }
 {
-    match older(key, text, other, more) {
-        Shape::Binary(base64, sub_type) => {
-            write_wrapper("$binary", "base64", base64, "subType", sub_type, out)
-        }
-        Shape::Regex(pattern, options) => write_wrapper(
-            "$regularExpression",
-            "pattern",
-            pattern,
-            "options",
-            options,
-            out,
-        ),
-        Shape::Other => write_texts(key, text, other, more, out),
+    if key == "$binary" && other == "$type" {
+        return write_binary(text, more, out);
     }
+    if key == "$type" && other == "$binary" {
+        return write_binary(more, text, out);
+    }
+    if key == "$regex" && other == "$options" {
+        return write_regex(text, more, out);
+    }
+    if key == "$options" && other == "$regex" {
+        return write_regex(more, text, out);
+    }
+    write_texts(key, text, other, more, out)
+}
+
+fn write_binary(base64: &str, sub_type: &str, out: &mut Writer) -> Result<(), AllocError>
+    ensures ok { OnOk result (out.new.tokens ≡ out.old.tokens ++ json_tokens (binary_tree base64.now sub_type.now)) }
+    ensures before { out.new.before ≡ out.old.before }
+{
+    write_wrapper("$binary", "base64", base64, "subType", sub_type, out)
+}
+
+fn write_regex(pattern: &str, options: &str, out: &mut Writer) -> Result<(), AllocError>
+    ensures ok { OnOk result (out.new.tokens ≡ out.old.tokens ++ json_tokens (regex_tree pattern.now options.now)) }
+    ensures before { out.new.before ≡ out.old.before }
+{
+    write_wrapper(
+        "$regularExpression",
+        "pattern",
+        pattern,
+        "options",
+        options,
+        out,
+    )
 }
 
 // The object of a key alone, which holds an object of two texts.

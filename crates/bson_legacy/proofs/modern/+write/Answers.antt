@@ -1,10 +1,10 @@
-use Rattle.std.proofs.Common.{◌≡◌, ◌<◌, ◌++◌, [], ◌∷◌, length, Some, None, refl, sym, ap, ◌∙◌, arith}
+use Rattle.std.proofs.Common.{◌≡◌, [], ◌∷◌, length, Some, None, refl, sym, ap, ◌∙◌, arith}
 use Rattle.std.proofs.lemmas.Result.{err_from_is_err_and, on_ok_weaker}
 use Rattle.json.specs.Json.{array, object, member, after_end_array, parse_map, read_key, value}
 use Rattle.json.specs.Reads.{token_of}
 use Rattle.json.specs.Token as token
 use Rattle.json.proofs.Grammar.{left, read_key_is, read_key-shorter, skip_value-shorter, value_is}
-use Rattle.bson_legacy.specs.Passed.{Passes, elements, inside, of_items, of_members, of_value}
+use Rattle.bson_legacy.specs.Passed.{Passes, inside, of_items, of_members, of_value}
 use Rattle.bson_legacy.proofs.Passing.{all_breaks, breaks, first_passes, item_passed, items_passed, lone_passes}
 use Rattle.bson_legacy.proofs.Passing.{member_passed, members_passed, no_text_held, no_texts_held, none_passes}
 use Rattle.bson_legacy.proofs.Passing.{pair_passes, second_passes, third_passes}
