@@ -28,8 +28,8 @@ const MAX_DEPTH: usize = 127;
 /// answered where the text is no JSON text of at most 127 levels. A binary and a regular expression
 /// nest one level deeper than they did.
 ///
-/// No tree is made: the text is written as it is read. Memory is that of the output, and as much
-/// again as the text has for those of its texts that have escapes.
+/// No tree is made: the text is written as it is read, and of an object no more than two members are
+/// held. Memory is that of the output, and as much as the text has once more for texts with escapes.
 ///
 /// ```
 /// let text = modern_text(alloc, r#"{"$binary": "AQI=", "$type": "00"}"#)?;
