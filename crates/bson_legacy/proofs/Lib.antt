@@ -1,2 +1,5 @@
+pub mod Reading
+pub mod Values
 pub mod Shapes
+pub mod Passing
 pub mod Whole

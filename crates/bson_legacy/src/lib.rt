@@ -1,8 +1,8 @@
-//! Trees of the older MongoDB Extended JSON (v1), as older programs wrote them, made into those of
-//! v2 that they stand for.
+//! Texts of the older MongoDB Extended JSON (v1), as older programs wrote them, made into those of
+//! v2 that they stand for, with no tree.
 //!
-//! In reading order: `older` (which objects are of an older shape), `date` (offsets with no colon),
-//! `modern` (from a text to the text in their place).
+//! In reading order: `date` (offsets with no colon), `older` (objects of an older shape), `modern`
+//! (from a text to the text in its place).
 #![tactic(auto)]
 
 mod date;

@@ -1,21 +1,20 @@
-//! From a text to the text in its place.
-ghost use Rattle.std.specs.Prelude.{◌≡◌, ◌++◌, ◌∷◌, [], IfErr, IfOk, OnOk, string_bytes};
+//! From a text to the text in its place, token by token.
+ghost use Rattle.std.specs.Prelude.{◌≡◌, ◌≢◌, ◌∷◌, [], IfErr, IfOk, OnOk, string_bytes};
+ghost use Rattle.json.specs.Json.{value};
 ghost use Rattle.json.specs.Lex.{tokens};
-ghost use Rattle.json.specs.Print.{print};
-ghost use Rattle.json.specs.Tree.{json_tokens, items_tokens, members_tokens};
-ghost use Rattle.json.specs.Tree.{HasNumbers, ItemsHaveNumbers, MembersHaveNumbers};
-ghost use Rattle.json.specs.Value.{value_view, items_view, members_view};
+ghost use Rattle.json.specs.Print.{print, IsPrintable};
+ghost use Rattle.json.specs.Reads.{token_of};
 ghost use Rattle.json.specs.Token as token;
 ghost use Rattle.bson_distinct.specs.Double.{json_of};
 ghost use Rattle.bson_tokens.specs.Parts.{IsBroken};
+ghost use Rattle.bson_legacy.specs.Passed.{MemberPasses, Passes, elements, inside};
+ghost use Rattle.bson_legacy.specs.Passed.{of_items, of_members, of_object, of_value};
 ghost use Rattle.bson_legacy.specs.Text.{IsModernText};
-ghost use Rattle.bson_legacy.specs.Modern.{date_tree, modern, modern_items, modern_members, of_one, of_texts};
 
-use crate::date::with_colon;
-use crate::older::{Shape, older};
+use crate::older::{write_lone, write_pair, write_text};
 use bson_tokens::unread::Unread;
-use json::{Error, Reader, Scratch, Value, Writer};
-use std::alloc::{AllocError, Global};
+use json::{Reader, Scratch, Token, Writer};
+use std::alloc::Global;
 
 /// How deep arrays and objects may nest.
 const MAX_DEPTH: usize = 127;
@@ -29,6 +28,9 @@ const MAX_DEPTH: usize = 127;
 /// answered where the text is no JSON text of at most 127 levels. A binary and a regular expression
 /// nest one level deeper than they did.
 ///
+/// No tree is made: the text is written as it is read, and of an object no more than two members are
+/// held. Memory is that of the output, and as much as the text has once more for texts with escapes.
+///
 /// ```
 /// let text = modern_text(alloc, r#"{"$binary": "AQI=", "$type": "00"}"#)?;
 /// println!(rt; "{text}")?; // {"$binary":{"base64":"AQI=","subType":"00"}}
@@ -39,16 +41,11 @@ pub fn modern_text(alloc: Global, text: &str) -> Result<String, Unread>
 {
     let mut scratch = Scratch::new(alloc);
     let mut reader = Reader::new(text, &mut scratch)?;
-    let tree = match Value::read(alloc, &mut reader, MAX_DEPTH) {
-        Ok(tree) => tree,
-        Err(Error::OutOfMemory) => return Err(Unread::OutOfMemory),
-        Err(_) => return Err(Unread::Broken),
-    };
+    let mut out = Writer::new(Vec::with_capacity(alloc, text.len())?);
+    write_value(alloc, &mut reader, MAX_DEPTH, &mut out)?;
     if reader.next().is_some() {
         return Err(Unread::Broken);
     }
-    let mut out = Writer::new(Vec::with_capacity(alloc, text.len())?);
-    write_modern(alloc, &tree, &mut out)?;
     Ok(finished(out))
 }
 
@@ -65,128 +62,196 @@ fn finished(out: Writer) -> String
 }
 
 #[cycle(write)]
-fn write_modern<'a>(alloc: Global, value: &Value<'a>, out: &mut Writer) -> Result<(), AllocError>
-    requires { HasNumbers (value_view value.now) }
-    ensures ok { OnOk result (out.new.tokens ≡ out.old.tokens ++ json_tokens (modern (value_view value.now))) }
-    ensures before { out.new.before ≡ out.old.before }
+fn write_value<'a>(
+    alloc: Global,
+    reader: &mut Reader<'a>,
+    depth: usize,
+    out: &mut Writer,
+) -> Result<(), Unread>
+    ensures ok { OnOk result
+        (Passes of_value (value depth reader.old) reader.new out.old.tokens out.new.tokens) }
+    ensures broken { IfErr result (IsBroken (value depth reader.old)) }
+    ensures before { OnOk result (out.new.before ≡ out.old.before) }
 {
-    match value {
-        Value::Null => out.null(),
-        Value::Bool(b) => out.boolean(*b),
-        Value::Number(text) => out.number(text),
-        Value::String(text) => out.string(text),
-        Value::Array(items) => {
+    let first = reader.next().ok_or(Unread::Broken)?;
+    write_begun(alloc, first, reader, depth, out)
+}
+
+// The value whose first token was read.
+#[cycle(write)]
+fn write_begun<'a>(
+    alloc: Global,
+    first: Token<'a>,
+    reader: &mut Reader<'a>,
+    depth: usize,
+    out: &mut Writer,
+) -> Result<(), Unread>
+    requires { first ≢ Token.Bad → IsPrintable (token_of first) }
+    ensures ok { OnOk result (Passes of_value (value depth (token_of first.entry ∷ reader.old)) reader.new
+        out.old.tokens out.new.tokens) }
+    ensures broken { IfErr result (IsBroken (value depth (token_of first.entry ∷ reader.old))) }
+    ensures before { OnOk result (out.new.before ≡ out.old.before) }
+{
+    match first {
+        Token::String(_) | Token::Number(_) | Token::Bool(_) | Token::Null => Ok(out.token(first)?),
+        Token::EndObject | Token::EndArray | Token::Key(_) | Token::Bad => Err(Unread::Broken),
+        Token::BeginArray => {
+            if depth == 0 {
+                return Err(Unread::Broken);
+            }
             out.begin_array()?;
-            write_items(alloc, items, out)
+            write_items(alloc, reader, depth - 1, out)
         }
-        Value::Object(members) => match older(members) {
-            Shape::Binary(base64, sub_type) => {
-                write_wrapper("$binary", "base64", base64, "subType", sub_type, out)
+        Token::BeginObject => {
+            if depth == 0 {
+                return Err(Unread::Broken);
             }
-            Shape::Regex(pattern, options) => write_wrapper(
-                "$regularExpression",
-                "pattern",
-                pattern,
-                "options",
-                options,
-                out,
-            ),
-            Shape::Date(text) => write_date(alloc, text, out),
-            Shape::Other => {
-                out.begin_object()?;
-                write_members(alloc, members, out)
-            }
-        },
+            write_object(alloc, reader, depth - 1, out)
+        }
     }
 }
 
+// The elements of a list, and its end.
 #[cycle(write)]
 fn write_items<'a>(
     alloc: Global,
-    items: &Vec<Value<'a>>,
+    reader: &mut Reader<'a>,
+    depth: usize,
     out: &mut Writer,
-) -> Result<(), AllocError>
-    requires { ItemsHaveNumbers (items_view items.now.items) }
+) -> Result<(), Unread>
     ensures ok { OnOk result
-        (out.new.tokens ≡ out.old.tokens ++ items_tokens (modern_items (items_view items.now.items))) }
-    ensures before { out.new.before ≡ out.old.before }
+        (Passes of_items (elements depth reader.old) reader.new out.old.tokens out.new.tokens) }
+    ensures broken { IfErr result (IsBroken (elements depth reader.old)) }
+    ensures before { OnOk result (out.new.before ≡ out.old.before) }
 {
-    for item in items {
-        write_modern(alloc, item, out)?;
+    'items: while !reader.take_end_array() {
+        write_value(alloc, reader, depth, out)?;
     }
-    out.end_array()
+    Ok(out.end_array()?)
 }
 
+// An object whose brace was read. While it may be of an older shape its members are held: no more
+// than two, which are texts.
 #[cycle(write)]
-fn write_members<'a>(
+fn write_object<'a>(
     alloc: Global,
-    members: &Vec<(&'a str, Value<'a>)>,
+    reader: &mut Reader<'a>,
+    depth: usize,
     out: &mut Writer,
-) -> Result<(), AllocError>
-    requires { MembersHaveNumbers (members_view members.now.items) }
+) -> Result<(), Unread>
     ensures ok { OnOk result
-        (out.new.tokens ≡ out.old.tokens ++ members_tokens (modern_members (members_view members.now.items))) }
-    ensures before { out.new.before ≡ out.old.before }
+        (Passes of_object (inside depth reader.old) reader.new out.old.tokens out.new.tokens) }
+    ensures broken { IfErr result (IsBroken (inside depth reader.old)) }
+    ensures before { OnOk result (out.new.before ≡ out.old.before) }
 {
-    for member in members {
-        out.key(member.0)?;
-        write_modern(alloc, &member.1, out)?;
-    }
-    out.end_object()
+    let Some(key) = reader.next_key()? else {
+        out.begin_object()?;
+        return Ok(out.end_object()?);
+    };
+    let first = reader.next().ok_or(Unread::Broken)?;
+    let Token::String(text) = first else {
+        out.begin_object()?;
+        return write_member(alloc, key, first, reader, depth, out);
+    };
+    write_behind_one(alloc, key, text, reader, depth, out)
 }
 
-// The object of a key alone, which holds an object of two texts.
-fn write_wrapper(
-    wrapper: &str,
-    key: &str,
-    text: &str,
-    other: &str,
-    more: &str,
+// An object of which the first member was read, a text.
+#[cycle(write)]
+fn write_behind_one<'a>(
+    alloc: Global,
+    key: &'a str,
+    text: &'a str,
+    reader: &mut Reader<'a>,
+    depth: usize,
     out: &mut Writer,
-) -> Result<(), AllocError>
-    ensures ok { OnOk result (out.new.tokens ≡ out.old.tokens
-        ++ json_tokens (of_one wrapper.now (of_texts key.now text.now other.now more.now))) }
-    ensures before { out.new.before ≡ out.old.before }
+) -> Result<(), Unread>
+    ensures ok { OnOk result
+        (Passes of_object (inside depth (token.key key.now ∷ token.string text.now ∷ reader.old)) reader.new
+        out.old.tokens out.new.tokens) }
+    ensures broken { IfErr result
+        (IsBroken (inside depth (token.key key.now ∷ token.string text.now ∷ reader.old))) }
+    ensures before { OnOk result (out.new.before ≡ out.old.before) }
 {
-    out.begin_object()?;
-    out.key(wrapper)?;
-    write_texts(key, text, other, more, out)?;
-    out.end_object()
+    let Some(other) = reader.next_key()? else {
+        return Ok(write_lone(alloc, key, text, out)?);
+    };
+    let first = reader.next().ok_or(Unread::Broken)?;
+    let Token::String(more) = first else {
+        out.begin_object()?;
+        write_text(key, text, out)?;
+        return write_member(alloc, other, first, reader, depth, out);
+    };
+    write_behind_two(alloc, key, text, other, more, reader, depth, out)
 }
 
-fn write_texts(
-    key: &str,
-    text: &str,
-    other: &str,
-    more: &str,
+// An object of which the first two members were read, both texts.
+#[cycle(write)]
+fn write_behind_two<'a>(
+    alloc: Global,
+    key: &'a str,
+    text: &'a str,
+    other: &'a str,
+    more: &'a str,
+    reader: &mut Reader<'a>,
+    depth: usize,
     out: &mut Writer,
-) -> Result<(), AllocError>
-    ensures ok { OnOk result (out.new.tokens ≡ out.old.tokens
-        ++ json_tokens (of_texts key.now text.now other.now more.now)) }
-    ensures before { out.new.before ≡ out.old.before }
+) -> Result<(), Unread>
+    ensures ok { OnOk result
+        (Passes of_object (inside depth (token.key key.now ∷ token.string text.now ∷ token.key other.now
+        ∷ token.string more.now ∷ reader.old)) reader.new out.old.tokens out.new.tokens) }
+    ensures broken { IfErr result (IsBroken (inside depth (token.key key.now ∷ token.string text.now
+        ∷ token.key other.now ∷ token.string more.now ∷ reader.old))) }
+    ensures before { OnOk result (out.new.before ≡ out.old.before) }
 {
+    let Some(third) = reader.next_key()? else {
+        return Ok(write_pair(key, text, other, more, out)?);
+    };
+    let first = reader.next().ok_or(Unread::Broken)?;
     out.begin_object()?;
     write_text(key, text, out)?;
     write_text(other, more, out)?;
-    out.end_object()
+    write_member(alloc, third, first, reader, depth, out)
 }
 
-// A member that is a text.
-fn write_text(key: &str, text: &str, out: &mut Writer) -> Result<(), AllocError>
-    ensures ok { OnOk result (out.new.tokens ≡ out.old.tokens ++ token.key key.now ∷ token.string text.now ∷ []) }
-    ensures before { out.new.before ≡ out.old.before }
+// The member of this key, of whose value the first token was read, and those behind it.
+#[cycle(write)]
+fn write_member<'a>(
+    alloc: Global,
+    key: &'a str,
+    first: Token<'a>,
+    reader: &mut Reader<'a>,
+    depth: usize,
+    out: &mut Writer,
+) -> Result<(), Unread>
+    requires { first ≢ Token.Bad → IsPrintable (token_of first) }
+    ensures ok { OnOk result (MemberPasses depth key.now (token_of first.entry ∷ reader.old) reader.new
+        out.old.tokens out.new.tokens) }
+    ensures broken { IfErr result
+        (IsBroken (inside depth (token.key key.now ∷ token_of first.entry ∷ reader.old))) }
+    ensures before { OnOk result (out.new.before ≡ out.old.before) }
 {
     out.key(key)?;
-    out.string(text)
+    write_begun(alloc, first, reader, depth, out)?;
+    write_members(alloc, reader, depth, out)
 }
 
-fn write_date(alloc: Global, text: &str, out: &mut Writer) -> Result<(), AllocError>
-    ensures ok { OnOk result (out.new.tokens ≡ out.old.tokens ++ json_tokens (date_tree text.now)) }
-    ensures before { out.new.before ≡ out.old.before }
+// The members to the end of their object, and that end.
+#[cycle(write)]
+fn write_members<'a>(
+    alloc: Global,
+    reader: &mut Reader<'a>,
+    depth: usize,
+    out: &mut Writer,
+) -> Result<(), Unread>
+    ensures ok { OnOk result
+        (Passes of_members (inside depth reader.old) reader.new out.old.tokens out.new.tokens) }
+    ensures broken { IfErr result (IsBroken (inside depth reader.old)) }
+    ensures before { OnOk result (out.new.before ≡ out.old.before) }
 {
-    let moment = with_colon(alloc, text)?;
-    out.begin_object()?;
-    out.key("$date")?;
-    out.string(&moment)?;
-    out.end_object()
+    'members: while let Some(key) = reader.next_key()? {
+        out.key(key)?;
+        write_value(alloc, reader, depth, out)?;
+    }
+    Ok(out.end_object()?)
 }

@@ -1,72 +1,291 @@
-use Rattle.std.proofs.Common.{◌≡◌, ◌+◌, ◌<◌, ◌∷◌, [], ◌++◌, length, drop, sym, ap, ◌∙◌, subst, arith, rules, OnOk}
-use Rattle.std.proofs.lemmas.List.{drop_more, append_assoc}
-use Rattle.std.proofs.lemmas.Result.{on_ok_weaker}
-use Rattle.json.specs.Token.{begin_object}
-use Rattle.json.specs.Tree.{json_tokens, items_tokens, members_tokens, HasNumbers, ItemsHaveNumbers, MembersHaveNumbers}
-use Rattle.json.specs.Value.{value_view, items_view, members_view}
-use Rattle.json.proofs.Trees.{item_smaller, member_smaller}
-use Rattle.bson_legacy.specs.Modern.{modern_members, binary, regex, other}
-use Rattle.bson_legacy.specs.Seen.{shape_of}
-use Rattle.bson_legacy.proofs.Shapes.{of_shape}
+use Rattle.std.proofs.Common.{◌≡◌, [], ◌∷◌, length, Some, None, refl, sym, ap, ◌∙◌, arith}
+use Rattle.std.proofs.lemmas.Result.{err_from_is_err_and, on_ok_weaker}
+use Rattle.json.specs.Json.{array, object, member, after_end_array, parse_map, read_key, value}
+use Rattle.json.specs.Reads.{token_of}
+use Rattle.json.specs.Token as token
+use Rattle.json.proofs.Grammar.{left, read_key_is, read_key-shorter, skip_value-shorter, value_is}
+use Rattle.bson_legacy.specs.Passed.{Passes, inside, of_items, of_members, of_value}
+use Rattle.bson_legacy.proofs.Passing.{all_breaks, breaks, first_passes, item_passed, items_passed, lone_passes}
+use Rattle.bson_legacy.proofs.Passing.{member_passed, members_passed, no_text_held, no_texts_held, none_passes}
+use Rattle.bson_legacy.proofs.Passing.{pair_passes, second_passes, third_passes}
+use Rattle.bson_legacy.proofs.Reading.{no_item, no_key, no_member, one_member}
+use Rattle.bson_legacy.proofs.Values.{array_opened, array_passes, array_too_deep, none_begins, object_opened}
+use Rattle.bson_legacy.proofs.Values.{object_passes, object_too_deep, plain_passes}
 use Rattle.bson_legacy.proofs.modern.+write.Goals as goal
 
-pub write_items-write_modern-requires : goal.write_items-write_modern-requires
-write_items-write_modern-requires t c =
-    let l = c.loop-item in
-    let xs = c.deref-item-items.result.now in
-    let x = c.item-item.result in
-    let here : drop l.item-index xs ≡ x ∷ drop (l.item-index + 1) xs =
-    drop_more xs l.item-index x (omega arith) ∙ ap (λ y. y ∷ drop (l.item-index + 1) xs) (sym c.item-item.is) in
-    let numbers : HasNumbers (value_view x) = (subst (λ ys. ItemsHaveNumbers (items_view ys)) here l.invariant.1).0 in
-    let smaller : length (json_tokens (value_view x)) < length (items_tokens (items_view c.args.items.now.items)) =
-    subst (λ ys. length (json_tokens (value_view x)) < length (items_tokens (items_view ys)))
-    c.deref-item-items.ensures.value
-    (subst (λ y. length (json_tokens (value_view y)) < length (items_tokens (items_view xs))) (sym c.item-item.is)
-    (item_smaller xs l.item-index x (omega arith))) in
-    search rules
+-- ---- values
 
-pub write_members-write_modern-requires : goal.write_members-write_modern-requires
-write_members-write_modern-requires t c =
-    let l = c.loop-member in
-    let xs = c.deref-member-items.result.now in
-    let x = c.member-item.result in
-    let here : drop l.member-index xs ≡ x ∷ drop (l.member-index + 1) xs =
-    drop_more xs l.member-index x (omega arith) ∙ ap (λ y. y ∷ drop (l.member-index + 1) xs) (sym c.member-item.is) in
-    let numbers : HasNumbers (value_view x.1) =
-    (subst (λ ys. MembersHaveNumbers (members_view ys)) here l.invariant.1).0 in
-    let smaller : length (json_tokens (value_view x.1)) < length (members_tokens (members_view c.args.members.now.items)) =
-    subst (λ ys. length (json_tokens (value_view x.1)) < length (members_tokens (members_view ys)))
-    c.deref-member-items.ensures.value
-    (subst (λ y. length (json_tokens (value_view y.1)) < length (members_tokens (members_view xs)))
-    (sym c.member-item.is) (member_smaller xs l.member-index x (omega arith))) in
-    search rules
+pub write_begun-returns-in_ok-token-in-String-clause-ok : goal.write_begun-returns-in_ok-token-in-String-clause-ok
+write_begun-returns-in_ok-token-in-String-clause-ok t c =
+    plain_passes c.args.depth c.args.first c.args.reader.now c.args.out.now.tokens c.token.new.self.tokens
+    c.in-String.is c.in_ok-token-in-String.ensures.ok
 
-pub write_modern-returns-in-Binary-clause-ok : goal.write_modern-returns-in-Binary-clause-ok
-write_modern-returns-in-Binary-clause-ok t c =
-    let shape = binary c.in-Binary.base64.now c.in-Binary.sub_type.now in
-    let is =
-    of_shape c.args.value.now c.in-Object.members shape c.in-Object.is
-    (sym c.older.ensures ∙ ap shape_of c.in-Binary.is) in
-    subst (λ j. OnOk c.write_wrapper.result (c.write_wrapper.new.out.tokens ≡ c.args.out.now.tokens ++ json_tokens j))
-    (sym is) c.write_wrapper.ensures.ok
+pub write_begun-returns-in_ok-begin_array-in-BeginArray-clause-ok :
+    goal.write_begun-returns-in_ok-begin_array-in-BeginArray-clause-ok
+write_begun-returns-in_ok-begin_array-in-BeginArray-clause-ok t c =
+    on_ok_weaker c.write_items.result
+    (array_passes c.args.depth c.args.first c.args.reader.now c.write_items.new.reader c.args.out.now.tokens
+    c.begin_array.new.self.tokens c.write_items.new.out.tokens c.in-BeginArray.is (omega arith)
+    c.in_ok-begin_array-in-BeginArray.ensures.ok) c.write_items.ensures.ok
 
-pub write_modern-returns-in-Regex-clause-ok : goal.write_modern-returns-in-Regex-clause-ok
-write_modern-returns-in-Regex-clause-ok t c =
-    let shape = regex c.in-Regex.pattern.now c.in-Regex.options.now in
-    let is =
-    of_shape c.args.value.now c.in-Object.members shape c.in-Object.is
-    (sym c.older.ensures ∙ ap shape_of c.in-Regex.is) in
-    let wrote = c.write_wrapper-in-Regex in
-    subst (λ j. OnOk wrote.result (wrote.new.out.tokens ≡ c.args.out.now.tokens ++ json_tokens j)) (sym is)
-    wrote.ensures.ok
+pub write_begun-returns-else-depth-eq0-2-clause-ok : goal.write_begun-returns-else-depth-eq0-2-clause-ok
+write_begun-returns-else-depth-eq0-2-clause-ok t c =
+    on_ok_weaker c.write_object.result
+    (object_passes c.args.depth c.args.first c.args.reader.now c.write_object.new.reader c.args.out.now.tokens
+    c.write_object.new.out.tokens c.in-BeginObject.is (omega arith)) c.write_object.ensures.ok
 
-pub write_modern-returns-in_ok-begin_object-in-Other-clause-ok :
-    goal.write_modern-returns-in_ok-begin_object-in-Other-clause-ok
-write_modern-returns-in_ok-begin_object-in-Other-clause-ok t c =
-    let old = c.args.out.now.tokens in
-    let held = members_tokens (modern_members (members_view c.in-Object.members.items)) in
-    let is =
-    of_shape c.args.value.now c.in-Object.members other c.in-Object.is (sym c.older.ensures ∙ ap shape_of c.in-Other.is) in
-    on_ok_weaker c.write_members.result
-    (λ wrote. wrote ∙ ap (λ ts. ts ++ held) c.in_ok-begin_object-in-Other.ensures.ok
-    ∙ append_assoc old (begin_object ∷ []) held ∙ ap (λ j. old ++ json_tokens j) (sym is)) c.write_members.ensures.ok
+-- ---- lists
+
+pub write_items-items-preserved : goal.write_items-items-preserved
+write_items-items-preserved t c =
+    let l = c.items in
+    let going : (after_end_array l.reader ≡ None) × (c.take_end_array.new.self ≡ l.reader) = grind arith in
+    let read : Passes of_value (value c.args.depth l.reader) c.write_value.new.reader l.out.tokens
+    c.write_value.new.out.tokens = rw (← going.1) c.in_ok-write_value.ensures.ok in (
+      c.in_ok-write_value.ensures.before ∙ l.invariant.0,
+      item_passed c.args.depth _ l.reader c.write_value.new.reader l.out.tokens c.write_value.new.out.tokens
+          l.invariant.1 going.0 read,
+    )
+
+pub write_items-items-smaller : goal.write_items-items-smaller
+write_items-items-smaller t c =
+    let l = c.items in
+    let going : c.take_end_array.new.self ≡ l.reader = grind arith in
+    let read = c.in_ok-write_value.ensures.ok.1 in
+    let less = skip_value-shorter c.args.depth c.take_end_array.new.self c.write_value.new.reader (ap left read) in
+    omega (arith, less, ap length going)
+
+pub write_items-returns-clause-ok : goal.write_items-returns-clause-ok
+write_items-returns-clause-ok t c =
+    let l = c.items in
+    items_passed c.args.depth c.args.reader.now l.reader c.take_end_array.new.self c.args.out.now.tokens l.out.tokens
+    c.end_array.new.self.tokens l.invariant.1 (grind arith) c.in_ok-end_array.ensures.ok
+
+-- ---- members
+
+pub write_members-members-preserved : goal.write_members-members-preserved
+write_members-members-preserved t c =
+    let l = c.members in
+    let k = c.in-Some.key.now in
+    let s = c.next_key.new.self in
+    let named : read_key l.reader ≡ Some (Some k, s) = grind arith in (
+      c.in_ok-write_value.ensures.before ∙ c.key.ensures.room.0 ∙ l.invariant.0,
+      member_passed c.args.depth _ k l.reader s c.write_value.new.reader l.out.tokens c.key.new.self.tokens
+          c.write_value.new.out.tokens l.invariant.1 named c.in_ok-key-2.ensures.ok c.in_ok-write_value.ensures.ok,
+    )
+
+pub write_members-members-smaller : goal.write_members-members-smaller
+write_members-members-smaller t c =
+    let l = c.members in
+    let k = c.in-Some.key.now in
+    let s = c.next_key.new.self in
+    let named : read_key l.reader ≡ Some (Some k, s) = grind arith in
+    let read = c.in_ok-write_value.ensures.ok.1 in
+    let less = skip_value-shorter c.args.depth s c.write_value.new.reader (ap left read) in
+    omega (arith, less, read_key-shorter l.reader (Some k) s named)
+
+pub write_members-returns-clause-ok : goal.write_members-returns-clause-ok
+write_members-returns-clause-ok t c =
+    let l = c.members in
+    members_passed c.args.depth c.args.reader.now l.reader c.next_key.new.self c.args.out.now.tokens l.out.tokens
+    c.end_object.new.self.tokens l.invariant.1 (grind arith) c.in_ok-end_object.ensures.ok
+
+-- ---- objects, and what is held of them
+
+pub write_object-returns-in_default-clause-ok : goal.write_object-returns-in_default-clause-ok
+write_object-returns-in_default-clause-ok t c =
+    none_passes c.args.depth c.args.reader.now c.next_key.new.self c.args.out.now.tokens
+    c.begin_object.new.self.tokens c.end_object.new.self.tokens (grind arith) c.in_ok-begin_object.ensures.ok
+    c.in_ok-end_object.ensures.ok
+
+pub write_object-returns-in_default-first-clause-ok : goal.write_object-returns-in_default-first-clause-ok
+write_object-returns-in_default-first-clause-ok t c =
+    let ts = c.args.reader.now in
+    let k = c.in-Some.key.now in
+    let f = c.in_ok-first.first in
+    let named : read_key ts ≡ Some (Some k, token_of f ∷ c.next.new.self) = grind arith in
+    on_ok_weaker c.write_member.result
+    (first_passes c.args.depth k f ts c.next.new.self c.write_member.new.reader c.args.out.now.tokens
+    c.begin_object-in_default-first.new.self.tokens c.write_member.new.out.tokens named c.in_default-first.not-String
+    c.in_ok-begin_object-2.ensures.ok) c.write_member.ensures.ok
+
+pub write_behind_one-returns-in_default-clause-ok : goal.write_behind_one-returns-in_default-clause-ok
+write_behind_one-returns-in_default-clause-ok t c =
+    lone_passes c.args.depth c.args.key.now c.args.text.now c.args.reader.now c.next_key.new.self
+    c.args.out.now.tokens c.write_lone.new.out.tokens (grind arith) c.in_ok-write_lone.ensures.ok
+
+pub write_behind_one-returns-in_default-first-clause-ok : goal.write_behind_one-returns-in_default-first-clause-ok
+write_behind_one-returns-in_default-first-clause-ok t c =
+    let ts = c.args.reader.now in
+    let l = c.in-Some.other.now in
+    let f = c.in_ok-first.first in
+    let named : read_key ts ≡ Some (Some l, token_of f ∷ c.next.new.self) = grind arith in
+    on_ok_weaker c.write_member.result
+    (second_passes c.args.depth c.args.key.now c.args.text.now l f ts c.next.new.self c.write_member.new.reader
+    c.args.out.now.tokens c.begin_object.new.self.tokens c.write_text.new.out.tokens c.write_member.new.out.tokens
+    named c.in_default-first.not-String c.in_ok-begin_object.ensures.ok c.in_ok-write_text.ensures.ok)
+    c.write_member.ensures.ok
+
+pub write_behind_two-returns-in_default-clause-ok : goal.write_behind_two-returns-in_default-clause-ok
+write_behind_two-returns-in_default-clause-ok t c =
+    pair_passes c.args.depth c.args.key.now c.args.text.now c.args.other.now c.args.more.now c.args.reader.now
+    c.next_key.new.self c.args.out.now.tokens c.write_pair.new.out.tokens (grind arith)
+    c.in_ok-write_pair.ensures.ok
+
+pub write_behind_two-returns-clause-ok : goal.write_behind_two-returns-clause-ok
+write_behind_two-returns-clause-ok t c =
+    let ts = c.args.reader.now in
+    let m = c.in-Some.third.now in
+    let q = token_of c.in_ok-first.first ∷ c.next.new.self in
+    let named : read_key ts ≡ Some (Some m, q) = grind arith in
+    on_ok_weaker c.write_member.result
+    (third_passes c.args.depth c.args.key.now c.args.text.now c.args.other.now c.args.more.now m ts q
+    c.write_member.new.reader c.args.out.now.tokens c.begin_object.new.self.tokens c.write_text.new.out.tokens
+    c.write_text-2.new.out.tokens c.write_member.new.out.tokens named c.in_ok-begin_object.ensures.ok
+    c.in_ok-write_text.ensures.ok c.in_ok-write_text-2.ensures.ok) c.write_member.ensures.ok
+
+-- ---- where the text breaks
+
+pub write_value-returns-in_err-first-clause-broken : goal.write_value-returns-in_err-first-clause-broken
+write_value-returns-in_err-first-clause-broken t c =
+    let none : c.args.reader.now ≡ [] = grind arith in
+    let p = err_from_is_err_and c.from_residual.result c.from_residual.ensures.1 in
+    rw p.1 (λ broken. ap (value c.args.depth) none ∙ value_is c.args.depth [])
+
+pub write_begun-returns-in-EndObject-clause-broken : goal.write_begun-returns-in-EndObject-clause-broken
+write_begun-returns-in-EndObject-clause-broken t c =
+    λ broken. none_begins c.args.depth c.args.first c.args.reader.now c.in-EndObject.is
+
+pub write_begun-returns-then-depth-eq0-clause-broken : goal.write_begun-returns-then-depth-eq0-clause-broken
+write_begun-returns-then-depth-eq0-clause-broken t c =
+    λ broken. array_too_deep c.args.depth c.args.first c.args.reader.now c.in-BeginArray.is (omega arith)
+
+pub write_begun-returns-then-depth-eq0-2-clause-broken : goal.write_begun-returns-then-depth-eq0-2-clause-broken
+write_begun-returns-then-depth-eq0-2-clause-broken t c =
+    λ broken. object_too_deep c.args.depth c.args.first c.args.reader.now c.in-BeginObject.is (omega arith)
+
+pub write_begun-returns-in_ok-begin_array-in-BeginArray-clause-broken :
+    goal.write_begun-returns-in_ok-begin_array-in-BeginArray-clause-broken
+write_begun-returns-in_ok-begin_array-in-BeginArray-clause-broken t c =
+    let opened = array_opened c.args.depth c.args.first c.args.reader.now c.in-BeginArray.is (omega arith) in
+    breaks c.write_items.result _ _ (λ none. opened ∙ ap (parse_map array) none) c.write_items.ensures.broken
+
+pub write_begun-returns-else-depth-eq0-2-clause-broken : goal.write_begun-returns-else-depth-eq0-2-clause-broken
+write_begun-returns-else-depth-eq0-2-clause-broken t c =
+    let opened = object_opened c.args.depth c.args.first c.args.reader.now c.in-BeginObject.is (omega arith) in
+    breaks c.write_object.result _ _ (λ none. opened ∙ ap (parse_map object) none) c.write_object.ensures.broken
+
+pub write_items-returns-in_err-write_value-clause-broken : goal.write_items-returns-in_err-write_value-clause-broken
+write_items-returns-in_err-write_value-clause-broken t c =
+    let l = c.items in
+    let going : (after_end_array l.reader ≡ None) × (c.take_end_array.new.self ≡ l.reader) = grind arith in
+    let p = err_from_is_err_and c.from_residual.result c.from_residual.ensures.1 in
+    rw (p.1, p.2) (λ broken. all_breaks of_items c.args.out.now.tokens l.out.tokens _ _ l.invariant.1
+    (no_item c.args.depth l.reader going.0
+    (ap (value c.args.depth) (sym going.1) ∙ c.in_err-write_value.ensures.broken broken)))
+
+pub write_members-returns-in_err-key-clause-broken : goal.write_members-returns-in_err-key-clause-broken
+write_members-returns-in_err-key-clause-broken t c =
+    let l = c.members in
+    let p = err_from_is_err_and c.from_residual.result c.from_residual.ensures.1 in
+    rw p.1 (λ broken. all_breaks of_members c.args.out.now.tokens l.out.tokens _ _ l.invariant.1
+    (no_key c.args.depth l.reader (grind arith)))
+
+pub write_members-returns-in_err-write_value-clause-broken :
+    goal.write_members-returns-in_err-write_value-clause-broken
+write_members-returns-in_err-write_value-clause-broken t c =
+    let l = c.members in
+    let k = c.in-Some.key.now in
+    let s = c.next_key.new.self in
+    let named : read_key l.reader ≡ Some (Some k, s) = grind arith in
+    let p = err_from_is_err_and c.from_residual-in_err-write_value.result
+    c.from_residual-in_err-write_value.ensures.1 in
+    rw (p.1, p.2) (λ broken. all_breaks of_members c.args.out.now.tokens l.out.tokens _ _ l.invariant.1
+    (no_member c.args.depth k l.reader s named (c.in_err-write_value.ensures.broken broken)))
+
+pub write_member-returns-in_err-write_begun-clause-broken : goal.write_member-returns-in_err-write_begun-clause-broken
+write_member-returns-in_err-write_begun-clause-broken t c =
+    let p = err_from_is_err_and c.from_residual-in_err-write_begun.result
+    c.from_residual-in_err-write_begun.ensures.1 in
+    let held = token_of c.args.first ∷ c.args.reader.now in
+    rw (p.1, p.2) (λ broken. no_member c.args.depth c.args.key.now (token.key c.args.key.now ∷ held) held refl
+    (c.in_err-write_begun.ensures.broken broken))
+
+pub write_member-returns-clause-broken : goal.write_member-returns-clause-broken
+write_member-returns-clause-broken t c =
+    let k = c.args.key.now in
+    let held = token_of c.args.first ∷ c.args.reader.now in
+    let read = c.in_ok-write_begun.ensures.ok in
+    breaks c.write_members.result _ _ (λ none.
+    one_member c.args.depth k (token.key k ∷ held) held c.write_begun.new.reader read.0 refl read.1
+    ∙ ap (parse_map (member k read.0)) none) c.write_members.ensures.broken
+
+pub write_object-returns-in_err-key-clause-broken : goal.write_object-returns-in_err-key-clause-broken
+write_object-returns-in_err-key-clause-broken t c =
+    let p = err_from_is_err_and c.from_residual.result c.from_residual.ensures.1 in
+    rw p.1 (λ broken. no_key c.args.depth c.args.reader.now (grind arith))
+
+pub write_object-returns-in_err-first-clause-broken : goal.write_object-returns-in_err-first-clause-broken
+write_object-returns-in_err-first-clause-broken t c =
+    let named : read_key c.args.reader.now ≡ Some (Some c.in-Some.key.now, []) = grind arith in
+    let p = err_from_is_err_and c.from_residual-in_err-first.result c.from_residual-in_err-first.ensures.1 in
+    rw p.1 (λ broken. no_member c.args.depth c.in-Some.key.now c.args.reader.now [] named (value_is c.args.depth []))
+
+pub write_object-returns-in_default-first-clause-broken : goal.write_object-returns-in_default-first-clause-broken
+write_object-returns-in_default-first-clause-broken t c =
+    let ts = c.args.reader.now in
+    let k = c.in-Some.key.now in
+    let q = token_of c.in_ok-first.first ∷ c.next.new.self in
+    let named : read_key ts ≡ Some (Some k, q) = grind arith in
+    breaks c.write_member.result _ _ (λ none. ap (inside c.args.depth) (read_key_is ts (Some k) q named) ∙ none)
+    c.write_member.ensures.broken
+
+pub write_behind_one-returns-in_err-other-clause-broken : goal.write_behind_one-returns-in_err-other-clause-broken
+write_behind_one-returns-in_err-other-clause-broken t c =
+    let p = err_from_is_err_and c.from_residual.result c.from_residual.ensures.1 in
+    rw p.1 (λ broken. no_text_held c.args.depth c.args.key.now c.args.text.now c.args.reader.now
+    (no_key c.args.depth c.args.reader.now (grind arith)))
+
+pub write_behind_one-returns-in_err-first-clause-broken : goal.write_behind_one-returns-in_err-first-clause-broken
+write_behind_one-returns-in_err-first-clause-broken t c =
+    let ts = c.args.reader.now in
+    let l = c.in-Some.other.now in
+    let named : read_key ts ≡ Some (Some l, []) = grind arith in
+    let p = err_from_is_err_and c.from_residual-in_err-first.result c.from_residual-in_err-first.ensures.1 in
+    rw p.1 (λ broken. no_text_held c.args.depth c.args.key.now c.args.text.now ts
+    (no_member c.args.depth l ts [] named (value_is c.args.depth [])))
+
+pub write_behind_one-returns-in_default-first-clause-broken :
+    goal.write_behind_one-returns-in_default-first-clause-broken
+write_behind_one-returns-in_default-first-clause-broken t c =
+    let ts = c.args.reader.now in
+    let l = c.in-Some.other.now in
+    let q = token_of c.in_ok-first.first ∷ c.next.new.self in
+    let named : read_key ts ≡ Some (Some l, q) = grind arith in
+    breaks c.write_member.result _ _ (λ none. no_text_held c.args.depth c.args.key.now c.args.text.now ts
+    (ap (inside c.args.depth) (read_key_is ts (Some l) q named) ∙ none)) c.write_member.ensures.broken
+
+pub write_behind_two-returns-in_err-third-clause-broken : goal.write_behind_two-returns-in_err-third-clause-broken
+write_behind_two-returns-in_err-third-clause-broken t c =
+    let p = err_from_is_err_and c.from_residual.result c.from_residual.ensures.1 in
+    rw p.1 (λ broken. no_texts_held c.args.depth c.args.key.now c.args.text.now c.args.other.now c.args.more.now
+    c.args.reader.now (no_key c.args.depth c.args.reader.now (grind arith)))
+
+pub write_behind_two-returns-in_err-first-clause-broken : goal.write_behind_two-returns-in_err-first-clause-broken
+write_behind_two-returns-in_err-first-clause-broken t c =
+    let ts = c.args.reader.now in
+    let m = c.in-Some.third.now in
+    let named : read_key ts ≡ Some (Some m, []) = grind arith in
+    let p = err_from_is_err_and c.from_residual-in_err-first.result c.from_residual-in_err-first.ensures.1 in
+    rw p.1 (λ broken. no_texts_held c.args.depth c.args.key.now c.args.text.now c.args.other.now c.args.more.now ts
+    (no_member c.args.depth m ts [] named (value_is c.args.depth [])))
+
+pub write_behind_two-returns-clause-broken : goal.write_behind_two-returns-clause-broken
+write_behind_two-returns-clause-broken t c =
+    let ts = c.args.reader.now in
+    let m = c.in-Some.third.now in
+    let q = token_of c.in_ok-first.first ∷ c.next.new.self in
+    let named : read_key ts ≡ Some (Some m, q) = grind arith in
+    breaks c.write_member.result _ _ (λ none.
+    no_texts_held c.args.depth c.args.key.now c.args.text.now c.args.other.now c.args.more.now ts
+    (ap (inside c.args.depth) (read_key_is ts (Some m) q named) ∙ none)) c.write_member.ensures.broken

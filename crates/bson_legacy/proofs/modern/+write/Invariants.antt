@@ -1,29 +1,45 @@
-use Rattle.std.proofs.Common.{◌≡◌, ◌++◌, drop, length}
-use Rattle.json.specs.Tree.{json_tokens, items_tokens, members_tokens, ItemsHaveNumbers, MembersHaveNumbers}
-use Rattle.json.specs.Value.{value_view, items_view, members_view}
-use Rattle.bson_legacy.specs.Modern.{modern_items, modern_members}
+use Rattle.std.proofs.Common.{◌≡◌, ◌+◌, ◌*◌, length}
+use Rattle.bson_legacy.specs.Passed.{elements, inside, of_items, of_members}
+use Rattle.bson_legacy.proofs.Passing.{whole}
 use Rattle.bson_legacy.proofs.modern.+write.Given as goal
 
-abbrev pub decreases-write_modern : goal.decreases-write_modern
-decreases-write_modern l = length (json_tokens (value_view l.value.now))
+abbrev pub decreases-write_begun : goal.decreases-write_begun
+decreases-write_begun l = 7 * l.depth
+
+abbrev pub decreases-write_value : goal.decreases-write_value
+decreases-write_value l = 7 * l.depth + 1
 
 abbrev pub decreases-write_items : goal.decreases-write_items
-decreases-write_items l = length (items_tokens (items_view l.items.now.items))
+decreases-write_items l = 7 * l.depth + 2
 
 abbrev pub decreases-write_members : goal.decreases-write_members
-decreases-write_members l = length (members_tokens (members_view l.members.now.items))
+decreases-write_members l = 7 * l.depth + 2
 
--- what is left to write stands behind what was written
-abbrev pub invariant-write_items-loop-item : goal.invariant-write_items-loop-item
-invariant-write_items-loop-item l =
-    let rest = items_view (drop l.item-index l.item-items) in
-    let all = items_view l.item-items in
-    (l.out.tokens ++ items_tokens (modern_items rest) ≡ l.initial.out.tokens ++ items_tokens (modern_items all))
-    × ItemsHaveNumbers rest × (l.out.before ≡ l.initial.out.before)
+abbrev pub decreases-write_member : goal.decreases-write_member
+decreases-write_member l = 7 * l.depth + 3
 
-abbrev pub invariant-write_members-loop-member : goal.invariant-write_members-loop-member
-invariant-write_members-loop-member l =
-    let rest = members_view (drop l.member-index l.member-items) in
-    let all = members_view l.member-items in
-    (l.out.tokens ++ members_tokens (modern_members rest) ≡ l.initial.out.tokens ++ members_tokens (modern_members all))
-    × MembersHaveNumbers rest × (l.out.before ≡ l.initial.out.before)
+abbrev pub decreases-write_behind_two : goal.decreases-write_behind_two
+decreases-write_behind_two l = 7 * l.depth + 4
+
+abbrev pub decreases-write_behind_one : goal.decreases-write_behind_one
+decreases-write_behind_one l = 7 * l.depth + 5
+
+abbrev pub decreases-write_object : goal.decreases-write_object
+decreases-write_object l = 7 * l.depth + 6
+
+-- what is left, written behind what was written, is the whole
+abbrev pub invariant-write_items-items : goal.invariant-write_items-items
+invariant-write_items-items l = (l.out.before ≡ l.initial.out.before)
+    × (whole of_items l.initial.out.tokens (elements l.depth l.initial.reader)
+    ≡ whole of_items l.out.tokens (elements l.depth l.reader))
+
+abbrev pub decreases-write_items-items : goal.decreases-write_items-items
+decreases-write_items-items l = length l.reader
+
+abbrev pub invariant-write_members-members : goal.invariant-write_members-members
+invariant-write_members-members l = (l.out.before ≡ l.initial.out.before)
+    × (whole of_members l.initial.out.tokens (inside l.depth l.initial.reader)
+    ≡ whole of_members l.out.tokens (inside l.depth l.reader))
+
+abbrev pub decreases-write_members-members : goal.decreases-write_members-members
+decreases-write_members-members l = length l.reader

@@ -2,19 +2,18 @@ use Rattle.std.proofs.Common.{◌≡◌, [], Some, sym, ap, ◌∙◌, arith, st
 use Rattle.json.specs.Json.{value}
 use Rattle.json.specs.Lex.{tokens}
 use Rattle.json.specs.Tree.{json_tokens}
-use Rattle.json.specs.Value.{value_view}
 use Rattle.bson_legacy.specs.Modern.{modern}
 use Rattle.bson_legacy.proofs.Whole.{written}
 use Rattle.bson_legacy.proofs.modern.modern_text.Goals as goal
 
 pub returns-clause-ok : goal.returns-clause-ok
 returns-clause-ok c =
-    let j = value_view c.in-Ok.tree in
-    let left : c.read.new.reader ≡ [] = grind arith in
+    let passed = c.in_ok-write_value.ensures.ok in
+    let j = passed.0 in
+    let left : c.write_value.new.reader ≡ [] = grind arith in
     let start : c.in_ok-reader.reader ≡ tokens c.args.text.now = grind arith in
     let whole : value 127 (tokens c.args.text.now) ≡ Some (j, []) =
-    ap (value 127) (sym start) ∙ c.in-Ok.ensures.ok ∙ ap (λ r. Some (j, r)) left in
-    let out = c.write_modern.new.out.tokens in
-    let is : out ≡ json_tokens (modern j) = grind arith in
-    written c.args.text.now (string_bytes c.finished.result) j out whole is c.finished.ensures.text
-    c.finished.ensures.again
+    ap (value 127) (sym start) ∙ passed.1 ∙ ap (λ r. Some (j, r)) left in
+    let is : c.write_value.new.out.tokens ≡ json_tokens (modern j) = grind arith in
+    written c.args.text.now (string_bytes c.finished.result) j c.write_value.new.out.tokens whole is
+    c.finished.ensures.text c.finished.ensures.again
