@@ -145,8 +145,9 @@ uint32_t vbson_convert_with(uint32_t mode, uint32_t flags, const uint8_t *text, 
 /* Why vbson_convert_with refuses the text under these flags, in every mode, as a line of words (with no newline), and
  * where; an empty text where it accepts it. VBSON_KEEP_ORDER changes nothing here. The words are those of the status, and
  * behind them
- *     " at column N"            of what is not JSON: the column of the byte at which it stops to be, counted from 1
- *     " at column N (a number is out of range)"    of what has the grammar of JSON, and a number that is no double
+ *     " at column N (RULE)"     of what is not JSON: the column of the byte at which it stops to be, counted from 1, and
+ *                               the rule of JSON that it breaks, as "a comma or a bracket is missing", or "a number is
+ *                               out of range" where it has the grammar of JSON, and a number that is no double
  *     " at PATH (MESSAGE)"      of any other: the way to the first fault, its keys and places in lists counted from 0,
  *                               with points between, as orders.3._id.$oid, and what is wrong there
  *     " (MESSAGE)"              where the fault is that of the whole text

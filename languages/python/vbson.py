@@ -48,9 +48,10 @@ class Error(ValueError):
     """The library refused what it was handed.
 
     Of a text of Extended JSON the error has words for where the fault lies, `place`, and for what is wrong there, `why`:
-    'orders.3.price' and 'a number is no whole number of 64 bits', or 'column 7' and 'not JSON'. The place is empty where
-    the fault is that of the whole text; keys are in it as they are. Of bytes that are no document the place is the number
-    of bytes before the fault: 'byte 4' and 'ends too early'. str() has both, behind the words for the class.
+    'orders.3.price' and 'a number is no whole number of 64 bits', or 'column 7' and the rule of JSON that is broken there,
+    as 'a comma or a bracket is missing'. The place is empty where the fault is that of the whole text; keys are in it as
+    they are. Of bytes that are no document the place is the number of bytes before the fault: 'byte 4' and 'ends too
+    early'. str() has both, behind the words for the class.
     """
 
     def __init__(self, words="", place="", why=""):
@@ -271,10 +272,9 @@ def _encoded(flags, given):
     return (DONE, made) if isinstance(made, bytes) else (made, b"")
 
 
-# The words behind those for the class: a column, with a message where a number is out of range, or a path and a
-# message. The message on an object id may hold any characters, but its path ends in a wrapper's key, or in two points
-# where it is not told whole; no other message holds a bracket.
-_COLUMN = re.compile(r" at (column \d+)(?: \((a number is out of range)\))?")
+# The words behind those for the class: a column or a path, and a message. The message on an object id may hold any
+# characters, but its path ends in a wrapper's key, or in two points where it is not told whole; no other message holds a
+# bracket.
 _ON_ID = r" \(((?:the character '|an object id has ).*)\)"
 _OF_ID = re.compile(r" at (.*?\$(?:oid|dbPointer))" + _ON_ID, re.S)
 _OF_LONG = re.compile(r" at (.*?\.\.)" + _ON_ID, re.S)
@@ -285,7 +285,7 @@ def _explained(status, words):
     """The error of a status, with the words of `explain`."""
     error, kind = _ERRORS[status]
     behind = words.removeprefix(kind)
-    shape = {NOT_JSON: _COLUMN, BAD_OBJECT_ID: _OF_ID}.get(status, _OF_SHAPE)
+    shape = _OF_ID if status == BAD_OBJECT_ID else _OF_SHAPE
     found = shape.fullmatch(behind) or status == BAD_OBJECT_ID and _OF_LONG.fullmatch(behind)
     return error(words or kind, (found[1] or "") if found else "", found[2] if found and found[2] else kind)
 

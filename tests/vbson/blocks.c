@@ -23,7 +23,7 @@ static void convert_lines(void) {
     CHECK(gives(VBSON_CANONICAL, 0, "\xef\xbb\xbf[1]\n\n \t\r\n2\n", "[{\"$numberInt\":\"1\"}]\n{\"$numberInt\":\"2\"}\n", "", 4, 0));
     CHECK(gives(VBSON_SHOW, 0, "[1]\n", "[1]\n", "", 1, 0));
     CHECK(gives(VBSON_RELAXED, 0, "[1\n{\"b\":2,\"a\":1}\n[1.5]\n{\"$oid\":\"5\"}", "{\"a\":1,\"b\":2}\n",
-        "bson_lines: line 1: not JSON at column 2\n"
+        "bson_lines: line 1: not JSON at column 2 (the text ends before its value is whole)\n"
         "bson_lines: line 3: not Extended JSON at 0 (a number is no whole number of 64 bits)\n"
         "bson_lines: line 4: bad object id at $oid (an object id has 24 digits, but \"5\" has 1)\n", 4, 3));
     CHECK(gives(VBSON_RELAXED, VBSON_DOUBLES, "[1.5]\n", "[1.5]\n", "", 1, 0));
@@ -43,7 +43,7 @@ static void convert_lines(void) {
     for (int i = 0; i < LINES; i++) memcpy(many + 4 * i, i % 7 == 3 ? "[!]\n" : "[1]\n", 5);
     vbson_lines all = VBSON_LINES_NONE;
     CHECK(vbson_convert_lines(VBSON_RELAXED, 0, TEXT(many), &all) == VBSON_DONE && all.lines == LINES && all.refused == 7143);
-    CHECK(all.text.len == 4 * (LINES - 7143) && strncmp(vbson_chars(&all.told), "bson_lines: line 4: not JSON at column 2\n", 41) == 0);
+    CHECK(all.text.len == 4 * (LINES - 7143) && strncmp(vbson_chars(&all.told), "bson_lines: line 4: not JSON at column 2 (no value begins so)\n", 62) == 0);
     vbson_text_free(&all.text);
     vbson_text_free(&all.told);
     free(many);
@@ -104,7 +104,7 @@ static void encode_lines(void) {
     CHECK(vbson_encode_lines(0, TEXT("{\"n\": 5}\n\n[1]\n{\"a\\u0000\":1}\n[1.5\n{}"), &out) == VBSON_DONE);
     CHECK(out.text.len == 17 && out.text.size == 18 && memcmp(out.text.bytes, bytes, 17) == 0 && out.text.bytes[17] == 0);
     CHECK(is_text(&out.told, "bson_lines: line 3: no document\nbson_lines: line 4: a key has a 0 byte in it\n"
-        "bson_lines: line 5: not JSON at column 4\n") && out.lines == 6 && out.refused == 3);
+        "bson_lines: line 5: not JSON at column 4 (the text ends before its value is whole)\n") && out.lines == 6 && out.refused == 3);
     vbson_text_free(&out.text);
     vbson_text_free(&out.told);
     const char *text = "{\"b\":1.5,\"a\":2}";

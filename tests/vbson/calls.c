@@ -127,9 +127,9 @@ static void explain(void) {
     CHECK(explains(VBSON_DOUBLES, "{\"orders\":[1,{\"price\":1.5}]}", ""));
     CHECK(explains(0, "1.5", "not Extended JSON (a number is no whole number of 64 bits)"));
     CHECK(explains(0, "{\"a\":{\"$oid\":\"53e3\"}}", "bad object id at a.$oid (an object id has 24 digits, but \"53e3\" has 4)"));
-    CHECK(explains(0, "[1,]", "not JSON at column 4"));
-    CHECK(explains(0, "{\"a\" 1}", "not JSON at column 6"));
-    CHECK(explains(VBSON_DOUBLES, "\"\xff\"", "not JSON at column 2"));
+    CHECK(explains(0, "[1,]", "not JSON at column 4 (behind a comma another element is wanted)"));
+    CHECK(explains(0, "{\"a\" 1}", "not JSON at column 6 (behind a key a colon and a value are wanted)"));
+    CHECK(explains(VBSON_DOUBLES, "\"\xff\"", "not JSON at column 2 (bytes that are no UTF-8)"));
     CHECK(explains(VBSON_DOUBLES, "[1e400]", "not JSON at column 2 (a number is out of range)"));
     CHECK(explains(0, "{\"a\\u001b\":1.5}", "not Extended JSON at a\\u001b (a number is no whole number of 64 bits)"));
     CHECK(explains(0, "{\"$oid\":\"5\\u2028\"}", "bad object id at $oid (the character '\xc3\xa2' at 1 in \"5\\u2028\" is no hexadecimal digit)"));

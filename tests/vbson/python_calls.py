@@ -149,11 +149,14 @@ def try_places():
     digits = 'an object id has 24 digits, but "53e3" has 4'
     no_digit = "the character '%s' at %d in \"%s\" is no hexadecimal digit"
     blank, letter = no_digit % (" ", 1, "5 (xy)"), no_digit % ("z", 0, "zz (a)")
+    early, quotes = "the text ends before its value is whole", "a key or a text stands in double quotes"
     both = vbson.NotExtendedJson, vbson.BadObjectId
     # (of a path and of a message 300 characters are told)
     long, cut = "a" * 1000, "a" * 300 + ".."
     for text, words, place, why, error in (
-            ("[1, 2", "not JSON at column 5", "column 5", "not JSON", vbson.NotJson),
+            ("[1, 2", f"not JSON at column 5 ({early})", "column 5", early, vbson.NotJson),
+            ("{'a':1}", f"not JSON at column 2 ({quotes})", "column 2", quotes, vbson.NotJson),
+            ("", f"not JSON at column 1 ({early})", "column 1", early, vbson.NotJson),
             ("[1e400]", "not JSON at column 2 (a number is out of range)", "column 2", "a number is out of range", vbson.NotJson),
             ('{"a (":[{"b)":1.5}]}', f"not Extended JSON at a (.0.b) ({number})", "a (.0.b)", number, both[0]),
             ("1.5", f"not Extended JSON ({number})", "", number, both[0]),

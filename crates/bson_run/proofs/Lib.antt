@@ -8,4 +8,5 @@ pub mod LinesLaws
 pub mod LinesRuns
 mod Ordered
 mod Rows
+mod Rules
 pub mod TakenLines

@@ -7,11 +7,12 @@ use Rattle.bson_place.specs.declared.place.Reason.{Reason}
 use Rattle.bson_place.specs.declared.place.Reason.TheVariants as reason
 use Rattle.bson_run.specs.Lines.{lines, text_of, IsBlank}
 use Rattle.bson_run.specs.Place.{shown}
-use Rattle.bson_run.specs.Words.{name_of, task_name, words_for, words_of, line_of}
+use Rattle.bson_run.specs.Words.{name_of, task_name, words_broken, words_for, words_of, line_of}
 use Rattle.bson_run.specs.declared.mode.Mode.TheVariants as mode
 use Rattle.bson_run.specs.declared.no_bytes.NoBytes.TheVariants as without
 use Rattle.bson_run.specs.declared.order.Task.TheVariants.{Check, Encode, EncodeInOrder}
 use Rattle.bson_run.specs.declared.fault.Fault.TheVariants as fault
+use Rattle.bson_run.specs.declared.rule.Rule.TheVariants as rule
 
 -- ---- names of modes
 
@@ -51,6 +52,47 @@ cannot_write_told = refl
 
 line_told : line_of fault.NotJson ≡ codes "bson_cli: not JSON"
 line_told = refl
+
+-- ---- words of rules of JSON
+
+no_utf8_told : words_broken rule.Utf8 ≡ codes "bytes that are no UTF-8"
+no_utf8_told = refl
+
+early_end_told : words_broken rule.EndsEarly ≡ codes "the text ends before its value is whole"
+early_end_told = refl
+
+quotes_told : words_broken rule.Quotes ≡ codes "a key or a text stands in double quotes"
+quotes_told = refl
+
+no_value_told : words_broken rule.NoValue ≡ codes "no value begins so"
+no_value_told = refl
+
+no_number_told : words_broken rule.Number ≡ codes "no number of JSON is written so"
+no_number_told = refl
+
+control_character_told : words_broken rule.ControlCharacter ≡ codes "a control character stands in a text"
+control_character_told = refl
+
+escape_of_nothing_told : words_broken rule.Escape ≡ codes "an escape that stands for no character"
+escape_of_nothing_told = refl
+
+separator_told : words_broken rule.Separator ≡ codes "a comma or a bracket is missing"
+separator_told = refl
+
+behind_comma_told : words_broken rule.BehindComma ≡ codes "behind a comma another element is wanted"
+behind_comma_told = refl
+
+behind_key_told : words_broken rule.BehindKey ≡ codes "behind a key a colon and a value are wanted"
+behind_key_told = refl
+
+depth_told : words_broken rule.Depth ≡ codes "it nests deeper than 127"
+depth_told = refl
+
+more_behind_told : words_broken rule.MoreBehind ≡ codes "more stands behind the value"
+more_behind_told = refl
+
+out_of_range_told : words_broken rule.OutOfRange ≡ codes "a number is out of range"
+out_of_range_told = refl
 
 -- ---- characters as they are told
 

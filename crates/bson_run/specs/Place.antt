@@ -1,5 +1,5 @@
 -- Where the fault of a refused text lies, in words.
-use Rattle.std.specs.Prelude.{◌≡◌, ◌⊎◌, ◌/◌, ◌%◌, ◌==◌, ℕ, List, [], ◌∷◌, ◌++◌, codes, length, nat_lt, take, Some, IsUtf8}
+use Rattle.std.specs.Prelude.{◌≡◌, ◌≢◌, ◌⊎◌, ◌↔◌, ◌+◌, ◌<◌, ◌/◌, ◌%◌, ◌==◌, ℕ, List, [], ◌∷◌, ◌++◌, codes, length, nat_lt, take, sum_by, Some, IsUtf8}
 use Rattle.std.specs.Prelude.{if◌then◌else◌}
 use Rattle.std.specs.Char.{is_control, digit_char, encode_utf8}
 use Rattle.std.specs.Fmt.{decimal}
@@ -7,12 +7,18 @@ use Rattle.std.specs.List.{flat_map}
 use Rattle.std.specs.Str.{chars}
 use Rattle.json.specs.Json.{skip_value}
 use Rattle.json.specs.Lex.{tokens}
+use Rattle.json.specs.Token.{Token, begin_object, end_object, begin_array, end_array, bad}
 use Rattle.serde_json.specs.Read.{max_depth}
 use Rattle.bson_place.specs.Place.{dotted, way_of}
 use Rattle.bson_place.specs.declared.place.Place.{Place}
 use Rattle.bson_run.specs.declared.fault.Fault.{Fault}
 use Rattle.bson_run.specs.declared.fault.Fault.TheVariants.{CannotRead, NotJson, NotExtendedJson, NoBytes, OutOfMemory}
 use Rattle.bson_run.specs.declared.fault.Fault.TheVariants.{CannotWrite}
+use Rattle.bson_run.specs.declared.rule.Rule.{Rule}
+use Rattle.bson_run.specs.declared.rule.Rule.TheVariants.{Utf8, EndsEarly, MoreBehind, OutOfRange}
+use Rattle.bson_run.specs.declared.rule.Rule.TheVariants.{NoValue, Number, ControlCharacter, Escape, BehindComma}
+use Rattle.bson_run.specs.declared.rule.Rule.TheVariants.{Quotes, Separator, BehindKey, Depth}
+use Rattle.bson_run.specs.Words.{words_broken}
 
 -- a path that has no word is left out
 abbrev pub at_path : List ℕ → List ℕ
@@ -39,20 +45,61 @@ IsPlaced place words =
 abbrev pub HasGrammar : List ℕ → Type 0
 HasGrammar bytes = IsUtf8 bytes × (skip_value max_depth (tokens bytes) ≡ Some [])
 
--- a column, which one no contract says; that of a number that is no double too
-abbrev pub at_column : ℕ → List ℕ
-at_column n = codes " at column " ++ decimal n
+-- one value stands at the beginning of a text, and more behind it
+abbrev pub HasMoreBehind : List ℕ → Type 0
+HasMoreBehind bytes =
+    IsUtf8 bytes × ((t : Token) × (ts : List Token) × (skip_value max_depth (tokens bytes) ≡ Some (t ∷ ts)))
 
-abbrev pub at_number : ℕ → List ℕ
-at_number n = at_column n ++ codes " (a number is out of range)"
+-- how many brackets a token opens, and how many it closes
+abbrev pub opens : Token → ℕ
+opens begin_object = 1
+opens begin_array = 1
+opens token = 0
+
+abbrev pub closes : Token → ℕ
+closes end_object = 1
+closes end_array = 1
+closes token = 0
+
+-- behind some of the tokens more brackets are open than may be
+abbrev pub NestsDeeper : List Token → Type 0
+NestsDeeper ts =
+    (front : List Token) × (rest : List Token) × (ts ≡ front ++ rest)
+    × (sum_by closes front + max_depth < sum_by opens front)
+
+-- what stands somewhere in a text is no token
+abbrev pub HasBad : List Token → Type 0
+HasBad ts = (front : List Token) × (rest : List Token) × (ts ≡ front ++ bad ∷ rest)
+
+-- the rules that are told of what is no token
+abbrev pub IsOfBad : Rule → Type 0
+IsOfBad NoValue = Unit {0}
+IsOfBad Number = Unit {0}
+IsOfBad ControlCharacter = Unit {0}
+IsOfBad Escape = Unit {0}
+IsOfBad BehindComma = Unit {0}
+IsOfBad rule = ⊥
+
+-- which rule bytes break that are no text: three are told exactly where they are broken; of a text of blanks it is told
+-- that it ends too early; that it nests too deep, and of what is no token, where there is such a place
+pub record Breaks (bytes : List ℕ) (rule : Rule) : Type 0 where
+  pub utf8 : rule ≡ Utf8 ↔ ¬ (IsUtf8 bytes)
+  pub number : rule ≡ OutOfRange ↔ HasGrammar bytes
+  pub more : rule ≡ MoreBehind ↔ HasMoreBehind bytes
+  pub blank : IsUtf8 bytes → tokens bytes ≡ [] → rule ≡ EndsEarly
+  pub depth : rule ≡ Depth → NestsDeeper (tokens bytes)
+  pub no_token : IsOfBad rule → HasBad (tokens bytes)
+
+-- a column, which one no contract says, and the rule that is broken there
+abbrev pub at_column : ℕ → Rule → List ℕ
+at_column n rule = codes " at column " ++ decimal n ++ codes " (" ++ words_broken rule ++ codes ")"
 
 abbrev pub IsColumn : List ℕ → Type 0
-IsColumn words = (n : ℕ) × ((words ≡ at_column n) ⊎ (words ≡ at_number n))
+IsColumn words = (n : ℕ) × (rule : Rule) × (words ≡ at_column n rule)
 
--- where bytes that are no text stop to be one: those with the grammar of JSON at a number
+-- where bytes that are no text stop to be one, and which rule they break
 abbrev pub IsStop : List ℕ → List ℕ → Type 0
-IsStop bytes words =
-    (n : ℕ) × ((HasGrammar bytes × (words ≡ at_number n)) ⊎ (¬ (HasGrammar bytes) × (words ≡ at_column n)))
+IsStop bytes words = (n : ℕ) × (rule : Rule) × Breaks bytes rule × (words ≡ at_column n rule)
 
 -- nothing for a fault that no text has
 abbrev pub IsWhere : Fault → List ℕ → Type 0
@@ -62,3 +109,15 @@ IsWhere (NotExtendedJson place) words = IsPlaced place words
 IsWhere (NoBytes why) words = words ≡ []
 IsWhere OutOfMemory words = words ≡ []
 IsWhere CannotWrite words = words ≡ []
+
+-- ---- for private clauses
+
+-- a rule that a text breaks which is UTF-8 and begins with no value
+abbrev pub IsOfValue : Rule → Type 0
+IsOfValue rule = (rule ≢ Utf8) × (rule ≢ OutOfRange) × (rule ≢ MoreBehind)
+
+-- one that a token breaks where it stands, so many brackets being open
+abbrev pub IsOfToken : ℕ → Token → Rule → Type 0
+IsOfToken depth token rule =
+    (rule ≡ Quotes) ⊎ (rule ≡ Separator) ⊎ (rule ≡ BehindKey)
+    ⊎ ((rule ≡ Depth) × (closes token ≡ 0) × (max_depth < depth + opens token))

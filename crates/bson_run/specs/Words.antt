@@ -13,6 +13,8 @@ use Rattle.bson_run.specs.declared.order.Work.{Work}
 use Rattle.bson_run.specs.declared.order.Work.TheVariants as work
 use Rattle.bson_run.specs.declared.fault.Fault.{Fault}
 use Rattle.bson_run.specs.declared.fault.Fault.TheVariants as fault
+use Rattle.bson_run.specs.declared.rule.Rule.{Rule}
+use Rattle.bson_run.specs.declared.rule.Rule.TheVariants as rule
 
 abbrev pub name_of : Mode → List ℕ
 name_of mode.Canonical = codes "canonical"
@@ -49,6 +51,21 @@ words_of (fault.NotExtendedJson place) = words_for place.reason
 words_of (fault.NoBytes why) = words_without why
 words_of fault.OutOfMemory = codes "out of memory"
 words_of fault.CannotWrite = codes "cannot write"
+
+abbrev pub words_broken : Rule → List ℕ
+words_broken rule.Utf8 = codes "bytes that are no UTF-8"
+words_broken rule.EndsEarly = codes "the text ends before its value is whole"
+words_broken rule.Quotes = codes "a key or a text stands in double quotes"
+words_broken rule.NoValue = codes "no value begins so"
+words_broken rule.Number = codes "no number of JSON is written so"
+words_broken rule.ControlCharacter = codes "a control character stands in a text"
+words_broken rule.Escape = codes "an escape that stands for no character"
+words_broken rule.Separator = codes "a comma or a bracket is missing"
+words_broken rule.BehindComma = codes "behind a comma another element is wanted"
+words_broken rule.BehindKey = codes "behind a key a colon and a value are wanted"
+words_broken rule.Depth = codes "it nests deeper than 127"
+words_broken rule.MoreBehind = codes "more stands behind the value"
+words_broken rule.OutOfRange = codes "a number is out of range"
 
 abbrev pub line_of : Fault → List ℕ
 line_of it = codes "bson_cli: " ++ words_of it

@@ -16,12 +16,12 @@ const MOST: usize = 300;
 /// Where the fault of a refused text lies, to be put behind the words for it; empty for a fault
 /// that no text has.
 ///
-/// For `NotJson` it is ` at column N`, the column in its line, counted from 1, of the byte at which
-/// the text stops to be JSON, and ` at column N (a number is out of range)` where it has the grammar
-/// of JSON, for the first number whose nearest double is not finite. For `NotExtendedJson` it is what the fault itself
-/// tells, ` at orders.3._id.$oid (MESSAGE)`: the way to the first fault, its keys and places in
-/// lists counted from 0, and what is wrong there; with the message alone where the fault is that of
-/// the whole text. A control character (`\u001b`) and a separator of lines (`\u2028`) or of
+/// For `NotJson` it is ` at column N (RULE)`: the column in its line, counted from 1, of the byte at
+/// which the text stops to be JSON, and the words of the `Rule` that it breaks; where it has the
+/// grammar of JSON, those of the first number whose nearest double is not finite. For
+/// `NotExtendedJson` it is what the fault itself tells, ` at orders.3._id.$oid (MESSAGE)`: the way
+/// to the first fault, its keys and places in lists counted from 0, and what is wrong there; with
+/// the message alone where the fault is that of the whole text. A control character (`\u001b`) and a separator of lines (`\u2028`) or of
 /// paragraphs, which could break a line or steer a terminal, is told by its escape in JSON, and
 /// every other character as it is. Of a way or a message of more than 300 characters these are
 /// told, and `..` for the others.
@@ -40,16 +40,14 @@ pub fn explain(alloc: Global, fault: &Fault, text: &[u8]) -> Result<String, Allo
     }
 }
 
-// The column at which a text stops to be JSON.
+// The column at which a text stops to be JSON, and the rule that it breaks.
 fn column(alloc: Global, text: &[u8]) -> Result<String, AllocError>
     ensures { IfOk result (λ words. IsStop text.now (string_bytes words)) }
 {
     let stop = Stop::of(alloc, text)?;
     let column = stop.column(text);
-    if stop.is_number {
-        return format!(in alloc; " at column {column} (a number is out of range)");
-    }
-    format!(in alloc; " at column {column}")
+    let rule = stop.rule.words();
+    format!(in alloc; " at column {column} ({rule})")
 }
 
 // The words for a place.

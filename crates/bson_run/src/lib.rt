@@ -9,10 +9,11 @@
 //! reader and to a writer) and `run` (the whole way from a reader to
 //! a writer). Over lines: `order` and `refusal` (what is asked, and what is refused), `gathered`
 //! (the line that is read, and what those before it gave) and `lines` (the whole way). Why a text is
-//! refused, in words: `stop` (where bytes stop to be JSON) and `explain`. What the programs have in
-//! common stands in `program`.
+//! refused, in words: `stop` (where bytes stop to be JSON) with `rule` (which of its rules they
+//! break, which `broken` finds), and `explain`. What the programs have in common stands in `program`.
 #![tactic(auto)]
 
+mod broken;
 pub mod convert;
 pub mod encode;
 pub mod explain;
@@ -27,6 +28,7 @@ pub mod no_bytes;
 pub mod order;
 pub mod program;
 pub mod refusal;
+pub mod rule;
 pub mod run;
 pub mod stop;
 mod stream;

@@ -96,7 +96,7 @@ impl Task {
 /// let (mut output, mut told) = (Vec::new(alloc), Vec::new(alloc));
 /// let (task, go_on) = (Task::Write(Mode::Relaxed), OnRefusal::KeepGoing);
 /// drop(run_lines(alloc, task, go_on, &mut lines, &mut output, &mut told));
-/// rt.print(str::from_utf8(&told)?)?; // bson_lines: line 1: not JSON at column 1
+/// rt.print(str::from_utf8(&told)?)?; // bson_lines: line 1: not JSON at column 1 (the text ends before its value is whole)
 /// rt.print(str::from_utf8(&output)?)?; // 2
 /// ```
 #[derive(Clone, Copy, PartialEq, Eq, Debug)]

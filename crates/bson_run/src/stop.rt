@@ -1,14 +1,13 @@
 //! Where bytes stop to be a JSON text.
 ghost use Rattle.std.specs.Prelude.{◌≡◌, ◌↔◌, IfOk, IsTrue};
-ghost use Rattle.bson_run.specs.Place.{HasGrammar};
+ghost use Rattle.bson_run.specs.Place.{Breaks, HasGrammar};
 
+use crate::broken::{MAX_DEPTH, rule_of};
+use crate::rule::Rule;
 use bson_tokens::number::number;
 use json::{Reader, Scratch, Token};
 use memchr::{memchr_iter, memrchr};
 use std::alloc::{AllocError, Global};
-
-/// How deep arrays and objects may nest.
-const MAX_DEPTH: usize = 127;
 
 /// Where bytes stop to be a JSON text, for a message.
 ///
@@ -23,21 +22,25 @@ pub struct Stop {
     pub offset: usize,
     /// The bytes have the grammar of JSON, and the number there is out of the range of doubles.
     pub is_number: bool,
+    /// Which rule of JSON they break.
+    pub rule: Rule,
 }
 
 impl Stop {
     /// The first byte that is no UTF-8, or else the first token that can't stand where it does, or
     /// what is behind a bracket that nests deeper than 127; where the bytes have the grammar of
-    /// JSON, the first number whose nearest double is not finite. It makes no tree; of memory it
-    /// takes as much as the bytes.
+    /// JSON, the first number whose nearest double is not finite; and the rule that is broken there.
+    /// It makes no tree; of memory it takes as much as the bytes.
     pub fn of(alloc: Global, bytes: &[u8]) -> Result<Stop, AllocError>
         ensures grammar { IfOk result (λ stop. IsTrue stop.is_number ↔ HasGrammar bytes.now) }
+        ensures rule { IfOk result (λ stop. Breaks bytes.now stop.rule) }
     {
         match simdutf8::compat::from_utf8(bytes) {
             Ok(text) => stop_in(alloc, text),
             Err(error) => Ok(Stop {
                 offset: error.valid_up_to(),
                 is_number: false,
+                rule: Rule::Utf8,
             }),
         }
     }
@@ -65,20 +68,29 @@ impl Stop {
 // Where the text stops to be JSON.
 fn stop_in(alloc: Global, text: &str) -> Result<Stop, AllocError>
     ensures grammar { IfOk result (λ stop. IsTrue stop.is_number ↔ HasGrammar text.now) }
+    ensures rule { IfOk result (λ stop. Breaks text.now stop.rule) }
 {
     let mut scratch = Scratch::new(alloc);
     let mut reader = Reader::new(text, &mut scratch)?;
-    let has_grammar = reader.skip_value(MAX_DEPTH).is_ok() && reader.next().is_none();
-    let offset = reader.offset();
-    if !has_grammar {
+    if reader.skip_value(MAX_DEPTH).is_err() {
+        let offset = reader.offset();
         return Ok(Stop {
             offset,
             is_number: false,
+            rule: rule_of(text, &mut scratch)?,
+        });
+    }
+    if let Some(_) = reader.next() {
+        return Ok(Stop {
+            offset: reader.offset(),
+            is_number: false,
+            rule: Rule::MoreBehind,
         });
     }
     Ok(Stop {
         offset: number_out_of_range(text, &mut scratch)?,
         is_number: true,
+        rule: Rule::OutOfRange,
     })
 }
 

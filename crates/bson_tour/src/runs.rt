@@ -32,6 +32,7 @@ pub(crate) fn print(rt: &impl Print, alloc: Global) -> anyhow::Result<()> {
     task(rt, alloc)?;
     on_refusal(rt, alloc)?;
     stop(rt, alloc)?;
+    rule(rt, alloc)?;
     taken_call(rt, alloc)?;
     taking(rt, alloc)?;
     work(rt, alloc)
@@ -163,7 +164,7 @@ fn on_refusal(rt: &impl Print, alloc: Global) -> anyhow::Result<()> {
     let (mut output, mut told) = (Vec::new(alloc), Vec::new(alloc));
     let (task, go_on) = (Task::Write(Mode::Relaxed), OnRefusal::KeepGoing);
     drop(run_lines(alloc, task, go_on, &mut lines, &mut output, &mut told));
-    rt.print(str::from_utf8(&told)?)?; // bson_lines: line 1: not JSON at column 1
+    rt.print(str::from_utf8(&told)?)?; // bson_lines: line 1: not JSON at column 1 (the text ends before its value is whole)
     rt.print(str::from_utf8(&output)?)?; // 2
     Ok(())
 }
@@ -172,6 +173,13 @@ fn stop(rt: &impl Print, alloc: Global) -> anyhow::Result<()> {
     let text: &[u8] = b"[1,\n 2 3]";
     let stop = Stop::of(alloc, text)?;
     println!(rt; "{}:{}", stop.line(text), stop.column(text))?; // 2:4
+    Ok(())
+}
+
+fn rule(rt: &impl Print, alloc: Global) -> anyhow::Result<()> {
+    let text: &[u8] = b"[1, 2,]";
+    let stop = Stop::of(alloc, text)?;
+    println!(rt; "{}", stop.rule.words())?; // behind a comma another element is wanted
     Ok(())
 }
 

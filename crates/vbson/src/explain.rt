@@ -15,7 +15,7 @@ use bson_run::fault::Fault;
 use bson_run::mode::Mode;
 use std::alloc::{AllocError, Global};
 
-/// Leaves the words for why a text is refused, and where: `not JSON at column 7`, or
+/// Leaves the words for why a text is refused, and where: `not JSON at column 7 (RULE)`, or
 /// `not Extended JSON at orders.0.price (MESSAGE)`; no words where it is accepted. The flags are
 /// those of `vbson_convert_with`, whose answer this explains; the order of keys says nothing here.
 #[unsafe(no_mangle)]

@@ -64,7 +64,8 @@ impl Error {
         self.parts().0
     }
 
-    /// What is wrong there: `a number is no whole number of 64 bits`, or the words for the kind.
+    /// What is wrong there: `a number is no whole number of 64 bits`, or of what is no JSON the rule that is broken,
+    /// as `a comma or a bracket is missing`; else the words for the kind.
     pub fn why(&self) -> &str {
         Some(self.parts().1).filter(|it| !it.is_empty()).unwrap_or(self.kind.words())
     }

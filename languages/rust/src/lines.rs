@@ -85,7 +85,7 @@ fn refusals(told: &str) -> Vec<(u64, Error)> {
     told.lines().map(|verdict| refusal(verdict).expect("a verdict has a number and a kind")).collect()
 }
 
-/// The number and the error of a verdict, `bson_lines: line 3: not JSON at column 7`.
+/// The number and the error of a verdict, `bson_lines: line 3: not JSON at column 7 (no value begins so)`.
 fn refusal(verdict: &str) -> Option<(u64, Error)> {
     let (number, words) = verdict.strip_prefix("bson_lines: line ")?.split_once(": ")?;
     let of_texts = [ErrorKind::NotJson, ErrorKind::BadObjectId, ErrorKind::NotExtendedJson];

@@ -66,11 +66,14 @@ fn faults_are_told() {
 #[test]
 fn places_are_told() {
     let number = "a number is no whole number of 64 bits";
+    let (early, quotes) = ("the text ends before its value is whole", "a key or a text stands in double quotes");
     let digit = "the character ' ' at 4 in \"53e3 (\" is no hexadecimal digit";
     // (of a path and of a message 300 characters are told)
     let (long, cut) = ("a".repeat(1000), "a".repeat(300) + "..");
     for (text, words, at, why) in [
-        ("[1, 2", "not JSON at column 5".to_owned(), "column 5", "not JSON"),
+        ("[1, 2", format!("not JSON at column 5 ({early})"), "column 5", early),
+        ("{'a':1}", format!("not JSON at column 2 ({quotes})"), "column 2", quotes),
+        ("", format!("not JSON at column 1 ({early})"), "column 1", early),
         ("[1e400]", "not JSON at column 2 (a number is out of range)".to_owned(), "column 2", "a number is out of range"),
         (r#"{"a (":[{"b":1.5}]}"#, format!("not Extended JSON at a (.0.b ({number})"), "a (.0.b", number),
         ("1.5", format!("not Extended JSON ({number})"), "", number),

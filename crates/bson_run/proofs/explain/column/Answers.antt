@@ -1,9 +1,16 @@
-use Rattle.std.proofs.Common.{inr, rules}
-use Rattle.bson_run.specs.Place.{HasGrammar}
+use Rattle.std.proofs.Common.{◌≡◌, ◌++◌, IfOk, codes, decimal, string_bytes, append_assoc, ap, ◌∙◌}
 use Rattle.bson_run.proofs.LinesLaws.{oks_with}
 use Rattle.bson_run.proofs.explain.column.Goals as goal
 
 pub returns : goal.returns
 returns c =
-    let none : ¬ (HasGrammar c.args.text.now) = search rules in
-    oks_with c.format-2.result c.format-2.ensures.ok (λ s e. (c.column-column.result, inr (none, e)))
+    let column = c.column-column.result in
+    let words = c.words-rule.result.now in
+    let said : IfOk c.format.result (λ s. string_bytes s ≡ codes " at column " ++ decimal column ++ codes " (" ++ words
+    ++ codes ")") = simp append_assoc c.format.ensures.ok in
+    oks_with c.format.result said (λ s e. (
+      column,
+      c.in_ok-stop.stop.rule,
+      c.in_ok-stop.ensures.rule,
+      e ∙ ap (λ w. codes " at column " ++ decimal column ++ codes " (" ++ w ++ codes ")") c.words-rule.ensures,
+    ))

@@ -1,0 +1,81 @@
+-- Which rule bytes break that are no text.
+use Rattle.std.proofs.Common.{◌≡◌, ◌≢◌, ◌+◌, ◌<◌, ◌++◌, ℕ, List, [], ◌∷◌, None, IsUtf8, refl, sym, ap, ◌∙◌}
+use Rattle.std.proofs.Common.{inl, inr, arith, append_assoc, sum_by, subst}
+use Rattle.std.proofs.lemmas.List.Sums.{sum_by_push}
+use Rattle.json.specs.Json.{skip_value, value}
+use Rattle.json.specs.Lex.{tokens}
+use Rattle.json.specs.Token.{Token, bad}
+use Rattle.serde_json.specs.Read.{max_depth}
+use Rattle.bson_run.specs.Place.{Breaks, HasMoreBehind, IsOfBad, IsOfToken, IsOfValue, NestsDeeper, HasBad}
+use Rattle.bson_run.specs.Place.{closes, opens}
+use Rattle.bson_run.specs.declared.rule.Rule.{Rule}
+use Rattle.bson_run.specs.declared.rule.Rule.TheVariants.{EndsEarly, MoreBehind}
+use Rattle.bson_run.specs.declared.rule.Rule.TheVariants.{Quotes, Separator, BehindKey, Depth}
+
+of_nothing : skip_value max_depth [] ≡ None
+unfolding value
+of_nothing = refl
+
+-- no value stands where no token does
+of_none : (bytes : List ℕ) → tokens bytes ≡ [] → skip_value max_depth (tokens bytes) ≡ None
+of_none bytes e = ap (λ ts. skip_value max_depth ts) e ∙ of_nothing
+
+has_one : (front : List Token) (t : Token) (rest : List Token) → ¬ (front ++ t ∷ rest ≡ [])
+has_one [] t rest e = absurd cc
+has_one (x ∷ xs) t rest e = absurd cc
+
+-- ---- more behind a value
+
+pub more_behind : (bytes : List ℕ) → HasMoreBehind bytes → Breaks bytes MoreBehind
+more_behind bytes m = record {
+  utf8 = (λ e. absurd cc, λ n. absurd (n m.0));
+  number = (λ e. absurd cc, λ g. let one = g.1 in let other = m.1.2 in absurd cc);
+  more = (λ e. m, λ x. refl);
+  blank = λ u e. let one = m.1.2 in let none = of_none bytes e in absurd cc;
+  depth = λ e. absurd cc;
+  no_token = λ h. absurd h;
+}
+
+-- ---- those of a text with no value at its beginning
+
+module _ (bytes : List ℕ) (u : IsUtf8 bytes) (none : skip_value max_depth (tokens bytes) ≡ None) where
+  of_value : (rule : Rule) → IsOfValue rule → (tokens bytes ≡ [] → rule ≡ EndsEarly)
+      → (rule ≡ Depth → NestsDeeper (tokens bytes)) → (IsOfBad rule → HasBad (tokens bytes)) → Breaks bytes rule
+  of_value rule other blank depth no_token = record {
+    utf8 = (λ e. absurd (other.0 e), λ n. absurd (n u));
+    number = (λ e. absurd (other.1 e), λ g. let one = g.1 in absurd cc);
+    more = (λ e. absurd (other.2 e), λ m. let one = m.1.2 in absurd cc);
+    blank = λ x e. blank e;
+    depth = depth;
+    no_token = no_token;
+  }
+
+  pub at_end : Breaks bytes EndsEarly
+  at_end = of_value EndsEarly (λ e. absurd cc, λ e. absurd cc, λ e. absurd cc) (λ e. refl) (λ e. absurd cc) (λ h. absurd h)
+
+  pub at_bad : (rule : Rule) (front rest : List Token) → tokens bytes ≡ front ++ bad ∷ rest
+      → IsOfValue rule × (rule ≢ Depth) → Breaks bytes rule
+  at_bad rule front rest e h =
+      of_value rule h.0 (λ n. absurd (has_one front bad rest (sym e ∙ n))) (λ d. absurd (h.1 d)) (λ x. (front, rest, e))
+
+  deeper : (depth : ℕ) (t : Token) (front rest : List Token) → tokens bytes ≡ front ++ t ∷ rest
+      → depth + sum_by closes front ≡ sum_by opens front → closes t ≡ 0 → max_depth < depth + opens t
+      → NestsDeeper (tokens bytes)
+  deeper depth t front rest e count shut deep = (
+    front ++ t ∷ [],
+    rest,
+    e ∙ sym (append_assoc front (t ∷ []) rest),
+    omega (arith, count, shut, deep, sum_by_push closes front t, sum_by_push opens front t),
+  )
+
+  pub at_token : (rule : Rule) (depth : ℕ) (t : Token) (front rest : List Token) → tokens bytes ≡ front ++ t ∷ rest
+      → depth + sum_by closes front ≡ sum_by opens front → IsOfToken depth t rule → Breaks bytes rule
+  at_token rule depth t front rest e count (inl is) = subst (λ r. Breaks bytes r) (sym is)
+      (of_value Quotes (λ f. absurd cc, λ f. absurd cc, λ f. absurd cc) (λ n. absurd (has_one front t rest (sym e ∙ n))) (λ f. absurd cc) (λ h. absurd h))
+  at_token rule depth t front rest e count (inr (inl is)) = subst (λ r. Breaks bytes r) (sym is)
+      (of_value Separator (λ f. absurd cc, λ f. absurd cc, λ f. absurd cc) (λ n. absurd (has_one front t rest (sym e ∙ n))) (λ f. absurd cc) (λ h. absurd h))
+  at_token rule depth t front rest e count (inr (inr (inl is))) = subst (λ r. Breaks bytes r) (sym is)
+      (of_value BehindKey (λ f. absurd cc, λ f. absurd cc, λ f. absurd cc) (λ n. absurd (has_one front t rest (sym e ∙ n))) (λ f. absurd cc) (λ h. absurd h))
+  at_token rule depth t front rest e count (inr (inr (inr h))) = subst (λ r. Breaks bytes r) (sym h.0)
+      (of_value Depth (λ f. absurd cc, λ f. absurd cc, λ f. absurd cc) (λ n. absurd (has_one front t rest (sym e ∙ n)))
+      (λ f. deeper depth t front rest e count h.1 h.2) (λ x. absurd x))

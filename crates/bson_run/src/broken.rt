@@ -1,0 +1,168 @@
+//! Which rule of JSON a text breaks that begins with no value: found in one pass over its tokens.
+ghost use Rattle.std.specs.Prelude.{◌≡◌, ◌≢◌, ◌⊎◌, ◌≤◌, ◌+◌, None, IfOk, MatchOption};
+ghost use Rattle.json.specs.Json.{skip_value};
+ghost use Rattle.json.specs.Lex.{tokens};
+ghost use Rattle.json.specs.Reads.{token_of};
+ghost use Rattle.serde_json.specs.Read.{max_depth};
+ghost use Rattle.bson_run.specs.Place.{Breaks, IsOfToken, IsOfValue, closes, opens};
+
+use crate::rule::Rule;
+use json::{Reader, Scratch, Token};
+use std::alloc::AllocError;
+
+/// How deep arrays and objects may nest.
+pub(crate) const MAX_DEPTH: usize = 127;
+
+/// The first rule that the value of a text breaks, where it has none.
+pub(crate) fn rule_of(text: &str, scratch: &mut Scratch) -> Result<Rule, AllocError>
+    requires { skip_value max_depth (tokens text.now) ≡ None }
+    ensures { IfOk result (λ rule. Breaks text.now rule) }
+{
+    let mut reader = Reader::new(text, scratch)?;
+    let mut open = Open {
+        objects: 0,
+        depth: 0,
+        wants_value: false,
+        lacks_colon: false,
+    };
+    while let Some(token) = reader.next() {
+        if let Token::Bad = token
+            && !open.lacks_colon
+        {
+            let at = reader.offset();
+            return Ok(rule_of_bad(text.as_bytes(), at, open.wants_key()));
+        }
+        if let Some(rule) = open.pass(token) {
+            return Ok(rule);
+        }
+    }
+    Ok(Rule::EndsEarly)
+}
+
+// What is open between two tokens.
+#[derive(Drop)]
+struct Open {
+    // Of each bracket, the innermost at the low end, a bit that is set where it opens an object.
+    objects: u128,
+    // How many brackets there are.
+    depth: usize,
+    // A key and its colon stand there, and no value yet.
+    wants_value: bool,
+    // A text stands there in the place of a key, and no colon behind it.
+    lacks_colon: bool,
+}
+
+impl Open {
+    // Whether the innermost bracket opens an object.
+    fn is_object(&self) -> bool {
+        self.objects & 1 == 1
+    }
+
+    fn wants_key(&self) -> bool {
+        self.is_object() && !self.wants_value
+    }
+
+    // Passes a token, or tells the rule that it breaks where it stands.
+    fn pass(&mut self, token: Token<'_>) -> Option<Rule>
+        ensures { MatchOption result
+            (self.new.depth + closes (token_of token.entry) ≡ self.old.depth + opens (token_of token.entry))
+            (λ rule. IsOfToken self.old.depth (token_of token.entry) rule) }
+    {
+        if self.lacks_colon {
+            return Some(Rule::BehindKey);
+        }
+        match token {
+            Token::Key(_) => return self.pass_key(),
+            Token::EndObject => return self.close(true),
+            Token::EndArray => return self.close(false),
+            Token::String(_) if self.wants_key() => self.lacks_colon = true,
+            _ if self.wants_key() => return Some(Rule::Quotes),
+            Token::BeginObject => return self.open(true),
+            Token::BeginArray => return self.open(false),
+            _ => self.wants_value = false,
+        }
+        None
+    }
+
+    fn pass_key(&mut self) -> Option<Rule>
+        ensures { MatchOption result (self.new.depth ≡ self.old.depth) (λ rule. rule ≡ Rule.Separator) }
+    {
+        if !self.wants_key() {
+            return Some(Rule::Separator);
+        }
+        self.wants_value = true;
+        None
+    }
+
+    fn open(&mut self, is_object: bool) -> Option<Rule>
+        ensures { MatchOption result (self.new.depth ≡ self.old.depth + 1)
+            (λ rule. (rule ≡ Rule.Depth) × (127 ≤ self.old.depth)) }
+    {
+        if self.depth >= MAX_DEPTH {
+            return Some(Rule::Depth);
+        }
+        self.depth += 1;
+        self.objects = (self.objects << 1) | u128::from(is_object);
+        self.wants_value = false;
+        None
+    }
+
+    fn close(&mut self, is_object: bool) -> Option<Rule>
+        ensures { MatchOption result (self.new.depth + 1 ≡ self.old.depth)
+            (λ rule. (rule ≡ Rule.BehindKey) ⊎ (rule ≡ Rule.Separator)) }
+    {
+        if self.wants_value {
+            return Some(Rule::BehindKey);
+        }
+        if self.depth == 0 || self.is_object() != is_object {
+            return Some(Rule::Separator);
+        }
+        self.depth -= 1;
+        self.objects >>= 1;
+        None
+    }
+}
+
+// The rule that is broken where no token stands: told by the byte there, and by the one before it
+// that is no blank.
+fn rule_of_bad(bytes: &[u8], at: usize, wants_key: bool) -> Rule
+    ensures { IsOfValue result × (result ≢ Rule.Depth) }
+{
+    let (before, there) = bytes.split_at(at.min(bytes.len()));
+    let Some((first, rest)) = there.split_first() else {
+        return Rule::EndsEarly;
+    };
+    match before.trim_ascii_end().last() {
+        Some(b',') if matches!(*first, b',' | b':' | b']' | b'}') => Rule::BehindComma,
+        None | Some(b',' | b':' | b'[' | b'{') => rule_of_beginning(*first, rest, wants_key),
+        Some(_) => Rule::Separator,
+    }
+}
+
+// The rule that is broken where a value, or a key, may begin.
+fn rule_of_beginning(first: u8, rest: &[u8], wants_key: bool) -> Rule
+    ensures { IsOfValue result × (result ≢ Rule.Depth) }
+{
+    match first {
+        b'"' => rule_of_text(rest),
+        _ if wants_key => Rule::Quotes,
+        b'\'' | b'`' => Rule::Quotes,
+        b'0'..=b'9' | b'-' | b'+' | b'.' => Rule::Number,
+        _ => Rule::NoValue,
+    }
+}
+
+// The rule that a text breaks whose bytes behind its quote these are.
+fn rule_of_text(bytes: &[u8]) -> Rule
+    ensures { IsOfValue result × (result ≢ Rule.Depth) }
+{
+    let mut is_escaped = false;
+    for byte in bytes {
+        match *byte {
+            0..=0x1f => return Rule::ControlCharacter,
+            b'"' if !is_escaped => return Rule::Escape,
+            other => is_escaped = other == b'\\' && !is_escaped,
+        }
+    }
+    Rule::EndsEarly
+}

@@ -1,0 +1,64 @@
+//! Which rule of JSON a text breaks.
+ghost use Rattle.std.specs.Prelude.{◌≡◌};
+ghost use Rattle.bson_run.specs.Words.{words_broken};
+
+/// Which rule of JSON (RFC 8259) a text breaks.
+///
+/// ```
+/// let text: &[u8] = b"[1, 2,]";
+/// let stop = Stop::of(alloc, text)?;
+/// println!(rt; "{}", stop.rule.words())?; // behind a comma another element is wanted
+/// ```
+#[derive(Clone, Copy, PartialEq, Eq, Debug)]
+pub enum Rule {
+    /// The bytes are no UTF-8.
+    Utf8,
+    /// The text ends before its value is whole; a text of blanks too.
+    EndsEarly,
+    /// A key has no double quotes, or a text has others.
+    Quotes,
+    /// No value begins as it does there.
+    NoValue,
+    /// A number is written as JSON writes none: `01`, `+1`, `1.`, `.5`, `0x10`.
+    Number,
+    /// A text has a character below U+0020 in it, as a tab or a newline.
+    ControlCharacter,
+    /// A text has an escape that stands for no character, as `\x41` or half of a surrogate pair.
+    Escape,
+    /// Neither a comma nor the closing bracket stands behind an element; or a bracket is closed that
+    /// is not open, or a key stands outside of an object.
+    Separator,
+    /// No element stands behind a comma.
+    BehindComma,
+    /// No colon stands behind a key, or no value behind the colon.
+    BehindKey,
+    /// Arrays and objects nest deeper than 127.
+    Depth,
+    /// More stands behind the value.
+    MoreBehind,
+    /// The text has the grammar of JSON, but a number in it has no finite nearest double.
+    OutOfRange,
+}
+
+impl Rule {
+    /// What a program says of it.
+    pub fn words(self) -> &'static str
+        ensures { result.now ≡ words_broken self }
+    {
+        match self {
+            Rule::Utf8 => "bytes that are no UTF-8",
+            Rule::EndsEarly => "the text ends before its value is whole",
+            Rule::Quotes => "a key or a text stands in double quotes",
+            Rule::NoValue => "no value begins so",
+            Rule::Number => "no number of JSON is written so",
+            Rule::ControlCharacter => "a control character stands in a text",
+            Rule::Escape => "an escape that stands for no character",
+            Rule::Separator => "a comma or a bracket is missing",
+            Rule::BehindComma => "behind a comma another element is wanted",
+            Rule::BehindKey => "behind a key a colon and a value are wanted",
+            Rule::Depth => "it nests deeper than 127",
+            Rule::MoreBehind => "more stands behind the value",
+            Rule::OutOfRange => "a number is out of range",
+        }
+    }
+}
