@@ -1,0 +1,3 @@
+mod Spaces
+mod Telling
+mod Verdicts
