@@ -17,7 +17,6 @@ use Rattle.bson_run.specs.Words.{words_of}
 use Rattle.bson_run.specs.declared.fault.Fault.{Fault}
 use Rattle.bson_run.specs.declared.fault.Fault.TheVariants.{CannotRead, NotJson, NotExtendedJson, NoBytes, OutOfMemory}
 use Rattle.bson_run.specs.declared.fault.Fault.TheVariants.{CannotWrite}
-use Rattle.bson_run.specs.declared.refusal.Refusal.{Refusal}
 use Rattle.bson_lines.specs.declared.order.Input as order
 use Rattle.bson_lines.specs.declared.order.Input.TheVariants.{Lines, Text, Documents}
 use Rattle.bson_lines.specs.declared.run.Stop.{Stop}

@@ -1,7 +1,8 @@
 -- What the words after the program's name ask for.
 use Rattle.std.specs.Prelude.{◌≡◌, ◌≢◌, ◌⊎◌, ◌≤◌, ◌++◌, ℕ, Bool, true, false, List, [], ◌∷◌, Option, None, Some, IsSome, codes}
-use Rattle.std.specs.Prelude.{◌<◌, ◌&&◌, ◌||◌, map, not, string_bytes, vec_len, if◌then◌else◌}
+use Rattle.std.specs.Prelude.{◌&&◌, ◌||◌, Contains, map, not, string_bytes, vec_len, if◌then◌else◌}
 use Rattle.std.specs.Option.{option_map_or}
+use Rattle.bson_run.specs.Words.{task_name}
 use Rattle.bson_run.specs.declared.order.OnRefusal.TheVariants.{KeepGoing, Stop}
 use Rattle.bson_run.specs.declared.mode.Mode.TheVariants.{Canonical, Relaxed}
 use Rattle.bson_run.specs.declared.order.Taking.{Taking}
@@ -16,6 +17,8 @@ use Rattle.bson_lines.specs.declared.order.Input.{Input}
 use Rattle.bson_lines.specs.declared.order.Input.TheVariants.{Text, Documents}
 use Rattle.bson_lines.specs.declared.order.Order.{Order}
 use Rattle.bson_lines.specs.declared.arguments.Given.{Given}
+use Rattle.bson_lines.specs.declared.arguments.Taken as arguments
+use Rattle.bson_lines.specs.declared.arguments.Taken.TheVariants as taken
 use Rattle.bson_lines.specs.declared.arguments.Next.TheVariants.{Output, Indent}
 
 -- ---- tasks
@@ -143,3 +146,26 @@ IsAnswer given (Run order) = IsGiven given order
 IsAnswer given Help = ⊥
 IsAnswer given Version = ⊥
 IsAnswer given Nothing = (verb : Task) → given.task ≡ Some verb → ¬ Fits given verb
+
+-- what each answer says of the words: those that ask for help or for the version are among them, and so is the name of
+-- the run's task, whose options stand together
+abbrev pub IsAskedBy : (words : List (List ℕ)) → Asked → Type 0
+IsAskedBy words (Run order) = Contains words (task_name order.task) × ((given : Given) × IsGiven given order)
+IsAskedBy words Help = Contains words (codes "--help") ⊎ Contains words (codes "-h")
+IsAskedBy words Version = Contains words (codes "--version") ⊎ Contains words (codes "-v")
+IsAskedBy words Nothing = Unit {0}
+
+-- ---- for private clauses
+
+-- what is answered to a word says of it
+abbrev pub IsTaken : (word : List ℕ) → arguments.Taken → Type 0
+IsTaken word taken.Word = Unit {0}
+IsTaken word taken.Help = (word ≡ codes "--help") ⊎ (word ≡ codes "-h")
+IsTaken word taken.Version = (word ≡ codes "--version") ⊎ (word ≡ codes "-v")
+IsTaken word taken.Unknown = Unit {0}
+
+abbrev pub IsNoHelp : arguments.Taken → Type 0
+IsNoHelp taken.Word = Unit {0}
+IsNoHelp taken.Help = ⊥
+IsNoHelp taken.Version = ⊥
+IsNoHelp taken.Unknown = Unit {0}

@@ -1,9 +1,10 @@
 //! What the words after the program's name give, one after the other.
-ghost use Rattle.std.specs.Prelude.{◌≡◌, ◌<◌, ◌≤◌, ℕ, List, None, IfOk, IfSome, map, string_bytes};
+ghost use Rattle.std.specs.Prelude.{◌≡◌, ◌⊎◌, ◌<◌, ◌≤◌, ℕ, List, None, OnOk, IfOk, IfSome, map, string_bytes};
 ghost use Rattle.std.specs.Prelude.{◌==◌, ◌||◌, slice_index, if◌then◌else◌};
 ghost use Rattle.std.specs.Fmt.{decimal};
 ghost use Rattle.bson_lines.specs.Order.{first_taken, has_own_order, in_order, or_standard, taking_of};
-ghost use Rattle.bson_lines.specs.Order.{HasOutput, IsAnswer};
+ghost use Rattle.bson_lines.specs.Order.{HasOutput, IsAnswer, IsNoHelp, IsTaken};
+ghost use Rattle.bson_run.specs.Words.{task_name};
 
 use crate::fits::fits;
 use crate::order::{Asked, Input, Order, STANDARD};
@@ -54,7 +55,9 @@ pub enum Taken {
 
 impl Given {
     /// No word yet.
-    pub fn new(alloc: Global) -> Given {
+    pub fn new(alloc: Global) -> Given
+        ensures { result.task ≡ None }
+    {
         Given {
             alloc,
             task: None,
@@ -73,7 +76,10 @@ impl Given {
     }
 
     /// Takes the next word.
-    pub fn take(&mut self, word: &str) -> Result<Taken, AllocError> {
+    pub fn take(&mut self, word: &str) -> Result<Taken, AllocError>
+        ensures verb { IfSome self.new.task (λ verb. (self.old.task ≡ Some verb) ⊎ (word.now ≡ task_name verb)) }
+        ensures help { IfOk result (λ taken. IsTaken word.now taken) }
+    {
         match self.next {
             Next::Any => self.take_any(word),
             Next::Output => {
@@ -89,7 +95,10 @@ impl Given {
     }
 
     // Takes a word that no option waits for.
-    fn take_any(&mut self, word: &str) -> Result<Taken, AllocError> {
+    fn take_any(&mut self, word: &str) -> Result<Taken, AllocError>
+        ensures verb { IfSome self.new.task (λ verb. (self.old.task ≡ Some verb) ⊎ (word.now ≡ task_name verb)) }
+        ensures help { IfOk result (λ taken. IsTaken word.now taken) }
+    {
         match word {
             "--help" | "-h" => Ok(Taken::Help),
             "--version" | "-v" => Ok(Taken::Version),
@@ -134,7 +143,10 @@ impl Given {
     }
 
     // Takes a word that has its option in it, or a name.
-    fn take_joined(&mut self, word: &str) -> Result<Taken, AllocError> {
+    fn take_joined(&mut self, word: &str) -> Result<Taken, AllocError>
+        ensures verb { IfSome self.new.task (λ verb. (self.old.task ≡ Some verb) ⊎ (word.now ≡ task_name verb)) }
+        ensures no_help { IfOk result IsNoHelp }
+    {
         if let Some(count) = word.strip_prefix("--indent=") {
             return Ok(self.take_indent(count));
         }
@@ -146,26 +158,40 @@ impl Given {
     }
 
     // A number of spaces, from 1 to 16.
-    fn take_indent(&mut self, word: &str) -> Taken {
+    fn take_indent(&mut self, word: &str) -> Taken
+        ensures verb { self.new.task ≡ self.old.task }
+        ensures no_help { IsNoHelp result }
+    {
         let is_first = self.indent.is_none();
         self.indent = spaces(word);
         once(is_first && self.indent.is_some())
     }
 
     // The input is this, and nothing else was said of it.
-    fn take_input(&mut self, input: Input) -> Result<Taken, AllocError> {
+    fn take_input(&mut self, input: Input) -> Result<Taken, AllocError>
+        ensures given { self.new ≡ record self.old { input = input } }
+        ensures no_help { IfOk result IsNoHelp }
+    {
         let is_first = self.input == Input::Lines;
         self.input = input;
         Ok(once(is_first))
     }
 
     // The next word is taken for this.
-    fn expect(&mut self, next: Next) -> Result<Taken, AllocError> {
+    fn expect(&mut self, next: Next) -> Result<Taken, AllocError>
+        ensures given { self.new ≡ record self.old { next = next } }
+        ensures word { result ≡ Ok Taken.Word }
+    {
         self.next = next;
         Ok(Taken::Word)
     }
 
-    fn take_output(&mut self, name: &str) -> Result<Taken, AllocError> {
+    fn take_output(&mut self, name: &str) -> Result<Taken, AllocError>
+        ensures verb { self.new.task ≡ self.old.task }
+        ensures output { OnOk result (IfSome self.new.output
+            (λ file. (self.old.output ≡ Some file) ⊎ (string_bytes file ≡ name.now))) }
+        ensures no_help { IfOk result IsNoHelp }
+    {
         if self.output.is_some() {
             return Ok(Taken::Unknown);
         }
@@ -174,7 +200,10 @@ impl Given {
     }
 
     // The first is a mode, and the others are files.
-    fn take_name(&mut self, word: &str) -> Result<Taken, AllocError> {
+    fn take_name(&mut self, word: &str) -> Result<Taken, AllocError>
+        ensures verb { IfSome self.new.task (λ verb. (self.old.task ≡ Some verb) ⊎ (word.now ≡ task_name verb)) }
+        ensures no_help { IfOk result IsNoHelp }
+    {
         if self.task.is_some() {
             self.inputs.push(String::from_str(self.alloc, word)?)?;
             return Ok(Taken::Word);

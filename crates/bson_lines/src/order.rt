@@ -1,5 +1,6 @@
 //! What the arguments ask for.
-ghost use Rattle.std.specs.Prelude.{◌≡◌, ◌⊎◌, ◌↔◌, IsTrue};
+ghost use Rattle.std.specs.Prelude.{◌≡◌, ◌⊎◌, ◌↔◌, IfOk, IsTrue, map, string_bytes};
+ghost use Rattle.bson_lines.specs.Order.{IsAskedBy};
 ghost use Rattle.bson_run.specs.declared.order.Taking.{Taking};
 
 use crate::arguments::{Given, Taken};
@@ -72,7 +73,9 @@ impl Order {
 
 /// What the words after the program's name ask for: a mode, then names of files, with options
 /// anywhere before a word `--`, each once at most.
-pub fn asked_by(alloc: Global, words: Vec<String>) -> Result<Asked, AllocError> {
+pub fn asked_by(alloc: Global, words: Vec<String>) -> Result<Asked, AllocError>
+    ensures { IfOk result (λ asked. IsAskedBy (map string_bytes words.items) asked) }
+{
     let mut given = Given::new(alloc);
     for word in words.iter() {
         match given.take(word.as_str())? {

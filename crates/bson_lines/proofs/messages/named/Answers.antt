@@ -1,4 +1,4 @@
-use Rattle.std.proofs.Common.{◌≡◌, ◌<◌, arith, length}
+use Rattle.std.proofs.Common.{◌<◌, arith, length}
 use Rattle.std.proofs.lemmas.Bool.Decides.{nat_tests}
 use Rattle.bson_lines.proofs.Verdicts.{line_moves, line_within, named_on}
 use Rattle.bson_lines.proofs.messages.named.Goals as goal

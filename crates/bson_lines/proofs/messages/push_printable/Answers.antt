@@ -1,4 +1,4 @@
-use Rattle.bson_lines.proofs.Verdicts.{escape_goes_on, escape_ends}
+use Rattle.bson_lines.proofs.Verdicts.{escape_goes_on}
 use Rattle.bson_lines.proofs.messages.push_printable.Goals as goal
 
 pub loop-part-preserved : goal.loop-part-preserved
