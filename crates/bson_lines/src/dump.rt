@@ -1,9 +1,13 @@
 //! A run over BSON documents, one behind the other.
+ghost use Rattle.std.specs.Prelude.{◌≡◌, ◌↔◌, IsTrue};
+ghost use Rattle.bson_lines.specs.Stops.{IsLineFor};
+
 use crate::order::Order;
 use crate::progress::{Counted, Verdicts};
 use crate::run::{Stop, unwritten};
 use crate::streams::{Sink, Source};
 use bson::extjson::Form;
+use bson_codec::de::DEPTH;
 use bson_codec::documents::{DocumentCounts, Line, Run, run_documents};
 use bson_codec::told::{RunEnd, RunFault};
 use bson_run::lines::Counts;
@@ -39,8 +43,14 @@ pub fn run_dump<'a>(
 }
 
 // What is asked of each document.
-fn run_of(order: &Order) -> Run {
+fn run_of(order: &Order) -> Run
+    ensures depth { result.depth ≡ DEPTH }
+    ensures options { result.options ≡ order.now.options }
+    ensures line { IsLineFor order.now.task result.line }
+    ensures refusal { IsTrue result.keep_going ↔ (order.now.on_refusal ≡ OnRefusal.KeepGoing) }
+{
     Run {
+        depth: DEPTH,
         options: order.options,
         line: match order.task {
             Task::Write(Mode::Canonical) => Line::Text(Form::Canonical),
@@ -52,7 +62,6 @@ fn run_of(order: &Order) -> Run {
             Task::Check | Task::Encode | Task::EncodeInOrder | Task::Taken(..) => Line::Nothing,
         },
         keep_going: order.on_refusal == OnRefusal::KeepGoing,
-        ..Run::default()
     }
 }
 

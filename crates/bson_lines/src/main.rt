@@ -1,12 +1,15 @@
 //! The program `bson_lines MODE [FILE ..]`: reads documents, one a line, and writes the output of
 //! each on a line of its own, in constant memory.
 //!
-//! The library `bson_run` goes the whole way; here stand the arguments (`order`), the files
-//! (`run`, `streams`, `output`; `whole` for one text, `dump` for BSON documents), the line of progress (`progress`), and the lines on standard error
-//! (`messages`, `words`) and the statuses.
+//! The library `bson_run` goes the whole way; here stand the arguments (`order`, `arguments`,
+//! `fits`), the files (`run`, `streams`, `output`; `whole` for one text, `dump` for BSON documents),
+//! the line of progress (`progress`), and the lines on standard error (`messages`, `words`) and the
+//! statuses.
 #![tactic(auto)]
 
+mod arguments;
 mod dump;
+mod fits;
 mod messages;
 mod order;
 mod output;

@@ -1,4 +1,9 @@
 //! The lines on standard error.
+ghost use Rattle.std.specs.Prelude.{◌≡◌, ◌==◌, ◌++◌, IfOk, OnOk, position, string_bytes};
+ghost use Rattle.bson_lines.specs.Messages.{all_under, document_words, escaped_name, head_of, is_of_stream};
+ghost use Rattle.bson_lines.specs.Messages.{kind_of, line_head, line_len, printable, shown_name, summary_of};
+ghost use Rattle.bson_lines.specs.Messages.{told_at, told_in, told_of_document, under, IsCause, IsLineFor};
+
 use crate::order::{Input, STANDARD};
 use crate::run::Stop;
 use bson_codec::told::{RunEnd, RunFault};
@@ -16,19 +21,30 @@ const TERMINAL: &str =
     "bson_lines: BSON bytes are not written to a terminal; give -o FILE, or a pipe";
 
 /// How many lines or documents there were, and how many were refused.
-pub fn summary(alloc: Global, input: Input, counts: Counts) -> Result<String, AllocError> {
-    let what = match input {
-        Input::Lines | Input::Text => "lines",
-        Input::Documents => "documents",
-    };
+pub fn summary(alloc: Global, input: Input, counts: Counts) -> Result<String, AllocError>
+    ensures { IfOk result (λ line. string_bytes line ≡ summary_of input counts.lines counts.refused) }
+{
+    let what = kind_of(input);
     format!(in alloc;
         "bson_lines: {} {what}, {} refused",
         counts.lines, counts.refused
     )
 }
 
+// What the input has.
+fn kind_of(input: Input) -> &'static str
+    ensures { result.now ≡ kind_of input }
+{
+    match input {
+        Input::Lines | Input::Text => "lines",
+        Input::Documents => "documents",
+    }
+}
+
 /// What stopped the run, and where.
-pub fn line_of(alloc: Global, stop: Stop<'_>) -> Result<String, AllocError> {
+pub fn line_of(alloc: Global, stop: Stop<'_>) -> Result<String, AllocError>
+    ensures { IfOk result (λ line. IsLineFor stop.entry (string_bytes line)) }
+{
     match stop {
         Stop::Input(name, error) => {
             let (name, cause) = (shown(alloc, name, "input")?, cause_of(alloc, error)?);
@@ -50,47 +66,85 @@ pub fn line_of(alloc: Global, stop: Stop<'_>) -> Result<String, AllocError> {
 }
 
 // At which document the run stopped, and why.
-fn at_document(alloc: Global, name: &str, end: RunEnd) -> Result<String, AllocError> {
-    let words = match end.fault {
-        RunFault::CannotRead | RunFault::CannotWrite => String::from_str(alloc, end.fault.words())?,
-        _ => end.told(alloc)?,
-    };
+fn at_document(alloc: Global, name: &str, end: RunEnd) -> Result<String, AllocError>
+    ensures { IfOk result (λ line. string_bytes line ≡ told_of_document name.now end) }
+{
+    let words = document_words(alloc, end)?;
+    let head = head_of(alloc, name)?;
     let words = words.trim_end();
-    if name == STANDARD {
-        return format!(in alloc; "bson_lines: {words}");
+    format!(in alloc; "{head}: {words}")
+}
+
+// Why it stopped there; of a stream alone without the document.
+fn document_words(alloc: Global, end: RunEnd) -> Result<String, AllocError>
+    ensures { IfOk result (λ words. string_bytes words ≡ document_words end.number end.start end.fault) }
+{
+    match end.fault {
+        RunFault::CannotRead | RunFault::CannotWrite => String::from_str(alloc, end.fault.words()),
+        _ => end.told(alloc),
     }
-    let name = escaped(alloc, name)?;
-    format!(in alloc; "{name}: {words}")
 }
 
 // What stopped the run, at which line and where in it.
-fn at_line(alloc: Global, name: &str, refusal: Refusal) -> Result<String, AllocError> {
-    let (line, words, place) = (refusal.line, refusal.fault.words(), &refusal.place);
-    match &refusal.fault {
-        Fault::CannotRead | Fault::CannotWrite => format!(in alloc; "bson_lines: {words}"),
-        _ if name == STANDARD => format!(in alloc; "bson_lines: line {line}: {words}{place}"),
-        _ => {
-            let name = escaped(alloc, name)?;
-            format!(in alloc; "{name}:{line}: {words}{place}")
-        }
+fn at_line(alloc: Global, name: &str, refusal: Refusal) -> Result<String, AllocError>
+    ensures { IfOk result (λ line. string_bytes line
+        ≡ told_at name.now refusal.line refusal.fault (string_bytes refusal.place)) }
+{
+    let words = refusal.fault.words();
+    if is_of_stream(&refusal.fault) {
+        return format!(in alloc; "bson_lines: {words}");
     }
+    let head = line_head(alloc, name, refusal.line)?;
+    let place = refusal.place.as_str();
+    format!(in alloc; "{head}: {words}{place}")
+}
+
+// Whether a reader or a writer failed.
+fn is_of_stream(fault: &Fault) -> bool
+    ensures { result ≡ is_of_stream fault.now }
+{
+    matches!(fault, Fault::CannotRead | Fault::CannotWrite)
 }
 
 // Why a text on any number of lines was refused, and where; at which line for what is no JSON.
-fn at_text(alloc: Global, name: &str, refusal: Refusal) -> Result<String, AllocError> {
+fn at_text(alloc: Global, name: &str, refusal: Refusal) -> Result<String, AllocError>
+    ensures { IfOk result (λ line. string_bytes line
+        ≡ told_in name.now refusal.line refusal.fault (string_bytes refusal.place)) }
+{
     if refusal.line > 0 {
         return at_line(alloc, name, refusal);
     }
-    let (words, place) = (refusal.fault.words(), &refusal.place);
+    let words = refusal.fault.words();
+    let head = head_of(alloc, name)?;
+    let place = refusal.place.as_str();
+    format!(in alloc; "{head}: {words}{place}")
+}
+
+// What a message begins with: the file's name, or that of the program.
+fn head_of(alloc: Global, name: &str) -> Result<String, AllocError>
+    ensures { IfOk result (λ head. string_bytes head ≡ head_of name.now) }
+{
     if name == STANDARD {
-        return format!(in alloc; "bson_lines: {words}{place}");
+        return String::from_str(alloc, "bson_lines");
+    }
+    escaped(alloc, name)
+}
+
+// The same with the number of a line.
+fn line_head(alloc: Global, name: &str, number: u64) -> Result<String, AllocError>
+    ensures { IfOk result (λ head. string_bytes head ≡ line_head name.now number) }
+{
+    if name == STANDARD {
+        return format!(in alloc; "bson_lines: line {number}");
     }
     let name = escaped(alloc, name)?;
-    format!(in alloc; "{name}: {words}{place}")
+    format!(in alloc; "{name}:{number}")
 }
 
 // A file as messages name it.
-fn shown(alloc: Global, name: &str, stream: &str) -> Result<String, AllocError> {
+fn shown(alloc: Global, name: &str, stream: &str) -> Result<String, AllocError>
+    ensures { IfOk result (λ shown. string_bytes shown ≡ shown_name name.now stream.now) }
+{
     if name == STANDARD {
         return format!(in alloc; "standard {stream}");
     }
@@ -98,22 +152,34 @@ fn shown(alloc: Global, name: &str, stream: &str) -> Result<String, AllocError> 
 }
 
 /// A name on one line, that steers no terminal.
-pub fn escaped(alloc: Global, name: &str) -> Result<String, AllocError> {
+pub fn escaped(alloc: Global, name: &str) -> Result<String, AllocError>
+    ensures { IfOk result (λ escaped. string_bytes escaped ≡ escaped_name name.now) }
+{
     let mut escaped = String::new(alloc);
     for letter in name.chars() {
-        if letter.is_control() || letter == '\u{2028}' || letter == '\u{2029}' {
-            for part in letter.escape_default() {
-                escaped.push(part)?;
-            }
-        } else {
-            escaped.push(letter)?;
-        }
+        push_printable(&mut escaped, letter)?;
     }
     Ok(escaped)
 }
 
+// Adds a letter, or its escape where it would break a line or steer a terminal.
+fn push_printable(text: &mut String, letter: char) -> Result<(), AllocError>
+    ensures { OnOk result (string_bytes text.new ≡ string_bytes text.old ++ printable letter) }
+{
+    let is_unprintable = letter.is_control() || letter == '\u{2028}' || letter == '\u{2029}';
+    if !is_unprintable {
+        return text.push(letter);
+    }
+    for part in letter.escape_default() {
+        text.push(part)?;
+    }
+    Ok(())
+}
+
 // The system's words for an error, behind a colon.
-fn cause_of(alloc: Global, error: Option<Error>) -> Result<String, AllocError> {
+fn cause_of(alloc: Global, error: Option<Error>) -> Result<String, AllocError>
+    ensures { IfOk result (λ cause. IsCause error (string_bytes cause)) }
+{
     let Some(error) = error else {
         return Ok(String::new(alloc));
     };
@@ -126,20 +192,45 @@ fn cause_of(alloc: Global, error: Option<Error>) -> Result<String, AllocError> {
 
 /// Verdicts on lines, with a file's name and the line's number in front, as editors and grep have
 /// them; on documents, with the name in front.
-pub fn named(alloc: Global, name: &str, verdicts: &[u8]) -> Result<Vec<u8>, AllocError> {
+pub fn named(alloc: Global, name: &str, verdicts: &[u8]) -> Result<Vec<u8>, AllocError>
+    ensures { IfOk result (λ named. named.items ≡ all_under name.now verdicts.now) }
+{
     let mut named = Vec::new(alloc);
-    for verdict in verdicts.split_inclusive(|byte| *byte == b'\n') {
-        named.extend_from_slice(name.as_bytes())?;
-        match verdict.strip_prefix(HEAD) {
-            Some(rest) => {
-                named.push(b':')?;
-                named.extend_from_slice(rest)?;
-            }
-            None => {
-                named.extend_from_slice(b": ")?;
-                named.extend_from_slice(verdict)?;
-            }
-        }
+    let mut rest = verdicts;
+    while !rest.is_empty() {
+        let (verdict, others) = rest.split_at(line_len(rest));
+        push_named(&mut named, name, verdict)?;
+        rest = others;
     }
     Ok(named)
+}
+
+// How long the first line is, with the newline behind it.
+fn line_len(bytes: &[u8]) -> usize
+    ensures { result ≡ line_len bytes.now }
+{
+    match newline_at(bytes) {
+        Some(at) => at + 1,
+        None => bytes.len(),
+    }
+}
+
+// Where the first newline stands.
+fn newline_at(bytes: &[u8]) -> Option<usize>
+    ensures { result ≡ position (λ byte. byte == 10) bytes.now }
+{
+    bytes.iter().position(|byte| *byte == b'\n')
+}
+
+// Adds a verdict behind the name.
+fn push_named(named: &mut Vec<u8>, name: &str, verdict: &[u8]) -> Result<(), AllocError>
+    ensures { OnOk result (named.new.items ≡ named.old.items ++ under name.now verdict.now) }
+{
+    named.extend_from_slice(name.as_bytes())?;
+    if verdict.starts_with(HEAD) {
+        named.push(b':')?;
+        return named.extend_from_slice(&verdict[HEAD.len()..]);
+    }
+    named.extend_from_slice(b": ")?;
+    named.extend_from_slice(verdict)
 }

@@ -1,5 +1,8 @@
 //! Where the output goes. A file gets it whole or not at all: it is written beside the file, and
 //! takes the file's place at the end.
+ghost use Rattle.std.specs.Prelude.{◌≡◌, codes, IfOk, IfSome, IsOk, IsOkAnd, None};
+ghost use Rattle.bson_lines.specs.Stops.{IsBeside};
+
 use crate::order::STANDARD;
 use crate::streams::{Sink, Target};
 use std::fs::{File, Metadata, OpenOptions};
@@ -26,7 +29,10 @@ struct Part {
 
 impl Output {
     /// Opens a file, or standard output. A device or a pipe is written as it is.
-    pub fn open(rt: &HostRuntime, name: &str) -> io::Result<Output> {
+    pub fn open(rt: &HostRuntime, name: &str) -> io::Result<Output>
+        ensures standard { name.now ≡ codes "-" → IsOkAnd result (λ output. output.part ≡ None) }
+        ensures beside { IfOk result (λ output. IfSome output.part IsBeside) }
+    {
         if name == STANDARD {
             return Ok(whole(Target::Stdout(rt.stdout())));
         }
@@ -41,7 +47,9 @@ impl Output {
     }
 
     /// The output is whole, and takes its place.
-    pub fn finish(self, rt: &HostRuntime) -> io::Result<()> {
+    pub fn finish(self, rt: &HostRuntime) -> io::Result<()>
+        ensures { self.part ≡ None → IsOk result }
+    {
         let Output { sink, part } = self;
         let Some(part) = part else {
             return Ok(());
@@ -65,7 +73,9 @@ impl Output {
 }
 
 // Output that is written where it stays.
-fn whole(target: Target) -> Output {
+fn whole(target: Target) -> Output
+    ensures { result.part ≡ None }
+{
     Output {
         sink: Sink::new(target),
         part: None,
@@ -81,14 +91,18 @@ fn is_link(rt: &HostRuntime, name: &str) -> bool {
 }
 
 // Output in place of a file that is there, if that may be written. Links to it stay.
-fn replacing(rt: &HostRuntime, name: &str, old: &Metadata) -> io::Result<Output> {
+fn replacing(rt: &HostRuntime, name: &str, old: &Metadata) -> io::Result<Output>
+    ensures { IfOk result (λ output. IfSome output.part IsBeside) }
+{
     drop(OpenOptions::new().write(true).open(rt, name)?);
     let file = fs::canonicalize(rt, name)?.into_string();
     beside(rt, file, Some(old))
 }
 
 // Output beside a file, by the process's number, with the rights of the old one.
-fn beside(rt: &HostRuntime, file: String, old: Option<&Metadata>) -> io::Result<Output> {
+fn beside(rt: &HostRuntime, file: String, old: Option<&Metadata>) -> io::Result<Output>
+    ensures { IfOk result (λ output. IfSome output.part IsBeside) }
+{
     let number = process::id(rt.process());
     let path = format!(in rt.alloc(); "{file}.{number}.part")?;
     let made = File::create_new(rt, path.as_str())?;

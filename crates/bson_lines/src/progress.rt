@@ -1,4 +1,8 @@
 //! How far a run is, on a terminal: a line that is renewed in place while files are read.
+ghost use Rattle.std.specs.Prelude.{◌≡◌, ◌==◌, count_by, OnOk};
+ghost use Rattle.std.specs.Io.KnownBytes.{Appends};
+ghost use Rattle.bson_lines.specs.Stops.{told_under};
+
 use crate::messages::named;
 use std::alloc::Global;
 use std::cell::Cell;
@@ -28,7 +32,10 @@ pub struct Progress<'a> {
 }
 
 impl<'a> Progress<'a> {
-    pub fn new(rt: &'a HostRuntime, total: Option<u64>, has_lines: bool) -> Progress<'a> {
+    pub fn new(rt: &'a HostRuntime, total: Option<u64>, has_lines: bool) -> Progress<'a>
+        ensures total { result.total ≡ total }
+        ensures lines { result.has_lines ≡ has_lines }
+    {
         Progress {
             rt,
             total,
@@ -84,7 +91,9 @@ impl<'a> Progress<'a> {
     }
 }
 
-fn newlines(bytes: &[u8]) -> u64 {
+fn newlines(bytes: &[u8]) -> u64
+    ensures { result ≡ count_by (λ byte. byte == 10) bytes.now }
+{
     bytes.iter().filter(|byte| **byte == b'\n').count() as u64
 }
 
@@ -124,7 +133,10 @@ pub struct Verdicts<'a, T> {
 
 impl<T: Write> Verdicts<'_, T> {
     // Writes whole verdicts.
-    fn put(&mut self, verdicts: &[u8]) -> io::Result<()> {
+    fn put(&mut self, verdicts: &[u8]) -> io::Result<()>
+        ensures { OnOk result (Appends (T.contents self.old.writer) (T.contents self.new.writer)
+            (told_under self.old.name verdicts.now)) }
+    {
         match &self.name {
             None => self.writer.write_all(verdicts),
             Some(name) => {

@@ -1,4 +1,6 @@
 //! A run over files: what is opened, and what is told where that can't be done.
+ghost use Rattle.bson_lines.specs.Stops.{IsUnwritten};
+
 use crate::dump::run_dump;
 use crate::messages::escaped;
 use crate::order::{Input, Order, STANDARD};
@@ -142,7 +144,9 @@ fn run_each<'a>(
 }
 
 /// What could not be written: verdicts, or else the output.
-pub fn unwritten<'a>(order: &'a Order, sink: &Sink, report: &Verdicts<'_, Stderr>) -> Stop<'a> {
+pub fn unwritten<'a>(order: &'a Order, sink: &Sink, report: &Verdicts<'_, Stderr>) -> Stop<'a>
+    ensures { IsUnwritten order.now report.now.error sink.now.error result }
+{
     match report.error {
         Some(error) => Stop::Output(STANDARD, Some(error)),
         None => Stop::Output(order.output.as_str(), sink.error),

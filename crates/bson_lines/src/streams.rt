@@ -1,4 +1,7 @@
 //! What is read and written: standard streams and files, with the cause where that fails.
+ghost use Rattle.std.specs.Prelude.{◌≡◌, IsOk, None};
+ghost use Rattle.std.specs.declared.rt.Stdout.{Stdout};
+
 use std::fs::File;
 use std::io;
 use std::io::{Read, Write};
@@ -29,7 +32,9 @@ pub enum Target {
 
 impl Target {
     /// Waits until the system has kept all of a file.
-    pub fn sync(&self) -> io::Result<()> {
+    pub fn sync(&self) -> io::Result<()>
+        ensures { (stdout : Stdout) → self.now ≡ Target.Stdout stdout → IsOk result }
+    {
         match self {
             Target::Stdout(_) => Ok(()),
             Target::File(file) => file.sync_all(),
@@ -61,7 +66,10 @@ pub struct Sink {
 }
 
 impl Sink {
-    pub fn new(target: Target) -> Sink {
+    pub fn new(target: Target) -> Sink
+        ensures target { result.target ≡ target }
+        ensures error { result.error ≡ None }
+    {
         Sink {
             target,
             error: None,

@@ -1,4 +1,12 @@
 //! A run over one text, on any number of lines.
+ghost use Rattle.std.specs.Prelude.{◌≡◌, ◌≢◌, ◌⊎◌, [], IfOk, IfErr, IfSome, None, OnOk, string_bytes};
+ghost use Rattle.bson_run.specs.Convert.{IsRefusedIn};
+ghost use Rattle.bson_run.specs.Indent.{mode_of};
+ghost use Rattle.bson_run.specs.Place.{IsWhere};
+ghost use Rattle.bson_run.specs.Run.{ReadsAll};
+ghost use Rattle.bson_lines.specs.Whole.{behind, Checks, Gives, IsUngiven, Lays, LaysInOrder, WholeDone};
+ghost use Rattle.bson_lines.specs.Whole.{WholeFails, Works};
+
 use crate::order::Order;
 use bson::extjson::Form;
 use bson_run::convert::convert_with;
@@ -23,22 +31,43 @@ pub fn convert_whole<R: Read, W: Write>(
     mark: &[u8],
     reader: &mut R,
     writer: &mut W,
-) -> Result<(), Refusal> {
+) -> Result<(), Refusal>
+    ensures done { OnOk result (WholeDone order.now mark.now (R.remaining reader.old) (R.remaining reader.new)
+        (W.contents writer.old) (W.contents writer.new)) }
+    ensures fails { IfErr result (λ e. WholeFails order.now e.fault mark.now (R.remaining reader.old)
+        (R.remaining reader.new) (W.contents writer.old) (W.contents writer.new)) }
+    ensures place { IfErr result (λ e. IsWhere e.fault (string_bytes e.place)) }
+    ensures line { IfErr result (λ e. (e.fault ≡ Fault.NotJson) ⊎ (e.line ≡ 0)) }
+{
     let bytes = match read_all(alloc, reader) {
         Ok(bytes) => bytes,
-        Err(fault) => return Err(told(alloc, fault, b"")),
+        Err(fault) => return Err(placeless(alloc, fault)),
     };
-    let text = bytes.strip_prefix(mark).unwrap_or(&bytes);
+    let text = behind(mark, &bytes);
     match given(alloc, order, text) {
         Ok(output) => match writer.write_all(&output) {
             Ok(()) => Ok(()),
-            Err(_) => Err(told(alloc, Fault::CannotWrite, b"")),
+            Err(_) => Err(placeless(alloc, Fault::CannotWrite)),
         },
         Err(fault) => Err(told(alloc, fault, text)),
     }
 }
 
-fn read_all<R: Read>(alloc: Global, reader: &mut R) -> Result<Vec<u8>, Fault> {
+// The bytes behind the mark, if that stands before them.
+fn behind<'a>(mark: &[u8], bytes: &'a [u8]) -> &'a [u8]
+    ensures { result.now ≡ behind mark.now bytes.now }
+{
+    if bytes.starts_with(mark) {
+        &bytes[mark.len()..]
+    } else {
+        bytes
+    }
+}
+
+fn read_all<R: Read>(alloc: Global, reader: &mut R) -> Result<Vec<u8>, Fault>
+    ensures all { IfOk result (λ bytes. ReadsAll (R.remaining reader.old) (R.remaining reader.new) bytes.items) }
+    ensures fault { IfErr result (λ fault. (fault ≡ Fault.CannotRead) ⊎ (fault ≡ Fault.OutOfMemory)) }
+{
     let mut bytes = Vec::new(alloc);
     let mut block = [0u8; 65536];
     for _ in 0..u64::MAX {
@@ -57,7 +86,10 @@ fn read_all<R: Read>(alloc: Global, reader: &mut R) -> Result<Vec<u8>, Fault> {
 }
 
 // What is written of the text.
-fn given(alloc: Global, order: &Order, bytes: &[u8]) -> Result<Vec<u8>, Fault> {
+fn given(alloc: Global, order: &Order, bytes: &[u8]) -> Result<Vec<u8>, Fault>
+    ensures ok { IfOk result (λ output. Gives order.now order.now.task bytes.now output.items) }
+    ensures fault { IfErr result (λ fault. IsUngiven order.now.options order.now.task fault bytes.now) }
+{
     match order.task {
         Task::Write(mode) => written(alloc, order, mode, bytes),
         Task::WriteInOrder(mode) => written_in_order(alloc, order, mode, bytes),
@@ -72,7 +104,10 @@ fn given(alloc: Global, order: &Order, bytes: &[u8]) -> Result<Vec<u8>, Fault> {
 }
 
 // What is written of a text that was taken.
-fn worked(alloc: Global, order: &Order, work: Work, bytes: &[u8]) -> Result<Vec<u8>, Fault> {
+fn worked(alloc: Global, order: &Order, work: Work, bytes: &[u8]) -> Result<Vec<u8>, Fault>
+    ensures ok { IfOk result (λ output. Works order.now work bytes.now output.items) }
+    ensures fault { IfErr result (λ fault. IsRefusedIn order.now.options fault bytes.now) }
+{
     match work {
         Work::Write(mode) => written(alloc, order, mode, bytes),
         Work::WriteInOrder(mode) => written_in_order(alloc, order, mode, bytes),
@@ -81,7 +116,10 @@ fn worked(alloc: Global, order: &Order, work: Work, bytes: &[u8]) -> Result<Vec<
 }
 
 // The output in the mode, over several lines where that is asked for.
-fn written(alloc: Global, order: &Order, mode: Mode, bytes: &[u8]) -> Result<Vec<u8>, Fault> {
+fn written(alloc: Global, order: &Order, mode: Mode, bytes: &[u8]) -> Result<Vec<u8>, Fault>
+    ensures ok { IfOk result (λ output. Lays order.now.options order.now.indent mode bytes.now output.items) }
+    ensures fault { IfErr result (λ fault. IsRefusedIn order.now.options fault bytes.now) }
+{
     let options = order.options;
     match layout(order, mode) {
         Some((form, spaces)) => convert_indented(alloc, options, form, spaces, bytes),
@@ -95,7 +133,10 @@ fn written_in_order(
     order: &Order,
     mode: Mode,
     bytes: &[u8],
-) -> Result<Vec<u8>, Fault> {
+) -> Result<Vec<u8>, Fault>
+    ensures ok { IfOk result (λ output. LaysInOrder order.now.options order.now.indent mode bytes.now output.items) }
+    ensures fault { IfErr result (λ fault. IsRefusedIn order.now.options fault bytes.now) }
+{
     let options = order.options;
     match layout(order, mode) {
         Some((form, spaces)) => convert_in_order_indented(alloc, options, form, spaces, bytes),
@@ -104,13 +145,20 @@ fn written_in_order(
 }
 
 // Nothing, of a text that means a value.
-fn checked(alloc: Global, order: &Order, bytes: &[u8]) -> Result<Vec<u8>, Fault> {
+fn checked(alloc: Global, order: &Order, bytes: &[u8]) -> Result<Vec<u8>, Fault>
+    ensures ok { IfOk result (λ output. Checks order.now.options bytes.now output.items) }
+    ensures fault { IfErr result (λ fault. IsRefusedIn order.now.options fault bytes.now) }
+{
     convert_with(alloc, order.options, Mode::Canonical, bytes)?;
     Ok(Vec::new(alloc))
 }
 
 // The form that is laid out over several lines, and by how many spaces.
-fn layout(order: &Order, mode: Mode) -> Option<(Form, usize)> {
+fn layout(order: &Order, mode: Mode) -> Option<(Form, usize)>
+    ensures some { IfSome result (λ laid. (mode ≡ mode_of laid.0) × (mode ≢ Mode.Show)
+        × (order.now.indent ≡ Some laid.1)) }
+    ensures none { result ≡ None → (order.now.indent ≡ None) ⊎ (mode ≡ Mode.Show) }
+{
     let spaces = order.indent?;
     match mode {
         Mode::Canonical => Some((Form::Canonical, spaces)),
@@ -120,18 +168,34 @@ fn layout(order: &Order, mode: Mode) -> Option<(Form, usize)> {
 }
 
 // Why the text was refused, and where.
-fn told(alloc: Global, fault: Fault, bytes: &[u8]) -> Refusal {
+fn told(alloc: Global, fault: Fault, bytes: &[u8]) -> Refusal
+    ensures fault { (result.fault ≡ fault) ⊎ (result.fault ≡ Fault.OutOfMemory) }
+    ensures place { IsWhere result.fault (string_bytes result.place) }
+    ensures line { (result.fault ≡ Fault.NotJson) ⊎ (result.line ≡ 0) }
+{
     match placed(alloc, &fault, bytes) {
         Ok((line, place)) => Refusal { line, fault, place },
-        Err(_) => Refusal {
-            line: 0,
-            fault: Fault::OutOfMemory,
-            place: String::new(alloc),
-        },
+        Err(_) => placeless(alloc, Fault::OutOfMemory),
     }
 }
 
-fn placed(alloc: Global, fault: &Fault, bytes: &[u8]) -> Result<(u64, String), AllocError> {
+// A fault that no text has.
+fn placeless(alloc: Global, fault: Fault) -> Refusal
+    ensures fault { result.fault ≡ fault }
+    ensures line { result.line ≡ 0 }
+    ensures place { string_bytes result.place ≡ [] }
+{
+    Refusal {
+        line: 0,
+        fault,
+        place: String::new(alloc),
+    }
+}
+
+fn placed(alloc: Global, fault: &Fault, bytes: &[u8]) -> Result<(u64, String), AllocError>
+    ensures line { IfOk result (λ at. (fault.now ≡ Fault.NotJson) ⊎ (at.0 ≡ 0)) }
+    ensures place { IfOk result (λ at. IsWhere fault.now (string_bytes at.1)) }
+{
     let line = match fault {
         Fault::NotJson => Stop::of(alloc, bytes)?.line(bytes) as u64,
         _ => 0,

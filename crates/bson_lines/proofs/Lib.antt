@@ -1,0 +1,4 @@
+mod Asking
+mod Spaces
+mod Telling
+mod Verdicts

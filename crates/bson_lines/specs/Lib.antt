@@ -1,0 +1,4 @@
+pub mod Messages
+pub mod Order
+pub mod Stops
+pub mod Whole

@@ -1,0 +1,142 @@
+-- The lines on standard error.
+use Rattle.std.specs.Prelude.{◌≡◌, ◌==◌, ◌||◌, ℕ, suc, Bool, true, false, List, [], ◌∷◌, ◌++◌, Option, None, Some, codes, string_bytes}
+use Rattle.std.specs.Prelude.{if◌then◌else◌, nat_eq, length, drop, bytes_eq, encode_utf8}
+use Rattle.std.specs.Char.{is_control}
+use Rattle.std.specs.Char.Escape.{escape_default}
+use Rattle.std.specs.Fmt.{decimal}
+use Rattle.std.specs.List.{flat_map, starts_with}
+use Rattle.std.specs.Str.{chars, encode_utf8_all, trim_end}
+use Rattle.std.specs.declared.io.Error.{Error}
+use Rattle.bson_codec.specs.Told.{told_of}
+use Rattle.bson_codec.specs.Told as documents
+use Rattle.bson_codec.specs.declared.told.RunEnd.{RunEnd}
+use Rattle.bson_codec.specs.declared.told.RunFault.{RunFault}
+use Rattle.bson_codec.specs.declared.told.RunFault.TheVariants as run_fault
+use Rattle.bson_run.specs.Lines.{onto_first}
+use Rattle.bson_run.specs.Words.{words_of}
+use Rattle.bson_run.specs.declared.fault.Fault.{Fault}
+use Rattle.bson_run.specs.declared.fault.Fault.TheVariants.{CannotRead, NotJson, NotExtendedJson, NoBytes, OutOfMemory}
+use Rattle.bson_run.specs.declared.fault.Fault.TheVariants.{CannotWrite}
+use Rattle.bson_lines.specs.declared.order.Input as order
+use Rattle.bson_lines.specs.declared.order.Input.TheVariants.{Lines, Text, Documents}
+use Rattle.bson_lines.specs.declared.run.Stop.{Stop}
+use Rattle.bson_lines.specs.declared.run.Stop.TheVariants as stop
+
+-- ---- how many there were
+
+abbrev pub kind_of : order.Input → List ℕ
+kind_of Lines = codes "lines"
+kind_of Text = codes "lines"
+kind_of Documents = codes "documents"
+
+abbrev pub summary_of : order.Input → (all refused : ℕ) → List ℕ
+summary_of input all refused =
+    codes "bson_lines: " ++ decimal all ++ codes " " ++ kind_of input ++ codes ", " ++ decimal refused ++ codes " refused"
+
+-- ---- names of files
+
+-- the name of a standard stream
+abbrev pub is_standard : List ℕ → Bool
+is_standard name = bytes_eq name (codes "-")
+
+-- a character that breaks a line or steers a terminal
+abbrev pub is_unprintable : ℕ → Bool
+is_unprintable c = is_control c || ((c == 0x2028) || (c == 0x2029))
+
+-- such a one by its escape in Rust, any other as it is
+abbrev pub printable : ℕ → List ℕ
+printable c = if is_unprintable c then encode_utf8_all (escape_default c) else encode_utf8 c
+
+abbrev pub escaped_name : List ℕ → List ℕ
+escaped_name name = flat_map printable (chars name)
+
+-- a file, or the standard stream of this name
+abbrev pub shown_name : (name stream : List ℕ) → List ℕ
+shown_name name stream = if is_standard name then codes "standard " ++ stream else escaped_name name
+
+-- ---- what stopped a run
+
+-- the system's words for an error behind a colon, which no contract says; none where the error is not known
+abbrev pub IsCause : Option Error → List ℕ → Type 0
+IsCause None cause = cause ≡ []
+IsCause (Some error) cause = (words : List ℕ) × (cause ≡ codes ": " ++ words)
+
+-- where a message begins: with the program's name, or that of a file
+abbrev pub head_of : List ℕ → List ℕ
+head_of name = if is_standard name then codes "bson_lines" else escaped_name name
+
+-- of a line also its number, as editors have it behind a file's name
+abbrev pub line_head : List ℕ → ℕ → List ℕ
+line_head name number =
+    if is_standard name then codes "bson_lines: line " ++ decimal number else escaped_name name ++ codes ":" ++ decimal number
+
+-- a reader or a writer failed
+abbrev pub is_of_stream : Fault → Bool
+is_of_stream CannotRead = true
+is_of_stream NotJson = false
+is_of_stream (NotExtendedJson place) = false
+is_of_stream (NoBytes why) = false
+is_of_stream OutOfMemory = false
+is_of_stream CannotWrite = true
+
+-- what is told of the line of this number
+abbrev pub told_at : List ℕ → ℕ → Fault → (place : List ℕ) → List ℕ
+told_at name number fault place = if is_of_stream fault then codes "bson_lines: " ++ words_of fault
+    else line_head name number ++ codes ": " ++ words_of fault ++ place
+
+-- of the one text of a file, or of its line where that is known
+abbrev pub told_in : List ℕ → ℕ → Fault → (place : List ℕ) → List ℕ
+told_in name number fault place =
+    if number == 0 then head_of name ++ codes ": " ++ words_of fault ++ place else told_at name number fault place
+
+-- a fault with its document, or that of a stream alone
+abbrev pub document_words : ℕ → ℕ → RunFault → List ℕ
+document_words number start run_fault.CannotRead = documents.words_of run_fault.CannotRead
+document_words number start run_fault.CannotWrite = documents.words_of run_fault.CannotWrite
+document_words number start fault = told_of number start fault
+
+abbrev pub told_of_document : List ℕ → RunEnd → List ℕ
+told_of_document name end = head_of name ++ codes ": " ++ trim_end (document_words end.number end.start end.fault)
+
+-- a file can't be read or written
+abbrev pub IsUnusable : (verb name stream : List ℕ) → Option Error → List ℕ → Type 0
+IsUnusable verb name stream error line =
+    (cause : List ℕ) × IsCause error cause × (line ≡ codes "bson_lines: cannot " ++ verb ++ shown_name name stream ++ cause)
+
+-- the line for what stopped the run
+abbrev pub IsLineFor : Stop → List ℕ → Type 0
+IsLineFor (stop.Input name error) line = IsUnusable (codes "read ") name.now (codes "input") error line
+IsLineFor (stop.Output name error) line = IsUnusable (codes "write ") name.now (codes "output") error line
+IsLineFor (stop.Both name) line =
+    line ≡ codes "bson_lines: " ++ shown_name name.now (codes "input") ++ codes " is read and written"
+IsLineFor stop.Terminal line =
+    line ≡ codes "bson_lines: BSON bytes are not written to a terminal; give -o FILE, or a pipe"
+IsLineFor (stop.Line name refusal) line = line ≡ told_at name.now refusal.line refusal.fault (string_bytes refusal.place)
+IsLineFor (stop.Text name refusal) line = line ≡ told_in name.now refusal.line refusal.fault (string_bytes refusal.place)
+IsLineFor (stop.Document name end) line = line ≡ told_of_document name.now end
+
+-- ---- verdicts
+
+-- the pieces of which each but the last ends with the one newline in it
+abbrev pub pieces : List ℕ → List (List ℕ)
+pieces [] = []
+pieces (x ∷ xs) = if x == 10 then (10 ∷ []) ∷ pieces xs else onto_first x (pieces xs)
+
+-- what a verdict on a line begins with
+abbrev pub head : List ℕ
+head = codes "bson_lines: line "
+
+-- a verdict behind a file's name: of a line its number, a colon before it, or else the verdict
+abbrev pub under : (name verdict : List ℕ) → List ℕ
+under name verdict =
+    name ++ (if starts_with nat_eq verdict head then codes ":" ++ drop (length head) verdict else codes ": " ++ verdict)
+
+abbrev pub all_under : (name verdicts : List ℕ) → List ℕ
+all_under name verdicts = flat_map (under name) (pieces verdicts)
+
+-- ---- for private clauses
+
+-- how long the first piece is
+abbrev pub line_len : List ℕ → ℕ
+line_len [] = 0
+line_len (x ∷ xs) = if x == 10 then 1 else suc (line_len xs)

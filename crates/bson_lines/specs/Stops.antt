@@ -1,0 +1,50 @@
+-- Which writer stops a run over files, what is asked of a run over documents, and where an output lies.
+use Rattle.std.specs.Prelude.{◌≡◌, ◌++◌, ℕ, List, Option, None, Some, codes, string_bytes, MatchOption, String}
+use Rattle.std.specs.Fmt.{decimal}
+use Rattle.std.specs.declared.alloc.Global.{Global}
+use Rattle.std.specs.declared.io.Error.{Error}
+use Rattle.bson_codec.specs.declared.documents.Line as documents
+use Rattle.bson_codec.specs.declared.documents.Line.TheVariants as line
+use Rattle.bson_run.specs.Indent.{mode_of}
+use Rattle.bson_run.specs.declared.mode.Mode.TheVariants.{Show}
+use Rattle.bson_run.specs.declared.order.Task.{Task}
+use Rattle.bson_run.specs.declared.order.Task.TheVariants as task
+use Rattle.bson_lines.specs.Messages.{all_under}
+use Rattle.bson_lines.specs.declared.order.Order.{Order}
+use Rattle.bson_lines.specs.declared.output.Part.{Part}
+use Rattle.bson_lines.specs.declared.run.Stop.{Stop}
+use Rattle.bson_lines.specs.declared.run.Stop.TheVariants.{Output}
+
+-- ---- writers
+
+-- the writer that failed: that of verdicts, where the cause of its failure is kept, or else the output
+abbrev pub IsUnwritten : Order → (told written : Option Error) → Stop → Type 0
+IsUnwritten order told written (Output name error) = MatchOption told
+    ((name.now ≡ string_bytes order.output) × (error ≡ written)) (λ cause. (name.now ≡ codes "-") × (error ≡ Some cause))
+IsUnwritten order told written stop = ⊥
+
+-- verdicts as they are told of a file of this name
+abbrev pub told_under : Option (String Global) → (verdicts : List ℕ) → List ℕ
+told_under None verdicts = verdicts
+told_under (Some name) verdicts = all_under (string_bytes name) verdicts
+
+-- ---- documents
+
+-- what is written of each document: its text in the mode, with its keys in ascending order or in its own, what Display
+-- has of it, or nothing
+abbrev pub IsLineFor : Task → documents.Line → Type 0
+IsLineFor (task.Write mode) (line.Text form) = mode ≡ mode_of form
+IsLineFor (task.Write mode) line.Shown = mode ≡ Show
+IsLineFor (task.WriteInOrder mode) (line.TextInOrder form) = mode ≡ mode_of form
+IsLineFor (task.WriteInOrder mode) line.Shown = mode ≡ Show
+IsLineFor task.Check line.Nothing = Unit {0}
+IsLineFor task.Encode line.Nothing = Unit {0}
+IsLineFor task.EncodeInOrder line.Nothing = Unit {0}
+IsLineFor (task.Taken taking work) line.Nothing = Unit {0}
+IsLineFor other line = ⊥
+
+-- ---- files
+
+-- the part lies beside the file whose place it takes, told by a number
+abbrev pub IsBeside : Part → Type 0
+IsBeside part = (n : ℕ) × (string_bytes part.path ≡ string_bytes part.file ++ codes "." ++ decimal n ++ codes ".part")

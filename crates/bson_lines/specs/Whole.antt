@@ -1,0 +1,109 @@
+-- What a run over one text does: all bytes of the input, behind a mark, are the text.
+use Rattle.std.specs.Prelude.{◌≡◌, ◌⊎◌, ℕ, List, [], Option, None, Some, drop, length, nat_eq, if◌then◌else◌}
+use Rattle.std.specs.List.{starts_with}
+use Rattle.std.specs.Io.KnownBytes.{Appends, Keeps}
+use Rattle.bson.specs.declared.extjson.options.Options.{Options}
+use Rattle.bson_run.specs.Convert.{ConvertsIn, IsRefusedIn}
+use Rattle.bson_run.specs.Encode.{EncodesIn, EncodesInOrder, IsUnencodedIn, IsUnencodedInOrder}
+use Rattle.bson_run.specs.InOrder.{ConvertsInOrder}
+use Rattle.bson_run.specs.Indent.{mode_of, ConvertsIndented, ConvertsInOrderIndented}
+use Rattle.bson_run.specs.Run.{ReadsAll}
+use Rattle.bson_run.specs.Taken.{IsTakenAs, IsUntaken}
+use Rattle.bson_run.specs.declared.fault.Fault.{Fault}
+use Rattle.bson_run.specs.declared.fault.Fault.TheVariants.{CannotRead, NotJson, NotExtendedJson, NoBytes, OutOfMemory}
+use Rattle.bson_run.specs.declared.fault.Fault.TheVariants.{CannotWrite}
+use Rattle.bson_run.specs.declared.mode.Mode.{Mode}
+use Rattle.bson_run.specs.declared.mode.Mode.TheVariants.{Canonical, Show}
+use Rattle.bson_run.specs.declared.order.Task.{Task}
+use Rattle.bson_run.specs.declared.order.Task.TheVariants.{Write, WriteInOrder, Check, Encode, EncodeInOrder}
+use Rattle.bson_run.specs.declared.order.Task.TheVariants.{Taken}
+use Rattle.bson_run.specs.declared.order.Work.{Work}
+use Rattle.bson_run.specs.declared.order.Work.TheVariants as work
+use Rattle.bson_lines.specs.declared.order.Order.{Order}
+
+-- ---- what a text gives
+
+-- the output in the mode, with spaces that of its form over several lines
+abbrev pub Lays : Options → (spaces : Option ℕ) → Mode → (text output : List ℕ) → Type 0
+Lays o None mode text output = ConvertsIn o mode text output
+Lays o (Some n) Show text output = ConvertsIn o Show text output
+Lays o (Some n) mode text output = (form : _) × (mode ≡ mode_of form) × ConvertsIndented o form n text output
+
+-- the same in the order of the text's keys
+abbrev pub LaysInOrder : Options → (spaces : Option ℕ) → Mode → (text output : List ℕ) → Type 0
+LaysInOrder o None mode text output = ConvertsInOrder o mode text output
+LaysInOrder o (Some n) Show text output = ConvertsInOrder o Show text output
+LaysInOrder o (Some n) mode text output =
+    (form : _) × (mode ≡ mode_of form) × ConvertsInOrderIndented o form n text output
+
+-- nothing, of a text that means a value
+abbrev pub Checks : Options → (text output : List ℕ) → Type 0
+Checks o text output = ((whole : List ℕ) × ConvertsIn o Canonical text whole) × (output ≡ [])
+
+-- what is written of a text that was taken
+abbrev pub Works : Order → Work → (text output : List ℕ) → Type 0
+Works order (work.Write mode) text output = Lays order.options order.indent mode text output
+Works order (work.WriteInOrder mode) text output = LaysInOrder order.options order.indent mode text output
+Works order work.Check text output = Checks order.options text output
+
+-- what is written of a text
+abbrev pub Gives : Order → Task → (text output : List ℕ) → Type 0
+Gives order (Write mode) text output = Lays order.options order.indent mode text output
+Gives order (WriteInOrder mode) text output = LaysInOrder order.options order.indent mode text output
+Gives order Check text output = Checks order.options text output
+Gives order Encode text output = EncodesIn order.options text output
+Gives order EncodeInOrder text output = EncodesInOrder order.options text output
+Gives order (Taken taking work) text output =
+    (taken : List ℕ) × IsTakenAs taking text taken × Works order work taken output
+
+-- why nothing is: the text is refused, or what is read in its place
+abbrev pub IsUngiven : Options → Task → Fault → List ℕ → Type 0
+IsUngiven o (Write mode) fault text = IsRefusedIn o fault text
+IsUngiven o (WriteInOrder mode) fault text = IsRefusedIn o fault text
+IsUngiven o Check fault text = IsRefusedIn o fault text
+IsUngiven o Encode fault text = IsUnencodedIn o fault text
+IsUngiven o EncodeInOrder fault text = IsUnencodedInOrder o fault text
+IsUngiven o (Taken taking work) fault text =
+    IsUntaken taking fault text ⊎ ((taken : List ℕ) × IsTakenAs taking text taken × IsRefusedIn o fault taken)
+
+-- ---- a run
+--
+-- Of a run, before and after are the bytes that the reader had left and has left, had and holds what the writer held
+-- and holds: None where that is not known.
+
+-- the text of an input is what stands behind the mark, if that stands at its start
+abbrev pub behind : (mark bytes : List ℕ) → List ℕ
+behind mark bytes = if starts_with nat_eq bytes mark then drop (length mark) bytes else bytes
+
+-- all was read, and what the text gives was written
+pub record WholeDone (order : Order) (mark : List ℕ) (before after had holds : Option (List ℕ)) : Type 0 where
+  pub bytes : List ℕ
+  pub output : List ℕ
+  pub all : ReadsAll before after bytes
+  pub gives : Gives order order.task (behind mark bytes) output
+  pub written : Appends had holds output
+
+-- all was read, the text is refused, and nothing was written
+pub record WholeRefused (order : Order) (fault : Fault) (mark : List ℕ) (before after had holds : Option (List ℕ))
+    : Type 0 where
+  pub bytes : List ℕ
+  pub all : ReadsAll before after bytes
+  pub refused : IsUngiven order.options order.task fault (behind mark bytes)
+  pub nothing : Keeps had holds
+
+-- all was read, and the text gives an output, which was not written whole
+pub record WholeUnwritten (order : Order) (mark : List ℕ) (before after : Option (List ℕ)) : Type 0 where
+  pub bytes : List ℕ
+  pub output : List ℕ
+  pub all : ReadsAll before after bytes
+  pub gives : Gives order order.task (behind mark bytes) output
+
+-- what each fault says of the bytes
+abbrev pub WholeFails : Order → Fault → (mark : List ℕ) → (before after had holds : Option (List ℕ)) → Type 0
+WholeFails order CannotRead mark before after had holds = Keeps had holds
+WholeFails order NotJson mark before after had holds = WholeRefused order NotJson mark before after had holds
+WholeFails order (NotExtendedJson place) mark before after had holds =
+    WholeRefused order (NotExtendedJson place) mark before after had holds
+WholeFails order (NoBytes why) mark before after had holds = WholeRefused order (NoBytes why) mark before after had holds
+WholeFails order OutOfMemory mark before after had holds = Keeps had holds
+WholeFails order CannotWrite mark before after had holds = WholeUnwritten order mark before after

@@ -1,0 +1,362 @@
+//! What the words after the program's name give, one after the other.
+ghost use Rattle.std.specs.Prelude.{◌≡◌, ◌⊎◌, ◌<◌, ◌≤◌, ℕ, List, None, OnOk, IfOk, IfSome, map, string_bytes};
+ghost use Rattle.std.specs.Prelude.{◌==◌, ◌||◌, slice_index, if◌then◌else◌};
+ghost use Rattle.std.specs.Fmt.{decimal};
+ghost use Rattle.bson_lines.specs.Order.{first_taken, has_own_order, in_order, or_standard, taking_of};
+ghost use Rattle.bson_lines.specs.Order.{HasOutput, IsAnswer, IsNoHelp, IsTaken};
+ghost use Rattle.bson_run.specs.Words.{task_name};
+
+use crate::fits::fits;
+use crate::order::{Asked, Input, Order, STANDARD};
+use bson::extjson::{Doubles, Options};
+use bson_run::order::{OnRefusal, Taking, Task, Work};
+use std::alloc::{AllocError, Global};
+
+/// What the words so far gave.
+#[derive(Drop)]
+pub struct Given {
+    alloc: Global,
+    task: Option<Task>,
+    options: Options,
+    pub keeps_going: bool,
+    pub input: Input,
+    pub keeps_order: bool,
+    pub sorts_keys: bool,
+    pub is_distinct: bool,
+    pub is_legacy: bool,
+    pub indent: Option<usize>,
+    pub output: Option<String>,
+    pub inputs: Vec<String>,
+    pub next: Next,
+}
+
+/// What the next word is.
+#[derive(Clone, Copy, PartialEq, Eq)]
+pub enum Next {
+    Any,
+    /// The file of `-o`.
+    Output,
+    /// The number of `--indent`.
+    Indent,
+    /// No option.
+    Name,
+}
+
+/// What a word is.
+#[derive(Clone, Copy, PartialEq, Eq)]
+pub enum Taken {
+    /// One that was taken.
+    Word,
+    Help,
+    Version,
+    /// One that can't stand here.
+    Unknown,
+}
+
+impl Given {
+    /// No word yet.
+    pub fn new(alloc: Global) -> Given
+        ensures { result.task ≡ None }
+    {
+        Given {
+            alloc,
+            task: None,
+            options: Options::default(),
+            keeps_going: false,
+            input: Input::Lines,
+            keeps_order: false,
+            sorts_keys: false,
+            is_distinct: false,
+            is_legacy: false,
+            indent: None,
+            output: None,
+            inputs: Vec::new(alloc),
+            next: Next::Any,
+        }
+    }
+
+    /// Takes the next word.
+    pub fn take(&mut self, word: &str) -> Result<Taken, AllocError>
+        ensures verb { IfSome self.new.task (λ verb. (self.old.task ≡ Some verb) ⊎ (word.now ≡ task_name verb)) }
+        ensures help { IfOk result (λ taken. IsTaken word.now taken) }
+    {
+        match self.next {
+            Next::Any => self.take_any(word),
+            Next::Output => {
+                self.next = Next::Any;
+                self.take_output(word)
+            }
+            Next::Indent => {
+                self.next = Next::Any;
+                Ok(self.take_indent(word))
+            }
+            Next::Name => self.take_name(word),
+        }
+    }
+
+    // Takes a word that no option waits for.
+    fn take_any(&mut self, word: &str) -> Result<Taken, AllocError>
+        ensures verb { IfSome self.new.task (λ verb. (self.old.task ≡ Some verb) ⊎ (word.now ≡ task_name verb)) }
+        ensures help { IfOk result (λ taken. IsTaken word.now taken) }
+    {
+        match word {
+            "--help" | "-h" => Ok(Taken::Help),
+            "--version" | "-v" => Ok(Taken::Version),
+            "--" => self.expect(Next::Name),
+            "-o" | "--output" => self.expect(Next::Output),
+            "--indent" => self.expect(Next::Indent),
+            "--keep-going" => {
+                let is_first = !self.keeps_going;
+                self.keeps_going = true;
+                Ok(once(is_first))
+            }
+            "--whole" => self.take_input(Input::Text),
+            "--bson" => self.take_input(Input::Documents),
+            "--keep-order" => {
+                let is_first = !self.keeps_order;
+                self.keeps_order = true;
+                Ok(once(is_first))
+            }
+            "--sort-keys" => {
+                let is_first = !self.sorts_keys;
+                self.sorts_keys = true;
+                Ok(once(is_first))
+            }
+            "--no-double-keys" => {
+                let is_first = !self.is_distinct;
+                self.is_distinct = true;
+                Ok(once(is_first))
+            }
+            "--legacy" => {
+                let is_first = !self.is_legacy;
+                self.is_legacy = true;
+                Ok(once(is_first))
+            }
+            "--doubles" => {
+                let is_first = self.options.doubles == Doubles::Special;
+                self.options.doubles = Doubles::Finite;
+                Ok(once(is_first))
+            }
+            STANDARD => self.take_name(word),
+            _ => self.take_joined(word),
+        }
+    }
+
+    // Takes a word that has its option in it, or a name.
+    fn take_joined(&mut self, word: &str) -> Result<Taken, AllocError>
+        ensures verb { IfSome self.new.task (λ verb. (self.old.task ≡ Some verb) ⊎ (word.now ≡ task_name verb)) }
+        ensures no_help { IfOk result IsNoHelp }
+    {
+        if let Some(count) = word.strip_prefix("--indent=") {
+            return Ok(self.take_indent(count));
+        }
+        match output_in(word) {
+            Some(name) => self.take_output(name),
+            None if word.starts_with("-") => Ok(Taken::Unknown),
+            None => self.take_name(word),
+        }
+    }
+
+    // A number of spaces, from 1 to 16.
+    fn take_indent(&mut self, word: &str) -> Taken
+        ensures verb { self.new.task ≡ self.old.task }
+        ensures no_help { IsNoHelp result }
+    {
+        let is_first = self.indent.is_none();
+        self.indent = spaces(word);
+        once(is_first && self.indent.is_some())
+    }
+
+    // The input is this, and nothing else was said of it.
+    fn take_input(&mut self, input: Input) -> Result<Taken, AllocError>
+        ensures given { self.new ≡ record self.old { input = input } }
+        ensures no_help { IfOk result IsNoHelp }
+    {
+        let is_first = self.input == Input::Lines;
+        self.input = input;
+        Ok(once(is_first))
+    }
+
+    // The next word is taken for this.
+    fn expect(&mut self, next: Next) -> Result<Taken, AllocError>
+        ensures given { self.new ≡ record self.old { next = next } }
+        ensures word { result ≡ Ok Taken.Word }
+    {
+        self.next = next;
+        Ok(Taken::Word)
+    }
+
+    fn take_output(&mut self, name: &str) -> Result<Taken, AllocError>
+        ensures verb { self.new.task ≡ self.old.task }
+        ensures output { OnOk result (IfSome self.new.output
+            (λ file. (self.old.output ≡ Some file) ⊎ (string_bytes file ≡ name.now))) }
+        ensures no_help { IfOk result IsNoHelp }
+    {
+        if self.output.is_some() {
+            return Ok(Taken::Unknown);
+        }
+        self.output = Some(String::from_str(self.alloc, name)?);
+        Ok(Taken::Word)
+    }
+
+    // The first is a mode, and the others are files.
+    fn take_name(&mut self, word: &str) -> Result<Taken, AllocError>
+        ensures verb { IfSome self.new.task (λ verb. (self.old.task ≡ Some verb) ⊎ (word.now ≡ task_name verb)) }
+        ensures no_help { IfOk result IsNoHelp }
+    {
+        if self.task.is_some() {
+            self.inputs.push(String::from_str(self.alloc, word)?)?;
+            return Ok(Taken::Word);
+        }
+        self.task = Task::from_name(word);
+        Ok(if self.task.is_some() {
+            Taken::Word
+        } else {
+            Taken::Unknown
+        })
+    }
+
+    /// What all words ask for.
+    pub fn asked(self) -> Result<Asked, AllocError>
+        ensures { IfOk result (λ asked. IsAnswer self asked) }
+    {
+        let Some(task) = self.task else {
+            return Ok(Asked::Nothing);
+        };
+        if !fits(&self, task) {
+            return Ok(Asked::Nothing);
+        }
+        let Given {
+            alloc,
+            options,
+            keeps_going,
+            input,
+            keeps_order,
+            sorts_keys,
+            is_distinct,
+            is_legacy,
+            indent,
+            output,
+            inputs,
+            ..
+        } = self;
+        let output = match output {
+            Some(name) => name,
+            None => String::from_str(alloc, STANDARD)?,
+        };
+        let is_in_order = keeps_order || (has_own_order(input, task) && !sorts_keys);
+        let task = if is_in_order { in_order(task) } else { task };
+        Ok(Asked::Run(Order {
+            task: match taking_of(is_distinct, is_legacy) {
+                Some(taking) => first_taken(taking, task),
+                None => task,
+            },
+            options,
+            on_refusal: if keeps_going {
+                OnRefusal::KeepGoing
+            } else {
+                OnRefusal::Stop
+            },
+            input,
+            indent,
+            output,
+            inputs: inputs_of(alloc, inputs)?,
+        }))
+    }
+}
+
+// Whether the keys of what is written stand in their own order by themselves.
+fn has_own_order(input: Input, task: Task) -> bool
+    ensures { result ≡ has_own_order input task }
+{
+    input == Input::Documents || task == Task::Encode
+}
+
+// The task, with the keys of each document in their own order.
+fn in_order(task: Task) -> Task
+    ensures { result ≡ in_order task }
+{
+    match task {
+        Task::Write(mode) => Task::WriteInOrder(mode),
+        Task::Encode => Task::EncodeInOrder,
+        other => other,
+    }
+}
+
+// What is looked for in a text before it is read.
+fn taking_of(is_distinct: bool, is_legacy: bool) -> Option<Taking>
+    ensures { result ≡ taking_of is_distinct is_legacy }
+{
+    match (is_distinct, is_legacy) {
+        (true, true) => Some(Taking::DistinctLegacy),
+        (true, false) => Some(Taking::Distinct),
+        (false, true) => Some(Taking::Legacy),
+        (false, false) => None,
+    }
+}
+
+// The task, of texts that are taken so.
+fn first_taken(taking: Taking, task: Task) -> Task
+    ensures { result ≡ first_taken taking task }
+{
+    match task {
+        Task::Write(mode) => Task::Taken(taking, Work::Write(mode)),
+        Task::WriteInOrder(mode) => Task::Taken(taking, Work::WriteInOrder(mode)),
+        Task::Check => Task::Taken(taking, Work::Check),
+        other => other,
+    }
+}
+
+// An option stands once.
+fn once(is_first: bool) -> Taken
+    ensures { result ≡ (if is_first then Taken.Word else Taken.Unknown) }
+{
+    if is_first {
+        Taken::Word
+    } else {
+        Taken::Unknown
+    }
+}
+
+// The files that are read: standard input where none is named.
+fn inputs_of(alloc: Global, mut names: Vec<String>) -> Result<Vec<String>, AllocError>
+    ensures { IfOk result
+        (λ inputs. map string_bytes inputs.items ≡ or_standard (map string_bytes names.items)) }
+{
+    if names.is_empty() {
+        names.push(String::from_str(alloc, STANDARD)?)?;
+    }
+    Ok(names)
+}
+
+// A number from 1 to 16, with no sign and no zero before it.
+fn spaces(word: &str) -> Option<usize>
+    ensures some { IfSome result (λ count. (word.now ≡ decimal count) × (0 < count) × (count ≤ 16)) }
+    ensures none { result ≡ None → (count : ℕ) → 0 < count → count ≤ 16 → word.now ≡ decimal count → ⊥ }
+{
+    if begins_otherwise(word) {
+        return None;
+    }
+    match word.parse::<usize>() {
+        Ok(count) if count <= 16 => Some(count),
+        _ => None,
+    }
+}
+
+// Whether a sign or a zero stands before a number.
+fn begins_otherwise(word: &str) -> bool
+    ensures { result ≡ ((slice_index word.now 0 == 43) || (slice_index word.now 0 == 48)) }
+{
+    word.starts_with('+') || word.starts_with('0')
+}
+
+// The file that stands in one word with its option.
+fn output_in(word: &str) -> Option<&str>
+    ensures some { IfSome result (λ file. HasOutput file.now word.now) }
+    ensures none { result ≡ None → (file : List ℕ) → HasOutput file word.now → ⊥ }
+{
+    if let Some(name) = word.strip_prefix("--output=") {
+        return Some(name);
+    }
+    word.strip_prefix("-o")
+}
