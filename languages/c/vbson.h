@@ -149,7 +149,9 @@ uint32_t vbson_convert_with(uint32_t mode, uint32_t flags, const uint8_t *text, 
  *                               the rule of JSON that it breaks, as "a comma or a bracket is missing", or "a number is
  *                               out of range" where it has the grammar of JSON, and a number that is no double
  *     " at PATH (MESSAGE)"      of any other: the way to the first fault, its keys and places in lists counted from 0,
- *                               with points between, as orders.3._id.$oid, and what is wrong there
+ *                               with points between, as orders.3._id.$oid, and what is wrong there, of most faults as
+ *                               "EXPECTED; found VALUE": the value as it stands in the text, its first 60 characters
+ *                               with ".." behind them where it has more
  *     " (MESSAGE)"              where the fault is that of the whole text
  * In PATH and MESSAGE control characters, U+2028 and U+2029 are escaped as JSON does, as \u001b, and every other character
  * is as it stands; of more than 300 characters 300 are told, and ".." behind them. A key with a point, or of digits, is not

@@ -48,8 +48,8 @@ class Error(ValueError):
     """The library refused what it was handed.
 
     Of a text of Extended JSON the error has words for where the fault lies, `place`, and for what is wrong there, `why`:
-    'orders.3.price' and 'a number is no whole number of 64 bits', or 'column 7' and the rule of JSON that is broken there,
-    as 'a comma or a bracket is missing'. The place is empty where the fault is that of the whole text; keys are in it as
+    'orders.3.price' and 'a number is no whole number of 64 bits; found 1.5', or 'column 7' and the rule of JSON that is
+    broken there, as 'a comma or a bracket is missing'. The place is empty where the fault is that of the whole text; keys are in it as
     they are. Of bytes that are no document the place is the number of bytes before the fault: 'byte 4' and 'ends too
     early'. str() has both, behind the words for the class.
     """
@@ -274,11 +274,11 @@ def _encoded(flags, given):
 
 # The words behind those for the class: a column or a path, and a message. The message on an object id may hold any
 # characters, but its path ends in a wrapper's key, or in two points where it is not told whole; no other message holds a
-# bracket.
+# bracket before the value that it tells.
 _ON_ID = r" \(((?:the character '|an object id has ).*)\)"
 _OF_ID = re.compile(r" at (.*?\$(?:oid|dbPointer))" + _ON_ID, re.S)
 _OF_LONG = re.compile(r" at (.*?\.\.)" + _ON_ID, re.S)
-_OF_SHAPE = re.compile(r"(?: at (.*))? \(([^(]*)\)", re.S)
+_OF_SHAPE = re.compile(r"(?: at (.*?))? \(([^(]*?(?:; found .*)?)\)", re.S)
 
 
 def _explained(status, words):

@@ -145,7 +145,8 @@ def refusal(call, *arguments):
 
 
 def try_places():
-    number = "a number is no whole number of 64 bits"
+    number = "a number is no whole number of 64 bits; found 1.5"
+    date = "`$date` holds `$numberLong`, an RFC 3339 text or a whole number"
     digits = 'an object id has 24 digits, but "53e3" has 4'
     no_digit = "the character '%s' at %d in \"%s\" is no hexadecimal digit"
     blank, letter = no_digit % (" ", 1, "5 (xy)"), no_digit % ("z", 0, "zz (a)")
@@ -160,6 +161,7 @@ def try_places():
             ("[1e400]", "not JSON at column 2 (a number is out of range)", "column 2", "a number is out of range", vbson.NotJson),
             ('{"a (":[{"b)":1.5}]}', f"not Extended JSON at a (.0.b) ({number})", "a (.0.b)", number, both[0]),
             ("1.5", f"not Extended JSON ({number})", "", number, both[0]),
+            ('{"a (":{"$date":" (a)"}}', f'not Extended JSON at a (.$date ({date}; found " (a)")', "a (.$date", f'{date}; found " (a)"', both[0]),
             ('{"":1.5}', f"not Extended JSON ({number})", "", number, both[0]),
             ('{"\u00e9":1.5}', f"not Extended JSON at \u00e9 ({number})", "\u00e9", number, both[0]),
             ('{"a":{"$oid":"53e3"}}', f"bad object id at a.$oid ({digits})", "a.$oid", digits, both[1]),
@@ -272,7 +274,7 @@ def try_documents():
     want("a double there", vbson.encode('{"a":1.5}', doubles=True), double)
     raises("a double without", vbson.NoText, vbson.decode, double)
     raises("a double there without", vbson.NotExtendedJson, vbson.encode, '{"a":1.5}')
-    want("no double there", refusal(vbson.encode, '{"a":1.5}')[1:3], ("a", "a number is no whole number of 64 bits"))
+    want("no double there", refusal(vbson.encode, '{"a":1.5}')[1:3], ("a", "a number is no whole number of 64 bits; found 1.5"))
     for given, place, why in ((b"", "byte 0", "ends too early"), (five + b"\0", "byte 12", "bytes behind the document"),
                               (bytes.fromhex("090000000861000200"), "byte 7", "a boolean is neither 0 nor 1")):
         words = f"no document at {place} ({why})"

@@ -12,7 +12,7 @@ use Rattle.std.proofs.lemmas.Fmt.{hex_byte}
 use Rattle.std.proofs.lemmas.Option.{slice_get_cases, slice_get_within}
 use Rattle.bson_place.specs.Place.{dotted, way_of}
 use Rattle.bson_place.specs.declared.place.Place.{Place}
-use Rattle.bson_run.specs.Place.{IsPlaced, at_path, shown, told_as}
+use Rattle.bson_run.specs.Place.{IsPlaced, IsPlacedIn, IsReasonIn, at_path, cut_at, shown, told_as}
 
 at_none : (path : List ℕ) → length path ≡ 0 → at_path path ≡ []
 at_none [] h = refl
@@ -22,22 +22,27 @@ at_some : (path : List ℕ) → 0 < length path → at_path path ≡ codes " at 
 at_some [] h = absurd (omega arith)
 at_some (x ∷ xs) h = refl
 
-pub placed_bare : (place : Place) (path reason message words : List ℕ) → path ≡ told_as (dotted (way_of place))
-    → message ≡ told_as reason → length path ≡ 0 → words ≡ codes " (" ++ message ++ codes ")" → IsPlaced place words
-placed_bare place path reason message words e m none is = (
+pub placed_bare : (text : List ℕ) (place : Place) (path reason message words : List ℕ) → IsReasonIn text place.reason reason → path ≡ told_as (dotted (way_of place))
+    → message ≡ told_as reason → length path ≡ 0 → words ≡ codes " (" ++ message ++ codes ")" → IsPlacedIn text place words
+placed_bare text place path reason message words why e m none is = (
   reason,
+  why,
   is ∙ ap (λ p. p ++ codes " (" ++ message ++ codes ")") (sym (at_none path none) ∙ ap at_path e)
       ∙ ap (λ t. at_path (told_as (dotted (way_of place))) ++ codes " (" ++ t ++ codes ")") m,
 )
 
-pub placed_at : (place : Place) (path reason message words : List ℕ) → path ≡ told_as (dotted (way_of place))
+pub placed_at : (text : List ℕ) (place : Place) (path reason message words : List ℕ) → IsReasonIn text place.reason reason → path ≡ told_as (dotted (way_of place))
     → message ≡ told_as reason → 0 < length path
-    → words ≡ codes " at " ++ path ++ codes " (" ++ message ++ codes ")" → IsPlaced place words
-placed_at place path reason message words e m some is = (
+    → words ≡ codes " at " ++ path ++ codes " (" ++ message ++ codes ")" → IsPlacedIn text place words
+placed_at text place path reason message words why e m some is = (
   reason,
+  why,
   is ∙ ap (λ p. p ++ codes " (" ++ message ++ codes ")") (sym (at_some path some) ∙ ap at_path e)
       ∙ ap (λ t. at_path (told_as (dotted (way_of place))) ++ codes " (" ++ t ++ codes ")") m,
 )
+
+pub placed : (text : List ℕ) (place : Place) (words : List ℕ) → IsPlacedIn text place words → IsPlaced place words
+placed text place words p = (p.0, p.2)
 
 -- ---- words as they are told
 
@@ -70,12 +75,12 @@ no_more None cs n is none = elim (slice_get_cases cs n).1 [
   | inr h ↦ h.0
 ]
 
-pub told_short : (words said : List ℕ) → said ≡ flat_map shown (take 300 (chars words)) → length (chars words) ≤ 300 → said ≡ told_as words
-told_short words said e short =
-    e ∙ sym (append-nil _) ∙ ap (λ b. flat_map shown (take 300 (chars words)) ++ cond b (codes "..") []) (sym (le-ltb 300 (length (chars words)) short))
+module _ (most : ℕ) (tell : ℕ → List ℕ) (words said : List ℕ) (e : said ≡ flat_map tell (take most (chars words))) where
+  pub told_short : length (chars words) ≤ most → said ≡ cut_at most tell words
+  told_short short =
+      e ∙ sym (append-nil _) ∙ ap (λ b. flat_map tell (take most (chars words)) ++ cond b (codes "..") []) (sym (le-ltb most (length (chars words)) short))
 
-pub told_long : (words said more : List ℕ) → said ≡ flat_map shown (take 300 (chars words)) → 300 < length (chars words)
-    → more ≡ said ++ codes ".." → more ≡ told_as words
-told_long words said more e long is =
-    is ∙ ap (λ s. s ++ codes "..") e
-    ∙ ap (λ b. flat_map shown (take 300 (chars words)) ++ cond b (codes "..") []) (sym (lt-ltb 300 (length (chars words)) long))
+  pub told_long : (more : List ℕ) → most < length (chars words) → more ≡ said ++ codes ".." → more ≡ cut_at most tell words
+  told_long more long is =
+      is ∙ ap (λ s. s ++ codes "..") e
+      ∙ ap (λ b. flat_map tell (take most (chars words)) ++ cond b (codes "..") []) (sym (lt-ltb most (length (chars words)) long))

@@ -7,6 +7,7 @@ mod Indenting
 pub mod LinesLaws
 pub mod LinesRuns
 mod Ordered
+mod Parts
 mod Rows
 mod Rules
 pub mod TakenLines

@@ -11,6 +11,8 @@ use Rattle.json.specs.Token.{Token, begin_object, end_object, begin_array, end_a
 use Rattle.serde_json.specs.Read.{max_depth}
 use Rattle.bson_place.specs.Place.{dotted, way_of}
 use Rattle.bson_place.specs.declared.place.Place.{Place}
+use Rattle.bson_place.specs.declared.place.Reason.{Reason}
+use Rattle.bson_place.specs.declared.place.Reason.TheVariants.{BadObjectId, WrongShape}
 use Rattle.bson_run.specs.declared.fault.Fault.{Fault}
 use Rattle.bson_run.specs.declared.fault.Fault.TheVariants.{CannotRead, NotJson, NotExtendedJson, NoBytes, OutOfMemory}
 use Rattle.bson_run.specs.declared.fault.Fault.TheVariants.{CannotWrite}
@@ -31,15 +33,43 @@ shown c = if c == 0x2028 then codes "\\u2028"
     else (if c == 0x2029 then codes "\\u2029"
     else (if is_control c then codes "\\u00" ++ digit_char (c / 16) ∷ digit_char (c % 16) ∷ [] else encode_utf8 c))
 
--- words as they are told: 300 characters, and two points for any others
+-- so many characters of words, each as it is told, and two points for any others
+abbrev pub cut_at : ℕ → (ℕ → List ℕ) → List ℕ → List ℕ
+cut_at most tell words =
+    flat_map tell (take most (chars words)) ++ (if nat_lt most (length (chars words)) then codes ".." else [])
+
+-- words as they are told: 300 characters
 abbrev pub told_as : List ℕ → List ℕ
-told_as words =
-    flat_map shown (take 300 (chars words)) ++ (if nat_lt 300 (length (chars words)) then codes ".." else [])
+told_as words = cut_at 300 shown words
 
 -- the way to the place, and a message
 abbrev pub IsPlaced : Place → List ℕ → Type 0
 IsPlaced place words =
     (message : List ℕ) × (words ≡ at_path (told_as (dotted (way_of place))) ++ codes " (" ++ told_as message ++ codes ")")
+
+-- what is told of a value: 60 characters
+abbrev pub found_as : List ℕ → List ℕ
+found_as value = codes "; found " ++ cut_at 60 encode_utf8 value
+
+-- it stands in the text as it is
+abbrev pub IsPart : List ℕ → List ℕ → Type 0
+IsPart part text = (front : List ℕ) × (rest : List ℕ) × (text ≡ front ++ part ++ rest)
+
+-- nothing, or what is told of a part of the text; that it is the value at a place no contract says
+abbrev pub IsQuote : List ℕ → List ℕ → Type 0
+IsQuote text words = (words ≡ []) ⊎ ((part : List ℕ) × IsPart part text × (words ≡ found_as part))
+
+-- what was expected, and behind it what is found in the text; of an object id any words
+abbrev pub IsReasonIn : List ℕ → Reason → List ℕ → Type 0
+IsReasonIn text (WrongShape expected) words =
+    (quote : List ℕ) × IsQuote text quote × (words ≡ expected.now ++ quote)
+IsReasonIn text (BadObjectId why) words = Unit {0}
+
+-- the way to the place, and such a message
+abbrev pub IsPlacedIn : List ℕ → Place → List ℕ → Type 0
+IsPlacedIn text place words =
+    (message : List ℕ) × IsReasonIn text place.reason message
+    × (words ≡ at_path (told_as (dotted (way_of place))) ++ codes " (" ++ told_as message ++ codes ")")
 
 -- the bytes are UTF-8 and one value by the grammar of JSON, arrays and objects nesting as deep as texts may (RFC 8259)
 abbrev pub HasGrammar : List ℕ → Type 0

@@ -2,12 +2,16 @@
 ghost use Rattle.std.specs.Prelude.{◌≡◌, ◌⊎◌, ◌++◌, [], IfOk, OnOk, string_bytes};
 ghost use Rattle.bson_run.specs.Lines.{IsBadText, IsBadTextIn};
 ghost use Rattle.bson.specs.declared.extjson.options.Options.{Options};
-ghost use Rattle.bson_run.specs.Place.{IsPlaced, IsStop, IsWhere, shown, told_as};
-ghost use Rattle.bson_run.specs.declared.fault.Fault.TheVariants.{NotJson};
+ghost use Rattle.bson_place.specs.declared.place.Place.{Place as SpecPlace};
+ghost use Rattle.bson_run.specs.Place.{IsPlaced, IsPlacedIn, IsQuote, IsReasonIn, IsStop, IsWhere};
+ghost use Rattle.bson_run.specs.Place.{shown, told_as};
+ghost use Rattle.bson_run.specs.declared.fault.Fault.TheVariants.{NotExtendedJson, NotJson};
 
 use crate::fault::Fault;
+use crate::quoted::quote;
 use crate::stop::Stop;
-use bson_place::place::Place;
+use crate::taken::DOUBLE_KEY;
+use bson_place::place::{Place, Reason, Step};
 use std::alloc::{AllocError, Global};
 
 /// How many characters are told of a way, and of a message.
@@ -19,12 +23,15 @@ const MOST: usize = 300;
 /// For `NotJson` it is ` at column N (RULE)`: the column in its line, counted from 1, of the byte at
 /// which the text stops to be JSON, and the words of the `Rule` that it breaks; where it has the
 /// grammar of JSON, those of the first number whose nearest double is not finite. For
-/// `NotExtendedJson` it is what the fault itself tells, ` at orders.3._id.$oid (MESSAGE)`: the way
-/// to the first fault, its keys and places in lists counted from 0, and what is wrong there; with
-/// the message alone where the fault is that of the whole text. A control character (`\u001b`) and a separator of lines (`\u2028`) or of
-/// paragraphs, which could break a line or steer a terminal, is told by its escape in JSON, and
-/// every other character as it is. Of a way or a message of more than 300 characters these are
-/// told, and `..` for the others.
+/// `NotExtendedJson` it is ` at orders.3.at.$date (EXPECTED; found VALUE)`: the way to the first
+/// fault, its keys and places in lists counted from 0, what was expected there, and the value that
+/// stands there in the text, as it is, with `..` behind its first 60 characters where it has more; of
+/// an object id what is wrong with it, and of a key that stands twice this alone. Where the fault is
+/// that of the whole text no way is told.
+///
+/// A control character (`\u001b`) and a separator of lines (`\u2028`) or of paragraphs, which could
+/// break a line or steer a terminal, is told by its escape in JSON, and every other character as it
+/// is. Of a way or a message of more than 300 characters these are told, and `..` for the others.
 pub fn explain(alloc: Global, fault: &Fault, text: &[u8]) -> Result<String, AllocError>
     ensures place { IfOk result (λ words. IsBadText fault.now text.now → IsWhere fault.now (string_bytes words)) }
     ensures other { IfOk result (λ words. IsWhere fault.now (string_bytes words) ⊎ (string_bytes words ≡ [])) }
@@ -32,10 +39,12 @@ pub fn explain(alloc: Global, fault: &Fault, text: &[u8]) -> Result<String, Allo
     ensures place_with { (options : Options) → IfOk result (λ words. IsBadTextIn options fault.now text.now
         → IsWhere fault.now (string_bytes words)) }
     ensures always { IfOk result (λ words. IsWhere fault.now (string_bytes words)) }
+    ensures found { IfOk result (λ words. (place : SpecPlace) → fault.now ≡ NotExtendedJson place
+        → IsPlacedIn text.now place (string_bytes words)) }
 {
     match fault {
         Fault::NotJson => column(alloc, text),
-        Fault::NotExtendedJson(place) => displayed(alloc, place),
+        Fault::NotExtendedJson(place) => displayed(alloc, place, text),
         _ => Ok(String::new(alloc)),
     }
 }
@@ -50,18 +59,42 @@ fn column(alloc: Global, text: &[u8]) -> Result<String, AllocError>
     format!(in alloc; " at column {column} ({rule})")
 }
 
-// The words for a place.
-fn displayed(alloc: Global, place: &Place) -> Result<String, AllocError>
-    ensures { IfOk result (λ words. IsPlaced place.now (string_bytes words)) }
+// The words for a place in a text.
+fn displayed(alloc: Global, place: &Place, text: &[u8]) -> Result<String, AllocError>
+    ensures place { IfOk result (λ words. IsPlaced place.now (string_bytes words)) }
+    ensures found { IfOk result (λ words. IsPlacedIn text.now place.now (string_bytes words)) }
 {
     let way = place.path(alloc)?;
     let path = told(alloc, way.as_str())?;
-    let reason = format!(in alloc; "{}", place.reason)?;
+    let reason = reason_in(alloc, place, text)?;
     let message = told(alloc, reason.as_str())?;
     if path.is_empty() {
         return format!(in alloc; " ({message})");
     }
     format!(in alloc; " at {path} ({message})")
+}
+
+// The words for what was expected at a place, and for what is found there in a text.
+fn reason_in(alloc: Global, place: &Place, text: &[u8]) -> Result<String, AllocError>
+    ensures { IfOk result (λ words. IsReasonIn text.now place.now.reason (string_bytes words)) }
+{
+    match &place.reason {
+        Reason::BadObjectId(why) => format!(in alloc; "{why}"),
+        Reason::WrongShape(expected) => {
+            let found = found(alloc, expected, &place.steps, text)?;
+            format!(in alloc; "{expected}{found}")
+        }
+    }
+}
+
+// The words for what is found at a place; none for a key that stands twice, since no value is wrong.
+fn found(alloc: Global, expected: &str, steps: &[Step], text: &[u8]) -> Result<String, AllocError>
+    ensures { IfOk result (λ words. IsQuote text.now (string_bytes words)) }
+{
+    if expected == DOUBLE_KEY {
+        return Ok(String::new(alloc));
+    }
+    quote(alloc, steps, text)
 }
 
 // The words as they are told.

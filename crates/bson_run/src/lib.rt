@@ -10,7 +10,7 @@
 //! a writer). Over lines: `order` and `refusal` (what is asked, and what is refused), `gathered`
 //! (the line that is read, and what those before it gave) and `lines` (the whole way). Why a text is
 //! refused, in words: `stop` (where bytes stop to be JSON) with `rule` (which of its rules they
-//! break, which `broken` finds), and `explain`. What the programs have in common stands in `program`.
+//! break, which `broken` finds), and `explain` with `quoted` (the value that stands at a place). What the programs have in common stands in `program`.
 #![tactic(auto)]
 
 mod broken;
@@ -27,6 +27,7 @@ pub mod mode;
 pub mod no_bytes;
 pub mod order;
 pub mod program;
+mod quoted;
 pub mod refusal;
 pub mod rule;
 pub mod run;

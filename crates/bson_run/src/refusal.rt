@@ -10,7 +10,7 @@ use crate::fault::Fault;
 /// if let Err(at) = run_lines(alloc, task, stop, &mut lines, &mut output, &mut told) {
 ///     println!(rt; "line {}: {}{}", at.line, at.fault.words(), at.place)?;
 /// }
-/// // line 1: not Extended JSON at n (a number is no whole number of 64 bits)
+/// // line 1: not Extended JSON at n (a number is no whole number of 64 bits; found 1.5)
 /// ```
 #[derive(Debug, Drop)]
 pub struct Refusal {

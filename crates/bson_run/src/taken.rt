@@ -12,7 +12,7 @@ use bson_tokens::unread::Unread;
 use std::alloc::Global;
 
 /// What is told of a key that stands twice.
-const DOUBLE_KEY: &str = "a key that stands twice in its object";
+pub(crate) const DOUBLE_KEY: &str = "a key that stands twice in its object";
 
 /// The text that is read in the place of the bytes, or nothing where they are read themselves.
 ///

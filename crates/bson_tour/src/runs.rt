@@ -144,7 +144,7 @@ fn refusal(rt: &impl Print, alloc: Global) -> anyhow::Result<()> {
     if let Err(at) = run_lines(alloc, task, stop, &mut lines, &mut output, &mut told) {
         println!(rt; "line {}: {}{}", at.line, at.fault.words(), at.place)?;
     }
-    // line 1: not Extended JSON at n (a number is no whole number of 64 bits)
+    // line 1: not Extended JSON at n (a number is no whole number of 64 bits; found 1.5)
     Ok(())
 }
 

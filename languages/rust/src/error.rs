@@ -44,7 +44,7 @@ impl ErrorKind {
 }
 
 /// Why a call was refused; of a text of Extended JSON and of a document's bytes, with where. It is displayed as
-/// `not Extended JSON at orders.0.price (a number is no whole number of 64 bits)`.
+/// `not Extended JSON at orders.0.price (a number is no whole number of 64 bits; found 1.5)`.
 #[derive(Clone, Debug, PartialEq, Eq)]
 pub struct Error {
     kind: ErrorKind,
@@ -64,8 +64,8 @@ impl Error {
         self.parts().0
     }
 
-    /// What is wrong there: `a number is no whole number of 64 bits`, or of what is no JSON the rule that is broken,
-    /// as `a comma or a bracket is missing`; else the words for the kind.
+    /// What is wrong there: `a number is no whole number of 64 bits; found 1.5`, or of what is no JSON the rule that is
+    /// broken, as `a comma or a bracket is missing`; else the words for the kind.
     pub fn why(&self) -> &str {
         Some(self.parts().1).filter(|it| !it.is_empty()).unwrap_or(self.kind.words())
     }
@@ -84,7 +84,7 @@ impl Error {
 
     /// Where the message begins. That on an object id may hold any characters, but behind a wrapper's key, at which its
     /// path ends, or behind the two points of one that is not told whole, it begins with these words; no other message
-    /// holds a bracket.
+    /// holds a bracket before the value that it tells.
     fn seam(&self) -> Option<usize> {
         let begins = [" (the character '", " (an object id has "];
         let of_id = || begins.iter().flat_map(|it| self.behind.match_indices(it)).map(|(at, _)| at);
@@ -93,7 +93,10 @@ impl Error {
                 let behind = |ends: &[&str]| of_id().filter(|&at| ends.iter().any(|it| self.behind[..at].ends_with(it))).min();
                 behind(&["$oid", "$dbPointer"]).or_else(|| behind(&[".."]))
             }
-            _ => self.behind.rfind(" ("),
+            _ => {
+                let is_message = |it: &str| !it.split_once("; found ").map_or(it, |(expected, _)| expected).contains('(');
+                self.behind.match_indices(" (").map(|(at, _)| at).find(|&at| is_message(&self.behind[at + 2..]))
+            }
         }
     }
 }

@@ -65,8 +65,9 @@ fn faults_are_told() {
 
 #[test]
 fn places_are_told() {
-    let number = "a number is no whole number of 64 bits";
+    let number = "a number is no whole number of 64 bits; found 1.5";
     let (early, quotes) = ("the text ends before its value is whole", "a key or a text stands in double quotes");
+    let date = r#"`$date` holds `$numberLong`, an RFC 3339 text or a whole number; found " (a)""#;
     let digit = "the character ' ' at 4 in \"53e3 (\" is no hexadecimal digit";
     // (of a path and of a message 300 characters are told)
     let (long, cut) = ("a".repeat(1000), "a".repeat(300) + "..");
@@ -77,6 +78,7 @@ fn places_are_told() {
         ("[1e400]", "not JSON at column 2 (a number is out of range)".to_owned(), "column 2", "a number is out of range"),
         (r#"{"a (":[{"b":1.5}]}"#, format!("not Extended JSON at a (.0.b ({number})"), "a (.0.b", number),
         ("1.5", format!("not Extended JSON ({number})"), "", number),
+        (r#"{"a (":{"$date":" (a)"}}"#, format!("not Extended JSON at a (.$date ({date})"), "a (.$date", date),
         (r#"{"a":{"$oid":"53e3 ("}}"#, format!("bad object id at a.$oid ({digit})"), "a.$oid", digit),
         (r#"{"\u0007":1.5}"#, format!(r"not Extended JSON at \u0007 ({number})"), r"\u0007", number),
         (&*format!(r#"{{"{long}":{{"$oid":"53e3 ("}}}}"#), format!("bad object id at {cut} ({digit})"), cut.as_str(), digit),

@@ -2,12 +2,12 @@ use Rattle.std.proofs.Common.{◌≡◌, ◌<◌, ◌++◌, IfOk, length, codes,
 use Rattle.std.proofs.lemmas.Grind.{common_steps}
 use Rattle.bson_place.specs.Place.{dotted, way_of}
 use Rattle.bson_run.specs.Place.{told_as}
-use Rattle.bson_run.proofs.Explaining.{placed_at, placed_bare}
+use Rattle.bson_run.proofs.Explaining.{placed, placed_at, placed_bare}
 use Rattle.bson_run.proofs.LinesLaws.{oks_with}
 use Rattle.bson_run.proofs.explain.displayed.Goals as goal
 
-pub returns-then-is_empty : goal.returns-then-is_empty
-returns-then-is_empty c =
+pub returns-then-is_empty-clause-found : goal.returns-then-is_empty-clause-found
+returns-then-is_empty-clause-found c =
     let path = string_bytes c.in_ok-path.path in
     let reason = string_bytes c.in_ok-reason.reason in
     let message = string_bytes c.in_ok-message.message in
@@ -15,13 +15,18 @@ returns-then-is_empty c =
     c.in_ok-path.ensures ∙ ap told_as (c.as_str.ensures.value ∙ c.in_ok-way.ensures) in
     let why : message ≡ told_as reason = c.in_ok-message.ensures ∙ ap told_as c.as_str-2.ensures.value in
     let none : length path ≡ 0 = grind (arith, common_steps) in
-    let said : IfOk c.format-then-is_empty.result (λ s. string_bytes s ≡ codes " (" ++ message ++ codes ")") =
-    simp append_assoc c.format-then-is_empty.ensures.ok in
-    oks_with c.format-then-is_empty.result said (λ s e.
-    placed_bare c.args.place.now path reason message (string_bytes s) told why none e)
+    let said : IfOk c.format.result (λ s. string_bytes s ≡ codes " (" ++ message ++ codes ")") =
+    simp append_assoc c.format.ensures.ok in
+    oks_with c.format.result said (λ s e.
+    placed_bare c.args.text.now c.args.place.now path reason message (string_bytes s) c.in_ok-reason.ensures told why none e)
 
-pub returns : goal.returns
-returns c =
+pub returns-then-is_empty-clause-place : goal.returns-then-is_empty-clause-place
+returns-then-is_empty-clause-place c =
+    oks_with c.format.result (returns-then-is_empty-clause-found c) (λ s p.
+    placed c.args.text.now c.args.place.now (string_bytes s) p)
+
+pub returns-clause-found : goal.returns-clause-found
+returns-clause-found c =
     let path = string_bytes c.in_ok-path.path in
     let reason = string_bytes c.in_ok-reason.reason in
     let message = string_bytes c.in_ok-message.message in
@@ -32,4 +37,9 @@ returns c =
     let said : IfOk c.format-2.result (λ s. string_bytes s ≡ codes " at " ++ path ++ codes " (" ++ message
     ++ codes ")") = simp append_assoc c.format-2.ensures.ok in
     oks_with c.format-2.result said (λ s e.
-    placed_at c.args.place.now path reason message (string_bytes s) told why some e)
+    placed_at c.args.text.now c.args.place.now path reason message (string_bytes s) c.in_ok-reason.ensures told why some e)
+
+pub returns-clause-place : goal.returns-clause-place
+returns-clause-place c =
+    oks_with c.format-2.result (returns-clause-found c) (λ s p.
+    placed c.args.text.now c.args.place.now (string_bytes s) p)

@@ -14,7 +14,7 @@ returns-then-is_none c =
     let end = YieldsList-end road c.loop-c.yielded _ c.loop-c.yielded_by _ _ c.in-None.is c.next.ensures.steps in
     let front = c.loop-c.invariant ∙ ap (λ ys. flat_map shown ys) (sym (map-id c.loop-c.yielded) ∙ end.0) in
     let item = nth_from_yields_List c.nth.result c.nth.new.self 300 c.nth.ensures.ran (YieldsList-from_chars c.args.words.now c.utf8.words cc) in
-    told_short c.args.words.now _ front (no_more c.nth.result cs 300 item (c.is_none.ensures ∙ ap not c.if-is_none.true))
+    told_short 300 shown c.args.words.now _ front (no_more c.nth.result cs 300 item (c.is_none.ensures ∙ ap not c.if-is_none.true))
 
 pub returns : goal.returns
 returns c =
@@ -23,4 +23,4 @@ returns c =
     let end = YieldsList-end road c.loop-c.yielded _ c.loop-c.yielded_by _ _ c.in-None.is c.next.ensures.steps in
     let front = c.loop-c.invariant ∙ ap (λ ys. flat_map shown ys) (sym (map-id c.loop-c.yielded) ∙ end.0) in
     let item = nth_from_yields_List c.nth.result c.nth.new.self 300 c.nth.ensures.ran (YieldsList-from_chars c.args.words.now c.utf8.words cc) in
-    told_long c.args.words.now _ _ front (are_more c.nth.result cs 300 item (c.is_none.ensures ∙ ap not c.if-is_none.false)) c.in_ok-push_str.ensures.bytes
+    told_long 300 shown c.args.words.now _ front _ (are_more c.nth.result cs 300 item (c.is_none.ensures ∙ ap not c.if-is_none.false)) c.in_ok-push_str.ensures.bytes

@@ -1,0 +1,136 @@
+//! The value that stands at a place in a text.
+ghost use Rattle.std.specs.Prelude.{◌≡◌, IfOk, IfSome, string_bytes};
+ghost use Rattle.std.specs.Char.{encode_utf8};
+ghost use Rattle.bson_run.specs.Place.{IsPart, IsQuote, cut_at, found_as};
+
+use crate::broken::MAX_DEPTH;
+use bson_place::place::Step;
+use json::{Invalid, Reader, Scratch, Token};
+use std::alloc::{AllocError, Global};
+
+/// How many characters are told of a value.
+const MOST: usize = 60;
+
+/// The words for the value that stands at a place in the text, to be put behind those for what was
+/// expected there; empty where none stands there. Of a key that stands twice it is the last value.
+pub(crate) fn quote(alloc: Global, steps: &[Step], text: &[u8]) -> Result<String, AllocError>
+    ensures { IfOk result (λ words. IsQuote text.now (string_bytes words)) }
+{
+    let Ok(text) = simdutf8::compat::from_utf8(text) else {
+        return Ok(String::new(alloc));
+    };
+    let mut scratch = Scratch::new(alloc);
+    let mut reader = Reader::new(text, &mut scratch)?;
+    let Ok(Some((from, behind))) = value_at(&mut reader, steps) else {
+        return Ok(String::new(alloc));
+    };
+    match part(text, from, behind) {
+        Some(value) => found(alloc, value),
+        None => Ok(String::new(alloc)),
+    }
+}
+
+// The words for a value.
+fn found(alloc: Global, value: &str) -> Result<String, AllocError>
+    ensures { IfOk result (λ words. string_bytes words ≡ found_as value.now) }
+{
+    let value = cut(alloc, value)?;
+    format!(in alloc; "; found {value}")
+}
+
+// The first characters of a value.
+fn cut(alloc: Global, value: &str) -> Result<String, AllocError>
+    ensures { IfOk result (λ words. string_bytes words ≡ cut_at 60 encode_utf8 value.now) }
+{
+    let mut words = String::new(alloc);
+    for c in value.chars().take(MOST) {
+        words.push(c)?;
+    }
+    if value.chars().nth(MOST).is_none() {
+        return Ok(words);
+    }
+    words.push_str("..")?;
+    Ok(words)
+}
+
+// The value that begins there, without what separates it from the next.
+fn part(text: &str, from: usize, behind: usize) -> Option<&str>
+    ensures { IfSome result (λ part. IsPart part.now text.now) }
+{
+    let (front, _) = text.split_at_checked(behind)?;
+    let (_, part) = front.split_at_checked(from)?;
+    let part = part.trim_ascii_end().trim_end_matches(',');
+    Some(part.trim_ascii_end())
+}
+
+// Passes a value, and gives where the one at the end of a way into it begins, and where what is
+// behind that does.
+#[cycle(passing)]
+fn value_at(reader: &mut Reader<'_>, steps: &[Step]) -> Result<Option<(usize, usize)>, Invalid> {
+    let Some((step, inner)) = steps.split_last() else {
+        let from = reader.offset();
+        reader.skip_value(MAX_DEPTH)?;
+        return Ok(Some((from, reader.offset())));
+    };
+    match reader.next().ok_or(Invalid)? {
+        Token::BeginArray => value_in_list(reader, step, inner),
+        Token::BeginObject => value_in_object(reader, step, inner),
+        _ => Ok(None),
+    }
+}
+
+// The same of a list whose bracket was read, into which the step leads.
+#[cycle(passing)]
+fn value_in_list(
+    reader: &mut Reader<'_>,
+    step: &Step,
+    inner: &[Step],
+) -> Result<Option<(usize, usize)>, Invalid> {
+    let mut found = None;
+    for at in 0..usize::MAX {
+        if reader.take_end_array() {
+            return Ok(found);
+        }
+        if is_element(step, at) {
+            found = value_at(reader, inner)?;
+        } else {
+            reader.skip_value(MAX_DEPTH)?;
+        }
+    }
+    Err(Invalid)
+}
+
+// The same of an object whose brace was read.
+#[cycle(passing)]
+fn value_in_object(
+    reader: &mut Reader<'_>,
+    step: &Step,
+    inner: &[Step],
+) -> Result<Option<(usize, usize)>, Invalid> {
+    let mut found = None;
+    for _ in 0..usize::MAX {
+        let Some(key) = reader.next_key()? else {
+            return Ok(found);
+        };
+        if is_key(step, key) {
+            found = value_at(reader, inner)?;
+        } else {
+            reader.skip_value(MAX_DEPTH)?;
+        }
+    }
+    Err(Invalid)
+}
+
+fn is_element(step: &Step, at: usize) -> bool {
+    match step {
+        Step::Element(place) => *place == at,
+        Step::Key(_) => false,
+    }
+}
+
+fn is_key(step: &Step, key: &str) -> bool {
+    match step {
+        Step::Element(_) => false,
+        Step::Key(wanted) => wanted.as_str() == key,
+    }
+}
