@@ -6,10 +6,10 @@
 //! and the statuses.
 #![tactic(auto)]
 
-use bson_run::fault::Fault;
-use bson_run::mode::{Mode, mode_of};
-use bson_run::program::{ended, words_given};
-use bson_run::run::run;
+use bson_convert::fault::Fault;
+use bson_convert::mode::{Mode, mode_of};
+use bson_convert::program::{ended, words_given};
+use bson_convert::run::run;
 use std::process::ExitCode;
 
 const USAGE: &str = "usage: bson_cli canonical|relaxed|show";

@@ -13,10 +13,10 @@ use Rattle.bson_codec.specs.declared.told.RunEnd.{RunEnd}
 use Rattle.bson_codec.specs.declared.told.RunFault.{RunFault}
 use Rattle.bson_codec.specs.declared.told.RunFault.TheVariants as run_fault
 use Rattle.bson_run.specs.Lines.{onto_first}
-use Rattle.bson_run.specs.Words.{words_of}
-use Rattle.bson_run.specs.declared.fault.Fault.{Fault}
-use Rattle.bson_run.specs.declared.fault.Fault.TheVariants.{CannotRead, NotJson, NotExtendedJson, NoBytes, OutOfMemory}
-use Rattle.bson_run.specs.declared.fault.Fault.TheVariants.{CannotWrite}
+use Rattle.bson_convert.specs.Words.{words_of}
+use Rattle.bson_convert.specs.declared.fault.Fault.{Fault}
+use Rattle.bson_convert.specs.declared.fault.Fault.TheVariants.{CannotRead, NotJson, NotExtendedJson, NoBytes, OutOfMemory}
+use Rattle.bson_convert.specs.declared.fault.Fault.TheVariants.{CannotWrite}
 use Rattle.bson_lines.specs.declared.order.Input as order
 use Rattle.bson_lines.specs.declared.order.Input.TheVariants.{Lines, Text, Documents}
 use Rattle.bson_lines.specs.declared.run.Stop.{Stop}

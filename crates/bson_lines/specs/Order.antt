@@ -4,7 +4,7 @@ use Rattle.std.specs.Prelude.{◌&&◌, ◌||◌, Contains, map, not, string_byt
 use Rattle.std.specs.Option.{option_map_or}
 use Rattle.bson_run.specs.Words.{task_name}
 use Rattle.bson_run.specs.declared.order.OnRefusal.TheVariants.{KeepGoing, Stop}
-use Rattle.bson_run.specs.declared.mode.Mode.TheVariants.{Canonical, Relaxed}
+use Rattle.bson_convert.specs.declared.mode.Mode.TheVariants.{Canonical, Relaxed}
 use Rattle.bson_run.specs.declared.order.Taking.{Taking}
 use Rattle.bson_run.specs.declared.order.Taking.TheVariants.{Distinct, Legacy, DistinctLegacy}
 use Rattle.bson_run.specs.declared.order.Task.{Task}

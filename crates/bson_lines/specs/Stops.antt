@@ -6,7 +6,7 @@ use Rattle.std.specs.declared.io.Error.{Error}
 use Rattle.bson_codec.specs.declared.documents.Line as documents
 use Rattle.bson_codec.specs.declared.documents.Line.TheVariants as line
 use Rattle.bson_run.specs.Indent.{mode_of}
-use Rattle.bson_run.specs.declared.mode.Mode.TheVariants.{Show}
+use Rattle.bson_convert.specs.declared.mode.Mode.TheVariants.{Show}
 use Rattle.bson_run.specs.declared.order.Task.{Task}
 use Rattle.bson_run.specs.declared.order.Task.TheVariants as task
 use Rattle.bson_lines.specs.Messages.{all_under}

@@ -11,7 +11,7 @@ use bson_codec::de::DEPTH;
 use bson_codec::documents::{DocumentCounts, Line, Run, run_documents};
 use bson_codec::told::{RunEnd, RunFault};
 use bson_run::lines::Counts;
-use bson_run::mode::Mode;
+use bson_convert::mode::Mode;
 use bson_run::order::{OnRefusal, Task};
 use std::alloc::Global;
 use std::io::{BufReader, BufWriter, Read, Write};

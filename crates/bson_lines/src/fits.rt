@@ -5,7 +5,7 @@ ghost use Rattle.bson_lines.specs.Order.{FitsText, IsBytes, IsEnded, IsForm};
 
 use crate::arguments::{Given, Next};
 use crate::order::Input;
-use bson_run::mode::Mode;
+use bson_convert::mode::Mode;
 use bson_run::order::Task;
 
 /// Whether the options stand with the task and with one another.

@@ -7,7 +7,7 @@ ghost use Rattle.bson_lines.specs.Messages.{told_at, told_in, told_of_document, 
 use crate::order::{Input, STANDARD};
 use crate::run::Stop;
 use bson_codec::told::{RunEnd, RunFault};
-use bson_run::fault::Fault;
+use bson_convert::fault::Fault;
 use bson_run::lines::Counts;
 use bson_run::refusal::Refusal;
 use std::alloc::{AllocError, Global};

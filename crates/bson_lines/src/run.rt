@@ -9,7 +9,7 @@ use crate::progress::{Counted, Progress, Verdicts};
 use crate::streams::{Sink, Source};
 use crate::whole::convert_whole;
 use bson_codec::told::RunEnd;
-use bson_run::fault::Fault;
+use bson_convert::fault::Fault;
 use bson_run::lines::{Counts, run_lines_with};
 use bson_run::refusal::Refusal;
 use std::fs;

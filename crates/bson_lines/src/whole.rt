@@ -1,21 +1,21 @@
 //! A run over one text, on any number of lines.
 ghost use Rattle.std.specs.Prelude.{◌≡◌, ◌≢◌, ◌⊎◌, [], IfOk, IfErr, IfSome, None, OnOk, string_bytes};
-ghost use Rattle.bson_run.specs.Convert.{IsRefusedIn};
+ghost use Rattle.bson_convert.specs.Convert.{IsRefusedIn};
 ghost use Rattle.bson_run.specs.Indent.{mode_of};
 ghost use Rattle.bson_run.specs.Place.{IsWhere};
-ghost use Rattle.bson_run.specs.Run.{ReadsAll};
+ghost use Rattle.bson_convert.specs.Run.{ReadsAll};
 ghost use Rattle.bson_lines.specs.Whole.{behind, Checks, Gives, IsUngiven, Lays, LaysInOrder, WholeDone};
 ghost use Rattle.bson_lines.specs.Whole.{WholeFails, Works};
 
 use crate::order::Order;
 use bson::extjson::Form;
-use bson_run::convert::convert_with;
+use bson_convert::convert::convert_with;
 use bson_run::encode::{encode_in_order, encode_with};
 use bson_run::explain::explain;
-use bson_run::fault::Fault;
+use bson_convert::fault::Fault;
 use bson_run::in_order::convert_in_order;
 use bson_run::indented::{convert_in_order_indented, convert_indented};
-use bson_run::mode::Mode;
+use bson_convert::mode::Mode;
 use bson_run::order::{Task, Work};
 use bson_run::refusal::Refusal;
 use bson_run::stop::Stop;

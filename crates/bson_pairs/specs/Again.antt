@@ -10,7 +10,7 @@ use Rattle.bson.specs.WriteError.TheVariants as write_errors
 use Rattle.bson.specs.WrittenInOrder.{WrittenInOrder}
 use Rattle.bson_codec.specs.Canonical.{NestsPairs}
 use Rattle.bson_codec.specs.declared.de.Error.TheVariants as read_errors
-use Rattle.bson_run.specs.declared.fault.Fault.TheVariants as faults
+use Rattle.bson_convert.specs.declared.fault.Fault.TheVariants as faults
 use Rattle.bson_pairs.specs.declared.again.NotAgain.{NotAgain}
 use Rattle.bson_pairs.specs.declared.again.NotAgain.TheVariants.{NoBytes, NoDocument, NoText}
 

@@ -13,7 +13,7 @@ use bson::Bson;
 use bson::extjson::{Doubles, Form, Options, WriteError};
 use bson_codec::{de, from_slice};
 use bson_run::encode::encode_in_order;
-use bson_run::fault::Fault;
+use bson_convert::fault::Fault;
 use std::alloc::Global;
 
 /// Why there is no way and back.

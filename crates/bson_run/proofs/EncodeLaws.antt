@@ -14,12 +14,12 @@ use Rattle.bson_model.specs.Value.{Value, Pairs, document}
 use Rattle.bson_order.specs.Kept.{read_kept}
 use Rattle.bson_order.specs.Means.{MeansInOrder}
 use Rattle.bson_pack.specs.Packed.{IsPackedText}
-use Rattle.bson_run.specs.Convert.{IsRefusedIn}
+use Rattle.bson_convert.specs.Convert.{IsRefusedIn}
 use Rattle.bson_run.specs.Encode.{EncodesIn, EncodesInOrder, FailsAlone, FailsFor, IsBytesOf}
 use Rattle.bson_run.specs.Encode.{IsUnencodedFor, IsUnencodedIn, IsUnencodedInOrder, MeansKept}
 use Rattle.bson_run.specs.LinesSteps.{Options, Fault, CannotRead, NotJson, NotExtendedJson, NoBytes, OutOfMemory}
 use Rattle.bson_run.specs.LinesSteps.{CannotWrite}
-use Rattle.bson_run.specs.declared.no_bytes.NoBytes.TheVariants.{NoDocument, ZeroInKey, ZeroInRegex, TooLong}
+use Rattle.bson_convert.specs.declared.no_bytes.NoBytes.TheVariants.{NoDocument, ZeroInKey, ZeroInRegex, TooLong}
 
 -- ---- a value
 

@@ -6,9 +6,9 @@ use Rattle.bson_model.specs.Value.{Value}
 use Rattle.bson.specs.declared.extjson.options.Options.{Options}
 use Rattle.bson.specs.TextMeaning.{HasTextMeaningIn}
 use Rattle.bson.specs.Texts.{IsTextUnder}
-use Rattle.bson_run.specs.Convert.{ConvertsIn, newline}
+use Rattle.bson_convert.specs.Convert.{ConvertsIn, newline}
 use Rattle.bson_run.specs.Indent.{mode_of}
-use Rattle.bson_run.proofs.Again.{is_written}
+use Rattle.bson_convert.proofs.Offered.{is_written}
 
 pub if_ok : {A E : Type 0} {P Q : A → Type 0} (r : Result A E) → IfOk r P → ((a : A) → P a → Q a) → IfOk r Q
 if_ok (Ok a) p f = f a p

@@ -1,5 +1,3 @@
-mod Again
-mod Converting
 pub mod EncodeLaws
 mod Explaining
 mod IndentedTexts

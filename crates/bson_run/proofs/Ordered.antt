@@ -13,10 +13,10 @@ use Rattle.bson_order.specs.Kept.{unordered}
 use Rattle.bson.specs.Texts.{IsTextInOrder}
 use Rattle.bson.specs.declared.extjson.options.Options.{Options}
 use Rattle.bson_filter.specs.Filtered.{IsFilteredText}
-use Rattle.bson_run.specs.Convert.{newline}
+use Rattle.bson_convert.specs.Convert.{newline}
 use Rattle.bson_run.specs.InOrder.{IsLineInOrder, ConvertsInOrder}
-use Rattle.bson_run.specs.declared.mode.Mode.{Mode}
-use Rattle.bson_run.specs.declared.mode.Mode.TheVariants.{Canonical, Relaxed}
+use Rattle.bson_convert.specs.declared.mode.Mode.{Mode}
+use Rattle.bson_convert.specs.declared.mode.Mode.TheVariants.{Canonical, Relaxed}
 
 module _ (o : Options) where
   written_by_default : (r : Result Data Refusal) → is_ok r ≡ true → (u : Data) × (r ≡ Ok u)

@@ -1,6 +1,6 @@
 -- Why a line that was taken is refused.
 use Rattle.std.proofs.Common.{ℕ, List, inl}
-use Rattle.bson_run.specs.Convert.{IsRefusedIn}
+use Rattle.bson_convert.specs.Convert.{IsRefusedIn}
 use Rattle.bson_run.specs.Lines.{IsBlank}
 use Rattle.bson_run.specs.LinesSteps.{Options, IsJudged}
 use Rattle.bson_run.specs.LinesSteps.{Fault, CannotRead, NotJson, NotExtendedJson, NoBytes, OutOfMemory}

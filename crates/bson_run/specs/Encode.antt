@@ -8,11 +8,11 @@ use Rattle.bson_codec.specs.Canonical.{DocumentFails, FitsDocument, NestsPairs, 
 use Rattle.bson_codec.specs.Laws.{IsRead}
 use Rattle.bson_model.specs.Value.{Value, Pairs, document}
 use Rattle.bson_order.specs.Texts.{HasMeaningInOrder}
-use Rattle.bson_run.specs.Convert.{IsRefusedIn}
-use Rattle.bson_run.specs.declared.no_bytes.NoBytes.{NoBytes}
-use Rattle.bson_run.specs.declared.no_bytes.NoBytes.TheVariants.{NoDocument, ZeroInKey, ZeroInRegex, TooLong}
-use Rattle.bson_run.specs.declared.fault.Fault.{Fault}
-use Rattle.bson_run.specs.declared.fault.Fault.TheVariants as fault
+use Rattle.bson_convert.specs.Convert.{IsRefusedIn}
+use Rattle.bson_convert.specs.declared.no_bytes.NoBytes.{NoBytes}
+use Rattle.bson_convert.specs.declared.no_bytes.NoBytes.TheVariants.{NoDocument, ZeroInKey, ZeroInRegex, TooLong}
+use Rattle.bson_convert.specs.declared.fault.Fault.{Fault}
+use Rattle.bson_convert.specs.declared.fault.Fault.TheVariants as fault
 
 -- ---- what is meant has bytes, or has none
 

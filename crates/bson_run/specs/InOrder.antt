@@ -8,9 +8,9 @@ use Rattle.bson_model.specs.Value.{Value}
 use Rattle.bson_order.specs.Texts.{HasMeaningInOrder}
 use Rattle.bson.specs.Texts.{IsTextInOrder}
 use Rattle.bson.specs.declared.extjson.options.Options.{Options}
-use Rattle.bson_run.specs.Convert.{newline}
-use Rattle.bson_run.specs.declared.mode.Mode.{Mode}
-use Rattle.bson_run.specs.declared.mode.Mode.TheVariants.{Canonical, Relaxed, Show}
+use Rattle.bson_convert.specs.Convert.{newline}
+use Rattle.bson_convert.specs.declared.mode.Mode.{Mode}
+use Rattle.bson_convert.specs.declared.mode.Mode.TheVariants.{Canonical, Relaxed, Show}
 
 -- the line of the value's text in its own order in a form
 pub record IsLineInOrder (D : Doubles) (f : Form) (value : Value) (output : List ℕ) : Type 0 where

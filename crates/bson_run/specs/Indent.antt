@@ -11,10 +11,10 @@ use Rattle.json.specs.Token.{Token}
 use Rattle.bson.specs.declared.extjson.options.Options.{Options}
 use Rattle.bson_wrapper.specs.declared.form.Form.{Form}
 use Rattle.bson_wrapper.specs.declared.form.Form.TheVariants as form
-use Rattle.bson_run.specs.Convert.{ConvertsIn, newline}
+use Rattle.bson_convert.specs.Convert.{ConvertsIn, newline}
 use Rattle.bson_run.specs.InOrder.{ConvertsInOrder}
-use Rattle.bson_run.specs.declared.mode.Mode.{Mode}
-use Rattle.bson_run.specs.declared.mode.Mode.TheVariants.{Canonical, Relaxed}
+use Rattle.bson_convert.specs.declared.mode.Mode.{Mode}
+use Rattle.bson_convert.specs.declared.mode.Mode.TheVariants.{Canonical, Relaxed}
 use Rattle.bson_run.specs.declared.indent.Before.{Before}
 use Rattle.bson_run.specs.declared.indent.Before.TheVariants as before
 use Rattle.bson_run.specs.declared.indent.Layout.{Layout}

@@ -1,11 +1,9 @@
-pub mod Convert
 pub mod Encode
 pub mod InOrder
 pub mod Indent
 pub mod Lines
 pub mod LinesSteps
 pub mod Place
-pub mod Run
 pub mod Taken
 pub mod Words
 -- what public clauses cite of the crates below, so that a caller names this crate alone

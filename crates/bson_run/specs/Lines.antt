@@ -5,17 +5,17 @@ use Rattle.std.specs.Fmt.{decimal}
 use Rattle.std.specs.List.{starts_with}
 use Rattle.std.specs.Io.KnownBytes.{Appends, Consumes}
 use Rattle.bson.specs.declared.extjson.options.Options.{Options}
-use Rattle.bson_run.specs.Convert.{default_options, ConvertsIn, IsRefusedIn, newline}
+use Rattle.bson_convert.specs.Convert.{default_options, ConvertsIn, IsRefusedIn, newline}
 use Rattle.bson_run.specs.Encode.{EncodesIn, EncodesInOrder, HasNoBytesIn, HasNoBytesInOrder}
 use Rattle.bson_run.specs.InOrder.{ConvertsInOrder}
 use Rattle.bson_run.specs.Place.{IsWhere}
-use Rattle.bson_run.specs.Run.{ReadsAll, WritesBeginning, WritesPart}
-use Rattle.bson_run.specs.Words.{words_of}
-use Rattle.bson_run.specs.declared.fault.Fault.{Fault}
-use Rattle.bson_run.specs.declared.fault.Fault.TheVariants.{CannotRead, NotJson, NotExtendedJson, NoBytes, OutOfMemory}
-use Rattle.bson_run.specs.declared.fault.Fault.TheVariants.{CannotWrite}
-use Rattle.bson_run.specs.declared.mode.Mode.TheVariants.{Canonical}
-use Rattle.bson_run.specs.declared.no_bytes.NoBytes as without
+use Rattle.bson_convert.specs.Run.{ReadsAll, WritesBeginning, WritesPart}
+use Rattle.bson_convert.specs.Words.{words_of}
+use Rattle.bson_convert.specs.declared.fault.Fault.{Fault}
+use Rattle.bson_convert.specs.declared.fault.Fault.TheVariants.{CannotRead, NotJson, NotExtendedJson, NoBytes, OutOfMemory}
+use Rattle.bson_convert.specs.declared.fault.Fault.TheVariants.{CannotWrite}
+use Rattle.bson_convert.specs.declared.mode.Mode.TheVariants.{Canonical}
+use Rattle.bson_convert.specs.declared.no_bytes.NoBytes as without
 use Rattle.bson_run.specs.declared.order.OnRefusal.{OnRefusal}
 use Rattle.bson_run.specs.declared.order.OnRefusal.TheVariants.{Stop}
 use Rattle.bson_run.specs.declared.order.Task.{Task}

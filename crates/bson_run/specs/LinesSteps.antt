@@ -2,12 +2,12 @@
 use Rattle.std.specs.Prelude.{◌≡◌, ◌≢◌, ◌⊎◌, ◌<◌, ◌≤◌, ◌+◌, ◌-◌, ◌^◌, ℕ, List, [], ◌∷◌, ◌++◌, Option, length, All}
 use Rattle.std.specs.Io.KnownBytes.{Appends, Consumes, Keeps}
 use Rattle.bson_run.specs.Lines.{lines, OutcomesIn, IsBadLineIn, IsStoppedAtIn, Tells}
-use Rattle.bson_run.specs.Run.{WritesPart}
+use Rattle.bson_convert.specs.Run.{WritesPart}
 -- the types that the steps speak of, for the proofs too
 pub use Rattle.bson.specs.declared.extjson.options.Options.{Options}
-pub use Rattle.bson_run.specs.declared.fault.Fault.{Fault}
-pub use Rattle.bson_run.specs.declared.fault.Fault.TheVariants.{CannotRead, NotJson, NotExtendedJson, NoBytes, OutOfMemory}
-pub use Rattle.bson_run.specs.declared.fault.Fault.TheVariants.{CannotWrite}
+pub use Rattle.bson_convert.specs.declared.fault.Fault.{Fault}
+pub use Rattle.bson_convert.specs.declared.fault.Fault.TheVariants.{CannotRead, NotJson, NotExtendedJson, NoBytes, OutOfMemory}
+pub use Rattle.bson_convert.specs.declared.fault.Fault.TheVariants.{CannotWrite}
 pub use Rattle.bson_run.specs.declared.gathered.Gathered.{Gathered}
 pub use Rattle.bson_run.specs.declared.order.OnRefusal.{OnRefusal}
 pub use Rattle.bson_run.specs.declared.order.Task.{Task}

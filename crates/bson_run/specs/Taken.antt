@@ -8,9 +8,9 @@ use Rattle.bson_distinct.specs.Double.{json_of, HasDoubleKey}
 use Rattle.bson_legacy.specs.Text.{IsModernText}
 use Rattle.bson_place.specs.Place.{way_of}
 use Rattle.bson_place.specs.declared.place.Place.{Place}
-use Rattle.bson_run.specs.declared.fault.Fault.{Fault}
-use Rattle.bson_run.specs.declared.fault.Fault.TheVariants.{CannotRead, NotJson, NotExtendedJson, NoBytes, OutOfMemory}
-use Rattle.bson_run.specs.declared.fault.Fault.TheVariants.{CannotWrite}
+use Rattle.bson_convert.specs.declared.fault.Fault.{Fault}
+use Rattle.bson_convert.specs.declared.fault.Fault.TheVariants.{CannotRead, NotJson, NotExtendedJson, NoBytes, OutOfMemory}
+use Rattle.bson_convert.specs.declared.fault.Fault.TheVariants.{CannotWrite}
 use Rattle.bson_run.specs.declared.order.Taking.{Taking}
 use Rattle.bson_run.specs.declared.order.Taking.TheVariants.{Distinct, Legacy, DistinctLegacy}
 

@@ -13,9 +13,9 @@ ghost use Rattle.bson_codec.specs.Unwritten.TheVariants as errors;
 ghost use Rattle.bson_run.specs.Encode.{EncodesIn, EncodesInOrder, FailsAlone, IsBytesOf, IsUnencodedFor};
 ghost use Rattle.bson_run.specs.Encode.{IsUnencodedIn, IsUnencodedInOrder};
 
-use crate::convert::refused;
-use crate::fault::Fault;
-use crate::no_bytes::NoBytes;
+use bson_convert::convert::refused;
+use bson_convert::fault::Fault;
+use bson_convert::no_bytes::NoBytes;
 use bson::Bson;
 use bson::extjson::Options;
 use bson_codec::{ser, to_vec};
@@ -24,7 +24,7 @@ use bson_pack::unpacked::Unpacked;
 use std::alloc::Global;
 
 /// The canonical bytes of the document that the text means, its keys in ascending order at every
-/// depth, as [`convert_with`](crate::convert::convert_with) has them.
+/// depth, as [`convert_with`](bson_convert::convert::convert_with) has them.
 ///
 /// A text that means nothing is refused as there. One that means another value than a document, or
 /// a document that has no bytes, is refused as `NoBytes` for the first of its parts, in the order of

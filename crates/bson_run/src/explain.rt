@@ -5,9 +5,9 @@ ghost use Rattle.bson.specs.declared.extjson.options.Options.{Options};
 ghost use Rattle.bson_place.specs.declared.place.Place.{Place as SpecPlace};
 ghost use Rattle.bson_run.specs.Place.{IsPlaced, IsPlacedIn, IsQuote, IsReasonIn, IsStop, IsWhere};
 ghost use Rattle.bson_run.specs.Place.{shown, told_as};
-ghost use Rattle.bson_run.specs.declared.fault.Fault.TheVariants.{NotExtendedJson, NotJson};
+ghost use Rattle.bson_convert.specs.declared.fault.Fault.TheVariants.{NotExtendedJson, NotJson};
 
-use crate::fault::Fault;
+use bson_convert::fault::Fault;
 use crate::quoted::quote;
 use crate::stop::Stop;
 use crate::taken::DOUBLE_KEY;

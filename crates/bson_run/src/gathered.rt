@@ -3,7 +3,7 @@ ghost use Rattle.std.specs.Prelude.{◌≡◌, ◌⊎◌, ◌++◌, ◌+◌, [],
 ghost use Rattle.std.specs.Prelude.{OnOk, OnErr, None, Ok, IsTrue, ◌↔◌, string_bytes};
 ghost use Rattle.std.specs.Prelude.{MatchOption, IfSome, ◌≢◌, slice_index};
 ghost use Rattle.bson_run.specs.Lines.{IsBlank, IsBadLineIn, IsStoppedIn, Tells, WritesIn};
-ghost use Rattle.bson_run.specs.Convert.{IsRefusedIn};
+ghost use Rattle.bson_convert.specs.Convert.{IsRefusedIn};
 ghost use Rattle.bson_run.specs.Lines.{told_at, text_of, WorksIn};
 ghost use Rattle.bson_run.specs.LinesSteps.{Ends, HasRoom, HaveSameOutcomes, IsCountedOut};
 ghost use Rattle.bson_run.specs.LinesSteps.{IsJudged, IsOpen, IsStart, IsTold, StopsLast, StopsWithin};
@@ -14,12 +14,12 @@ ghost use Rattle.bson_run.specs.declared.order.Task.{Task};
 ghost use Rattle.bson_run.specs.declared.order.Task.TheVariants.{Taken};
 ghost use Rattle.bson.specs.declared.extjson.options.Options.{Options};
 
-use crate::convert::convert_with;
+use bson_convert::convert::convert_with;
 use crate::encode::{encode_in_order, encode_with};
 use crate::explain::explain;
-use crate::fault::Fault;
+use bson_convert::fault::Fault;
 use crate::in_order::convert_in_order;
-use crate::mode::Mode;
+use bson_convert::mode::Mode;
 use crate::order::{OnRefusal, Taking, Task, Work};
 use crate::refusal::Refusal;
 use crate::taken::taken;

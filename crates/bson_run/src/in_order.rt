@@ -6,12 +6,12 @@ ghost use Rattle.bson_model.specs.Normal.{writable_in};
 ghost use Rattle.bson_model.specs.Value as model;
 ghost use Rattle.bson.specs.View.{bson_view};
 ghost use Rattle.bson.specs.TextMeaning.{IsTextOf};
-ghost use Rattle.bson_run.specs.Convert.{IsRefusedIn};
+ghost use Rattle.bson_convert.specs.Convert.{IsRefusedIn};
 ghost use Rattle.bson_run.specs.InOrder.{ConvertsInOrder, IsOutputInOrder};
 
-use crate::convert::{displayed_line, ended, line, refused};
-use crate::fault::Fault;
-use crate::mode::Mode;
+use bson_convert::convert::{displayed_line, ended, line, refused};
+use bson_convert::fault::Fault;
+use bson_convert::mode::Mode;
 use bson::Bson;
 use bson::extjson::{Form, Options, WriteError};
 use bson_filter::filter::filter_text;
@@ -20,7 +20,7 @@ use bson_tokens::unread::Unread;
 use bson_tokens::walk::first_fault_in;
 use std::alloc::Global;
 
-/// [`convert_with`](crate::convert::convert_with) where each document of the text has its keys in
+/// [`convert_with`](bson_convert::convert::convert_with) where each document of the text has its keys in
 /// the order of the text, at every depth. Of a key that stands twice the last value counts, at the
 /// place of the first. With the order forgotten it is what `convert_with` gives, and the same bytes
 /// are refused, for the same fault.

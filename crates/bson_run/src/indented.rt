@@ -7,19 +7,19 @@ ghost use Rattle.bson_model.specs.Value as model;
 ghost use Rattle.bson_order.specs.Texts.{HasMeaningInOrder};
 ghost use Rattle.bson.specs.TextMeaning.{HasTextMeaningIn, IsTextOf};
 ghost use Rattle.bson.specs.Texts.{IsTextInOrder, IsTextUnder};
-ghost use Rattle.bson_run.specs.Convert.{IsConverted, IsRefusedIn, IsWritable};
+ghost use Rattle.bson_convert.specs.Convert.{IsConverted, IsRefusedIn, IsWritable};
 ghost use Rattle.bson_run.specs.Indent.{mode_of, ConvertsIndented, ConvertsInOrderIndented, IsLaidOut};
 
-use crate::convert::{converted, refused};
-use crate::fault::Fault;
+use bson_convert::convert::{converted, refused};
+use bson_convert::fault::Fault;
 use crate::indent::indented;
-use crate::mode::Mode;
+use bson_convert::mode::Mode;
 use bson::Bson;
 use bson::extjson::convert::Converted;
 use bson::extjson::{Form, Options, WriteError};
 use std::alloc::Global;
 
-/// [`convert_with`](crate::convert::convert_with) in a form, its text over several lines, as
+/// [`convert_with`](bson_convert::convert::convert_with) in a form, its text over several lines, as
 /// [`indented`](crate::indent::indented) lays it out with `spaces` for each bracket.
 ///
 /// The same bytes are refused, for the same fault. The text and its layout are in memory together.

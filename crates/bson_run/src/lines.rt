@@ -7,12 +7,12 @@ ghost use Rattle.bson_run.specs.LinesSteps.{CannotWriteBoth, HasRoom, HasWritten
 ghost use Rattle.bson_run.specs.LinesSteps.{IsStart, Running};
 ghost use Rattle.bson_run.specs.Place.{IsWhere};
 
-use crate::convert::default_options;
-use crate::fault::Fault;
+use bson_convert::convert::default_options;
+use bson_convert::fault::Fault;
 use crate::gathered::Gathered;
 use crate::order::{OnRefusal, Task};
 use crate::refusal::Refusal;
-use crate::stream::write_whole;
+use bson_convert::stream::write_whole;
 use bson::extjson::Options;
 use std::alloc::Global;
 use std::io::{Read, Write};

@@ -3,7 +3,7 @@ ghost use Rattle.std.specs.Prelude.{◌≡◌, IfSome, None};
 ghost use Rattle.bson_run.specs.Words.{task_name};
 ghost use Rattle.bson_run.specs.declared.order.Task.{Task};
 
-use crate::mode::Mode;
+use bson_convert::mode::Mode;
 
 /// What is done with each line.
 ///

@@ -1,5 +1,5 @@
 //! Where a run over lines stopped, and why.
-use crate::fault::Fault;
+use bson_convert::fault::Fault;
 
 /// Where a run over lines stopped, and why.
 ///

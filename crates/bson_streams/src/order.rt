@@ -2,7 +2,7 @@
 use crate::failing::End;
 use bson::extjson::Form;
 use bson_codec::documents::Line;
-use bson_run::mode::Mode;
+use bson_convert::mode::Mode;
 use bson_run::order::{OnRefusal, Task};
 use std::io::ErrorKind;
 use std::str;

@@ -3,13 +3,13 @@ use crate::coded;
 use crate::failing::{Drip, Pieces};
 use crate::order::{Call, Order};
 use bson::extjson::Options;
-use bson_run::convert::convert;
-use bson_run::fault::Fault;
+use bson_convert::convert::convert;
+use bson_convert::fault::Fault;
 use bson_run::in_order::convert_in_order;
 use bson_run::lines::run_lines;
-use bson_run::mode::Mode;
+use bson_convert::mode::Mode;
 use bson_run::order::{OnRefusal, Task};
-use bson_run::run::run;
+use bson_convert::run::run;
 use std::alloc::{AllocError, Global};
 
 /// The longest output for which no memory is asked while it is written.

@@ -9,13 +9,13 @@ use Rattle.bson_place.specs.Place.{IsFirstFaultIn, IsReason}
 use Rattle.bson_place.specs.declared.place.Reason.{Reason}
 use Rattle.bson_place.specs.declared.place.Reason.TheVariants.{BadObjectId, WrongShape}
 use Rattle.bson_place.specs.declared.place.Place.{Place}
-use Rattle.bson_run.specs.Convert.{IsRefusedIn}
-use Rattle.bson_run.specs.declared.fault.Fault.{Fault}
-use Rattle.bson_run.specs.declared.fault.Fault.TheVariants.{CannotRead, NotJson, NotExtendedJson, NoBytes, OutOfMemory}
-use Rattle.bson_run.specs.declared.fault.Fault.TheVariants.{CannotWrite}
+use Rattle.bson_convert.specs.Convert.{IsRefusedIn}
+use Rattle.bson_convert.specs.declared.fault.Fault.{Fault}
+use Rattle.bson_convert.specs.declared.fault.Fault.TheVariants.{CannotRead, NotJson, NotExtendedJson, NoBytes, OutOfMemory}
+use Rattle.bson_convert.specs.declared.fault.Fault.TheVariants.{CannotWrite}
 use Rattle.bson_run.specs.Encode.{HasNoBytesFor}
-use Rattle.bson_run.specs.declared.no_bytes.NoBytes as without
-use Rattle.bson_run.specs.declared.no_bytes.NoBytes.TheVariants.{NoDocument, ZeroInKey, ZeroInRegex, TooLong}
+use Rattle.bson_convert.specs.declared.no_bytes.NoBytes as without
+use Rattle.bson_convert.specs.declared.no_bytes.NoBytes.TheVariants.{NoDocument, ZeroInKey, ZeroInRegex, TooLong}
 use Rattle.vbson.specs.Convert.{HasNoMeaningIn, IsBad, IsBadId, IsCauseIn, IsOfText, status_for, status_of}
 use Rattle.vbson.specs.Convert.{status_without}
 use Rattle.vbson.specs.Documents.{HasMeaningBy, IsUnencoded, IsUnencodedBy}

@@ -18,8 +18,8 @@ use Rattle.bson_model.specs.Means.{MeansIn}
 use Rattle.bson_model.specs.Normal.{writable_in}
 use Rattle.bson_model.specs.Sorted.{sorted}
 use Rattle.bson_model.specs.Value.{Value, Pairs, document}
-use Rattle.bson_run.specs.declared.mode.Mode.{Mode}
-use Rattle.bson_run.specs.declared.mode.Mode.TheVariants.{Canonical, Relaxed, Show}
+use Rattle.bson_convert.specs.declared.mode.Mode.{Mode}
+use Rattle.bson_convert.specs.declared.mode.Mode.TheVariants.{Canonical, Relaxed, Show}
 use Rattle.vbson.specs.Documents.{HasNoTextIn, IsOneDocument, IsUndecoded, depth}
 
 -- ---- bytes

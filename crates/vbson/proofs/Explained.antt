@@ -1,13 +1,13 @@
 -- The line that tells why a text is refused.
 use Rattle.std.proofs.Common.{◌≡◌, ◌≢◌, ◌⊎◌, inl, inr, ℕ, List, [], ◌++◌, refl}
 use Rattle.bson.specs.declared.extjson.options.Options.{Options}
-use Rattle.bson_run.specs.Convert.{ConvertsIn, IsRefusedIn, newline}
+use Rattle.bson_convert.specs.Convert.{ConvertsIn, IsRefusedIn, newline}
 use Rattle.bson_run.specs.Lines.{IsBadTextIn}
 use Rattle.bson_run.specs.Place.{IsWhere}
-use Rattle.bson_run.specs.Words.{words_of}
-use Rattle.bson_run.specs.declared.fault.Fault.{Fault}
-use Rattle.bson_run.specs.declared.fault.Fault.TheVariants.{OutOfMemory}
-use Rattle.bson_run.specs.declared.mode.Mode.{Mode}
+use Rattle.bson_convert.specs.Words.{words_of}
+use Rattle.bson_convert.specs.declared.fault.Fault.{Fault}
+use Rattle.bson_convert.specs.declared.fault.Fault.TheVariants.{OutOfMemory}
+use Rattle.bson_convert.specs.declared.mode.Mode.{Mode}
 use Rattle.vbson.specs.Explain.{Explains}
 
 -- the words, and a newline

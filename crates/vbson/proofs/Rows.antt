@@ -4,10 +4,10 @@ use Rattle.std.proofs.Common.{◌≡◌, Some, None, refl}
 use Rattle.bson.specs.Doubles.TheVariants.{Special, Finite}
 use Rattle.bson_place.specs.declared.place.Reason.{Reason}
 use Rattle.bson_place.specs.declared.place.Reason.TheVariants.{BadObjectId, WrongShape}
-use Rattle.bson_run.specs.Convert.{default_options}
-use Rattle.bson_run.specs.declared.mode.Mode.TheVariants as mode
-use Rattle.bson_run.specs.declared.fault.Fault.TheVariants as fault
-use Rattle.bson_run.specs.declared.no_bytes.NoBytes.TheVariants as without
+use Rattle.bson_convert.specs.Convert.{default_options}
+use Rattle.bson_convert.specs.declared.mode.Mode.TheVariants as mode
+use Rattle.bson_convert.specs.declared.fault.Fault.TheVariants as fault
+use Rattle.bson_convert.specs.declared.no_bytes.NoBytes.TheVariants as without
 use Rattle.vbson.specs.Convert.{mode_at, options_of, order_of, status_for, status_of}
 use Rattle.vbson.specs.Documents.{depth}
 use Rattle.vbson.specs.declared.flags.KeyOrder.TheVariants.{Ascending, AsGiven}

@@ -16,9 +16,9 @@ use Rattle.bson_model.specs.Displayed.{display_text}
 use Rattle.bson_model.specs.Normal.{writable_in}
 use Rattle.bson_model.specs.Value.{Value, Pairs, document}
 use Rattle.bson_run.specs.Encode.{FailsFor, IsBytesOf, IsNoDocument, IsUnencodedIn, IsUnencodedInOrder, MeansKept}
-use Rattle.bson_run.specs.declared.fault.Fault.{Fault}
-use Rattle.bson_run.specs.declared.mode.Mode.{Mode}
-use Rattle.bson_run.specs.declared.mode.Mode.TheVariants.{Canonical, Relaxed, Show}
+use Rattle.bson_convert.specs.declared.fault.Fault.{Fault}
+use Rattle.bson_convert.specs.declared.mode.Mode.{Mode}
+use Rattle.bson_convert.specs.declared.mode.Mode.TheVariants.{Canonical, Relaxed, Show}
 use Rattle.vbson.specs.Convert.{IsCauseIn, mode_at}
 use Rattle.vbson.specs.Text.{IsText}
 use Rattle.vbson.specs.declared.flags.KeyOrder.{KeyOrder}

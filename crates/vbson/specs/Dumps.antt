@@ -10,8 +10,8 @@ use Rattle.bson_codec.specs.declared.told.RunEnd.{RunEnd}
 use Rattle.bson_codec.specs.declared.told.RunFault.{RunFault}
 use Rattle.bson_codec.specs.declared.told.RunFault.TheVariants.{Malformed, FiniteDouble, CannotRead, CannotWrite}
 use Rattle.bson_codec.specs.declared.told.RunFault.TheVariants.{OutOfMemory}
-use Rattle.bson_run.specs.declared.mode.Mode.{Mode}
-use Rattle.bson_run.specs.declared.mode.Mode.TheVariants.{Canonical, Relaxed, Show}
+use Rattle.bson_convert.specs.declared.mode.Mode.{Mode}
+use Rattle.bson_convert.specs.declared.mode.Mode.TheVariants.{Canonical, Relaxed, Show}
 use Rattle.bson.specs.Form.TheVariants as form
 use Rattle.vbson.specs.Convert.{mode_at}
 use Rattle.vbson.specs.Documents.{depth}

@@ -3,12 +3,12 @@ use Rattle.std.specs.Prelude.{◌≡◌, ◌≢◌, ◌⊎◌, ℕ, List, [], �
 use Rattle.bson.specs.TextMeaning.{HasTextMeaningIn}
 use Rattle.bson.specs.Value.{Value}
 use Rattle.bson.specs.declared.extjson.options.Options.{Options}
-use Rattle.bson_run.specs.Convert.{IsRefusedIn}
+use Rattle.bson_convert.specs.Convert.{IsRefusedIn}
 use Rattle.bson_run.specs.Lines.{IsBadTextIn}
 use Rattle.bson_run.specs.Place.{IsWhere}
-use Rattle.bson_run.specs.Words.{words_of}
-use Rattle.bson_run.specs.declared.fault.Fault.{Fault}
-use Rattle.bson_run.specs.declared.fault.Fault.TheVariants.{OutOfMemory}
+use Rattle.bson_convert.specs.Words.{words_of}
+use Rattle.bson_convert.specs.declared.fault.Fault.{Fault}
+use Rattle.bson_convert.specs.declared.fault.Fault.TheVariants.{OutOfMemory}
 use Rattle.vbson.specs.Text.{IsText}
 use Rattle.vbson.specs.declared.text.Text.{Text}
 

@@ -4,9 +4,9 @@ ghost use Rattle.serde_json.specs.Data.{Data};
 ghost use Rattle.bson.specs.declared.extjson.options.Options.{Options};
 ghost use Rattle.bson_model.specs.Means.{Means, MeansIn};
 ghost use Rattle.bson_model.specs.Value as model;
-ghost use Rattle.bson_run.specs.Convert.{Converts, IsRefusedIn, newline};
+ghost use Rattle.bson_convert.specs.Convert.{Converts, IsRefusedIn, newline};
 ghost use Rattle.bson.specs.TextMeaning.{IsNoText, IsTextOf};
-ghost use Rattle.bson_run.specs.declared.mode.Mode.{Mode};
+ghost use Rattle.bson_convert.specs.declared.mode.Mode.{Mode};
 ghost use Rattle.vbson.specs.Convert.{HasNoMeaning, HasNoMeaningIn, IsBad, IsBadId, IsCauseIn};
 ghost use Rattle.vbson.specs.Convert.{ConvertsBy, IsConverted, IsConvertedBy, IsOfText};
 ghost use Rattle.vbson.specs.Convert.{mode_at, options_of, order_of, status_of};
@@ -17,11 +17,11 @@ use crate::status;
 use crate::text::{Text, text_of_line};
 use bson::extjson::Options;
 use bson_place::place::Reason;
-use bson_run::convert::convert_with;
-use bson_run::fault::Fault;
+use bson_convert::convert::convert_with;
+use bson_convert::fault::Fault;
 use bson_run::in_order::convert_in_order;
-use bson_run::mode::Mode;
-use bson_run::no_bytes::NoBytes;
+use bson_convert::mode::Mode;
+use bson_convert::no_bytes::NoBytes;
 use std::alloc::Global;
 
 /// Reads the text as one text of Extended JSON, and leaves the text of its value in a mode: 0 the

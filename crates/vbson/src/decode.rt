@@ -6,7 +6,7 @@ ghost use Rattle.bson_model.specs.Displayed.{display_text};
 ghost use Rattle.bson_model.specs.Normal.{writable_in};
 ghost use Rattle.bson_model.specs.Value as model;
 ghost use Rattle.bson_model.specs.Value.{Pairs};
-ghost use Rattle.bson_run.specs.Convert.{newline};
+ghost use Rattle.bson_convert.specs.Convert.{newline};
 ghost use Rattle.vbson.specs.Convert.{options_of, order_of};
 ghost use Rattle.vbson.specs.Documents.{Decodes, HasNoText, IsDecoded, IsOneDocument, IsTextOfDocument, IsUndecoded};
 ghost use Rattle.vbson.specs.Documents.{HasNoTextIn, depth};
@@ -18,7 +18,7 @@ use crate::text::{Text, as_line, text_of_line};
 use bson::extjson::{Form, Options, WriteError};
 use bson::{Bson, Document};
 use bson_codec::de::{DEPTH, Error, from_slice};
-use bson_run::mode::Mode;
+use bson_convert::mode::Mode;
 use std::alloc::Global;
 
 /// Reads the bytes as one document, and leaves its text in a mode, of those of `vbson_convert`, with

@@ -1,6 +1,6 @@
 //! Whether bytes are a document (BSON 1.1, bsonspec.org), and why not.
 ghost use Rattle.std.specs.Prelude.{◌≡◌, ◌⊎◌, ◌↔◌, ◌<◌, ◌++◌, List, ℕ, IfOk};
-ghost use Rattle.bson_run.specs.Convert.{newline};
+ghost use Rattle.bson_convert.specs.Convert.{newline};
 ghost use Rattle.vbson.specs.Documents.{ExplainsDocument, IsOneDocument, IsDocumentExplained, words_at};
 
 use crate::status;

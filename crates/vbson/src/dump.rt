@@ -2,7 +2,7 @@
 ghost use Rattle.std.specs.Prelude.{◌≡◌, ◌⊎◌, ◌↔◌, ◌<◌, ◌++◌, List, ℕ, IfSome};
 ghost use Rattle.bson_codec.specs.Documents.{Dump};
 ghost use Rattle.bson_codec.specs.declared.documents.Run.{Run};
-ghost use Rattle.bson_run.specs.Convert.{newline};
+ghost use Rattle.bson_convert.specs.Convert.{newline};
 ghost use Rattle.vbson.specs.Convert.{options_of, order_of};
 ghost use Rattle.vbson.specs.Dumps.{AreDecoded, EndsAs, GivesDocuments, line_of, run_of};
 
@@ -14,7 +14,7 @@ use bson::extjson::{Form, Options};
 use bson_codec::de::DEPTH;
 use bson_codec::documents::{Line, Run, run_documents};
 use bson_codec::told::{RunEnd, RunFault};
-use bson_run::mode::Mode;
+use bson_convert::mode::Mode;
 use std::alloc::Global;
 
 /// What a block of documents gives: the text of each, what is told of those that are refused, how

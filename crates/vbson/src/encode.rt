@@ -7,7 +7,7 @@ ghost use Rattle.bson_codec.specs.Canonical.{FitsDocument, too_long, zero_in_key
 ghost use Rattle.bson_model.specs.Means.{MeansIn};
 ghost use Rattle.bson_model.specs.Value as model;
 ghost use Rattle.bson_model.specs.Value.{Pairs};
-ghost use Rattle.bson_run.specs.Convert.{newline};
+ghost use Rattle.bson_convert.specs.Convert.{newline};
 ghost use Rattle.vbson.specs.Convert.{HasNoMeaningIn, IsBad, IsBadId, options_of, order_of};
 ghost use Rattle.vbson.specs.Documents.{Encodes, HasNoBytes, IsEncoded, IsUnencoded, IsUnencodedBy};
 ghost use Rattle.vbson.specs.Documents.{MeansNoDocument};
@@ -19,7 +19,7 @@ use crate::status;
 use crate::text::{Text, as_line, text_of_line};
 use bson::extjson::Options;
 use bson_run::encode::{encode_in_order, encode_with};
-use bson_run::fault::Fault;
+use bson_convert::fault::Fault;
 use std::alloc::Global;
 
 /// Leaves the canonical bytes of the document that a text of Extended JSON means, with the flags of

@@ -1,7 +1,7 @@
 //! Why a text is refused, and where.
 ghost use Rattle.std.specs.Prelude.{◌≡◌, ◌⊎◌, ◌↔◌, ◌<◌, ◌++◌, List, ℕ, IfOk};
-ghost use Rattle.bson_run.specs.Convert.{newline};
-ghost use Rattle.bson_run.specs.Words.{words_of};
+ghost use Rattle.bson_convert.specs.Convert.{newline};
+ghost use Rattle.bson_convert.specs.Words.{words_of};
 ghost use Rattle.vbson.specs.Convert.{options_of};
 ghost use Rattle.vbson.specs.Explain.{Explains, IsExplained};
 
@@ -9,10 +9,10 @@ use crate::flags::{has_others, options_of};
 use crate::status;
 use crate::text::{Text, text_of_line};
 use bson::extjson::Options;
-use bson_run::convert::convert_with;
+use bson_convert::convert::convert_with;
 use bson_run::explain::explain;
-use bson_run::fault::Fault;
-use bson_run::mode::Mode;
+use bson_convert::fault::Fault;
+use bson_convert::mode::Mode;
 use std::alloc::{AllocError, Global};
 
 /// Leaves the words for why a text is refused, and where: `not JSON at column 7 (RULE)`, or

@@ -1,6 +1,6 @@
 //! A block of lines, each a text of its own.
 ghost use Rattle.std.specs.Prelude.{◌≡◌, ◌⊎◌, ◌↔◌, ◌<◌, ◌++◌, List, ℕ, IfSome};
-ghost use Rattle.bson_run.specs.Convert.{newline};
+ghost use Rattle.bson_convert.specs.Convert.{newline};
 ghost use Rattle.vbson.specs.Convert.{options_of, order_of};
 ghost use Rattle.vbson.specs.Lines.{AreConverted, AreEncoded, AreGiven, GivesLines, encoding_of, task_of};
 
@@ -10,7 +10,7 @@ use crate::status;
 use crate::text::{Text, as_line, text_of_line};
 use bson::extjson::Options;
 use bson_run::lines::run_lines_with;
-use bson_run::mode::Mode;
+use bson_convert::mode::Mode;
 use bson_run::order::{OnRefusal, Task};
 use std::alloc::Global;
 

@@ -1,6 +1,6 @@
 //! A text that the caller has.
 ghost use Rattle.std.specs.Prelude.{◌≡◌, ◌<◌, ◌-◌, ◌++◌, length, take, IfOk, IfErr};
-ghost use Rattle.bson_run.specs.Convert.{newline};
+ghost use Rattle.bson_convert.specs.Convert.{newline};
 ghost use Rattle.vbson.specs.Text.{IsText};
 
 use crate::status;

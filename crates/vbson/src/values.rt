@@ -10,7 +10,7 @@ ghost use Rattle.vbson.specs.Values.{Compare, IsHashOf, RefusesOne, hash_of};
 use crate::convert::status_of;
 use crate::status;
 use bson::Bson;
-use bson_run::value::value_of;
+use bson_convert::value::value_of;
 use std::alloc::Global;
 use std::hash::{DefaultHasher, Hash, Hasher};
 

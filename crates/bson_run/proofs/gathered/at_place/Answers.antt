@@ -1,6 +1,6 @@
 use Rattle.std.proofs.Common.{◌≡◌, ◌++◌, IfOk, string_bytes, append_assoc, codes, subst}
 use Rattle.std.specs.Fmt.{decimal}
-use Rattle.bson_run.specs.Convert.{newline}
+use Rattle.bson_convert.specs.Convert.{newline}
 use Rattle.bson_run.proofs.gathered.at_place.Goals as goal
 
 pub returns : goal.returns

@@ -1,6 +1,6 @@
 use Rattle.std.proofs.Common.{subst, string_bytes}
 use Rattle.std.proofs.lemmas.Result.{IfErr-weaker}
-use Rattle.bson_run.specs.Convert.{IsRefusedIn}
+use Rattle.bson_convert.specs.Convert.{IsRefusedIn}
 use Rattle.bson_run.specs.LinesSteps.{IsJudged}
 use Rattle.bson_run.specs.Taken.{IsTakenAs, taken_of}
 use Rattle.bson_run.specs.declared.order.Task.TheVariants.{Taken}

@@ -1,5 +1,5 @@
 use Rattle.std.proofs.Common.{string_bytes, subst}
-use Rattle.bson_run.specs.Convert.{IsConverted}
+use Rattle.bson_convert.specs.Convert.{IsConverted}
 use Rattle.bson_run.specs.Indent.{IsLaidOut}
 use Rattle.bson_run.proofs.IndentedTexts.{form_converts, if_ok}
 use Rattle.bson_run.proofs.indented.convert_indented.Goals as goal

@@ -1,5 +1,5 @@
 use Rattle.std.proofs.Common.{◌≡◌, ◌++◌, ◌∙◌, ap, append_assoc, string_bytes}
-use Rattle.bson_run.specs.Convert.{newline}
+use Rattle.bson_convert.specs.Convert.{newline}
 use Rattle.vbson.specs.Documents.{words_at}
 use Rattle.vbson.proofs.documents.line_at.Goals as goal
 

@@ -4,7 +4,7 @@ use Rattle.bson_codec.specs.Bytes.{reads}
 use Rattle.bson_codec.specs.Errors.{IsFaultAlone}
 use Rattle.bson_codec.specs.Told.{words_for}
 use Rattle.bson_codec.specs.declared.de.Error.TheVariants.{Malformed}
-use Rattle.bson_run.specs.Convert.{newline}
+use Rattle.bson_convert.specs.Convert.{newline}
 use Rattle.vbson.specs.Documents.{ExplainsDocument, depth, words_at}
 use Rattle.vbson.proofs.documents.words_of.Goals as goal
 

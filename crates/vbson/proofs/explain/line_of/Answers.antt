@@ -1,9 +1,9 @@
 use Rattle.std.proofs.Common.{rules, ◌≡◌, ◌++◌, subst}
 use Rattle.std.proofs.lemmas.Result.{IfOk-weaker}
-use Rattle.bson_run.specs.Convert.{newline}
-use Rattle.bson_run.specs.Words.{words_of}
-use Rattle.bson_run.specs.declared.fault.Fault.TheVariants.{OutOfMemory}
-use Rattle.bson_run.specs.declared.mode.Mode.TheVariants.{Canonical}
+use Rattle.bson_convert.specs.Convert.{newline}
+use Rattle.bson_convert.specs.Words.{words_of}
+use Rattle.bson_convert.specs.declared.fault.Fault.TheVariants.{OutOfMemory}
+use Rattle.bson_convert.specs.declared.mode.Mode.TheVariants.{Canonical}
 use Rattle.std.specs.Prelude.{string_bytes}
 use Rattle.vbson.proofs.Explained.{IsLine, accepted, refused}
 use Rattle.vbson.proofs.explain.line_of.Goals as goal

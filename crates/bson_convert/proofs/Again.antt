@@ -1,0 +1,24 @@
+-- What is written of a value that was read comes back.
+use Rattle.std.proofs.Common.{◌≡◌, ℕ, List, ◌++◌, ap, ◌∙◌, subst}
+use Rattle.bson_wrapper.specs.declared.form.Form.{Form}
+use Rattle.bson_model.specs.Value.{Value}
+use Rattle.bson_model.specs.Normal.{normal_form}
+use Rattle.bson_model.specs.Written.{WrittenIn}
+use Rattle.bson_model.specs.Laws.{IsReadFormIn}
+use Rattle.bson_model.proofs.Offered.{means_one_in}
+use Rattle.bson.specs.declared.extjson.options.Options.{Options}
+use Rattle.bson.specs.Texts.{IsTextUnder}
+use Rattle.bson_convert.specs.Convert.{IsWrittenIn, newline}
+
+pub is_written : (o : Options) (f : Form) (v : Value) (text output : List ℕ) → IsReadFormIn o.doubles v
+    → IsTextUnder o.doubles f v text → output ≡ text ++ newline → IsWrittenIn o f v output
+is_written o f v text output p i l =
+    let t = i.tree in
+    let has = i.reads_again p.0 in
+    let a = has.means in
+    record {
+      tree = t;
+      is_tree = i.is_tree;
+      line = record { text = l ∙ ap (λ s. s ++ newline) i.compact; read_again = has.read_again };
+      again = λ w m. subst (λ x. WrittenIn o.doubles f (normal_form x) t) (means_one_in o.doubles t a.0 w a.1 m) a.3;
+    }

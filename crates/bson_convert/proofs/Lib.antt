@@ -1,0 +1,4 @@
+mod Again
+mod Converting
+pub mod Offered
+mod Rows

@@ -1,0 +1,104 @@
+-- What converting makes of bytes: the output of the one value that they mean as a text, or why they mean none.
+use Rattle.std.specs.Prelude.{◌≡◌, ◌≤◌, ℕ, List, [], ◌∷◌, ◌++◌, Some, string_bytes}
+use Rattle.serde_json.specs.Data.{Data, depth}
+use Rattle.serde_json.specs.Read.{read, max_depth}
+use Rattle.bson.specs.declared.extjson.options.Options.{Options}
+use Rattle.bson_wrapper.specs.TreeText.{tree_text}
+use Rattle.bson_wrapper.specs.declared.form.Doubles.TheVariants.{Special}
+use Rattle.bson_wrapper.specs.declared.form.Form.{Form}
+use Rattle.bson_wrapper.specs.declared.form.Form.TheVariants as form
+use Rattle.bson_model.specs.Means.{MeansIn}
+use Rattle.bson_model.specs.Displayed.{display_text}
+use Rattle.bson_model.specs.Value.{Value}
+use Rattle.bson_model.specs.Normal.{normal_form}
+use Rattle.bson_model.specs.Written.{WrittenIn}
+use Rattle.bson_model.specs.Laws.{HasMeaningIn, IsTreeOfIn, IsReadFormIn}
+use Rattle.bson_place.specs.Place.{IsFirstFaultIn}
+use Rattle.bson.specs.TextMeaning.{IsTextOf, IsNoText}
+use Rattle.bson.specs.Texts.{IsTextUnder}
+use Rattle.bson.specs.View.{bson_view}
+use Rattle.bson.specs.declared.extjson.convert.Converted.{Converted}
+use Rattle.bson.specs.declared.extjson.convert.Converted.TheVariants.{Text}
+use Rattle.bson.specs.declared.extjson.convert.Converted.TheVariants as converted
+use Rattle.bson_convert.specs.declared.mode.Mode.{Mode}
+use Rattle.bson_convert.specs.declared.mode.Mode.TheVariants.{Canonical, Relaxed, Show}
+use Rattle.bson_convert.specs.declared.fault.Fault.{Fault}
+use Rattle.bson_convert.specs.declared.fault.Fault.TheVariants.{CannotRead, NotJson, NotExtendedJson, NoBytes, OutOfMemory}
+use Rattle.bson_convert.specs.declared.fault.Fault.TheVariants.{CannotWrite}
+
+-- what is done where no options are given
+abbrev pub default_options : Options
+default_options = record { doubles = Special }
+
+-- ---- the output
+
+abbrev pub newline : List ℕ
+newline = 10 ∷ []
+
+-- the compact text of the tree and a newline; where the tree nests no deeper than a text may, its text reads as the
+-- tree
+pub record IsLineOf (o : Options) (f : Form) (tree : Data) (output : List ℕ) : Type 0 where
+  pub text : output ≡ tree_text o.doubles f tree ++ newline
+  pub read_again : depth tree ≤ max_depth → read (tree_text o.doubles f tree) ≡ Some tree
+
+-- the line of the value's one tree in a form; what that tree means has the same tree
+pub record IsWrittenIn (o : Options) (f : Form) (value : Value) (output : List ℕ) : Type 0 where
+  pub tree : Data
+  pub is_tree : IsTreeOfIn o.doubles f value tree
+  pub line : IsLineOf o f tree output
+  pub again : (w : Value) → MeansIn o.doubles tree w → WrittenIn o.doubles f (normal_form w) tree
+
+-- that line, or the text that shows the value and a newline
+abbrev pub IsOutputIn : Options → Mode → Value → List ℕ → Type 0
+IsOutputIn o Canonical value output = IsWrittenIn o form.Canonical value output
+IsOutputIn o Relaxed value output = IsWrittenIn o form.Relaxed value output
+IsOutputIn o Show value output = output ≡ display_text value ++ newline
+
+-- ---- converting
+
+-- the bytes are the text of a tree, which means the value, whose output this is
+pub record ConvertsIn (o : Options) (mode : Mode) (bytes output : List ℕ) : Type 0 where
+  pub tree : Data
+  pub value : Value
+  pub text : IsTextOf bytes tree
+  pub meaning : HasMeaningIn o.doubles tree value
+  pub is_output : IsOutputIn o mode value output
+
+-- what each fault says of the bytes
+abbrev pub IsRefusedIn : Options → Fault → List ℕ → Type 0
+IsRefusedIn o NotJson bytes = IsNoText bytes
+IsRefusedIn o (NotExtendedJson place) bytes = (tree : Data) × IsTextOf bytes tree × IsFirstFaultIn o.doubles tree place
+IsRefusedIn o (NoBytes why) bytes = ⊥
+IsRefusedIn o OutOfMemory bytes = Unit {0}
+IsRefusedIn o CannotRead bytes = ⊥
+IsRefusedIn o CannotWrite bytes = ⊥
+
+abbrev pub IsWritten : Form → Value → List ℕ → Type 0
+IsWritten = IsWrittenIn default_options
+
+abbrev pub IsOutput : Mode → Value → List ℕ → Type 0
+IsOutput = IsOutputIn default_options
+
+abbrev pub Converts : Mode → List ℕ → List ℕ → Type 0
+Converts = ConvertsIn default_options
+
+abbrev pub IsRefused : Fault → List ℕ → Type 0
+IsRefused = IsRefusedIn default_options
+
+-- ---- for private clauses
+
+-- a text of the value in the mode's form
+abbrev pub IsTextFor : Options → Mode → Value → List ℕ → Type 0
+IsTextFor o Canonical value text = IsTextUnder o.doubles form.Canonical value text
+IsTextFor o Relaxed value text = IsTextUnder o.doubles form.Relaxed value text
+IsTextFor o Show value text = ⊥
+
+-- such a text, or the value
+abbrev pub IsConverted : Options → Mode → Value → Converted → Type 0
+IsConverted o mode value (Text text) = IsTextFor o mode value (string_bytes text)
+IsConverted o mode value (converted.Value read) = bson_view read ≡ value
+
+-- a value can be written
+abbrev pub IsWritable : Options → Converted → Type 0
+IsWritable o (Text text) = Unit {0}
+IsWritable o (converted.Value read) = IsReadFormIn o.doubles (bson_view read)

@@ -1,0 +1,9 @@
+pub mod Convert
+pub mod Run
+pub mod Words
+-- what public clauses cite of the crates below, so that a caller names this crate alone
+pub use Rattle.bson.specs.TextMeaning
+pub use Rattle.bson.specs.View
+pub use Rattle.bson_model.specs.Means
+pub use Rattle.bson_model.specs.Value
+pub use Rattle.serde_json.specs.Data

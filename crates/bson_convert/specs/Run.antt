@@ -1,0 +1,77 @@
+-- What a run does to the bytes that a reader has left and to those that a writer holds, where these are known.
+use Rattle.std.specs.Prelude.{ℕ, ◌<◌, List, length, Option}
+use Rattle.std.specs.Io.{StartsWith}
+use Rattle.std.specs.Io.KnownBytes.{Keeps, Appends, Consumes, IsAtEnd}
+use Rattle.bson.specs.declared.extjson.options.Options.{Options}
+use Rattle.bson_convert.specs.Convert.{default_options, ConvertsIn, IsRefusedIn}
+use Rattle.bson_convert.specs.declared.mode.Mode.{Mode}
+use Rattle.bson_convert.specs.declared.fault.Fault.{Fault}
+use Rattle.bson_convert.specs.declared.fault.Fault.TheVariants.{CannotRead, NotJson, NotExtendedJson, NoBytes, OutOfMemory}
+use Rattle.bson_convert.specs.declared.fault.Fault.TheVariants.{CannotWrite}
+
+-- the reader gave these bytes, and has none left
+pub record ReadsAll (before after : Option (List ℕ)) (bytes : List ℕ) : Type 0 where
+  pub given : Consumes before after bytes
+  pub at_end : IsAtEnd after
+
+-- a beginning of the output was written
+pub record WritesBeginning (had holds : Option (List ℕ)) (output : List ℕ) : Type 0 where
+  pub beginning : List ℕ
+  pub starts : StartsWith output beginning
+  pub written : Appends had holds beginning
+
+-- a beginning of the output was written, and not all of it
+pub record WritesPart (had holds : Option (List ℕ)) (output : List ℕ) : Type 0 where
+  pub beginning : List ℕ
+  pub starts : StartsWith output beginning
+  pub short : length beginning < length output
+  pub written : Appends had holds beginning
+
+-- all that the reader had is converted to the output
+pub record AcceptsIn (o : Options) (mode : Mode) (before after : Option (List ℕ)) (output : List ℕ) : Type 0 where
+  pub bytes : List ℕ
+  pub all : ReadsAll before after bytes
+  pub converts : ConvertsIn o mode bytes output
+
+-- the input was accepted, and the output written
+pub record DoneIn (o : Options) (mode : Mode) (before after had holds : Option (List ℕ)) : Type 0 where
+  pub output : List ℕ
+  pub accepted : AcceptsIn o mode before after output
+  pub written : Appends had holds output
+
+-- the input was accepted, and the output not written whole
+pub record CutShortIn (o : Options) (mode : Mode) (before after had holds : Option (List ℕ)) : Type 0 where
+  pub output : List ℕ
+  pub accepted : AcceptsIn o mode before after output
+  pub written : WritesPart had holds output
+
+-- all that the reader had is refused for the fault
+pub record RefusesIn (o : Options) (fault : Fault) (before after : Option (List ℕ)) : Type 0 where
+  pub bytes : List ℕ
+  pub all : ReadsAll before after bytes
+  pub refused : IsRefusedIn o fault bytes
+
+-- what each fault says of the bytes
+abbrev pub FailsIn : Options → Fault → Mode → (before after had holds : Option (List ℕ)) → Type 0
+FailsIn o CannotRead mode before after had holds = Keeps had holds
+FailsIn o NotJson mode before after had holds = RefusesIn o NotJson before after × Keeps had holds
+FailsIn o (NotExtendedJson place) mode before after had holds =
+    RefusesIn o (NotExtendedJson place) before after × Keeps had holds
+FailsIn o (NoBytes why) mode before after had holds = ⊥
+FailsIn o OutOfMemory mode before after had holds = Keeps had holds
+FailsIn o CannotWrite mode before after had holds = CutShortIn o mode before after had holds
+
+abbrev pub Accepts : Mode → (before after : Option (List ℕ)) → List ℕ → Type 0
+Accepts = AcceptsIn default_options
+
+abbrev pub Done : Mode → (before after had holds : Option (List ℕ)) → Type 0
+Done = DoneIn default_options
+
+abbrev pub CutShort : Mode → (before after had holds : Option (List ℕ)) → Type 0
+CutShort = CutShortIn default_options
+
+abbrev pub Refuses : Fault → (before after : Option (List ℕ)) → Type 0
+Refuses = RefusesIn default_options
+
+abbrev pub Fails : Fault → Mode → (before after had holds : Option (List ℕ)) → Type 0
+Fails = FailsIn default_options

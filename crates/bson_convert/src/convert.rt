@@ -1,0 +1,195 @@
+//! One text to another: from bytes to bytes.
+ghost use Rattle.std.specs.Prelude.{◌≡◌, ◌++◌, IfOk, IfErr, ℕ, List, string_bytes};
+ghost use Rattle.serde_json.specs.Data.{Data};
+ghost use Rattle.bson_model.specs.Means.{Means, MeansIn};
+ghost use Rattle.bson_model.specs.Displayed.{display_text};
+ghost use Rattle.bson_model.specs.Value as model;
+ghost use Rattle.bson_model.specs.Laws.{IsReadFormIn};
+ghost use Rattle.bson.specs.View.{bson_view};
+ghost use Rattle.bson_convert.specs.Convert.{Converts, ConvertsIn, IsOutputIn, IsRefused, IsRefusedIn};
+ghost use Rattle.bson.specs.declared.extjson.options.Options.{Options};
+ghost use Rattle.bson_convert.specs.Convert.{default_options, IsConverted, IsWritable, newline};
+ghost use Rattle.bson.specs.TextMeaning.{IsTextOf, HasTextMeaningIn, IsTextFaultIn};
+ghost use Rattle.bson.specs.declared.extjson.text_error.TextError.{TextError};
+
+use crate::fault::Fault;
+use crate::mode::Mode;
+use bson::Bson;
+use bson::extjson::convert::Converted;
+use bson::extjson::de::TextError;
+use bson::extjson::{Form, Options, WriteError};
+use std::alloc::Global;
+
+/// The text that the mode asks for of the one value that the bytes mean, and a newline.
+///
+/// It is Ok exactly where the bytes are UTF-8 and as a whole one JSON text (nested at most 127
+/// deep), and its tree has a meaning in MongoDB Extended JSON v2; only want of memory may come in
+/// its place. `NotJson` is answered where there is no such text, and `NotExtendedJson` with the
+/// first fault of its tree where that has no meaning. `CannotRead` and `CannotWrite` are never
+/// answered.
+///
+/// ```
+/// if let Ok(line) = convert(alloc, Mode::Relaxed, br#"{"$numberLong": "5"}"#) {
+///     rt.print(str::from_utf8(&line)?)?; // 5
+/// }
+/// ```
+pub fn convert(alloc: Global, mode: Mode, bytes: &[u8]) -> Result<Vec<u8>, Fault>
+    ensures ok { IfOk result (λ output. Converts mode bytes.now output.items) }
+    ensures one { IfOk result (λ output. (other : List ℕ) → Converts mode bytes.now other → other ≡ output.items) }
+    ensures accepts { (tree : Data) (value : model.Value) → IsTextOf bytes.now tree → Means tree value
+        → IfErr result (λ fault. fault ≡ Fault.OutOfMemory) }
+    ensures fault { IfErr result (λ fault. IsRefused fault bytes.now) }
+{
+    convert_with(alloc, default_options(), mode, bytes)
+}
+
+/// What is done where no options are given: finite doubles are refused.
+pub fn default_options() -> Options
+    ensures { result ≡ default_options }
+{
+    Options::default()
+}
+
+/// [`convert`] with options: what a text means, and which values have one, is as they say.
+pub fn convert_with(
+    alloc: Global,
+    options: Options,
+    mode: Mode,
+    bytes: &[u8],
+) -> Result<Vec<u8>, Fault>
+    ensures ok { IfOk result (λ output. ConvertsIn options mode bytes.now output.items) }
+    ensures one { IfOk result (λ output. (other : List ℕ) → ConvertsIn options mode bytes.now other
+        → other ≡ output.items) }
+    ensures accepts { (tree : Data) (value : model.Value) → IsTextOf bytes.now tree
+        → MeansIn options.doubles tree value → IfErr result (λ fault. fault ≡ Fault.OutOfMemory) }
+    ensures fault { IfErr result (λ fault. IsRefusedIn options fault bytes.now) }
+{
+    let read = converted(alloc, options, mode, bytes)?;
+    output(alloc, options, mode, read)
+}
+
+/// The same of bytes that are let go once they are read, so that they take no memory beside the
+/// output of a value.
+pub(crate) fn convert_whole(
+    alloc: Global,
+    options: Options,
+    mode: Mode,
+    bytes: Vec<u8>,
+) -> Result<Vec<u8>, Fault>
+    ensures ok { IfOk result (λ output. ConvertsIn options mode bytes.items output.items) }
+    ensures fault { IfErr result (λ fault. IsRefusedIn options fault bytes.items) }
+{
+    let read = converted(alloc, options, mode, &bytes)?;
+    drop(bytes);
+    output(alloc, options, mode, read)
+}
+
+/// The text in the mode's form of the value that the bytes mean, or that value.
+pub fn converted(
+    alloc: Global,
+    options: Options,
+    mode: Mode,
+    bytes: &[u8],
+) -> Result<Converted, Fault>
+    ensures ok { IfOk result
+        (λ read. (value : model.Value) × HasTextMeaningIn options.doubles bytes.now value
+        × IsConverted options mode value read) }
+    ensures fault { IfErr result (λ fault. IsRefusedIn options fault bytes.now) }
+{
+    let read = match mode {
+        Mode::Canonical => Bson::convert_text_with(alloc, options, Form::Canonical, bytes),
+        Mode::Relaxed => Bson::convert_text_with(alloc, options, Form::Relaxed, bytes),
+        Mode::Show => return Ok(Converted::Value(meaning(alloc, options, bytes)?)),
+    };
+    match read {
+        Ok(read) => Ok(read),
+        Err(error) => Err(refused(error)),
+    }
+}
+
+/// The value that the bytes mean as a text.
+pub(crate) fn meaning(alloc: Global, options: Options, bytes: &[u8]) -> Result<Bson, Fault>
+    ensures ok { IfOk result (λ value. HasTextMeaningIn options.doubles bytes.now (bson_view value)) }
+    ensures read_form { IfOk result (λ value. IsReadFormIn options.doubles (bson_view value)) }
+    ensures fault { IfErr result (λ fault. IsRefusedIn options fault bytes.now) }
+{
+    match Bson::try_from_text_with(alloc, options, bytes) {
+        Ok(value) => Ok(value),
+        Err(error) => Err(refused(error)),
+    }
+}
+
+/// The fault of bytes that are refused so.
+pub fn refused(error: TextError) -> Fault
+    ensures cause { (options : Options) (bytes : List ℕ) → IsTextFaultIn options.doubles bytes error
+        → IsRefusedIn options result bytes }
+    ensures memory { error ≡ TextError.OutOfMemory → result ≡ Fault.OutOfMemory }
+{
+    match error {
+        TextError::NotJson => Fault::NotJson,
+        TextError::NotExtendedJson(place) => Fault::NotExtendedJson(place),
+        TextError::OutOfMemory => Fault::OutOfMemory,
+    }
+}
+
+// The text or the value's output in the mode, and a newline.
+fn output(alloc: Global, options: Options, mode: Mode, read: Converted) -> Result<Vec<u8>, Fault>
+    requires { IsWritable options read }
+    ensures ok { (value : model.Value) → IsReadFormIn options.doubles value → IsConverted options mode value read
+        → IfOk result (λ output. IsOutputIn options mode value output.items) }
+    ensures fault { IfErr result (λ fault. fault ≡ Fault.OutOfMemory) }
+{
+    match read {
+        Converted::Text(text) => line(text),
+        Converted::Value(value) => value_output(alloc, options, mode, value),
+    }
+}
+
+// The value's text in the mode, and a newline.
+fn value_output(alloc: Global, options: Options, mode: Mode, value: Bson) -> Result<Vec<u8>, Fault>
+    requires { IsReadFormIn options.doubles (bson_view value) }
+    ensures ok { IfOk result (λ output. IsOutputIn options mode (bson_view value) output.items) }
+    ensures fault { IfErr result (λ fault. fault ≡ Fault.OutOfMemory) }
+{
+    let text = match mode {
+        Mode::Canonical => value.into_text_with(alloc, options, Form::Canonical),
+        Mode::Relaxed => value.into_text_with(alloc, options, Form::Relaxed),
+        Mode::Show => return displayed_line(alloc, &value),
+    };
+    match text {
+        Ok(text) => line(text),
+        // What was read can be written.
+        Err(WriteError::FiniteDouble) => unreachable!(),
+        Err(WriteError::OutOfMemory) => Err(Fault::OutOfMemory),
+    }
+}
+
+/// The text that shows the value, and a newline.
+pub fn displayed_line(alloc: Global, value: &Bson) -> Result<Vec<u8>, Fault>
+    ensures ok { IfOk result (λ line. line.items ≡ display_text (bson_view value.now) ++ newline) }
+    ensures fault { IfErr result (λ fault. fault ≡ Fault.OutOfMemory) }
+{
+    match format!(in alloc; "{value}\n") {
+        Ok(line) => Ok(line.into_bytes()),
+        Err(_) => Err(Fault::OutOfMemory),
+    }
+}
+
+/// The text, and a newline.
+pub fn line(text: String) -> Result<Vec<u8>, Fault>
+    ensures ok { IfOk result (λ line. line.items ≡ string_bytes text ++ newline) }
+    ensures fault { IfErr result (λ fault. fault ≡ Fault.OutOfMemory) }
+{
+    ended(text.into_bytes())
+}
+
+/// The bytes, and a newline.
+pub fn ended(mut line: Vec<u8>) -> Result<Vec<u8>, Fault>
+    ensures ok { IfOk result (λ ended. ended.items ≡ line.items ++ newline) }
+    ensures fault { IfErr result (λ fault. fault ≡ Fault.OutOfMemory) }
+{
+    match line.push(b'\n') {
+        Ok(()) => Ok(line),
+        Err(_) => Err(Fault::OutOfMemory),
+    }
+}

@@ -1,0 +1,48 @@
+//! What the program is asked to write.
+ghost use Rattle.std.specs.Prelude.{◌≡◌, [], ◌∷◌, map, string_bytes, IfSome, None};
+ghost use Rattle.bson_convert.specs.Words.{name_of};
+ghost use Rattle.bson_convert.specs.declared.mode.Mode.{Mode};
+
+/// What is written of the value that was read.
+///
+/// ```
+/// let mut words = Vec::new(alloc);
+/// words.push(String::from_str(alloc, "relaxed")?)?;
+/// println!(rt; "{:?}", mode_of(&words))?; // Some(Relaxed)
+/// ```
+#[derive(Clone, Copy, PartialEq, Eq, Debug)]
+pub enum Mode {
+    /// The canonical form of MongoDB Extended JSON v2, which keeps every kind.
+    Canonical,
+    /// The relaxed form, with plain numbers, and dates as texts.
+    Relaxed,
+    /// The text of `Display`, on one line, to be read by people.
+    Show,
+}
+
+impl Mode {
+    /// The mode of this name: `canonical`, `relaxed` or `show`.
+    pub fn from_name(name: &str) -> Option<Mode>
+        ensures named { IfSome result (λ mode. name.now ≡ name_of mode) }
+        ensures other { result ≡ None → (mode : Mode) → name.now ≡ name_of mode → ⊥ }
+    {
+        match name {
+            "canonical" => Some(Mode::Canonical),
+            "relaxed" => Some(Mode::Relaxed),
+            "show" => Some(Mode::Show),
+            _ => None,
+        }
+    }
+}
+
+/// The mode that the words after the program's name ask for: its name, and no other word.
+pub fn mode_of(words: &[String]) -> Option<Mode>
+    ensures named { IfSome result (λ mode. map string_bytes words.now ≡ name_of mode ∷ []) }
+    ensures other { result ≡ None → (mode : Mode) → map string_bytes words.now ≡ name_of mode ∷ [] → ⊥ }
+{
+    let (word, rest) = words.split_first()?;
+    if !rest.is_empty() {
+        return None;
+    }
+    Mode::from_name(word.as_str())
+}

@@ -1,0 +1,49 @@
+//! All bytes of a reader, and all bytes to a writer.
+ghost use Rattle.std.specs.Prelude.{◌≡◌, ◌⊎◌, IfOk, IfErr, OnOk, OnErr};
+ghost use Rattle.std.specs.Io.KnownBytes.{Keeps, Consumes, IsAtEnd, Appends};
+ghost use Rattle.bson_convert.specs.Run.{ReadsAll, WritesBeginning, WritesPart};
+
+use crate::fault::Fault;
+use std::alloc::Global;
+use std::io::{Read, Write};
+
+/// As much as a pipe holds.
+const BUFFER: usize = 65536;
+
+/// Reads until the reader has nothing left. Any error of the reader, Interrupted too, is its fault.
+pub fn read_whole<R: Read>(alloc: Global, reader: &mut R) -> Result<Vec<u8>, Fault>
+    ensures all { IfOk result (λ v. ReadsAll (R.remaining reader.old) (R.remaining reader.new) v.items) }
+    ensures fault { IfErr result (λ e. (e ≡ Fault.CannotRead) ⊎ (e ≡ Fault.OutOfMemory)) }
+{
+    let mut bytes = Vec::new(alloc);
+    let mut buffer = [0u8; BUFFER];
+    loop {
+        let Ok(count) = reader.read(&mut buffer) else {
+            return Err(Fault::CannotRead);
+        };
+        if count == 0 {
+            return Ok(bytes);
+        }
+        let Ok(()) = bytes.extend_from_slice(&buffer[..count]) else {
+            return Err(Fault::OutOfMemory);
+        };
+    }
+}
+
+/// Writes all bytes. Any error of the writer, Interrupted too, is its fault, and so is a write that
+/// takes no byte.
+pub fn write_whole<W: Write>(writer: &mut W, bytes: &[u8]) -> Result<(), Fault>
+    ensures ok { OnOk result (Appends (W.contents writer.old) (W.contents writer.new) bytes.now) }
+    ensures cut { OnErr result (WritesBeginning (W.contents writer.old) (W.contents writer.new) bytes.now) }
+    ensures part { OnErr result (WritesPart (W.contents writer.old) (W.contents writer.new) bytes.now) }
+    ensures fault { IfErr result (λ e. e ≡ Fault.CannotWrite) }
+{
+    let mut at = 0;
+    while at < bytes.len() {
+        match writer.write(&bytes[at..]) {
+            Ok(0) | Err(_) => return Err(Fault::CannotWrite),
+            Ok(count) => at += count,
+        }
+    }
+    Ok(())
+}
