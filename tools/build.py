@@ -168,9 +168,12 @@ class Step:
             shutil.rmtree(self.kept, ignore_errors=True)
         return is_done
 
+    def elapsed(self):
+        return (time.monotonic() - self.began) / 60
+
     def told(self):
         """A line of what the build took."""
-        seconds, work = time.monotonic() - self.began, self.used.ru_utime + self.used.ru_stime
+        seconds, work = 60 * self.elapsed(), self.used.ru_utime + self.used.ru_stime
         return (f"{self.name}: {seconds:.1f} seconds by {self.jobs} jobs, {work:.1f} processor seconds,"
                 f" {self.used.ru_maxrss / 1e6:.1f} GB, status {self.process.returncode}")
 
@@ -235,9 +238,12 @@ class Build:
     def __init__(self, steps, done, schedule, log):
         self.steps, self.done, self.schedule, self.log = steps, done, schedule, log
         self.running, self.failed = {}, None
-        self.ends, self.began = schedule.planned(done), time.monotonic()
+        self.began = time.monotonic()
         # How many minutes it takes, as far as is known, and the number that was told last.
-        self.whole, self.told = max(self.ends.values(), default=0.0), 0.0
+        self.planned = self.whole = max(schedule.planned(done).values(), default=0.0)
+        self.told = 0.0
+        # The minutes that the crates took that have ended, and those that the costs gave them.
+        self.taken, self.given = 0.0, 0.0
 
     def run(self):
         """Builds all, or stops at the first crate that is not proved."""
@@ -264,7 +270,9 @@ class Build:
         if sums_of(step.rtlib, [*step.crate.below(), step.crate])[step.name] == step.of_sources:
             step.keep()
         self.done.add(step.name)
-        self.whole = max(self.ends.values()) * self.elapsed() / self.ends[step.name]
+        self.taken += step.elapsed()
+        self.given += step.minutes(step.jobs)
+        self.whole = self.planned * self.taken / self.given
         if len(self.done) < len(self.steps) and abs(self.whole - self.told) > 0.25 * self.told:
             self.told = self.whole
             self.clear()
