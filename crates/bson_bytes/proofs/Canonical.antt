@@ -15,7 +15,7 @@ use Rattle.std.proofs.lemmas.Str.{is_utf8-from_IsUtf8, IsUtf8-from_ascii}
 use Rattle.bson_scalar.specs.declared.spec.ElementType.TheVariants as tag
 use Rattle.bson_scalar.specs.Subtype.{subtype_byte, subtype_of}
 use Rattle.bson_scalar.specs.Tags.{tag_of}
-use Rattle.bson_kind.specs.ElementType.{scalar_type}
+use Rattle.bson_wrapper.specs.ElementType.{scalar_type}
 use Rattle.bson_wrapper.specs.Scalar.{Scalar, null, undefined, min_key, max_key, boolean, double, int32, int64, text}
 use Rattle.bson_wrapper.specs.Scalar.{symbol, code, regex, timestamp, binary, object_id, date, decimal as decimal128}
 use Rattle.bson_wrapper.specs.Scalar.{db_pointer}

@@ -12,7 +12,7 @@ use Rattle.bson_scalar.specs.Tags.{tag_of}
 use Rattle.bson_wrapper.specs.Scalar.{Scalar, null, undefined, min_key, max_key, boolean, double, int32, int64, text}
 use Rattle.bson_wrapper.specs.Scalar.{symbol, code, regex, timestamp, binary, object_id, date, decimal as decimal128}
 use Rattle.bson_wrapper.specs.Scalar.{db_pointer}
-use Rattle.bson_kind.specs.ElementType.{scalar_type}
+use Rattle.bson_wrapper.specs.ElementType.{scalar_type}
 use Rattle.bson_model.specs.Normal.{map_scalars_of_pairs}
 use Rattle.bson_model.specs.Value.{Value, Values, no_values, value, Pairs, no_pairs, pair, scalar, code_scope, array}
 use Rattle.bson_model.specs.Value.{document}

@@ -31,7 +31,7 @@ pub use Rattle.bson_model.proofs.PutMembers.{put_members_swap}
 pub use Rattle.bson_model.proofs.PutSwap.{equal_keys, flipped}
 pub use Rattle.bson_model.proofs.ReadLaws.{IsRead}
 pub use Rattle.bson_model.proofs.ReadTrees.{number_fits, read_tree}
-pub use Rattle.bson_model.proofs.SameSorted.{at_each, from_each, option_same, same_document, same_feeds, scalar_decides}
+pub use Rattle.bson_model.proofs.SameSorted.{at_each, from_each, option_same, same_document, same_feeds}
 pub use Rattle.bson_model.proofs.TextLaws.{number_back}
 pub use Rattle.bson_model.proofs.TreeLaws.{ascends_put, trees_put}
 use Rattle.bson_model.proofs.ComesBack as whole

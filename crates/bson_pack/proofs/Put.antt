@@ -3,7 +3,7 @@ use Rattle.std.proofs.Common.{◌≡◌, ℕ, ◌+◌, ◌++◌, List, length, t
 use Rattle.std.specs.Prelude.{decimal}
 use Rattle.bson_scalar.specs.declared.spec.ElementType.{ElementType}
 use Rattle.bson_wrapper.specs.Scalar.{Scalar}
-use Rattle.bson_kind.specs.ElementType.{scalar_type}
+use Rattle.bson_wrapper.specs.ElementType.{scalar_type}
 use Rattle.bson_model.specs.Value.{Value, Values, no_values, value, Pairs, no_pairs, pair, scalar, array, document}
 use Rattle.bson_bytes.specs.Putting.{Put, then, is_free, put_scalar, put_name, put_value, put_items, put_pairs}
 use Rattle.bson_bytes.specs.Putting.{put_room, put_end, put_document, Puts}

@@ -4,7 +4,7 @@ ghost use Rattle.serde_json.specs.Read.{number_of};
 ghost use Rattle.serde_json.specs.View.{view};
 ghost use Rattle.bson_wrapper.specs.Scalar as kind;
 ghost use Rattle.bson_wrapper.specs.View.{scalar_view};
-ghost use Rattle.bson_kind.specs.ElementType.{scalar_type};
+ghost use Rattle.bson_wrapper.specs.ElementType.{scalar_type};
 ghost use Rattle.bson_model.specs.Value.{scalar};
 ghost use Rattle.bson_bytes.specs.Putting.{put_scalar, Puts};
 ghost use Rattle.bson_bytes.specs.Writing.{TypedScalar};

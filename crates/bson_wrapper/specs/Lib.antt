@@ -1,4 +1,7 @@
 pub mod Scalar
+pub mod Same
+pub mod SameLaws
+pub mod Feed
 pub mod Faults
 pub mod Table
 pub mod Shapes
@@ -20,6 +23,7 @@ pub mod TreeText
 pub mod Written
 pub mod Tokens
 pub mod View
+pub mod ElementType
 pub mod Displayed
 pub mod Laws
 -- what public clauses cite of the crates below, so that a caller names this crate alone

@@ -3,7 +3,8 @@
 //! strings of JSON are read in the layer above, and so are lists, documents and code with a scope,
 //! which hold values.
 //!
-//! In reading order: `scalar` (a scalar value), `form` (the two forms), `wrapper` (the table of
+//! In reading order: `scalar` (a scalar value) and `scalar_ref` (the same by reference, with
+//! equality, words for a hasher, texts and a copy), `form` (the two forms), `wrapper` (the table of
 //! wrapper keys), `error` and `write_error`; `shapes` (a text, an object of one key or two), `sink`
 //! (where a tree is written to: into memory, or onto a text) and `wrapped` (the shapes, written); a
 //! module for the wrappers of each subject, `ints`, `doubles`, `decimals`, `texts`, `regexes`,
@@ -25,6 +26,7 @@ pub mod lone;
 pub mod read;
 pub mod regexes;
 pub mod scalar;
+pub mod scalar_ref;
 pub mod shapes;
 pub mod sink;
 pub mod texts;

@@ -3,9 +3,9 @@ ghost use Rattle.std.specs.Prelude.{◌≡◌, ◌++◌, IfOk, codes};
 ghost use Rattle.std.specs.Fmt.{WritesOnOk};
 ghost use Rattle.bson_scalar.specs.declared.spec.ElementType.{ElementType};
 ghost use Rattle.bson_wrapper.specs.Displayed.{sixteen_digits};
-ghost use Rattle.bson_wrapper.specs.View.{scalar_view};
-ghost use Rattle.bson_kind.specs.View.{scalar_of};
+ghost use Rattle.bson_wrapper.specs.View.{scalar_of, scalar_view};
 
+use crate::scalar::Scalar;
 use bson_datetime::DateTime;
 use bson_decimal::Decimal128;
 use bson_scalar::binary::Binary;
@@ -14,7 +14,6 @@ use bson_scalar::oid::ObjectId;
 use bson_scalar::regex::Regex;
 use bson_scalar::spec::ElementType;
 use bson_scalar::timestamp::Timestamp;
-use bson_wrapper::scalar::Scalar;
 use std::alloc::{AllocError, Global};
 use std::fmt;
 use std::hash::{Hash, Hasher};
@@ -54,7 +53,7 @@ pub trait Element {
 }
 
 impl<'a> Element for ScalarRef<'a> {
-    ghost use Rattle.bson_kind.specs.ElementType.{scalar_type};
+    ghost use Rattle.bson_wrapper.specs.ElementType.{scalar_type};
 
     ghost stored_as = { λ x. scalar_type (scalar_of x) };
 
@@ -84,8 +83,8 @@ impl<'a> Element for ScalarRef<'a> {
 
 impl<'a> PartialEq for ScalarRef<'a> {
     ghost use Rattle.std.specs.Cmp.{decided, on_per, partial_equiv_from_equiv};
-    ghost use Rattle.bson_model.specs.Same.{scalar_eq};
-    ghost use Rattle.bson_model.proofs.SameSorted.{scalar_decides};
+    ghost use Rattle.bson_wrapper.specs.Same.{scalar_eq};
+    ghost use Rattle.bson_wrapper.specs.SameLaws.{scalar_decides};
 
     ghost eq = { λ a b. scalar_eq (scalar_of a) (scalar_of b) };
 
@@ -126,20 +125,20 @@ impl<'a> PartialEq for ScalarRef<'a> {
 
 impl<'a> Eq for ScalarRef<'a> {
     ghost use Rattle.std.specs.Cmp.{decided, on_equiv};
-    ghost use Rattle.bson_model.specs.Same.{scalar_eq};
-    ghost use Rattle.bson_model.proofs.SameSorted.{scalar_decides};
+    ghost use Rattle.bson_wrapper.specs.Same.{scalar_eq};
+    ghost use Rattle.bson_wrapper.specs.SameLaws.{scalar_decides};
 
     ghost laws = { on_equiv scalar_of (decided scalar_eq scalar_decides) };
 }
 
 impl<'a> Hash for ScalarRef<'a> {
-    ghost use Rattle.std.specs.Hash.{on_Alike};
-    ghost use Rattle.bson_model.specs.Feed.{scalar_words};
-    ghost use Rattle.bson_kind.specs.Words.{same_words};
+    ghost use Rattle.std.specs.Hash.{on_Alike, same_Alike};
+    ghost use Rattle.bson_wrapper.specs.Feed.{scalar_words};
+    ghost use Rattle.bson_wrapper.specs.SameLaws.{scalar_decides};
 
     ghost hash_input = { λ x. scalar_words (scalar_of x) };
 
-    ghost respects_eq = { (on_Alike scalar_of same_words).fed };
+    ghost respects_eq = { (on_Alike scalar_of (same_Alike scalar_words scalar_decides)).fed };
 
     fn hash<H: Hasher>(&self, state: &mut H) {
         match *self {
