@@ -1,8 +1,7 @@
 -- What ends a list or a map of tokens well from where it was printed to ends it well from its start.
-use Rattle.std.proofs.Common.{◌≡◌, ℕ, None, cond, suc, ◌+◌, ◌-◌, ◌<◌, ◌≤◌, inl, inr, List, [], ◌∷◌, ◌++◌, Result, Ok}
-use Rattle.std.proofs.Common.{Err, Some, false, slice_get, refl, sym, ap, ◌∙◌, subst, arith}
+use Rattle.std.proofs.Common.{◌≡◌, ℕ, None, cond, ◌+◌, List, [], ◌∷◌, ◌++◌, Result, Ok}
+use Rattle.std.proofs.Common.{Err, Some, false, refl, sym, ap, ◌∙◌, subst}
 use Rattle.std.proofs.lemmas.Bool.{or_from}
-use Rattle.std.proofs.Math.Nat.{eq-or-lt_of_le}
 use Rattle.std.specs.Ordering.{is_eq}
 use Rattle.std.specs.declared.cmp.Ordering.TheVariants.{Less, Equal, Greater}
 use Rattle.std.specs.FinMap.Entries.{find, by_order, put as put_entry}
@@ -25,8 +24,8 @@ use Rattle.bson_model.specs.Normal.{InRange, PairsInRange}
 use Rattle.bson_model.specs.Writing.{with_scope}
 use Rattle.bson_order.specs.Distinct.{has_pair, AllDistinct, PairsDistinct}
 use Rattle.bson_store.proofs.Offered.{find-in_order, lacks}
-use Rattle.bson.specs.KeyOrders.{writes_by, writes_items_by, writes_pairs_by, EachValue}
-use Rattle.bson.specs.Texts.{tokens_of, code_tokens, writes_in_turn, KeysAscend}
+use Rattle.bson.specs.KeyOrders.{ordered, writes_by, writes_items_by, writes_pairs_by, EachValue}
+use Rattle.bson.specs.Texts.{tokens_of, code_tokens, writes_in_turn}
 use Rattle.bson.specs.View.{bson_view, pairs_view}
 use Rattle.bson.specs.declared.bson.Bson.{Bson}
 use Rattle.bson.specs.declared.extjson.key_order.KeyOrder.{KeyOrder}
@@ -124,7 +123,7 @@ pub distinct_more : (left rest : List Entry) (k : List ℕ) (v : Bson) → left 
 distinct_more left rest k v here r h =
     subst (λ (xs : List Entry). EachValue AllDistinct (pairs_view xs)) (sym here) (r, h)
 
--- ---- documents whose keys ascend
+-- ---- documents by ascending key
 
 -- a key that is less than the first one is put first
 pub put_first : (k l : List ℕ) (d : Data) → key_cmp k l ≡ Less → (a : Result Data Refusal) (b : Result Members Refusal)
@@ -145,20 +144,6 @@ put_later k l h (Err finite) (Ok d) r = refl
 put_later k l h (Err finite) (Err finite) r = refl
 
 module _ (D : Doubles) (f : Form) where
-  -- the map of a document whose keys ascend has its members in the document's order
-  pub in_turn_is : (xs : List Entry) → KeysAscend (keys xs)
-      → writes_in_turn (writes_by Ascending D f) (pairs_view xs) ≡ writes_pairs_by Ascending D f (pairs_view xs)
-  in_turn_is [] h = refl
-  in_turn_is (x ∷ []) h = refl
-  in_turn_is (x ∷ y ∷ ys) h =
-      let rest = in_turn_is (y ∷ ys) (λ i. h (suc i)) in
-      let w : Value → Result Data Refusal = writes_by Ascending D f in
-      bind_same (w (bson_view x.1)) _ _ (λ d.
-      put_first x.0 y.0 d (h 0 x.0 y.0 refl refl) (w (bson_view y.1)) (writes_in_turn w (pairs_view ys))
-      ∙ ap (λ r. r >>= λ ms. Ok (put x.0 d ms)) rest)
-
-  -- ---- documents by ascending key
-
   written_put : (k : List ℕ) (v : Bson) (es : List Entry) → find key_cmp k es ≡ None
       → writes_in_turn (writes_by Ascending D f) (pairs_view (put_entry key_cmp k v es))
       ≡ (writes_by Ascending D f (bson_view v)
@@ -178,7 +163,7 @@ module _ (D : Doubles) (f : Form) where
       ] refl h
 
   -- the map of a document has its members by ascending key
-  pub by_key_is : (ps : List Entry) → HasDistinctKeys ps
+  by_key_is : (ps : List Entry) → HasDistinctKeys ps
       → writes_in_turn (writes_by Ascending D f) (pairs_view (in_order ps))
       ≡ writes_pairs_by Ascending D f (pairs_view ps)
   unfolding IsDistinct
@@ -202,7 +187,7 @@ module _ (P : Value → Type 0) where
       ] h r
 
   -- what holds of each value by ascending key holds of each
-  pub each_by_key : (ps : List Entry) → HasDistinctKeys ps → EachValue P (pairs_view (in_order ps))
+  each_by_key : (ps : List Entry) → HasDistinctKeys ps → EachValue P (pairs_view (in_order ps))
       → EachValue P (pairs_view ps)
   unfolding IsDistinct
   each_by_key [] d r = tt
@@ -218,30 +203,43 @@ ranged_each : (ps : Pairs) → EachValue InRange ps → PairsInRange ps
 ranged_each no_pairs r = tt
 ranged_each (pair k v ps) r = (r.0, ranged_each ps r.1)
 
-pub ranged_by_key : (ps : List Entry) → HasDistinctKeys ps → PairsInRange (pairs_view (in_order ps))
+each_in : (P : Value → Type 0) (o : KeyOrder) (ps : List Entry) → HasDistinctKeys ps
+    → EachValue P (pairs_view (ordered o ps)) → EachValue P (pairs_view ps)
+each_in P Ascending ps d r = each_by_key P ps d r
+each_in P AsGiven ps d r = r
+
+pub ranged_in : (o : KeyOrder) (ps : List Entry) → HasDistinctKeys ps → PairsInRange (pairs_view (ordered o ps))
     → PairsInRange (pairs_view ps)
-ranged_by_key ps d r =
-    ranged_each (pairs_view ps) (each_by_key InRange ps d (each_ranged (pairs_view (in_order ps)) r))
+ranged_in o ps d r = ranged_each (pairs_view ps) (each_in InRange o ps d (each_ranged (pairs_view (ordered o ps)) r))
 
 none_has : (k : List ℕ) (ps : List Entry) → AllByRecursion (λ y. bytes_eq k y ≡ false) (keys ps)
     → has_pair k (pairs_view ps) ≡ false
 none_has k [] h = refl
 none_has k (p ∷ ps) h = or_from (bytes_eq k p.0) (has_pair k (pairs_view ps)) h.0 (none_has k ps h.1)
 
--- a document has each key once, and so where each of its values does has the whole
-pub distinct_pairs : (ps : List Entry) → HasDistinctKeys ps → EachValue AllDistinct (pairs_view ps)
+distinct_pairs : (ps : List Entry) → HasDistinctKeys ps → EachValue AllDistinct (pairs_view ps)
     → PairsDistinct (pairs_view ps)
 unfolding IsDistinct
 distinct_pairs [] d h = tt
 distinct_pairs (p ∷ ps) d h = (none_has p.0 ps d.0, h.0, distinct_pairs ps d.1 h.1)
 
+-- a document has each key once, and so where each of its values does has the whole
+pub distinct_in : (o : KeyOrder) (ps : List Entry) → HasDistinctKeys ps → EachValue AllDistinct (pairs_view (ordered o ps))
+    → PairsDistinct (pairs_view ps)
+distinct_in o ps d h = distinct_pairs ps d (each_in AllDistinct o ps d h)
+
 -- ---- documents in their own order
 
-pub given_in_turn_is : (D : Doubles) (f : Form) (ps : Pairs)
-    → writes_in_turn (writes_by AsGiven D f) ps ≡ writes_pairs_by AsGiven D f ps
-given_in_turn_is D f no_pairs = refl
-given_in_turn_is D f (pair k v ps) =
-    bind_same (writes_by AsGiven D f v) _ _ (λ d. ap (λ r. r >>= λ ms. Ok (member k d ms)) (given_in_turn_is D f ps))
+given_is : (D : Doubles) (f : Form) (ps : Pairs) → writes_in_turn (writes_by AsGiven D f) ps ≡ writes_pairs_by AsGiven D f ps
+given_is D f no_pairs = refl
+given_is D f (pair k v ps) =
+    bind_same (writes_by AsGiven D f v) _ _ (λ d. ap (λ r. r >>= λ ms. Ok (member k d ms)) (given_is D f ps))
+
+-- the members are those of the pairs in the order
+pub ordered_is : (o : KeyOrder) (D : Doubles) (f : Form) (ps : List Entry) → HasDistinctKeys ps
+    → writes_in_turn (writes_by o D f) (pairs_view (ordered o ps)) ≡ writes_pairs_by o D f (pairs_view ps)
+ordered_is Ascending D f ps d = by_key_is D f ps d
+ordered_is AsGiven D f ps d = given_is D f (pairs_view ps)
 
 -- ---- code with a scope
 
@@ -256,27 +254,3 @@ scoped o D f s ps old mid near new m p n = (
   in_turn old (code_tokens s) mid (tokens_of (object p.0) ++ end_object ∷ []) new m
       (in_turn mid (tokens_of (object p.0)) near (end_object ∷ []) new p.2 n),
 )
-
--- ---- keys that ascend
-
--- each key before the place is less than the next
-abbrev pub AscendsTo : List (List ℕ) → ℕ → Type 0
-AscendsTo ks at =
-    (i : ℕ) (k l : List ℕ) → suc i < at → slice_get ks i ≡ Some k → slice_get ks (suc i) ≡ Some l → key_cmp k l ≡ Less
-
-next_at : (ks : List (List ℕ)) (i : ℕ) (a b k l : List ℕ) → Some a ≡ slice_get ks i → Some b ≡ slice_get ks (suc i)
-    → key_cmp a b ≡ Less → slice_get ks i ≡ Some k → slice_get ks (suc i) ≡ Some l → key_cmp k l ≡ Less
-next_at ks i a b k l p q h x y =
-    let one : a ≡ k = cc in
-    let two : b ≡ l = cc in
-    subst (λ z. key_cmp z l ≡ Less) one (subst (λ z. key_cmp a z ≡ Less) two h)
-
-pub ascends_more : (ks : List (List ℕ)) (at : ℕ) (a b : List ℕ) → 1 ≤ at → Some a ≡ slice_get ks (at - 1)
-    → Some b ≡ slice_get ks at → key_cmp a b ≡ Less → AscendsTo ks at → AscendsTo ks (at + 1)
-ascends_more ks at a b one p q h before i k l inside x y =
-    elim (eq-or-lt_of_le {n = suc i} {m = at} (omega arith)) [
-      | inl e ↦
-          let here : at - 1 ≡ i = omega (arith, e) in
-          next_at ks i a b k l (p ∙ ap (slice_get ks) here) (q ∙ ap (slice_get ks) (sym e)) h x y
-      | inr less ↦ before i k l less x y
-    ]

@@ -1,5 +1,5 @@
 -- What a walk over a document has left.
-use Rattle.std.specs.Prelude.{ℕ, List, drop}
+use Rattle.std.specs.Prelude.{ℕ, List}
 use Rattle.bson_store.specs.Pairs.{keys, values}
 use Rattle.bson.specs.declared.bson.Bson.{Bson}
 use Rattle.bson.specs.declared.document.iter.IntoIter.{IntoIter}
@@ -8,7 +8,7 @@ use Rattle.bson.specs.declared.document.iter.Keys.{Keys}
 use Rattle.bson.specs.declared.document.iter.Values.{Values}
 
 abbrev pub pairs_left : Iter → List (List ℕ × Bson)
-pairs_left it = drop it.at it.pairs.now
+pairs_left it = it.pairs
 
 abbrev pub keys_left : Keys → List (List ℕ)
 keys_left it = keys (pairs_left it.pairs)

@@ -3,6 +3,7 @@
 use Rattle.std.specs.Prelude.{ℕ, List, Result, Ok}
 use Rattle.serde_json.specs.Data.{Data, Items, no_items, item, Members, no_members, member, put}
 use Rattle.serde_json.specs.Data as tree
+use Rattle.bson_store.specs.Order.{in_order}
 use Rattle.bson_wrapper.specs.Written.{writes_scalar_in, Refusal, ◌>>=◌}
 use Rattle.bson_wrapper.specs.declared.form.Doubles.{Doubles}
 use Rattle.bson_wrapper.specs.declared.form.Form.{Form}
@@ -11,6 +12,11 @@ use Rattle.bson_model.specs.Value.{no_pairs, pair}
 use Rattle.bson_model.specs.Writing.{with_scope}
 use Rattle.bson.specs.declared.extjson.key_order.KeyOrder.{KeyOrder}
 use Rattle.bson.specs.declared.extjson.key_order.KeyOrder.TheVariants.{Ascending, AsGiven}
+
+-- the pairs in the order
+abbrev pub ordered : {X : Type 0} → KeyOrder → List (List ℕ × X) → List (List ℕ × X)
+ordered Ascending ps = in_order ps
+ordered AsGiven ps = ps
 
 -- where a member goes among those of the pairs behind it: here alone the orders differ
 abbrev pub put_by : KeyOrder → List ℕ → Data → Members → Members

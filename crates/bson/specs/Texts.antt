@@ -1,8 +1,6 @@
 -- Texts of values, which are written with no tree.
-use Rattle.std.specs.Prelude.{◌≡◌, ℕ, suc, ◌++◌, List, true, Result, Ok, Err, Some, String, string_bytes}
-use Rattle.std.specs.Prelude.{slice_get}
+use Rattle.std.specs.Prelude.{◌≡◌, ℕ, ◌++◌, List, true, Result, Ok, Err, String, string_bytes}
 use Rattle.std.specs.declared.alloc.Global.{Global}
-use Rattle.std.specs.declared.cmp.Ordering.TheVariants.{Less}
 use Rattle.json.specs.Token.{Token}
 use Rattle.serde_json.specs.Data.{Data, Members, no_members, member}
 pub use Rattle.bson_wrapper.specs.Tokens.{tokens_of, code_tokens}
@@ -13,7 +11,6 @@ use Rattle.bson_wrapper.specs.declared.form.Doubles.TheVariants.{Special, Finite
 use Rattle.bson_wrapper.specs.declared.form.Form.{Form}
 use Rattle.bson_wrapper.specs.declared.write_error.WriteError.{WriteError}
 use Rattle.bson_wrapper.specs.declared.write_error.WriteError.TheVariants.{FiniteDouble, OutOfMemory}
-use Rattle.bson_store.specs.Order.{key_cmp}
 use Rattle.bson_model.specs.Texts.{ReadsAgainIn}
 use Rattle.bson_model.specs.Value.{Value, Pairs, no_pairs, pair}
 use Rattle.bson_model.specs.Writing.{writes_in}
@@ -69,10 +66,6 @@ MayStop Finite FiniteDouble = ⊥
 abbrev pub writes_in_turn : (Value → Result Data Refusal) → Pairs → Result Members Refusal
 writes_in_turn w no_pairs = Ok no_members
 writes_in_turn w (pair k v ps) = w v >>= λ d. writes_in_turn w ps >>= λ ms. Ok (member k d ms)
-
--- each key is less than the next
-abbrev pub KeysAscend : List (List ℕ) → Type 0
-KeysAscend ks = (i : ℕ) (k l : List ℕ) → slice_get ks i ≡ Some k → slice_get ks (suc i) ≡ Some l → key_cmp k l ≡ Less
 
 -- the value was printed in the form: the tokens of its tree come after the old ones
 abbrev pub IsPrinted : Doubles → Form → Value → List Token → List Token → Type 0

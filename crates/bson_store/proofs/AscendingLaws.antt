@@ -5,17 +5,15 @@ use Rattle.std.specs.List.{AllByRecursion}
 use Rattle.std.specs.List.Sorted.{IsStrictlySortedBy}
 use Rattle.std.specs.Ordering.{is_lt}
 use Rattle.std.specs.Cmp.{tied_itself}
-use Rattle.std.specs.FinMap.{find}
 use Rattle.std.specs.declared.cmp.Ordering.TheVariants.{Less}
 use Rattle.std.proofs.lemmas.Option.{slice_get-map}
 use Rattle.bson_store.specs.Ascending.{NoneAbove, AllAbove, IsFirstAbove}
-use Rattle.bson_store.specs.Order.{key_cmp, IsLeast}
-use Rattle.bson_store.specs.Pairs.{keys, position_of, HasDistinctKeys}
+use Rattle.bson_store.specs.Order.{key_cmp}
+use Rattle.bson_store.specs.Pairs.{keys, position_of}
 use Rattle.bson_store.specs.Small.{KeysAscend}
 use Rattle.bson_store.proofs.Found.{key-place}
 use Rattle.bson_store.proofs.Least.{key_total, less_of}
-use Rattle.bson_store.proofs.NextPlace.{lacks, found}
-use Rattle.bson_store.proofs.Placed.{all-push, all-remove, place-at}
+use Rattle.bson_store.proofs.Placed.{all-push, all-remove}
 
 -- a key is not below itself
 not_below_itself : (k : List ℕ) → is_lt (key_cmp k k) ≡ false
@@ -154,38 +152,3 @@ module _ {V : Type 0} where
       (λ j f. absurd (split j (n + 1)
       (λ less. other (same-at ps j n k l up (omega (arith, less)) (key-place k ps j f) e (first.1 n l (omega arith) e)))
       (λ le. true≢false (sym (first.2 j k le (key-place k ps j f)) ∙ not_below_itself k))))
-
-  -- ---- the least key above the last one
-
-  pub least-first : (last : Option (List ℕ)) (ps : List (List ℕ × V)) (i : ℕ) → HasDistinctKeys ps → KeysAscend ps
-      → IsFirstAbove last ps i → IsLeast last ps (slice_get ps i)
-  least-first last ps i distinct up first = by_option (IsLeast last ps) (slice_get ps i)
-      (λ none q a. lacks q ps (by_option (λ r. r ≡ None) (position_of q ps) (λ e. refl)
-      (λ j e. absurd (split j i
-      (λ less. true≢false (sym a ∙ first.1 j q less (key-place q ps j e)))
-      (λ le. nothing_from ps i j none le q (key-place q ps j e))))))
-      (λ e there. (
-        first.2 i e.0 (omega arith) (key-of ps i e there),
-        value_at ps i e (found e.0 ps i (place-at ps i e distinct there)) there,
-        λ q a low. lacks q ps (by_option (λ r. r ≡ None) (position_of q ps) (λ f. refl)
-            (λ j f. absurd (split j i
-            (λ less. true≢false (sym a ∙ first.1 j q less (key-place q ps j f)))
-            (λ le. true≢false (sym (above-at q ps i j e.0 q up le (key-of ps i e there) (key-place q ps j f)
-            (ap is_lt low)) ∙ not_below_itself q))))),
-      ))
-    where
-      nothing_from : (ps : List (List ℕ × V)) (i j : ℕ) → slice_get ps i ≡ None → i ≤ j → (q : List ℕ)
-          → slice_get (keys ps) j ≡ Some q → ⊥
-      nothing_from [] i j none le q e = cc
-      nothing_from (p ∷ ps) zero j none le q e = cc
-      nothing_from (p ∷ ps) (suc i) zero none le q e = omega (arith, le)
-      nothing_from (p ∷ ps) (suc i) (suc j) none le q e = nothing_from ps i j none (omega (arith, le)) q e
-
-      value_at : (ps : List (List ℕ × V)) (i : ℕ) (e : List ℕ × V)
-          → (v : V) × (slice_get ps i ≡ Some (e.0, v)) × (find key_cmp e.0 ps ≡ Some v) → slice_get ps i ≡ Some e
-          → find key_cmp e.0 ps ≡ Some e.1
-      value_at ps i e is there = let one : is.0 ≡ e.1 = cc in is.2 ∙ ap Some one
-
-  -- the first place of all
-  pub first-of-all : (ps : List (List ℕ × V)) → IsFirstAbove None ps 0
-  first-of-all ps = (omega arith, λ j k less e. absurd (omega (arith, less)), λ j k le e. refl)

@@ -6,32 +6,23 @@ use lib.ListN.{length-map}
 use Rattle.std.specs.List.{AllAdjacentBelow, AllByRecursion, Contains, IsDistinct, filter, range_with_len}
 use Rattle.std.specs.List.Sorted.{IsPermutation, IsStrictlySortedBy}
 use Rattle.std.specs.Cmp.Lexicographic.{nat_list_eq_equiv}
-use Rattle.std.specs.FinMap.{find}
 use Rattle.std.specs.Ordering.{is_lt}
 use Rattle.std.specs.Str.{bytes_eq}
 use Rattle.std.specs.declared.cmp.Ordering.TheVariants.{Less}
 use Rattle.std.proofs.lemmas.Bool.Decides.{Decides-eqb}
 use Rattle.std.proofs.lemmas.List.Sorted.{Contains-permutation, IsPermutation-map, IsPermutation-sym}
 use Rattle.std.proofs.lemmas.Map.Keys.{IsDistinct-IsPermutation, sorted_from_all_adjacent}
-use Rattle.std.proofs.lemmas.Map.Text.{is_eq-slice_cmp}
 use Rattle.std.proofs.lemmas.Option.{slice_get-map, slice_get-get_or, slice_get_within, get_or_from_slice_get}
-use Rattle.bson_store.specs.Ascending.{IsFirstAbove}
-use Rattle.bson_store.specs.Next.{IsNext}
-use Rattle.bson_store.specs.Order.{key_cmp, IsLeast}
+use Rattle.bson_store.specs.Order.{key_cmp}
 use Rattle.bson_store.specs.Pairs.{keys, get, position_of, HasDistinctKeys}
 use Rattle.bson_store.specs.Removal.{index_before_removal, place_after_removal}
 use Rattle.bson_store.specs.Small.{stored_pairs, keyed, KeysAscend, AreSorted}
 use Rattle.bson_store.specs.declared.small.Pair.{Pair}
 use Rattle.bson_store.proofs.Adjacent.{distinct_from}
-use Rattle.bson_store.proofs.AscendingLaws.{by_option, key-of, least-first}
+use Rattle.bson_store.proofs.AscendingLaws.{by_option, key-of}
 use Rattle.bson_store.proofs.Distinct.{at-get, get-at}
 use Rattle.bson_store.proofs.Least.{key_total, less_of}
 use Rattle.bson_store.proofs.Placed.{place-at, place-removed, same_bytes, swapped}
-
--- the entry found by order is the one found by equality
-find-get : {X : Type 0} (q : List ℕ) (es : List (List ℕ × X)) → find key_cmp q es ≡ get q es
-find-get q [] = refl
-find-get q (e ∷ es) = λ i. cond (is_eq-slice_cmp q e.0 i) (Some e.1) (find-get q es i)
 
 module _ {X : Type 0} where
   holds : (es : List X) (i : ℕ) (e : X) → slice_get es i ≡ Some e → Contains es e
@@ -224,22 +215,6 @@ module _ {V : Type 0} where
 
   pub length-keyed : (is : List ℕ) (ps : List (List ℕ × V)) → length (keyed is ps) ≡ length is
   length-keyed is ps = length-map is (λ n. (key_or ps n, n))
-
-  -- the least key above the last one
-  pub next-first : (last : Option (List ℕ)) (is : List ℕ) (ps : List (List ℕ × V)) (at : ℕ) → KeysAscend (keyed is ps)
-      → IsFirstAbove last (keyed is ps) at → IsNext (λ k. get k (keyed is ps)) last (slice_get is at)
-  next-first last is ps at up first =
-      let es = keyed is ps in
-      let least = least-first last es at (distinct_from es up) up first in
-      by_option (IsNext (λ k. get k es) last) (slice_get is at)
-      (λ none q a. sym (find-get q es) ∙ subst (IsLeast last es)
-      (slice_get-map (λ n. (key_or ps n, n)) is at ∙ ap (option_map (λ n. (key_or ps n, n))) none) least q a)
-      (λ i e. let found = subst (IsLeast last es) (keyed-at is ps at i e) least in (
-        key_or ps i,
-        found.0,
-        sym (find-get (key_or ps i) es) ∙ found.1,
-        λ q a low. sym (find-get q es) ∙ found.2 q a low,
-      ))
 
   -- ---- sorting
 

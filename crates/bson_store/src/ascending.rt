@@ -1,9 +1,7 @@
 //! Pairs that have no index since their keys ascend: a key is found by halves.
-ghost use Rattle.std.specs.Prelude.{◌≡◌, ◌<◌, ◌≤◌, [], ◌∷◌, ◌++◌, Some, None, length, take};
-ghost use Rattle.std.specs.Prelude.{slice_get, option_map, option_and_then, string_bytes, IfSome};
+ghost use Rattle.std.specs.Prelude.{◌≡◌, ◌≤◌, [], ◌∷◌, ◌++◌, Some, None, length, take};
 ghost use Rattle.std.specs.Prelude.{IsTrue, false};
 ghost use Rattle.bson_store.specs.Ascending.{IsFirstAbove};
-ghost use Rattle.bson_store.specs.Order.{IsLeast};
 ghost use Rattle.bson_store.specs.Pairs.{position_of, HasDistinctKeys};
 ghost use Rattle.bson_store.specs.Small.{stored_pairs, KeysAscend, IsPlaced};
 
@@ -44,24 +42,6 @@ pub(crate) fn find_ascending<V>(pairs: &Vec<Pair<V>>, key: &str) -> Option<usize
     None
 }
 
-// The place of the least key above the last one, or of the least of all.
-pub(crate) fn next_ascending<V>(pairs: &Vec<Pair<V>>, last: Option<&String>) -> Option<usize>
-    requires distinct { HasDistinctKeys (stored_pairs pairs.now.items) }
-    requires ascending { KeysAscend (stored_pairs pairs.now.items) }
-    ensures in_bounds { IfSome result (λ i. i < length (stored_pairs pairs.now.items)) }
-    ensures least { IsLeast (option_map (λ s. string_bytes s.now) last.entry) (stored_pairs pairs.now.items)
-        (option_and_then (slice_get (stored_pairs pairs.now.items)) result) }
-{
-    let at = match last {
-        Some(key) => first_above(pairs, key.as_str()),
-        None => 0,
-    };
-    if at < pairs.len() {
-        return Some(at);
-    }
-    None
-}
-
 // Whether the key is above those of the first pairs, which ascend.
 fn is_above_first<V>(pairs: &Vec<Pair<V>>, count: usize, key: &str) -> bool
     requires within { count ≤ length (stored_pairs pairs.now.items) }
@@ -76,7 +56,7 @@ fn is_above_first<V>(pairs: &Vec<Pair<V>>, count: usize, key: &str) -> bool
 }
 
 // Whether the keys ascend.
-fn ascends<V>(pairs: &Vec<Pair<V>>) -> bool
+pub(crate) fn ascends<V>(pairs: &Vec<Pair<V>>) -> bool
     ensures { IsTrue result → KeysAscend (stored_pairs pairs.now.items) }
 {
     let mut count = 0;

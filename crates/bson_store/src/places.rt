@@ -1,20 +1,17 @@
 //! The places of the keys of a small store: how they are found, and how its index of them is made
 //! and kept.
 ghost use Rattle.std.specs.Prelude.{◌≡◌, ℕ, List, [], ◌∷◌, ◌++◌, Some, None, slice_get, remove};
-ghost use Rattle.std.specs.Prelude.{◌<◌, length, option_map, option_and_then, string_bytes, IfOk, IfSome};
-ghost use Rattle.std.specs.Prelude.{OnOk, OnErr};
+ghost use Rattle.std.specs.Prelude.{option_map, string_bytes, IfOk, OnOk, OnErr};
 ghost use Rattle.std.specs.Str.{bytes_eq};
 ghost use Rattle.std.specs.Map.{update};
 ghost use Rattle.std.specs.BTreeMap.{get_by_text};
-ghost use Rattle.bson_store.specs.Order.{IsLeast};
 ghost use Rattle.bson_store.specs.Pairs.{position_of, HasDistinctKeys};
 ghost use Rattle.bson_store.specs.Small.{stored_pairs, HasPlaces, Indexes, IsIndexed};
 ghost use Rattle.bson_store.specs.Removal.{index_before_removal};
 
 use crate::ascending::{find_ascending, needs_no_index};
-use crate::next::next_place;
 use crate::small::Pair;
-use crate::sorted::{find_sorted, leave, next_sorted};
+use crate::sorted::{find_sorted, leave};
 use std::alloc::{AllocError, Global};
 use std::collections::BTreeMap;
 
@@ -38,23 +35,6 @@ pub(crate) fn find_by<V>(index: &Index, pairs: &Vec<Pair<V>>, key: &str) -> Opti
     match index {
         Index::Sorted(places) => find_sorted(pairs, places, key),
         Index::Map(map) => map.get(key).copied(),
-    }
-}
-
-// The place of the least key above the last one, or of the least of all, by an index.
-pub(crate) fn next_by<V>(
-    index: &Index,
-    pairs: &Vec<Pair<V>>,
-    last: Option<&String>,
-) -> Option<usize>
-    requires { Indexes index.now (stored_pairs pairs.now.items) }
-    ensures in_bounds { IfSome result (λ i. i < length (stored_pairs pairs.now.items)) }
-    ensures least { IsLeast (option_map (λ s. string_bytes s.now) last.entry) (stored_pairs pairs.now.items)
-        (option_and_then (slice_get (stored_pairs pairs.now.items)) result) }
-{
-    match index {
-        Index::Sorted(places) => next_sorted(pairs, places, last),
-        Index::Map(map) => next_place(map, last),
     }
 }
 

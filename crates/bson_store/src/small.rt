@@ -1,18 +1,16 @@
 //! The store that indexes its keys only where there are many and they do not ascend.
-ghost use Rattle.std.specs.Prelude.{◌≡◌, ◌<◌, [], length, slice_get, option_map, option_and_then};
-ghost use Rattle.std.specs.Prelude.{string_bytes, refl, IfOk, IfSome};
-ghost use Rattle.bson_store.specs.Order.{IsLeast};
+ghost use Rattle.std.specs.Prelude.{◌≡◌, [], refl, IfOk};
 ghost use Rattle.bson_store.specs.Pairs.{HasDistinctKeys, with_value};
 
 mod from_ascending;
 mod from_entries;
 mod into_iter;
+mod iter;
 
-use crate::ascending::next_ascending;
-use crate::order::next_above;
 use crate::pair_store::PairStore;
-use crate::places::{FEW, Index, find_by, find_in, next_by, place_next, take_place};
+use crate::places::{FEW, Index, find_by, find_in, place_next, take_place};
 pub use into_iter::IntoIter;
+pub use iter::Iter;
 use std::alloc::{AllocError, Global};
 use std::marker::Model;
 
@@ -114,35 +112,6 @@ impl<V: Drop> SmallPairs<V> {
         let SmallPairs { pairs, places } = self;
         drop(places);
         IntoIter::new(pairs.into_iter())
-    }
-
-    /// The place of the pair with the least key above `last`, by the keys' bytes, or of the least
-    /// key of all where `last` is None. None where no key is above it.
-    ///
-    /// Called again with the key that it found, it walks all pairs by ascending key. Among n pairs,
-    /// more than sixteen, a call takes in the order of log n comparisons of keys; it takes no memory.
-    pub fn next_above(&self, last: Option<&String>) -> Option<usize>
-        ensures in_bounds { IfSome result (λ i. i < length self.now) }
-        ensures least { IsLeast (option_map (λ s. string_bytes s.now) last.entry) self.now
-            (option_and_then (slice_get self.now) result) }
-    {
-        match &self.places {
-            Some(index) => next_by(index, &self.pairs, last),
-            None if self.pairs.len() > FEW => next_ascending(&self.pairs, last),
-            None => next_by_walk(self, last),
-        }
-    }
-}
-
-// The same by a look at each pair.
-fn next_by_walk<V: Drop>(store: &SmallPairs<V>, last: Option<&String>) -> Option<usize>
-    ensures in_bounds { IfSome result (λ i. i < length store.now) }
-    ensures least { IsLeast (option_map (λ s. string_bytes s.now) last.entry) store.now
-        (option_and_then (slice_get store.now) result) }
-{
-    match last {
-        Some(key) => next_above(store, Some(key.as_str())),
-        None => next_above(store, None),
     }
 }
 

@@ -1,12 +1,10 @@
 //! The places of pairs by ascending key: how they are sorted, and a key found among them by halves.
-ghost use Rattle.std.specs.Prelude.{◌≡◌, ◌==◌, [], Some, map, not, slice_index_or, option_map};
-ghost use Rattle.std.specs.Prelude.{string_bytes, IfOk, IfSome};
+ghost use Rattle.std.specs.Prelude.{◌≡◌, ◌==◌, [], Some, map, not, slice_index_or, IfOk, IfSome};
 ghost use Rattle.std.specs.List.{filter, range_with_len};
 ghost use Rattle.std.specs.Ordering.{is_lt};
 ghost use Rattle.bson_store.specs.Ascending.{IsFirstAbove};
-ghost use Rattle.bson_store.specs.Next.{IsNext};
 ghost use Rattle.bson_store.specs.Order.{key_cmp};
-ghost use Rattle.bson_store.specs.Pairs.{keys, get, position_of, HasDistinctKeys};
+ghost use Rattle.bson_store.specs.Pairs.{keys, position_of, HasDistinctKeys};
 ghost use Rattle.bson_store.specs.Removal.{place_after_removal};
 ghost use Rattle.bson_store.specs.Small.{stored_pairs, keyed, KeysAscend, AreSorted};
 
@@ -61,26 +59,6 @@ pub(crate) fn find_sorted<V>(pairs: &Vec<Pair<V>>, places: &Vec<usize>, key: &st
     let at = places[above - 1];
     if key == key_at(pairs, at) {
         return Some(at);
-    }
-    None
-}
-
-// The place of the least key above the last one, or of the least of all.
-pub(crate) fn next_sorted<V>(
-    pairs: &Vec<Pair<V>>,
-    places: &Vec<usize>,
-    last: Option<&String>,
-) -> Option<usize>
-    requires { AreSorted places.now.items (stored_pairs pairs.now.items) }
-    ensures { IsNext (λ k. get k (keyed places.now.items (stored_pairs pairs.now.items)))
-        (option_map (λ s. string_bytes s.now) last.entry) result }
-{
-    let at = match last {
-        Some(key) => first_above(pairs, places, key.as_str()),
-        None => 0,
-    };
-    if at < places.len() {
-        return Some(places[at]);
     }
     None
 }

@@ -10,6 +10,7 @@ pub(crate) fn print(rt: &impl Print, alloc: Global) -> anyhow::Result<()> {
     small_from_entries(rt, alloc)?;
     small_pairs(rt, alloc)?;
     small_into_iter(rt, given::pairs(alloc)?)?;
+    small_iter(rt, &given::pairs(alloc)?)?;
     indexed_pairs(rt, alloc)?;
     indexed_into_iter(rt, given::indexed_pairs(alloc)?)?;
     command(rt, alloc)?;
@@ -45,6 +46,12 @@ fn small_pairs(rt: &impl Print, alloc: Global) -> anyhow::Result<()> {
 
 fn small_into_iter(rt: &impl Print, pairs: SmallPairs<u32>) -> anyhow::Result<()> {
     let mut left = pairs.into_pairs();
+    println!(rt; "{:?} {:?}", left.next(), left.next())?; // Some(("a", 1)) Some(("b", 2))
+    Ok(())
+}
+
+fn small_iter(rt: &impl Print, pairs: &SmallPairs<u32>) -> anyhow::Result<()> {
+    let mut left = pairs.by_key();
     println!(rt; "{:?} {:?}", left.next(), left.next())?; // Some(("a", 1)) Some(("b", 2))
     Ok(())
 }

@@ -53,12 +53,11 @@ fn an_index_gives_the_keys_in_ascending_order(rt: HostRuntime) -> Result<(), Fai
         }
     }
     assert_eq!(rt; store.len(), 12);
-    let mut next = store.next_above(None);
-    for place in [11usize, 10, 9, 8, 7, 6, 5, 4, 3, 2, 1, 0] {
-        assert_eq!(rt; next, Some(place));
-        assert!(rt; place < store.len());
-        next = store.next_above(Some(store.key_at(place)));
+    assert_eq!(rt; store.iter().next().map(|pair| pair.0.as_str()), Some("l"));
+    let mut left = store.by_key();
+    for key in ["a", "b", "c", "d", "e", "f", "g", "h", "i", "j", "k", "l"] {
+        assert_eq!(rt; left.next().map(|pair| pair.0.as_str()), Some(key));
     }
-    assert_eq!(rt; next, None);
+    assert!(rt; left.next().is_none());
     Ok(())
 }

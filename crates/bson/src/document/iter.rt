@@ -1,8 +1,7 @@
 //! The walks over a document. Each gives the pairs in their order, each once, and ends.
 use super::Document;
 use crate::bson::Bson;
-use bson_store::small::IntoIter as PairsIntoIter;
-use bson_store::{PairStore, SmallPairs};
+use bson_store::small::{IntoIter as PairsIntoIter, Iter as PairsIter};
 
 /// The pairs that are left, each as a key and a value; `Document::iter` makes it.
 ///
@@ -17,8 +16,7 @@ use bson_store::{PairStore, SmallPairs};
 /// ```
 #[derive(Drop)]
 pub struct Iter<'a> {
-    pairs: &'a SmallPairs<Bson>,
-    at: usize,
+    pairs: PairsIter<'a, Bson>,
 }
 
 /// The keys of the pairs that are left; `Document::keys` makes it.
@@ -72,12 +70,7 @@ impl<'a> Iterator for Iter<'a> {
     ghost remaining = { item_count pairs_left };
 
     fn next(&mut self) -> Option<(&'a String, &'a Bson)> {
-        let at = self.at;
-        if at >= self.pairs.len() {
-            return None;
-        }
-        self.at = at + 1;
-        Some((self.pairs.key_at(at), self.pairs.value_at(at)))
+        self.pairs.next()
     }
 }
 
@@ -145,8 +138,7 @@ impl Document {
         ensures { pairs_left result ≡ contents self.now }
     {
         Iter {
-            pairs: &self.pairs,
-            at: 0,
+            pairs: self.pairs.iter(),
         }
     }
 

@@ -5,20 +5,17 @@ ghost use Rattle.serde_json.specs.Data.{array, object};
 ghost use Rattle.bson_model.specs.Normal.{InRange, ItemsInRange, PairsInRange, writable_in};
 ghost use Rattle.bson_model.specs.Writing.{writes_in};
 ghost use Rattle.bson_order.specs.Distinct.{AllDistinct, ItemsDistinct, PairsDistinct};
-ghost use Rattle.bson_store.specs.Order.{in_order};
-ghost use Rattle.bson_store.specs.Pairs.{keys, HasDistinctKeys};
-ghost use Rattle.bson.specs.KeyOrders.{writes_by, writes_items_by, writes_pairs_by, EachValue};
+ghost use Rattle.bson_store.specs.Pairs.{HasDistinctKeys};
+ghost use Rattle.bson.specs.KeyOrders.{ordered, writes_by, writes_items_by, writes_pairs_by};
 ghost use Rattle.bson.specs.Texts.{Prints, GivesText, IsPrinted, MayStop};
-ghost use Rattle.bson.specs.Texts.{writes_in_turn, KeysAscend};
 ghost use Rattle.bson.specs.View.{bson_view, scoped_view, values_view, pairs_view};
-ghost use Rattle.bson.specs.declared.extjson.key_order.KeyOrder.TheVariants.{Ascending};
 
 use crate::bson::{Bson, JavaScriptCodeWithScope};
 use crate::document::Document;
 use crate::extjson::key_order::KeyOrder;
 use crate::extjson::scalars::can_be_written;
 use crate::scalar::scalar_ref;
-use bson_store::{PairStore, SmallPairs};
+use bson_store::small::Iter;
 use bson_wrapper::code::put_code;
 use bson_wrapper::form::{Doubles, Form};
 use bson_wrapper::scalar::Scalar;
@@ -169,7 +166,6 @@ fn print_scoped(
     Ok(out.end_object()?)
 }
 
-// By ascending key a document whose keys ascend is printed as it stands too.
 #[cycle(print)]
 fn print_document(
     alloc: Global,
@@ -186,85 +182,21 @@ fn print_document(
     ensures distinct { OnOk result (PairsDistinct (pairs_view document.now.pairs)) }
     ensures every { IfErr result (MayStop doubles) }
 {
-    match order {
-        KeyOrder::AsGiven => print_in_turn(alloc, doubles, KeyOrder::AsGiven, form, document, out),
-        KeyOrder::Ascending => {
-            if ascends(&document.pairs) {
-                print_in_turn(alloc, doubles, KeyOrder::Ascending, form, document, out)
-            } else {
-                print_by_key(alloc, doubles, form, document, out)
-            }
-        }
-    }
-}
-
-#[cycle(print)]
-fn print_in_turn(
-    alloc: Global,
-    doubles: Doubles,
-    order: KeyOrder,
-    form: Form,
-    document: &Document,
-    out: &mut Writer,
-) -> Result<(), WriteError>
-    ensures printed { Prints object result (writes_in_turn (writes_by order doubles form)
-        (pairs_view document.now.pairs)) out.old.tokens out.new.tokens }
-    ensures before { out.new.before ≡ out.old.before }
-    ensures ranged { OnOk result (PairsInRange (pairs_view document.now.pairs)) }
-    ensures distinct { OnOk result (PairsDistinct (pairs_view document.now.pairs)) }
-    ensures every { IfErr result (MayStop doubles) }
-{
     out.begin_object()?;
-    for i in 0..document.pairs.len() {
-        out.key(document.pairs.key_at(i).as_str())?;
-        print(alloc, doubles, order, form, document.pairs.value_at(i), out)?;
-    }
-    Ok(out.end_object()?)
-}
-
-#[cycle(print)]
-fn print_by_key(
-    alloc: Global,
-    doubles: Doubles,
-    form: Form,
-    document: &Document,
-    out: &mut Writer,
-) -> Result<(), WriteError>
-    ensures printed { Prints object result (writes_in_turn (writes_by Ascending doubles form)
-        (pairs_view (in_order document.now.pairs))) out.old.tokens out.new.tokens }
-    ensures before { out.new.before ≡ out.old.before }
-    ensures ranged { OnOk result (PairsInRange (pairs_view (in_order document.now.pairs))) }
-    ensures distinct { OnOk result (EachValue AllDistinct (pairs_view (in_order document.now.pairs))) }
-    ensures every { IfErr result (MayStop doubles) }
-{
-    out.begin_object()?;
-    let mut last: Option<&String> = None;
-    while let Some(i) = document.pairs.next_above(last) {
-        let key = document.pairs.key_at(i);
+    'pairs: for (key, value) in pairs_by(order, document) {
         out.key(key.as_str())?;
-        print(
-            alloc,
-            doubles,
-            KeyOrder::Ascending,
-            form,
-            document.pairs.value_at(i),
-            out,
-        )?;
-        last = Some(key);
+        print(alloc, doubles, order, form, value, out)?;
     }
     Ok(out.end_object()?)
 }
 
-// Each key is less than the next, by bytes.
-fn ascends(pairs: &SmallPairs<Bson>) -> bool
-    ensures ascends { result ≡ true → KeysAscend (keys pairs.now) }
-    ensures distinct { HasDistinctKeys pairs.now }
+// The pairs in the order.
+fn pairs_by<'a>(order: KeyOrder, document: &'a Document) -> Iter<'a, Bson>
+    ensures pairs { result ≡ ordered order document.now.pairs }
+    ensures distinct { HasDistinctKeys document.now.pairs }
 {
-    for at in 1..pairs.len() {
-        let last = pairs.key_at(at - 1).as_str();
-        if !last.cmp(pairs.key_at(at).as_str()).is_lt() {
-            return false;
-        }
+    match order {
+        KeyOrder::Ascending => document.pairs.by_key(),
+        KeyOrder::AsGiven => document.pairs.iter(),
     }
-    true
 }

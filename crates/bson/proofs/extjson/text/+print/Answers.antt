@@ -1,42 +1,31 @@
-use Rattle.std.proofs.Common.{rules, ◌≡◌, ℕ, zero, suc, ◌+◌, ◌≤◌, List, [], ◌∷◌, ◌++◌, length, Some, Ok, option_map}
+use Rattle.std.proofs.Common.{rules, ◌≡◌, List, [], ◌∷◌, ◌++◌, Ok}
 use Rattle.std.proofs.Common.{refl, sym, ap, ◌∙◌, subst, string_bytes, arith, drop}
+use Rattle.std.proofs.lemmas.List.{drop_all}
 use Rattle.std.proofs.lemmas.Result.{err_from_is_err_and}
-use Rattle.std.specs.FinMap.Entries.{where_key}
 use Rattle.json.specs.Token.{begin_array, begin_object, key}
 use Rattle.json.specs.Tree.{items_tokens, members_tokens}
-use Rattle.serde_json.specs.Data.{object, string, no_items, no_members}
+use Rattle.serde_json.specs.Data.{string, no_items, no_members}
 use Rattle.bson_wrapper.specs.TreeText.{items_outline, members_outline}
 use Rattle.bson_wrapper.specs.View.{scalar_view}
 use Rattle.bson_wrapper.specs.Written.{Stops}
-use Rattle.bson_store.specs.Order.{in_order, key_cmp, is_above}
-use Rattle.bson_store.proofs.Offered.{drop-at, least_none, pair_of, next_pair, where_key-all}
-use Rattle.bson_wrapper.proofs.Offered.{in_turn, on_ok}
+use Rattle.bson_wrapper.proofs.Offered.{in_turn}
 use Rattle.bson_wrapper.specs.Binaries.{binary_tree}
 use Rattle.bson_wrapper.specs.Scalar.{text, binary}
 use Rattle.bson_model.specs.Value.{scalar, code_scope}
 use Rattle.bson_model.specs.Normal.{PairsInRange}
 use Rattle.bson_order.specs.Distinct.{AllDistinct}
-use Rattle.bson.specs.KeyOrders.{writes_by, writes_items_by, writes_pairs_by, EachValue}
-use Rattle.bson.specs.Texts.{Prints, code_tokens, writes_in_turn}
+use Rattle.bson.specs.KeyOrders.{writes_by, writes_items_by, EachValue}
+use Rattle.bson.specs.Texts.{code_tokens, writes_in_turn}
 use Rattle.bson.specs.View.{bson_view, scoped_view, values_view, pairs_view}
 use Rattle.bson.specs.declared.bson.Bson.{Bson}
 use Rattle.bson.specs.declared.bson.Bson as bson_form
 use Rattle.bson.specs.declared.bson.JavaScriptCodeWithScope.{the_lemmas}
-use Rattle.bson.specs.declared.extjson.key_order.KeyOrder.{KeyOrder}
-use Rattle.bson.specs.declared.extjson.key_order.KeyOrder.TheVariants.{Ascending}
 use Rattle.bson.proofs.Onto.{Entry}
-use Rattle.bson.proofs.Printed.{EndsItems, EndsMembers, in_turn_is, given_in_turn_is, by_key_is, ranged_by_key}
-use Rattle.bson.proofs.Printed.{each_by_key, distinct_pairs, ends_more, stops_here, stops_more, ranged_more}
-use Rattle.bson.proofs.Printed.{distinct_more, scoped}
-use Rattle.bson.proofs.Sizes.{value_smaller}
+use Rattle.bson.proofs.Printed.{EndsItems, EndsMembers, ordered_is, ranged_in, distinct_in, ends_more, stops_here}
+use Rattle.bson.proofs.Printed.{stops_more, ranged_more, distinct_more, scoped}
+use Rattle.bson.proofs.Sizes.{NoLarger, walk_larger, next_smaller, rest_larger}
 use Rattle.bson.proofs.Stopped.{put_stopped}
 use Rattle.bson.proofs.extjson.text.+print.Goals as goal
-
-nothing_left : {X : Type 0} (xs : List X) (i : ℕ) → length xs ≤ i → drop i xs ≡ []
-nothing_left [] zero h = refl
-nothing_left [] (suc i) h = refl
-nothing_left (x ∷ xs) zero h = absurd (omega arith)
-nothing_left (x ∷ xs) (suc i) h = nothing_left xs i (omega arith)
 
 pub print-returns-in_ok-string-in-String-clause-printed : goal.print-returns-in_ok-string-in-String-clause-printed
 print-returns-in_ok-string-in-String-clause-printed t c =
@@ -72,7 +61,7 @@ print_items-returns-clause-printed t c =
     let f = c.args.form in
     let all = c.args.values.now.items in
     let value = c.deref-item-items.ensures.value in
-    let empty : drop at.item-index c.deref-item-items.result.now ≡ [] = nothing_left _ _ c.loop-item-test.false in
+    let empty : drop at.item-index c.deref-item-items.result.now ≡ [] = drop_all at.item-index _ c.loop-item-test.false in
     let end = c.end_array.new.self.tokens in
     let done =
     at.invariant.ends end
@@ -107,80 +96,47 @@ print-returns-in_ok-scalar-in_default-clause-every t c =
 
 -- ---- documents
 
-pub print_document-returns-in-AsGiven-clause-printed : goal.print_document-returns-in-AsGiven-clause-printed
-print_document-returns-in-AsGiven-clause-printed t c =
-    let D = c.args.doubles in
-    let f = c.args.form in
-    let r = c.print_in_turn.result in
-    let old = c.args.out.now.tokens in
-    let new = c.print_in_turn.new.out.tokens in
-    let ps = pairs_view c.args.document.now.pairs in
-    subst (λ (o : KeyOrder). Prints object r (writes_pairs_by o D f ps) old new) (sym c.in-AsGiven.is)
-    (subst (λ w. Prints object r w old new) (given_in_turn_is D f ps) c.print_in_turn.ensures.printed)
+pub print_document-pairs-init : goal.print_document-pairs-init
+print_document-pairs-init t c =
+    let d = c.args.document.now in
+    let o = c.args.order in
+    let all = c.into_iter-key-iterator.ensures.into_iter_gives ∙ c.pairs_by-key-items.ensures.pairs in
+    let distinct = c.pairs_by-key-items.ensures.distinct in
+    let same = ap (λ (xs : List Entry). writes_in_turn (writes_by o c.args.doubles c.args.form) (pairs_view xs)) all
+    ∙ ordered_is o c.args.doubles c.args.form d.pairs distinct in
+    record {
+      before = refl;
+      ends = λ end h. subst (λ r. EndsMembers r c.begin_object.new.self.tokens end) same h;
+      stops = λ e h. subst (Stops e) same h;
+      ranged = λ h. ranged_in o d.pairs distinct (subst (λ (xs : List Entry). PairsInRange (pairs_view xs)) all h);
+      distinct = λ h. distinct_in o d.pairs distinct (subst (λ (xs : List Entry). EachValue AllDistinct (pairs_view xs)) all h);
+      larger = subst (λ xs. NoLarger xs d) (sym all) (walk_larger o d);
+    }
 
-pub print_document-returns-then-ascends-clause-printed :
-    goal.print_document-returns-then-ascends-clause-printed
-print_document-returns-then-ascends-clause-printed t c =
-    let D = c.args.doubles in
-    let f = c.args.form in
-    let r = c.print_in_turn-then-ascends.result in
-    let old = c.args.out.now.tokens in
-    let new = c.print_in_turn-then-ascends.new.out.tokens in
-    let ps = c.args.document.now.pairs in
-    let same = in_turn_is D f ps (c.ascends.ensures.ascends c.if-ascends.true) in
-    subst (λ (o : KeyOrder). Prints object r (writes_pairs_by o D f (pairs_view ps)) old new) (sym c.in-Ascending.is)
-    (subst (λ w. Prints object r w old new) same c.print_in_turn-then-ascends.ensures.printed)
+pub print_document-print-requires : goal.print_document-print-requires
+print_document-print-requires t c =
+    let at = c.pairs in
+    let h = next_smaller c.args.document.now at.key-iterator c.next.new.self (string_bytes c.in-Some.key.now)
+    c.in-Some.value.now c.in-Some.ensures.steps at.invariant.larger in
+    (omega (arith, h, c.decreases), tt)
 
-pub print_document-returns-else-ascends-clause-printed :
-    goal.print_document-returns-else-ascends-clause-printed
-print_document-returns-else-ascends-clause-printed t c =
-    let D = c.args.doubles in
-    let f = c.args.form in
-    let r = c.print_by_key.result in
-    let old = c.args.out.now.tokens in
-    let new = c.print_by_key.new.out.tokens in
-    let ps = c.args.document.now.pairs in
-    let same = by_key_is D f ps c.ascends.ensures.distinct in
-    subst (λ (o : KeyOrder). Prints object r (writes_pairs_by o D f (pairs_view ps)) old new) (sym c.in-Ascending.is)
-    (subst (λ w. Prints object r w old new) same c.print_by_key.ensures.printed)
-
-pub print_document-returns-else-ascends-clause-ranged :
-    goal.print_document-returns-else-ascends-clause-ranged
-print_document-returns-else-ascends-clause-ranged t c =
-    on_ok c.print_by_key.result (ranged_by_key c.args.document.now.pairs c.ascends.ensures.distinct)
-    c.print_by_key.ensures.ranged
-
-pub print_document-returns-else-ascends-clause-distinct :
-    goal.print_document-returns-else-ascends-clause-distinct
-print_document-returns-else-ascends-clause-distinct t c =
-    let ps = c.args.document.now.pairs in
-    let distinct = c.ascends.ensures.distinct in
-    on_ok c.print_by_key.result (λ h. distinct_pairs ps distinct (each_by_key AllDistinct ps distinct h))
-    c.print_by_key.ensures.distinct
-
--- ---- in the document's order
-
-pub print_in_turn-returns-in_err-print-clause-printed : goal.print_in_turn-returns-in_err-print-clause-printed
-print_in_turn-returns-in_err-print-clause-printed t c =
-    let ps = c.args.document.now.pairs in
-    let at = c.loop-i in
-    let k = string_bytes c.key_at.result.now in
-    let v = c.value_at.result.now in
-    let here = drop-at ps at.i (k, v) (pair_of ps at.i k v c.key_at.ensures c.value_at.ensures) in
+pub print_document-returns-in_err-print-clause-printed : goal.print_document-returns-in_err-print-clause-printed
+print_document-returns-in_err-print-clause-printed t c =
+    let at = c.pairs in
+    let w = writes_by c.args.order c.args.doubles c.args.form in
     let p = err_from_is_err_and c.from_residual-in_err-print.result c.from_residual-in_err-print.ensures.1 in
     rw (p.1, p.2)
-    (at.invariant.stops _ (stops_here (writes_by c.args.order c.args.doubles c.args.form) _ (drop (at.i + 1) ps) k v here
-    _ c.in_err-print.ensures.printed))
+    (at.invariant.stops _ (stops_here w at.key-iterator c.next.new.self (string_bytes c.in-Some.key.now)
+    c.in-Some.value.now c.in-Some.ensures.steps _ c.in_err-print.ensures.printed))
 
-pub print_in_turn-loop-i-preserved : goal.print_in_turn-loop-i-preserved
-print_in_turn-loop-i-preserved t c =
+pub print_document-pairs-preserved : goal.print_document-pairs-preserved
+print_document-pairs-preserved t c =
     let w = writes_by c.args.order c.args.doubles c.args.form in
-    let ps = c.args.document.now.pairs in
-    let at = c.loop-i in
-    let k = string_bytes c.key_at.result.now in
-    let v = c.value_at.result.now in
-    let rest = drop (at.i + 1) ps in
-    let here = drop-at ps at.i (k, v) (pair_of ps at.i k v c.key_at.ensures c.value_at.ensures) in
+    let at = c.pairs in
+    let k = string_bytes c.in-Some.key.now in
+    let v = c.in-Some.value.now in
+    let rest = c.next.new.self in
+    let here = c.in-Some.ensures.steps in
     let p = c.in_ok-print.ensures.printed in
     let near : c.key.new.self.tokens ≡ at.out.tokens ++ key k ∷ [] =
     subst (λ z. c.key.new.self.tokens ≡ at.out.tokens ++ key z ∷ []) c.as_str.ensures.value
@@ -193,15 +149,14 @@ print_in_turn-loop-i-preserved t c =
       stops = λ e h. at.invariant.stops e (stops_more w _ rest k v here e p.0 p.1 h);
       ranged = λ h. at.invariant.ranged (ranged_more _ rest k v here c.in_ok-print.ensures.ranged h);
       distinct = λ h. at.invariant.distinct (distinct_more _ rest k v here c.in_ok-print.ensures.distinct h);
+      larger = rest_larger c.args.document.now _ rest k v here at.invariant.larger;
     }
 
-pub print_in_turn-returns-clause-printed : goal.print_in_turn-returns-clause-printed
-print_in_turn-returns-clause-printed t c =
-    let ps = c.args.document.now.pairs in
-    let at = c.loop-i in
+pub print_document-returns-clause-printed : goal.print_document-returns-clause-printed
+print_document-returns-clause-printed t c =
+    let at = c.pairs in
     let end = c.end_object.new.self.tokens in
-    let empty : drop at.i ps ≡ [] = nothing_left ps at.i
-    (omega (arith, c.loop-i-test.false, c.len-i-end.ensures.len)) in
+    let empty : at.key-iterator ≡ [] = c.in-None.ensures.steps.0 in
     let done =
     at.invariant.ends end
     (subst (λ (xs : List Entry).
@@ -213,113 +168,12 @@ print_in_turn-returns-clause-printed t c =
           (members_tokens (members_outline done.0)) end c.in_ok-begin_object.ensures.ok done.2,
     )
 
-pub print_in_turn-returns-clause-distinct : goal.print_in_turn-returns-clause-distinct
-print_in_turn-returns-clause-distinct t c =
-    let ps = c.args.document.now.pairs in
-    let at = c.loop-i in
-    let empty : drop at.i ps ≡ [] = nothing_left ps at.i
-    (omega (arith, c.loop-i-test.false, c.len-i-end.ensures.len)) in
-    distinct_pairs ps c.len-i-end.ensures.distinct
-    (at.invariant.distinct (subst (λ (xs : List Entry). EachValue AllDistinct (pairs_view xs)) (sym empty) tt))
+pub print_document-returns-clause-ranged : goal.print_document-returns-clause-ranged
+print_document-returns-clause-ranged t c =
+    c.pairs.invariant.ranged
+    (subst (λ (xs : List Entry). PairsInRange (pairs_view xs)) (sym c.in-None.ensures.steps.0) tt)
 
--- ---- by ascending key
-
-pub print_by_key-loop-i-init : goal.print_by_key-loop-i-init
-print_by_key-loop-i-init t c =
-    let w = writes_by Ascending c.args.doubles c.args.form in
-    let all = where_key-all (in_order c.args.document.now.pairs) in
-    record {
-      before = refl;
-      ends =
-          λ end h. subst
-          (λ (xs : List Entry). EndsMembers (writes_in_turn w (pairs_view xs)) c.begin_object.new.self.tokens end)
-          all
-          h;
-      stops = λ e h. subst (λ (xs : List Entry). Stops e (writes_in_turn w (pairs_view xs))) all h;
-      ranged = λ h. subst (λ (xs : List Entry). PairsInRange (pairs_view xs)) all h;
-      distinct = λ h. subst (λ (xs : List Entry). EachValue AllDistinct (pairs_view xs)) all h;
-    }
-
-pub print_by_key-print-requires : goal.print_by_key-print-requires
-print_by_key-print-requires t c =
-    let h = value_smaller c.args.document.now c.in-Some.i c.value_at.result.now (sym c.value_at.ensures) in
-    (omega (arith, h, c.decreases), tt)
-
-pub print_by_key-loop-i-smaller : goal.print_by_key-loop-i-smaller
-print_by_key-loop-i-smaller t c =
-    let ps = c.args.document.now.pairs in
-    let k = string_bytes c.key_at-key.result.now in
-    let v = c.value_at.result.now in
-    let here = pair_of ps c.in-Some.i k v c.key_at-key.ensures c.value_at.ensures in
-    let next =
-    ap length
-    (next_pair ps (option_map (λ s. string_bytes s.now) c.loop-i.last) c.in-Some.i (k, v) here
-    c.in-Some.ensures.least) in
-    omega (arith, next)
-
-pub print_by_key-returns-in_err-print-clause-printed : goal.print_by_key-returns-in_err-print-clause-printed
-print_by_key-returns-in_err-print-clause-printed t c =
-    let ps = c.args.document.now.pairs in
-    let at = c.loop-i in
-    let k = string_bytes c.key_at-key.result.now in
-    let v = c.value_at.result.now in
-    let here = next_pair ps (option_map (λ s. string_bytes s.now) at.last) c.in-Some.i (k, v)
-    (pair_of ps c.in-Some.i k v c.key_at-key.ensures c.value_at.ensures) c.in-Some.ensures.least in
-    let p = err_from_is_err_and c.from_residual-in_err-print.result c.from_residual-in_err-print.ensures.1 in
-    rw (p.1, p.2)
-    (at.invariant.stops _
-    (stops_here (writes_by Ascending c.args.doubles c.args.form) _
-    (where_key key_cmp (is_above (Some k)) (in_order ps)) k v here _ c.in_err-print.ensures.printed))
-
-pub print_by_key-loop-i-preserved : goal.print_by_key-loop-i-preserved
-print_by_key-loop-i-preserved t c =
-    let w = writes_by Ascending c.args.doubles c.args.form in
-    let ps = c.args.document.now.pairs in
-    let at = c.loop-i in
-    let k = string_bytes c.key_at-key.result.now in
-    let v = c.value_at.result.now in
-    let rest = where_key key_cmp (is_above (Some k)) (in_order ps) in
-    let here = next_pair ps (option_map (λ s. string_bytes s.now) at.last) c.in-Some.i (k, v)
-    (pair_of ps c.in-Some.i k v c.key_at-key.ensures c.value_at.ensures) c.in-Some.ensures.least in
-    let p = c.in_ok-print.ensures.printed in
-    let near : c.key.new.self.tokens ≡ at.out.tokens ++ key k ∷ [] =
-    subst (λ z. c.key.new.self.tokens ≡ at.out.tokens ++ key z ∷ []) c.as_str.ensures.value
-    c.in_ok-key.ensures.ok in
-    record {
-      before = c.in_ok-print.ensures.before ∙ c.in_ok-key.ensures.room.0 ∙ at.invariant.before;
-      ends =
-          λ end h. at.invariant.ends end
-          (ends_more w _ rest k v here at.out.tokens c.key.new.self.tokens c.print.new.out.tokens end near p h);
-      stops = λ e h. at.invariant.stops e (stops_more w _ rest k v here e p.0 p.1 h);
-      ranged = λ h. at.invariant.ranged (ranged_more _ rest k v here c.in_ok-print.ensures.ranged h);
-      distinct = λ h. at.invariant.distinct (distinct_more _ rest k v here c.in_ok-print.ensures.distinct h);
-    }
-
-pub print_by_key-returns-clause-printed : goal.print_by_key-returns-clause-printed
-print_by_key-returns-clause-printed t c =
-    let at = c.loop-i in
-    let end = c.end_object.new.self.tokens in
-    let empty = least_none (option_map (λ s. string_bytes s.now) at.last) c.args.document.now.pairs
-    c.in_default.ensures.least in
-    let done =
-    at.invariant.ends end
-    (subst (λ (xs : List Entry).
-    EndsMembers (writes_in_turn (writes_by Ascending c.args.doubles c.args.form) (pairs_view xs)) at.out.tokens end)
-    (sym empty) (no_members, refl, c.in_ok-end_object.ensures.ok)) in (
-      done.0,
-      done.1,
-      in_turn c.args.out.now.tokens (begin_object ∷ []) c.begin_object.new.self.tokens
-          (members_tokens (members_outline done.0)) end c.in_ok-begin_object.ensures.ok done.2,
-    )
-
-pub print_by_key-returns-clause-ranged : goal.print_by_key-returns-clause-ranged
-print_by_key-returns-clause-ranged t c =
-    let empty = least_none (option_map (λ s. string_bytes s.now) c.loop-i.last) c.args.document.now.pairs
-    c.in_default.ensures.least in
-    c.loop-i.invariant.ranged (subst (λ (xs : List Entry). PairsInRange (pairs_view xs)) (sym empty) tt)
-
-pub print_by_key-returns-clause-distinct : goal.print_by_key-returns-clause-distinct
-print_by_key-returns-clause-distinct t c =
-    let empty = least_none (option_map (λ s. string_bytes s.now) c.loop-i.last) c.args.document.now.pairs
-    c.in_default.ensures.least in
-    c.loop-i.invariant.distinct (subst (λ (xs : List Entry). EachValue AllDistinct (pairs_view xs)) (sym empty) tt)
+pub print_document-returns-clause-distinct : goal.print_document-returns-clause-distinct
+print_document-returns-clause-distinct t c =
+    c.pairs.invariant.distinct
+    (subst (λ (xs : List Entry). EachValue AllDistinct (pairs_view xs)) (sym c.in-None.ensures.steps.0) tt)

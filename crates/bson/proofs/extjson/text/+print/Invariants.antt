@@ -1,16 +1,14 @@
-use Rattle.std.proofs.Common.{◌≡◌, List, drop, option_map, length, string_bytes}
-use Rattle.std.specs.FinMap.Entries.{where_key}
+use Rattle.std.proofs.Common.{◌≡◌, List, drop}
 use Rattle.json.specs.Token.{Token}
 use Rattle.bson_wrapper.specs.Written.{Stops}
 use Rattle.bson_wrapper.specs.declared.write_error.WriteError.{WriteError}
-use Rattle.bson_store.specs.Order.{key_cmp, is_above, in_order}
 use Rattle.bson_model.specs.Normal.{ItemsInRange, PairsInRange}
-use Rattle.bson_order.specs.Distinct.{AllDistinct, ItemsDistinct}
-use Rattle.bson.specs.KeyOrders.{writes_by, writes_items_by, EachValue}
+use Rattle.bson_order.specs.Distinct.{AllDistinct, ItemsDistinct, PairsDistinct}
+use Rattle.bson.specs.KeyOrders.{writes_by, writes_items_by, writes_pairs_by, EachValue}
 use Rattle.bson.specs.Texts.{writes_in_turn}
 use Rattle.bson.specs.View.{values_view, pairs_view}
-use Rattle.bson.specs.declared.extjson.key_order.KeyOrder.TheVariants.{Ascending}
 use Rattle.bson.proofs.Printed.{EndsItems, EndsMembers}
+use Rattle.bson.proofs.Sizes.{NoLarger}
 use Rattle.bson.proofs.extjson.text.+print.Given as goal
 
 abbrev pub invariant-print_items-loop-item : goal.invariant-print_items-loop-item
@@ -28,37 +26,17 @@ invariant-print_items-loop-item l =
       distinct : ItemsDistinct left → ItemsDistinct all;
     }
 
-abbrev pub invariant-print_in_turn-loop-i : goal.invariant-print_in_turn-loop-i
-invariant-print_in_turn-loop-i l =
-    let all = pairs_view l.document.pairs in
-    let left = pairs_view (drop l.i l.document.pairs) in
+abbrev pub invariant-print_document-pairs : goal.invariant-print_document-pairs
+invariant-print_document-pairs l =
+    let w = writes_by l.fn.order l.fn.doubles l.fn.form in
+    let whole = writes_pairs_by l.fn.order l.fn.doubles l.fn.form (pairs_view l.document.pairs) in
+    let left = pairs_view l.key-iterator in
     record {
       before : l.out.before ≡ l.initial.out.before;
-      ends : (end : List Token)
-          → EndsMembers (writes_in_turn (writes_by l.fn.order l.fn.doubles l.fn.form) left) l.out.tokens end
-          → EndsMembers (writes_in_turn (writes_by l.fn.order l.fn.doubles l.fn.form) all) l.initial.out.tokens end;
-      stops : (e : WriteError) → Stops e (writes_in_turn (writes_by l.fn.order l.fn.doubles l.fn.form) left)
-          → Stops e (writes_in_turn (writes_by l.fn.order l.fn.doubles l.fn.form) all);
-      ranged : PairsInRange left → PairsInRange all;
-      distinct : EachValue AllDistinct left → EachValue AllDistinct all;
+      ends : (end : List Token) → EndsMembers (writes_in_turn w left) l.out.tokens end
+          → EndsMembers whole l.initial.out.tokens end;
+      stops : (e : WriteError) → Stops e (writes_in_turn w left) → Stops e whole;
+      ranged : PairsInRange left → PairsInRange (pairs_view l.document.pairs);
+      distinct : EachValue AllDistinct left → PairsDistinct (pairs_view l.document.pairs);
+      larger : NoLarger l.key-iterator l.document;
     }
-
-abbrev pub invariant-print_by_key-loop-i : goal.invariant-print_by_key-loop-i
-invariant-print_by_key-loop-i l =
-    let all = pairs_view (in_order l.document.pairs) in
-    let left = pairs_view (where_key key_cmp (is_above (option_map (λ s. string_bytes s.now) l.last))
-    (in_order l.document.pairs)) in
-    record {
-      before : l.out.before ≡ l.initial.out.before;
-      ends : (end : List Token)
-          → EndsMembers (writes_in_turn (writes_by Ascending l.fn.doubles l.fn.form) left) l.out.tokens end
-          → EndsMembers (writes_in_turn (writes_by Ascending l.fn.doubles l.fn.form) all) l.initial.out.tokens end;
-      stops : (e : WriteError) → Stops e (writes_in_turn (writes_by Ascending l.fn.doubles l.fn.form) left)
-          → Stops e (writes_in_turn (writes_by Ascending l.fn.doubles l.fn.form) all);
-      ranged : PairsInRange left → PairsInRange all;
-      distinct : EachValue AllDistinct left → EachValue AllDistinct all;
-    }
-
-abbrev pub decreases-print_by_key-loop-i : goal.decreases-print_by_key-loop-i
-decreases-print_by_key-loop-i l =
-    length (where_key key_cmp (is_above (option_map (λ s. string_bytes s.now) l.last)) (in_order l.document.pairs))

@@ -1,0 +1,35 @@
+-- What a walk over a small store has still to come.
+use Rattle.std.specs.Prelude.{◌≡◌, ℕ, ◌<◌, ◌≤◌, List, [], ◌∷◌, drop, length, Option, Some, MatchOption, option_map, slice_get}
+use Rattle.std.specs.Prelude.{filter_map, string_bytes}
+use Rattle.std.specs.FinMap.Entries.{where_key}
+use Rattle.std.specs.Slice.Iter.{iter_rest}
+use Rattle.bson_store.specs.Order.{key_cmp, is_above, in_order}
+use Rattle.bson_store.specs.declared.small.iter.Turn.{Turn}
+use Rattle.bson_store.specs.declared.small.iter.Turn.TheVariants.{From, Sorted, Mapped, Above}
+
+module _ {V : Type 0} where
+  -- the pairs at the places
+  abbrev pub pairs_at : List ℕ → List (List ℕ × V) → List (List ℕ × V)
+  pairs_at is ps = filter_map (slice_get ps) is
+
+  -- the pairs that are still to come
+  abbrev pub left : Turn → List (List ℕ × V) → List (List ℕ × V)
+  left (From i) ps = drop i ps
+  left (Sorted it) ps = pairs_at (iter_rest it) ps
+  left (Mapped is) ps = pairs_at is ps
+  left (Above last) ps = where_key key_cmp (is_above (option_map (λ s. string_bytes s.now) last)) (in_order ps)
+
+  -- each place is that of a pair
+  abbrev pub AreWithin : List ℕ → List (List ℕ × V) → Type 0
+  AreWithin is ps = (j i : ℕ) → slice_get is j ≡ Some i → i < length ps
+
+  abbrev pub IsWithin : Turn → List (List ℕ × V) → Type 0
+  IsWithin (From i) ps = i ≤ length ps
+  IsWithin (Sorted it) ps = AreWithin (iter_rest it) ps
+  IsWithin (Mapped is) ps = AreWithin is ps
+  IsWithin (Above last) ps = Unit {0}
+
+  -- the first pair that was still to come stands at the place
+  abbrev pub TakesPlace : List (List ℕ × V) → Turn → Option ℕ → Turn → Type 0
+  TakesPlace ps old r new = MatchOption r ((left old ps ≡ []) × (left new ps ≡ []))
+      (λ i. (p : List ℕ × V) × (slice_get ps i ≡ Some p) × (left old ps ≡ p ∷ left new ps))

@@ -1,0 +1,145 @@
+//! The walks over a small store: in its own order, and by ascending key.
+ghost use Rattle.std.specs.Prelude.{◌≡◌, ◌<◌, ℕ, List, length, slice_get, option_map, option_and_then};
+ghost use Rattle.std.specs.Prelude.{string_bytes, IfSome};
+ghost use Rattle.std.specs.Iterator.{at_most};
+ghost use Rattle.std.specs.Map.Iter.{TakesFirst};
+ghost use Rattle.bson_store.specs.Order.{in_order, IsLeast};
+ghost use Rattle.bson_store.specs.Pairs.{HasDistinctKeys};
+ghost use Rattle.bson_store.specs.Small.{stored_pairs, IsIndexed};
+ghost use Rattle.bson_store.specs.Walks.{left, IsWithin, TakesPlace};
+
+use crate::ascending::ascends;
+use crate::order::next_above;
+use crate::pair_store::PairStore;
+use crate::places::{FEW, Index};
+use crate::small::{Pair, SmallPairs};
+use std::collections::btree_map::Values;
+use std::marker::Model;
+use std::slice;
+
+/// An iterator over the pairs of a store, by reference; `SmallPairs::iter` and `SmallPairs::by_key`
+/// make it.
+///
+/// Where `pairs` holds a 1 and b 2:
+///
+/// ```
+/// let mut left = pairs.by_key();
+/// println!(rt; "{:?} {:?}", left.next(), left.next())?; // Some(("a", 1)) Some(("b", 2))
+/// ```
+#[derive(Drop)]
+pub struct Iter<'a, V> {
+    pairs: &'a SmallPairs<V>,
+    turn: Turn<'a>,
+}
+
+// Which pairs are still to come.
+#[derive(Drop)]
+enum Turn<'a> {
+    // Those from the place on, as they stand.
+    From(usize),
+    // Those at the places.
+    Sorted(slice::Iter<'a, usize>),
+    Mapped(Values<'a, String, usize>),
+    // Those whose keys are above the last one, by ascending key.
+    Above(Option<&'a String>),
+}
+
+// The pairs that are still to come.
+impl<'a, V> Model for Iter<'a, V> {
+    ghost Value = { List (List ℕ × V) };
+
+    ghost view = { λ a. left a.turn a.pairs.now };
+
+    ghost invariant = { λ a. IsWithin a.turn a.pairs.now };
+}
+
+impl<V: Drop> SmallPairs<V> {
+    /// The pairs in their order.
+    pub fn iter(&self) -> Iter<'_, V>
+        ensures pairs { result ≡ self.now }
+        ensures distinct { HasDistinctKeys self.now }
+    {
+        // What holds of every store says that the keys differ.
+        let _ = &self.pairs;
+        Iter {
+            pairs: self,
+            turn: Turn::From(0),
+        }
+    }
+
+    /// The pairs by ascending key, by the keys' bytes.
+    ///
+    /// The walk takes no memory. It goes by the index, or from pair to pair where the keys ascend.
+    /// Among sixteen pairs or fewer, whose keys don't, it looks at each for the next one.
+    pub fn by_key(&self) -> Iter<'_, V>
+        ensures pairs { result ≡ in_order self.now }
+        ensures distinct { HasDistinctKeys self.now }
+    {
+        let turn = turn_by_key(&self.pairs, &self.places);
+        Iter { pairs: self, turn }
+    }
+}
+
+fn turn_by_key<'a, V>(pairs: &Vec<Pair<V>>, places: &'a Option<Box<Index>>) -> Turn<'a>
+    requires { IsIndexed (stored_pairs pairs.now.items) places.now }
+    ensures within { IsWithin result (stored_pairs pairs.now.items) }
+    ensures all { left result (stored_pairs pairs.now.items) ≡ in_order (stored_pairs pairs.now.items) }
+{
+    match places {
+        Some(index) => match &**index {
+            Index::Sorted(places) => Turn::Sorted(places.iter()),
+            Index::Map(map) => Turn::Mapped(map.values()),
+        },
+        None if pairs.len() > FEW || ascends(pairs) => Turn::From(0),
+        None => Turn::Above(None),
+    }
+}
+
+impl<'a, V: Drop> Iterator for Iter<'a, V> {
+    type Item = (&'a String, &'a V);
+
+    ghost next_gives = { TakesFirst (λ p. (string_bytes p.0.now, p.1.now)) };
+
+    ghost remaining = { λ s. at_most (length s) };
+
+    fn next(&mut self) -> Option<(&'a String, &'a V)> {
+        let at = next_place(self.pairs, &mut self.turn)?;
+        Some((self.pairs.key_at(at), self.pairs.value_at(at)))
+    }
+}
+
+// The place of the next pair.
+fn next_place<'a, V: Drop>(pairs: &'a SmallPairs<V>, turn: &mut Turn<'a>) -> Option<usize>
+    requires { IsWithin turn.old pairs.now }
+    ensures within { IsWithin turn.new pairs.now }
+    ensures steps { TakesPlace pairs.now turn.old result turn.new }
+{
+    match turn {
+        Turn::From(at) => {
+            if *at == pairs.len() {
+                return None;
+            }
+            *at += 1;
+            Some(*at - 1)
+        }
+        Turn::Sorted(places) => places.next().copied(),
+        Turn::Mapped(places) => places.next().copied(),
+        Turn::Above(last) => {
+            let at = next_by_walk(pairs, *last)?;
+            *last = Some(pairs.key_at(at));
+            Some(at)
+        }
+    }
+}
+
+// The place of the least key above the last one, or of the least of all, by a look at each pair.
+fn next_by_walk<V: Drop>(pairs: &SmallPairs<V>, last: Option<&String>) -> Option<usize>
+    ensures in_bounds { IfSome result (λ i. i < length pairs.now) }
+    ensures least { IsLeast (option_map (λ s. string_bytes s.now) last.entry) pairs.now
+        (option_and_then (slice_get pairs.now) result) }
+{
+    match last {
+        Some(key) => next_above(pairs, Some(key.as_str())),
+        None => next_above(pairs, None),
+    }
+}
