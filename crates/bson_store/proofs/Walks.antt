@@ -18,7 +18,7 @@ use Rattle.std.specs.declared.cmp.Ordering.TheVariants.{Less}
 use Rattle.bson_store.specs.Order.{key_cmp, in_order}
 use Rattle.bson_store.specs.Pairs.{keys, get, position_of}
 use Rattle.bson_store.specs.Small.{Places, keyed, KeysAscend, HasPlaces, AreSorted}
-use Rattle.bson_store.specs.Walks.{pairs_at, AreWithin}
+use Rattle.bson_store.specs.Walks.{pairs_at, AreWithin, IsFirst}
 use Rattle.bson_store.proofs.Adjacent.{distinct_from}
 use Rattle.bson_store.proofs.AscendingLaws.{key-of}
 use Rattle.bson_store.proofs.Distinct.{get-at}
@@ -103,22 +103,25 @@ module _ {X : Type 0} where
       step p e false true s rest = cc
       step p e false false s rest = rest
 
-  pub sorted_within : (is : List ℕ) (ps : List (List ℕ × X)) → AreSorted is ps → AreWithin is ps
+  sorted_within : (is : List ℕ) (ps : List (List ℕ × X)) → AreSorted is ps → AreWithin is ps
   sorted_within is ps h j i e =
       place-within (key_or ps i) ps i
       (sym (h.1 (key_or ps i)) ∙ get-at (keyed is ps) j (key_or ps i, i) (distinct_from (keyed is ps) h.0) (keyed-at is ps j i e))
 
-  pub sorted_walk : (is : List ℕ) (ps : List (List ℕ × X)) → AreSorted is ps → pairs_at is ps ≡ in_order ps
-  sorted_walk is ps h =
-      let within = sorted_within is ps h in
-      in_order_is (pairs_at is ps) ps (subst (IsStrictlySortedBy key_cmp) (sym (keys-at is ps within)) h.0)
-      (λ q. find-at q is ps within ∙ ap (option_and_then (value_at ps)) (h.1 q) ∙ sym (find-place q ps))
+  pub sorted_walk : (is js : List ℕ) (ps : List (List ℕ × X)) → js ≡ is → AreSorted is ps
+      → AreWithin js ps × (pairs_at js ps ≡ in_order ps)
+  sorted_walk is js ps same h =
+      let within = sorted_within is ps h in (
+        subst (λ l. AreWithin l ps) (sym same) within,
+        ap (λ l. pairs_at l ps) same
+            ∙ in_order_is (pairs_at is ps) ps (subst (IsStrictlySortedBy key_cmp) (sym (keys-at is ps within)) h.0)
+            (λ q. find-at q is ps within ∙ ap (option_and_then (value_at ps)) (h.1 q) ∙ sym (find-place q ps)),
+      )
 
   -- one place taken
   pub takes : (is js : List ℕ) (ps : List (List ℕ × X)) (r : Option (Bor ℕ))
       → MatchOption r ((is ≡ []) × (js ≡ [])) (λ x. is ≡ x.now ∷ js) → AreWithin is ps
-      → AreWithin js ps × MatchOption (option_copied r) ((pairs_at is ps ≡ []) × (pairs_at js ps ≡ []))
-      (λ i. (p : List ℕ × X) × (slice_get ps i ≡ Some p) × (pairs_at is ps ≡ p ∷ pairs_at js ps))
+      → AreWithin js ps × IsFirst ps (pairs_at is ps) (pairs_at js ps) (option_copied r)
   takes is js ps None h within = (
     subst (λ l. AreWithin l ps) (sym h.1) (λ j i e. cc),
     (ap (λ l. pairs_at l ps) h.0, ap (λ l. pairs_at l ps) h.1),

@@ -1,6 +1,6 @@
 -- What a walk over a small store has still to come.
-use Rattle.std.specs.Prelude.{◌≡◌, ℕ, ◌<◌, ◌≤◌, List, [], ◌∷◌, drop, length, Option, Some, MatchOption, option_map, slice_get}
-use Rattle.std.specs.Prelude.{filter_map, string_bytes}
+use Rattle.std.specs.Prelude.{◌≡◌, ℕ, ◌<◌, ◌≤◌, List, [], ◌∷◌, drop, length, Option, Some, MatchOption, option_map}
+use Rattle.std.specs.Prelude.{slice_get, filter_map, string_bytes}
 use Rattle.std.specs.FinMap.Entries.{where_key}
 use Rattle.std.specs.Slice.Iter.{iter_rest}
 use Rattle.bson_store.specs.Order.{key_cmp, is_above, in_order}
@@ -29,7 +29,14 @@ module _ {V : Type 0} where
   IsWithin (Mapped is) ps = AreWithin is ps
   IsWithin (Above last) ps = Unit {0}
 
+  -- all pairs are still to come, by ascending key
+  abbrev pub GoesByKey : Turn → List (List ℕ × V) → Type 0
+  GoesByKey turn ps = IsWithin turn ps × (left turn ps ≡ in_order ps)
+
   -- the first pair that was still to come stands at the place
+  abbrev pub IsFirst : List (List ℕ × V) → List (List ℕ × V) → List (List ℕ × V) → Option ℕ → Type 0
+  IsFirst ps old new r = MatchOption r ((old ≡ []) × (new ≡ []))
+      (λ i. (p : List ℕ × V) × (slice_get ps i ≡ Some p) × (old ≡ p ∷ new))
+
   abbrev pub TakesPlace : List (List ℕ × V) → Turn → Option ℕ → Turn → Type 0
-  TakesPlace ps old r new = MatchOption r ((left old ps ≡ []) × (left new ps ≡ []))
-      (λ i. (p : List ℕ × V) × (slice_get ps i ≡ Some p) × (left old ps ≡ p ∷ left new ps))
+  TakesPlace ps old r new = IsWithin new ps × IsFirst ps (left old ps) (left new ps) r

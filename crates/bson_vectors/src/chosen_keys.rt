@@ -53,10 +53,16 @@ fn an_index_gives_the_keys_in_ascending_order(rt: HostRuntime) -> Result<(), Fai
         }
     }
     assert_eq!(rt; store.len(), 12);
-    assert_eq!(rt; store.iter().next().map(|pair| pair.0.as_str()), Some("l"));
+    assert!(rt;
+        store
+            .iter()
+            .next()
+            .is_some_and(|pair| pair.0.as_str() == "l")
+    );
     let mut left = store.by_key();
-    for key in ["a", "b", "c", "d", "e", "f", "g", "h", "i", "j", "k", "l"] {
-        assert_eq!(rt; left.next().map(|pair| pair.0.as_str()), Some(key));
+    for back in 0..12 {
+        let key = TWELVE[11 - back];
+        assert!(rt; left.next().is_some_and(|pair| pair.0.as_str() == key));
     }
     assert!(rt; left.next().is_none());
     Ok(())

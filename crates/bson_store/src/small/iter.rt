@@ -6,7 +6,7 @@ ghost use Rattle.std.specs.Map.Iter.{TakesFirst};
 ghost use Rattle.bson_store.specs.Order.{in_order, IsLeast};
 ghost use Rattle.bson_store.specs.Pairs.{HasDistinctKeys};
 ghost use Rattle.bson_store.specs.Small.{stored_pairs, IsIndexed};
-ghost use Rattle.bson_store.specs.Walks.{left, IsWithin, TakesPlace};
+ghost use Rattle.bson_store.specs.Walks.{left, IsWithin, GoesByKey, TakesPlace};
 
 use crate::ascending::ascends;
 use crate::order::next_above;
@@ -82,8 +82,7 @@ impl<V: Drop> SmallPairs<V> {
 
 fn turn_by_key<'a, V>(pairs: &Vec<Pair<V>>, places: &'a Option<Box<Index>>) -> Turn<'a>
     requires { IsIndexed (stored_pairs pairs.now.items) places.now }
-    ensures within { IsWithin result (stored_pairs pairs.now.items) }
-    ensures all { left result (stored_pairs pairs.now.items) ≡ in_order (stored_pairs pairs.now.items) }
+    ensures { GoesByKey result (stored_pairs pairs.now.items) }
 {
     match places {
         Some(index) => match &**index {
@@ -111,8 +110,7 @@ impl<'a, V: Drop> Iterator for Iter<'a, V> {
 // The place of the next pair.
 fn next_place<'a, V: Drop>(pairs: &'a SmallPairs<V>, turn: &mut Turn<'a>) -> Option<usize>
     requires { IsWithin turn.old pairs.now }
-    ensures within { IsWithin turn.new pairs.now }
-    ensures steps { TakesPlace pairs.now turn.old result turn.new }
+    ensures { TakesPlace pairs.now turn.old result turn.new }
 {
     match turn {
         Turn::From(at) => {
