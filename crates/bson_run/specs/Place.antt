@@ -1,5 +1,5 @@
 -- Where the fault of a refused text lies, in words.
-use Rattle.std.specs.Prelude.{◌≡◌, ◌≢◌, ◌⊎◌, ◌↔◌, ◌+◌, ◌<◌, ◌/◌, ◌%◌, ◌==◌, ℕ, List, [], ◌∷◌, ◌++◌, codes, length, nat_lt, take, sum_by, Some, IsUtf8}
+use Rattle.std.specs.Prelude.{◌≡◌, ◌≢◌, ◌⊎◌, ◌↔◌, ◌+◌, ◌<◌, ◌/◌, ◌%◌, ◌==◌, ℕ, List, [], ◌∷◌, ◌++◌, codes, length, nat_lt, take, sum_by, Some, IsUtf8, Bool, true, false}
 use Rattle.std.specs.Prelude.{if◌then◌else◌}
 use Rattle.std.specs.Char.{is_control, digit_char, encode_utf8}
 use Rattle.std.specs.Fmt.{decimal}
@@ -32,6 +32,11 @@ abbrev pub shown : ℕ → List ℕ
 shown c = if c == 0x2028 then codes "\\u2028"
     else (if c == 0x2029 then codes "\\u2029"
     else (if is_control c then codes "\\u00" ++ digit_char (c / 16) ∷ digit_char (c % 16) ∷ [] else encode_utf8 c))
+
+-- a character by its escape, where escapes are wanted, or as it is
+abbrev pub letter : (escapes : Bool) → ℕ → List ℕ
+letter true = shown
+letter false = encode_utf8
 
 -- so many characters of words, each as it is told, and two points for any others
 abbrev pub cut_at : ℕ → (ℕ → List ℕ) → List ℕ → List ℕ

@@ -10,7 +10,8 @@
 //! a writer). Over lines: `order` and `refusal` (what is asked, and what is refused), `gathered`
 //! (the line that is read, and what those before it gave) and `lines` (the whole way). Why a text is
 //! refused, in words: `stop` (where bytes stop to be JSON) with `rule` (which of its rules they
-//! break, which `broken` finds), and `explain` with `quoted` (the value that stands at a place). What the programs have in common stands in `program`.
+//! break, which `broken` finds), and `explain` with `quoted` (the value that stands at a place) and
+//! `told` (words, cut and escaped). What the programs have in common stands in `program`.
 #![tactic(auto)]
 
 mod broken;
@@ -34,4 +35,5 @@ pub mod run;
 pub mod stop;
 mod stream;
 pub mod taken;
+mod told;
 pub mod value;
