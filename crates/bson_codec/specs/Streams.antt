@@ -1,5 +1,5 @@
 -- What reading a document from a reader takes, and writing one to a writer does.
-use Rattle.std.specs.Prelude.{◌≡◌, ℕ, List, ◌++◌, Option, Result, Ok, Err, length, cond, nat_lt}
+use Rattle.std.specs.Prelude.{◌≡◌, ◌<◌, ℕ, List, ◌++◌, Option, Result, Ok, Err, length, cond, nat_lt}
 use Rattle.std.specs.Io.{StartsWith}
 use Rattle.std.specs.Io.KnownBytes.{Appends, Consumes, Keeps}
 use Rattle.bson_model.specs.Value.{Pairs}
@@ -18,6 +18,13 @@ use Rattle.bson_codec.specs.declared.stream.WriterError.TheVariants as write_err
 pub record WritesBeginning (had holds : Option (List ℕ)) (bytes : List ℕ) : Type 0 where
   pub beginning : List ℕ
   pub starts : StartsWith bytes beginning
+  pub written : Appends had holds beginning
+
+-- a beginning of them was written, and not all
+pub record WritesPart (had holds : Option (List ℕ)) (bytes : List ℕ) : Type 0 where
+  pub beginning : List ℕ
+  pub starts : StartsWith bytes beginning
+  pub short : length beginning < length bytes
   pub written : Appends had holds beginning
 
 -- ---- reading

@@ -1,12 +1,12 @@
 //! Documents from readers, and to writers.
-ghost use Rattle.std.specs.Prelude.{◌≡◌, ◌≤◌, ◌⊎◌, ℕ, List, [], Some, length, vec_len, IfOk, IfErr, OnOk};
+ghost use Rattle.std.specs.Prelude.{◌≡◌, ◌≤◌, ◌⊎◌, ℕ, List, [], Some, length, vec_len, IfOk, IfErr, OnOk, OnErr};
 ghost use Rattle.std.specs.Io.KnownBytes.{Appends, Consumes, IsAtEnd};
 ghost use Rattle.bson_model.specs.Value.{Pairs};
 ghost use Rattle.bson_bytes.specs.Laws.{IsRead, IsFront};
 ghost use Rattle.bson_bytes.specs.Writing.{document_bytes, FitsDocument};
 ghost use Rattle.bson.specs.View.{document_view};
-ghost use Rattle.bson_codec.specs.Streams.{IsRefusedInput, IsHindrance, IsUnwritten, IsKept, IsTaken, WritesBeginning};
-ghost use Rattle.bson_codec.specs.Streams.{promised};
+ghost use Rattle.bson_codec.specs.Streams.{IsRefusedInput, IsHindrance, IsUnwritten, IsKept, IsTaken};
+ghost use Rattle.bson_codec.specs.Streams.{promised, WritesBeginning, WritesPart};
 ghost use Rattle.bson_codec.specs.declared.stream.ReaderError.TheVariants as read_errors;
 ghost use Rattle.bson_codec.specs.declared.stream.WriterError.TheVariants as write_errors;
 
@@ -192,10 +192,12 @@ fn promised(bytes: &[u8]) -> usize
     }
 }
 
-// Writes all bytes.
-pub(crate) fn write_whole<W: Write>(writer: &mut W, bytes: &[u8]) -> Result<(), WriterError>
+/// Writes all bytes. Any error of the writer, Interrupted too, is `CannotWrite`, and so is a write
+/// that takes no byte; then a beginning of them was written, and not all.
+pub fn write_whole<W: Write>(writer: &mut W, bytes: &[u8]) -> Result<(), WriterError>
     ensures ok { OnOk result (Appends (W.contents writer.old) (W.contents writer.new) bytes.now) }
-    ensures cut { IfErr result (λ e. WritesBeginning (W.contents writer.old) (W.contents writer.new) bytes.now) }
+    ensures cut { OnErr result (WritesBeginning (W.contents writer.old) (W.contents writer.new) bytes.now) }
+    ensures part { OnErr result (WritesPart (W.contents writer.old) (W.contents writer.new) bytes.now) }
     ensures fault { IfErr result (λ e. e ≡ write_errors.CannotWrite) }
 {
     let mut at = 0;

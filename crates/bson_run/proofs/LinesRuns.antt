@@ -8,7 +8,7 @@ use Rattle.bson_run.specs.Lines.{lines, left_of, none, DoneLinesIn, FailsAtIn, I
 use Rattle.bson_run.specs.Lines.{CutShortAtIn, CutsShort}
 use Rattle.bson_run.specs.LinesSteps.{Options, CannotWriteBoth, IsOpen, IsStart, HasWritten, HaveSameOutcomes}
 use Rattle.bson_run.specs.LinesSteps.{Progress, Takes, Ends, Reached, Stopped, StopsWithin, StopsLast, Running}
-use Rattle.bson_run.specs.Run.{WritesBeginning, WritesPart}
+use Rattle.bson_codec.specs.Streams.{WritesBeginning, WritesPart}
 use Rattle.bson_run.specs.LinesSteps.{Fault, CannotRead, NotJson, NotExtendedJson, NoBytes, OutOfMemory}
 use Rattle.bson_run.specs.LinesSteps.{CannotWrite, Gathered, OnRefusal, Task}
 use Rattle.bson_run.proofs.LinesLaws.{open_nil, reached}

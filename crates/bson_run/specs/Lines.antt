@@ -9,7 +9,8 @@ use Rattle.bson_run.specs.Convert.{default_options, ConvertsIn, IsRefusedIn, new
 use Rattle.bson_run.specs.Encode.{EncodesIn, EncodesInOrder, HasNoBytesIn, HasNoBytesInOrder}
 use Rattle.bson_run.specs.InOrder.{ConvertsInOrder}
 use Rattle.bson_run.specs.Place.{IsWhere}
-use Rattle.bson_run.specs.Run.{ReadsAll, WritesBeginning, WritesPart}
+use Rattle.bson_codec.specs.Streams.{WritesBeginning, WritesPart}
+use Rattle.bson_run.specs.Run.{ReadsAll}
 use Rattle.bson_run.specs.Words.{words_of}
 use Rattle.bson_run.specs.declared.fault.Fault.{Fault}
 use Rattle.bson_run.specs.declared.fault.Fault.TheVariants.{CannotRead, NotJson, NotExtendedJson, NoBytes, OutOfMemory}

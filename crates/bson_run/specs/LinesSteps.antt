@@ -2,7 +2,7 @@
 use Rattle.std.specs.Prelude.{◌≡◌, ◌≢◌, ◌⊎◌, ◌<◌, ◌≤◌, ◌+◌, ◌-◌, ◌^◌, ℕ, List, [], ◌∷◌, ◌++◌, Option, length, All}
 use Rattle.std.specs.Io.KnownBytes.{Appends, Consumes, Keeps}
 use Rattle.bson_run.specs.Lines.{lines, OutcomesIn, IsBadLineIn, IsStoppedAtIn, Tells}
-use Rattle.bson_run.specs.Run.{WritesPart}
+use Rattle.bson_codec.specs.Streams.{WritesPart}
 -- the types that the steps speak of, for the proofs too
 pub use Rattle.bson.specs.declared.extjson.options.Options.{Options}
 pub use Rattle.bson_run.specs.declared.fault.Fault.{Fault}

@@ -1,8 +1,8 @@
 -- What a run does to the bytes that a reader has left and to those that a writer holds, where these are known.
-use Rattle.std.specs.Prelude.{ℕ, ◌<◌, List, length, Option}
-use Rattle.std.specs.Io.{StartsWith}
+use Rattle.std.specs.Prelude.{ℕ, List, Option}
 use Rattle.std.specs.Io.KnownBytes.{Keeps, Appends, Consumes, IsAtEnd}
 use Rattle.bson.specs.declared.extjson.options.Options.{Options}
+use Rattle.bson_codec.specs.Streams.{WritesPart}
 use Rattle.bson_run.specs.Convert.{default_options, ConvertsIn, IsRefusedIn}
 use Rattle.bson_run.specs.declared.mode.Mode.{Mode}
 use Rattle.bson_run.specs.declared.fault.Fault.{Fault}
@@ -13,19 +13,6 @@ use Rattle.bson_run.specs.declared.fault.Fault.TheVariants.{CannotWrite}
 pub record ReadsAll (before after : Option (List ℕ)) (bytes : List ℕ) : Type 0 where
   pub given : Consumes before after bytes
   pub at_end : IsAtEnd after
-
--- a beginning of the output was written
-pub record WritesBeginning (had holds : Option (List ℕ)) (output : List ℕ) : Type 0 where
-  pub beginning : List ℕ
-  pub starts : StartsWith output beginning
-  pub written : Appends had holds beginning
-
--- a beginning of the output was written, and not all of it
-pub record WritesPart (had holds : Option (List ℕ)) (output : List ℕ) : Type 0 where
-  pub beginning : List ℕ
-  pub starts : StartsWith output beginning
-  pub short : length beginning < length output
-  pub written : Appends had holds beginning
 
 -- all that the reader had is converted to the output
 pub record AcceptsIn (o : Options) (mode : Mode) (before after : Option (List ℕ)) (output : List ℕ) : Type 0 where

@@ -5,9 +5,8 @@
 //! bytes) with `value` (bytes to a value) and `in_order` (bytes to bytes in the order of their
 //! keys), `encode` with `no_bytes` (bytes to the bytes of their document), `indent` (a text over
 //! several lines) and `indented` (bytes to bytes over several lines), `taken` (what is looked for in
-//! a text before it is read), `stream` (all bytes of a
-//! reader and to a writer) and `run` (the whole way from a reader to
-//! a writer). Over lines: `order` and `refusal` (what is asked, and what is refused), `gathered`
+//! a text before it is read), `stream` (all bytes of a reader) and `run` (the whole way from a reader
+//! to a writer). Over lines: `order` and `refusal` (what is asked, and what is refused), `gathered`
 //! (the line that is read, and what those before it gave) and `lines` (the whole way). Why a text is
 //! refused, in words: `stop` (where bytes stop to be JSON) with `rule` (which of its rules they
 //! break, which `broken` finds), and `explain` with `quoted` (the value that stands at a place) and
@@ -33,7 +32,7 @@ pub mod refusal;
 pub mod rule;
 pub mod run;
 pub mod stop;
-mod stream;
+pub mod stream;
 pub mod taken;
 mod told;
 pub mod value;

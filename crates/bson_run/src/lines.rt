@@ -12,8 +12,8 @@ use crate::fault::Fault;
 use crate::gathered::Gathered;
 use crate::order::{OnRefusal, Task};
 use crate::refusal::Refusal;
-use crate::stream::write_whole;
 use bson::extjson::Options;
+use bson_codec::stream::write_whole;
 use std::alloc::Global;
 use std::io::{Read, Write};
 

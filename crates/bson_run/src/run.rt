@@ -5,8 +5,9 @@ ghost use Rattle.bson_run.specs.Run.{Done, DoneIn, Fails, FailsIn};
 use crate::convert::{convert_whole, default_options};
 use crate::fault::Fault;
 use crate::mode::Mode;
-use crate::stream::{read_whole, write_whole};
+use crate::stream::read_whole;
 use bson::extjson::Options;
+use bson_codec::stream::write_whole;
 use std::alloc::Global;
 use std::io::{Read, Write};
 
@@ -50,5 +51,8 @@ pub fn run_with<R: Read, W: Write>(
 {
     let bytes = read_whole(alloc, reader)?;
     let output = convert_whole(alloc, options, mode, bytes)?;
-    write_whole(writer, &output)
+    match write_whole(writer, &output) {
+        Ok(()) => Ok(()),
+        Err(_) => Err(Fault::CannotWrite),
+    }
 }

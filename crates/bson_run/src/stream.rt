@@ -1,11 +1,10 @@
-//! All bytes of a reader, and all bytes to a writer.
-ghost use Rattle.std.specs.Prelude.{◌≡◌, ◌⊎◌, IfOk, IfErr, OnOk, OnErr};
-ghost use Rattle.std.specs.Io.KnownBytes.{Keeps, Consumes, IsAtEnd, Appends};
-ghost use Rattle.bson_run.specs.Run.{ReadsAll, WritesBeginning, WritesPart};
+//! All bytes of a reader.
+ghost use Rattle.std.specs.Prelude.{◌≡◌, ◌⊎◌, IfOk, IfErr};
+ghost use Rattle.bson_run.specs.Run.{ReadsAll};
 
 use crate::fault::Fault;
 use std::alloc::Global;
-use std::io::{Read, Write};
+use std::io::Read;
 
 /// As much as a pipe holds.
 const BUFFER: usize = 65536;
@@ -28,22 +27,4 @@ pub fn read_whole<R: Read>(alloc: Global, reader: &mut R) -> Result<Vec<u8>, Fau
             return Err(Fault::OutOfMemory);
         };
     }
-}
-
-/// Writes all bytes. Any error of the writer, Interrupted too, is its fault, and so is a write that
-/// takes no byte.
-pub fn write_whole<W: Write>(writer: &mut W, bytes: &[u8]) -> Result<(), Fault>
-    ensures ok { OnOk result (Appends (W.contents writer.old) (W.contents writer.new) bytes.now) }
-    ensures cut { OnErr result (WritesBeginning (W.contents writer.old) (W.contents writer.new) bytes.now) }
-    ensures part { OnErr result (WritesPart (W.contents writer.old) (W.contents writer.new) bytes.now) }
-    ensures fault { IfErr result (λ e. e ≡ Fault.CannotWrite) }
-{
-    let mut at = 0;
-    while at < bytes.len() {
-        match writer.write(&bytes[at..]) {
-            Ok(0) | Err(_) => return Err(Fault::CannotWrite),
-            Ok(count) => at += count,
-        }
-    }
-    Ok(())
 }
