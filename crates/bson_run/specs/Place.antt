@@ -14,8 +14,7 @@ use Rattle.bson_place.specs.declared.place.Place.{Place}
 use Rattle.bson_place.specs.declared.place.Reason.{Reason}
 use Rattle.bson_place.specs.declared.place.Reason.TheVariants.{BadObjectId, WrongShape}
 use Rattle.bson_run.specs.declared.fault.Fault.{Fault}
-use Rattle.bson_run.specs.declared.fault.Fault.TheVariants.{CannotRead, NotJson, NotExtendedJson, NoBytes, OutOfMemory}
-use Rattle.bson_run.specs.declared.fault.Fault.TheVariants.{CannotWrite}
+use Rattle.bson_run.specs.declared.fault.Fault.TheVariants.{NotJson, NotExtendedJson}
 use Rattle.bson_run.specs.declared.rule.Rule.{Rule}
 use Rattle.bson_run.specs.declared.rule.Rule.TheVariants.{Utf8, EndsEarly, MoreBehind, OutOfRange}
 use Rattle.bson_run.specs.declared.rule.Rule.TheVariants.{NoValue, Number, ControlCharacter, Escape, BehindComma}
@@ -138,12 +137,9 @@ IsStop bytes words = (n : ℕ) × (rule : Rule) × Breaks bytes rule × (words �
 
 -- nothing for a fault that no text has
 abbrev pub IsWhere : Fault → List ℕ → Type 0
-IsWhere CannotRead words = words ≡ []
 IsWhere NotJson words = IsColumn words
 IsWhere (NotExtendedJson place) words = IsPlaced place words
-IsWhere (NoBytes why) words = words ≡ []
-IsWhere OutOfMemory words = words ≡ []
-IsWhere CannotWrite words = words ≡ []
+IsWhere other words = words ≡ []
 
 -- ---- for private clauses
 
