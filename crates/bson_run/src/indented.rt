@@ -10,7 +10,7 @@ ghost use Rattle.bson.specs.Texts.{IsTextInOrder, IsTextUnder};
 ghost use Rattle.bson_run.specs.Convert.{IsConverted, IsRefusedIn, IsWritable};
 ghost use Rattle.bson_run.specs.Indent.{mode_of, ConvertsIndented, ConvertsInOrderIndented, IsLaidOut};
 
-use crate::convert::{converted, refused};
+use crate::convert::{converted, ended, refused};
 use crate::fault::Fault;
 use crate::indent::indented;
 use crate::mode::Mode;
@@ -139,11 +139,8 @@ fn laid_out(alloc: Global, spaces: usize, text: &str) -> Result<Vec<u8>, Fault>
     ensures ok { IfOk result (λ output. IsLaidOut spaces text.now output.items) }
     ensures fault { IfErr result (λ fault. fault ≡ Fault.OutOfMemory) }
 {
-    let Ok(mut laid) = indented(alloc, spaces, text) else {
-        return Err(Fault::OutOfMemory);
-    };
-    match laid.push(b'\n') {
-        Ok(()) => Ok(laid),
+    match indented(alloc, spaces, text) {
+        Ok(laid) => ended(laid),
         Err(_) => Err(Fault::OutOfMemory),
     }
 }
