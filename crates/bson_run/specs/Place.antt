@@ -1,5 +1,6 @@
 -- Where the fault of a refused text lies, in words.
-use Rattle.std.specs.Prelude.{◌≡◌, ◌≢◌, ◌⊎◌, ◌↔◌, ◌+◌, ◌<◌, ◌/◌, ◌%◌, ◌==◌, ℕ, List, [], ◌∷◌, ◌++◌, codes, length, nat_lt, take, sum_by, Some, IsUtf8, Bool, true, false}
+use Rattle.std.specs.Prelude.{◌≡◌, ◌≢◌, ◌⊎◌, ◌↔◌, ◌+◌, ◌<◌, ◌/◌, ◌%◌, ◌==◌, ℕ, List, [], ◌∷◌, ◌++◌, codes, length, nat_lt, take, sum_by, Some, IsUtf8, Bool, true, false, not, suc, ◌-◌, min}
+use Rattle.std.specs.Prelude.{count_by, reverse, take_while}
 use Rattle.std.specs.Prelude.{if◌then◌else◌}
 use Rattle.std.specs.Char.{is_control, digit_char, encode_utf8}
 use Rattle.std.specs.Fmt.{decimal}
@@ -123,6 +124,17 @@ pub record Breaks (bytes : List ℕ) (rule : Rule) : Type 0 where
   pub blank : IsUtf8 bytes → tokens bytes ≡ [] → rule ≡ EndsEarly
   pub depth : rule ≡ Depth → NestsDeeper (tokens bytes)
   pub no_token : IsOfBad rule → HasBad (tokens bytes)
+
+-- the bytes before a place among them, which are not all
+abbrev pub before_stop : (offset : ℕ) → List ℕ → List ℕ
+before_stop offset bytes = take (min offset (length bytes - 1)) bytes
+
+-- on which line it lies, and in which column of the line, both counted from 1
+abbrev pub line_at : (offset : ℕ) → List ℕ → ℕ
+line_at offset bytes = suc (count_by (λ x. x == 10) (before_stop offset bytes))
+
+abbrev pub column_at : (offset : ℕ) → List ℕ → ℕ
+column_at offset bytes = suc (length (take_while (λ x. not (x == 10)) (reverse (before_stop offset bytes))))
 
 -- a column, which one no contract says, and the rule that is broken there
 abbrev pub at_column : ℕ → Rule → List ℕ
