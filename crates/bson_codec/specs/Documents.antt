@@ -40,16 +40,13 @@ pub record IsLine (run : Run) (bytes line : List ℕ) : Type 0 where
 abbrev pub IsUnwritable : Options → Line → Pairs → Type 0
 IsUnwritable o (Text f) ps = writable_in o.doubles (document ps) ≡ false
 IsUnwritable o (TextInOrder f) ps = writable_in o.doubles (document ps) ≡ false
-IsUnwritable o Shown ps = ⊥
-IsUnwritable o Nothing ps = ⊥
+IsUnwritable o line ps = ⊥
 
 -- of the bytes nothing can be written, for the fault
 abbrev pub HasNoLine : RunFault → Run → List ℕ → Type 0
 HasNoLine (Malformed k n) run bytes = IsPlacedFault k n bytes (reads run.depth bytes)
 HasNoLine FiniteDouble run bytes = (ps : Pairs) × IsRead run.depth bytes ps × IsUnwritable run.options run.line ps
-HasNoLine CannotRead run bytes = ⊥
-HasNoLine CannotWrite run bytes = ⊥
-HasNoLine OutOfMemory run bytes = ⊥
+HasNoLine other run bytes = ⊥
 
 -- the bytes begin with their length
 abbrev pub BeginsWithLength : List ℕ → Type 0
@@ -94,11 +91,10 @@ IsCutShort run number start taken more said =
 -- why a run ends at the bytes that were taken of the document of this number, which begins behind so many bytes, what
 -- was written of its line, and what was told
 abbrev pub EndsFor : RunFault → Run → (number start : ℕ) → (taken more said : List ℕ) → Type 0
-EndsFor (Malformed k n) run number start taken more said = HasNoLine (Malformed k n) run taken × (more ≡ []) × (said ≡ [])
-EndsFor FiniteDouble run number start taken more said = HasNoLine FiniteDouble run taken × (more ≡ []) × (said ≡ [])
 EndsFor CannotRead run number start taken more said = (more ≡ []) × (said ≡ [])
 EndsFor CannotWrite run number start taken more said = IsCutShort run number start taken more said
 EndsFor OutOfMemory run number start taken more said = (more ≡ []) × (said ≡ [])
+EndsFor fault run number start taken more said = HasNoLine fault run taken × (more ≡ []) × (said ≡ [])
 
 -- the documents before the one of this number, which begins behind so many bytes, were done, and what they give was
 -- written and told; at that one the run ended for the fault
@@ -124,19 +120,14 @@ pub record EndsAt (run : Run) (before after had holds told tells : Option (List 
 
 -- why the bytes gave no line, or memory ran out
 abbrev pub IsJudged : RunFault → Run → List ℕ → Type 0
-IsJudged (Malformed k n) run bytes = HasNoLine (Malformed k n) run bytes
-IsJudged FiniteDouble run bytes = HasNoLine FiniteDouble run bytes
-IsJudged CannotRead run bytes = ⊥
-IsJudged CannotWrite run bytes = ⊥
 IsJudged OutOfMemory run bytes = Unit {0}
+IsJudged fault run bytes = HasNoLine fault run bytes
 
 -- why the document has no such line, or memory ran out
 abbrev pub IsUnwritten : RunFault → Options → Line → Pairs → Type 0
-IsUnwritten (Malformed k n) o l ps = ⊥
 IsUnwritten FiniteDouble o l ps = IsUnwritable o l ps
-IsUnwritten CannotRead o l ps = ⊥
-IsUnwritten CannotWrite o l ps = ⊥
 IsUnwritten OutOfMemory o l ps = Unit {0}
+IsUnwritten other o l ps = ⊥
 
 -- the line was written; or the document was refused, passed over and told so, which counts as 1
 abbrev pub IsGiven : ℕ → Run → (number start : ℕ) → List ℕ → (had holds told tells : Option (List ℕ)) → Type 0

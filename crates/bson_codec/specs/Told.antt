@@ -36,10 +36,7 @@ told_with number start fault place =
 -- where in the document
 abbrev pub place_of : RunFault → List ℕ
 place_of (Malformed k n) = codes " at its byte " ++ decimal n
-place_of FiniteDouble = []
-place_of CannotRead = []
-place_of CannotWrite = []
-place_of OutOfMemory = []
+place_of other = []
 
 -- a line on the document of this number, which begins behind so many bytes, and its fault
 abbrev pub told_of : ℕ → ℕ → RunFault → List ℕ

@@ -23,8 +23,7 @@ use Rattle.bson.specs.declared.extjson.convert.Converted.TheVariants as converte
 use Rattle.bson_convert.specs.declared.mode.Mode.{Mode}
 use Rattle.bson_convert.specs.declared.mode.Mode.TheVariants.{Canonical, Relaxed, Show}
 use Rattle.bson_convert.specs.declared.fault.Fault.{Fault}
-use Rattle.bson_convert.specs.declared.fault.Fault.TheVariants.{CannotRead, NotJson, NotExtendedJson, NoBytes, OutOfMemory}
-use Rattle.bson_convert.specs.declared.fault.Fault.TheVariants.{CannotWrite}
+use Rattle.bson_convert.specs.declared.fault.Fault.TheVariants.{NotJson, NotExtendedJson, OutOfMemory}
 
 -- what is done where no options are given
 abbrev pub default_options : Options
@@ -68,10 +67,8 @@ pub record ConvertsIn (o : Options) (mode : Mode) (bytes output : List ℕ) : Ty
 abbrev pub IsRefusedIn : Options → Fault → List ℕ → Type 0
 IsRefusedIn o NotJson bytes = IsNoText bytes
 IsRefusedIn o (NotExtendedJson place) bytes = (tree : Data) × IsTextOf bytes tree × IsFirstFaultIn o.doubles tree place
-IsRefusedIn o (NoBytes why) bytes = ⊥
 IsRefusedIn o OutOfMemory bytes = Unit {0}
-IsRefusedIn o CannotRead bytes = ⊥
-IsRefusedIn o CannotWrite bytes = ⊥
+IsRefusedIn o other bytes = ⊥
 
 abbrev pub IsWritten : Form → Value → List ℕ → Type 0
 IsWritten = IsWrittenIn default_options

@@ -6,8 +6,7 @@ use Rattle.bson.specs.declared.extjson.options.Options.{Options}
 use Rattle.bson_convert.specs.Convert.{default_options, ConvertsIn, IsRefusedIn}
 use Rattle.bson_convert.specs.declared.mode.Mode.{Mode}
 use Rattle.bson_convert.specs.declared.fault.Fault.{Fault}
-use Rattle.bson_convert.specs.declared.fault.Fault.TheVariants.{CannotRead, NotJson, NotExtendedJson, NoBytes, OutOfMemory}
-use Rattle.bson_convert.specs.declared.fault.Fault.TheVariants.{CannotWrite}
+use Rattle.bson_convert.specs.declared.fault.Fault.TheVariants.{CannotRead, NoBytes, OutOfMemory, CannotWrite}
 
 -- the reader gave these bytes, and has none left
 pub record ReadsAll (before after : Option (List ℕ)) (bytes : List ℕ) : Type 0 where
@@ -54,12 +53,10 @@ pub record RefusesIn (o : Options) (fault : Fault) (before after : Option (List 
 -- what each fault says of the bytes
 abbrev pub FailsIn : Options → Fault → Mode → (before after had holds : Option (List ℕ)) → Type 0
 FailsIn o CannotRead mode before after had holds = Keeps had holds
-FailsIn o NotJson mode before after had holds = RefusesIn o NotJson before after × Keeps had holds
-FailsIn o (NotExtendedJson place) mode before after had holds =
-    RefusesIn o (NotExtendedJson place) before after × Keeps had holds
 FailsIn o (NoBytes why) mode before after had holds = ⊥
 FailsIn o OutOfMemory mode before after had holds = Keeps had holds
 FailsIn o CannotWrite mode before after had holds = CutShortIn o mode before after had holds
+FailsIn o fault mode before after had holds = RefusesIn o fault before after × Keeps had holds
 
 abbrev pub Accepts : Mode → (before after : Option (List ℕ)) → List ℕ → Type 0
 Accepts = AcceptsIn default_options

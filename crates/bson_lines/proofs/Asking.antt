@@ -83,11 +83,12 @@ version_there words word taken.Version there (inl is) e = inl (subst (Contains w
 version_there words word taken.Version there (inr is) e = inr (subst (Contains words) is there)
 version_there words word taken.Unknown there h e = absurd cc
 
--- the text at a place is among the texts
-pub text_there : {X : Type 0} (f : X → List ℕ) (xs : List X) (i : ℕ) (x : X) → i < length xs → x ≡ get_or xs i x
-    → Contains (map f xs) (f x)
-text_there f xs i x within is =
-    (i, subst (λ n. i < n) (sym (length-map xs f)) within, get_or-map f xs i x (f x) within ∙ ap f (sym is))
+-- the word at a place is among the words
+pub word_there : {X : Type 0} (f : X → List ℕ) (all xs : List X) (i : ℕ) (x : X) (word : List ℕ) → xs ≡ all → i < length xs
+    → x ≡ get_or xs i x → word ≡ f x → Contains (map f all) word
+word_there f all xs i x word same within is of =
+    subst (λ ys. Contains (map f ys) word) same (subst (Contains (map f xs)) (sym of)
+    (i, subst (λ n. i < n) (sym (length-map xs f)) within, get_or-map f xs i x (f x) within ∙ ap f (sym is)))
 
 pub answer : {E : Type 0} (words : List (List ℕ)) (given : Given) (r : Result Asked E)
     → IfSome given.task (λ verb. Contains words (task_name verb)) → IfOk r (λ asked. IsAnswer given asked)

@@ -15,19 +15,17 @@ use Rattle.bson_codec.specs.declared.told.RunFault.TheVariants as run_fault
 use Rattle.bson_run.specs.Lines.{onto_first}
 use Rattle.bson_convert.specs.Words.{words_of}
 use Rattle.bson_convert.specs.declared.fault.Fault.{Fault}
-use Rattle.bson_convert.specs.declared.fault.Fault.TheVariants.{CannotRead, NotJson, NotExtendedJson, NoBytes, OutOfMemory}
-use Rattle.bson_convert.specs.declared.fault.Fault.TheVariants.{CannotWrite}
+use Rattle.bson_convert.specs.declared.fault.Fault.TheVariants.{CannotRead, CannotWrite}
 use Rattle.bson_lines.specs.declared.order.Input as order
-use Rattle.bson_lines.specs.declared.order.Input.TheVariants.{Lines, Text, Documents}
+use Rattle.bson_lines.specs.declared.order.Input.TheVariants.{Documents}
 use Rattle.bson_lines.specs.declared.run.Stop.{Stop}
 use Rattle.bson_lines.specs.declared.run.Stop.TheVariants as stop
 
 -- ---- how many there were
 
 abbrev pub kind_of : order.Input → List ℕ
-kind_of Lines = codes "lines"
-kind_of Text = codes "lines"
 kind_of Documents = codes "documents"
+kind_of input = codes "lines"
 
 abbrev pub summary_of : order.Input → (all refused : ℕ) → List ℕ
 summary_of input all refused =
@@ -73,11 +71,8 @@ line_head name number =
 -- a reader or a writer failed
 abbrev pub is_of_stream : Fault → Bool
 is_of_stream CannotRead = true
-is_of_stream NotJson = false
-is_of_stream (NotExtendedJson place) = false
-is_of_stream (NoBytes why) = false
-is_of_stream OutOfMemory = false
 is_of_stream CannotWrite = true
+is_of_stream fault = false
 
 -- what is told of the line of this number
 abbrev pub told_at : List ℕ → ℕ → Fault → (place : List ℕ) → List ℕ

@@ -26,11 +26,8 @@ use Rattle.bson_lines.specs.declared.arguments.Next.TheVariants.{Output, Indent}
 -- with the keys of each document in their own order
 abbrev pub in_order : Task → Task
 in_order (Write mode) = WriteInOrder mode
-in_order (WriteInOrder mode) = WriteInOrder mode
-in_order Check = Check
 in_order Encode = EncodeInOrder
-in_order EncodeInOrder = EncodeInOrder
-in_order (Taken taking work) = Taken taking work
+in_order task = task
 
 -- what is looked for in a text before it is read: a key that stands twice, and version 1 of Extended JSON
 abbrev pub taking_of : (is_distinct is_legacy : Bool) → Option Taking
@@ -44,9 +41,7 @@ abbrev pub first_taken : Taking → Task → Task
 first_taken taking (Write mode) = Taken taking (work.Write mode)
 first_taken taking (WriteInOrder mode) = Taken taking (work.WriteInOrder mode)
 first_taken taking Check = Taken taking work.Check
-first_taken taking Encode = Encode
-first_taken taking EncodeInOrder = EncodeInOrder
-first_taken taking (Taken other work) = Taken other work
+first_taken taking task = task
 
 -- documents of BSON are written in their own order by themselves, and so are the bytes of a text
 abbrev pub has_own_order : Input → Task → Bool
@@ -159,13 +154,11 @@ IsAskedBy words Nothing = Unit {0}
 
 -- what is answered to a word says of it
 abbrev pub IsTaken : (word : List ℕ) → arguments.Taken → Type 0
-IsTaken word taken.Word = Unit {0}
 IsTaken word taken.Help = (word ≡ codes "--help") ⊎ (word ≡ codes "-h")
 IsTaken word taken.Version = (word ≡ codes "--version") ⊎ (word ≡ codes "-v")
-IsTaken word taken.Unknown = Unit {0}
+IsTaken word other = Unit {0}
 
 abbrev pub IsNoHelp : arguments.Taken → Type 0
-IsNoHelp taken.Word = Unit {0}
 IsNoHelp taken.Help = ⊥
 IsNoHelp taken.Version = ⊥
-IsNoHelp taken.Unknown = Unit {0}
+IsNoHelp other = Unit {0}

@@ -1,5 +1,5 @@
 -- Which writer stops a run over files, what is asked of a run over documents, and where an output lies.
-use Rattle.std.specs.Prelude.{◌≡◌, ◌++◌, ℕ, List, Option, None, Some, codes, string_bytes, MatchOption, String}
+use Rattle.std.specs.Prelude.{◌≡◌, ◌≢◌, ◌++◌, ℕ, List, Option, None, Some, codes, string_bytes, MatchOption, String, true}
 use Rattle.std.specs.Fmt.{decimal}
 use Rattle.std.specs.declared.alloc.Global.{Global}
 use Rattle.std.specs.declared.io.Error.{Error}
@@ -9,11 +9,18 @@ use Rattle.bson_run.specs.Indent.{mode_of}
 use Rattle.bson_convert.specs.declared.mode.Mode.TheVariants.{Show}
 use Rattle.bson_run.specs.declared.order.Task.{Task}
 use Rattle.bson_run.specs.declared.order.Task.TheVariants as task
-use Rattle.bson_lines.specs.Messages.{all_under}
+use Rattle.bson_lines.specs.Messages.{all_under, head_of, is_standard}
+use Rattle.bson_lines.specs.declared.order.Input as order
+use Rattle.bson_lines.specs.declared.order.Input.TheVariants.{Documents}
 use Rattle.bson_lines.specs.declared.order.Order.{Order}
 use Rattle.bson_lines.specs.declared.output.Part.{Part}
 use Rattle.bson_lines.specs.declared.run.Stop.{Stop}
-use Rattle.bson_lines.specs.declared.run.Stop.TheVariants.{Output}
+use Rattle.bson_lines.specs.declared.run.Stop.TheVariants.{Input, Output}
+
+-- the file of this name can't be read
+abbrev pub IsUnread : (name : List ℕ) → Stop → Type 0
+IsUnread name (Input it error) = it.now ≡ name
+IsUnread name stop = ⊥
 
 -- ---- writers
 
@@ -22,6 +29,11 @@ abbrev pub IsUnwritten : Order → (told written : Option Error) → Stop → Ty
 IsUnwritten order told written (Output name error) = MatchOption told
     ((name.now ≡ string_bytes order.output) × (error ≡ written)) (λ cause. (name.now ≡ codes "-") × (error ≡ Some cause))
 IsUnwritten order told written stop = ⊥
+
+-- what stands before verdicts: the name of their file, or for documents of standard input that of the program
+abbrev pub IsTitle : order.Input → (name : List ℕ) → Option (String Global) → Type 0
+IsTitle input name None = (is_standard name ≡ true) × (input ≢ Documents)
+IsTitle input name (Some title) = (string_bytes title ≡ head_of name) × (is_standard name ≡ true → input ≡ Documents)
 
 -- verdicts as they are told of a file of this name
 abbrev pub told_under : Option (String Global) → (verdicts : List ℕ) → List ℕ

@@ -10,8 +10,7 @@ use Rattle.bson_run.specs.Indent.{mode_of, ConvertsIndented, ConvertsInOrderInde
 use Rattle.bson_convert.specs.Run.{ReadsAll}
 use Rattle.bson_run.specs.Taken.{IsTakenAs, IsUntaken}
 use Rattle.bson_convert.specs.declared.fault.Fault.{Fault}
-use Rattle.bson_convert.specs.declared.fault.Fault.TheVariants.{CannotRead, NotJson, NotExtendedJson, NoBytes, OutOfMemory}
-use Rattle.bson_convert.specs.declared.fault.Fault.TheVariants.{CannotWrite}
+use Rattle.bson_convert.specs.declared.fault.Fault.TheVariants.{CannotRead, OutOfMemory, CannotWrite}
 use Rattle.bson_convert.specs.declared.mode.Mode.{Mode}
 use Rattle.bson_convert.specs.declared.mode.Mode.TheVariants.{Canonical, Show}
 use Rattle.bson_run.specs.declared.order.Task.{Task}
@@ -58,13 +57,11 @@ Gives order (Taken taking work) text output =
 
 -- why nothing is: the text is refused, or what is read in its place
 abbrev pub IsUngiven : Options → Task → Fault → List ℕ → Type 0
-IsUngiven o (Write mode) fault text = IsRefusedIn o fault text
-IsUngiven o (WriteInOrder mode) fault text = IsRefusedIn o fault text
-IsUngiven o Check fault text = IsRefusedIn o fault text
 IsUngiven o Encode fault text = IsUnencodedIn o fault text
 IsUngiven o EncodeInOrder fault text = IsUnencodedInOrder o fault text
 IsUngiven o (Taken taking work) fault text =
     IsUntaken taking fault text ⊎ ((taken : List ℕ) × IsTakenAs taking text taken × IsRefusedIn o fault taken)
+IsUngiven o task fault text = IsRefusedIn o fault text
 
 -- ---- a run
 --
@@ -101,9 +98,6 @@ pub record WholeUnwritten (order : Order) (mark : List ℕ) (before after : Opti
 -- what each fault says of the bytes
 abbrev pub WholeFails : Order → Fault → (mark : List ℕ) → (before after had holds : Option (List ℕ)) → Type 0
 WholeFails order CannotRead mark before after had holds = Keeps had holds
-WholeFails order NotJson mark before after had holds = WholeRefused order NotJson mark before after had holds
-WholeFails order (NotExtendedJson place) mark before after had holds =
-    WholeRefused order (NotExtendedJson place) mark before after had holds
-WholeFails order (NoBytes why) mark before after had holds = WholeRefused order (NoBytes why) mark before after had holds
 WholeFails order OutOfMemory mark before after had holds = Keeps had holds
 WholeFails order CannotWrite mark before after had holds = WholeUnwritten order mark before after
+WholeFails order fault mark before after had holds = WholeRefused order fault mark before after had holds

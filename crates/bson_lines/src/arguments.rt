@@ -1,6 +1,6 @@
 //! What the words after the program's name give, one after the other.
 ghost use Rattle.std.specs.Prelude.{◌≡◌, ◌⊎◌, ◌<◌, ◌≤◌, ℕ, List, None, OnOk, IfOk, IfSome, map, string_bytes};
-ghost use Rattle.std.specs.Prelude.{◌==◌, ◌||◌, slice_index, if◌then◌else◌};
+ghost use Rattle.std.specs.Prelude.{◌==◌, ◌||◌, slice_index, if◌then◌else◌, true};
 ghost use Rattle.std.specs.Fmt.{decimal};
 ghost use Rattle.bson_lines.specs.Order.{first_taken, has_own_order, in_order, or_standard, taking_of};
 ghost use Rattle.bson_lines.specs.Order.{HasOutput, IsAnswer, IsNoHelp, IsTaken};
@@ -105,33 +105,13 @@ impl Given {
             "--" => self.expect(Next::Name),
             "-o" | "--output" => self.expect(Next::Output),
             "--indent" => self.expect(Next::Indent),
-            "--keep-going" => {
-                let is_first = !self.keeps_going;
-                self.keeps_going = true;
-                Ok(once(is_first))
-            }
+            "--keep-going" => Ok(set(&mut self.keeps_going)),
             "--whole" => self.take_input(Input::Text),
             "--bson" => self.take_input(Input::Documents),
-            "--keep-order" => {
-                let is_first = !self.keeps_order;
-                self.keeps_order = true;
-                Ok(once(is_first))
-            }
-            "--sort-keys" => {
-                let is_first = !self.sorts_keys;
-                self.sorts_keys = true;
-                Ok(once(is_first))
-            }
-            "--no-double-keys" => {
-                let is_first = !self.is_distinct;
-                self.is_distinct = true;
-                Ok(once(is_first))
-            }
-            "--legacy" => {
-                let is_first = !self.is_legacy;
-                self.is_legacy = true;
-                Ok(once(is_first))
-            }
+            "--keep-order" => Ok(set(&mut self.keeps_order)),
+            "--sort-keys" => Ok(set(&mut self.sorts_keys)),
+            "--no-double-keys" => Ok(set(&mut self.is_distinct)),
+            "--legacy" => Ok(set(&mut self.is_legacy)),
             "--doubles" => {
                 let is_first = self.options.doubles == Doubles::Special;
                 self.options.doubles = Doubles::Finite;
@@ -305,6 +285,16 @@ fn first_taken(taking: Taking, task: Task) -> Task
         Task::Check => Task::Taken(taking, Work::Check),
         other => other,
     }
+}
+
+// Sets what an option sets, which stands once.
+fn set(flag: &mut bool) -> Taken
+    ensures word { result ≡ (if flag.old then Taken.Unknown else Taken.Word) }
+    ensures set { flag.new ≡ true }
+{
+    let is_first = !*flag;
+    *flag = true;
+    once(is_first)
 }
 
 // An option stands once.

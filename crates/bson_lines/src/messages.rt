@@ -120,8 +120,8 @@ fn at_text(alloc: Global, name: &str, refusal: Refusal) -> Result<String, AllocE
     format!(in alloc; "{head}: {words}{place}")
 }
 
-// What a message begins with: the file's name, or that of the program.
-fn head_of(alloc: Global, name: &str) -> Result<String, AllocError>
+/// What a message begins with: the file's name, or that of the program.
+pub fn head_of(alloc: Global, name: &str) -> Result<String, AllocError>
     ensures { IfOk result (λ head. string_bytes head ≡ head_of name.now) }
 {
     if name == STANDARD {
@@ -151,8 +151,8 @@ fn shown(alloc: Global, name: &str, stream: &str) -> Result<String, AllocError>
     escaped(alloc, name)
 }
 
-/// A name on one line, that steers no terminal.
-pub fn escaped(alloc: Global, name: &str) -> Result<String, AllocError>
+// A name on one line, that steers no terminal.
+fn escaped(alloc: Global, name: &str) -> Result<String, AllocError>
     ensures { IfOk result (λ escaped. string_bytes escaped ≡ escaped_name name.now) }
 {
     let mut escaped = String::new(alloc);

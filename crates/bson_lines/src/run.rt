@@ -1,8 +1,9 @@
 //! A run over files: what is opened, and what is told where that can't be done.
-ghost use Rattle.bson_lines.specs.Stops.{IsUnwritten};
+ghost use Rattle.std.specs.Prelude.{IfErr, IfOk};
+ghost use Rattle.bson_lines.specs.Stops.{IsTitle, IsUnread, IsUnwritten};
 
 use crate::dump::run_dump;
-use crate::messages::escaped;
+use crate::messages::head_of;
 use crate::order::{Input, Order, STANDARD};
 use crate::output::Output;
 use crate::progress::{Counted, Progress, Verdicts};
@@ -180,7 +181,9 @@ fn run_text<'a>(
 }
 
 // What is read by the name.
-fn source<'a>(rt: &HostRuntime, name: &'a str) -> Result<Source, Stop<'a>> {
+fn source<'a>(rt: &HostRuntime, name: &'a str) -> Result<Source, Stop<'a>>
+    ensures { IfErr result (IsUnread name.now) }
+{
     if name == STANDARD {
         return Ok(Source::Stdin(rt.stdin()));
     }
@@ -191,15 +194,14 @@ fn source<'a>(rt: &HostRuntime, name: &'a str) -> Result<Source, Stop<'a>> {
 }
 
 // The name that stands before verdicts, but those on lines of standard input.
-fn title<'a>(rt: &HostRuntime, order: &Order, name: &'a str) -> Result<Option<String>, Stop<'a>> {
-    let name = if name != STANDARD {
-        name
-    } else if order.input == Input::Documents {
-        "bson_lines"
-    } else {
+fn title<'a>(rt: &HostRuntime, order: &Order, name: &'a str) -> Result<Option<String>, Stop<'a>>
+    ensures title { IfOk result (IsTitle order.now.input name.now) }
+    ensures stop { IfErr result (IsUnread name.now) }
+{
+    if name == STANDARD && order.input != Input::Documents {
         return Ok(None);
-    };
-    match escaped(rt.alloc(), name) {
+    }
+    match head_of(rt.alloc(), name) {
         Ok(title) => Ok(Some(title)),
         Err(error) => Err(Stop::Input(name, Some(Error::from(error)))),
     }

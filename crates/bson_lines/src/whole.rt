@@ -3,19 +3,19 @@ ghost use Rattle.std.specs.Prelude.{◌≡◌, ◌≢◌, ◌⊎◌, [], IfOk, I
 ghost use Rattle.bson_convert.specs.Convert.{IsRefusedIn};
 ghost use Rattle.bson_run.specs.Indent.{mode_of};
 ghost use Rattle.bson_run.specs.Place.{IsWhere};
-ghost use Rattle.bson_convert.specs.Run.{ReadsAll};
 ghost use Rattle.bson_lines.specs.Whole.{behind, Checks, Gives, IsUngiven, Lays, LaysInOrder, WholeDone};
 ghost use Rattle.bson_lines.specs.Whole.{WholeFails, Works};
 
 use crate::order::Order;
 use bson::extjson::Form;
 use bson_convert::convert::convert_with;
+use bson_convert::fault::Fault;
+use bson_convert::mode::Mode;
+use bson_convert::stream::read_whole;
 use bson_run::encode::{encode_in_order, encode_with};
 use bson_run::explain::explain;
-use bson_convert::fault::Fault;
 use bson_run::in_order::convert_in_order;
 use bson_run::indented::{convert_in_order_indented, convert_indented};
-use bson_convert::mode::Mode;
 use bson_run::order::{Task, Work};
 use bson_run::refusal::Refusal;
 use bson_run::stop::Stop;
@@ -39,7 +39,7 @@ pub fn convert_whole<R: Read, W: Write>(
     ensures place { IfErr result (λ e. IsWhere e.fault (string_bytes e.place)) }
     ensures line { IfErr result (λ e. (e.fault ≡ Fault.NotJson) ⊎ (e.line ≡ 0)) }
 {
-    let bytes = match read_all(alloc, reader) {
+    let bytes = match read_whole(alloc, reader) {
         Ok(bytes) => bytes,
         Err(fault) => return Err(placeless(alloc, fault)),
     };
@@ -62,27 +62,6 @@ fn behind<'a>(mark: &[u8], bytes: &'a [u8]) -> &'a [u8]
     } else {
         bytes
     }
-}
-
-fn read_all<R: Read>(alloc: Global, reader: &mut R) -> Result<Vec<u8>, Fault>
-    ensures all { IfOk result (λ bytes. ReadsAll (R.remaining reader.old) (R.remaining reader.new) bytes.items) }
-    ensures fault { IfErr result (λ fault. (fault ≡ Fault.CannotRead) ⊎ (fault ≡ Fault.OutOfMemory)) }
-{
-    let mut bytes = Vec::new(alloc);
-    let mut block = [0u8; 65536];
-    for _ in 0..u64::MAX {
-        let Ok(count) = reader.read(&mut block) else {
-            return Err(Fault::CannotRead);
-        };
-        if count == 0 {
-            return Ok(bytes);
-        }
-        match bytes.extend_from_slice(&block[..count]) {
-            Ok(()) => {}
-            Err(_) => return Err(Fault::OutOfMemory),
-        }
-    }
-    Err(Fault::CannotRead)
 }
 
 // What is written of the text.

@@ -1,6 +1,6 @@
 -- The place of a refused text's fault.
-use Rattle.std.proofs.Common.{◌≡◌, ◌<◌, ◌≤◌, ◌==◌, ◌^◌, ◌-◌, ◌++◌, ℕ, List, [], ◌∷◌, true, false, cond, length, codes, refl, sym, ap}
-use Rattle.std.proofs.Common.{◌∙◌, inl, inr, arith, Option, Some, None, Result, Ok, Err, OnOk, take, append-nil}
+use Rattle.std.proofs.Common.{◌≡◌, ◌<◌, ◌==◌, ◌^◌, ◌-◌, ◌++◌, ℕ, List, [], ◌∷◌, true, false, cond, length, codes, refl, sym, ap}
+use Rattle.std.proofs.Common.{◌∙◌, inl, inr, arith, Option, Some, None, Result, Ok, Err, OnOk, take, nat_lt}
 use Rattle.std.specs.Char.{is_control}
 use Rattle.std.specs.Fmt.{digits, digits_output, format_spec, padded_integral, radix_digits, styled_digits_output, ◌++?◌}
 use Rattle.std.specs.List.{flat_map, slice_get}
@@ -64,23 +64,16 @@ pub hole : (d : _) (s : _) (text : List ℕ) (n : ℕ) → digits_output d ≡ S
 hole d s text n e f h = rw (f, e) at h
 
 -- whether there are more characters than so many
-pub are_more : (r : Option ℕ) (cs : List ℕ) (n : ℕ) → option_map (λ c. c) r ≡ slice_get cs n → is_some r ≡ true → n < length cs
-are_more None cs n is some = absurd cc
-are_more (Some x) cs n is some = slice_get_within cs n x (sym is)
-
-pub no_more : (r : Option ℕ) (cs : List ℕ) (n : ℕ) → option_map (λ c. c) r ≡ slice_get cs n → is_some r ≡ false → length cs ≤ n
-no_more (Some x) cs n is none = absurd cc
-no_more None cs n is none = elim (slice_get_cases cs n).1 [
+are_more : (r : Option ℕ) (cs : List ℕ) (n : ℕ) → option_map (λ c. c) r ≡ slice_get cs n → is_some r ≡ nat_lt n (length cs)
+are_more (Some x) cs n is = sym (lt-ltb n (length cs) (slice_get_within cs n x (sym is)))
+are_more None cs n is = elim (slice_get_cases cs n).1 [
   | inl h ↦ absurd cc
-  | inr h ↦ h.0
+  | inr h ↦ sym (le-ltb n (length cs) h.0)
 ]
 
-module _ (most : ℕ) (tell : ℕ → List ℕ) (words said : List ℕ) (e : said ≡ flat_map tell (take most (chars words))) where
-  pub told_short : length (chars words) ≤ most → said ≡ cut_at most tell words
-  told_short short =
-      e ∙ sym (append-nil _) ∙ ap (λ b. flat_map tell (take most (chars words)) ++ cond b (codes "..") []) (sym (le-ltb most (length (chars words)) short))
-
-  pub told_long : (more : List ℕ) → most < length (chars words) → more ≡ said ++ codes ".." → more ≡ cut_at most tell words
-  told_long more long is =
-      is ∙ ap (λ s. s ++ codes "..") e
-      ∙ ap (λ b. flat_map tell (take most (chars words)) ++ cond b (codes "..") []) (sym (lt-ltb most (length (chars words)) long))
+pub cut_there : (most : ℕ) (tell : ℕ → List ℕ) (words said more : List ℕ) (next : Option ℕ)
+    → said ≡ flat_map tell (take most (chars words)) → option_map (λ c. c) next ≡ slice_get (chars words) most
+    → more ≡ said ++ cond (is_some next) (codes "..") [] → more ≡ cut_at most tell words
+cut_there most tell words said more next e at is =
+    is ∙ ap (λ s. s ++ cond (is_some next) (codes "..") []) e
+    ∙ ap (λ b. flat_map tell (take most (chars words)) ++ cond b (codes "..") []) (are_more next (chars words) most at)

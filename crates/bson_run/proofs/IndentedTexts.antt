@@ -1,5 +1,5 @@
 -- The text in a form is what converting gives in its mode.
-use Rattle.std.proofs.Common.{ℕ, List, ◌++◌, Result, Ok, Err, IfOk, refl}
+use Rattle.std.proofs.Common.{ℕ, List, ◌++◌, refl}
 use Rattle.bson_wrapper.specs.declared.form.Form.{Form}
 use Rattle.bson_wrapper.specs.declared.form.Form.TheVariants as form
 use Rattle.bson_model.specs.Value.{Value}
@@ -9,10 +9,6 @@ use Rattle.bson.specs.Texts.{IsTextUnder}
 use Rattle.bson_convert.specs.Convert.{ConvertsIn, newline}
 use Rattle.bson_run.specs.Indent.{mode_of}
 use Rattle.bson_convert.proofs.Offered.{is_written}
-
-pub if_ok : {A E : Type 0} {P Q : A → Type 0} (r : Result A E) → IfOk r P → ((a : A) → P a → Q a) → IfOk r Q
-if_ok (Ok a) p f = f a p
-if_ok (Err e) p f = tt
 
 pub form_converts : (o : Options) (f : Form) (bytes : List ℕ) (v : Value) (text : List ℕ)
     → HasTextMeaningIn o.doubles bytes v → IsTextUnder o.doubles f v text

@@ -1,5 +1,5 @@
 -- The layout of tokens, a token at a time, and that it has the tokens that it was made of.
-use Rattle.std.proofs.Common.{◌≡◌, ◌+◌, ◌-◌, ℕ, zero, suc, max, List, [], ◌∷◌, ◌++◌, length, map, take, replicate, Bool, true, false, Some, inl, inr, Result, Ok, Err, OnOk, refl, sym, ap, ◌∙◌, subst, arith, append_assoc, append-nil}
+use Rattle.std.proofs.Common.{◌≡◌, ◌+◌, ◌-◌, ℕ, zero, suc, max, List, [], ◌∷◌, ◌++◌, length, map, take, replicate, Bool, true, false, Some, inl, inr, refl, sym, ap, ◌∙◌, subst, arith, append_assoc, append-nil}
 use Rattle.std.proofs.lemmas.List.{replicate-append-replicate, take-replicate, length-replicate}
 use Rattle.json.specs.Json.{Json, value as json_value}
 use Rattle.json.specs.Layout.{Last, nothing, bracket, name, value, is_value, after}
@@ -75,10 +75,6 @@ all_laid n all left s e w =
     sym (append-nil s.out.items)
     ∙ ap (λ ts. s.out.items ++ print_spaced (is_value (last_of s.before)) (spaced n (last_of s.before) w.indent ts)) (sym e)
     ∙ w.whole
-
-pub on_ok : {A E : Type 0} {P Q : Type 0} (r : Result A E) → OnOk r P → (P → Q) → OnOk r Q
-on_ok (Ok a) p f = f p
-on_ok (Err e) p f = tt
 
 pub joined : (out comma between text : List ℕ) → ((out ++ comma) ++ between) ++ text ≡ out ++ (comma ++ (between ++ text))
 joined out comma between text = simp append_assoc

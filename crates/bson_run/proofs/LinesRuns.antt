@@ -7,7 +7,7 @@ use Rattle.std.proofs.KnownBytes.{Appends-kept, Appends-nil, Appends-trans, Cons
 use Rattle.bson_run.specs.Lines.{lines, left_of, none, DoneLinesIn, FailsAtIn, IsStoppedAtIn, StopsAtIn}
 use Rattle.bson_run.specs.Lines.{CutShortAtIn, CutsShort}
 use Rattle.bson_run.specs.LinesSteps.{Options, CannotWriteBoth, IsOpen, IsStart, HasWritten, HaveSameOutcomes}
-use Rattle.bson_run.specs.LinesSteps.{Progress, Takes, Ends, Reached, Stopped, StopsWithin, StopsLast, Running}
+use Rattle.bson_run.specs.LinesSteps.{Progress, Takes, Ends, Reached, Stopped, StopsWithin, StopsLast, Running, Complete}
 use Rattle.bson_convert.specs.Run.{WritesBeginning, WritesPart}
 use Rattle.bson_run.specs.LinesSteps.{Fault, CannotRead, NotJson, NotExtendedJson, NoBytes, OutOfMemory}
 use Rattle.bson_run.specs.LinesSteps.{CannotWrite, Gathered, OnRefusal, Task}
@@ -54,8 +54,22 @@ cut_later had mid holds told said tells output more verdicts others a b (inr p) 
 kept : (s : Gathered) → HaveSameOutcomes s s
 kept s = record { output = refl; told = refl; lines = refl; refused = refl }
 
+either : {X E A B : Type 0} {P : E → Type 0} (r : Result X E) → OnOk r A → IfErr r P → (A → B) → ((e : E) → P e → B) → B
+either (Ok x) a p f g = f a
+either (Err e) a p f g = g e p
+
 module _ {o : Options} {task : Task} {on_refusal : OnRefusal} where
   -- ---- ends
+
+  complete : (bytes output verdicts : List ℕ) (s : Gathered) → Complete o task on_refusal bytes output verdicts s
+      → Reached o task on_refusal bytes output verdicts s
+  complete bytes output verdicts s all = record {
+    done = lines bytes;
+    others = [];
+    whole = sym (append-nil (lines bytes));
+    counted = all.counted;
+    outcomes = all.outcomes;
+  }
 
   stops : (fault : Fault) (before after had holds told tells : Option (List ℕ)) (bytes output verdicts : List ℕ)
       (s u : Gathered) → u.lines ≡ s.lines → Consumes before after bytes
@@ -231,13 +245,8 @@ module _ {o : Options} {task : Task} {on_refusal : OnRefusal} where
   block_cut r e block s t u ok err is count before given after had mid holds told said tells cut p c =
       cuts e before after had mid holds told said tells (p.bytes ++ block) p.output p.verdicts t u is count
       (Consumes-trans before given after p.bytes block p.given c)
-      (either r ok err) p.written p.reported cut
-    where
-      either : {X : Type 0} (r : Result X Fault) → OnOk r (Takes o task on_refusal block s t)
-          → IfErr r (λ e. StopsWithin o task on_refusal block e s t)
-          → Reached o task on_refusal ((p.bytes ++ block) ++ left_of after) p.output p.verdicts t
-      either (Ok x) ok err = reached t (left_of after) (kept t) (ok p.bytes p.output p.verdicts p.progress)
-      either (Err e) ok err = (err p.bytes p.output p.verdicts (left_of after) p.progress).reached
+      (either r ok err (λ takes. reached t (left_of after) (kept t) (takes p.bytes p.output p.verdicts p.progress))
+      (λ e stop. (stop p.bytes p.output p.verdicts (left_of after) p.progress).reached)) p.written p.reported cut
 
   -- ---- the end
 
@@ -279,19 +288,6 @@ module _ {o : Options} {task : Task} {on_refusal : OnRefusal} where
       → FailsAtIn o e task on_refusal before after had holds told tells (u.lines + 1)
   end_cut r e s t u ok err is count before after had mid holds told said tells cut p at_end =
       cuts e before after had mid holds told said tells p.bytes p.output p.verdicts t u is count p.given
-      (subst (λ l. Reached o task on_refusal l p.output p.verdicts t) (whole after p.bytes at_end) (either r ok err))
-      p.written p.reported cut
-    where
-      either : {X : Type 0} (r : Result X Fault) → OnOk r (Ends o task on_refusal s t)
-          → IfErr r (λ e. StopsLast o task on_refusal e s t)
-          → Reached o task on_refusal p.bytes p.output p.verdicts t
-      either (Ok x) ok err =
-          let all = ok p.bytes p.output p.verdicts p.progress in
-          record {
-            done = lines p.bytes;
-            others = [];
-            whole = sym (append-nil (lines p.bytes));
-            counted = all.counted;
-            outcomes = all.outcomes;
-          }
-      either (Err e) ok err = (err p.bytes p.output p.verdicts p.progress).reached
+      (subst (λ l. Reached o task on_refusal l p.output p.verdicts t) (whole after p.bytes at_end)
+      (either r ok err (λ ends. complete p.bytes p.output p.verdicts t (ends p.bytes p.output p.verdicts p.progress))
+      (λ e stop. (stop p.bytes p.output p.verdicts p.progress).reached))) p.written p.reported cut

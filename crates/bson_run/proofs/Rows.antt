@@ -11,84 +11,47 @@ use Rattle.bson_run.specs.declared.rule.Rule.TheVariants as rule
 
 -- ---- names of tasks
 
-check_named : task_name Check ≡ codes "check"
-check_named = refl
-
-encode_named : task_name Encode ≡ codes "encode"
-encode_named = refl
-
-in_order_named_alike : task_name EncodeInOrder ≡ codes "encode"
-in_order_named_alike = refl
+tasks_named : (task_name Check ≡ codes "check")
+    × (task_name Encode ≡ codes "encode")
+    × (task_name EncodeInOrder ≡ codes "encode")
+tasks_named = (refl, refl, refl)
 
 -- ---- words of rules of JSON
 
-no_utf8_told : words_broken rule.Utf8 ≡ codes "bytes that are no UTF-8"
-no_utf8_told = refl
-
-early_end_told : words_broken rule.EndsEarly ≡ codes "the text ends before its value is whole"
-early_end_told = refl
-
-quotes_told : words_broken rule.Quotes ≡ codes "a key or a text stands in double quotes"
-quotes_told = refl
-
-no_value_told : words_broken rule.NoValue ≡ codes "no value begins so"
-no_value_told = refl
-
-no_number_told : words_broken rule.Number ≡ codes "no number of JSON is written so"
-no_number_told = refl
-
-control_character_told : words_broken rule.ControlCharacter ≡ codes "a control character stands in a text"
-control_character_told = refl
-
-escape_of_nothing_told : words_broken rule.Escape ≡ codes "an escape that stands for no character"
-escape_of_nothing_told = refl
-
-separator_told : words_broken rule.Separator ≡ codes "a comma or a bracket is missing"
-separator_told = refl
-
-behind_comma_told : words_broken rule.BehindComma ≡ codes "behind a comma another element is wanted"
-behind_comma_told = refl
-
-behind_key_told : words_broken rule.BehindKey ≡ codes "behind a key a colon and a value are wanted"
-behind_key_told = refl
-
-depth_told : words_broken rule.Depth ≡ codes "it nests deeper than 127"
-depth_told = refl
-
-more_behind_told : words_broken rule.MoreBehind ≡ codes "more stands behind the value"
-more_behind_told = refl
-
-out_of_range_told : words_broken rule.OutOfRange ≡ codes "a number is out of range"
-out_of_range_told = refl
+rules_told : (words_broken rule.Utf8 ≡ codes "bytes that are no UTF-8")
+    × (words_broken rule.EndsEarly ≡ codes "the text ends before its value is whole")
+    × (words_broken rule.Quotes ≡ codes "a key or a text stands in double quotes")
+    × (words_broken rule.NoValue ≡ codes "no value begins so")
+    × (words_broken rule.Number ≡ codes "no number of JSON is written so")
+    × (words_broken rule.ControlCharacter ≡ codes "a control character stands in a text")
+    × (words_broken rule.Escape ≡ codes "an escape that stands for no character")
+    × (words_broken rule.Separator ≡ codes "a comma or a bracket is missing")
+    × (words_broken rule.BehindComma ≡ codes "behind a comma another element is wanted")
+    × (words_broken rule.BehindKey ≡ codes "behind a key a colon and a value are wanted")
+    × (words_broken rule.Depth ≡ codes "it nests deeper than 127")
+    × (words_broken rule.MoreBehind ≡ codes "more stands behind the value")
+    × (words_broken rule.OutOfRange ≡ codes "a number is out of range")
+rules_told = (refl, refl, refl, refl, refl, refl, refl, refl, refl, refl, refl, refl, refl)
 
 -- ---- characters as they are told
 
-escape_told : shown 0x1B ≡ codes "\\u001b"
-escape_told = refl
-
-newline_told : shown 10 ≡ codes "\\u000a"
-newline_told = refl
-
-last_control_told : shown 0x9F ≡ codes "\\u009f"
-last_control_told = refl
-
-line_separator_told : shown 0x2028 ≡ codes "\\u2028"
-line_separator_told = refl
-
-paragraph_separator_told : shown 0x2029 ≡ codes "\\u2029"
-paragraph_separator_told = refl
-
-backslash_told : shown 92 ≡ 92 ∷ []
+characters_told : (shown 0x1B ≡ codes "\\u001b")
+    × (shown 10 ≡ codes "\\u000a")
+    × (shown 0x9F ≡ codes "\\u009f")
+    × (shown 0x2028 ≡ codes "\\u2028")
+    × (shown 0x2029 ≡ codes "\\u2029")
+    × (shown 92 ≡ 92 ∷ [])
 unfolding encode_utf8
-backslash_told = refl
+characters_told = (refl, refl, refl, refl, refl, refl)
 
 -- ---- lines
 
-lines_cut : lines (53 ∷ 10 ∷ 10 ∷ 54 ∷ []) ≡ (53 ∷ []) ∷ [] ∷ (54 ∷ []) ∷ []
-lines_cut = refl
-
-no_line_behind_the_last_newline : lines (53 ∷ 10 ∷ []) ≡ (53 ∷ []) ∷ []
-no_line_behind_the_last_newline = refl
+-- no line stands behind the last newline, and a byte order mark is passed over where the first line begins
+lines_cut : (lines (53 ∷ 10 ∷ 10 ∷ 54 ∷ []) ≡ (53 ∷ []) ∷ [] ∷ (54 ∷ []) ∷ [])
+    × (lines (53 ∷ 10 ∷ []) ≡ (53 ∷ []) ∷ [])
+    × (text_of 0 (239 ∷ 187 ∷ 191 ∷ 53 ∷ []) ≡ 53 ∷ [])
+    × (text_of 1 (239 ∷ 187 ∷ 191 ∷ 53 ∷ []) ≡ 239 ∷ 187 ∷ 191 ∷ 53 ∷ [])
+lines_cut = (refl, refl, refl, refl)
 
 -- a space, a tab and a carriage return
 blank_bytes : IsBlank (32 ∷ 9 ∷ 13 ∷ [])
@@ -106,9 +69,3 @@ form_feed_not_blank h =
         | inr e ↦ absurd (omega (arith, e))
       ]
     ]
-
-byte_order_mark_passed_over : text_of 0 (239 ∷ 187 ∷ 191 ∷ 53 ∷ []) ≡ 53 ∷ []
-byte_order_mark_passed_over = refl
-
-byte_order_mark_of_a_later_line : text_of 1 (239 ∷ 187 ∷ 191 ∷ 53 ∷ []) ≡ 239 ∷ 187 ∷ 191 ∷ 53 ∷ []
-byte_order_mark_of_a_later_line = refl

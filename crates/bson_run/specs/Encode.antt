@@ -74,21 +74,14 @@ IsUnencodedInOrder o it text = IsRefusedIn o it text
 
 -- why what is meant gave no bytes, or memory ran out
 abbrev pub IsUnencodedFor : (means : Value → Type 0) → Fault → Type 0
-IsUnencodedFor means fault.CannotRead = ⊥
-IsUnencodedFor means fault.NotJson = ⊥
-IsUnencodedFor means (fault.NotExtendedJson place) = ⊥
 IsUnencodedFor means (fault.NoBytes why) = HasNoBytesFor means why
 IsUnencodedFor means fault.OutOfMemory = Unit {0}
-IsUnencodedFor means fault.CannotWrite = ⊥
+IsUnencodedFor means other = ⊥
 
 -- the document fails for the cause, or memory ran out
 abbrev pub FailsAlone : Fault → Pairs → Type 0
-FailsAlone fault.CannotRead ps = ⊥
-FailsAlone fault.NotJson ps = ⊥
-FailsAlone (fault.NotExtendedJson place) ps = ⊥
-FailsAlone (fault.NoBytes NoDocument) ps = ⊥
 FailsAlone (fault.NoBytes ZeroInKey) ps = DocumentFails zero_in_key ps
 FailsAlone (fault.NoBytes ZeroInRegex) ps = DocumentFails zero_in_regex ps
 FailsAlone (fault.NoBytes TooLong) ps = DocumentFails too_long ps
 FailsAlone fault.OutOfMemory ps = Unit {0}
-FailsAlone fault.CannotWrite ps = ⊥
+FailsAlone other ps = ⊥

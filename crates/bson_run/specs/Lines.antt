@@ -9,7 +9,8 @@ use Rattle.bson_convert.specs.Convert.{default_options, ConvertsIn, IsRefusedIn,
 use Rattle.bson_run.specs.Encode.{EncodesIn, EncodesInOrder, HasNoBytesIn, HasNoBytesInOrder}
 use Rattle.bson_run.specs.InOrder.{ConvertsInOrder}
 use Rattle.bson_run.specs.Place.{IsWhere}
-use Rattle.bson_convert.specs.Run.{ReadsAll, WritesBeginning, WritesPart}
+use Rattle.bson_convert.specs.Run.{WritesBeginning, WritesPart}
+use Rattle.bson_convert.specs.Run.{ReadsAll}
 use Rattle.bson_convert.specs.Words.{words_of}
 use Rattle.bson_convert.specs.declared.fault.Fault.{Fault}
 use Rattle.bson_convert.specs.declared.fault.Fault.TheVariants.{CannotRead, NotJson, NotExtendedJson, NoBytes, OutOfMemory}
@@ -71,51 +72,35 @@ WritesIn o (Taken taking work) text output =
 
 -- the text has no meaning for the fault; one that is blank is not refused
 abbrev pub IsBadTextIn : Options → Fault → List ℕ → Type 0
-IsBadTextIn o CannotRead text = ⊥
 IsBadTextIn o NotJson text = IsRefusedIn o NotJson text × (IsBlank text → ⊥)
 IsBadTextIn o (NotExtendedJson place) text = IsRefusedIn o (NotExtendedJson place) text
-IsBadTextIn o (NoBytes why) text = ⊥
-IsBadTextIn o OutOfMemory text = ⊥
-IsBadTextIn o CannotWrite text = ⊥
+IsBadTextIn o other text = ⊥
 
 -- the text has a meaning, and no bytes, where those are written
 abbrev pub IsWithoutBytes : Options → Task → without.NoBytes → List ℕ → Type 0
-IsWithoutBytes o (Write mode) why text = ⊥
-IsWithoutBytes o (WriteInOrder mode) why text = ⊥
-IsWithoutBytes o Check why text = ⊥
 IsWithoutBytes o Encode why text = HasNoBytesIn o why text
 IsWithoutBytes o EncodeInOrder why text = HasNoBytesInOrder o why text
-IsWithoutBytes o (Taken taking work) why text = ⊥
+IsWithoutBytes o task why text = ⊥
 
 -- the text is none, or what is read in its place
 abbrev pub IsUnreadIn : Options → Task → List ℕ → Type 0
-IsUnreadIn o (Write mode) text = IsBadTextIn o NotJson text
-IsUnreadIn o (WriteInOrder mode) text = IsBadTextIn o NotJson text
-IsUnreadIn o Check text = IsBadTextIn o NotJson text
-IsUnreadIn o Encode text = IsBadTextIn o NotJson text
-IsUnreadIn o EncodeInOrder text = IsBadTextIn o NotJson text
 IsUnreadIn o (Taken taking work) text =
     ((taken : List ℕ) × IsTakenAs taking text taken × IsRefusedIn o NotJson taken) × (IsBlank text → ⊥)
+IsUnreadIn o task text = IsBadTextIn o NotJson text
 
 -- the text has no meaning, or what is read in its place; or it is not taken
 abbrev pub IsMeaninglessIn : Options → Task → Place → List ℕ → Type 0
-IsMeaninglessIn o (Write mode) place text = IsBadTextIn o (NotExtendedJson place) text
-IsMeaninglessIn o (WriteInOrder mode) place text = IsBadTextIn o (NotExtendedJson place) text
-IsMeaninglessIn o Check place text = IsBadTextIn o (NotExtendedJson place) text
-IsMeaninglessIn o Encode place text = IsBadTextIn o (NotExtendedJson place) text
-IsMeaninglessIn o EncodeInOrder place text = IsBadTextIn o (NotExtendedJson place) text
 IsMeaninglessIn o (Taken taking work) place text =
     ((taken : List ℕ) × IsTakenAs taking text taken × IsRefusedIn o (NotExtendedJson place) taken)
     ⊎ IsTurnedAway taking place text
+IsMeaninglessIn o task place text = IsBadTextIn o (NotExtendedJson place) text
 
 -- nothing is written of the text, for the fault
 abbrev pub IsBadLineIn : Options → Task → Fault → List ℕ → Type 0
-IsBadLineIn o task CannotRead text = IsBadTextIn o CannotRead text
 IsBadLineIn o task NotJson text = IsUnreadIn o task text
 IsBadLineIn o task (NotExtendedJson place) text = IsMeaninglessIn o task place text
 IsBadLineIn o task (NoBytes why) text = IsWithoutBytes o task why text
-IsBadLineIn o task OutOfMemory text = IsBadTextIn o OutOfMemory text
-IsBadLineIn o task CannotWrite text = IsBadTextIn o CannotWrite text
+IsBadLineIn o task other text = ⊥
 
 -- what is told of a refused line: its number, the fault and its place
 abbrev pub told_at : ℕ → Fault → List ℕ → List ℕ
@@ -223,35 +208,19 @@ IsStoppedIn o task on_refusal CannotWrite text = ⊥
 -- the same of the first of the lines that stand after so many others
 abbrev pub IsStoppedAtIn : Options → Task → OnRefusal → Fault → ℕ → List (List ℕ) → Type 0
 IsStoppedAtIn o task on_refusal CannotRead before others = Unit {0}
-IsStoppedAtIn o task on_refusal NotJson before [] = ⊥
-IsStoppedAtIn o task on_refusal NotJson before (line ∷ others) =
-    IsStoppedIn o task on_refusal NotJson (text_of before line)
-IsStoppedAtIn o task on_refusal (NotExtendedJson place) before [] = ⊥
-IsStoppedAtIn o task on_refusal (NotExtendedJson place) before (line ∷ others) =
-    IsStoppedIn o task on_refusal (NotExtendedJson place) (text_of before line)
-IsStoppedAtIn o task on_refusal (NoBytes why) before [] = ⊥
-IsStoppedAtIn o task on_refusal (NoBytes why) before (line ∷ others) =
-    IsStoppedIn o task on_refusal (NoBytes why) (text_of before line)
 IsStoppedAtIn o task on_refusal OutOfMemory before others = Unit {0}
 IsStoppedAtIn o task on_refusal CannotWrite before others = ⊥
+IsStoppedAtIn o task on_refusal fault before [] = ⊥
+IsStoppedAtIn o task on_refusal fault before (line ∷ others) = IsStoppedIn o task on_refusal fault (text_of before line)
 
 -- what each fault says of the bytes, and of the line whose number stands beside it: that it came for this reason, but
 -- for a fault of a writer
 abbrev pub FailsAtIn : Options → Fault → Task → OnRefusal
     → (before after had holds told tells : Option (List ℕ)) → ℕ → Type 0
-FailsAtIn o CannotRead task on_refusal before after had holds told tells number =
-    StopsAtIn o (IsStoppedAtIn o task on_refusal CannotRead) task on_refusal before after had holds told tells number
-FailsAtIn o NotJson task on_refusal before after had holds told tells number =
-    StopsAtIn o (IsStoppedAtIn o task on_refusal NotJson) task on_refusal before after had holds told tells number
-FailsAtIn o (NotExtendedJson place) task on_refusal before after had holds told tells number =
-    StopsAtIn o (IsStoppedAtIn o task on_refusal (NotExtendedJson place)) task on_refusal before after had holds told tells
-    number
-FailsAtIn o (NoBytes why) task on_refusal before after had holds told tells number =
-    StopsAtIn o (IsStoppedAtIn o task on_refusal (NoBytes why)) task on_refusal before after had holds told tells number
-FailsAtIn o OutOfMemory task on_refusal before after had holds told tells number =
-    StopsAtIn o (IsStoppedAtIn o task on_refusal OutOfMemory) task on_refusal before after had holds told tells number
 FailsAtIn o CannotWrite task on_refusal before after had holds told tells number =
     CutShortAtIn o task on_refusal before after had holds told tells number
+FailsAtIn o fault task on_refusal before after had holds told tells number =
+    StopsAtIn o (IsStoppedAtIn o task on_refusal fault) task on_refusal before after had holds told tells number
 
 -- ---- where no options are given
 

@@ -1,5 +1,6 @@
 -- Where the fault of a refused text lies, in words.
-use Rattle.std.specs.Prelude.{◌≡◌, ◌≢◌, ◌⊎◌, ◌↔◌, ◌+◌, ◌<◌, ◌/◌, ◌%◌, ◌==◌, ℕ, List, [], ◌∷◌, ◌++◌, codes, length, nat_lt, take, sum_by, Some, IsUtf8}
+use Rattle.std.specs.Prelude.{◌≡◌, ◌≢◌, ◌⊎◌, ◌↔◌, ◌+◌, ◌<◌, ◌/◌, ◌%◌, ◌==◌, ℕ, List, [], ◌∷◌, ◌++◌, codes, length, nat_lt, take, sum_by, Some, IsUtf8, Bool, true, false, not, suc, ◌-◌, min}
+use Rattle.std.specs.Prelude.{count_by, reverse, take_while}
 use Rattle.std.specs.Prelude.{if◌then◌else◌}
 use Rattle.std.specs.Char.{is_control, digit_char, encode_utf8}
 use Rattle.std.specs.Fmt.{decimal}
@@ -14,8 +15,7 @@ use Rattle.bson_place.specs.declared.place.Place.{Place}
 use Rattle.bson_place.specs.declared.place.Reason.{Reason}
 use Rattle.bson_place.specs.declared.place.Reason.TheVariants.{BadObjectId, WrongShape}
 use Rattle.bson_convert.specs.declared.fault.Fault.{Fault}
-use Rattle.bson_convert.specs.declared.fault.Fault.TheVariants.{CannotRead, NotJson, NotExtendedJson, NoBytes, OutOfMemory}
-use Rattle.bson_convert.specs.declared.fault.Fault.TheVariants.{CannotWrite}
+use Rattle.bson_convert.specs.declared.fault.Fault.TheVariants.{NotJson, NotExtendedJson}
 use Rattle.bson_run.specs.declared.rule.Rule.{Rule}
 use Rattle.bson_run.specs.declared.rule.Rule.TheVariants.{Utf8, EndsEarly, MoreBehind, OutOfRange}
 use Rattle.bson_run.specs.declared.rule.Rule.TheVariants.{NoValue, Number, ControlCharacter, Escape, BehindComma}
@@ -32,6 +32,11 @@ abbrev pub shown : ℕ → List ℕ
 shown c = if c == 0x2028 then codes "\\u2028"
     else (if c == 0x2029 then codes "\\u2029"
     else (if is_control c then codes "\\u00" ++ digit_char (c / 16) ∷ digit_char (c % 16) ∷ [] else encode_utf8 c))
+
+-- a character by its escape, where escapes are wanted, or as it is
+abbrev pub letter : (escapes : Bool) → ℕ → List ℕ
+letter true = shown
+letter false = encode_utf8
 
 -- so many characters of words, each as it is told, and two points for any others
 abbrev pub cut_at : ℕ → (ℕ → List ℕ) → List ℕ → List ℕ
@@ -120,6 +125,17 @@ pub record Breaks (bytes : List ℕ) (rule : Rule) : Type 0 where
   pub depth : rule ≡ Depth → NestsDeeper (tokens bytes)
   pub no_token : IsOfBad rule → HasBad (tokens bytes)
 
+-- the bytes before a place among them, which are not all
+abbrev pub before_stop : (offset : ℕ) → List ℕ → List ℕ
+before_stop offset bytes = take (min offset (length bytes - 1)) bytes
+
+-- on which line it lies, and in which column of the line, both counted from 1
+abbrev pub line_at : (offset : ℕ) → List ℕ → ℕ
+line_at offset bytes = suc (count_by (λ x. x == 10) (before_stop offset bytes))
+
+abbrev pub column_at : (offset : ℕ) → List ℕ → ℕ
+column_at offset bytes = suc (length (take_while (λ x. not (x == 10)) (reverse (before_stop offset bytes))))
+
 -- a column, which one no contract says, and the rule that is broken there
 abbrev pub at_column : ℕ → Rule → List ℕ
 at_column n rule = codes " at column " ++ decimal n ++ codes " (" ++ words_broken rule ++ codes ")"
@@ -133,12 +149,9 @@ IsStop bytes words = (n : ℕ) × (rule : Rule) × Breaks bytes rule × (words �
 
 -- nothing for a fault that no text has
 abbrev pub IsWhere : Fault → List ℕ → Type 0
-IsWhere CannotRead words = words ≡ []
 IsWhere NotJson words = IsColumn words
 IsWhere (NotExtendedJson place) words = IsPlaced place words
-IsWhere (NoBytes why) words = words ≡ []
-IsWhere OutOfMemory words = words ≡ []
-IsWhere CannotWrite words = words ≡ []
+IsWhere other words = words ≡ []
 
 -- ---- for private clauses
 

@@ -9,8 +9,7 @@ use Rattle.bson_legacy.specs.Text.{IsModernText}
 use Rattle.bson_place.specs.Place.{way_of}
 use Rattle.bson_place.specs.declared.place.Place.{Place}
 use Rattle.bson_convert.specs.declared.fault.Fault.{Fault}
-use Rattle.bson_convert.specs.declared.fault.Fault.TheVariants.{CannotRead, NotJson, NotExtendedJson, NoBytes, OutOfMemory}
-use Rattle.bson_convert.specs.declared.fault.Fault.TheVariants.{CannotWrite}
+use Rattle.bson_convert.specs.declared.fault.Fault.TheVariants.{NotExtendedJson, OutOfMemory}
 use Rattle.bson_run.specs.declared.order.Taking.{Taking}
 use Rattle.bson_run.specs.declared.order.Taking.TheVariants.{Distinct, Legacy, DistinctLegacy}
 
@@ -44,12 +43,9 @@ IsTurnedAway DistinctLegacy place bytes = HasDoubleKeyAt place bytes
 
 -- what each fault says of the bytes
 abbrev pub IsUntaken : Taking → Fault → List ℕ → Type 0
-IsUntaken taking CannotRead bytes = ⊥
-IsUntaken taking NotJson bytes = ⊥
 IsUntaken taking (NotExtendedJson place) bytes = IsTurnedAway taking place bytes
-IsUntaken taking (NoBytes why) bytes = ⊥
 IsUntaken taking OutOfMemory bytes = Unit {0}
-IsUntaken taking CannotWrite bytes = ⊥
+IsUntaken taking other bytes = ⊥
 
 -- the text, or the bytes where there is none
 abbrev pub taken_of : List ℕ → Option (String Global) → List ℕ

@@ -13,12 +13,12 @@ ghost use Rattle.bson_codec.specs.Unwritten.TheVariants as errors;
 ghost use Rattle.bson_run.specs.Encode.{EncodesIn, EncodesInOrder, FailsAlone, IsBytesOf, IsUnencodedFor};
 ghost use Rattle.bson_run.specs.Encode.{IsUnencodedIn, IsUnencodedInOrder};
 
-use bson_convert::convert::refused;
-use bson_convert::fault::Fault;
-use bson_convert::no_bytes::NoBytes;
 use bson::Bson;
 use bson::extjson::Options;
 use bson_codec::{ser, to_vec};
+use bson_convert::convert::refused;
+use bson_convert::fault::Fault;
+use bson_convert::no_bytes::NoBytes;
 use bson_pack::pack::pack_text;
 use bson_pack::unpacked::Unpacked;
 use std::alloc::Global;

@@ -1,16 +1,16 @@
 //! Where the fault of a refused text lies, in words.
-ghost use Rattle.std.specs.Prelude.{◌≡◌, ◌⊎◌, ◌++◌, [], IfOk, OnOk, string_bytes};
+ghost use Rattle.std.specs.Prelude.{◌≡◌, ◌⊎◌, [], IfOk, string_bytes};
 ghost use Rattle.bson_run.specs.Lines.{IsBadText, IsBadTextIn};
 ghost use Rattle.bson.specs.declared.extjson.options.Options.{Options};
 ghost use Rattle.bson_place.specs.declared.place.Place.{Place as SpecPlace};
 ghost use Rattle.bson_run.specs.Place.{IsPlaced, IsPlacedIn, IsQuote, IsReasonIn, IsStop, IsWhere};
-ghost use Rattle.bson_run.specs.Place.{shown, told_as};
 ghost use Rattle.bson_convert.specs.declared.fault.Fault.TheVariants.{NotExtendedJson, NotJson};
 
-use bson_convert::fault::Fault;
 use crate::quoted::quote;
 use crate::stop::Stop;
 use crate::taken::DOUBLE_KEY;
+use crate::told::told;
+use bson_convert::fault::Fault;
 use bson_place::place::{Place, Reason, Step};
 use std::alloc::{AllocError, Global};
 
@@ -65,9 +65,9 @@ fn displayed(alloc: Global, place: &Place, text: &[u8]) -> Result<String, AllocE
     ensures found { IfOk result (λ words. IsPlacedIn text.now place.now (string_bytes words)) }
 {
     let way = place.path(alloc)?;
-    let path = told(alloc, way.as_str())?;
+    let path = told(alloc, way.as_str(), MOST, true)?;
     let reason = reason_in(alloc, place, text)?;
-    let message = told(alloc, reason.as_str())?;
+    let message = told(alloc, reason.as_str(), MOST, true)?;
     if path.is_empty() {
         return format!(in alloc; " ({message})");
     }
@@ -95,36 +95,4 @@ fn found(alloc: Global, expected: &str, steps: &[Step], text: &[u8]) -> Result<S
         return Ok(String::new(alloc));
     }
     quote(alloc, steps, text)
-}
-
-// The words as they are told.
-fn told(alloc: Global, words: &str) -> Result<String, AllocError>
-    ensures { IfOk result (λ said. string_bytes said ≡ told_as words.now) }
-{
-    let mut said = String::new(alloc);
-    for c in words.chars().take(MOST) {
-        push_shown(alloc, &mut said, c)?;
-    }
-    if words.chars().nth(MOST).is_none() {
-        return Ok(said);
-    }
-    said.push_str("..")?;
-    Ok(said)
-}
-
-// Adds a character as it is told.
-fn push_shown(alloc: Global, said: &mut String, c: char) -> Result<(), AllocError>
-    ensures { OnOk result (string_bytes said.new ≡ string_bytes said.old ++ shown c) }
-{
-    if c == '\u{2028}' {
-        return said.push_str("\\u2028");
-    }
-    if c == '\u{2029}' {
-        return said.push_str("\\u2029");
-    }
-    if c.is_control() {
-        let escape = format!(in alloc; "\\u00{:02x}", u32::from(c))?;
-        return said.push_str(&escape);
-    }
-    said.push(c)
 }

@@ -14,16 +14,16 @@ ghost use Rattle.bson_run.specs.declared.order.Task.{Task};
 ghost use Rattle.bson_run.specs.declared.order.Task.TheVariants.{Taken};
 ghost use Rattle.bson.specs.declared.extjson.options.Options.{Options};
 
-use bson_convert::convert::convert_with;
 use crate::encode::{encode_in_order, encode_with};
 use crate::explain::explain;
-use bson_convert::fault::Fault;
 use crate::in_order::convert_in_order;
-use bson_convert::mode::Mode;
 use crate::order::{OnRefusal, Taking, Task, Work};
 use crate::refusal::Refusal;
 use crate::taken::taken;
 use bson::extjson::Options;
+use bson_convert::convert::convert_with;
+use bson_convert::fault::Fault;
+use bson_convert::mode::Mode;
 use memchr::memchr;
 use std::alloc::{AllocError, Global};
 
@@ -32,6 +32,14 @@ type Step = Result<(), Fault>;
 
 /// U+FEFF in UTF-8.
 const BYTE_ORDER_MARK: [u8; 3] = [0xef, 0xbb, 0xbf];
+
+/// What is asked of a run.
+#[derive(Clone, Copy)]
+pub struct Asked {
+    pub options: Options,
+    pub task: Task,
+    pub on_refusal: OnRefusal,
+}
 
 /// The line that is being gathered, and what the lines before it gave since it was last written.
 #[derive(Drop)]
@@ -71,15 +79,16 @@ fn is_blank(text: &[u8]) -> bool
 }
 
 // What is written of the text, or nothing for one that is blank.
-fn judge(alloc: Global, options: Options, task: Task, text: &[u8]) -> Result<Option<Vec<u8>>, Fault>
+fn judge(alloc: Global, asked: Asked, text: &[u8]) -> Result<Option<Vec<u8>>, Fault>
     ensures blank { result ≡ Ok None → IsBlank text.now }
-    ensures ok { IfOk result (λ some. IfSome some (λ output. WritesIn options task text.now output.items)) }
-    ensures fault { IfErr result (λ fault. IsJudged options task fault text.now) }
+    ensures ok { IfOk result (λ some. IfSome some (λ output. WritesIn asked.options asked.task text.now output.items)) }
+    ensures fault { IfErr result (λ fault. IsJudged asked.options asked.task fault text.now) }
 {
     if is_blank(text) {
         return Ok(None);
     }
-    match task {
+    let options = asked.options;
+    match asked.task {
         Task::Write(mode) => Ok(Some(convert_with(alloc, options, mode, text)?)),
         Task::WriteInOrder(mode) => Ok(Some(convert_in_order(alloc, options, mode, text)?)),
         Task::Check => {
@@ -196,29 +205,23 @@ impl Gathered {
     }
 
     // Takes the line that was gathered: what it gives is added, and the next line is empty.
-    fn end_line(
-        &mut self,
-        alloc: Global,
-        options: Options,
-        task: Task,
-        on_refusal: OnRefusal,
-    ) -> Step
+    fn end_line(&mut self, alloc: Global, asked: Asked) -> Step
         requires room { HasRoom self.old }
         ensures room { HasRoom self.new }
-        ensures ok { OnOk result (TakesLine options task on_refusal self.old self.new) }
+        ensures ok { OnOk result (TakesLine asked.options asked.task asked.on_refusal self.old self.new) }
         ensures same { OnErr result (HaveSameOutcomes self.old self.new) }
         ensures fault { IfErr result
-            (λ e. IsStoppedIn options task on_refusal e (text_of self.old.lines self.old.line.items)) }
+            (λ e. IsStoppedIn asked.options asked.task asked.on_refusal e (text_of self.old.lines self.old.line.items)) }
         ensures count { IfErr result (λ e. IsCountedOut e self.old.lines) }
     {
         if self.lines + 1 == u64::MAX {
             // A count that no run reaches.
             return Err(Fault::CannotRead);
         }
-        match judge(alloc, options, task, text(self.lines, &self.line)) {
+        match judge(alloc, asked, text(self.lines, &self.line)) {
             Ok(None) => {}
             Ok(Some(output)) => self.add(&output)?,
-            Err(fault) => self.refuse(alloc, on_refusal, fault)?,
+            Err(fault) => self.refuse(alloc, asked.on_refusal, fault)?,
         }
         self.line.clear();
         self.lines += 1;
@@ -279,46 +282,33 @@ impl Gathered {
     }
 
     /// Takes bytes: each line that ends in them, and what comes of the next.
-    pub fn take(
-        &mut self,
-        alloc: Global,
-        options: Options,
-        task: Task,
-        on_refusal: OnRefusal,
-        bytes: &[u8],
-    ) -> Step
+    pub fn take(&mut self, alloc: Global, asked: Asked, bytes: &[u8]) -> Step
         requires room { HasRoom self.old }
         ensures room { HasRoom self.new }
-        ensures ok { OnOk result (Takes options task on_refusal bytes.now self.old self.new) }
-        ensures fault { IfErr result (λ e. StopsWithin options task on_refusal bytes.now e self.old self.new) }
+        ensures ok { OnOk result (Takes asked.options asked.task asked.on_refusal bytes.now self.old self.new) }
+        ensures fault { IfErr result (λ e. StopsWithin asked.options asked.task asked.on_refusal bytes.now e self.old self.new) }
         ensures count { IfErr result (λ e. IsCountedOut e self.new.lines) }
     {
         let mut rest = bytes;
         while let Some(at) = newline_at(rest) {
             self.extend_line(&rest[..at])?;
-            self.end_line(alloc, options, task, on_refusal)?;
+            self.end_line(alloc, asked)?;
             rest = &rest[at + 1..];
         }
         self.extend_line(rest)
     }
 
     /// Takes a last line that no newline ends, unless it is empty.
-    pub fn take_last(
-        &mut self,
-        alloc: Global,
-        options: Options,
-        task: Task,
-        on_refusal: OnRefusal,
-    ) -> Step
+    pub fn take_last(&mut self, alloc: Global, asked: Asked) -> Step
         requires room { HasRoom self.old }
         ensures room { HasRoom self.new }
-        ensures ok { OnOk result (Ends options task on_refusal self.old self.new) }
-        ensures fault { IfErr result (λ e. StopsLast options task on_refusal e self.old self.new) }
+        ensures ok { OnOk result (Ends asked.options asked.task asked.on_refusal self.old self.new) }
+        ensures fault { IfErr result (λ e. StopsLast asked.options asked.task asked.on_refusal e self.old self.new) }
         ensures count { IfErr result (λ e. IsCountedOut e self.new.lines) }
     {
         if self.line.is_empty() {
             return Ok(());
         }
-        self.end_line(alloc, options, task, on_refusal)
+        self.end_line(alloc, asked)
     }
 }

@@ -9,11 +9,11 @@ ghost use Rattle.bson.specs.TextMeaning.{IsTextOf};
 ghost use Rattle.bson_convert.specs.Convert.{IsRefusedIn};
 ghost use Rattle.bson_run.specs.InOrder.{ConvertsInOrder, IsOutputInOrder};
 
+use bson::Bson;
+use bson::extjson::{Form, Options, WriteError};
 use bson_convert::convert::{displayed_line, ended, line, refused};
 use bson_convert::fault::Fault;
 use bson_convert::mode::Mode;
-use bson::Bson;
-use bson::extjson::{Form, Options, WriteError};
 use bson_filter::filter::filter_text;
 use bson_filter::unfiltered::Unfiltered;
 use bson_tokens::unread::Unread;

@@ -10,13 +10,13 @@ ghost use Rattle.bson.specs.Texts.{IsTextInOrder, IsTextUnder};
 ghost use Rattle.bson_convert.specs.Convert.{IsConverted, IsRefusedIn, IsWritable};
 ghost use Rattle.bson_run.specs.Indent.{mode_of, ConvertsIndented, ConvertsInOrderIndented, IsLaidOut};
 
-use bson_convert::convert::{converted, refused};
-use bson_convert::fault::Fault;
 use crate::indent::indented;
-use bson_convert::mode::Mode;
 use bson::Bson;
 use bson::extjson::convert::Converted;
 use bson::extjson::{Form, Options, WriteError};
+use bson_convert::convert::{converted, ended, refused};
+use bson_convert::fault::Fault;
+use bson_convert::mode::Mode;
 use std::alloc::Global;
 
 /// [`convert_with`](bson_convert::convert::convert_with) in a form, its text over several lines, as
@@ -139,11 +139,8 @@ fn laid_out(alloc: Global, spaces: usize, text: &str) -> Result<Vec<u8>, Fault>
     ensures ok { IfOk result (λ output. IsLaidOut spaces text.now output.items) }
     ensures fault { IfErr result (λ fault. fault ≡ Fault.OutOfMemory) }
 {
-    let Ok(mut laid) = indented(alloc, spaces, text) else {
-        return Err(Fault::OutOfMemory);
-    };
-    match laid.push(b'\n') {
-        Ok(()) => Ok(laid),
+    match indented(alloc, spaces, text) {
+        Ok(laid) => ended(laid),
         Err(_) => Err(Fault::OutOfMemory),
     }
 }

@@ -8,7 +8,8 @@
 //! `order` and `refusal` (what is asked, and what is refused), `gathered` (the line that is read,
 //! and what those before it gave) and `lines` (the whole way). Why a text is refused, in words:
 //! `stop` (where bytes stop to be JSON) with `rule` (which of its rules they break, which `broken`
-//! finds), and `explain` with `quoted` (the value that stands at a place).
+//! finds), and `explain` with `quoted` (the value that stands at a place) and `told` (words, cut and
+//! escaped).
 #![tactic(auto)]
 
 mod broken;
@@ -25,3 +26,4 @@ pub mod refusal;
 pub mod rule;
 pub mod stop;
 pub mod taken;
+mod told;

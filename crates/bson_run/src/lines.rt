@@ -7,13 +7,13 @@ ghost use Rattle.bson_run.specs.LinesSteps.{CannotWriteBoth, HasRoom, HasWritten
 ghost use Rattle.bson_run.specs.LinesSteps.{IsStart, Running};
 ghost use Rattle.bson_run.specs.Place.{IsWhere};
 
-use bson_convert::convert::default_options;
-use bson_convert::fault::Fault;
-use crate::gathered::Gathered;
+use crate::gathered::{Asked, Gathered};
 use crate::order::{OnRefusal, Task};
 use crate::refusal::Refusal;
-use bson_convert::stream::write_whole;
 use bson::extjson::Options;
+use bson_convert::convert::default_options;
+use bson_convert::fault::Fault;
+use bson_convert::stream::write_whole;
 use std::alloc::Global;
 use std::io::{Read, Write};
 
@@ -99,16 +99,12 @@ pub fn run_lines_with<R: Read, W: Write, T: Write>(
     ensures place { IfErr result (λ e. IsWhere e.fault (string_bytes e.place) ⊎ (string_bytes e.place ≡ [])) }
 {
     let mut gathered = Gathered::new(alloc);
-    match run_on(
-        alloc,
+    let asked = Asked {
         options,
         task,
         on_refusal,
-        &mut gathered,
-        reader,
-        writer,
-        report,
-    ) {
+    };
+    match run_on(alloc, asked, &mut gathered, reader, writer, report) {
         Ok(counts) => Ok(counts),
         Err(fault) => Err(gathered.refusal(alloc, fault)),
     }
@@ -117,9 +113,7 @@ pub fn run_lines_with<R: Read, W: Write, T: Write>(
 // A run that has gathered nothing yet.
 fn run_on<R: Read, W: Write, T: Write>(
     alloc: Global,
-    options: Options,
-    task: Task,
-    on_refusal: OnRefusal,
+    asked: Asked,
     gathered: &mut Gathered,
     reader: &mut R,
     writer: &mut W,
@@ -129,11 +123,11 @@ fn run_on<R: Read, W: Write, T: Write>(
     requires room { HasRoom gathered.old }
     ensures room { HasRoom gathered.new }
     ensures done { IfOk result
-        (λ counts. DoneLinesIn options task on_refusal (R.remaining reader.old) (R.remaining reader.new)
+        (λ counts. DoneLinesIn asked.options asked.task asked.on_refusal (R.remaining reader.old) (R.remaining reader.new)
         (W.contents writer.old) (W.contents writer.new) (T.contents report.old) (T.contents report.new) counts.lines
         counts.refused) }
     ensures fails { IfErr result
-        (λ e. FailsAtIn options e task on_refusal (R.remaining reader.old) (R.remaining reader.new)
+        (λ e. FailsAtIn asked.options e asked.task asked.on_refusal (R.remaining reader.old) (R.remaining reader.new)
         (W.contents writer.old) (W.contents writer.new) (T.contents report.old) (T.contents report.new) (gathered.new.lines + 1)) }
 {
     let mut block = [0u8; BLOCK];
@@ -142,18 +136,9 @@ fn run_on<R: Read, W: Write, T: Write>(
             return Err(Fault::CannotRead);
         };
         if count == 0 {
-            return end(alloc, options, task, on_refusal, gathered, writer, report);
+            return end(alloc, asked, gathered, writer, report);
         }
-        pass_on(
-            alloc,
-            options,
-            task,
-            on_refusal,
-            gathered,
-            &block[..count],
-            writer,
-            report,
-        )?;
+        pass_on(alloc, asked, gathered, &block[..count], writer, report)?;
     }
     // A count that no run reaches.
     Err(Fault::CannotRead)
@@ -162,9 +147,7 @@ fn run_on<R: Read, W: Write, T: Write>(
 // Takes a block, and writes what its lines gave.
 fn pass_on<W: Write, T: Write>(
     alloc: Global,
-    options: Options,
-    task: Task,
-    on_refusal: OnRefusal,
+    asked: Asked,
     gathered: &mut Gathered,
     block: &[u8],
     writer: &mut W,
@@ -173,20 +156,20 @@ fn pass_on<W: Write, T: Write>(
     requires room { HasRoom gathered.old }
     ensures room { HasRoom gathered.new }
     ensures ok { OnOk result ((before given after had told : Option (List ℕ))
-        → Running options task on_refusal before given had (W.contents writer.old) told (T.contents report.old)
+        → Running asked.options asked.task asked.on_refusal before given had (W.contents writer.old) told (T.contents report.old)
         gathered.old
         → Consumes given after block.now
-        → Running options task on_refusal before after had (W.contents writer.new) told (T.contents report.new)
+        → Running asked.options asked.task asked.on_refusal before after had (W.contents writer.new) told (T.contents report.new)
         gathered.new) }
     ensures fails { IfErr result (λ e. (before given after had told : Option (List ℕ))
-        → Running options task on_refusal before given had (W.contents writer.old) told (T.contents report.old)
+        → Running asked.options asked.task asked.on_refusal before given had (W.contents writer.old) told (T.contents report.old)
         gathered.old
         → Consumes given after block.now
-        → FailsAtIn options e task on_refusal before after had (W.contents writer.new) told
+        → FailsAtIn asked.options e asked.task asked.on_refusal before after had (W.contents writer.new) told
         (T.contents report.new) (gathered.new.lines + 1)) }
     ensures count { IfErr result (λ e. IsCountedOut e gathered.new.lines) }
 {
-    let step = gathered.take(alloc, options, task, on_refusal, block);
+    let step = gathered.take(alloc, asked, block);
     write_out(gathered, writer, report)?;
     step
 }
@@ -194,9 +177,7 @@ fn pass_on<W: Write, T: Write>(
 // Takes a last line that no newline ends, and writes what it gave.
 fn end<W: Write, T: Write>(
     alloc: Global,
-    options: Options,
-    task: Task,
-    on_refusal: OnRefusal,
+    asked: Asked,
     gathered: &mut Gathered,
     writer: &mut W,
     report: &mut T,
@@ -204,20 +185,20 @@ fn end<W: Write, T: Write>(
     requires room { HasRoom gathered.old }
     ensures room { HasRoom gathered.new }
     ensures done { IfOk result (λ counts. (before after had told : Option (List ℕ))
-        → Running options task on_refusal before after had (W.contents writer.old) told (T.contents report.old)
+        → Running asked.options asked.task asked.on_refusal before after had (W.contents writer.old) told (T.contents report.old)
         gathered.old
         → IsAtEnd after
-        → DoneLinesIn options task on_refusal before after had (W.contents writer.new) told
+        → DoneLinesIn asked.options asked.task asked.on_refusal before after had (W.contents writer.new) told
         (T.contents report.new) counts.lines counts.refused) }
     ensures fails { IfErr result (λ e. (before after had told : Option (List ℕ))
-        → Running options task on_refusal before after had (W.contents writer.old) told (T.contents report.old)
+        → Running asked.options asked.task asked.on_refusal before after had (W.contents writer.old) told (T.contents report.old)
         gathered.old
         → IsAtEnd after
-        → FailsAtIn options e task on_refusal before after had (W.contents writer.new) told
+        → FailsAtIn asked.options e asked.task asked.on_refusal before after had (W.contents writer.new) told
         (T.contents report.new) (gathered.new.lines + 1)) }
     ensures count { IfErr result (λ e. IsCountedOut e gathered.new.lines) }
 {
-    let step = gathered.take_last(alloc, options, task, on_refusal);
+    let step = gathered.take_last(alloc, asked);
     write_out(gathered, writer, report)?;
     step?;
     Ok(Counts {

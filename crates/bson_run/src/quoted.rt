@@ -1,9 +1,9 @@
 //! The value that stands at a place in a text.
 ghost use Rattle.std.specs.Prelude.{◌≡◌, IfOk, IfSome, string_bytes};
-ghost use Rattle.std.specs.Char.{encode_utf8};
-ghost use Rattle.bson_run.specs.Place.{IsPart, IsQuote, cut_at, found_as};
+ghost use Rattle.bson_run.specs.Place.{IsPart, IsQuote, found_as};
 
 use crate::broken::MAX_DEPTH;
+use crate::told::told;
 use bson_place::place::Step;
 use json::{Invalid, Reader, Scratch, Token};
 use std::alloc::{AllocError, Global};
@@ -34,23 +34,8 @@ pub(crate) fn quote(alloc: Global, steps: &[Step], text: &[u8]) -> Result<String
 fn found(alloc: Global, value: &str) -> Result<String, AllocError>
     ensures { IfOk result (λ words. string_bytes words ≡ found_as value.now) }
 {
-    let value = cut(alloc, value)?;
+    let value = told(alloc, value, MOST, false)?;
     format!(in alloc; "; found {value}")
-}
-
-// The first characters of a value.
-fn cut(alloc: Global, value: &str) -> Result<String, AllocError>
-    ensures { IfOk result (λ words. string_bytes words ≡ cut_at 60 encode_utf8 value.now) }
-{
-    let mut words = String::new(alloc);
-    for c in value.chars().take(MOST) {
-        words.push(c)?;
-    }
-    if value.chars().nth(MOST).is_none() {
-        return Ok(words);
-    }
-    words.push_str("..")?;
-    Ok(words)
 }
 
 // The value that begins there, without what separates it from the next.
@@ -122,15 +107,9 @@ fn value_in_object(
 }
 
 fn is_element(step: &Step, at: usize) -> bool {
-    match step {
-        Step::Element(place) => *place == at,
-        Step::Key(_) => false,
-    }
+    matches!(step, Step::Element(place) if *place == at)
 }
 
 fn is_key(step: &Step, key: &str) -> bool {
-    match step {
-        Step::Element(_) => false,
-        Step::Key(wanted) => wanted.as_str() == key,
-    }
+    matches!(step, Step::Key(wanted) if wanted.as_str() == key)
 }

@@ -1,12 +1,11 @@
 //! Where bytes stop to be a JSON text.
 ghost use Rattle.std.specs.Prelude.{◌≡◌, ◌↔◌, IfOk, IsTrue};
-ghost use Rattle.bson_run.specs.Place.{Breaks, HasGrammar};
+ghost use Rattle.bson_run.specs.Place.{Breaks, HasGrammar, before_stop, column_at, line_at};
 
 use crate::broken::{MAX_DEPTH, rule_of};
 use crate::rule::Rule;
 use bson_tokens::number::number;
 use json::{Reader, Scratch, Token};
-use memchr::{memchr_iter, memrchr};
 use std::alloc::{AllocError, Global};
 
 /// Where bytes stop to be a JSON text, for a message.
@@ -46,21 +45,25 @@ impl Stop {
     }
 
     /// The line on which it lies, counted from 1.
-    pub fn line(self, bytes: &[u8]) -> usize {
-        1usize.saturating_add(memchr_iter(b'\n', self.before(bytes)).count())
+    pub fn line(self, bytes: &[u8]) -> usize
+        ensures { result ≡ line_at self.offset bytes.now }
+    {
+        let before = self.before(bytes);
+        1 + before.iter().filter(|byte| **byte == b'\n').count()
     }
 
     /// The column of the byte there, or of the last where the bytes end, counted from 1.
-    pub fn column(self, bytes: &[u8]) -> usize {
-        let before = self.before(bytes);
-        match memrchr(b'\n', before) {
-            Some(at) => before.len() - at,
-            None => before.len() + 1,
-        }
+    pub fn column(self, bytes: &[u8]) -> usize
+        ensures { result ≡ column_at self.offset bytes.now }
+    {
+        let line = self.before(bytes).iter().rev();
+        1 + line.take_while(|byte| **byte != b'\n').count()
     }
 
     // The bytes before it, which are not all.
-    fn before(self, bytes: &[u8]) -> &[u8] {
+    fn before(self, bytes: &[u8]) -> &[u8]
+        ensures { result.now ≡ before_stop self.offset bytes.now }
+    {
         &bytes[..self.offset.min(bytes.len().saturating_sub(1))]
     }
 }
@@ -108,10 +111,7 @@ fn number_out_of_range(text: &str, scratch: &mut Scratch) -> Result<usize, Alloc
 }
 
 fn is_out_of_range(token: Token<'_>) -> bool {
-    match token {
-        Token::Number(digits) => number(digits).is_none(),
-        _ => false,
-    }
+    matches!(token, Token::Number(digits) if number(digits).is_none())
 }
 
 // How many bytes from there on stand before a number.

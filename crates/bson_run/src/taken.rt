@@ -3,8 +3,8 @@ ghost use Rattle.std.specs.Prelude.{◌≡◌, IfErr, IfOk, OnOk};
 ghost use Rattle.bson_run.specs.Taken.{HasNoDoubleKey, IsTakenAs, IsUntaken, StandsFor, taken_of};
 ghost use Rattle.bson_run.specs.declared.order.Taking.TheVariants.{Distinct};
 
-use bson_convert::fault::Fault;
 use crate::order::Taking;
+use bson_convert::fault::Fault;
 use bson_distinct::walk::first_double_key;
 use bson_legacy::modern::modern_text;
 use bson_place::place::{Place, Reason};

@@ -16,12 +16,12 @@ use crate::flags::{KeyOrder, has_others, options_of, order_of};
 use crate::status;
 use crate::text::{Text, text_of_line};
 use bson::extjson::Options;
-use bson_place::place::Reason;
 use bson_convert::convert::convert_with;
 use bson_convert::fault::Fault;
-use bson_run::in_order::convert_in_order;
 use bson_convert::mode::Mode;
 use bson_convert::no_bytes::NoBytes;
+use bson_place::place::Reason;
+use bson_run::in_order::convert_in_order;
 use std::alloc::Global;
 
 /// Reads the text as one text of Extended JSON, and leaves the text of its value in a mode: 0 the

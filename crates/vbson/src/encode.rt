@@ -18,8 +18,8 @@ use crate::flags::{KeyOrder, has_others, options_of, order_of};
 use crate::status;
 use crate::text::{Text, as_line, text_of_line};
 use bson::extjson::Options;
-use bson_run::encode::{encode_in_order, encode_with};
 use bson_convert::fault::Fault;
+use bson_run::encode::{encode_in_order, encode_with};
 use std::alloc::Global;
 
 /// Leaves the canonical bytes of the document that a text of Extended JSON means, with the flags of

@@ -10,9 +10,9 @@ use crate::status;
 use crate::text::{Text, text_of_line};
 use bson::extjson::Options;
 use bson_convert::convert::convert_with;
-use bson_run::explain::explain;
 use bson_convert::fault::Fault;
 use bson_convert::mode::Mode;
+use bson_run::explain::explain;
 use std::alloc::{AllocError, Global};
 
 /// Leaves the words for why a text is refused, and where: `not JSON at column 7 (RULE)`, or

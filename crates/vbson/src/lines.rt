@@ -9,8 +9,8 @@ use crate::flags::{KeyOrder, has_others, options_of, order_of};
 use crate::status;
 use crate::text::{Text, as_line, text_of_line};
 use bson::extjson::Options;
-use bson_run::lines::run_lines_with;
 use bson_convert::mode::Mode;
+use bson_run::lines::run_lines_with;
 use bson_run::order::{OnRefusal, Task};
 use std::alloc::Global;
 

@@ -4,7 +4,7 @@ use Rattle.bson_run.proofs.lines.run_on.Given as goal
 abbrev pub invariant-loop : goal.invariant-loop
 invariant-loop g l = record {
   room : HasRoom l.gathered;
-  running : Running l.options l.task l.on_refusal (g.R.Read.remaining l.initial.reader) (g.R.Read.remaining l.reader)
-      (g.W.Write.contents l.initial.writer) (g.W.Write.contents l.writer) (g.T.Write.contents l.initial.report)
-      (g.T.Write.contents l.report) l.gathered;
+  running : Running l.asked.options l.asked.task l.asked.on_refusal (g.R.Read.remaining l.initial.reader)
+      (g.R.Read.remaining l.reader) (g.W.Write.contents l.initial.writer) (g.W.Write.contents l.writer)
+      (g.T.Write.contents l.initial.report) (g.T.Write.contents l.report) l.gathered;
 }

@@ -27,8 +27,8 @@ returns-clause-ok c =
           ∙ ap (λ (v : Vec ℕ Global). self.output.items ++ v.items) w.in-Ok-Some.output-is)
           (ap (λ (s : Gathered). s.told.items) w.self-is ∙ ap (λ v. v.items) added.same.1)
           (ap (λ (s : Gathered). s.refused) w.self-is ∙ added.same.3)
-          (subst (λ x. WritesIn c.args.options c.args.task x w.in-Ok-Some.output.items) text
-          (subst (λ some. IfSome some (λ output. WritesIn c.args.options c.args.task c.text.result.now output.items))
+          (subst (λ x. WritesIn c.args.asked.options c.args.asked.task x w.in-Ok-Some.output.items) text
+          (subst (λ some. IfSome some (λ output. WritesIn c.args.asked.options c.args.asked.task c.text.result.now output.items))
           w.in-Ok-Some.field-0-is w.in-Ok-Some.ensures.ok))
       | in-Err+in_ok-refuse-in-Err w ↦
           let refused = w.in_ok-refuse-in-Err.ensures in
@@ -36,7 +36,7 @@ returns-clause-ok c =
           (ap (λ (s : Gathered). s.lines + 1) w.self-is ∙ ap (λ n. n + 1) refused.same.2)
           (ap (λ (s : Gathered). s.output.items) w.self-is ∙ ap (λ v. v.items) refused.same.1)
           (ap (λ (s : Gathered). s.refused) w.self-is ∙ refused.ok.2) refused.ok.1
-          (judged_bad c.args.options c.args.task w.in-Err.fault _ (subst (IsJudged c.args.options c.args.task w.in-Err.fault) text w.in-Err.ensures.fault) refused.ok.0)
-          (subst (IsTold c.args.options c.args.task (self.lines + 1) w.in-Err.fault (text_of self.lines self.line.items) self.told.items)
-          (sym (ap (λ (s : Gathered). s.told.items) w.self-is)) (refused.ok.3 c.args.options c.args.task))
+          (judged_bad c.args.asked.options c.args.asked.task w.in-Err.fault _ (subst (IsJudged c.args.asked.options c.args.asked.task w.in-Err.fault) text w.in-Err.ensures.fault) refused.ok.0)
+          (subst (IsTold c.args.asked.options c.args.asked.task (self.lines + 1) w.in-Err.fault (text_of self.lines self.line.items) self.told.items)
+          (sym (ap (λ (s : Gathered). s.told.items) w.self-is)) (refused.ok.3 c.args.asked.options c.args.asked.task))
     ]

@@ -4,7 +4,8 @@ use Rattle.bson_run.proofs.gathered.Gathered.take.Given as goal
 
 abbrev pub invariant-loop-at : goal.invariant-loop-at
 invariant-loop-at l =
-    HasRoom l.self × ((taken : List ℕ) × (l.bytes ≡ taken ++ l.rest) × Takes l.options l.task l.on_refusal taken l.fn.self l.self)
+    HasRoom l.self × ((taken : List ℕ) × (l.bytes ≡ taken ++ l.rest)
+    × Takes l.asked.options l.asked.task l.asked.on_refusal taken l.fn.self l.self)
 
 abbrev pub decreases-loop-at : goal.decreases-loop-at
 decreases-loop-at l = length l.rest

@@ -4,7 +4,8 @@ use Rattle.json.specs.Print.{token_text, separator, begins}
 use Rattle.json.specs.Layout.{is_value}
 use Rattle.json.specs.Reads.{token_of}
 use Rattle.bson_run.specs.Indent.{line, gap, stands, last_of}
-use Rattle.bson_run.proofs.Indenting.{on_ok, joined}
+use Rattle.bson_run.proofs.Indenting.{joined}
+use Rattle.bson_run.proofs.LinesLaws.{oks}
 use Rattle.bson_run.proofs.indent.Layout.put.Goals as goal
 
 pub returns : goal.returns
@@ -21,7 +22,7 @@ returns c = λ n indent at.
     let between : c.put_gap.new.out.items ≡ c.put_comma.new.out.items ++ gap before (begins t) (stands n t indent) =
     c.in_ok-put_gap.ensures (stands n t indent) (c.deref-2.ensures.value ∙ start)
     ∙ (λ i. c.put_comma.new.out.items ++ gap before (b i) (stands n t indent)) in
-    on_ok c.step_in.result (c.step_in.ensures n (stands n t indent) (c.deref-3.ensures.value ∙ at.step) start) (λ more. record {
+    oks c.step_in.result (c.step_in.ensures n (stands n t indent) (c.deref-3.ensures.value ∙ at.step) start) (λ more. record {
       at = record {
         step = at.step;
         start = more ∙ (λ i. line (if c.opens.ensures i then (stands n t indent + n) else (stands n t indent)));
