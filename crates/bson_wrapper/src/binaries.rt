@@ -32,8 +32,8 @@ const BINARY_SHAPE: &str = "`$binary` holds the texts `base64` and `subType`";
 
 const UUID_SHAPE: &str = "`$uuid` holds the hyphenated text of a UUID";
 
-/// The byte of a text of two hexadecimal digits.
-pub fn byte_of(text: &str) -> Option<u8>
+// The byte of a text of two hexadecimal digits.
+fn byte_of(text: &str) -> Option<u8>
     ensures { result ≡ byte_at text.now }
 {
     let mut bytes = [0u8; 1];
@@ -55,8 +55,8 @@ fn bytes_of(alloc: Global, text: &str) -> Result<Vec<u8>, Error>
     }
 }
 
-/// What `$binary` holds, as a binary.
-pub fn read_binary(alloc: Global, value: Value) -> Result<Scalar, Error>
+// What `$binary` holds, as a binary.
+pub(crate) fn read_binary(alloc: Global, value: Value) -> Result<Scalar, Error>
     ensures { Gives scalar_view result (binary_read (view value)) }
 {
     let (base64, subtype) = two_in(value, "base64", "subType", BINARY_SHAPE)?;
@@ -86,10 +86,10 @@ fn uuid_of(text: &str) -> Option<Uuid>
     }
 }
 
-/// What `$uuid` holds, as a binary of the subtype of UUIDs: a text of 36 bytes, with `-` at places
-/// 8, 13, 18 and 23, counted from 0, and hexadecimal digits of either case elsewhere. The other
-/// spellings that `Uuid::parse_str` takes are refused.
-pub fn read_uuid(alloc: Global, value: Value) -> Result<Scalar, Error>
+// What `$uuid` holds, as a binary of the subtype of UUIDs: a text of 36 bytes, with `-` at places
+// 8, 13, 18 and 23, counted from 0, and hexadecimal digits of either case elsewhere. The other
+// spellings that `Uuid::parse_str` takes are refused.
+pub(crate) fn read_uuid(alloc: Global, value: Value) -> Result<Scalar, Error>
     ensures { Gives scalar_view result (uuid_read (view value)) }
 {
     let text = text_in(value, UUID_SHAPE)?;
@@ -143,8 +143,8 @@ fn write_texts<S: Sink>(texts: Texts, out: &mut S) -> Result<S::Tree, AllocError
     end_one(key, texts, out)
 }
 
-/// Writes the tree of a binary, in both forms.
-pub fn write_binary<S: Sink>(
+// Writes the tree of a binary, in both forms.
+pub(crate) fn write_binary<S: Sink>(
     alloc: Global,
     binary: &Binary,
     out: &mut S,
@@ -157,9 +157,9 @@ pub fn write_binary<S: Sink>(
     write_texts(texts_of(alloc, binary)?, out)
 }
 
-/// Writes the tree of a binary, as `write_binary` does. Its bytes are dropped before the texts are
-/// put into the sink.
-pub fn write_owned<S: Sink>(
+// Writes the tree of a binary, as `write_binary` does. Its bytes are dropped before the texts are
+// put into the sink.
+pub(crate) fn write_owned<S: Sink>(
     alloc: Global,
     binary: Binary,
     out: &mut S,

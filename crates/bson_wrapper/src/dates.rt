@@ -52,8 +52,8 @@ fn millis_in(value: Value) -> Result<i64, Error>
     }
 }
 
-/// What `$date` holds, as a moment.
-pub fn read_date(value: Value) -> Result<Scalar, Error>
+// What `$date` holds, as a moment.
+pub(crate) fn read_date(value: Value) -> Result<Scalar, Error>
     ensures { Gives scalar_view result (date_read (view value)) }
 {
     let millis = millis_in(value)?;
@@ -95,8 +95,8 @@ fn write_relaxed<S: Sink>(alloc: Global, date: DateTime, out: &mut S) -> Result<
     }
 }
 
-/// Writes the tree of a moment in a form.
-pub fn write_date<S: Sink>(
+// Writes the tree of a moment in a form.
+pub(crate) fn write_date<S: Sink>(
     alloc: Global,
     form: Form,
     date: DateTime,

@@ -18,15 +18,15 @@ use std::alloc::{AllocError, Global};
 
 const SHAPE: &str = "`$numberDecimal` holds the text of a decimal that a Decimal128 has exactly";
 
-/// The decimal of a text.
-pub fn decimal_of(text: &str) -> Option<Decimal128>
+// The decimal of a text.
+fn decimal_of(text: &str) -> Option<Decimal128>
     ensures { result ≡ decimal_in text.now }
 {
     text.parse::<Decimal128>().ok()
 }
 
-/// What `$numberDecimal` holds, as a decimal.
-pub fn read_decimal(value: Value) -> Result<Scalar, Error>
+// What `$numberDecimal` holds, as a decimal.
+pub(crate) fn read_decimal(value: Value) -> Result<Scalar, Error>
     ensures { Gives scalar_view result (decimal_read (view value)) }
 {
     let text = text_in(value, SHAPE)?;
@@ -34,8 +34,8 @@ pub fn read_decimal(value: Value) -> Result<Scalar, Error>
     Ok(Scalar::Decimal128(decimal))
 }
 
-/// Writes the tree of a decimal, in both forms.
-pub fn write_decimal<S: Sink>(
+// Writes the tree of a decimal, in both forms.
+pub(crate) fn write_decimal<S: Sink>(
     alloc: Global,
     decimal: Decimal128,
     out: &mut S,

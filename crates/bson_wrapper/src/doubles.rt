@@ -35,8 +35,8 @@ pub const NUMBER: &str = "a number is no whole number of 64 bits";
 
 const FINITE_NUMBER: &str = "a number is greater than any double";
 
-/// The pattern of a text: of a NaN the quiet one of its sign with no payload.
-pub fn double_of(text: &str) -> Option<u64>
+// The pattern of a text: of a NaN the quiet one of its sign with no payload.
+fn double_of(text: &str) -> Option<u64>
     ensures { result ≡ spec.double_of text.now }
 {
     if text == "0.0" {
@@ -82,8 +82,8 @@ fn shape(doubles: Doubles) -> &'static str {
     }
 }
 
-/// What `$numberDouble` holds, as the pattern of a double.
-pub fn read_double(doubles: Doubles, value: Value) -> Result<Scalar, Error>
+// What `$numberDouble` holds, as the pattern of a double.
+pub(crate) fn read_double(doubles: Doubles, value: Value) -> Result<Scalar, Error>
     ensures { Gives scalar_view result (double_read_in doubles (view value)) }
 {
     let text = text_in(value, shape(doubles))?;
@@ -192,10 +192,10 @@ fn write_relaxed<S: Sink>(pattern: u64, out: &mut S) -> Result<S::Tree, WriteErr
     }
 }
 
-/// Writes the tree of a double: a NaN as `NaN` or `-NaN` by its sign. Where finite doubles are
-/// written one that is finite is its shortest decimal, which the relaxed form has as a JSON number.
-/// Where they are not one that is no zero is refused as `FiniteDouble`.
-pub fn write_double<S: Sink>(
+// Writes the tree of a double: a NaN as `NaN` or `-NaN` by its sign. Where finite doubles are
+// written one that is finite is its shortest decimal, which the relaxed form has as a JSON number.
+// Where they are not one that is no zero is refused as `FiniteDouble`.
+pub(crate) fn write_double<S: Sink>(
     doubles: Doubles,
     form: Form,
     pattern: u64,

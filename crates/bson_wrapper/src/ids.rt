@@ -24,8 +24,8 @@ use std::alloc::{AllocError, Global};
 
 const POINTER_SHAPE: &str = "`$dbPointer` holds `$ref`, a text, and `$id`, an object of `$oid`";
 
-/// The object id of a text, or `InvalidObjectId` with the fault that the text has.
-pub fn id_of(alloc: Global, text: &str) -> Result<ObjectId, Error>
+// The object id of a text, or `InvalidObjectId` with the fault that the text has.
+fn id_of(alloc: Global, text: &str) -> Result<ObjectId, Error>
     ensures { Gives (λ id. id) result (id_of text.now) }
 {
     match ObjectId::parse_str(alloc, text) {
@@ -35,17 +35,17 @@ pub fn id_of(alloc: Global, text: &str) -> Result<ObjectId, Error>
     }
 }
 
-/// What `$oid` holds, as an object id.
-pub fn read_oid(alloc: Global, value: Value) -> Result<Scalar, Error>
+// What `$oid` holds, as an object id.
+pub(crate) fn read_oid(alloc: Global, value: Value) -> Result<Scalar, Error>
     ensures { Gives scalar_view result (oid_read (view value)) }
 {
     let text = text_in(value, "`$oid` holds the text of an object id")?;
     Ok(Scalar::ObjectId(id_of(alloc, text.as_str())?))
 }
 
-/// What `$dbPointer` holds, as a pointer. The shape is tested first, so that the text of the
-/// object id is told as the fault only where it alone is wrong.
-pub fn read_pointer(alloc: Global, value: Value) -> Result<Scalar, Error>
+// What `$dbPointer` holds, as a pointer. The shape is tested first, so that the text of the
+// object id is told as the fault only where it alone is wrong.
+pub(crate) fn read_pointer(alloc: Global, value: Value) -> Result<Scalar, Error>
     ensures { Gives scalar_view result (pointer_read (view value)) }
 {
     let (id, name) = two_in(value, "$id", "$ref", POINTER_SHAPE)?;
@@ -55,8 +55,12 @@ pub fn read_pointer(alloc: Global, value: Value) -> Result<Scalar, Error>
     Ok(Scalar::DbPointer(DbPointer::new(namespace, id)))
 }
 
-/// Writes the tree of an object id, in both forms.
-pub fn write_oid<S: Sink>(alloc: Global, id: ObjectId, out: &mut S) -> Result<S::Tree, AllocError>
+// Writes the tree of an object id, in both forms.
+pub(crate) fn write_oid<S: Sink>(
+    alloc: Global,
+    id: ObjectId,
+    out: &mut S,
+) -> Result<S::Tree, AllocError>
     ensures written { IfOk result (λ t. S.wrote out.old (oid_tree id) t out.new) }
     ensures before { S.before out.new ≡ S.before out.old }
     ensures ranged { OnOk result (IsObjectId id) }
@@ -85,8 +89,8 @@ fn write_reference<S: Sink>(
     end_two(next, namespace, out)
 }
 
-/// Writes the tree of a pointer, in both forms.
-pub fn write_pointer<S: Sink>(
+// Writes the tree of a pointer, in both forms.
+pub(crate) fn write_pointer<S: Sink>(
     alloc: Global,
     pointer: DbPointer,
     out: &mut S,

@@ -20,22 +20,22 @@ const INT32_SHAPE: &str = "`$numberInt` holds the text of an i32";
 
 const INT64_SHAPE: &str = "`$numberLong` holds the text of an i64";
 
-/// The number of a text: a sign or none, and digits, whose number is an i32.
-pub fn int32_of(text: &str) -> Option<i32>
+// The number of a text: a sign or none, and digits, whose number is an i32.
+fn int32_of(text: &str) -> Option<i32>
     ensures { result ≡ int_of 31 text.now }
 {
     text.parse::<i32>().ok()
 }
 
-/// The number of a text: a sign or none, and digits, whose number is an i64.
-pub fn int64_of(text: &str) -> Option<i64>
+// The number of a text: a sign or none, and digits, whose number is an i64.
+pub(crate) fn int64_of(text: &str) -> Option<i64>
     ensures { result ≡ int_of 63 text.now }
 {
     text.parse::<i64>().ok()
 }
 
-/// What `$numberInt` holds, as an Int32.
-pub fn read_int32(value: Value) -> Result<Scalar, Error>
+// What `$numberInt` holds, as an Int32.
+pub(crate) fn read_int32(value: Value) -> Result<Scalar, Error>
     ensures { Gives scalar_view result (int32_read (view value)) }
 {
     let text = text_in(value, INT32_SHAPE)?;
@@ -43,8 +43,8 @@ pub fn read_int32(value: Value) -> Result<Scalar, Error>
     Ok(Scalar::Int32(number))
 }
 
-/// What `$numberLong` holds, as an Int64.
-pub fn read_int64(value: Value) -> Result<Scalar, Error>
+// What `$numberLong` holds, as an Int64.
+pub(crate) fn read_int64(value: Value) -> Result<Scalar, Error>
     ensures { Gives scalar_view result (int64_read (view value)) }
 {
     let text = text_in(value, INT64_SHAPE)?;
@@ -52,8 +52,12 @@ pub fn read_int64(value: Value) -> Result<Scalar, Error>
     Ok(Scalar::Int64(number))
 }
 
-/// Writes the tree of an Int32: its text under `$numberInt`, or in the relaxed form the number.
-pub fn write_int32<S: Sink>(form: Form, number: i32, out: &mut S) -> Result<S::Tree, AllocError>
+// Writes the tree of an Int32: its text under `$numberInt`, or in the relaxed form the number.
+pub(crate) fn write_int32<S: Sink>(
+    form: Form,
+    number: i32,
+    out: &mut S,
+) -> Result<S::Tree, AllocError>
     ensures written { IfOk result (λ t. S.wrote out.old (int32_form form number) t out.new) }
     ensures before { S.before out.new ≡ S.before out.old }
 {
@@ -63,8 +67,12 @@ pub fn write_int32<S: Sink>(form: Form, number: i32, out: &mut S) -> Result<S::T
     }
 }
 
-/// Writes the tree of an Int64: its text under `$numberLong`, or in the relaxed form the number.
-pub fn write_int64<S: Sink>(form: Form, number: i64, out: &mut S) -> Result<S::Tree, AllocError>
+// Writes the tree of an Int64: its text under `$numberLong`, or in the relaxed form the number.
+pub(crate) fn write_int64<S: Sink>(
+    form: Form,
+    number: i64,
+    out: &mut S,
+) -> Result<S::Tree, AllocError>
     ensures written { IfOk result (λ t. S.wrote out.old (int64_form form number) t out.new) }
     ensures before { S.before out.new ≡ S.before out.old }
 {

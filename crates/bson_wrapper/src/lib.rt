@@ -12,25 +12,25 @@
 //! (the keys of code with its scope); `laws`.
 #![tactic(auto)]
 
-pub mod binaries;
+mod binaries;
 pub mod code;
-pub mod dates;
-pub mod decimals;
+mod dates;
+mod decimals;
 pub mod doubles;
 pub mod error;
 pub mod form;
-pub mod ids;
-pub mod ints;
+mod ids;
+mod ints;
 pub mod laws;
-pub mod lone;
+mod lone;
 pub mod read;
-pub mod regexes;
+mod regexes;
 pub mod scalar;
 pub mod scalar_ref;
-pub mod shapes;
-pub mod sink;
-pub mod texts;
-pub mod timestamps;
+mod shapes;
+mod sink;
+mod texts;
+mod timestamps;
 mod wrapped;
 pub mod wrapper;
 pub mod write;

@@ -23,8 +23,8 @@ fn is_one(value: &Value) -> bool
     whole_of(value) == Some(1)
 }
 
-/// What `$minKey` holds: the number 1.
-pub fn read_min_key(value: Value) -> Result<Scalar, Error>
+// What `$minKey` holds: the number 1.
+pub(crate) fn read_min_key(value: Value) -> Result<Scalar, Error>
     ensures { Gives scalar_view result (one_read min_key (view value)) }
 {
     if is_one(&value) {
@@ -36,8 +36,8 @@ pub fn read_min_key(value: Value) -> Result<Scalar, Error>
     }
 }
 
-/// What `$maxKey` holds: the number 1.
-pub fn read_max_key(value: Value) -> Result<Scalar, Error>
+// What `$maxKey` holds: the number 1.
+pub(crate) fn read_max_key(value: Value) -> Result<Scalar, Error>
     ensures { Gives scalar_view result (one_read max_key (view value)) }
 {
     if is_one(&value) {
@@ -49,8 +49,8 @@ pub fn read_max_key(value: Value) -> Result<Scalar, Error>
     }
 }
 
-/// What `$undefined` holds: true.
-pub fn read_undefined(value: Value) -> Result<Scalar, Error>
+// What `$undefined` holds: true.
+pub(crate) fn read_undefined(value: Value) -> Result<Scalar, Error>
     ensures { Gives scalar_view result (undefined_read (view value)) }
 {
     match value {
@@ -71,24 +71,24 @@ fn write_one<S: Sink>(name: &str, out: &mut S) -> Result<S::Tree, AllocError>
     end_one(key, one, out)
 }
 
-/// Writes the tree of the least key, in both forms.
-pub fn write_min_key<S: Sink>(out: &mut S) -> Result<S::Tree, AllocError>
+// Writes the tree of the least key, in both forms.
+pub(crate) fn write_min_key<S: Sink>(out: &mut S) -> Result<S::Tree, AllocError>
     ensures written { IfOk result (λ t. S.wrote out.old min_key_tree t out.new) }
     ensures before { S.before out.new ≡ S.before out.old }
 {
     write_one("$minKey", out)
 }
 
-/// Writes the tree of the greatest key, in both forms.
-pub fn write_max_key<S: Sink>(out: &mut S) -> Result<S::Tree, AllocError>
+// Writes the tree of the greatest key, in both forms.
+pub(crate) fn write_max_key<S: Sink>(out: &mut S) -> Result<S::Tree, AllocError>
     ensures written { IfOk result (λ t. S.wrote out.old max_key_tree t out.new) }
     ensures before { S.before out.new ≡ S.before out.old }
 {
     write_one("$maxKey", out)
 }
 
-/// Writes the tree of the undefined value, in both forms.
-pub fn write_undefined<S: Sink>(out: &mut S) -> Result<S::Tree, AllocError>
+// Writes the tree of the undefined value, in both forms.
+pub(crate) fn write_undefined<S: Sink>(out: &mut S) -> Result<S::Tree, AllocError>
     ensures written { IfOk result (λ t. S.wrote out.old undefined_tree t out.new) }
     ensures before { S.before out.new ≡ S.before out.old }
 {

@@ -1,7 +1,7 @@
 //! Reads an object of one wrapper key: the table of wrappers and what each holds.
 ghost use Rattle.serde_json.specs.View.{view};
 ghost use Rattle.bson_wrapper.specs.Faults.{Gives};
-ghost use Rattle.bson_wrapper.specs.Reading.{single_in, single_at, single_at_in};
+ghost use Rattle.bson_wrapper.specs.Reading.{single_in, single_at_in};
 ghost use Rattle.bson_wrapper.specs.Table.{wrapper_of};
 ghost use Rattle.bson_wrapper.specs.View.{scalar_view};
 
@@ -54,15 +54,7 @@ pub fn read_wrapper(
     }
 }
 
-/// What an object of this one key means, where it is a wrapper key; any other key is refused. No
-/// finite doubles but zeros are read.
-pub fn read_single(alloc: Global, key: &str, value: Value) -> Result<Scalar, Error>
-    ensures { Gives scalar_view result (single_at (wrapper_of key.now) (view value)) }
-{
-    read_single_in(alloc, Doubles::Special, key, value)
-}
-
-/// What an object of this one key means, as `read_single` reads it, in either mode of doubles.
+/// What an object of this one key means, where it is a wrapper key; any other key is refused.
 pub fn read_single_in(
     alloc: Global,
     doubles: Doubles,

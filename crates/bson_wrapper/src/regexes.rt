@@ -19,8 +19,8 @@ use std::alloc::{AllocError, Global};
 
 const SHAPE: &str = "`$regularExpression` holds the texts `pattern` and `options`";
 
-/// What `$regularExpression` holds, as a regular expression with its options sorted.
-pub fn read_regex(alloc: Global, value: Value) -> Result<Scalar, Error>
+// What `$regularExpression` holds, as a regular expression with its options sorted.
+pub(crate) fn read_regex(alloc: Global, value: Value) -> Result<Scalar, Error>
     ensures { Gives scalar_view result (regex_read (view value)) }
 {
     let (options, pattern) = two_in(value, "options", "pattern", SHAPE)?;
@@ -30,8 +30,12 @@ pub fn read_regex(alloc: Global, value: Value) -> Result<Scalar, Error>
     Ok(Scalar::RegularExpression(Regex { pattern, options }))
 }
 
-/// Writes the tree of a regular expression, in both forms, its options sorted.
-pub fn write_regex<S: Sink>(alloc: Global, regex: Regex, out: &mut S) -> Result<S::Tree, AllocError>
+// Writes the tree of a regular expression, in both forms, its options sorted.
+pub(crate) fn write_regex<S: Sink>(
+    alloc: Global,
+    regex: Regex,
+    out: &mut S,
+) -> Result<S::Tree, AllocError>
     ensures written { IfOk result (λ t. S.wrote out.old
         (regex_tree (string_bytes regex.pattern) (sorted_text (string_bytes regex.options))) t out.new) }
     ensures before { S.before out.new ≡ S.before out.old }

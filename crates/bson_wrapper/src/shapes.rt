@@ -12,8 +12,8 @@ ghost use Rattle.bson_wrapper.specs.Shapes.{u32_at, whole};
 use crate::error::Error;
 use serde_json::{Map, Value};
 
-/// The value, or `DeserializationError` with the message where there is none.
-pub fn expected<T: Drop>(value: Option<T>, message: &'static str) -> Result<T, Error>
+// The value, or `DeserializationError` with the message where there is none.
+pub(crate) fn expected<T: Drop>(value: Option<T>, message: &'static str) -> Result<T, Error>
     ensures { Gives (λ x. x) result (or_wrong_shape value) }
 {
     match value {
@@ -22,8 +22,8 @@ pub fn expected<T: Drop>(value: Option<T>, message: &'static str) -> Result<T, E
     }
 }
 
-/// The text that a tree is, moved out of it.
-pub fn text_in(value: Value, message: &'static str) -> Result<String, Error>
+// The text that a tree is, moved out of it.
+pub(crate) fn text_in(value: Value, message: &'static str) -> Result<String, Error>
     ensures { Gives string_bytes result (or_wrong_shape (as_str (view value))) }
 {
     match value {
@@ -32,8 +32,8 @@ pub fn text_in(value: Value, message: &'static str) -> Result<String, Error>
     }
 }
 
-/// What an object of this key alone holds.
-pub fn lone_in(value: Value, key: &str, message: &'static str) -> Result<Value, Error>
+// What an object of this key alone holds.
+pub(crate) fn lone_in(value: Value, key: &str, message: &'static str) -> Result<Value, Error>
     ensures { Gives view result (or_wrong_shape (lone_member key.now (view value))) }
 {
     match lone_of(value, key) {
@@ -42,8 +42,8 @@ pub fn lone_in(value: Value, key: &str, message: &'static str) -> Result<Value, 
     }
 }
 
-/// What an object of just these two keys holds, of which `first` is the lesser.
-pub fn two_in(
+// What an object of just these two keys holds, of which `first` is the lesser.
+pub(crate) fn two_in(
     value: Value,
     first: &str,
     second: &str,
@@ -112,15 +112,15 @@ fn lone_of(value: Value, name: &str) -> Option<Value>
     }
 }
 
-/// The whole number that a tree is, where it is an i64.
-pub fn whole_of(value: &Value) -> Option<i64>
+// The whole number that a tree is, where it is an i64.
+pub(crate) fn whole_of(value: &Value) -> Option<i64>
     ensures { result ≡ whole (view value.now) }
 {
     value.as_i64()
 }
 
-/// The whole number from 0 to 4294967295 that a tree is.
-pub fn u32_of(value: &Value) -> Option<u32>
+// The whole number from 0 to 4294967295 that a tree is.
+pub(crate) fn u32_of(value: &Value) -> Option<u32>
     ensures { result ≡ u32_at (view value.now) }
 {
     match whole_of(value) {

@@ -12,16 +12,16 @@ use json::Writer;
 use serde_json::{Map, Value};
 use std::alloc::{AllocError, Global};
 
-/// Where a tree is written to, its parts in their order. Each call answers what stands for what it
-/// wrote: a tree in memory, or nothing where its text was appended.
-pub trait Sink {
-    /// A tree that was written.
+// Where a tree is written to, its parts in their order. Each call answers what stands for what it
+// wrote: a tree in memory, or nothing where its text was appended.
+pub(crate) trait Sink {
+    // A tree that was written.
     type Tree: Drop;
 
-    /// A map that was begun.
+    // A map that was begun.
     type Map: Drop;
 
-    /// A map that was begun, and the key of the tree that comes next in it.
+    // A map that was begun, and the key of the tree that comes next in it.
     type Key: Drop;
 
     // What stood in the sink before all that was written to it.
@@ -37,67 +37,67 @@ pub trait Sink {
     // written in it.
     ghost keyed: { Self → Members → List ℕ → Self.Key → Self → Type 0 };
 
-    /// Writes `null`.
+    // Writes `null`.
     fn null(&mut self) -> Result<Self::Tree, AllocError>
         ensures written { IfOk result (λ t. wrote self.old null t self.new) }
         ensures before { before self.new ≡ before self.old };
 
-    /// Writes a truth value.
+    // Writes a truth value.
     fn boolean(&mut self, b: bool) -> Result<Self::Tree, AllocError>
         ensures written { IfOk result (λ t. wrote self.old (boolean b) t self.new) }
         ensures before { before self.new ≡ before self.old };
 
-    /// Writes a number.
+    // Writes a number.
     fn integer(&mut self, z: i64) -> Result<Self::Tree, AllocError>
         ensures written { IfOk result (λ t. wrote self.old (number (of_integer z)) t self.new) }
         ensures before { before self.new ≡ before self.old };
 
-    /// Writes a number that is not below zero.
+    // Writes a number that is not below zero.
     fn natural(&mut self, n: u32) -> Result<Self::Tree, AllocError>
         ensures written { IfOk result (λ t. wrote self.old (number (unsigned n)) t self.new) }
         ensures before { before self.new ≡ before self.old };
 
-    /// Writes a finite double, given as its pattern, as a number: on a text its shortest decimal.
+    // Writes a finite double, given as its pattern, as a number: on a text its shortest decimal.
     fn double(&mut self, pattern: u64) -> Result<Self::Tree, AllocError>
         requires { IsTrue (is_finite pattern) }
         ensures written { IfOk result (λ t. wrote self.old (number_tree pattern) t self.new) }
         ensures before { before self.new ≡ before self.old };
 
-    /// Writes the text of a number.
+    // Writes the text of a number.
     fn numeral(&mut self, z: i64) -> Result<Self::Tree, AllocError>
         ensures written { IfOk result (λ t. wrote self.old (string (signed_decimal z)) t self.new) }
         ensures before { before self.new ≡ before self.old };
 
-    /// Writes a text, which a tree in memory has as a copy.
+    // Writes a text, which a tree in memory has as a copy.
     fn text(&mut self, text: &str) -> Result<Self::Tree, AllocError>
         ensures written { IfOk result (λ t. wrote self.old (string text.now) t self.new) }
         ensures before { before self.new ≡ before self.old };
 
-    /// Writes a text, which is moved into a tree in memory.
+    // Writes a text, which is moved into a tree in memory.
     fn owned_text(&mut self, text: String) -> Result<Self::Tree, AllocError>
         ensures written { IfOk result (λ t. wrote self.old (string (string_bytes text)) t self.new) }
         ensures before { before self.new ≡ before self.old };
 
-    /// Begins a map.
+    // Begins a map.
     fn begin_map(&mut self) -> Result<Self::Map, AllocError>
         ensures written { IfOk result (λ m. mapped self.old no_members m self.new) }
         ensures before { before self.new ≡ before self.old };
 
-    /// Writes the next key of a map.
+    // Writes the next key of a map.
     fn key(&mut self, map: Self::Map, name: &str) -> Result<Self::Key, AllocError>
         ensures written { IfOk result (λ key. (start : Self) (ms : Members)
             → mapped start ms map self.old → keyed start ms name.now key self.new) }
         ensures before { before self.new ≡ before self.old };
 
-    /// Puts the tree that was written under the key. The member is the last one where its key is
-    /// above all others.
+    // Puts the tree that was written under the key. The member is the last one where its key is
+    // above all others.
     fn member(&mut self, key: Self::Key, tree: Self::Tree) -> Result<Self::Map, AllocError>
         ensures written { IfOk result (λ m. (start mid : Self) (ms : Members) (k : List ℕ) (d : Data)
             → keyed start ms k key mid → wrote mid d tree self.old → put k d ms ≡ added ms k d
             → mapped start (added ms k d) m self.new) }
         ensures before { before self.new ≡ before self.old };
 
-    /// Ends a map.
+    // Ends a map.
     fn end_map(&mut self, map: Self::Map) -> Result<Self::Tree, AllocError>
         ensures written { IfOk result (λ t. (start : Self) (ms : Members)
             → mapped start ms map self.old → wrote start (object ms) t self.new) }
@@ -106,13 +106,13 @@ pub trait Sink {
 
 /// Trees in memory.
 #[derive(Drop)]
-pub struct Trees {
+pub(crate) struct Trees {
     alloc: Global,
 }
 
 impl Trees {
-    /// A sink of trees in memory of the allocator.
-    pub fn new(alloc: Global) -> Trees {
+    // A sink of trees in memory of the allocator.
+    pub(crate) fn new(alloc: Global) -> Trees {
         Trees { alloc }
     }
 }
@@ -196,7 +196,7 @@ impl Sink for Trees {
     }
 }
 
-/// A text.
+// A text.
 impl Sink for Writer {
     type Tree = ();
 

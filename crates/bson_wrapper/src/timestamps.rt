@@ -19,8 +19,8 @@ use std::alloc::AllocError;
 
 const SHAPE: &str = "`$timestamp` holds `t` and `i`, whole numbers from 0 to 4294967295";
 
-/// What `$timestamp` holds, as a timestamp: `t` is its time, `i` its increment.
-pub fn read_timestamp(value: Value) -> Result<Scalar, Error>
+// What `$timestamp` holds, as a timestamp: `t` is its time, `i` its increment.
+pub(crate) fn read_timestamp(value: Value) -> Result<Scalar, Error>
     ensures { Gives scalar_view result (timestamp_read (view value)) }
 {
     let (increment, time) = two_in(value, "i", "t", SHAPE)?;
@@ -43,8 +43,11 @@ fn write_times<S: Sink>(timestamp: Timestamp, out: &mut S) -> Result<S::Tree, Al
     end_two(next, time, out)
 }
 
-/// Writes the tree of a timestamp, in both forms.
-pub fn write_timestamp<S: Sink>(timestamp: Timestamp, out: &mut S) -> Result<S::Tree, AllocError>
+// Writes the tree of a timestamp, in both forms.
+pub(crate) fn write_timestamp<S: Sink>(
+    timestamp: Timestamp,
+    out: &mut S,
+) -> Result<S::Tree, AllocError>
     ensures written { IfOk result (λ t. S.wrote out.old (timestamp_tree timestamp.time timestamp.increment) t out.new) }
     ensures before { S.before out.new ≡ S.before out.old }
     ensures ranged { OnOk result ((timestamp.time < 2 ^ 32) × (timestamp.increment < 2 ^ 32)) }

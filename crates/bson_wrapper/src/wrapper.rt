@@ -1,10 +1,6 @@
-//! The sixteen wrapper keys of MongoDB Extended JSON v2, and whether an object has one.
+//! The sixteen wrapper keys of MongoDB Extended JSON v2.
 ghost use Rattle.std.specs.Prelude.{◌≡◌, IsTrue, None};
 ghost use Rattle.bson_wrapper.specs.Table.{wrapper_of, later_wrapper, number_wrapper, last_wrapper};
-ghost use Rattle.bson_wrapper.specs.Table.{key_of, has_wrapper};
-ghost use Rattle.serde_json.specs.View.{members_view};
-
-use serde_json::{Map, Value};
 
 /// A wrapper: an object that stands for a value which JSON has no form for, told by its key.
 #[derive(Clone, Copy, Debug, Drop, PartialEq, Eq)]
@@ -119,40 +115,4 @@ fn named_last(key: &str) -> Option<Wrapper>
     } else {
         None
     }
-}
-
-/// The key of a wrapper.
-pub fn key(wrapper: Wrapper) -> &'static str
-    ensures { result.now ≡ key_of wrapper }
-{
-    match wrapper {
-        Wrapper::Oid => "$oid",
-        Wrapper::Symbol => "$symbol",
-        Wrapper::RegularExpression => "$regularExpression",
-        Wrapper::NumberInt => "$numberInt",
-        Wrapper::NumberLong => "$numberLong",
-        Wrapper::NumberDouble => "$numberDouble",
-        Wrapper::NumberDecimal => "$numberDecimal",
-        Wrapper::Binary => "$binary",
-        Wrapper::Uuid => "$uuid",
-        Wrapper::Code => "$code",
-        Wrapper::Timestamp => "$timestamp",
-        Wrapper::Date => "$date",
-        Wrapper::MinKey => "$minKey",
-        Wrapper::MaxKey => "$maxKey",
-        Wrapper::DbPointer => "$dbPointer",
-        Wrapper::Undefined => "$undefined",
-    }
-}
-
-/// Whether any key of a map is a wrapper key.
-pub fn any_wrapper(members: &Map<String, Value>) -> bool
-    ensures { result ≡ has_wrapper (members_view members.now.entries) }
-{
-    for (key, _) in members.iter() {
-        if named(key.as_str()).is_some() {
-            return true;
-        }
-    }
-    false
 }

@@ -7,7 +7,7 @@ ghost use Rattle.bson_wrapper.specs.Binaries.{binary_tree};
 ghost use Rattle.bson_wrapper.specs.Normal.{ScalarInRange};
 ghost use Rattle.bson_wrapper.specs.Tokens.{tokens_of, Sends, Puts};
 ghost use Rattle.bson_wrapper.specs.View.{scalar_view};
-ghost use Rattle.bson_wrapper.specs.Written.{Writes, writes_scalar, writes_scalar_in};
+ghost use Rattle.bson_wrapper.specs.Written.{Writes, writes_scalar_in};
 
 use crate::binaries::{write_binary, write_owned};
 use crate::dates::write_date;
@@ -28,12 +28,12 @@ use json::Writer;
 use serde_json::Value;
 use std::alloc::{AllocError, Global};
 
-/// Writes the tree of a scalar in a form (MongoDB Extended JSON v2) to a sink. Texts are moved into
-/// a tree in memory.
-///
-/// `FiniteDouble` comes exactly for a double that is finite and no zero, where finite doubles are
-/// not written.
-pub fn write_to<S: Sink>(
+// Writes the tree of a scalar in a form (MongoDB Extended JSON v2) to a sink. Texts are moved into
+// a tree in memory.
+//
+// `FiniteDouble` comes exactly for a double that is finite and no zero, where finite doubles are
+// not written.
+fn write_to<S: Sink>(
     alloc: Global,
     doubles: Doubles,
     form: Form,
@@ -69,16 +69,8 @@ pub fn write_to<S: Sink>(
 
 /// The tree of a scalar in a form (MongoDB Extended JSON v2). Texts are moved into it.
 ///
-/// `FiniteDouble` comes exactly for a double that is finite and no zero.
-pub fn write_scalar(alloc: Global, form: Form, value: Scalar) -> Result<Value, WriteError>
-    ensures written { Writes view result (writes_scalar form (scalar_view value)) }
-    ensures ranged { OnOk result (ScalarInRange (scalar_view value)) }
-{
-    write_scalar_in(alloc, Doubles::Special, form, value)
-}
-
-/// The tree of a scalar in a form, as `write_scalar` makes it, in either mode of doubles. Where
-/// finite doubles are written `FiniteDouble` does not come.
+/// `FiniteDouble` comes exactly for a double that is finite and no zero, where finite doubles are
+/// not written.
 pub fn write_scalar_in(
     alloc: Global,
     doubles: Doubles,
@@ -89,22 +81,6 @@ pub fn write_scalar_in(
     ensures ranged { OnOk result (ScalarInRange (scalar_view value)) }
 {
     write_to(alloc, doubles, form, value, &mut Trees::new(alloc))
-}
-
-/// Writes the tree of a scalar in a form, as `write_scalar` makes it, with no tree.
-///
-/// `FiniteDouble` comes exactly for a double that is finite and no zero.
-pub fn print_scalar(
-    alloc: Global,
-    form: Form,
-    value: Scalar,
-    out: &mut Writer,
-) -> Result<(), WriteError>
-    ensures printed { Puts result (writes_scalar form (scalar_view value)) out.old.tokens out.new.tokens }
-    ensures before { out.new.before ≡ out.old.before }
-    ensures ranged { OnOk result (ScalarInRange (scalar_view value)) }
-{
-    print_scalar_in(alloc, Doubles::Special, form, value, out)
 }
 
 /// Writes the tree of a scalar, as `write_scalar_in` makes it, with no tree.
@@ -122,7 +98,7 @@ pub fn print_scalar_in(
     write_to(alloc, doubles, form, value, out)
 }
 
-/// Writes the tree of a binary, as `write_scalar` makes it, with no tree.
+/// Writes the tree of a binary, as `write_scalar_in` makes it, with no tree.
 pub fn put_binary(alloc: Global, binary: &Binary, out: &mut Writer) -> Result<(), AllocError>
     ensures put { OnOk result (out.new.tokens ≡ out.old.tokens
         ++ tokens_of (binary_tree binary.now.subtype binary.now.bytes.items)) }

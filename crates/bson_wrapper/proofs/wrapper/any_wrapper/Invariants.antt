@@ -1,7 +1,0 @@
-use Rattle.std.proofs.Common.{◌≡◌}
-use Rattle.bson_wrapper.specs.Table.{has_wrapper}
-use Rattle.serde_json.specs.View.{members_view}
-use Rattle.bson_wrapper.proofs.wrapper.any_wrapper.Given as goal
-
-abbrev pub invariant-loop-key : goal.invariant-loop-key
-invariant-loop-key l = has_wrapper (members_view l.members.entries) ≡ has_wrapper (members_view l.key-iterator)
