@@ -1,9 +1,9 @@
-pub mod Becoming
 pub mod Differ
 pub mod Digests
 pub mod Keys
 pub mod Members
 pub mod Objects
 pub mod Offered
-pub mod Passing
+pub mod Sending
+pub mod Walking
 pub mod Wrappers

@@ -14,7 +14,7 @@ use Rattle.bson_wrapper.specs.declared.wrapper.Wrapper.{Wrapper}
 use Rattle.bson_order.specs.Kept.{kept, kept_items, kept_members, unordered}
 use Rattle.bson_order.proofs.Offered.{forgotten}
 use Rattle.bson_tokens.proofs.Offered.{was_read}
-use Rattle.bson_filter.specs.Filtered.{kept_object, inside, from_key}
+use Rattle.bson_filter.specs.Walked.{kept_object, inside, from_key}
 
 abbrev pub Key : Type 0
 Key = Bor (List ℕ)

@@ -1,4 +1,6 @@
 pub mod Digest
 pub mod Filtered
+pub mod TextWritten
+pub mod Walked
 -- what public clauses cite of the crates below, so that a caller names this crate alone
 pub use Rattle.bson_order.specs.Texts

@@ -1,11 +1,14 @@
-//! A filter: from the tokens of a text of MongoDB Extended JSON v2 to the text of the same value in
-//! a form, its keys in their order, with no value in memory.
+//! From the tokens of a text of MongoDB Extended JSON v2 to what its value is written to, its keys
+//! in their order, with no value in memory.
 //!
-//! In reading order: `filter` (the way from text to text), `scalars` (numbers and wrappers),
-//! `distinct` (whether a key stands twice), `unfiltered` (why a text was not written so).
+//! In reading order: `filter` (the text of the same value in a form), `walk` (the way over the
+//! tokens), `writer` (what is written to), `text` (a text that is), `distinct` (whether a key stands
+//! twice), `unstreamed` (why a text was not written so).
 #![tactic(auto)]
 
 pub mod distinct;
 pub mod filter;
-mod scalars;
-pub mod unfiltered;
+mod text;
+pub mod unstreamed;
+pub mod walk;
+pub mod writer;

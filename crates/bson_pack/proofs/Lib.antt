@@ -1,3 +1,3 @@
 pub mod Once
-pub mod Packing
 pub mod Put
+pub mod Whole

@@ -1,16 +1,13 @@
 -- Pairs whose keys differ, put in one after another, are as they stand.
-use Rattle.std.proofs.Common.{◌≡◌, ℕ, List, [], ◌∷◌, false, refl, sym, ap, ◌∙◌, subst}
+use Rattle.std.proofs.Common.{◌≡◌, ℕ, List, false, refl, sym, ap, ◌∙◌, subst}
 use Rattle.std.proofs.lemmas.Bool.{or_parts}
 use Rattle.std.specs.Str.{bytes_eq}
 use Rattle.json.specs.Strict.{AreDistinct}
 use Rattle.bson_model.specs.Value.{Value, Pairs, no_pairs, pair}
 use Rattle.bson_order.proofs.Offered.{turned}
+use Rattle.bson_filter.specs.Walked.{keys_of}
 use Rattle.bson_filter.proofs.Offered.{stands, Differ, differ}
 use Rattle.bson_bytes.specs.Grammar.{insert_value, settle, one_each}
-
-abbrev pub keys_of : Pairs → List (List ℕ)
-keys_of no_pairs = []
-keys_of (pair k v ps) = k ∷ keys_of ps
 
 -- ---- the pairs that are done before others
 

@@ -1,16 +1,12 @@
 -- What bytes are that were written from the tokens of a text.
-use Rattle.std.specs.Prelude.{◌≡◌, ◌++◌, ℕ, suc, List, false, Option, Some, Ok}
-use Rattle.json.specs.Token.{Token}
-use Rattle.serde_json.specs.Data.{Data, Num, number, Items, Members, object}
-use Rattle.bson_wrapper.specs.Reading.{single_at_in}
-use Rattle.bson_wrapper.specs.Scalar.{Scalar}
-use Rattle.bson_wrapper.specs.Table.{wrapper_of, has_wrapper}
+use Rattle.std.specs.Prelude.{◌≡◌, ◌++◌, ◌+◌, ◌≤◌, ℕ, suc, List, length, true, Ok}
+use Rattle.std.specs.Str.{is_utf8}
+use Rattle.bson_scalar.specs.declared.spec.ElementType.TheVariants as tag
 use Rattle.bson_wrapper.specs.declared.form.Doubles.{Doubles}
-use Rattle.bson_model.specs.Value.{Value, Values, Pairs, scalar, array, document}
-use Rattle.bson_order.specs.Reading.{reads_in_order, items_in_order, members_in_order}
+use Rattle.bson_model.specs.Value.{Value, Pairs, document}
 use Rattle.bson_order.specs.Texts.{HasMeaningInOrder}
 use Rattle.bson_bytes.specs.Laws.{IsRead}
-use Rattle.bson_bytes.specs.Putting.{put_value, put_document}
+use Rattle.bson_bytes.specs.Putting.{put_value, put_document, put_text, put_room}
 use Rattle.bson_bytes.specs.Writing.{type_of, name_bytes, document_bytes, as_written, FitsDocument, NestsPairs, Typed}
 use Rattle.bson_bytes.specs.Writing.{TypedDocument}
 
@@ -27,36 +23,23 @@ pub record IsPackedText (D : Doubles) (text bytes : List ℕ) : Type 0 where
 
 -- the element of this name that holds the value was put behind the old bytes
 abbrev pub PutUnder : List ℕ → Value → List ℕ → List ℕ → Type 0
-PutUnder k v old new = Typed v × (put_value v (old ++ name_bytes (type_of v) k) ≡ Ok new)
+PutUnder k v old new =
+    Typed v × (put_value v (old ++ name_bytes (type_of v) k) ≡ Ok new) × (length old ≤ length new)
 
-module _ (D : Doubles) where
-  -- a tree was read, of which these tokens are left, and the value that it means in its order was put under the name
-  abbrev pub TreePacks : Option (Data × List Token) → List Token → List ℕ → List ℕ → List ℕ → Type 0
-  TreePacks tree rest k old new =
-      (t : Data) × (v : Value) × (tree ≡ Some (t, rest)) × (reads_in_order D t ≡ Ok v) × PutUnder k v old new
+-- the document of the pairs was
+abbrev pub PutFramed : Pairs → List ℕ → List ℕ → Type 0
+PutFramed ps old new = TypedDocument ps × (put_document ps old ≡ Ok new) × (length old ≤ length new)
 
-  -- the same of the trees of a list, of the members of an object, and of a number
-  abbrev pub ItemsPack : Option (Items × List Token) → List Token → List ℕ → List ℕ → List ℕ → Type 0
-  ItemsPack trees rest k old new =
-      (ts : Items) × (vs : Values) × (trees ≡ Some (ts, rest)) × (items_in_order D ts ≡ Ok vs)
-      × PutUnder k (array vs) old new
+-- four bytes of room for a length were put at the place
+abbrev pub HasRoom : ℕ → List ℕ → List ℕ → Type 0
+HasRoom start old new = (start ≡ length old) × (new ≡ put_room old)
 
-  abbrev pub ObjectPacks : Option (Members × List Token) → List Token → List ℕ → List ℕ → List ℕ → Type 0
-  ObjectPacks trees rest k old new =
-      (ms : Members) × (v : Value) × (trees ≡ Some (ms, rest)) × (reads_in_order D (object ms) ≡ Ok v)
-      × PutUnder k v old new
+abbrev pub ArrayUnder : List ℕ → ℕ → List ℕ → List ℕ → Type 0
+ArrayUnder k start old new = HasRoom start (old ++ name_bytes tag.Array k) new
 
-  abbrev pub NumberPacks : Option Num → List ℕ → List ℕ → List ℕ → Type 0
-  NumberPacks n k old new =
-      (m : Num) × (v : Value) × (n ≡ Some m) × (reads_in_order D (number m) ≡ Ok v) × PutUnder k v old new
-
-  -- members were read, none of them a wrapper's, and the document that they mean was put behind the old bytes
-  abbrev pub MembersPack : Option (Members × List Token) → List Token → List ℕ → List ℕ → Type 0
-  MembersPack trees rest old new =
-      (ts : Members) × (ps : Pairs) × (trees ≡ Some (ts, rest)) × (has_wrapper ts ≡ false)
-      × (members_in_order D ts ≡ Ok ps) × TypedDocument ps × (put_document ps old ≡ Ok new)
-
-  -- the object of this key alone that holds the tree means a scalar, which was put under the name
-  abbrev pub SinglePacks : List ℕ → Data → List ℕ → List ℕ → List ℕ → Type 0
-  SinglePacks key held k old new =
-      (x : Scalar) × (single_at_in D (wrapper_of key) held ≡ Ok x) × PutUnder k (scalar x) old new
+-- the code was put that stands before its scope, behind room for the length of both at the place
+abbrev pub CodeUnder : List ℕ → List ℕ → ℕ → List ℕ → List ℕ → Type 0
+CodeUnder k s start old new =
+    (is_utf8 s ≡ true) × (start ≡ length (old ++ name_bytes tag.JavaScriptCodeWithScope k))
+    × (put_text s (put_room (old ++ name_bytes tag.JavaScriptCodeWithScope k)) ≡ Ok new)
+    × (length old + 4 ≤ length new) × (start + 4 ≤ length new)

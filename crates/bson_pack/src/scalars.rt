@@ -1,94 +1,18 @@
-//! Elements that hold a scalar: of a token alone, numbers, and wrappers of one key.
+//! Scalars: their types, and their bytes.
 ghost use Rattle.std.specs.Prelude.{◌≡◌, ◌≤◌, length, OnOk};
-ghost use Rattle.serde_json.specs.Read.{number_of};
-ghost use Rattle.serde_json.specs.View.{view};
-ghost use Rattle.bson_wrapper.specs.Scalar as kind;
 ghost use Rattle.bson_wrapper.specs.View.{scalar_view};
 ghost use Rattle.bson_wrapper.specs.ElementType.{scalar_type};
-ghost use Rattle.bson_model.specs.Value.{scalar};
 ghost use Rattle.bson_bytes.specs.Putting.{put_scalar, Puts};
 ghost use Rattle.bson_bytes.specs.Writing.{TypedScalar};
-ghost use Rattle.bson_pack.specs.Packed.{PutUnder, NumberPacks, SinglePacks};
 
-use crate::unpacked::Unpacked;
 use bson_bytes::error::Error;
 use bson_bytes::put::{
-    put_binary, put_name, put_pointer, put_regex, put_text, put_timestamp, put_u32, put_u64,
+    put_binary, put_pointer, put_regex, put_text, put_timestamp, put_u32, put_u64,
 };
 use bson_scalar::spec::ElementType;
-use bson_tokens::number::number;
-use bson_wrapper::doubles::read_number;
-use bson_wrapper::form::Doubles;
-use bson_wrapper::read::read_single_in;
 use bson_wrapper::scalar::Scalar;
-use serde_json::Value;
-use std::alloc::{AllocError, Global};
 
-pub(crate) fn pack_string(name: &str, string: &str, out: &mut Vec<u8>) -> Result<(), Error>
-    ensures ok { OnOk result (PutUnder name.now (scalar (kind.text string.now)) out.old.items out.new.items) }
-    ensures grows { OnOk result (length out.old.items ≤ length out.new.items) }
-{
-    put_name(out, ElementType::String, name)?;
-    put_text(out, string)
-}
-
-pub(crate) fn pack_boolean(name: &str, truth: bool, out: &mut Vec<u8>) -> Result<(), AllocError>
-    ensures ok { OnOk result (PutUnder name.now (scalar (kind.boolean truth)) out.old.items out.new.items) }
-    ensures grows { OnOk result (length out.old.items ≤ length out.new.items) }
-{
-    put_name(out, ElementType::Boolean, name)?;
-    out.push(u8::from(truth))?;
-    Ok(())
-}
-
-pub(crate) fn pack_null(name: &str, out: &mut Vec<u8>) -> Result<(), AllocError>
-    ensures ok { OnOk result (PutUnder name.now (scalar kind.null) out.old.items out.new.items) }
-    ensures grows { OnOk result (length out.old.items ≤ length out.new.items) }
-{
-    put_name(out, ElementType::Null, name)?;
-    Ok(())
-}
-
-/// Writes the number of the token.
-pub(crate) fn pack_number(
-    doubles: Doubles,
-    text: &str,
-    name: &str,
-    out: &mut Vec<u8>,
-) -> Result<(), Unpacked>
-    ensures ok { OnOk result (NumberPacks doubles (number_of text.now) name.now out.old.items out.new.items) }
-    ensures grows { OnOk result (length out.old.items ≤ length out.new.items) }
-{
-    let n = number(text).ok_or(Unpacked::Left)?;
-    let scalar = read_number(doubles, &n)?;
-    Ok(pack_scalar(name, &scalar, out)?)
-}
-
-/// Writes the wrapper of this key alone.
-pub(crate) fn pack_single(
-    alloc: Global,
-    doubles: Doubles,
-    key: &str,
-    held: Value,
-    name: &str,
-    out: &mut Vec<u8>,
-) -> Result<(), Unpacked>
-    ensures ok { OnOk result (SinglePacks doubles key.now (view held) name.now out.old.items out.new.items) }
-    ensures grows { OnOk result (length out.old.items ≤ length out.new.items) }
-{
-    let scalar = read_single_in(alloc, doubles, key, held)?;
-    Ok(pack_scalar(name, &scalar, out)?)
-}
-
-fn pack_scalar(name: &str, held: &Scalar, out: &mut Vec<u8>) -> Result<(), Error>
-    ensures ok { OnOk result (PutUnder name.now (scalar (scalar_view held.now)) out.old.items out.new.items) }
-    ensures grows { OnOk result (length out.old.items ≤ length out.new.items) }
-{
-    put_name(out, type_of(held), name)?;
-    put_scalar(out, held)
-}
-
-fn type_of(scalar: &Scalar) -> ElementType
+pub(crate) fn type_of(scalar: &Scalar) -> ElementType
     ensures { result ≡ scalar_type (scalar_view scalar.now) }
 {
     match scalar {
@@ -115,7 +39,7 @@ fn type_of(scalar: &Scalar) -> ElementType
 
 // What stands behind the name of an element.
 #[tactic(auto, using(bson_bytes::proofs::Offered::string_utf8))]
-fn put_scalar(out: &mut Vec<u8>, scalar: &Scalar) -> Result<(), Error>
+pub(crate) fn put_scalar(out: &mut Vec<u8>, scalar: &Scalar) -> Result<(), Error>
     ensures put { Puts result out.new.items (put_scalar (scalar_view scalar.now) out.old.items) }
     ensures typed { OnOk result (TypedScalar (scalar_view scalar.now)) }
     ensures grows { OnOk result (length out.old.items ≤ length out.new.items) }

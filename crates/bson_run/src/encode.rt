@@ -19,8 +19,8 @@ use bson_codec::{ser, to_vec};
 use bson_convert::convert::refused;
 use bson_convert::fault::Fault;
 use bson_convert::no_bytes::NoBytes;
+use bson_filter::unstreamed::Unstreamed;
 use bson_pack::pack::pack_text;
-use bson_pack::unpacked::Unpacked;
 use std::alloc::Global;
 
 /// The canonical bytes of the document that the text means, its keys in ascending order at every
@@ -84,8 +84,8 @@ fn packed(alloc: Global, options: Options, bytes: &[u8]) -> Result<Option<Vec<u8
     };
     match pack_text(alloc, options.doubles, text) {
         Ok(document) => Ok(Some(document)),
-        Err(Unpacked::Left) => Ok(None),
-        Err(Unpacked::OutOfMemory) => Err(Fault::OutOfMemory),
+        Err(Unstreamed::Left) => Ok(None),
+        Err(Unstreamed::OutOfMemory) => Err(Fault::OutOfMemory),
     }
 }
 

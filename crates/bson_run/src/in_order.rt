@@ -15,7 +15,7 @@ use bson_convert::convert::{displayed_line, ended, line, refused};
 use bson_convert::fault::Fault;
 use bson_convert::mode::Mode;
 use bson_filter::filter::filter_text;
-use bson_filter::unfiltered::Unfiltered;
+use bson_filter::unstreamed::Unstreamed;
 use bson_tokens::unread::Unread;
 use bson_tokens::walk::first_fault_in;
 use std::alloc::Global;
@@ -71,11 +71,11 @@ fn filtered(
     };
     match filter_text(alloc, options.doubles, form, text) {
         Ok(written) => Ok(Some(ended(written)?)),
-        Err(Unfiltered::Left) => {
+        Err(Unstreamed::Left) => {
             refuse(alloc, options, bytes, text)?;
             Ok(None)
         }
-        Err(Unfiltered::OutOfMemory) => Err(Fault::OutOfMemory),
+        Err(Unstreamed::OutOfMemory) => Err(Fault::OutOfMemory),
     }
 }
 

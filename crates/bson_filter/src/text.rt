@@ -1,0 +1,96 @@
+//! A text of Extended JSON that values are written to.
+ghost use Rattle.std.specs.Prelude.{◌≡◌};
+
+use crate::unstreamed::Unstreamed;
+use crate::writer::ValueWriter;
+use bson_wrapper::code::put_code;
+use bson_wrapper::form::{Doubles, Form};
+use bson_wrapper::scalar::Scalar;
+use bson_wrapper::write::print_scalar_in;
+use itoa::Buffer;
+use json::Writer;
+use std::alloc::Global;
+
+/// The compact text of values in a form.
+#[derive(Drop)]
+pub(crate) struct TextWriter {
+    pub(crate) alloc: Global,
+    pub(crate) doubles: Doubles,
+    pub(crate) form: Form,
+    pub(crate) out: Writer,
+}
+
+impl ValueWriter for TextWriter {
+    type Open = ();
+
+    ghost use Rattle.std.specs.Prelude.{[], ◌∷◌};
+    ghost use Rattle.json.specs.Token as token;
+    ghost use Rattle.bson_wrapper.specs.Tokens.{code_tokens};
+    ghost use Rattle.bson_filter.specs.TextWritten.{Sent, ValueSent, PairsSent};
+
+    ghost name_of = { λ n. [] };
+
+    ghost wrote = { λ old k v new. ValueSent old v new };
+
+    ghost framed = { λ old ps new. PairsSent old ps new };
+
+    ghost listed = { λ old k begun new. Sent old (token.begin_array ∷ []) new };
+
+    ghost opened = { λ old begun new. Sent old (token.begin_object ∷ []) new };
+
+    ghost keyed = { λ old k new. Sent old (token.key k ∷ []) new };
+
+    ghost coded = { λ old k s begun new. Sent old (code_tokens s) new };
+
+    fn string(&mut self, _name: &str, text: &str) -> Result<(), Unstreamed> {
+        Ok(self.out.string(text)?)
+    }
+
+    fn boolean(&mut self, _name: &str, truth: bool) -> Result<(), Unstreamed> {
+        Ok(self.out.boolean(truth)?)
+    }
+
+    fn null(&mut self, _name: &str) -> Result<(), Unstreamed> {
+        Ok(self.out.null()?)
+    }
+
+    fn scalar(&mut self, _name: &str, value: Scalar) -> Result<(), Unstreamed> {
+        Ok(print_scalar_in(self.alloc, self.doubles, self.form, value, &mut self.out)?)
+    }
+
+    fn item_name<'b>(_buffer: &'b mut Buffer, _place: usize) -> &'b str {
+        ""
+    }
+
+    fn begin_array(&mut self, _name: &str) -> Result<(), Unstreamed> {
+        Ok(self.out.begin_array()?)
+    }
+
+    fn end_array(&mut self, _open: ()) -> Result<(), Unstreamed> {
+        Ok(self.out.end_array()?)
+    }
+
+    fn embed(&mut self, _name: &str) -> Result<(), Unstreamed> {
+        Ok(())
+    }
+
+    fn begin(&mut self) -> Result<(), Unstreamed> {
+        Ok(self.out.begin_object()?)
+    }
+
+    fn key(&mut self, name: &str) -> Result<(), Unstreamed> {
+        Ok(self.out.key(name)?)
+    }
+
+    fn end(&mut self, _open: ()) -> Result<(), Unstreamed> {
+        Ok(self.out.end_object()?)
+    }
+
+    fn begin_code(&mut self, _name: &str, code: &str) -> Result<(), Unstreamed> {
+        Ok(put_code(code, &mut self.out)?)
+    }
+
+    fn end_code(&mut self, _open: ()) -> Result<(), Unstreamed> {
+        Ok(self.out.end_object()?)
+    }
+}

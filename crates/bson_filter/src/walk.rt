@@ -1,0 +1,243 @@
+//! The walk over the tokens of a text, which writes each value as it is read.
+ghost use Rattle.std.specs.Prelude.{◌≡◌, ◌<◌, ◌≤◌, ◌&&◌, length, Some, is_some, option_map, OnOk, IfOk, Ok};
+ghost use Rattle.json.specs.Json.{value, items};
+ghost use Rattle.serde_json.specs.Read.{converted, number_of};
+ghost use Rattle.bson_wrapper.specs.Reading.{number_read_in};
+ghost use Rattle.serde_json.specs.Data.{Num};
+ghost use Rattle.bson_wrapper.specs.View.{scalar_view};
+ghost use Rattle.bson_wrapper.specs.Table.{wrapper_of};
+ghost use Rattle.bson_model.specs.Value.{array};
+ghost use Rattle.bson_order.specs.Kept.{kept, kept_items};
+ghost use Rattle.bson_filter.specs.Walked.{TreeMeans, ItemsMean, ObjectMeans, MembersMean, ScopeMeans};
+ghost use Rattle.bson_filter.specs.Walked.{kept_object, inside, from_key};
+
+use crate::distinct::are_distinct;
+use crate::unstreamed::Unstreamed;
+use crate::writer::ValueWriter;
+use bson_tokens::held::read_held;
+use bson_tokens::number::number;
+use bson_wrapper::code::is_code_with_scope;
+use bson_wrapper::doubles::read_number;
+use bson_wrapper::form::Doubles;
+use bson_wrapper::read::read_wrapper;
+use bson_wrapper::scalar::Scalar;
+use bson_wrapper::wrapper::{Wrapper, named};
+use itoa::Buffer;
+use json::{Reader, Token};
+use serde_json::Value;
+use std::alloc::Global;
+
+/// Writes the value that stands next under the name.
+///
+/// `Left` says nothing of the text: it is to be read whole. It comes where the text breaks the
+/// grammar, nests deeper, means nothing, has in some object a key twice, or code behind its scope or
+/// with the scope null.
+///
+/// The keys of the objects that are open are held, each object's behind those around it.
+#[cycle(walk)]
+pub fn write_value<'a, W: ValueWriter>(
+    alloc: Global,
+    doubles: Doubles,
+    reader: &mut Reader<'a>,
+    depth: usize,
+    name: &str,
+    keys: &mut Vec<&'a str>,
+    out: &mut W,
+) -> Result<(), Unstreamed>
+    ensures ok { OnOk result (TreeMeans doubles (converted kept (value depth reader.old)) reader.new
+        (λ v. W.wrote out.old name.now v out.new)) }
+    ensures keys { OnOk result (keys.new.items ≡ keys.old.items) }
+    ensures shorter { OnOk result (length reader.new < length reader.old) }
+{
+    let token = reader.next().ok_or(Unstreamed::Left)?;
+    match token {
+        Token::String(text) => out.string(name, text),
+        Token::Number(text) => out.scalar(name, read_token(doubles, text)?),
+        Token::Bool(truth) => out.boolean(name, truth),
+        Token::Null => out.null(name),
+        Token::EndObject | Token::EndArray | Token::Key(_) | Token::Bad => Err(Unstreamed::Left),
+        Token::BeginArray => {
+            if depth == 0 {
+                return Err(Unstreamed::Left);
+            }
+            write_array(alloc, doubles, reader, depth - 1, name, keys, out)
+        }
+        Token::BeginObject => {
+            if depth == 0 {
+                return Err(Unstreamed::Left);
+            }
+            write_object(alloc, doubles, reader, depth - 1, name, keys, out)
+        }
+    }
+}
+
+// The number of a token.
+fn read_token(doubles: Doubles, text: &str) -> Result<Scalar, Unstreamed>
+    ensures { IfOk result (λ x. (n : Num) × (number_of text.now ≡ Some n)
+        × (number_read_in doubles n ≡ Ok (scalar_view x))) }
+{
+    let n = number(text).ok_or(Unstreamed::Left)?;
+    Ok(read_number(doubles, &n)?)
+}
+
+// An array whose bracket was read.
+#[cycle(walk)]
+fn write_array<'a, W: ValueWriter>(
+    alloc: Global,
+    doubles: Doubles,
+    reader: &mut Reader<'a>,
+    depth: usize,
+    name: &str,
+    keys: &mut Vec<&'a str>,
+    out: &mut W,
+) -> Result<(), Unstreamed>
+    ensures ok { OnOk result
+        (ItemsMean doubles (converted kept_items (items (value depth) (length reader.old) reader.old)) reader.new
+        (λ vs. W.wrote out.old name.now (array vs) out.new)) }
+    ensures keys { OnOk result (keys.new.items ≡ keys.old.items) }
+    ensures shorter { OnOk result (length reader.new < length reader.old) }
+{
+    let begun = out.begin_array(name)?;
+    let mut place: usize = 0;
+    'items: while !reader.take_end_array() {
+        let mut buffer = Buffer::new();
+        let name = W::item_name(&mut buffer, place);
+        write_value(alloc, doubles, reader, depth, name, keys, out)?;
+        place = place.checked_add(1).ok_or(Unstreamed::Left)?;
+    }
+    out.end_array(begun)
+}
+
+// An object whose brace was read.
+#[cycle(walk)]
+fn write_object<'a, W: ValueWriter>(
+    alloc: Global,
+    doubles: Doubles,
+    reader: &mut Reader<'a>,
+    depth: usize,
+    name: &str,
+    keys: &mut Vec<&'a str>,
+    out: &mut W,
+) -> Result<(), Unstreamed>
+    ensures ok { OnOk result (ObjectMeans doubles (kept_object (inside depth reader.old)) reader.new
+        (λ v. W.wrote out.old name.now v out.new)) }
+    ensures keys { OnOk result (keys.new.items ≡ keys.old.items) }
+    ensures shorter { OnOk result (length reader.new < length reader.old) }
+{
+    let first = reader.next_key()?;
+    if let Some(key) = first {
+        if let Some(wrapper) = named(key) {
+            return write_wrapper(alloc, doubles, reader, depth, wrapper, key, name, keys, out);
+        }
+    }
+    out.embed(name)?;
+    write_document(alloc, doubles, reader, depth, first, true, keys, out)
+}
+
+/// Writes the document of an object from a key on that was read, or none of them: none stands
+/// twice, and no key of a document is a wrapper's, while a scope's may be.
+#[cycle(walk)]
+pub fn write_document<'a, W: ValueWriter>(
+    alloc: Global,
+    doubles: Doubles,
+    reader: &mut Reader<'a>,
+    depth: usize,
+    first: Option<&'a str>,
+    is_document: bool,
+    keys: &mut Vec<&'a str>,
+    out: &mut W,
+) -> Result<(), Unstreamed>
+    ensures ok { OnOk result (MembersMean doubles is_document
+        (kept_object (from_key depth (option_map (λ k. k.now) first.entry) reader.old)) reader.new
+        (λ ps. W.framed out.old ps out.new)) }
+    ensures keys { OnOk result (keys.new.items ≡ keys.old.items) }
+    ensures shorter { OnOk result (length reader.new ≤ length reader.old) }
+{
+    let held = keys.len();
+    let begun = out.begin()?;
+    let mut next = first;
+    'members: while let Some(key) = next {
+        if is_misplaced(is_document, key) {
+            return Err(Unstreamed::Left);
+        }
+        keys.push(key)?;
+        out.key(key)?;
+        write_value(alloc, doubles, reader, depth, key, keys, out)?;
+        next = reader.next_key()?;
+    }
+    if !are_distinct(alloc, &mut keys.as_mut_slice()[held..]) {
+        return Err(Unstreamed::Left);
+    }
+    keys.truncate(held);
+    out.end(begun)
+}
+
+// The key is a wrapper's, which no document has.
+fn is_misplaced(is_document: bool, key: &str) -> bool
+    ensures { result ≡ (is_document && is_some (wrapper_of key.now)) }
+{
+    is_document && named(key).is_some()
+}
+
+// The wrapper whose key was read: of that key alone, or code with its scope behind it.
+#[cycle(walk)]
+#[inline(never)]
+fn write_wrapper<'a, W: ValueWriter>(
+    alloc: Global,
+    doubles: Doubles,
+    reader: &mut Reader<'a>,
+    depth: usize,
+    wrapper: Wrapper,
+    key: &str,
+    name: &str,
+    keys: &mut Vec<&'a str>,
+    out: &mut W,
+) -> Result<(), Unstreamed>
+    requires { wrapper_of key.now ≡ Some wrapper }
+    ensures ok { OnOk result (ObjectMeans doubles (kept_object (from_key depth (Some key.now) reader.old)) reader.new
+        (λ v. W.wrote out.old name.now v out.new)) }
+    ensures keys { OnOk result (keys.new.items ≡ keys.old.items) }
+    ensures shorter { OnOk result (length reader.new < length reader.old) }
+{
+    let held = read_held(alloc, reader, depth)?;
+    let Some(other) = reader.next_key()? else {
+        return out.scalar(name, read_wrapper(alloc, doubles, wrapper, held)?);
+    };
+    if !is_code_with_scope(key, other) {
+        return Err(Unstreamed::Left);
+    }
+    let Value::String(code) = held else {
+        return Err(Unstreamed::Left);
+    };
+    let begun = out.begin_code(name, code.as_str())?;
+    write_scope(alloc, doubles, reader, depth, keys, out)?;
+    out.end_code(begun)
+}
+
+// The scope of code that was begun, and the end of the object of both.
+#[cycle(walk)]
+fn write_scope<'a, W: ValueWriter>(
+    alloc: Global,
+    doubles: Doubles,
+    reader: &mut Reader<'a>,
+    depth: usize,
+    keys: &mut Vec<&'a str>,
+    out: &mut W,
+) -> Result<(), Unstreamed>
+    ensures ok { OnOk result (ScopeMeans doubles depth reader.old reader.new (λ ps. W.framed out.old ps out.new)) }
+    ensures keys { OnOk result (keys.new.items ≡ keys.old.items) }
+    ensures shorter { OnOk result (length reader.new < length reader.old) }
+{
+    let Some(Token::BeginObject) = reader.next() else {
+        return Err(Unstreamed::Left);
+    };
+    if depth == 0 {
+        return Err(Unstreamed::Left);
+    }
+    let first = reader.next_key()?;
+    write_document(alloc, doubles, reader, depth - 1, first, false, keys, out)?;
+    if reader.next_key()?.is_some() {
+        return Err(Unstreamed::Left);
+    }
+    Ok(())
+}

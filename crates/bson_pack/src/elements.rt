@@ -1,0 +1,115 @@
+//! BSON elements that values are written to.
+ghost use Rattle.std.specs.Prelude.{◌≡◌, true};
+ghost use Rattle.std.specs.Str.{is_utf8};
+ghost use Rattle.bson_bytes.specs.Putting.{is_free};
+
+use crate::scalars::{put_scalar, type_of};
+use bson_bytes::error::Error;
+use bson_bytes::parts::is_free;
+use bson_bytes::put::{put_end, put_length, put_name, put_room, put_text};
+use bson_filter::unstreamed::Unstreamed;
+use bson_filter::writer::ValueWriter;
+use bson_scalar::spec::ElementType;
+use bson_wrapper::scalar::Scalar;
+use itoa::Buffer;
+
+/// The bytes of elements, one behind the other. Of an array, a document or code that was begun it is
+/// held where its length stands.
+#[derive(Drop)]
+pub(crate) struct ElementWriter {
+    pub(crate) bytes: Vec<u8>,
+}
+
+impl ValueWriter for ElementWriter {
+    type Open = usize;
+
+    ghost use Rattle.std.specs.Prelude.{decimal};
+    ghost use Rattle.bson_pack.specs.Packed.{PutUnder, PutFramed, HasRoom, ArrayUnder, CodeUnder};
+
+    ghost name_of = { λ n. decimal n };
+
+    ghost wrote = { λ old k v new. PutUnder k v old.bytes.items new.bytes.items };
+
+    ghost framed = { λ old ps new. PutFramed ps old.bytes.items new.bytes.items };
+
+    ghost listed = { λ old k begun new. ArrayUnder k begun old.bytes.items new.bytes.items };
+
+    ghost opened = { λ old begun new. HasRoom begun old.bytes.items new.bytes.items };
+
+    ghost keyed = { λ old k new. (new.bytes.items ≡ old.bytes.items) × (is_free k ≡ true) × (is_utf8 k ≡ true) };
+
+    ghost coded = { λ old k s begun new. CodeUnder k s begun old.bytes.items new.bytes.items };
+
+    fn string(&mut self, name: &str, text: &str) -> Result<(), Unstreamed> {
+        put_name(&mut self.bytes, ElementType::String, name)?;
+        put_text(&mut self.bytes, text).map_err(unstreamed)
+    }
+
+    fn boolean(&mut self, name: &str, truth: bool) -> Result<(), Unstreamed> {
+        put_name(&mut self.bytes, ElementType::Boolean, name)?;
+        self.bytes.push(u8::from(truth))?;
+        Ok(())
+    }
+
+    fn null(&mut self, name: &str) -> Result<(), Unstreamed> {
+        Ok(put_name(&mut self.bytes, ElementType::Null, name)?)
+    }
+
+    fn scalar(&mut self, name: &str, value: Scalar) -> Result<(), Unstreamed> {
+        put_name(&mut self.bytes, type_of(&value), name)?;
+        put_scalar(&mut self.bytes, &value).map_err(unstreamed)
+    }
+
+    fn item_name<'b>(buffer: &'b mut Buffer, place: usize) -> &'b str {
+        buffer.format(place)
+    }
+
+    fn begin_array(&mut self, name: &str) -> Result<usize, Unstreamed> {
+        put_name(&mut self.bytes, ElementType::Array, name)?;
+        self.begin()
+    }
+
+    fn end_array(&mut self, start: usize) -> Result<(), Unstreamed> {
+        put_end(&mut self.bytes, start).map_err(unstreamed)
+    }
+
+    fn embed(&mut self, name: &str) -> Result<(), Unstreamed> {
+        Ok(put_name(&mut self.bytes, ElementType::EmbeddedDocument, name)?)
+    }
+
+    fn begin(&mut self) -> Result<usize, Unstreamed> {
+        let start = self.bytes.len();
+        put_room(&mut self.bytes)?;
+        Ok(start)
+    }
+
+    fn key(&mut self, name: &str) -> Result<(), Unstreamed> {
+        if !is_free(name.as_bytes()) {
+            return Err(Unstreamed::Left);
+        }
+        Ok(())
+    }
+
+    fn end(&mut self, start: usize) -> Result<(), Unstreamed> {
+        put_end(&mut self.bytes, start).map_err(unstreamed)
+    }
+
+    fn begin_code(&mut self, name: &str, code: &str) -> Result<usize, Unstreamed> {
+        put_name(&mut self.bytes, ElementType::JavaScriptCodeWithScope, name)?;
+        let start = self.begin()?;
+        put_text(&mut self.bytes, code).map_err(unstreamed)?;
+        Ok(start)
+    }
+
+    fn end_code(&mut self, start: usize) -> Result<(), Unstreamed> {
+        put_length(&mut self.bytes, start).map_err(unstreamed)
+    }
+}
+
+// A text whose document has no bytes is read whole.
+fn unstreamed(error: Error) -> Unstreamed {
+    match error {
+        Error::OutOfMemory => Unstreamed::OutOfMemory,
+        _ => Unstreamed::Left,
+    }
+}
