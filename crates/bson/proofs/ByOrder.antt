@@ -17,7 +17,7 @@ use Rattle.serde_json.specs.Data.{no_members, member, put}
 use Rattle.serde_json.specs.Read.{of_json, of_items, of_members, converted, number_of}
 use Rattle.bson_order.specs.Kept.{kept, kept_items, kept_members, unordered}
 use Rattle.bson_order.proofs.Offered.{forgotten, put_forgotten}
-use Rattle.bson_wrapper.specs.Faults.{Fault}
+use Rattle.bson_scalar.specs.Faults.{Fault}
 use Rattle.bson_tokens.specs.Parts.{IsBroken, NoMembers, NoObject}
 use Rattle.bson_tokens.specs.declared.unread.Unread.{Unread}
 use Rattle.bson_tokens.specs.declared.unread.Unread.TheVariants.{Broken}

@@ -10,15 +10,15 @@ use Rattle.json.specs.Token.{Token, begin_array, begin_object}
 use Rattle.serde_json.specs.Data.{Data, Items, no_items, item, array, no_members, object}
 use Rattle.serde_json.specs.Read.{of_json, of_items, of_members, converted}
 use Rattle.serde_json.specs.Written.{comma_if}
-use Rattle.bson_wrapper.specs.TreeText.{text_of}
-use Rattle.bson_wrapper.specs.Faults.{◌>>=◌}
-use Rattle.bson_wrapper.specs.Written as writing
-use Rattle.bson_wrapper.specs.Written.{Stops}
-use Rattle.bson_wrapper.specs.declared.form.Doubles.{Doubles}
-use Rattle.bson_wrapper.specs.declared.form.Form.{Form}
-use Rattle.bson_wrapper.specs.declared.write_error.WriteError.{WriteError}
-use Rattle.bson_wrapper.specs.declared.write_error.WriteError.TheVariants.{FiniteDouble}
-use Rattle.bson_wrapper.proofs.Offered.{text_is}
+use Rattle.bson_scalar.specs.TreeText.{text_of}
+use Rattle.bson_scalar.specs.Faults.{◌>>=◌}
+use Rattle.bson_scalar.specs.Written as writing
+use Rattle.bson_scalar.specs.Written.{Stops}
+use Rattle.bson_scalar.specs.declared.form.Doubles.{Doubles}
+use Rattle.bson_scalar.specs.declared.form.Form.{Form}
+use Rattle.bson_scalar.specs.declared.write_error.WriteError.{WriteError}
+use Rattle.bson_scalar.specs.declared.write_error.WriteError.TheVariants.{FiniteDouble}
+use Rattle.bson_scalar.proofs.Offered.{text_is}
 use Rattle.bson_model.specs.Normal.{InRange, ItemsInRange, writable_in}
 use Rattle.bson_model.specs.Reading.{reads_in, reads_items_in}
 use Rattle.bson_model.specs.Value as model

@@ -4,7 +4,7 @@ use Rattle.json.specs.Token.{Token}
 use Rattle.json.specs.Json.{read_key, value}
 use Rattle.serde_json.specs.Data.{Data, Members, no_members, object}
 use Rattle.serde_json.specs.Read.{converted}
-use Rattle.bson_wrapper.specs.declared.form.Doubles.{Doubles}
+use Rattle.bson_scalar.specs.declared.form.Doubles.{Doubles}
 use Rattle.bson_model.specs.Value.{Value}
 use Rattle.bson.specs.ByOrder.{tree_by, insert_by, reads_by}
 use Rattle.bson.specs.Straight.{MembersRead, RestReads, ObjectReads}

@@ -16,11 +16,11 @@ use Rattle.json.specs.declared.token.Token.TheVariants as read
 use Rattle.json.proofs.Grammar.{value_is}
 use Rattle.serde_json.specs.Data.{Num, Data, null, boolean, number, string, array, Items, Members, no_members, member, object}
 use Rattle.serde_json.specs.Read.{converted, number_of}
-use Rattle.bson_wrapper.specs.Faults.{Fault}
-use Rattle.bson_wrapper.specs.Reading.{number_read_in}
-use Rattle.bson_wrapper.specs.Scalar as kind
-use Rattle.bson_wrapper.specs.Table.{has_wrapper}
-use Rattle.bson_wrapper.specs.declared.form.Doubles.{Doubles}
+use Rattle.bson_scalar.specs.Faults.{Fault}
+use Rattle.bson_scalar.specs.Reading.{number_read_in}
+use Rattle.bson_scalar.specs.Scalar as kind
+use Rattle.bson_scalar.specs.Table.{has_wrapper}
+use Rattle.bson_scalar.specs.declared.form.Doubles.{Doubles}
 use Rattle.bson_model.specs.Reading.{reads_members_in, scalar_value}
 use Rattle.bson_model.specs.Value.{Value, scalar, Pairs, no_pairs, pair, document}
 use Rattle.bson.specs.Straight.{given, marked, marked_by, nothing, unless_nothing, is_other}

@@ -1,9 +1,9 @@
 -- What is written in each order of keys is what the book's function of that order says.
 use Rattle.std.proofs.Common.{◌≡◌, Ok, refl, ap}
 use Rattle.serde_json.specs.Data.{array, object}
-use Rattle.bson_wrapper.specs.Written.{◌>>=◌}
-use Rattle.bson_wrapper.specs.declared.form.Doubles.{Doubles}
-use Rattle.bson_wrapper.specs.declared.form.Form.{Form}
+use Rattle.bson_scalar.specs.Written.{◌>>=◌}
+use Rattle.bson_scalar.specs.declared.form.Doubles.{Doubles}
+use Rattle.bson_scalar.specs.declared.form.Form.{Form}
 use Rattle.bson_model.specs.Value.{Value, scalar, code_scope, Values, no_values, value, Pairs, no_pairs, pair}
 use Rattle.bson_model.specs.Value as model
 use Rattle.bson_model.specs.Writing.{writes_in, writes_items_in, writes_pairs_in, with_scope}

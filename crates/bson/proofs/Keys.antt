@@ -6,9 +6,9 @@ use Rattle.std.proofs.lemmas.Bool.{and_left, and_right}
 use Rattle.std.proofs.lemmas.Slice.Eq.{bytes_eq-Decides}
 use Rattle.std.specs.Str.{bytes_eq}
 use Rattle.serde_json.specs.Data.{Data, null, Members, no_members, member, object, put}
-use Rattle.bson_wrapper.specs.Faults.{◌>>=◌}
-use Rattle.bson_wrapper.specs.Table.{has_wrapper}
-use Rattle.bson_wrapper.specs.declared.form.Doubles.{Doubles}
+use Rattle.bson_scalar.specs.Faults.{◌>>=◌}
+use Rattle.bson_scalar.specs.Table.{has_wrapper}
+use Rattle.bson_scalar.specs.declared.form.Doubles.{Doubles}
 use Rattle.bson_model.specs.Reading.{reads_in, reads_members_in, reads_wrapper_in}
 use Rattle.bson_model.specs.Value.{document}
 use Rattle.bson_tokens.proofs.Offered.{any_kept, any_new, one_true, or_from, wrapper_key}

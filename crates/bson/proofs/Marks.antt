@@ -7,12 +7,12 @@ use Rattle.std.specs.Cmp.Lexicographic.{slice_cmp}
 use Rattle.std.specs.Str.{bytes_eq}
 use Rattle.std.specs.Ordering.{match_ordering}
 use Rattle.serde_json.specs.Data.{Data, Members, no_members, member, put}
-use Rattle.bson_wrapper.specs.Doubles.{normal_double}
-use Rattle.bson_wrapper.specs.Faults.{Fault, ◌>>=◌}
-use Rattle.bson_wrapper.specs.Normal.{IsNormalOrNan}
-use Rattle.bson_wrapper.specs.Scalar as kind
-use Rattle.bson_wrapper.specs.Scalar.{Scalar}
-use Rattle.bson_wrapper.specs.declared.form.Doubles.{Doubles}
+use Rattle.bson_scalar.specs.Doubles.{normal_double}
+use Rattle.bson_scalar.specs.Faults.{Fault, ◌>>=◌}
+use Rattle.bson_scalar.specs.Normal.{IsNormalOrNan}
+use Rattle.bson_scalar.specs.Scalar as kind
+use Rattle.bson_scalar.specs.Scalar.{Scalar}
+use Rattle.bson_scalar.specs.declared.form.Doubles.{Doubles}
 use Rattle.bson_model.specs.Normal.{writable_in}
 use Rattle.bson_model.specs.Value.{IfScalar}
 use Rattle.bson_model.specs.Reading.{reads_in, reads_members_in}

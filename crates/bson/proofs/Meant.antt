@@ -4,7 +4,7 @@ use Rattle.std.proofs.lemmas.Option.{same_Some}
 use Rattle.std.specs.Prelude.{IsUtf8, OnOk}
 use Rattle.serde_json.specs.Data.{Data}
 use Rattle.serde_json.specs.Read.{read}
-use Rattle.bson_wrapper.specs.declared.form.Doubles.{Doubles}
+use Rattle.bson_scalar.specs.declared.form.Doubles.{Doubles}
 use Rattle.bson_model.specs.Laws.{HasMeaningIn}
 use Rattle.bson_model.specs.Normal.{InRange}
 use Rattle.bson_model.specs.Reading.{reads_in}

@@ -2,11 +2,11 @@
 use Rattle.std.proofs.Common.{◌≡◌, ℕ, List, [], ◌∷◌, ◌++◌, Result, Ok, Err, refl, sym, ap, ◌∙◌}
 use Rattle.bson_model.specs.Value.{Value, Values, no_values, value, Pairs, no_pairs, pair}
 use Rattle.serde_json.specs.Data.{Data, Items, item, Members, member}
-use Rattle.bson_wrapper.specs.Faults.{Fault, ◌>>=◌, Fails}
+use Rattle.bson_scalar.specs.Faults.{Fault, ◌>>=◌, Fails}
 use Rattle.bson_model.specs.Reading.{reads_in, reads_items_in, reads_members_in}
-use Rattle.bson_wrapper.specs.declared.error.Error.{Error}
-use Rattle.bson_wrapper.specs.declared.error.Error.TheVariants.{InvalidObjectId, DeserializationError, OutOfMemory}
-use Rattle.bson_wrapper.specs.declared.form.Doubles.{Doubles}
+use Rattle.bson_scalar.specs.declared.error.Error.{Error}
+use Rattle.bson_scalar.specs.declared.error.Error.TheVariants.{InvalidObjectId, DeserializationError, OutOfMemory}
+use Rattle.bson_scalar.specs.declared.form.Doubles.{Doubles}
 use Rattle.bson.specs.View.{bson_view, values_of, pairs_view}
 use Rattle.bson.specs.declared.bson.Bson.{Bson}
 

@@ -2,12 +2,12 @@
 use Rattle.std.proofs.Common.{◌≡◌, true, false, Result, Ok, Err, String, Global, string_bytes, refl, sym, ap, ◌∙◌, subst}
 use Rattle.std.specs.Prelude.{is_ok, IfOk, OnOk}
 use Rattle.serde_json.specs.Data.{Data}
-use Rattle.bson_wrapper.specs.Written.{Refusal}
-use Rattle.bson_wrapper.specs.declared.form.Doubles.{Doubles}
-use Rattle.bson_wrapper.specs.declared.form.Form.{Form}
-use Rattle.bson_wrapper.specs.declared.write_error.WriteError.{WriteError}
-use Rattle.bson_wrapper.specs.declared.write_error.WriteError.TheVariants.{FiniteDouble, OutOfMemory}
-use Rattle.bson_wrapper.proofs.Offered.{text_is}
+use Rattle.bson_scalar.specs.Written.{Refusal}
+use Rattle.bson_scalar.specs.declared.form.Doubles.{Doubles}
+use Rattle.bson_scalar.specs.declared.form.Form.{Form}
+use Rattle.bson_scalar.specs.declared.write_error.WriteError.{WriteError}
+use Rattle.bson_scalar.specs.declared.write_error.WriteError.TheVariants.{FiniteDouble, OutOfMemory}
+use Rattle.bson_scalar.proofs.Offered.{text_is}
 use Rattle.bson_model.specs.Laws.{IsTreeOfIn}
 use Rattle.bson_model.specs.Normal.{writable_in, normal_form, InRange}
 use Rattle.bson_model.specs.Value.{Value}

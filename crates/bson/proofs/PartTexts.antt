@@ -12,8 +12,8 @@ use Rattle.json.specs.Tree.{json_tokens, items_tokens, members_tokens}
 use Rattle.json.proofs.Printed.Tokens.{print_from-append}
 use Rattle.serde_json.specs.Data.{Data, Items, no_items, item, array, Members, no_members, member, object}
 use Rattle.serde_json.specs.Written.{comma_if}
-use Rattle.bson_wrapper.specs.TreeText.{outline, items_outline, members_outline, text_of}
-use Rattle.bson_wrapper.specs.Tokens.{code_tokens}
+use Rattle.bson_scalar.specs.TreeText.{outline, items_outline, members_outline, text_of}
+use Rattle.bson_scalar.specs.Tokens.{code_tokens}
 use Rattle.bson_model.specs.Writing.{with_scope}
 use Rattle.bson.specs.Texts.{tokens_of}
 

@@ -16,10 +16,10 @@ use Rattle.json.specs.Token.{Token}
 use Rattle.serde_json.specs.Data.{Members, no_members, put}
 use Rattle.serde_json.specs.Read.{of_json, of_members, converted}
 use Rattle.serde_json.specs.Written.{comma_if}
-use Rattle.bson_wrapper.specs.TreeText.{text_of}
-use Rattle.bson_wrapper.specs.Table.{wrapper_of, has_wrapper}
-use Rattle.bson_wrapper.specs.declared.form.Doubles.{Doubles}
-use Rattle.bson_wrapper.specs.declared.form.Form.{Form}
+use Rattle.bson_scalar.specs.TreeText.{text_of}
+use Rattle.bson_scalar.specs.Table.{wrapper_of, has_wrapper}
+use Rattle.bson_scalar.specs.declared.form.Doubles.{Doubles}
+use Rattle.bson_scalar.specs.declared.form.Form.{Form}
 use Rattle.bson_model.specs.Reading.{reads_members_in}
 use Rattle.bson_model.specs.Sorted.{put_pair}
 use Rattle.bson_model.specs.Value.{Value, Pairs, no_pairs, document}

@@ -16,11 +16,11 @@ use Rattle.json.specs.Print.{quoted}
 use Rattle.json.specs.Token.{Token}
 use Rattle.serde_json.specs.Data.{Members, no_members, member, object, put}
 use Rattle.serde_json.specs.Written.{comma_if}
-use Rattle.bson_wrapper.specs.Table.{has_wrapper}
-use Rattle.bson_wrapper.specs.TreeText.{text_of}
-use Rattle.bson_wrapper.specs.Written.{◌>>=◌}
-use Rattle.bson_wrapper.specs.declared.form.Doubles.{Doubles}
-use Rattle.bson_wrapper.specs.declared.form.Form.{Form}
+use Rattle.bson_scalar.specs.Table.{has_wrapper}
+use Rattle.bson_scalar.specs.TreeText.{text_of}
+use Rattle.bson_scalar.specs.Written.{◌>>=◌}
+use Rattle.bson_scalar.specs.declared.form.Doubles.{Doubles}
+use Rattle.bson_scalar.specs.declared.form.Form.{Form}
 use Rattle.bson_model.specs.Normal.{PairsInRange}
 use Rattle.bson_model.specs.Reading.{reads_members_in}
 use Rattle.bson_model.specs.Sorted.{put_pair, IsLeast, KeysAscend}

@@ -10,13 +10,13 @@ use Rattle.std.specs.Str.{bytes_eq}
 use Rattle.json.specs.Token.{Token, end_object, key}
 use Rattle.json.specs.Tree.{items_tokens, members_tokens}
 use Rattle.serde_json.specs.Data.{Data, object, Items, item, Members, member, put}
-use Rattle.bson_wrapper.specs.TreeText.{items_outline, members_outline}
-use Rattle.bson_wrapper.proofs.Offered.{in_turn}
-use Rattle.bson_wrapper.specs.Written.{Refusal, finite, ◌>>=◌, Stops}
-use Rattle.bson_wrapper.specs.declared.form.Doubles.{Doubles}
-use Rattle.bson_wrapper.specs.declared.form.Form.{Form}
-use Rattle.bson_wrapper.specs.declared.write_error.WriteError.{WriteError}
-use Rattle.bson_wrapper.specs.declared.write_error.WriteError.TheVariants.{FiniteDouble, OutOfMemory}
+use Rattle.bson_scalar.specs.TreeText.{items_outline, members_outline}
+use Rattle.bson_scalar.proofs.Offered.{in_turn}
+use Rattle.bson_scalar.specs.Written.{Refusal, finite, ◌>>=◌, Stops}
+use Rattle.bson_scalar.specs.declared.form.Doubles.{Doubles}
+use Rattle.bson_scalar.specs.declared.form.Form.{Form}
+use Rattle.bson_scalar.specs.declared.write_error.WriteError.{WriteError}
+use Rattle.bson_scalar.specs.declared.write_error.WriteError.TheVariants.{FiniteDouble, OutOfMemory}
 use Rattle.bson_store.specs.Order.{key_cmp, in_order}
 use Rattle.bson_store.specs.Pairs.{keys, HasDistinctKeys}
 use Rattle.bson_model.specs.Value.{Value, code_scope, Values, value, Pairs, no_pairs, pair}

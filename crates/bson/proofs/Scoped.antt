@@ -9,12 +9,12 @@ use Rattle.json.specs.Token.{Token, begin_object}
 use Rattle.json.proofs.Grammar.{value_is}
 use Rattle.serde_json.specs.Data.{Data, string, Members, no_members, member, object}
 use Rattle.serde_json.specs.Read.{of_json, of_members, converted}
-use Rattle.bson_wrapper.specs.Scalar.{code}
-use Rattle.bson_wrapper.specs.Tokens.{code_tokens}
-use Rattle.bson_wrapper.specs.TreeText.{text_of}
-use Rattle.bson_wrapper.specs.Written.{Refusal, ◌>>=◌}
-use Rattle.bson_wrapper.specs.declared.form.Doubles.{Doubles}
-use Rattle.bson_wrapper.specs.declared.form.Form.{Form}
+use Rattle.bson_scalar.specs.Scalar.{code}
+use Rattle.bson_scalar.specs.Tokens.{code_tokens}
+use Rattle.bson_scalar.specs.TreeText.{text_of}
+use Rattle.bson_scalar.specs.Written.{Refusal, ◌>>=◌}
+use Rattle.bson_scalar.specs.declared.form.Doubles.{Doubles}
+use Rattle.bson_scalar.specs.declared.form.Form.{Form}
 use Rattle.bson_model.specs.Reading.{reads_in, reads_members_in}
 use Rattle.bson_model.specs.Value.{Pairs, scalar, code_scope, document}
 use Rattle.bson_model.specs.Writing.{writes_pairs_in, with_scope}

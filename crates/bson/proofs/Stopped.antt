@@ -3,16 +3,16 @@ use Rattle.std.proofs.Common.{◌≡◌, true, Result, Ok, Err, List, sym, ap, �
 use Rattle.std.specs.Prelude.{IfErr, is_ok}
 use Rattle.json.specs.Token.{Token}
 use Rattle.serde_json.specs.Data.{Data}
-use Rattle.bson_wrapper.specs.Normal.{writable_scalar_in}
-use Rattle.bson_wrapper.specs.Scalar.{Scalar}
-use Rattle.bson_wrapper.specs.Tokens.{Puts}
-use Rattle.bson_wrapper.specs.Written.{Stops, Writes, writes_scalar_in}
-use Rattle.bson_wrapper.specs.declared.form.Doubles.{Doubles}
-use Rattle.bson_wrapper.specs.declared.form.Doubles.TheVariants.{Special, Finite}
-use Rattle.bson_wrapper.specs.declared.form.Form.{Form}
-use Rattle.bson_wrapper.specs.declared.write_error.WriteError.{WriteError}
-use Rattle.bson_wrapper.specs.declared.write_error.WriteError.TheVariants.{FiniteDouble, OutOfMemory}
-use Rattle.bson_wrapper.proofs.Offered.{writable_is}
+use Rattle.bson_scalar.specs.Normal.{writable_scalar_in}
+use Rattle.bson_scalar.specs.Scalar.{Scalar}
+use Rattle.bson_scalar.specs.Tokens.{Puts}
+use Rattle.bson_scalar.specs.Written.{Stops, Writes, writes_scalar_in}
+use Rattle.bson_scalar.specs.declared.form.Doubles.{Doubles}
+use Rattle.bson_scalar.specs.declared.form.Doubles.TheVariants.{Special, Finite}
+use Rattle.bson_scalar.specs.declared.form.Form.{Form}
+use Rattle.bson_scalar.specs.declared.write_error.WriteError.{WriteError}
+use Rattle.bson_scalar.specs.declared.write_error.WriteError.TheVariants.{FiniteDouble, OutOfMemory}
+use Rattle.bson_scalar.proofs.Offered.{writable_is}
 use Rattle.bson.specs.Texts.{MayStop}
 
 -- a scalar that has a text where finite doubles are written stops no writer there

@@ -2,11 +2,11 @@
 use Rattle.std.proofs.Common.{◌≡◌, true, false, Result, Ok, Err, String, Global, string_bytes, sym, ap, ◌∙◌}
 use Rattle.std.proofs.Common.{subst}
 use Rattle.std.specs.Prelude.{is_ok, IfOk, OnOk}
-use Rattle.bson_wrapper.specs.declared.form.Doubles.{Doubles}
-use Rattle.bson_wrapper.specs.declared.form.Form.{Form}
-use Rattle.bson_wrapper.specs.declared.write_error.WriteError.{WriteError}
-use Rattle.bson_wrapper.specs.declared.write_error.WriteError.TheVariants.{FiniteDouble, OutOfMemory}
-use Rattle.bson_wrapper.proofs.Offered.{text_is as as_text}
+use Rattle.bson_scalar.specs.declared.form.Doubles.{Doubles}
+use Rattle.bson_scalar.specs.declared.form.Form.{Form}
+use Rattle.bson_scalar.specs.declared.write_error.WriteError.{WriteError}
+use Rattle.bson_scalar.specs.declared.write_error.WriteError.TheVariants.{FiniteDouble, OutOfMemory}
+use Rattle.bson_scalar.proofs.Offered.{text_is as as_text}
 use Rattle.bson_model.specs.Value.{Value}
 use Rattle.bson_model.specs.Normal.{writable_in, InRange}
 use Rattle.bson_model.specs.Writing.{writes_in}

@@ -12,10 +12,10 @@ use Rattle.json.specs.Json.{Json, value}
 use Rattle.serde_json.specs.Data.{Data, null, boolean, number, string, array, Members, no_members, member, object, put}
 use Rattle.serde_json.specs.Read.{of_json, converted}
 use Rattle.serde_json.specs.Find.{as_str}
-use Rattle.bson_wrapper.specs.Faults.{Fault, or_wrong_shape, ◌>>=◌}
-use Rattle.bson_wrapper.specs.Reading.{single_at_in, on_text}
-use Rattle.bson_wrapper.specs.Table.{wrapper_of, has_wrapper}
-use Rattle.bson_wrapper.specs.declared.form.Doubles.{Doubles}
+use Rattle.bson_scalar.specs.Faults.{Fault, or_wrong_shape, ◌>>=◌}
+use Rattle.bson_scalar.specs.Reading.{single_at_in, on_text}
+use Rattle.bson_scalar.specs.Table.{wrapper_of, has_wrapper}
+use Rattle.bson_scalar.specs.declared.form.Doubles.{Doubles}
 use Rattle.bson_model.specs.Reading.{reads_in, scalar_value, scope_value}
 use Rattle.bson_model.specs.Sorted.{sorted}
 use Rattle.bson_model.specs.Value.{Value, Pairs}

@@ -7,8 +7,8 @@ use Rattle.json.specs.Json as json
 use Rattle.json.specs.Json.{read_key, items, members, value}
 use Rattle.serde_json.specs.Data.{Data, Items, Members, no_members, put}
 use Rattle.serde_json.specs.Read.{of_json, of_items, of_members, converted, read}
-use Rattle.bson_wrapper.specs.Faults.{Fault}
-use Rattle.bson_wrapper.specs.declared.form.Doubles.{Doubles}
+use Rattle.bson_scalar.specs.Faults.{Fault}
+use Rattle.bson_scalar.specs.declared.form.Doubles.{Doubles}
 use Rattle.bson_model.specs.Reading.{reads_in, reads_items_in, reads_members_in, reads_scope_in}
 use Rattle.bson_model.specs.Sorted.{put_pair}
 use Rattle.bson_model.specs.Value.{Value, Values, Pairs, no_pairs, pair}

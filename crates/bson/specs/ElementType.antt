@@ -1,7 +1,7 @@
 -- The element type of each kind (BSON 1.1): that of the kind's own name.
-use Rattle.bson_scalar.specs.declared.spec.ElementType.{ElementType}
-use Rattle.bson_scalar.specs.declared.spec.ElementType.TheVariants as element
-use Rattle.bson_wrapper.specs.ElementType.{scalar_type}
+use Rattle.bson_types.specs.declared.spec.ElementType.{ElementType}
+use Rattle.bson_types.specs.declared.spec.ElementType.TheVariants as element
+use Rattle.bson_scalar.specs.ElementType.{scalar_type}
 use Rattle.bson_model.specs.Value.{Value, scalar, code_scope, array, document}
 use Rattle.bson.specs.View.{bson_view}
 use Rattle.bson.specs.declared.bson.Bson.{Bson}

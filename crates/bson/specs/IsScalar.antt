@@ -1,6 +1,6 @@
 -- Values that hold no other.
 use Rattle.std.specs.Prelude.{Bool, true, false}
-use Rattle.bson_wrapper.specs.Same.{scalar_eq}
+use Rattle.bson_scalar.specs.Same.{scalar_eq}
 use Rattle.bson_model.specs.Value.{Value, scalar, code_scope, array, document}
 
 abbrev pub IsScalar : Value → Type 0

@@ -5,11 +5,11 @@ use Rattle.std.specs.Prelude.{String as Text, Vec}
 use Rattle.std.specs.Borrow.{Bor, MutBor}
 use Rattle.std.specs.Result.{result_map_both}
 use Rattle.std.specs.declared.alloc.Global.{Global}
-use Rattle.bson_scalar.specs.declared.binary.Binary.{Binary}
-use Rattle.bson_scalar.specs.declared.db_pointer.DbPointer.{DbPointer as Pointer}
-use Rattle.bson_scalar.specs.declared.spec.BinarySubtype.{BinarySubtype}
-use Rattle.bson_scalar.specs.declared.spec.BinarySubtype.TheVariants.{Generic}
-use Rattle.bson_scalar.specs.declared.timestamp.Timestamp.{Timestamp as Stamp}
+use Rattle.bson_types.specs.declared.binary.Binary.{Binary}
+use Rattle.bson_types.specs.declared.db_pointer.DbPointer.{DbPointer as Pointer}
+use Rattle.bson_types.specs.declared.spec.BinarySubtype.{BinarySubtype}
+use Rattle.bson_types.specs.declared.spec.BinarySubtype.TheVariants.{Generic}
+use Rattle.bson_types.specs.declared.timestamp.Timestamp.{Timestamp as Stamp}
 use Rattle.bson_store.specs.Pairs.{get}
 use Rattle.bson.specs.View.{contents}
 use Rattle.bson.specs.declared.bson.Bson.{Bson, Bson-F, out-Bson}

@@ -8,9 +8,9 @@ use Rattle.std.specs.contracts.vec.Vec as vec
 pub use Rattle.std.specs.Borrow.{bool as boolean_row, i32 as int32_row, i64 as int64_row, u64 as double_row}
 pub use Rattle.bson_datetime.specs.contracts.datetime.DateTime.{the_row as date_row}
 pub use Rattle.bson_decimal.specs.contracts.Decimal128.{the_row as decimal_row}
-pub use Rattle.bson_scalar.specs.contracts.binary.Binary.{the_row as binary_row}
-pub use Rattle.bson_scalar.specs.contracts.oid.ObjectId.{the_row as object_id_row}
-pub use Rattle.bson_scalar.specs.contracts.timestamp.Timestamp.{the_row as timestamp_row}
+pub use Rattle.bson_types.specs.contracts.binary.Binary.{the_row as binary_row}
+pub use Rattle.bson_types.specs.contracts.oid.ObjectId.{the_row as object_id_row}
+pub use Rattle.bson_types.specs.contracts.timestamp.Timestamp.{the_row as timestamp_row}
 pub use Rattle.bson.specs.contracts.bson.Bson.{the_row as bson_row}
 pub use Rattle.bson.specs.contracts.document.Document.{the_row as document_row}
 

@@ -3,14 +3,14 @@ use Rattle.std.specs.Prelude.{◌≡◌, ℕ, ◌++◌, List, true, Result, Ok, 
 use Rattle.std.specs.declared.alloc.Global.{Global}
 use Rattle.json.specs.Token.{Token}
 use Rattle.serde_json.specs.Data.{Data, Members, no_members, member}
-pub use Rattle.bson_wrapper.specs.Tokens.{tokens_of, code_tokens}
-use Rattle.bson_wrapper.specs.TreeText.{text_of, tree_text}
-use Rattle.bson_wrapper.specs.Written.{Refusal, Stops, ◌>>=◌}
-use Rattle.bson_wrapper.specs.declared.form.Doubles.{Doubles}
-use Rattle.bson_wrapper.specs.declared.form.Doubles.TheVariants.{Special, Finite}
-use Rattle.bson_wrapper.specs.declared.form.Form.{Form}
-use Rattle.bson_wrapper.specs.declared.write_error.WriteError.{WriteError}
-use Rattle.bson_wrapper.specs.declared.write_error.WriteError.TheVariants.{FiniteDouble, OutOfMemory}
+pub use Rattle.bson_scalar.specs.Tokens.{tokens_of, code_tokens}
+use Rattle.bson_scalar.specs.TreeText.{text_of, tree_text}
+use Rattle.bson_scalar.specs.Written.{Refusal, Stops, ◌>>=◌}
+use Rattle.bson_scalar.specs.declared.form.Doubles.{Doubles}
+use Rattle.bson_scalar.specs.declared.form.Doubles.TheVariants.{Special, Finite}
+use Rattle.bson_scalar.specs.declared.form.Form.{Form}
+use Rattle.bson_scalar.specs.declared.write_error.WriteError.{WriteError}
+use Rattle.bson_scalar.specs.declared.write_error.WriteError.TheVariants.{FiniteDouble, OutOfMemory}
 use Rattle.bson_model.specs.Texts.{ReadsAgainIn}
 use Rattle.bson_model.specs.Value.{Value, Pairs, no_pairs, pair}
 use Rattle.bson_model.specs.Writing.{writes_in}

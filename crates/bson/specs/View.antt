@@ -1,7 +1,7 @@
 -- The value that a `Bson` stands for.
 use Rattle.std.specs.Prelude.{ℕ, List, [], ◌∷◌, map, string_bytes}
-use Rattle.bson_scalar.specs.DbPointer.{namespace_of, id_of}
-use Rattle.bson_wrapper.specs.Scalar as kind
+use Rattle.bson_types.specs.DbPointer.{namespace_of, id_of}
+use Rattle.bson_scalar.specs.Scalar as kind
 use Rattle.bson_model.specs.Value.{Value, scalar, code_scope, array, document, Values, no_values, value, Pairs}
 use Rattle.bson_model.specs.Value.{no_pairs, pair}
 use Rattle.bson.specs.declared.bson.Bson.{Bson, fold-Bson, Bson-F}

@@ -11,10 +11,10 @@ ghost use Rattle.bson.specs.Rows.{string_row};
 use crate::bson::{Array, Bson};
 use crate::document::Document;
 use crate::kinds::Kind;
-use bson_scalar::datetime::DateTime;
-use bson_scalar::db_pointer::DbPointer;
-use bson_scalar::oid::ObjectId;
-use bson_scalar::timestamp::Timestamp;
+use bson_types::datetime::DateTime;
+use bson_types::db_pointer::DbPointer;
+use bson_types::oid::ObjectId;
+use bson_types::timestamp::Timestamp;
 
 /// Each accessor gives what a value of its kind holds, and None for a value of any other kind. What
 /// is written through a `_mut` form is then what the value holds.

@@ -1,12 +1,12 @@
 //! The values.
 use crate::document::Document;
-use bson_scalar::binary::Binary;
-use bson_scalar::datetime::DateTime;
-use bson_scalar::db_pointer::DbPointer;
-use bson_scalar::decimal128::Decimal128;
-use bson_scalar::oid::ObjectId;
-use bson_scalar::regex::Regex;
-use bson_scalar::timestamp::Timestamp;
+use bson_types::binary::Binary;
+use bson_types::datetime::DateTime;
+use bson_types::db_pointer::DbPointer;
+use bson_types::decimal128::Decimal128;
+use bson_types::oid::ObjectId;
+use bson_types::regex::Regex;
+use bson_types::timestamp::Timestamp;
 
 /// A list of values.
 ///

@@ -4,15 +4,15 @@ ghost use Rattle.bson.specs.declared.bson.Bson.TheVariants as value;
 
 use crate::bson::{Bson, JavaScriptCodeWithScope};
 use crate::document::Document;
-use bson_scalar::binary::{Binary, Vector};
-use bson_scalar::datetime::DateTime;
-use bson_scalar::db_pointer::DbPointer;
-use bson_scalar::decimal128::Decimal128;
-use bson_scalar::oid::ObjectId;
-use bson_scalar::regex::Regex;
-use bson_scalar::spec::BinarySubtype;
-use bson_scalar::timestamp::Timestamp;
-use bson_scalar::uuid_value::Uuid;
+use bson_types::binary::{Binary, Vector};
+use bson_types::datetime::DateTime;
+use bson_types::db_pointer::DbPointer;
+use bson_types::decimal128::Decimal128;
+use bson_types::oid::ObjectId;
+use bson_types::regex::Regex;
+use bson_types::spec::BinarySubtype;
+use bson_types::timestamp::Timestamp;
+use bson_types::uuid_value::Uuid;
 use std::alloc::{AllocError, Global};
 
 /// `Null`.
@@ -162,9 +162,9 @@ impl From<Decimal128> for Bson {
 impl Bson {
     ghost use Rattle.std.specs.Prelude.{List, IfOk};
     ghost use Rattle.std.specs.Iterator.{Drains, IsFinite};
-    ghost use Rattle.bson_wrapper.specs.Scalar as kind;
+    ghost use Rattle.bson_scalar.specs.Scalar as kind;
     ghost use Rattle.bson_model.specs.Value.{array, scalar};
-    ghost use Rattle.bson_scalar.specs.Vectors.{vector_bytes};
+    ghost use Rattle.bson_types.specs.Vectors.{vector_bytes};
     ghost use Rattle.bson.specs.View.{bson_view, values_view};
 
     /// A `String` of this text, in memory of its own.

@@ -4,8 +4,8 @@ ghost use Rattle.bson.specs.ElementType.{element_type_of};
 
 use crate::bson::Bson;
 use crate::scalar::scalar_ref;
-use bson_scalar::spec::ElementType;
-use bson_wrapper::scalar_ref::Element;
+use bson_scalar::scalar_ref::Element;
+use bson_types::spec::ElementType;
 
 impl Bson {
     /// The element type that the value is stored with (BSON 1.1): that of its kind's own name, and

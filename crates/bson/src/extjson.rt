@@ -19,5 +19,5 @@ mod text_reader;
 mod write;
 
 pub use crate::extjson::options::Options;
-pub use bson_wrapper::form::{Doubles, Form};
-pub use bson_wrapper::write_error::WriteError;
+pub use bson_scalar::form::{Doubles, Form};
+pub use bson_scalar::write_error::WriteError;

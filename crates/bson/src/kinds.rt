@@ -8,12 +8,12 @@ ghost use Rattle.bson.specs.Rows.{binary_row, bson_row, bytes_row};
 
 use crate::bson::{Array, Bson};
 use crate::document::Document;
-use bson_scalar::binary::Binary;
-use bson_scalar::datetime::DateTime;
-use bson_scalar::decimal128::Decimal128;
-use bson_scalar::oid::ObjectId;
-use bson_scalar::spec::BinarySubtype;
-use bson_scalar::timestamp::Timestamp;
+use bson_types::binary::Binary;
+use bson_types::datetime::DateTime;
+use bson_types::decimal128::Decimal128;
+use bson_types::oid::ObjectId;
+use bson_types::spec::BinarySubtype;
+use bson_types::timestamp::Timestamp;
 
 /// A type whose values are what one kind of `Bson` holds.
 pub(crate) trait Kind {

@@ -1,12 +1,12 @@
 //! Values that hold no other, as scalars by reference.
 ghost use Rattle.std.specs.Prelude.{◌≡◌};
-ghost use Rattle.bson_wrapper.specs.View.{scalar_of};
+ghost use Rattle.bson_scalar.specs.View.{scalar_of};
 ghost use Rattle.bson_model.specs.Value.{scalar};
 ghost use Rattle.bson.specs.IsScalar.{IsScalar, is_scalar as is_scalar_of, scalars_eq};
 ghost use Rattle.bson.specs.View.{bson_view};
 
 use crate::bson::Bson;
-use bson_wrapper::scalar_ref::ScalarRef;
+use bson_scalar::scalar_ref::ScalarRef;
 
 // The scalar that the value is.
 pub(crate) fn scalar_ref(value: &Bson) -> ScalarRef<'_>

@@ -12,13 +12,13 @@ use Rattle.std.proofs.lemmas.Fmt.{IsAscii-decimal, decimal_is_IsNumeral}
 use Rattle.std.proofs.lemmas.Int.{to_z-of_z, ints}
 use Rattle.std.proofs.lemmas.List.{length-append}
 use Rattle.std.proofs.lemmas.Str.{is_utf8-from_IsUtf8, IsUtf8-from_ascii}
-use Rattle.bson_scalar.specs.declared.spec.ElementType.TheVariants as tag
-use Rattle.bson_scalar.specs.Subtype.{subtype_byte, subtype_of}
-use Rattle.bson_scalar.specs.Tags.{tag_of}
-use Rattle.bson_wrapper.specs.ElementType.{scalar_type}
-use Rattle.bson_wrapper.specs.Scalar.{Scalar, null, undefined, min_key, max_key, boolean, double, int32, int64, text}
-use Rattle.bson_wrapper.specs.Scalar.{symbol, code, regex, timestamp, binary, object_id, date, decimal as decimal128}
-use Rattle.bson_wrapper.specs.Scalar.{db_pointer}
+use Rattle.bson_types.specs.declared.spec.ElementType.TheVariants as tag
+use Rattle.bson_types.specs.Subtype.{subtype_byte, subtype_of}
+use Rattle.bson_types.specs.Tags.{tag_of}
+use Rattle.bson_scalar.specs.ElementType.{scalar_type}
+use Rattle.bson_scalar.specs.Scalar.{Scalar, null, undefined, min_key, max_key, boolean, double, int32, int64, text}
+use Rattle.bson_scalar.specs.Scalar.{symbol, code, regex, timestamp, binary, object_id, date, decimal as decimal128}
+use Rattle.bson_scalar.specs.Scalar.{db_pointer}
 use Rattle.bson_model.specs.Normal.{map_scalars, map_scalars_of_items}
 use Rattle.bson_model.specs.Value.{Value, Values, no_values, value, Pairs, no_pairs, pair, scalar, code_scope, array}
 use Rattle.bson_model.specs.Value.{document}

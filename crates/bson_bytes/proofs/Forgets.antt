@@ -1,7 +1,7 @@
 -- What is read where no key may stand twice is read as the same document where any may.
 use Rattle.std.proofs.Common.{ℕ, List}
 use Rattle.bson_model.specs.Value.{Value, Pairs}
-use Rattle.bson_scalar.specs.declared.spec.ElementType.{ElementType}
+use Rattle.bson_types.specs.declared.spec.ElementType.{ElementType}
 use Rattle.bson_bytes.specs.declared.keys.DuplicateKeys.{DuplicateKeys}
 use Rattle.bson_bytes.specs.declared.keys.DuplicateKeys.TheVariants.{Replace}
 use Rattle.bson_bytes.specs.Grammar.{IsDocument, is_document, IsList, is_empty, is_element, IsValue, is_double, is_text}

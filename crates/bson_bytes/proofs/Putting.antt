@@ -7,11 +7,11 @@ use Rattle.std.specs.Prelude.{decimal, is_none, ◌&&◌}
 use Rattle.std.specs.Int.{w32}
 use Rattle.std.proofs.lemmas.Bool.{ltb-true, ltb-false}
 use Rattle.std.proofs.lemmas.List.{take_at, drop_at, length-append, append-nil}
-use Rattle.bson_scalar.specs.declared.spec.ElementType.{ElementType}
-use Rattle.bson_scalar.specs.Subtype.{subtype_byte}
-use Rattle.bson_wrapper.specs.Scalar.{Scalar, null, undefined, min_key, max_key, boolean, double, int32, int64, text}
-use Rattle.bson_wrapper.specs.Scalar.{symbol, code, regex, timestamp, binary, object_id, date, decimal as decimal128}
-use Rattle.bson_wrapper.specs.Scalar.{db_pointer}
+use Rattle.bson_types.specs.declared.spec.ElementType.{ElementType}
+use Rattle.bson_types.specs.Subtype.{subtype_byte}
+use Rattle.bson_scalar.specs.Scalar.{Scalar, null, undefined, min_key, max_key, boolean, double, int32, int64, text}
+use Rattle.bson_scalar.specs.Scalar.{symbol, code, regex, timestamp, binary, object_id, date, decimal as decimal128}
+use Rattle.bson_scalar.specs.Scalar.{db_pointer}
 use Rattle.bson_model.specs.Value.{Value, Values, no_values, value, Pairs, no_pairs, pair, scalar, code_scope, array}
 use Rattle.bson_model.specs.Value.{document}
 use Rattle.bson_bytes.specs.Grammar.{le, NoZero, IsSize, text_bytes, scope_size, framed}

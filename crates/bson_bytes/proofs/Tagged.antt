@@ -1,9 +1,9 @@
 -- The type that a byte names.
 use Rattle.std.proofs.Common.{◌≡◌, ◌↔◌, ℕ, eqb, List, [], ◌∷◌, Option, Some, None, refl, sym, ap, ◌∙◌, inl, inr}
 use Rattle.std.proofs.lemmas.Bool.{eqb-true}
-use Rattle.bson_scalar.specs.declared.spec.ElementType.{ElementType}
-use Rattle.bson_scalar.specs.declared.spec.ElementType.TheVariants as kind
-use Rattle.bson_scalar.specs.Tags.{tag_of}
+use Rattle.bson_types.specs.declared.spec.ElementType.{ElementType}
+use Rattle.bson_types.specs.declared.spec.ElementType.TheVariants as kind
+use Rattle.bson_types.specs.Tags.{tag_of}
 use Rattle.bson_bytes.specs.Tags.{named, all_types, kind_of}
 use Rattle.bson_bytes.proofs.PartLaws.{chosen}
 

@@ -4,10 +4,10 @@ use Rattle.std.proofs.Common.{take, drop, Option, Some, None, Result, Ok, Err, r
 use Rattle.std.specs.Int.{Width, w32, w64, byte_len, from_le_bytes, cast_signed}
 use Rattle.std.specs.Str.{is_utf8}
 use Rattle.std.proofs.lemmas.List.{length-append, length-drop}
-use Rattle.bson_scalar.specs.declared.spec.ElementType.{ElementType}
-use Rattle.bson_scalar.specs.declared.spec.ElementType.TheVariants as tag
-use Rattle.bson_scalar.specs.Subtype.{subtype_of}
-use Rattle.bson_wrapper.specs.Scalar as kind
+use Rattle.bson_types.specs.declared.spec.ElementType.{ElementType}
+use Rattle.bson_types.specs.declared.spec.ElementType.TheVariants as tag
+use Rattle.bson_types.specs.Subtype.{subtype_of}
+use Rattle.bson_scalar.specs.Scalar as kind
 use Rattle.bson_model.specs.Value.{Value, Pairs, no_pairs, pair, scalar, code_scope, array, document}
 use Rattle.bson_bytes.specs.declared.fault.Fault.{Fault}
 use Rattle.bson_bytes.specs.declared.fault.FaultKind.{FaultKind}

@@ -1,8 +1,8 @@
 -- The type that a byte names (BSON 1.1).
 use Rattle.std.specs.Prelude.{ℕ, ◌==◌, if◌then◌else◌, Option, Some, None, List, [], ◌∷◌}
-use Rattle.bson_scalar.specs.declared.spec.ElementType.{ElementType}
-use Rattle.bson_scalar.specs.declared.spec.ElementType.TheVariants as tag
-use Rattle.bson_scalar.specs.Tags.{tag_of}
+use Rattle.bson_types.specs.declared.spec.ElementType.{ElementType}
+use Rattle.bson_types.specs.declared.spec.ElementType.TheVariants as tag
+use Rattle.bson_types.specs.Tags.{tag_of}
 
 -- the first of these types whose tag the byte is
 abbrev pub named : ℕ → List ElementType → Option ElementType

@@ -11,7 +11,7 @@ use crate::parts::{
     behind_name, byte_at, bytes_at, kind_of, sixteen_at, size_at, text_at, twelve_at, u32_at,
     u64_at,
 };
-use bson_scalar::spec::ElementType;
+use bson_types::spec::ElementType;
 
 /// Whether the bytes are a document, all of them, in which documents, arrays and scopes stand at
 /// most `depth` in each other, counting the document itself; else their first fault. It takes no

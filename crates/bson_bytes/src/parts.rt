@@ -9,7 +9,7 @@ ghost use Rattle.bson_bytes.specs.Putting.{is_free};
 ghost use Rattle.bson_bytes.specs.Tags.{kind_of};
 
 use crate::fault::{Fault, FaultKind, fault_at};
-use bson_scalar::spec::ElementType;
+use bson_types::spec::ElementType;
 use std::str;
 
 pub fn byte_at(bytes: &[u8]) -> Result<(u8, &[u8]), Fault>

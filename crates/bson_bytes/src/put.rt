@@ -5,17 +5,17 @@ ghost use Rattle.bson_bytes.specs.Grammar.{le, old_binary_bytes, binary_bytes};
 ghost use Rattle.bson_bytes.specs.Putting.{put_sized, put_text, put_regex, put_binary, put_pointer, put_name};
 ghost use Rattle.bson_bytes.specs.Putting.{put_room, put_length, put_end, Puts};
 ghost use Rattle.bson_bytes.specs.Writing.{name_bytes, TypedScalar};
-ghost use Rattle.bson_wrapper.specs.Scalar as kind;
-ghost use Rattle.bson_scalar.specs.DbPointer.{namespace_of, id_of};
-ghost use Rattle.bson_scalar.specs.Subtype.{subtype_byte};
+ghost use Rattle.bson_scalar.specs.Scalar as kind;
+ghost use Rattle.bson_types.specs.DbPointer.{namespace_of, id_of};
+ghost use Rattle.bson_types.specs.Subtype.{subtype_byte};
 
 use crate::error::Error;
 use crate::parts::is_free;
-use bson_scalar::binary::Binary;
-use bson_scalar::db_pointer::DbPointer;
-use bson_scalar::regex::Regex;
-use bson_scalar::spec::ElementType;
-use bson_scalar::timestamp::Timestamp;
+use bson_types::binary::Binary;
+use bson_types::db_pointer::DbPointer;
+use bson_types::regex::Regex;
+use bson_types::spec::ElementType;
+use bson_types::timestamp::Timestamp;
 use std::alloc::AllocError;
 
 #[inline]

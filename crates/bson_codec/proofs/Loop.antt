@@ -3,7 +3,7 @@ use Rattle.std.proofs.Common.{◌≡◌, ℕ, ◌<◌, ◌≤◌, ◌-◌, Bool,
 use Rattle.std.proofs.Common.{Err, refl, sym, ap, string_bytes}
 use Rattle.std.proofs.Common.{◌∙◌, Some, None, arith}
 use Rattle.std.specs.Str.{bytes_eq}
-use Rattle.bson_scalar.specs.declared.spec.ElementType.{ElementType}
+use Rattle.bson_types.specs.declared.spec.ElementType.{ElementType}
 use Rattle.bson_model.specs.Value.{Value, Values, no_values, value, Pairs, no_pairs, pair}
 use Rattle.bson_bytes.specs.declared.fault.Fault.{Fault}
 use Rattle.bson_bytes.specs.Fault.{◌>>=◌}

@@ -7,7 +7,7 @@ use Rattle.std.specs.List.{IsDistinct, AllByRecursion}
 use Rattle.std.specs.Str.{bytes_eq, is_utf8}
 use Rattle.std.proofs.lemmas.List.{append-nil}
 use Rattle.bson.specs.Pairs.{keys, HasDistinctKeys}
-use Rattle.bson_scalar.specs.declared.regex.Regex.{Regex}
+use Rattle.bson_types.specs.declared.regex.Regex.{Regex}
 use Rattle.bson.specs.Scalar.{text, code, symbol, regex}
 use Rattle.bson_model.specs.Value.{Pairs, pair, scalar, code_scope}
 use Rattle.bson_bytes.proofs.Offered.{string_utf8}

@@ -20,8 +20,8 @@ use bson_bytes::keys::DuplicateKeys;
 use bson_bytes::parts::{
     byte_at, kind_of, name_at, sixteen_at, size_at, text_at, twelve_at, u32_at, u64_at,
 };
-use bson_scalar::spec::ElementType;
 use bson_store::Pair;
+use bson_types::spec::ElementType;
 use std::alloc::Global;
 
 #[cycle(read)]

@@ -8,7 +8,7 @@ use crate::stopped::{Stopped, fault_at};
 use bson::{Binary, Bson, DbPointer, ObjectId, Regex, Timestamp};
 use bson_bytes::fault::FaultKind;
 use bson_bytes::parts::{byte_at, bytes_at, name_at, size_at, text_at, twelve_at, u32_at};
-use bson_scalar::spec::BinarySubtype;
+use bson_types::spec::BinarySubtype;
 use std::alloc::Global;
 
 fn old_binary_at(alloc: Global, size: usize, bytes: &[u8]) -> Result<(Bson, &[u8]), Stopped>

@@ -12,7 +12,7 @@ use bson_bytes::put::{
     put_binary, put_end, put_key, put_length, put_name, put_pointer, put_regex, put_room, put_text,
     put_timestamp, put_u32, put_u64,
 };
-use bson_scalar::spec::ElementType;
+use bson_types::spec::ElementType;
 use itoa::Buffer;
 use std::alloc::AllocError;
 

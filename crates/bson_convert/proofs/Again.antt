@@ -1,6 +1,6 @@
 -- What is written of a value that was read comes back.
 use Rattle.std.proofs.Common.{◌≡◌, ℕ, List, ◌++◌, ap, ◌∙◌, subst}
-use Rattle.bson_wrapper.specs.declared.form.Form.{Form}
+use Rattle.bson_scalar.specs.declared.form.Form.{Form}
 use Rattle.bson_model.specs.Value.{Value}
 use Rattle.bson_model.specs.Normal.{normal_form}
 use Rattle.bson_model.specs.Written.{WrittenIn}

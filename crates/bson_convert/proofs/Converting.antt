@@ -1,9 +1,9 @@
 -- The bytes have one tree, it one value, and that one output.
 use Rattle.std.proofs.Common.{◌≡◌, ◌++◌, ℕ, List, Result, Ok, Err, Vec, Global, IfOk, sym, ap, ◌∙◌, subst}
 use Rattle.serde_json.specs.Data.{Data}
-use Rattle.bson_wrapper.specs.TreeText.{tree_text}
-use Rattle.bson_wrapper.specs.declared.form.Form.{Form}
-use Rattle.bson_wrapper.specs.declared.form.Form.TheVariants as form
+use Rattle.bson_scalar.specs.TreeText.{tree_text}
+use Rattle.bson_scalar.specs.declared.form.Form.{Form}
+use Rattle.bson_scalar.specs.declared.form.Form.TheVariants as form
 use Rattle.bson_model.specs.Means.{MeansIn}
 use Rattle.bson_model.specs.Value.{Value}
 use Rattle.bson_model.specs.Laws.{HasMeaningIn, IsReadFormIn}

@@ -10,7 +10,7 @@ use Rattle.json.proofs.Grammar.{members_end, read_key_is}
 use Rattle.json.proofs.Grammar.{key_token, read_key-shorter, members_more}
 use Rattle.serde_json.specs.Data.{Data, array, object, Items, Members, no_members, member}
 use Rattle.serde_json.specs.Read.{of_json, converted}
-use Rattle.bson_wrapper.specs.declared.wrapper.Wrapper.{Wrapper}
+use Rattle.bson_scalar.specs.declared.wrapper.Wrapper.{Wrapper}
 use Rattle.bson_order.specs.Kept.{kept, kept_items, kept_members, unordered}
 use Rattle.bson_order.proofs.Offered.{forgotten}
 use Rattle.bson_tokens.proofs.Offered.{was_read}

@@ -10,11 +10,11 @@ use Rattle.json.specs.declared.Writer.{Writer}
 use Rattle.json.specs.Tree.{items_tokens, members_tokens}
 use Rattle.serde_json.specs.Data.{Items, no_items, item, Members, no_members, member, array, object}
 use Rattle.serde_json.specs.Read.{converted}
-use Rattle.bson_wrapper.specs.Tokens.{tokens_of, code_tokens}
-use Rattle.bson_wrapper.specs.TreeText.{items_outline, members_outline}
-use Rattle.bson_wrapper.specs.declared.form.Doubles.{Doubles}
-use Rattle.bson_wrapper.specs.declared.form.Form.{Form}
-use Rattle.bson_wrapper.proofs.Offered.{text_is}
+use Rattle.bson_scalar.specs.Tokens.{tokens_of, code_tokens}
+use Rattle.bson_scalar.specs.TreeText.{items_outline, members_outline}
+use Rattle.bson_scalar.specs.declared.form.Doubles.{Doubles}
+use Rattle.bson_scalar.specs.declared.form.Form.{Form}
+use Rattle.bson_scalar.proofs.Offered.{text_is}
 use Rattle.bson_model.specs.Value as model
 use Rattle.bson_model.specs.Writing.{with_scope}
 use Rattle.bson_model.specs.Value.{Value, Values, no_values, Pairs, no_pairs, pair, code_scope, document}

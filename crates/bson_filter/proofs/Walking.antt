@@ -12,8 +12,8 @@ use Rattle.json.specs.Token.{Token}
 use Rattle.json.proofs.Grammar.{items_end, items_more, value-begin_array, value-begin_object}
 use Rattle.serde_json.specs.Data.{array, object, Items, no_items, item, Members, no_members, member}
 use Rattle.serde_json.specs.Read.{converted}
-use Rattle.bson_wrapper.specs.Table.{wrapper_of, has_wrapper}
-use Rattle.bson_wrapper.specs.declared.form.Doubles.{Doubles}
+use Rattle.bson_scalar.specs.Table.{wrapper_of, has_wrapper}
+use Rattle.bson_scalar.specs.declared.form.Doubles.{Doubles}
 use Rattle.bson_model.specs.Value as model
 use Rattle.bson_model.specs.Value.{Value, Values, Pairs}
 use Rattle.bson_order.specs.Kept.{kept, kept_items}

@@ -12,11 +12,11 @@ use Rattle.serde_json.specs.Data.{Data, Num, null, boolean, number, string, arra
 use Rattle.serde_json.specs.Data.{member}
 use Rattle.serde_json.specs.Find.{as_str}
 use Rattle.serde_json.specs.Read.{of_json, converted, number_of}
-use Rattle.bson_wrapper.specs.Reading.{number_read_in, single_at_in, single_in}
-use Rattle.bson_wrapper.specs.Scalar.{Scalar}
-use Rattle.bson_wrapper.specs.Table.{wrapper_of}
-use Rattle.bson_wrapper.specs.declared.form.Doubles.{Doubles}
-use Rattle.bson_wrapper.specs.declared.wrapper.Wrapper.{Wrapper}
+use Rattle.bson_scalar.specs.Reading.{number_read_in, single_at_in, single_in}
+use Rattle.bson_scalar.specs.Scalar.{Scalar}
+use Rattle.bson_scalar.specs.Table.{wrapper_of}
+use Rattle.bson_scalar.specs.declared.form.Doubles.{Doubles}
+use Rattle.bson_scalar.specs.declared.wrapper.Wrapper.{Wrapper}
 use Rattle.bson_model.specs.Reading.{scalar_value}
 use Rattle.bson_model.specs.Value as model
 use Rattle.bson_model.specs.Value.{Value, Pairs, scalar}

@@ -2,7 +2,7 @@
 use Rattle.std.specs.Prelude.{◌≡◌, ◌++◌, List, Ok}
 use Rattle.json.specs.Token.{Token}
 use Rattle.serde_json.specs.Data.{Data, Members, object}
-use Rattle.bson_wrapper.specs.Tokens.{tokens_of}
+use Rattle.bson_scalar.specs.Tokens.{tokens_of}
 use Rattle.bson_model.specs.Value.{Value, Pairs}
 use Rattle.bson_order.specs.Writing.{writes_in_order, pairs_in_order}
 use Rattle.bson_filter.specs.declared.text.TextWriter.{TextWriter}

@@ -6,8 +6,8 @@ use Rattle.json.specs.Json.{value, members, members_step, read_key}
 use Rattle.json.specs.Token.{Token}
 use Rattle.serde_json.specs.Data.{Data, Items, Members, no_members, object}
 use Rattle.serde_json.specs.Read.{converted}
-use Rattle.bson_wrapper.specs.Table.{has_wrapper}
-use Rattle.bson_wrapper.specs.declared.form.Doubles.{Doubles}
+use Rattle.bson_scalar.specs.Table.{has_wrapper}
+use Rattle.bson_scalar.specs.declared.form.Doubles.{Doubles}
 use Rattle.bson_model.specs.Value as model
 use Rattle.bson_model.specs.Value.{Value, Values, no_values, Pairs, no_pairs, pair}
 use Rattle.bson_order.specs.Kept.{kept, kept_members}

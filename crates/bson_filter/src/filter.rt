@@ -5,7 +5,7 @@ ghost use Rattle.bson_filter.specs.Filtered.{IsFilteredText};
 use crate::text::TextWriter;
 use crate::unstreamed::Unstreamed;
 use crate::walk::write_value;
-use bson_wrapper::form::{Doubles, Form};
+use bson_scalar::form::{Doubles, Form};
 use json::{Reader, Scratch, Writer};
 use std::alloc::Global;
 

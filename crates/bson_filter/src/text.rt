@@ -3,10 +3,10 @@ ghost use Rattle.std.specs.Prelude.{◌≡◌};
 
 use crate::unstreamed::Unstreamed;
 use crate::writer::ValueWriter;
-use bson_wrapper::code::put_code;
-use bson_wrapper::form::{Doubles, Form};
-use bson_wrapper::scalar::Scalar;
-use bson_wrapper::write::print_scalar_in;
+use bson_scalar::code::put_code;
+use bson_scalar::form::{Doubles, Form};
+use bson_scalar::scalar::Scalar;
+use bson_scalar::write::print_scalar_in;
 use itoa::Buffer;
 use json::Writer;
 use std::alloc::Global;
@@ -25,7 +25,7 @@ impl ValueWriter for TextWriter {
 
     ghost use Rattle.std.specs.Prelude.{[], ◌∷◌};
     ghost use Rattle.json.specs.Token as token;
-    ghost use Rattle.bson_wrapper.specs.Tokens.{code_tokens};
+    ghost use Rattle.bson_scalar.specs.Tokens.{code_tokens};
     ghost use Rattle.bson_filter.specs.TextWritten.{Sent, ValueSent, PairsSent};
 
     ghost name_of = { λ n. [] };

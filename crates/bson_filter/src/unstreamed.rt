@@ -1,7 +1,7 @@
 //! Why a text was not written as it was read.
+use bson_scalar::error::Error;
+use bson_scalar::write_error::WriteError;
 use bson_tokens::unread::Unread;
-use bson_wrapper::error::Error;
-use bson_wrapper::write_error::WriteError;
 use json::Invalid;
 use std::alloc::{AllocError, AllocFailed};
 

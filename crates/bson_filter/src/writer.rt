@@ -1,13 +1,13 @@
 //! What the values of a text are written to as they are read.
 ghost use Rattle.std.specs.Prelude.{◌≡◌, ℕ, List, OnOk, IfOk};
 ghost use Rattle.json.specs.Strict.{AreDistinct};
-ghost use Rattle.bson_wrapper.specs.Scalar as kind;
-ghost use Rattle.bson_wrapper.specs.View.{scalar_view};
+ghost use Rattle.bson_scalar.specs.Scalar as kind;
+ghost use Rattle.bson_scalar.specs.View.{scalar_view};
 ghost use Rattle.bson_model.specs.Value.{Value, Values, Pairs, scalar, code_scope, array, document};
 ghost use Rattle.bson_filter.specs.Walked.{ItemsWritten, PairsWritten, keys_of};
 
 use crate::unstreamed::Unstreamed;
-use bson_wrapper::scalar::Scalar;
+use bson_scalar::scalar::Scalar;
 use itoa::Buffer;
 
 /// Where values are written to, each part as it comes. A value stands under a name: its key in a

@@ -7,7 +7,7 @@ use Rattle.bson_model.specs.Means.{MeansIn, scalar, code_with_scope, array, docu
 use Rattle.bson_model.specs.Means.{MeansDocumentIn, empty, entry}
 use Rattle.bson_model.specs.Sorted.{put_pair, sorted, sorted_items, sorted_pairs, IsLeast, KeysAscend}
 use Rattle.bson_model.specs.Texts.{IsBelow, Ascends, IsTree, ItemsAreTrees, MembersAreTrees}
-use Rattle.bson_wrapper.specs.declared.form.Doubles.{Doubles}
+use Rattle.bson_scalar.specs.declared.form.Doubles.{Doubles}
 
 module _ (D : Doubles) where
   put_first : {ms : Members} {ps : Pairs} (k : List ℕ) (v : Value) → MeansDocumentIn D ms ps → IsBelow k ms

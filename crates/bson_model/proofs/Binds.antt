@@ -1,8 +1,8 @@
 -- The steps of readings and writings that succeed, and of tests that fail.
 use Rattle.std.proofs.Common.{◌≡◌, Bool, true, false, ◌||◌, Result, Ok, Err, refl}
-use Rattle.bson_wrapper.specs.Faults.{Fault}
-use Rattle.bson_wrapper.specs.Faults as fault
-use Rattle.bson_wrapper.specs.Written.{Refusal, ◌>>=◌}
+use Rattle.bson_scalar.specs.Faults.{Fault}
+use Rattle.bson_scalar.specs.Faults as fault
+use Rattle.bson_scalar.specs.Written.{Refusal, ◌>>=◌}
 
 -- both steps of a writing that succeeds do
 pub bind_ok : {A B : Type 0} (r : Result A Refusal) (f : A → Result B Refusal) (y : B) → (r >>= f) ≡ Ok y

@@ -2,11 +2,11 @@
 use Rattle.std.proofs.Common.{◌≡◌, true, Result, Ok, Err, refl, ap, ◌∙◌}
 use Rattle.std.specs.Prelude.{IfOk, is_ok}
 use Rattle.serde_json.specs.Data.{Data}
-use Rattle.bson_wrapper.specs.TreeText.{tree_text}
-use Rattle.bson_wrapper.specs.Faults.{Gives}
-use Rattle.bson_wrapper.specs.Written.{Refusal}
-use Rattle.bson_wrapper.specs.declared.error.Error.{Error}
-use Rattle.bson_wrapper.specs.declared.form.Form.{Form}
+use Rattle.bson_scalar.specs.TreeText.{tree_text}
+use Rattle.bson_scalar.specs.Faults.{Gives}
+use Rattle.bson_scalar.specs.Written.{Refusal}
+use Rattle.bson_scalar.specs.declared.error.Error.{Error}
+use Rattle.bson_scalar.specs.declared.form.Form.{Form}
 use Rattle.bson_model.specs.Means.{MeansIn}
 use Rattle.bson_model.specs.Reading.{reads_in}
 use Rattle.bson_model.specs.Texts.{IsTree, HasEqualTextsIn, HasTextIn, ComesBackIn}
@@ -24,7 +24,7 @@ use Rattle.bson_model.proofs.SameSorted.{same_to}
 use Rattle.bson_model.proofs.TextLaws.{text_back, one_tree}
 use Rattle.bson_model.proofs.TreeLaws.{tree_is}
 use Rattle.bson_model.proofs.WriteLaws.{canon_from, canon_to, writable_is}
-use Rattle.bson_wrapper.specs.declared.form.Doubles.{Doubles}
+use Rattle.bson_scalar.specs.declared.form.Doubles.{Doubles}
 
 module _ (D : Doubles) where
   some_ok : (r : Result Data Refusal) → is_ok r ≡ true → (u : Data) × (r ≡ Ok u)

@@ -1,13 +1,13 @@
 -- What the mode `Finite` adds: each value is writable, and each tree of the mode `Special` keeps its meaning.
 use Rattle.std.proofs.Common.{◌≡◌, Bool, true, ◌&&◌, refl, inl}
 use Rattle.serde_json.specs.Data.{Data, Items, Members}
-use Rattle.bson_wrapper.specs.Scalar.{Scalar, double}
-use Rattle.bson_wrapper.specs.Written.{WrittenScalar, WrittenScalarIn}
-use Rattle.bson_wrapper.specs.declared.form.Doubles.{Doubles}
-use Rattle.bson_wrapper.specs.declared.form.Doubles.TheVariants.{Finite}
-use Rattle.bson_wrapper.specs.declared.form.Form.{Form}
-use Rattle.bson_wrapper.specs.declared.form.Form.TheVariants.{Canonical}
-use Rattle.bson_wrapper.proofs.Offered as scalars
+use Rattle.bson_scalar.specs.Scalar.{Scalar, double}
+use Rattle.bson_scalar.specs.Written.{WrittenScalar, WrittenScalarIn}
+use Rattle.bson_scalar.specs.declared.form.Doubles.{Doubles}
+use Rattle.bson_scalar.specs.declared.form.Doubles.TheVariants.{Finite}
+use Rattle.bson_scalar.specs.declared.form.Form.{Form}
+use Rattle.bson_scalar.specs.declared.form.Form.TheVariants.{Canonical}
+use Rattle.bson_scalar.proofs.Offered as scalars
 use Rattle.bson_model.specs.Value.{Value, code_scope, Values, no_values, value, Pairs, no_pairs, pair}
 use Rattle.bson_model.specs.Value as model
 use Rattle.bson_model.specs.Laws.{IsTreeOfIn}

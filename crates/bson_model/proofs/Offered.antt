@@ -3,15 +3,15 @@ use Rattle.std.proofs.Common.{◌≡◌, ◌<◌, List, ◌∷◌, length, true,
 use Rattle.std.specs.Prelude.{IfOk, OnOk, is_ok}
 use Rattle.serde_json.specs.Data.{Data, Members}
 use Rattle.serde_json.specs.View.{view, members_view}
-use Rattle.bson_wrapper.specs.Faults.{Gives, wrong_shape}
-use Rattle.bson_wrapper.specs.Reading.{single_at}
-use Rattle.bson_wrapper.specs.Table.{wrapper_of}
-use Rattle.bson_wrapper.specs.Written.{Writes}
-use Rattle.bson_wrapper.specs.declared.error.Error.{Error}
-use Rattle.bson_wrapper.specs.declared.form.Doubles.TheVariants.{Special}
-use Rattle.bson_wrapper.specs.declared.form.Form.{Form}
-use Rattle.bson_wrapper.specs.declared.write_error.WriteError.{WriteError}
-use Rattle.bson_wrapper.specs.declared.write_error.WriteError.TheVariants.{FiniteDouble}
+use Rattle.bson_scalar.specs.Faults.{Gives, wrong_shape}
+use Rattle.bson_scalar.specs.Reading.{single_at}
+use Rattle.bson_scalar.specs.Table.{wrapper_of}
+use Rattle.bson_scalar.specs.Written.{Writes}
+use Rattle.bson_scalar.specs.declared.error.Error.{Error}
+use Rattle.bson_scalar.specs.declared.form.Doubles.TheVariants.{Special}
+use Rattle.bson_scalar.specs.declared.form.Form.{Form}
+use Rattle.bson_scalar.specs.declared.write_error.WriteError.{WriteError}
+use Rattle.bson_scalar.specs.declared.write_error.WriteError.TheVariants.{FiniteDouble}
 use Rattle.bson_model.specs.Fault.{IsFaultOf, IsDocumentFault}
 use Rattle.bson_model.specs.Laws.{IsTreeOf, FormsAreIdempotent, HasMeaning, HasDocumentMeaning}
 use Rattle.bson_model.specs.Means.{Means, MeansDocument}
@@ -19,7 +19,7 @@ use Rattle.bson_model.specs.Normal.{normal_form, plain, writable, InRange}
 use Rattle.bson_model.specs.Reading.{reads, reads_members, reads_wrapper, reads_scope, scalar_value, code_at}
 use Rattle.bson_model.specs.Sorted.{KeysAscend}
 use Rattle.bson_model.specs.Texts.{Ascends, HasText, ComesBack, IsTree}
-use Rattle.bson_wrapper.specs.Normal.{IsNormalOrNan}
+use Rattle.bson_scalar.specs.Normal.{IsNormalOrNan}
 use Rattle.bson_model.specs.Value.{Value, Pairs, IfScalar}
 use Rattle.bson_model.specs.Writing.{writes}
 use Rattle.bson_model.specs.Written.{Written}

@@ -5,22 +5,22 @@ use Rattle.std.specs.Prelude.{FitsSigned}
 use Rattle.std.proofs.lemmas.Bool.{ltb-true}
 use Rattle.serde_json.specs.Data.{Data, Num, unsigned, negative, float, Items, Members}
 use Rattle.serde_json.specs.Find.{as_i64}
-use Rattle.bson_wrapper.specs.Means.{MeansScalar, MeansScalarIn, narrow_number, wide_number, oid, number_int, number_long}
-use Rattle.bson_wrapper.specs.Means.{number_double, binary, uuid, timestamp, date_of_millis, date_of_text}
-use Rattle.bson_wrapper.specs.Means.{date_of_number, db_pointer}
-use Rattle.bson_wrapper.specs.Normal.{ScalarInRange}
-use Rattle.bson_wrapper.specs.Scalar.{Scalar}
-use Rattle.bson_wrapper.specs.Shapes.{small_number, whole}
-use Rattle.bson_wrapper.proofs.Offered.{subtype_byte-of, finite_range}
+use Rattle.bson_scalar.specs.Means.{MeansScalar, MeansScalarIn, narrow_number, wide_number, oid, number_int, number_long}
+use Rattle.bson_scalar.specs.Means.{number_double, binary, uuid, timestamp, date_of_millis, date_of_text}
+use Rattle.bson_scalar.specs.Means.{date_of_number, db_pointer}
+use Rattle.bson_scalar.specs.Normal.{ScalarInRange}
+use Rattle.bson_scalar.specs.Scalar.{Scalar}
+use Rattle.bson_scalar.specs.Shapes.{small_number, whole}
+use Rattle.bson_scalar.proofs.Offered.{subtype_byte-of, finite_range}
 use Rattle.bson_model.specs.Value.{Value, Values, Pairs}
 use Rattle.bson_model.specs.Means.{MeansIn, scalar, code_with_scope, array, document, MeansItemsIn, nothing, then}
 use Rattle.bson_model.specs.Means.{MeansDocumentIn, empty, entry}
 use Rattle.bson_model.specs.Texts.{NumberFits, IsTree, ItemsAreTrees, MembersAreTrees}
 use Rattle.bson_model.specs.Normal.{InRange, ItemsInRange, PairsInRange}
-use Rattle.bson_scalar.proofs.Offered.{hex_bytes, sized_to}
+use Rattle.bson_types.proofs.Offered.{hex_bytes, sized_to}
 use Rattle.bson_datetime.proofs.Offered.{named_fits}
-use Rattle.bson_wrapper.specs.declared.form.Doubles.{Doubles}
-use Rattle.bson_wrapper.specs.declared.form.Doubles.TheVariants.{Special, Finite}
+use Rattle.bson_scalar.specs.declared.form.Doubles.{Doubles}
+use Rattle.bson_scalar.specs.declared.form.Doubles.TheVariants.{Special, Finite}
 
 un_some : {A : Type 0} (x y : A) → Some x ≡ Some y → x ≡ y
 un_some x y h = cc

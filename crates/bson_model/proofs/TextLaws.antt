@@ -12,11 +12,11 @@ use Rattle.serde_json.specs.Data.{member, put, depth, items_depth, members_depth
 use Rattle.serde_json.specs.Data as tree
 use Rattle.serde_json.specs.Read.{number_of, of_json, of_items, of_members, read, max_depth}
 use Rattle.serde_json.proofs.Numbers.{number_of-decimal, number_of-negative}
-use Rattle.bson_wrapper.specs.TreeText.{number_text, outline, items_outline, members_outline, text_of, HasNoFloatIn}
-use Rattle.bson_wrapper.specs.TreeText.{tree_text}
-use Rattle.bson_wrapper.specs.declared.form.Doubles.{Doubles}
-use Rattle.bson_wrapper.specs.declared.form.Form.{Form}
-use Rattle.bson_wrapper.proofs.Offered.{float_is_number, float_is_read, text_is}
+use Rattle.bson_scalar.specs.TreeText.{number_text, outline, items_outline, members_outline, text_of, HasNoFloatIn}
+use Rattle.bson_scalar.specs.TreeText.{tree_text}
+use Rattle.bson_scalar.specs.declared.form.Doubles.{Doubles}
+use Rattle.bson_scalar.specs.declared.form.Form.{Form}
+use Rattle.bson_scalar.proofs.Offered.{float_is_number, float_is_read, text_is}
 use Rattle.bson_model.specs.Texts.{NumberFits, IsBelow, Ascends, IsTree, ItemsAreTrees, MembersAreTrees, HasOwnTextIn}
 use Rattle.bson_model.proofs.PutSwap.{cmp, flipped}
 

@@ -8,15 +8,15 @@ use lib.Signed.{mag}
 use Rattle.serde_json.specs.Data.{Data, Items, no_items, item, Members, no_members, member, put}
 use Rattle.serde_json.specs.Data as tree
 use Rattle.serde_json.specs.Find.{of_integer}
-use Rattle.bson_wrapper.specs.Dates.{is_recent, relaxed_date_tree}
-use Rattle.bson_wrapper.specs.Normal.{ScalarInRange}
-use Rattle.bson_wrapper.specs.Scalar.{Scalar, null, undefined, min_key, max_key, boolean, double, int32, int64, text}
-use Rattle.bson_wrapper.specs.Scalar.{symbol, code, regex, timestamp, binary, object_id, date, decimal, db_pointer}
-use Rattle.bson_wrapper.specs.Shapes.{object_of_two}
-use Rattle.bson_wrapper.specs.Written.{writes_scalar_in, int32_form, int64_form, date_form}
-use Rattle.bson_wrapper.specs.declared.form.Form.{Form}
-use Rattle.bson_wrapper.specs.declared.form.Form.TheVariants.{Canonical, Relaxed}
-use Rattle.bson_wrapper.proofs.Offered.{IsDoubleTree, double_tree_of, pattern_is_double}
+use Rattle.bson_scalar.specs.Dates.{is_recent, relaxed_date_tree}
+use Rattle.bson_scalar.specs.Normal.{ScalarInRange}
+use Rattle.bson_scalar.specs.Scalar.{Scalar, null, undefined, min_key, max_key, boolean, double, int32, int64, text}
+use Rattle.bson_scalar.specs.Scalar.{symbol, code, regex, timestamp, binary, object_id, date, decimal, db_pointer}
+use Rattle.bson_scalar.specs.Shapes.{object_of_two}
+use Rattle.bson_scalar.specs.Written.{writes_scalar_in, int32_form, int64_form, date_form}
+use Rattle.bson_scalar.specs.declared.form.Form.{Form}
+use Rattle.bson_scalar.specs.declared.form.Form.TheVariants.{Canonical, Relaxed}
+use Rattle.bson_scalar.proofs.Offered.{IsDoubleTree, double_tree_of, pattern_is_double}
 use Rattle.bson_model.specs.Texts.{IsBelow, Ascends, IsTree, ItemsAreTrees, MembersAreTrees}
 use Rattle.bson_model.specs.Value.{Value, scalar, code_scope, array, document, Values, no_values, value, Pairs}
 use Rattle.bson_model.specs.Value.{no_pairs, pair}
@@ -24,7 +24,7 @@ use Rattle.bson_model.specs.Normal.{InRange, ItemsInRange, PairsInRange}
 use Rattle.bson_model.specs.Writing.{writes_in, writes_items_in, writes_pairs_in}
 use Rattle.bson_model.proofs.PutSwap.{cmp, flipped}
 use Rattle.bson_model.proofs.Binds.{bind_ok, un_ok}
-use Rattle.bson_wrapper.specs.declared.form.Doubles.{Doubles}
+use Rattle.bson_scalar.specs.declared.form.Doubles.{Doubles}
 
 -- ---- a map stays one
 

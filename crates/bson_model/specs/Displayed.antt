@@ -1,7 +1,7 @@
 -- The text of a value on one line.
 use Rattle.std.specs.Prelude.{ℕ, List, [], ◌∷◌, ◌++◌, codes}
 use Rattle.std.specs.List.{join_by}
-use Rattle.bson_wrapper.specs.Displayed.{scalar_text}
+use Rattle.bson_scalar.specs.Displayed.{scalar_text}
 use Rattle.bson_model.specs.Value.{Value, scalar, code_scope, array, document, Values, no_values, value, Pairs}
 use Rattle.bson_model.specs.Value.{no_pairs, pair}
 

@@ -2,14 +2,14 @@
 -- values by ascending key, and of a wrapper as a whole. It is an object id's text where that alone is wrong.
 use Rattle.std.specs.Prelude.{◌≡◌, ℕ, List, Result, Ok, Err}
 use Rattle.serde_json.specs.Data.{Data, Members}
-use Rattle.bson_wrapper.specs.Faults.{Fault, wrong_shape, wrong_id, IsIdFault}
-use Rattle.bson_wrapper.specs.declared.error.Error.{Error}
-use Rattle.bson_wrapper.specs.declared.error.Error.TheVariants.{InvalidObjectId, DeserializationError, OutOfMemory}
+use Rattle.bson_scalar.specs.Faults.{Fault, wrong_shape, wrong_id, IsIdFault}
+use Rattle.bson_scalar.specs.declared.error.Error.{Error}
+use Rattle.bson_scalar.specs.declared.error.Error.TheVariants.{InvalidObjectId, DeserializationError, OutOfMemory}
 use Rattle.bson_model.specs.Value.{Value, Pairs}
 use Rattle.bson_model.specs.Means.{MeansIn, MeansDocumentIn}
 use Rattle.bson_model.specs.Reading.{reads_in, reads_members_in}
-use Rattle.bson_wrapper.specs.declared.form.Doubles.{Doubles}
-use Rattle.bson_wrapper.specs.declared.form.Doubles.TheVariants.{Special}
+use Rattle.bson_scalar.specs.declared.form.Doubles.{Doubles}
+use Rattle.bson_scalar.specs.declared.form.Doubles.TheVariants.{Special}
 
 abbrev pub fault_in : {A : Type 0} → Result A Fault → Fault
 fault_in (Err e) = e

@@ -2,16 +2,16 @@
 use Rattle.std.specs.Prelude.{◌≡◌, ◌↔◌, true}
 use Rattle.serde_json.specs.Data.{Data, Members}
 use Rattle.serde_json.specs.Data as tree
-use Rattle.bson_wrapper.specs.TreeText.{HasNoFloatIn}
-use Rattle.bson_wrapper.specs.declared.form.Form.{Form}
+use Rattle.bson_scalar.specs.TreeText.{HasNoFloatIn}
+use Rattle.bson_scalar.specs.declared.form.Form.{Form}
 use Rattle.bson_model.specs.Value.{Value, document, Pairs}
 use Rattle.bson_model.specs.Means.{MeansIn, MeansDocumentIn}
 use Rattle.bson_model.specs.Same.{same}
 use Rattle.bson_model.specs.Normal.{normal_form, narrowed_form, as_read, plain, plain_values, InRange, writable_in}
 use Rattle.bson_model.specs.Normal.{writable_pairs_in}
 use Rattle.bson_model.specs.Written.{WrittenIn}
-use Rattle.bson_wrapper.specs.declared.form.Doubles.{Doubles}
-use Rattle.bson_wrapper.specs.declared.form.Doubles.TheVariants.{Special}
+use Rattle.bson_scalar.specs.declared.form.Doubles.{Doubles}
+use Rattle.bson_scalar.specs.declared.form.Doubles.TheVariants.{Special}
 
 -- the tree of a plain value means one value, the same as its normal form as that form of text reads it
 abbrev pub ReadsBackIn : Doubles → Form → Value → Data → Type 0

@@ -1,14 +1,14 @@
 -- Normal and narrowed forms, and what a value may be.
 use Rattle.std.specs.Prelude.{◌&&◌, Bool, true, is_none}
-use Rattle.bson_wrapper.specs.Scalar.{Scalar}
-use Rattle.bson_wrapper.specs.Normal.{normal_scalar, scalar_as_read, writable_scalar_in, ScalarInRange}
-use Rattle.bson_wrapper.specs.Table.{wrapper_of}
-use Rattle.bson_wrapper.specs.declared.form.Form.{Form}
-use Rattle.bson_wrapper.specs.declared.form.Form.TheVariants.{Canonical, Relaxed}
+use Rattle.bson_scalar.specs.Scalar.{Scalar}
+use Rattle.bson_scalar.specs.Normal.{normal_scalar, scalar_as_read, writable_scalar_in, ScalarInRange}
+use Rattle.bson_scalar.specs.Table.{wrapper_of}
+use Rattle.bson_scalar.specs.declared.form.Form.{Form}
+use Rattle.bson_scalar.specs.declared.form.Form.TheVariants.{Canonical, Relaxed}
 use Rattle.bson_model.specs.Value.{Value, scalar, code_scope, array, document, Values, no_values, value, Pairs}
 use Rattle.bson_model.specs.Value.{no_pairs, pair}
-use Rattle.bson_wrapper.specs.declared.form.Doubles.{Doubles}
-use Rattle.bson_wrapper.specs.declared.form.Doubles.TheVariants.{Special}
+use Rattle.bson_scalar.specs.declared.form.Doubles.{Doubles}
+use Rattle.bson_scalar.specs.declared.form.Doubles.TheVariants.{Special}
 
 -- ---- the normal form
 

@@ -1,6 +1,6 @@
 -- The text of a value on several lines, at an indent.
 use Rattle.std.specs.Prelude.{ℕ, ◌+◌, ◌-◌, ◌^◌, min, List, [], ◌∷◌, ◌++◌, replicate, codes}
-use Rattle.bson_wrapper.specs.Displayed.{scalar_text}
+use Rattle.bson_scalar.specs.Displayed.{scalar_text}
 use Rattle.bson_model.specs.Displayed.{bracketed_text, entry}
 use Rattle.bson_model.specs.Value.{Value, scalar, code_scope, array, document, Values, no_values, value, Pairs}
 use Rattle.bson_model.specs.Value.{no_pairs, pair}

@@ -4,14 +4,14 @@ use Rattle.std.specs.Prelude.{ℕ, List, codes, ◌&&◌, if◌then◌else◌, O
 use Rattle.std.specs.Str.{bytes_eq}
 use Rattle.serde_json.specs.Data.{Data, Items, no_items, item, Members, no_members, member}
 use Rattle.serde_json.specs.Data as tree
-use Rattle.bson_wrapper.specs.Faults.{Fault, wrong_shape, ◌>>=◌}
-use Rattle.bson_wrapper.specs.Reading.{number_read_in, single_at_in, on_text}
-use Rattle.bson_wrapper.specs.Scalar.{Scalar, null, boolean, text, code}
-use Rattle.bson_wrapper.specs.Table.{wrapper_of, has_wrapper}
+use Rattle.bson_scalar.specs.Faults.{Fault, wrong_shape, ◌>>=◌}
+use Rattle.bson_scalar.specs.Reading.{number_read_in, single_at_in, on_text}
+use Rattle.bson_scalar.specs.Scalar.{Scalar, null, boolean, text, code}
+use Rattle.bson_scalar.specs.Table.{wrapper_of, has_wrapper}
 use Rattle.bson_model.specs.Value.{Value, scalar, code_scope, array, document, Values, no_values, value, Pairs}
 use Rattle.bson_model.specs.Value.{no_pairs, pair}
-use Rattle.bson_wrapper.specs.declared.form.Doubles.{Doubles}
-use Rattle.bson_wrapper.specs.declared.form.Doubles.TheVariants.{Special}
+use Rattle.bson_scalar.specs.declared.form.Doubles.{Doubles}
+use Rattle.bson_scalar.specs.declared.form.Doubles.TheVariants.{Special}
 
 abbrev pub scalar_value : Result Scalar Fault → Result Value Fault
 scalar_value r = r >>= λ s. Ok (scalar s)

@@ -7,16 +7,16 @@ use Rattle.serde_json.specs.Data.{Num, unsigned, negative, float, Data, Items, n
 use Rattle.serde_json.specs.Data.{member, depth}
 use Rattle.serde_json.specs.Data as tree
 use Rattle.serde_json.specs.Read.{read, max_depth}
-use Rattle.bson_wrapper.specs.TreeText.{IsDouble, HasNoFloatIn, tree_text}
-use Rattle.bson_wrapper.specs.declared.form.Form.{Form}
-use Rattle.bson_wrapper.specs.declared.form.Form.TheVariants.{Canonical}
+use Rattle.bson_scalar.specs.TreeText.{IsDouble, HasNoFloatIn, tree_text}
+use Rattle.bson_scalar.specs.declared.form.Form.{Form}
+use Rattle.bson_scalar.specs.declared.form.Form.TheVariants.{Canonical}
 use Rattle.bson_model.specs.Value.{Value}
 use Rattle.bson_model.specs.Means.{MeansIn}
 use Rattle.bson_model.specs.Same.{same}
 use Rattle.bson_model.specs.Normal.{normal_form, as_read, plain, InRange}
 use Rattle.bson_model.specs.Written.{WrittenIn}
-use Rattle.bson_wrapper.specs.declared.form.Doubles.{Doubles}
-use Rattle.bson_wrapper.specs.declared.form.Doubles.TheVariants.{Special}
+use Rattle.bson_scalar.specs.declared.form.Doubles.{Doubles}
+use Rattle.bson_scalar.specs.declared.form.Doubles.TheVariants.{Special}
 
 -- ---- the trees that `serde_json` has
 

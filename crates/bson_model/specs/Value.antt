@@ -1,7 +1,7 @@
 -- A value of BSON 1.1 with nothing of memory: texts have bytes, and a document is a list of pairs.
 use Rattle.std.specs.Prelude.{ℕ, List, [], ◌∷◌, cond, Option, None, Some}
 use Rattle.std.specs.Str.{bytes_eq}
-use Rattle.bson_wrapper.specs.Scalar.{Scalar}
+use Rattle.bson_scalar.specs.Scalar.{Scalar}
 
 -- a value that holds no other, code with its scope, a list, or a document; a scope is a document
 mutual

@@ -8,10 +8,10 @@ use Rattle.std.proofs.lemmas.Bool.{and_parts, or_parts}
 use Rattle.serde_json.specs.Data.{Data, Items, no_items, item, Members, no_members, member, put}
 use Rattle.serde_json.specs.Data as tree
 use Rattle.serde_json.specs.Find.{as_str}
-use Rattle.bson_wrapper.specs.Faults.{Fault, wrong_shape, or_wrong_shape, ◌>>=◌}
-use Rattle.bson_wrapper.specs.Table.{has_wrapper}
-use Rattle.bson_wrapper.specs.Scalar.{null, boolean, text}
-use Rattle.bson_wrapper.specs.declared.form.Doubles.{Doubles}
+use Rattle.bson_scalar.specs.Faults.{Fault, wrong_shape, or_wrong_shape, ◌>>=◌}
+use Rattle.bson_scalar.specs.Table.{has_wrapper}
+use Rattle.bson_scalar.specs.Scalar.{null, boolean, text}
+use Rattle.bson_scalar.specs.declared.form.Doubles.{Doubles}
 use Rattle.bson_model.specs.Reading.{reads_in, reads_items_in, reads_members_in, reads_wrapper_in, reads_scope_in}
 use Rattle.bson_model.specs.Reading.{code_at, code_value}
 use Rattle.bson_model.specs.Value.{Value, scalar, array, document, Values, no_values, value, Pairs, no_pairs, pair}

@@ -3,7 +3,7 @@ use Rattle.std.proofs.Common.{ℕ, List, Ordering, Less, Equal, Greater, ◌∙�
 use Rattle.std.specs.Cmp.Lexicographic.{slice_cmp}
 use Rattle.std.specs.Ordering.{nat_cmp, match_ordering}
 use Rattle.serde_json.specs.Data.{Data, Items, Members, no_members, member, put}
-use Rattle.bson_wrapper.specs.declared.form.Doubles.{Doubles}
+use Rattle.bson_scalar.specs.declared.form.Doubles.{Doubles}
 use Rattle.bson_model.specs.Means.{MeansIn, MeansItemsIn, MeansDocumentIn}
 use Rattle.bson_model.specs.Means as sorted_tree
 use Rattle.bson_model.specs.Sorted.{put_pair, sorted, sorted_items, sorted_pairs}

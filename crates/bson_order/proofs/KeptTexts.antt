@@ -13,10 +13,10 @@ use Rattle.serde_json.specs.Data.{Num, unsigned, negative, float, Data, Items, n
 use Rattle.serde_json.specs.Data.{member, depth, items_depth, members_depth}
 use Rattle.serde_json.specs.Data as tree
 use Rattle.serde_json.specs.Read.{max_depth}
-use Rattle.bson_wrapper.specs.TreeText.{outline, items_outline, members_outline, text_of, HasNoFloatIn, tree_text}
-use Rattle.bson_wrapper.specs.declared.form.Doubles.{Doubles}
-use Rattle.bson_wrapper.specs.declared.form.Form.{Form}
-use Rattle.bson_wrapper.proofs.Offered.{float_is_number, text_is}
+use Rattle.bson_scalar.specs.TreeText.{outline, items_outline, members_outline, text_of, HasNoFloatIn, tree_text}
+use Rattle.bson_scalar.specs.declared.form.Doubles.{Doubles}
+use Rattle.bson_scalar.specs.declared.form.Form.{Form}
+use Rattle.bson_scalar.proofs.Offered.{float_is_number, text_is}
 use Rattle.bson_model.proofs.Offered.{number_back}
 use Rattle.bson_order.specs.Kept.{put_kept, kept, kept_items, kept_members, unordered, has_key, KeysDiffer, read_kept}
 use Rattle.bson_order.specs.Kept.{IsKeptTree, ItemsAreKept, MembersAreKept}

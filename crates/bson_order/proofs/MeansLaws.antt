@@ -5,15 +5,15 @@ use Rattle.std.specs.Str.{bytes_eq}
 use Rattle.std.proofs.lemmas.Bool.{and_parts}
 use Rattle.serde_json.specs.Data.{Data, Items, no_items, item, Members, no_members, member}
 use Rattle.serde_json.specs.Data as tree
-use Rattle.bson_wrapper.specs.Faults.{Fault, wrong_shape}
-use Rattle.bson_wrapper.specs.Means.{MeansScalarIn, null, boolean, text, code_without_scope}
-use Rattle.bson_wrapper.specs.Reading.{number_read_in, single_at_in, on_text}
-use Rattle.bson_wrapper.specs.Scalar.{Scalar}
-use Rattle.bson_wrapper.specs.Scalar as kind
-use Rattle.bson_wrapper.specs.Shapes.{object_of_one, object_of_two}
-use Rattle.bson_wrapper.specs.Table.{wrapper_of, has_wrapper}
-use Rattle.bson_wrapper.specs.declared.form.Doubles.{Doubles}
-use Rattle.bson_wrapper.proofs.Offered as scalars
+use Rattle.bson_scalar.specs.Faults.{Fault, wrong_shape}
+use Rattle.bson_scalar.specs.Means.{MeansScalarIn, null, boolean, text, code_without_scope}
+use Rattle.bson_scalar.specs.Reading.{number_read_in, single_at_in, on_text}
+use Rattle.bson_scalar.specs.Scalar.{Scalar}
+use Rattle.bson_scalar.specs.Scalar as kind
+use Rattle.bson_scalar.specs.Shapes.{object_of_one, object_of_two}
+use Rattle.bson_scalar.specs.Table.{wrapper_of, has_wrapper}
+use Rattle.bson_scalar.specs.declared.form.Doubles.{Doubles}
+use Rattle.bson_scalar.proofs.Offered as scalars
 use Rattle.bson_model.specs.Means as by_default
 use Rattle.bson_model.specs.Reading.{scalar_value, code_at, code_value, scope_value}
 use Rattle.bson_model.specs.Sorted.{sorted}

@@ -1,12 +1,12 @@
 -- What the mode `Finite` adds: each value is written, and each tree of the mode `Special` keeps its meaning.
 use Rattle.std.proofs.Common.{ℕ, List, inl}
 use Rattle.serde_json.specs.Data.{Data, Items, Members}
-use Rattle.bson_wrapper.specs.Scalar.{Scalar, double}
-use Rattle.bson_wrapper.specs.Written.{WrittenScalarIn}
-use Rattle.bson_wrapper.specs.declared.form.Doubles.TheVariants.{Special, Finite}
-use Rattle.bson_wrapper.specs.declared.form.Form.{Form}
-use Rattle.bson_wrapper.specs.declared.form.Form.TheVariants.{Canonical}
-use Rattle.bson_wrapper.proofs.Offered.{in_each}
+use Rattle.bson_scalar.specs.Scalar.{Scalar, double}
+use Rattle.bson_scalar.specs.Written.{WrittenScalarIn}
+use Rattle.bson_scalar.specs.declared.form.Doubles.TheVariants.{Special, Finite}
+use Rattle.bson_scalar.specs.declared.form.Form.{Form}
+use Rattle.bson_scalar.specs.declared.form.Form.TheVariants.{Canonical}
+use Rattle.bson_scalar.proofs.Offered.{in_each}
 use Rattle.bson_model.specs.Normal.{InRange, normal_form}
 use Rattle.bson_model.specs.Value.{Value, code_scope, Values, no_values, value, Pairs, no_pairs, pair}
 use Rattle.bson_model.specs.Value as model

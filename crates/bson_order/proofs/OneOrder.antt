@@ -1,8 +1,8 @@
 -- On a tree whose keys ascend the meaning in order is that by default.
 use Rattle.std.proofs.Common.{sym, subst}
 use Rattle.serde_json.specs.Data.{Data, Items, Members}
-use Rattle.bson_wrapper.specs.Means.{MeansScalarIn}
-use Rattle.bson_wrapper.specs.declared.form.Doubles.{Doubles}
+use Rattle.bson_scalar.specs.Means.{MeansScalarIn}
+use Rattle.bson_scalar.specs.declared.form.Doubles.{Doubles}
 use Rattle.bson_model.specs.Means.{MeansIn, MeansItemsIn, MeansDocumentIn}
 use Rattle.bson_model.specs.Means as by_default
 use Rattle.bson_model.specs.Texts.{IsTree, ItemsAreTrees, MembersAreTrees}

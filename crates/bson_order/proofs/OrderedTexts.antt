@@ -4,15 +4,15 @@ use Rattle.std.specs.Str.{bytes_eq}
 use Rattle.std.proofs.lemmas.Bool.{or_from}
 use Rattle.serde_json.specs.Data.{Data, Items, Members}
 use Rattle.serde_json.specs.Written.{has_float, items_have_float, members_have_float}
-use Rattle.bson_wrapper.specs.TreeText.{HasNoFloatIn, tree_text}
-use Rattle.bson_wrapper.specs.Normal.{normal_scalar, scalar_as_read}
-use Rattle.bson_wrapper.specs.Scalar.{Scalar}
-use Rattle.bson_wrapper.specs.Written.{writes_scalar_in}
-use Rattle.bson_wrapper.specs.declared.form.Doubles.{Doubles}
-use Rattle.bson_wrapper.specs.declared.form.Doubles.TheVariants.{Special, Finite}
-use Rattle.bson_wrapper.specs.declared.form.Form.{Form}
-use Rattle.bson_wrapper.specs.declared.form.Form.TheVariants.{Canonical, Relaxed}
-use Rattle.bson_wrapper.proofs.Offered as scalars
+use Rattle.bson_scalar.specs.TreeText.{HasNoFloatIn, tree_text}
+use Rattle.bson_scalar.specs.Normal.{normal_scalar, scalar_as_read}
+use Rattle.bson_scalar.specs.Scalar.{Scalar}
+use Rattle.bson_scalar.specs.Written.{writes_scalar_in}
+use Rattle.bson_scalar.specs.declared.form.Doubles.{Doubles}
+use Rattle.bson_scalar.specs.declared.form.Doubles.TheVariants.{Special, Finite}
+use Rattle.bson_scalar.specs.declared.form.Form.{Form}
+use Rattle.bson_scalar.specs.declared.form.Form.TheVariants.{Canonical, Relaxed}
+use Rattle.bson_scalar.proofs.Offered as scalars
 use Rattle.bson_model.specs.Normal.{InRange, ItemsInRange, PairsInRange, normal_form, as_read, plain, map_scalars}
 use Rattle.bson_model.specs.Normal.{map_scalars_of_items, map_scalars_of_pairs}
 use Rattle.bson_model.specs.Value.{Value, scalar, code_scope, array, document, Values, no_values, value, Pairs}

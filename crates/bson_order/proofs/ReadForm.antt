@@ -4,9 +4,9 @@ use Rattle.std.specs.Prelude.{is_none, is_some}
 use Rattle.std.specs.Str.{bytes_eq}
 use Rattle.std.proofs.lemmas.Bool.{or_parts}
 use Rattle.serde_json.specs.Data.{Data, Items, Members}
-use Rattle.bson_wrapper.specs.Table.{wrapper_of, has_wrapper}
-use Rattle.bson_wrapper.specs.declared.form.Doubles.{Doubles}
-use Rattle.bson_wrapper.proofs.Offered as scalars
+use Rattle.bson_scalar.specs.Table.{wrapper_of, has_wrapper}
+use Rattle.bson_scalar.specs.declared.form.Doubles.{Doubles}
+use Rattle.bson_scalar.proofs.Offered as scalars
 use Rattle.bson_model.specs.Laws.{IsReadFormIn}
 use Rattle.bson_model.specs.Normal.{plain_items, plain_keys, plain_values, writable_items_in, writable_pairs_in}
 use Rattle.bson_model.specs.Normal.{InRange, ItemsInRange, PairsInRange}

@@ -1,13 +1,13 @@
 -- What the trees of scalars are.
 use Rattle.std.proofs.Common.{refl}
 use Rattle.serde_json.specs.Data.{Data}
-use Rattle.bson_wrapper.specs.Means.{MeansScalarIn}
-use Rattle.bson_wrapper.specs.Normal.{normal_scalar, scalar_as_read, ScalarInRange}
-use Rattle.bson_wrapper.specs.Scalar.{Scalar}
-use Rattle.bson_wrapper.specs.Written.{WrittenScalarIn}
-use Rattle.bson_wrapper.specs.declared.form.Doubles.{Doubles}
-use Rattle.bson_wrapper.specs.declared.form.Form.{Form}
-use Rattle.bson_wrapper.proofs.Offered as scalars
+use Rattle.bson_scalar.specs.Means.{MeansScalarIn}
+use Rattle.bson_scalar.specs.Normal.{normal_scalar, scalar_as_read, ScalarInRange}
+use Rattle.bson_scalar.specs.Scalar.{Scalar}
+use Rattle.bson_scalar.specs.Written.{WrittenScalarIn}
+use Rattle.bson_scalar.specs.declared.form.Doubles.{Doubles}
+use Rattle.bson_scalar.specs.declared.form.Form.{Form}
+use Rattle.bson_scalar.proofs.Offered as scalars
 use Rattle.bson_model.specs.Means.{MeansIn}
 use Rattle.bson_model.specs.Means as by_default
 use Rattle.bson_model.specs.Texts.{IsTree}

@@ -1,7 +1,7 @@
 -- A text whose tree in order means a value means it, and by default the same value sorted.
 use Rattle.std.proofs.Common.{◌≡◌, ℕ, List, Some, Ok, option_map, sym, ap, ◌∙◌, subst}
 use Rattle.serde_json.specs.Data.{Data}
-use Rattle.bson_wrapper.specs.declared.form.Doubles.{Doubles}
+use Rattle.bson_scalar.specs.declared.form.Doubles.{Doubles}
 use Rattle.bson_model.specs.Means.{MeansIn}
 use Rattle.bson_model.specs.Sorted.{sorted}
 use Rattle.bson_model.specs.Value.{Value}

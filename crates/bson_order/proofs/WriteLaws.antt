@@ -6,14 +6,14 @@ use Rattle.std.specs.Prelude.{is_none, is_ok, is_some}
 use Rattle.std.proofs.lemmas.Bool.{and_parts, or_from}
 use Rattle.serde_json.specs.Data.{Data, Items, no_items, item, Members, no_members, member}
 use Rattle.serde_json.specs.Data as tree
-use Rattle.bson_wrapper.specs.Means.{MeansScalarIn}
-use Rattle.bson_wrapper.specs.Normal.{normal_scalar, scalar_as_read}
-use Rattle.bson_wrapper.specs.Scalar.{Scalar}
-use Rattle.bson_wrapper.specs.Table.{wrapper_of, has_wrapper}
-use Rattle.bson_wrapper.specs.Written.{WrittenScalarIn, Refusal, ◌>>=◌}
-use Rattle.bson_wrapper.specs.declared.form.Doubles.{Doubles}
-use Rattle.bson_wrapper.specs.declared.form.Form.{Form}
-use Rattle.bson_wrapper.proofs.Offered as scalars
+use Rattle.bson_scalar.specs.Means.{MeansScalarIn}
+use Rattle.bson_scalar.specs.Normal.{normal_scalar, scalar_as_read}
+use Rattle.bson_scalar.specs.Scalar.{Scalar}
+use Rattle.bson_scalar.specs.Table.{wrapper_of, has_wrapper}
+use Rattle.bson_scalar.specs.Written.{WrittenScalarIn, Refusal, ◌>>=◌}
+use Rattle.bson_scalar.specs.declared.form.Doubles.{Doubles}
+use Rattle.bson_scalar.specs.declared.form.Form.{Form}
+use Rattle.bson_scalar.proofs.Offered as scalars
 use Rattle.bson_model.specs.Normal.{normal_form, map_scalars, map_scalars_of_items, map_scalars_of_pairs, as_read}
 use Rattle.bson_model.specs.Normal.{plain, plain_items, plain_keys, plain_values, writable_in}
 use Rattle.bson_model.specs.Normal.{writable_items_in, writable_pairs_in, InRange, ItemsInRange, PairsInRange}

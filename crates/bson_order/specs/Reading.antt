@@ -4,11 +4,11 @@ use Rattle.std.specs.Prelude.{codes, if◌then◌else◌, Option, Some, None, Re
 use Rattle.std.specs.Str.{bytes_eq}
 use Rattle.serde_json.specs.Data.{Data, Items, no_items, item, Members, no_members, member}
 use Rattle.serde_json.specs.Data as tree
-use Rattle.bson_wrapper.specs.Faults.{Fault, wrong_shape, ◌>>=◌}
-use Rattle.bson_wrapper.specs.Reading.{number_read_in, single_at_in}
-use Rattle.bson_wrapper.specs.Scalar.{null, boolean, text}
-use Rattle.bson_wrapper.specs.Table.{wrapper_of, has_wrapper}
-use Rattle.bson_wrapper.specs.declared.form.Doubles.{Doubles}
+use Rattle.bson_scalar.specs.Faults.{Fault, wrong_shape, ◌>>=◌}
+use Rattle.bson_scalar.specs.Reading.{number_read_in, single_at_in}
+use Rattle.bson_scalar.specs.Scalar.{null, boolean, text}
+use Rattle.bson_scalar.specs.Table.{wrapper_of, has_wrapper}
+use Rattle.bson_scalar.specs.declared.form.Doubles.{Doubles}
 use Rattle.bson_model.specs.Reading.{scalar_value, code_at}
 use Rattle.bson_model.specs.Value.{Value, scalar, array, document, Values, no_values, value, Pairs}
 use Rattle.bson_model.specs.Value.{no_pairs, pair}

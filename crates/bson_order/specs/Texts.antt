@@ -2,9 +2,9 @@
 use Rattle.std.specs.Prelude.{◌≡◌, ◌≤◌, ◌↔◌, ℕ, List, true, Some}
 use Rattle.serde_json.specs.Data.{Data, depth}
 use Rattle.serde_json.specs.Read.{read, max_depth}
-use Rattle.bson_wrapper.specs.TreeText.{HasNoFloatIn, tree_text}
-use Rattle.bson_wrapper.specs.declared.form.Doubles.{Doubles}
-use Rattle.bson_wrapper.specs.declared.form.Form.{Form}
+use Rattle.bson_scalar.specs.TreeText.{HasNoFloatIn, tree_text}
+use Rattle.bson_scalar.specs.declared.form.Doubles.{Doubles}
+use Rattle.bson_scalar.specs.declared.form.Form.{Form}
 use Rattle.bson_model.specs.Laws.{HasMeaningIn, IsReadFormIn}
 use Rattle.bson_model.specs.Normal.{InRange, normal_form, as_read, plain}
 use Rattle.bson_model.specs.Sorted.{sorted}

@@ -3,9 +3,9 @@
 use Rattle.std.specs.Prelude.{Result, Ok}
 use Rattle.serde_json.specs.Data.{Data, Items, no_items, item, Members, no_members, member}
 use Rattle.serde_json.specs.Data as tree
-use Rattle.bson_wrapper.specs.Written.{writes_scalar_in, Refusal, ◌>>=◌}
-use Rattle.bson_wrapper.specs.declared.form.Doubles.{Doubles}
-use Rattle.bson_wrapper.specs.declared.form.Form.{Form}
+use Rattle.bson_scalar.specs.Written.{writes_scalar_in, Refusal, ◌>>=◌}
+use Rattle.bson_scalar.specs.declared.form.Doubles.{Doubles}
+use Rattle.bson_scalar.specs.declared.form.Form.{Form}
 use Rattle.bson_model.specs.Value.{Value, scalar, code_scope, array, document, Values, no_values, value, Pairs}
 use Rattle.bson_model.specs.Value.{no_pairs, pair}
 use Rattle.bson_model.specs.Writing.{with_scope}

@@ -2,10 +2,10 @@
 use Rattle.std.specs.Prelude.{◌≡◌, codes}
 use Rattle.serde_json.specs.Data.{Data, Items, no_items, item, Members, no_members, member}
 use Rattle.serde_json.specs.Data as tree
-use Rattle.bson_wrapper.specs.Shapes.{object_of_two}
-use Rattle.bson_wrapper.specs.Written.{WrittenScalarIn}
-use Rattle.bson_wrapper.specs.declared.form.Doubles.{Doubles}
-use Rattle.bson_wrapper.specs.declared.form.Form.{Form}
+use Rattle.bson_scalar.specs.Shapes.{object_of_two}
+use Rattle.bson_scalar.specs.Written.{WrittenScalarIn}
+use Rattle.bson_scalar.specs.declared.form.Doubles.{Doubles}
+use Rattle.bson_scalar.specs.declared.form.Form.{Form}
 use Rattle.bson_model.specs.Value.{Value, scalar, code_scope, array, document, Values, no_values, value, Pairs}
 use Rattle.bson_model.specs.Value.{no_pairs, pair}
 

@@ -3,11 +3,11 @@ ghost use Rattle.std.specs.Prelude.{◌≡◌, ◌↔◌, ℕ, List, true, false
 ghost use Rattle.json.specs.Json as json;
 ghost use Rattle.serde_json.specs.Data.{Data, Members};
 ghost use Rattle.serde_json.specs.Read.{read};
-ghost use Rattle.bson_wrapper.specs.TreeText.{HasNoFloatIn};
-ghost use Rattle.bson_wrapper.specs.declared.form.Doubles.{Doubles};
-ghost use Rattle.bson_wrapper.specs.declared.form.Doubles.TheVariants.{Special, Finite};
-ghost use Rattle.bson_wrapper.specs.declared.form.Form.{Form};
-ghost use Rattle.bson_wrapper.specs.declared.form.Form.TheVariants.{Canonical};
+ghost use Rattle.bson_scalar.specs.TreeText.{HasNoFloatIn};
+ghost use Rattle.bson_scalar.specs.declared.form.Doubles.{Doubles};
+ghost use Rattle.bson_scalar.specs.declared.form.Doubles.TheVariants.{Special, Finite};
+ghost use Rattle.bson_scalar.specs.declared.form.Form.{Form};
+ghost use Rattle.bson_scalar.specs.declared.form.Form.TheVariants.{Canonical};
 ghost use Rattle.bson_model.specs.Means.{MeansIn};
 ghost use Rattle.bson_model.specs.Normal.{InRange, normal_form, plain, writable_in};
 ghost use Rattle.bson_model.specs.Sorted.{sorted};

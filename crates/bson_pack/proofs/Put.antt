@@ -4,10 +4,10 @@ use Rattle.std.proofs.Common.{subst, arith, [], ◌∷◌, length-append, is_ok}
 use Rattle.std.specs.Prelude.{decimal}
 use Rattle.std.specs.Str.{is_utf8}
 use Rattle.json.specs.Strict.{AreDistinct}
-use Rattle.bson_scalar.specs.declared.spec.ElementType.{ElementType}
-use Rattle.bson_scalar.specs.declared.spec.ElementType.TheVariants as tag
-use Rattle.bson_wrapper.specs.Scalar.{Scalar}
-use Rattle.bson_wrapper.specs.ElementType.{scalar_type}
+use Rattle.bson_types.specs.declared.spec.ElementType.{ElementType}
+use Rattle.bson_types.specs.declared.spec.ElementType.TheVariants as tag
+use Rattle.bson_scalar.specs.Scalar.{Scalar}
+use Rattle.bson_scalar.specs.ElementType.{scalar_type}
 use Rattle.bson_model.specs.Value.{Value, Values, no_values, value, Pairs, no_pairs, pair, scalar, array, document}
 use Rattle.bson_model.specs.Value.{code_scope}
 use Rattle.bson_bytes.specs.Putting.{Put, then, is_free, put_scalar, put_text, put_name, put_value, put_items, put_pairs}

@@ -7,8 +7,8 @@ use Rattle.json.specs.Token.{Token}
 use Rattle.json.proofs.Grammar.{value-begin_object}
 use Rattle.serde_json.specs.Data.{Members, object}
 use Rattle.serde_json.specs.Read.{converted}
-use Rattle.bson_wrapper.specs.Table.{has_wrapper}
-use Rattle.bson_wrapper.specs.declared.form.Doubles.{Doubles}
+use Rattle.bson_scalar.specs.Table.{has_wrapper}
+use Rattle.bson_scalar.specs.declared.form.Doubles.{Doubles}
 use Rattle.bson_model.specs.Value.{Pairs, document}
 use Rattle.bson_order.specs.Kept.{kept}
 use Rattle.bson_order.specs.Reading.{reads_in_order, members_in_order}

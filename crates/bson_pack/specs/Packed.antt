@@ -1,8 +1,8 @@
 -- What bytes are that were written from the tokens of a text.
 use Rattle.std.specs.Prelude.{◌≡◌, ◌++◌, ◌+◌, ◌≤◌, ℕ, suc, List, length, true, Ok}
 use Rattle.std.specs.Str.{is_utf8}
-use Rattle.bson_scalar.specs.declared.spec.ElementType.TheVariants as tag
-use Rattle.bson_wrapper.specs.declared.form.Doubles.{Doubles}
+use Rattle.bson_types.specs.declared.spec.ElementType.TheVariants as tag
+use Rattle.bson_scalar.specs.declared.form.Doubles.{Doubles}
 use Rattle.bson_model.specs.Value.{Value, Pairs, document}
 use Rattle.bson_order.specs.Texts.{HasMeaningInOrder}
 use Rattle.bson_bytes.specs.Laws.{IsRead}

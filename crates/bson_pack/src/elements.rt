@@ -9,8 +9,8 @@ use bson_bytes::parts::is_free;
 use bson_bytes::put::{put_end, put_length, put_name, put_room, put_text};
 use bson_filter::unstreamed::Unstreamed;
 use bson_filter::writer::ValueWriter;
-use bson_scalar::spec::ElementType;
-use bson_wrapper::scalar::Scalar;
+use bson_scalar::scalar::Scalar;
+use bson_types::spec::ElementType;
 use itoa::Buffer;
 
 /// The bytes of elements, one behind the other. Of an array, a document or code that was begun it is

@@ -5,7 +5,7 @@ ghost use Rattle.bson_pack.specs.Packed.{IsPackedText};
 use crate::elements::ElementWriter;
 use bson_filter::unstreamed::Unstreamed;
 use bson_filter::walk::write_document;
-use bson_wrapper::form::Doubles;
+use bson_scalar::form::Doubles;
 use json::{Reader, Scratch, Token};
 use std::alloc::Global;
 

@@ -1,7 +1,7 @@
 //! Scalars: their types, and their bytes.
 ghost use Rattle.std.specs.Prelude.{◌≡◌, ◌≤◌, length, OnOk};
-ghost use Rattle.bson_wrapper.specs.View.{scalar_view};
-ghost use Rattle.bson_wrapper.specs.ElementType.{scalar_type};
+ghost use Rattle.bson_scalar.specs.View.{scalar_view};
+ghost use Rattle.bson_scalar.specs.ElementType.{scalar_type};
 ghost use Rattle.bson_bytes.specs.Putting.{put_scalar, Puts};
 ghost use Rattle.bson_bytes.specs.Writing.{TypedScalar};
 
@@ -9,8 +9,8 @@ use bson_bytes::error::Error;
 use bson_bytes::put::{
     put_binary, put_pointer, put_regex, put_text, put_timestamp, put_u32, put_u64,
 };
-use bson_scalar::spec::ElementType;
-use bson_wrapper::scalar::Scalar;
+use bson_scalar::scalar::Scalar;
+use bson_types::spec::ElementType;
 
 pub(crate) fn type_of(scalar: &Scalar) -> ElementType
     ensures { result ≡ scalar_type (scalar_view scalar.now) }

@@ -1,6 +1,6 @@
 -- A document comes back from its canonical text in order, and from its bytes.
 use Rattle.std.proofs.Common.{◌≡◌, ℕ, suc, List, Some, refl, sym, ap, ap₂, subst, ◌∙◌}
-use Rattle.bson_wrapper.specs.TreeText.{tree_text}
+use Rattle.bson_scalar.specs.TreeText.{tree_text}
 use Rattle.bson.specs.Doubles.{Doubles}
 use Rattle.bson.specs.Doubles.TheVariants.{Finite}
 use Rattle.bson.specs.Form.{Form}
@@ -18,7 +18,7 @@ use Rattle.bson.specs.declared.extjson.options.Options.{Options}
 use Rattle.bson_codec.specs.Canonical.{NestsPairs, as_written, by_byte, document_bytes}
 use Rattle.bson_codec.specs.Laws.{IsRead}
 use Rattle.bson_run.specs.Encode.{EncodesInOrder}
-use Rattle.bson_wrapper.specs.Normal.{normal_scalar}
+use Rattle.bson_scalar.specs.Normal.{normal_scalar}
 use Rattle.bson_pairs.specs.Again.{ComesBack, Nests}
 
 -- ---- what is in normal form has the subtypes that its bytes name

@@ -12,8 +12,8 @@ ghost use Rattle.bson_pairs.specs.Again.{ComesBack, IsWant, Nests};
 use bson::Bson;
 use bson::extjson::{Doubles, Form, Options, WriteError};
 use bson_codec::{de, from_slice};
-use bson_run::encode::encode_in_order;
 use bson_convert::fault::Fault;
+use bson_run::encode::encode_in_order;
 use std::alloc::Global;
 
 /// Why there is no way and back.

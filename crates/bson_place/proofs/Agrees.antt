@@ -4,8 +4,8 @@ use Rattle.std.proofs.Common.{IfOk, MatchOption, refl, sym, ap, ◌∙◌, subst
 use Rattle.std.specs.Prelude.{codes}
 use Rattle.std.specs.declared.alloc.AllocError.{AllocError}
 use Rattle.serde_json.specs.Data.{Data, Items, Members, no_members, member}
-use Rattle.bson_wrapper.specs.Faults.{Fault, ◌>>=◌}
-use Rattle.bson_wrapper.specs.declared.form.Doubles.{Doubles}
+use Rattle.bson_scalar.specs.Faults.{Fault, ◌>>=◌}
+use Rattle.bson_scalar.specs.declared.form.Doubles.{Doubles}
 use Rattle.bson_model.specs.Fault.{MeansNothingIn, fault_in, fault_of_in}
 use Rattle.bson_model.proofs.Offered.{means_to_in}
 use Rattle.bson_model.specs.Reading.{reads_in, reads_items_in, reads_members_in, scalar_value, scope_value}

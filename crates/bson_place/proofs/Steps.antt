@@ -7,20 +7,20 @@ use Rattle.std.specs.Str.{bytes_eq}
 use Rattle.std.specs.declared.alloc.AllocError.{AllocError}
 use Rattle.serde_json.specs.Data.{Data, Num, Items, item, Members, no_members, member}
 use Rattle.serde_json.specs.Data as tree
-use Rattle.bson_wrapper.specs.Faults.{Fault, wrong_shape, ◌>>=◌, or_wrong_shape}
+use Rattle.bson_scalar.specs.Faults.{Fault, wrong_shape, ◌>>=◌, or_wrong_shape}
 use Rattle.serde_json.specs.View.{view, number_view, members_view}
 use Rattle.serde_json.specs.declared.number.Number.{Number}
 use Rattle.serde_json.specs.declared.value.Value.{the_lemmas}
 use Rattle.serde_json.specs.declared.value.Value.TheVariants as declared
 use Rattle.serde_json.specs.Find.{as_i64}
-use Rattle.bson_wrapper.specs.Ints.{narrowest}
-use Rattle.bson_wrapper.specs.Doubles.{finite_number}
-use Rattle.bson_wrapper.specs.Reading.{number_read_in, or_double_read, single_at_in, on_text}
-use Rattle.bson_wrapper.specs.Scalar.{Scalar}
-use Rattle.bson_wrapper.specs.Scalar as kind
-use Rattle.bson_wrapper.specs.Table.{wrapper_of, has_wrapper}
-use Rattle.bson_wrapper.specs.declared.form.Doubles.{Doubles}
-use Rattle.bson_wrapper.specs.declared.form.Doubles.TheVariants.{Special, Finite}
+use Rattle.bson_scalar.specs.Ints.{narrowest}
+use Rattle.bson_scalar.specs.Doubles.{finite_number}
+use Rattle.bson_scalar.specs.Reading.{number_read_in, or_double_read, single_at_in, on_text}
+use Rattle.bson_scalar.specs.Scalar.{Scalar}
+use Rattle.bson_scalar.specs.Scalar as kind
+use Rattle.bson_scalar.specs.Table.{wrapper_of, has_wrapper}
+use Rattle.bson_scalar.specs.declared.form.Doubles.{Doubles}
+use Rattle.bson_scalar.specs.declared.form.Doubles.TheVariants.{Special, Finite}
 use Rattle.bson_model.specs.Reading.{reads_in, reads_items_in, reads_members_in, reads_wrapper_in, reads_scope_in}
 use Rattle.bson_model.specs.Reading.{scalar_value}
 use Rattle.bson_model.specs.Reading.{code_at, code_value, scope_value}

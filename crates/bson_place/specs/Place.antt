@@ -3,12 +3,12 @@ use Rattle.std.specs.Prelude.{◌≡◌, ℕ, ◌+◌, List, [], ◌∷◌, ◌+
 use Rattle.std.specs.Fmt.{decimal}
 use Rattle.serde_json.specs.Data.{Data, Num, Items, item, Members, no_members, member}
 use Rattle.serde_json.specs.Data as tree
-use Rattle.bson_wrapper.specs.Faults.{Fault, wrong_shape, wrong_id, IsIdFault}
-use Rattle.bson_wrapper.specs.Reading.{number_read_in, single_at_in}
-use Rattle.bson_wrapper.specs.Shapes.{object_of_two}
-use Rattle.bson_wrapper.specs.Table.{wrapper_of, has_wrapper}
-use Rattle.bson_wrapper.specs.declared.form.Doubles.{Doubles}
-use Rattle.bson_wrapper.specs.declared.form.Doubles.TheVariants.{Special}
+use Rattle.bson_scalar.specs.Faults.{Fault, wrong_shape, wrong_id, IsIdFault}
+use Rattle.bson_scalar.specs.Reading.{number_read_in, single_at_in}
+use Rattle.bson_scalar.specs.Shapes.{object_of_two}
+use Rattle.bson_scalar.specs.Table.{wrapper_of, has_wrapper}
+use Rattle.bson_scalar.specs.declared.form.Doubles.{Doubles}
+use Rattle.bson_scalar.specs.declared.form.Doubles.TheVariants.{Special}
 use Rattle.bson_model.specs.Fault.{MeansNothingIn, fault_of_in}
 use Rattle.bson_model.specs.Reading.{reads_in, reads_scope_in}
 use Rattle.bson_model.specs.Value.{Value, Pairs}

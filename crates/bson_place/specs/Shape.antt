@@ -1,9 +1,9 @@
 -- The wrapper that an object is not, though it has its key; and what is told then.
 use Rattle.std.specs.Prelude.{ℕ, List, ◌++◌, codes, Option, Some, None}
 use Rattle.serde_json.specs.Data.{Members, no_members, member}
-use Rattle.bson_wrapper.specs.Table.{key_of, wrapper_of}
-use Rattle.bson_wrapper.specs.declared.wrapper.Wrapper.{Wrapper}
-use Rattle.bson_wrapper.specs.declared.wrapper.Wrapper.TheVariants.{Code}
+use Rattle.bson_scalar.specs.Table.{key_of, wrapper_of}
+use Rattle.bson_scalar.specs.declared.wrapper.Wrapper.{Wrapper}
+use Rattle.bson_scalar.specs.declared.wrapper.Wrapper.TheVariants.{Code}
 
 abbrev or_next : Option Wrapper → Option Wrapper → Option Wrapper
 or_next (Some w) next = Some w

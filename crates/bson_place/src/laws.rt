@@ -1,8 +1,8 @@
 //! Laws of the definitions.
 ghost use Rattle.std.specs.Prelude.{◌≡◌, List, Err};
 ghost use Rattle.serde_json.specs.Data.{Data};
-ghost use Rattle.bson_wrapper.specs.Faults.{Fault};
-ghost use Rattle.bson_wrapper.specs.declared.form.Doubles.{Doubles};
+ghost use Rattle.bson_scalar.specs.Faults.{Fault};
+ghost use Rattle.bson_scalar.specs.declared.form.Doubles.{Doubles};
 ghost use Rattle.bson_model.specs.Fault.{MeansNothing, MeansNothingIn};
 ghost use Rattle.bson_model.specs.Reading.{reads, reads_in};
 ghost use Rattle.bson_place.specs.Place.{FaultAt, FaultAtIn, Turn};

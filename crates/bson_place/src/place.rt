@@ -2,7 +2,7 @@
 ghost use Rattle.std.specs.Prelude.{◌≡◌, ◌++◌, map, IfOk, OnOk, string_bytes};
 ghost use Rattle.bson_place.specs.Place.{dotted, turn_of, way_of, word_of};
 
-use bson_scalar::oid;
+use bson_types::oid;
 use std::alloc::{AllocError, Global};
 
 /// A step of the way to a fault.

@@ -1,11 +1,11 @@
 //! Wrong shapes: which wrapper's an object has not, and what is told of it.
 ghost use Rattle.std.specs.Prelude.{◌≡◌, is_some};
 ghost use Rattle.bson_place.specs.Shape.{alone_text, wrapper_in};
-ghost use Rattle.bson_wrapper.specs.Table.{has_wrapper};
+ghost use Rattle.bson_scalar.specs.Table.{has_wrapper};
 ghost use Rattle.serde_json.specs.View.{members_view};
 
-pub use bson_wrapper::doubles::NUMBER;
-use bson_wrapper::wrapper::{Wrapper, named};
+pub use bson_scalar::doubles::NUMBER;
+use bson_scalar::wrapper::{Wrapper, named};
 use serde_json::{Map, Value};
 
 /// Of code that is no text, beside a scope.

@@ -3,10 +3,10 @@ ghost use Rattle.std.specs.Prelude.{◌≡◌, ◌∷◌, [], ◌++◌, ℕ, Lis
 ghost use Rattle.std.specs.Prelude.{MatchOption, Result, Ok, Err, codes, string_bytes};
 ghost use Rattle.serde_json.specs.View.{view, number_view, items_view, members_view};
 ghost use Rattle.serde_json.specs.Data.{number, string, object, member, no_members};
-ghost use Rattle.bson_wrapper.specs.Table.{has_wrapper};
-ghost use Rattle.bson_wrapper.specs.Shapes.{object_of_two};
-ghost use Rattle.bson_wrapper.specs.Faults.{Fault, Fails, wrong_shape};
-ghost use Rattle.bson_wrapper.specs.Scalar.{Scalar};
+ghost use Rattle.bson_scalar.specs.Table.{has_wrapper};
+ghost use Rattle.bson_scalar.specs.Shapes.{object_of_two};
+ghost use Rattle.bson_scalar.specs.Faults.{Fault, Fails, wrong_shape};
+ghost use Rattle.bson_scalar.specs.Scalar.{Scalar};
 ghost use Rattle.bson_model.specs.Reading.{reads_items_in, reads_members_in};
 ghost use Rattle.bson_model.specs.Value.{Values, Pairs};
 ghost use Rattle.bson_place.specs.Place.{FaultAtIn, FaultAmongIn, FaultWithinIn, HasScopeIn, HasValue, HasValueIn};
@@ -15,12 +15,12 @@ ghost use Rattle.bson_place.specs.Place.{turn_of, way_of};
 
 use crate::place::{Place, Reason, Step};
 use crate::shape::{CODE, SCOPE, beside_others, first_wrapper};
-use bson_wrapper::code::is_code_with_scope;
-use bson_wrapper::doubles::read_number;
-use bson_wrapper::error::Error;
-use bson_wrapper::form::Doubles;
-use bson_wrapper::read::read_single_in;
-use bson_wrapper::wrapper::Wrapper;
+use bson_scalar::code::is_code_with_scope;
+use bson_scalar::doubles::read_number;
+use bson_scalar::error::Error;
+use bson_scalar::form::Doubles;
+use bson_scalar::read::read_single_in;
+use bson_scalar::wrapper::Wrapper;
 use serde_json::{Map, Number, Value};
 use std::alloc::{AllocError, Global};
 

@@ -1,7 +1,7 @@
 -- The text in a form is what converting gives in its mode.
 use Rattle.std.proofs.Common.{ℕ, List, ◌++◌, refl}
-use Rattle.bson_wrapper.specs.declared.form.Form.{Form}
-use Rattle.bson_wrapper.specs.declared.form.Form.TheVariants as form
+use Rattle.bson_scalar.specs.declared.form.Form.{Form}
+use Rattle.bson_scalar.specs.declared.form.Form.TheVariants as form
 use Rattle.bson_model.specs.Value.{Value}
 use Rattle.bson.specs.declared.extjson.options.Options.{Options}
 use Rattle.bson.specs.TextMeaning.{HasTextMeaningIn}

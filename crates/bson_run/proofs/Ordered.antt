@@ -3,9 +3,9 @@ use Rattle.std.proofs.Common.{◌≡◌, ◌++◌, ℕ, List, true, Result, Ok, 
 use Rattle.std.proofs.Common.{◌∙◌, subst}
 use Rattle.std.specs.Prelude.{is_ok, IsUtf8}
 use Rattle.serde_json.specs.Data.{Data}
-use Rattle.bson_wrapper.specs.Written.{Refusal}
-use Rattle.bson_wrapper.specs.declared.form.Form.{Form}
-use Rattle.bson_wrapper.specs.declared.form.Form.TheVariants as form
+use Rattle.bson_scalar.specs.Written.{Refusal}
+use Rattle.bson_scalar.specs.declared.form.Form.{Form}
+use Rattle.bson_scalar.specs.declared.form.Form.TheVariants as form
 use Rattle.bson_model.specs.Laws.{IsTreeOfIn}
 use Rattle.bson_model.specs.Writing.{writes_in}
 use Rattle.bson_model.proofs.Offered.{tree_is_in, writable_is_in}

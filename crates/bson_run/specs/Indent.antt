@@ -9,8 +9,8 @@ use Rattle.json.specs.Reads.{opens}
 use Rattle.json.specs.Spaced.{print_spaced}
 use Rattle.json.specs.Token.{Token}
 use Rattle.bson.specs.declared.extjson.options.Options.{Options}
-use Rattle.bson_wrapper.specs.declared.form.Form.{Form}
-use Rattle.bson_wrapper.specs.declared.form.Form.TheVariants as form
+use Rattle.bson_scalar.specs.declared.form.Form.{Form}
+use Rattle.bson_scalar.specs.declared.form.Form.TheVariants as form
 use Rattle.bson_convert.specs.Convert.{ConvertsIn, newline}
 use Rattle.bson_run.specs.InOrder.{ConvertsInOrder}
 use Rattle.bson_convert.specs.declared.mode.Mode.{Mode}

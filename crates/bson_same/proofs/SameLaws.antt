@@ -4,7 +4,7 @@ use Rattle.std.proofs.lemmas.Bool.{and_parts}
 use Rattle.std.proofs.lemmas.Slice.Eq.{bytes_eq-Decides}
 use Rattle.bson_model.specs.Value.{Value, scalar, code_scope, array, document, Values, no_values, value, Pairs}
 use Rattle.bson_model.specs.Value.{no_pairs, pair}
-use Rattle.bson_wrapper.specs.SameLaws.{scalar_decides}
+use Rattle.bson_scalar.specs.SameLaws.{scalar_decides}
 use Rattle.bson_same.specs.Same.{same_in_order, items_in_order, pairs_in_order}
 
 mutual

@@ -1,7 +1,7 @@
 -- Equality of values with the order of their keys, as a function: for the proofs. It is equality (`proofs/SameLaws`).
 use Rattle.std.specs.Prelude.{Bool, true, false, ◌&&◌}
 use Rattle.std.specs.Str.{bytes_eq}
-use Rattle.bson_wrapper.specs.Same.{scalar_eq}
+use Rattle.bson_scalar.specs.Same.{scalar_eq}
 use Rattle.bson_model.specs.Value.{Value, scalar, code_scope, array, document, Values, no_values, value, Pairs}
 use Rattle.bson_model.specs.Value.{no_pairs, pair}
 

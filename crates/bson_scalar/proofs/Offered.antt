@@ -1,6 +1,10 @@
 -- The laws that the crates above use. No other file of these proofs is cited from outside.
-pub use Rattle.bson_scalar.proofs.Base64Laws.{base64_to, padded}
-pub use Rattle.bson_scalar.proofs.ByteRanges.{base64_bytes, hex_bytes}
-pub use Rattle.bson_scalar.proofs.HexLaws.{sized_from, sized_to}
-pub use Rattle.bson_scalar.proofs.SortedText.{sorted_text-again}
-pub use Rattle.bson_scalar.proofs.UuidLaws.{hyphenated_from, hyphenated_to, long_is_hyphenated, parsed_from, parsed_to}
+pub use Rattle.bson_scalar.proofs.BinaryLaws.{subtype_byte-of}
+pub use Rattle.bson_scalar.proofs.DoubleModes.{in_each}
+pub use Rattle.bson_scalar.proofs.InTurn.{in_turn, on_ok}
+pub use Rattle.bson_scalar.proofs.InverseLemmas.{text_then}
+pub use Rattle.bson_scalar.proofs.ScalarLaws.{back, nf_again, nf_written, scalar_form, scalar_from, scalar_no_float}
+pub use Rattle.bson_scalar.proofs.ScalarLaws.{scalar_to, as_read_again, as_read_canonical, as_read_written}
+pub use Rattle.bson_scalar.proofs.ScalarLaws.{writable_is, written_from, written_to, finite_range, all_writable_is}
+pub use Rattle.bson_scalar.proofs.TreeTexts.{float_is_number, float_is_read, pattern_is_double, text_is}
+pub use Rattle.bson_scalar.proofs.WrittenDoubles.{IsDoubleTree, double_tree_of}

@@ -1,10 +1,40 @@
--- How a binary is shown.
-use Rattle.std.specs.Prelude.{ℕ, ◌++◌, List, false, codes}
-use Rattle.std.specs.Fmt.{digits}
-use Rattle.bson_scalar.specs.declared.binary.Binary.{Binary}
-use Rattle.bson_scalar.specs.Subtype.{subtype_byte}
-use Rattle.bson_scalar.specs.Base64.{padded_text}
+-- The text of a value that holds no other, one line a kind. Texts stand as they are, with nothing escaped.
+use Rattle.std.specs.Prelude.{ℕ, ◌-◌, ◌++◌, List, Bool, true, false, length, replicate, codes}
+use Rattle.std.specs.Fmt.{decimal, signed_decimal, digits}
+use Rattle.hex.specs.Hex.{encode_lower}
+use Rattle.bson_datetime.specs.Displayed.{display_text as date_text}
+use Rattle.bson_decimal.specs.Displayed.{display_text as decimal_text}
+use Rattle.bson_types.specs.Base64.{padded_text}
+use Rattle.bson_types.specs.Subtype.{subtype_byte}
+use Rattle.bson_scalar.specs.Scalar.{Scalar, null, undefined, min_key, max_key, boolean, double, int32, int64, text}
+use Rattle.bson_scalar.specs.Scalar.{symbol, code, regex, timestamp, binary, object_id, date, decimal as decimal128}
+use Rattle.bson_scalar.specs.Scalar.{db_pointer}
 
-abbrev pub binary_text : Binary → List ℕ
-binary_text b = codes "Binary(0x" ++ digits 16 false (subtype_byte b.subtype) ++ codes ", " ++ padded_text b.bytes.items
-    ++ codes ")"
+-- a pattern of 64 bits in 16 hexadecimal digits
+abbrev pub sixteen_digits : ℕ → List ℕ
+sixteen_digits p = replicate (16 - length (digits 16 false p)) 48 ++ digits 16 false p
+
+abbrev pub boolean_text : Bool → List ℕ
+boolean_text true = codes "true"
+boolean_text false = codes "false"
+
+abbrev pub scalar_text : Scalar → List ℕ
+scalar_text null = codes "null"
+scalar_text undefined = codes "undefined"
+scalar_text min_key = codes "MinKey"
+scalar_text max_key = codes "MaxKey"
+scalar_text (boolean b) = boolean_text b
+scalar_text (double p) = codes "Double(0x" ++ sixteen_digits p ++ codes ")"
+scalar_text (int32 z) = signed_decimal z
+scalar_text (int64 z) = signed_decimal z
+scalar_text (text s) = codes "\"" ++ s ++ codes "\""
+scalar_text (symbol s) = codes "Symbol(\"" ++ s ++ codes "\")"
+scalar_text (code s) = s
+scalar_text (regex p o) = codes "/" ++ p ++ codes "/" ++ o
+scalar_text (timestamp t i) = codes "Timestamp(" ++ decimal t ++ codes ", " ++ decimal i ++ codes ")"
+scalar_text (binary k bytes) =
+    codes "Binary(0x" ++ digits 16 false (subtype_byte k) ++ codes ", " ++ padded_text bytes ++ codes ")"
+scalar_text (object_id id) = codes "ObjectId(\"" ++ encode_lower id ++ codes "\")"
+scalar_text (date ms) = codes "DateTime(\"" ++ date_text ms ++ codes "\")"
+scalar_text (decimal128 b) = decimal_text b
+scalar_text (db_pointer s id) = codes "DbPointer(" ++ (s ++ (codes ", " ++ (encode_lower id ++ codes ")")))

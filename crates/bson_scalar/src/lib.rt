@@ -1,22 +1,37 @@
-//! The scalar types of BSON 1.1 and what their bytes and texts mean: the tags of elements and the
-//! subtypes of binaries, object ids, UUIDs in four byte orders, binaries and the vectors that they
-//! hold, and the small kinds. Dates and decimals stand in crates of their own and are named here
-//! too.
+//! The wrappers of MongoDB Extended JSON v2 that hold one scalar: each is read from its tree, and
+//! each scalar is written in the canonical and the relaxed form. Null, booleans, numbers and
+//! strings of JSON are read in the layer above, and so are lists, documents and code with a scope,
+//! which hold values.
 //!
-//! In reading order: `spec` (tags and subtypes), `oid`, `uuid_value` (the library's `uuid`),
-//! `binary` (base64, UUIDs in binaries), `vector` and `packed` (vectors and their bytes),
-//! `timestamp`, `regex`, `db_pointer`.
+//! In reading order: `scalar` (a scalar value) and `scalar_ref` (the same by reference, with
+//! equality, words for a hasher, texts and a copy), `form` (the two forms), `wrapper` (the table of
+//! wrapper keys), `error` and `write_error`; `shapes` (a text, an object of one key or two), `sink`
+//! (where a tree is written to: into memory, or onto a text) and `wrapped` (the shapes, written); a
+//! module for the wrappers of each subject, `ints`, `doubles`, `decimals`, `texts`, `regexes`,
+//! `ids`, `timestamps`, `dates`, `binaries`, `lone`; `read` and `write` over all of them; `code`
+//! (the keys of code with its scope); `laws`.
 #![tactic(auto)]
 
-pub mod binary;
-pub mod db_pointer;
-pub mod oid;
-mod packed;
-pub mod regex;
-pub mod spec;
-pub mod timestamp;
-pub mod uuid_value;
-mod vector;
-
-pub use bson_datetime as datetime;
-pub use bson_decimal as decimal128;
+mod binaries;
+pub mod code;
+mod dates;
+mod decimals;
+pub mod doubles;
+pub mod error;
+pub mod form;
+mod ids;
+mod ints;
+pub mod laws;
+mod lone;
+pub mod read;
+mod regexes;
+pub mod scalar;
+pub mod scalar_ref;
+mod shapes;
+mod sink;
+mod texts;
+mod timestamps;
+mod wrapped;
+pub mod wrapper;
+pub mod write;
+pub mod write_error;

@@ -5,11 +5,11 @@ use crate::order::{Call, Order};
 use bson::extjson::Options;
 use bson_convert::convert::convert;
 use bson_convert::fault::Fault;
+use bson_convert::mode::Mode;
+use bson_convert::run::run;
 use bson_run::in_order::convert_in_order;
 use bson_run::lines::run_lines;
-use bson_convert::mode::Mode;
 use bson_run::order::{OnRefusal, Task};
-use bson_convert::run::run;
 use std::alloc::{AllocError, Global};
 
 /// The longest output for which no memory is asked while it is written.

@@ -7,9 +7,9 @@ use Rattle.bson_datetime.specs.Rfc3339.{digits_below, after, after_letter, day_n
 use Rattle.jiff_fmt.specs.Reader.{fraction_value}
 use Rattle.bson_datetime.specs.Moment.{Civil, IsCivil, IsMoment}
 use Rattle.bson_datetime.proofs.Offered.{rfc-fields}
-use Rattle.bson_wrapper.specs.Scalar as kind
-use Rattle.bson_wrapper.specs.Shapes.{object_of_one}
-use Rattle.bson_wrapper.specs.declared.form.Form.TheVariants.{Relaxed}
+use Rattle.bson_scalar.specs.Scalar as kind
+use Rattle.bson_scalar.specs.Shapes.{object_of_one}
+use Rattle.bson_scalar.specs.declared.form.Form.TheVariants.{Relaxed}
 use Rattle.bson_model.specs.Means.{Means}
 use Rattle.bson_model.specs.Value as model
 use Rattle.bson_model.specs.Normal.{normal_form}

@@ -2,7 +2,7 @@
 use Rattle.std.proofs.Common.{◌≡◌, ℕ, zero, suc, Bool, true, false, not, ◌&&◌, Some, refl, ◌∙◌}
 use Rattle.std.specs.Prelude.{codes}
 use Rattle.std.proofs.lemmas.Bool.{and_parts}
-use Rattle.bson_wrapper.specs.Shortest.{finite_text, unsigned_text, top_power, digits_at, is_some_read}
+use Rattle.bson_scalar.specs.Shortest.{finite_text, unsigned_text, top_power, digits_at, is_some_read}
 
 -- its power of ten is found from above: at none of the d powers below n is a multiple read
 abbrev none_read : ℕ → ℕ → ℕ → Bool

@@ -4,8 +4,8 @@ use Rattle.std.specs.Prelude.{codes}
 use Rattle.std.specs.Fmt.{digits}
 use Rattle.hex.specs.Hex.{encode_with}
 use Rattle.bson_decimal.specs.Displayed.{display_text as decimal_text}
-use Rattle.bson_scalar.specs.declared.spec.BinarySubtype.TheVariants.{UserDefined}
-use Rattle.bson_wrapper.specs.Scalar as kind
+use Rattle.bson_types.specs.declared.spec.BinarySubtype.TheVariants.{UserDefined}
+use Rattle.bson_scalar.specs.Scalar as kind
 use Rattle.bson_model.specs.Pretty.{pretty}
 use Rattle.bson_model.specs.Displayed.{display_text}
 use Rattle.bson_model.specs.Value.{Value}

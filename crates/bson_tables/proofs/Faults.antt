@@ -5,9 +5,9 @@ use Rattle.serde_json.specs.Data.{Data, negative}
 use Rattle.serde_json.specs.Data as tree
 use Rattle.bson_decimal.specs.Steps.{cut_at_34, raise_to_least, zeros_to_add, exponent_value, written_exponent}
 use Rattle.bson_decimal.specs.Steps.{scaled_exponent, coefficient, stored_pair, finite}
-use Rattle.bson_wrapper.specs.Reading.{decimal_of}
-use Rattle.bson_wrapper.specs.Shapes.{object_of_one, object_of_two}
-use Rattle.bson_wrapper.specs.Faults.{wrong_shape, wrong_id}
+use Rattle.bson_scalar.specs.Reading.{decimal_of}
+use Rattle.bson_scalar.specs.Shapes.{object_of_one, object_of_two}
+use Rattle.bson_scalar.specs.Faults.{wrong_shape, wrong_id}
 use Rattle.bson_model.specs.Fault.{fault_of, MeansNothing}
 use Rattle.bson_tables.proofs.Shapes.{whole, list_of_two, none}
 
@@ -21,17 +21,17 @@ double_zero_text = (none _ wrong_shape refl, refl)
 
 int_too_large : MeansNothing (object_of_one (codes "$numberInt") (tree.string (codes "2147483648")))
     × (fault_of (object_of_one (codes "$numberInt") (tree.string (codes "2147483648"))) ≡ wrong_shape)
-unfolding Rattle.bson_wrapper.specs.Reading.int_of
+unfolding Rattle.bson_scalar.specs.Reading.int_of
 int_too_large = (none _ wrong_shape refl, refl)
 
 int_too_small : MeansNothing (object_of_one (codes "$numberInt") (tree.string (codes "-2147483649")))
     × (fault_of (object_of_one (codes "$numberInt") (tree.string (codes "-2147483649"))) ≡ wrong_shape)
-unfolding Rattle.bson_wrapper.specs.Reading.int_of
+unfolding Rattle.bson_scalar.specs.Reading.int_of
 int_too_small = (none _ wrong_shape refl, refl)
 
 int_space : MeansNothing (object_of_one (codes "$numberInt") (tree.string (codes "7 ")))
     × (fault_of (object_of_one (codes "$numberInt") (tree.string (codes "7 "))) ≡ wrong_shape)
-unfolding Rattle.bson_wrapper.specs.Reading.int_of
+unfolding Rattle.bson_scalar.specs.Reading.int_of
 int_space = (none _ wrong_shape refl, refl)
 
 decimal_too_large : MeansNothing (object_of_one (codes "$numberDecimal") (tree.string (codes "1E+6145")))

@@ -3,12 +3,12 @@ use Rattle.std.proofs.Common.{ℕ, ℤ, pos, negsuc, List, true, refl}
 use Rattle.std.specs.Prelude.{codes}
 use Rattle.serde_json.specs.Data.{Data, negative}
 use Rattle.serde_json.specs.Data as tree
-use Rattle.bson_wrapper.specs.Scalar as kind
-use Rattle.bson_wrapper.specs.Shapes.{object_of_one, object_of_two}
-use Rattle.bson_wrapper.specs.Means as means
-use Rattle.bson_wrapper.specs.Means.{IsBase64, IsOidText, sorted_text, subtype_of, IsHyphenatedText, Uuid, Names}
-use Rattle.bson_wrapper.specs.Means.{Parses}
-use Rattle.bson_wrapper.specs.Means.{IsByteText}
+use Rattle.bson_scalar.specs.Scalar as kind
+use Rattle.bson_scalar.specs.Shapes.{object_of_one, object_of_two}
+use Rattle.bson_scalar.specs.Means as means
+use Rattle.bson_scalar.specs.Means.{IsBase64, IsOidText, sorted_text, subtype_of, IsHyphenatedText, Uuid, Names}
+use Rattle.bson_scalar.specs.Means.{Parses}
+use Rattle.bson_scalar.specs.Means.{IsByteText}
 use Rattle.bson_model.specs.Means.{Means, scalar}
 use Rattle.bson_model.specs.Value as model
 use Rattle.bson_tables.proofs.Shapes.{whole, list_of_two, row}
@@ -36,17 +36,17 @@ below_int32_row = row _ _ refl
 
 number_int_row : Means (object_of_one (codes "$numberInt") (tree.string (codes "+007")))
     (model.scalar (kind.int32 (pos 7)))
-unfolding Rattle.bson_wrapper.specs.Reading.int_of
+unfolding Rattle.bson_scalar.specs.Reading.int_of
 number_int_row = row _ _ refl
 
 number_int_minus_row : Means (object_of_one (codes "$numberInt") (tree.string (codes "-1")))
     (model.scalar (kind.int32 (negsuc 0)))
-unfolding Rattle.bson_wrapper.specs.Reading.int_of
+unfolding Rattle.bson_scalar.specs.Reading.int_of
 number_int_minus_row = row _ _ refl
 
 number_long_row : Means (object_of_one (codes "$numberLong") (tree.string (codes "7")))
     (model.scalar (kind.int64 (pos 7)))
-unfolding Rattle.bson_wrapper.specs.Reading.int_of
+unfolding Rattle.bson_scalar.specs.Reading.int_of
 number_long_row = row _ _ refl
 
 abbrev MeansDouble : List ℕ → ℕ → Type 0
@@ -83,7 +83,7 @@ timestamp_row = row _ _ refl
 
 date_millis_row : Means (object_of_one (codes "$date") (object_of_one (codes "$numberLong") (tree.string (codes "5"))))
     (model.scalar (kind.date (pos 5)))
-unfolding Rattle.bson_wrapper.specs.Reading.int_of
+unfolding Rattle.bson_scalar.specs.Reading.int_of
 date_millis_row = row _ _ refl
 
 date_number_row : Means (object_of_one (codes "$date") (whole 5)) (model.scalar (kind.date (pos 5)))

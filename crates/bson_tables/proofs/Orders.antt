@@ -7,17 +7,17 @@ use Rattle.json.specs.Json as json
 use Rattle.serde_json.specs.Data.{Data, float, Members, no_members, member, no_items, item}
 use Rattle.serde_json.specs.Data as tree
 use Rattle.serde_json.specs.Written.{compact_text}
-use Rattle.bson_scalar.specs.Regex.{sorted_text}
-use Rattle.bson_wrapper.specs.Faults.{wrong_shape}
-use Rattle.bson_wrapper.specs.Doubles.{double_tree}
-use Rattle.bson_wrapper.specs.Scalar.{null, boolean, double, text, code, timestamp, regex}
-use Rattle.bson_wrapper.specs.Shapes.{object_of_one, object_of_two}
-use Rattle.bson_wrapper.specs.Written as scalar_tree
-use Rattle.bson_wrapper.specs.declared.form.Doubles.{Doubles}
-use Rattle.bson_wrapper.specs.declared.form.Doubles.TheVariants.{Special, Finite}
-use Rattle.bson_wrapper.specs.TreeText.{tree_text}
-use Rattle.bson_wrapper.specs.declared.form.Form.{Form}
-use Rattle.bson_wrapper.specs.declared.form.Form.TheVariants.{Canonical, Relaxed}
+use Rattle.bson_types.specs.Regex.{sorted_text}
+use Rattle.bson_scalar.specs.Faults.{wrong_shape}
+use Rattle.bson_scalar.specs.Doubles.{double_tree}
+use Rattle.bson_scalar.specs.Scalar.{null, boolean, double, text, code, timestamp, regex}
+use Rattle.bson_scalar.specs.Shapes.{object_of_one, object_of_two}
+use Rattle.bson_scalar.specs.Written as scalar_tree
+use Rattle.bson_scalar.specs.declared.form.Doubles.{Doubles}
+use Rattle.bson_scalar.specs.declared.form.Doubles.TheVariants.{Special, Finite}
+use Rattle.bson_scalar.specs.TreeText.{tree_text}
+use Rattle.bson_scalar.specs.declared.form.Form.{Form}
+use Rattle.bson_scalar.specs.declared.form.Form.TheVariants.{Canonical, Relaxed}
 use Rattle.bson_model.specs.Normal.{normal_form}
 use Rattle.bson_model.specs.Value.{Value, scalar, code_scope, array, document, no_values, value, no_pairs, pair}
 use Rattle.bson_order.specs.Kept.{kept, read_kept}

@@ -2,7 +2,7 @@
 use Rattle.std.proofs.Common.{◌≡◌, ℕ, Ok, Err}
 use Rattle.serde_json.specs.Data.{Data, unsigned, negative, no_items, item, no_members, member}
 use Rattle.serde_json.specs.Data as tree
-use Rattle.bson_wrapper.specs.Faults.{Fault}
+use Rattle.bson_scalar.specs.Faults.{Fault}
 use Rattle.bson_model.specs.Fault.{MeansNothing}
 use Rattle.bson_model.specs.Means.{Means}
 use Rattle.bson_model.specs.Reading.{reads}

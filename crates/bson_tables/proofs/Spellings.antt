@@ -4,15 +4,15 @@ use Rattle.std.specs.Prelude.{codes}
 use Rattle.base64.specs.Decode.{groups_error, groups_bytes, scan_steps}
 use Rattle.hex.specs.Hex.{decode_pairs}
 use Rattle.uuid.specs.Text.{by_index, parsed}
-use Rattle.bson_scalar.specs.Base64.{padded_text}
-use Rattle.bson_scalar.specs.Uuid.{IsUuidText}
-use Rattle.bson_scalar.specs.declared.spec.BinarySubtype.TheVariants.{Generic, Uuid}
-use Rattle.bson_scalar.proofs.Offered.{parsed_from, parsed_to}
+use Rattle.bson_types.specs.Base64.{padded_text}
+use Rattle.bson_types.specs.Uuid.{IsUuidText}
+use Rattle.bson_types.specs.declared.spec.BinarySubtype.TheVariants.{Generic, Uuid}
+use Rattle.bson_types.proofs.Offered.{parsed_from, parsed_to}
 use Rattle.serde_json.specs.Data.{Data}
 use Rattle.serde_json.specs.Data as tree
-use Rattle.bson_wrapper.specs.Faults.{wrong_shape}
-use Rattle.bson_wrapper.specs.Scalar as kind
-use Rattle.bson_wrapper.specs.Shapes.{object_of_one, object_of_two}
+use Rattle.bson_scalar.specs.Faults.{wrong_shape}
+use Rattle.bson_scalar.specs.Scalar as kind
+use Rattle.bson_scalar.specs.Shapes.{object_of_one, object_of_two}
 use Rattle.bson_model.specs.Fault.{fault_of, MeansNothing}
 use Rattle.bson_model.specs.Means.{Means}
 use Rattle.bson_model.specs.Value as model

@@ -11,19 +11,19 @@ use Rattle.bson_decimal.specs.Steps.{cut_at_34, raise_to_least, zeros_to_add, ex
 use Rattle.bson_decimal.specs.Steps.{scaled_exponent, coefficient, stored_pair, finite}
 use Rattle.bson_decimal.specs.Pattern.{normal_decimal}
 use Rattle.bson_decimal.specs.Displayed.{display_text as decimal_text}
-use Rattle.bson_wrapper.specs.Reading.{decimal_of}
-use Rattle.bson_wrapper.specs.Scalar as kind
-use Rattle.bson_wrapper.specs.Shapes.{object_of_one, object_of_two}
-use Rattle.bson_wrapper.specs.declared.form.Form.{Form}
+use Rattle.bson_scalar.specs.Reading.{decimal_of}
+use Rattle.bson_scalar.specs.Scalar as kind
+use Rattle.bson_scalar.specs.Shapes.{object_of_one, object_of_two}
+use Rattle.bson_scalar.specs.declared.form.Form.{Form}
 use Rattle.bson_model.specs.Means.{Means}
 use Rattle.bson_model.specs.Value as model
 use Rattle.bson_model.specs.Normal.{normal_form}
 use Rattle.bson_model.specs.Written.{Written}
 use Rattle.bson_model.proofs.Offered.{canon_from}
-use Rattle.bson_scalar.specs.declared.spec.BinarySubtype.TheVariants.{Generic, Function, BinaryOld, UuidOld, Uuid, Md5}
-use Rattle.bson_scalar.specs.declared.spec.BinarySubtype.TheVariants.{Encrypted, Column, Sensitive, Vector, Reserved}
-use Rattle.bson_scalar.specs.declared.spec.BinarySubtype.TheVariants.{UserDefined}
-use Rattle.bson_scalar.specs.Subtype.{subtype_byte, subtype_of}
+use Rattle.bson_types.specs.declared.spec.BinarySubtype.TheVariants.{Generic, Function, BinaryOld, UuidOld, Uuid, Md5}
+use Rattle.bson_types.specs.declared.spec.BinarySubtype.TheVariants.{Encrypted, Column, Sensitive, Vector, Reserved}
+use Rattle.bson_types.specs.declared.spec.BinarySubtype.TheVariants.{UserDefined}
+use Rattle.bson_types.specs.Subtype.{subtype_byte, subtype_of}
 use Rattle.serde_json.specs.Data as tree
 use Rattle.bson_tables.proofs.Shapes.{row}
 

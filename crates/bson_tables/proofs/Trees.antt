@@ -3,17 +3,17 @@ use Rattle.std.proofs.Common.{ℕ, ℤ, pos, negsuc, List, [], ◌∷◌, true, 
 use Rattle.std.specs.Prelude.{codes}
 use Rattle.serde_json.specs.Data.{Data, negative}
 use Rattle.serde_json.specs.Data as tree
-use Rattle.bson_wrapper.specs.Scalar as kind
-use Rattle.bson_wrapper.specs.Shapes.{object_of_one, object_of_two}
+use Rattle.bson_scalar.specs.Scalar as kind
+use Rattle.bson_scalar.specs.Shapes.{object_of_one, object_of_two}
 use Rattle.std.specs.Fmt.{signed_decimal}
 use Rattle.hex.specs.Hex.{encode_lower}
 use Rattle.bson_datetime.specs.Displayed.{rfc}
 use Rattle.bson_decimal.specs.Displayed.{display_text as decimal_text}
-use Rattle.bson_scalar.specs.Base64.{padded_text}
-use Rattle.bson_scalar.specs.Regex.{sorted_text}
-use Rattle.bson_scalar.specs.declared.spec.BinarySubtype.TheVariants.{Generic}
-use Rattle.bson_wrapper.specs.declared.form.Form.{Form}
-use Rattle.bson_wrapper.specs.declared.form.Form.TheVariants.{Canonical, Relaxed}
+use Rattle.bson_types.specs.Base64.{padded_text}
+use Rattle.bson_types.specs.Regex.{sorted_text}
+use Rattle.bson_types.specs.declared.spec.BinarySubtype.TheVariants.{Generic}
+use Rattle.bson_scalar.specs.declared.form.Form.{Form}
+use Rattle.bson_scalar.specs.declared.form.Form.TheVariants.{Canonical, Relaxed}
 use Rattle.bson_model.specs.Value as model
 use Rattle.bson_model.specs.Normal.{normal_form}
 use Rattle.bson_model.specs.Written.{Written}

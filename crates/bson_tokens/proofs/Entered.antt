@@ -7,7 +7,7 @@ use Rattle.std.specs.declared.cmp.Ordering.TheVariants.{Less, Equal, Greater}
 use Rattle.std.specs.BTreeMap.{insert_entry, is_at}
 use Rattle.std.specs.Map.{remove_entry}
 use Rattle.bson_place.specs.Place.{Turn}
-use Rattle.bson_wrapper.specs.Faults.{Fault}
+use Rattle.bson_scalar.specs.Faults.{Fault}
 use Rattle.bson_tokens.specs.Found.{Faults, Verdict, insert, remove, enter}
 use Rattle.bson_tokens.specs.Told.{AreTold, IsKept, Kept, Entry}
 

@@ -8,7 +8,7 @@ use Rattle.std.proofs.lemmas.Cmp.{nat_list_cmp_total}
 use Rattle.serde_json.specs.Data.{Data, Members, no_members, member, put}
 use Rattle.bson_model.proofs.Offered.{equal_keys}
 use Rattle.bson_model.specs.Texts.{Ascends, IsBelow}
-use Rattle.bson_wrapper.specs.declared.form.Doubles.{Doubles}
+use Rattle.bson_scalar.specs.declared.form.Doubles.{Doubles}
 use Rattle.bson_place.specs.Place.{key}
 use Rattle.bson_tokens.specs.Found.{Verdict, found, found_members, faults, Faults, onto, least, enter}
 use Rattle.bson_tokens.specs.Found.{or, within}

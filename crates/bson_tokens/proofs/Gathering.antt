@@ -5,7 +5,7 @@ use Rattle.json.specs.Json.{read_key, value, members}
 use Rattle.json.proofs.Grammar.{read_key-shorter}
 use Rattle.serde_json.specs.Data.{Data, Members, no_members, object, put}
 use Rattle.serde_json.specs.Read.{of_json, of_members, converted}
-use Rattle.bson_wrapper.specs.declared.form.Doubles.{Doubles}
+use Rattle.bson_scalar.specs.declared.form.Doubles.{Doubles}
 use Rattle.bson_tokens.specs.Parts.{MembersAre, NoMembers}
 use Rattle.bson_tokens.specs.Found.{found}
 use Rattle.bson_tokens.specs.Told.{Finds, ObjectFinds}

@@ -8,8 +8,8 @@ use Rattle.std.specs.Cmp.Lexicographic.{slice_cmp}
 use Rattle.std.specs.Ordering.{match_ordering}
 use Rattle.std.specs.Prelude.{is_some}
 use Rattle.serde_json.specs.Data.{Data, Members, no_members, member, object, put}
-use Rattle.bson_wrapper.specs.Table.{wrapper_of, has_wrapper}
-use Rattle.bson_wrapper.specs.declared.form.Doubles.{Doubles}
+use Rattle.bson_scalar.specs.Table.{wrapper_of, has_wrapper}
+use Rattle.bson_scalar.specs.declared.form.Doubles.{Doubles}
 use Rattle.bson_model.proofs.Offered.{equal_keys}
 use Rattle.bson_tokens.specs.Found.{found, found_wrapper, found_members, here}
 use Rattle.bson_tokens.specs.Keys.{any_key, is_wrapper, is_code, is_scope}

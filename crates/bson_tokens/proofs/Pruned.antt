@@ -10,18 +10,18 @@ use Rattle.serde_json.specs.Data as tree
 use Rattle.serde_json.specs.View.{members_view}
 use Rattle.serde_json.specs.declared.value.Value.{Value}
 use Rattle.serde_json.specs.Find.{as_i64, as_str, as_number}
-use Rattle.bson_wrapper.specs.Faults.{Fault, wrong_shape, ◌>>=◌, or_wrong_shape}
-use Rattle.bson_wrapper.specs.Reading.{single_in, single_at_in, lone_member, two_members, on_text, on_lone, on_two}
-use Rattle.bson_wrapper.specs.Reading.{millis_of, is_one}
-use Rattle.bson_wrapper.specs.Reading.{one_read, undefined_read}
-use Rattle.bson_wrapper.specs.Scalar.{Scalar, date, min_key, max_key}
-use Rattle.bson_wrapper.specs.Shapes.{whole, u32_at, small_number}
-use Rattle.bson_wrapper.specs.declared.wrapper.Wrapper.{Wrapper}
-use Rattle.bson_wrapper.specs.declared.wrapper.Wrapper.TheVariants.{Oid, Symbol, RegularExpression, NumberInt}
-use Rattle.bson_wrapper.specs.declared.wrapper.Wrapper.TheVariants.{NumberLong, NumberDouble, NumberDecimal, Binary}
-use Rattle.bson_wrapper.specs.declared.wrapper.Wrapper.TheVariants.{Uuid, Code, Timestamp, Date, MinKey, MaxKey}
-use Rattle.bson_wrapper.specs.declared.wrapper.Wrapper.TheVariants.{DbPointer, Undefined}
-use Rattle.bson_wrapper.specs.declared.form.Doubles.{Doubles}
+use Rattle.bson_scalar.specs.Faults.{Fault, wrong_shape, ◌>>=◌, or_wrong_shape}
+use Rattle.bson_scalar.specs.Reading.{single_in, single_at_in, lone_member, two_members, on_text, on_lone, on_two}
+use Rattle.bson_scalar.specs.Reading.{millis_of, is_one}
+use Rattle.bson_scalar.specs.Reading.{one_read, undefined_read}
+use Rattle.bson_scalar.specs.Scalar.{Scalar, date, min_key, max_key}
+use Rattle.bson_scalar.specs.Shapes.{whole, u32_at, small_number}
+use Rattle.bson_scalar.specs.declared.wrapper.Wrapper.{Wrapper}
+use Rattle.bson_scalar.specs.declared.wrapper.Wrapper.TheVariants.{Oid, Symbol, RegularExpression, NumberInt}
+use Rattle.bson_scalar.specs.declared.wrapper.Wrapper.TheVariants.{NumberLong, NumberDouble, NumberDecimal, Binary}
+use Rattle.bson_scalar.specs.declared.wrapper.Wrapper.TheVariants.{Uuid, Code, Timestamp, Date, MinKey, MaxKey}
+use Rattle.bson_scalar.specs.declared.wrapper.Wrapper.TheVariants.{DbPointer, Undefined}
+use Rattle.bson_scalar.specs.declared.form.Doubles.{Doubles}
 use Rattle.bson_tokens.specs.Held.{StandsFor, few, or_empty, pruned, pruned_members, kept_of, entered}
 
 -- ---- one more member

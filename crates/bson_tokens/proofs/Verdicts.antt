@@ -2,8 +2,8 @@
 use Rattle.std.proofs.Common.{◌≡◌, ℕ, List, [], ◌∷◌, ◌++◌, Option, Some, None, refl, sym, ap, ◌∙◌, subst, Bor}
 use Rattle.std.specs.Prelude.{MatchOption, Ok}
 use Rattle.serde_json.specs.Data.{Data}
-use Rattle.bson_wrapper.specs.Faults.{Fault, wrong_shape}
-use Rattle.bson_wrapper.specs.declared.form.Doubles.{Doubles}
+use Rattle.bson_scalar.specs.Faults.{Fault, wrong_shape}
+use Rattle.bson_scalar.specs.declared.form.Doubles.{Doubles}
 use Rattle.bson_place.specs.Place.{Turn, key, FaultAtIn, HasValueIn, IsFirstFaultIn, IsPlace, IsReason, way_of}
 use Rattle.bson_place.specs.declared.place.Place.{Place}
 use Rattle.bson_place.proofs.Offered.{one_fault, one_way, first_found, fault_to}

@@ -12,9 +12,9 @@ use Rattle.serde_json.specs.Data.{Data, Members, no_members, member, object, put
 use Rattle.serde_json.specs.Data as tree
 use Rattle.serde_json.specs.Read.{of_json, converted}
 use Rattle.serde_json.specs.Find.{as_str}
-use Rattle.bson_wrapper.specs.Table.{wrapper_of}
-use Rattle.bson_wrapper.specs.declared.form.Doubles.{Doubles}
-use Rattle.bson_wrapper.specs.Reading.{single_at_in}
+use Rattle.bson_scalar.specs.Table.{wrapper_of}
+use Rattle.bson_scalar.specs.declared.form.Doubles.{Doubles}
+use Rattle.bson_scalar.specs.Reading.{single_at_in}
 use Rattle.bson_place.specs.Place.{key}
 use Rattle.bson_place.specs.declared.place.Place.{Place}
 use Rattle.bson_tokens.specs.Found.{Verdict, found, found_wrapper, found_members, found_scope, here, of_code, of_scalar, within}

@@ -4,9 +4,9 @@ use Rattle.json.specs.Token.{Token}
 use Rattle.serde_json.specs.Data.{Data, Items, no_items, Members, no_members, member, put}
 use Rattle.serde_json.specs.Data as tree
 use Rattle.serde_json.specs.Find.{as_str}
-use Rattle.bson_wrapper.specs.Reading.{single_at_in}
-use Rattle.bson_wrapper.specs.declared.form.Doubles.{Doubles}
-use Rattle.bson_wrapper.specs.declared.wrapper.Wrapper.{Wrapper}
+use Rattle.bson_scalar.specs.Reading.{single_at_in}
+use Rattle.bson_scalar.specs.declared.form.Doubles.{Doubles}
+use Rattle.bson_scalar.specs.declared.wrapper.Wrapper.{Wrapper}
 
 -- each wrapper reads of d what it reads of t, also why it reads nothing
 abbrev pub StandsFor : Data → Data → Type 0

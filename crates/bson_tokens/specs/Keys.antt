@@ -2,7 +2,7 @@
 use Rattle.std.specs.Prelude.{ℕ, List, Bool, false, ◌||◌, codes, is_some}
 use Rattle.std.specs.Str.{bytes_eq}
 use Rattle.serde_json.specs.Data.{Members, no_members, member}
-use Rattle.bson_wrapper.specs.Table.{wrapper_of}
+use Rattle.bson_scalar.specs.Table.{wrapper_of}
 
 -- some member's key is of the kind
 abbrev pub any_key : (List ℕ → Bool) → Members → Bool

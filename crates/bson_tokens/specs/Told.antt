@@ -1,9 +1,9 @@
 -- What a walk's answer tells of what was read.
 use Rattle.std.specs.Prelude.{◌≡◌, ℕ, List, [], ◌∷◌, Option, Some, None, MatchOption, Box}
 use Rattle.std.specs.declared.alloc.Global.{Global}
-use Rattle.bson_wrapper.specs.Faults.{wrong_shape}
-use Rattle.bson_wrapper.specs.declared.form.Doubles.{Doubles}
-use Rattle.bson_wrapper.specs.declared.form.Doubles.TheVariants.{Special}
+use Rattle.bson_scalar.specs.Faults.{wrong_shape}
+use Rattle.bson_scalar.specs.declared.form.Doubles.{Doubles}
+use Rattle.bson_scalar.specs.declared.form.Doubles.TheVariants.{Special}
 use Rattle.std.specs.Borrow.{Bor}
 use Rattle.json.specs.Token.{Token}
 use Rattle.serde_json.specs.Data.{Data, Num, Members, no_members, object}

@@ -1,6 +1,6 @@
 //! The faulty members of an object.
 ghost use Rattle.std.specs.Prelude.{IfOk, OnOk, IsTrue, ◌++◌, ◌∷◌, [], ◌≡◌, Some};
-ghost use Rattle.bson_wrapper.specs.Faults.{Fault, wrong_shape};
+ghost use Rattle.bson_scalar.specs.Faults.{Fault, wrong_shape};
 ghost use Rattle.bson_place.specs.Place.{way_of, turn_of, IsPlace, IsReason};
 ghost use Rattle.bson_tokens.specs.Found.{Faults, Verdict, enter, least};
 ghost use Rattle.bson_tokens.specs.Told.{Tells, AreTold, IsKept};

@@ -3,17 +3,17 @@ use bson::extjson::{Form, Options};
 use bson_codec::de::DEPTH;
 use bson_codec::from_slice;
 use bson_convert::convert::convert;
-use bson_run::encode::{encode_in_order, encode_with};
 use bson_convert::fault::Fault;
+use bson_convert::mode::{Mode, mode_of};
+use bson_convert::value::value_of;
+use bson_run::encode::{encode_in_order, encode_with};
 use bson_run::in_order::convert_in_order;
 use bson_run::indent::indented;
 use bson_run::indented::{convert_in_order_indented, convert_indented};
 use bson_run::lines::run_lines;
-use bson_convert::mode::{Mode, mode_of};
 use bson_run::order::{OnRefusal, Taking, Task, Work};
 use bson_run::stop::Stop;
 use bson_run::taken::taken;
-use bson_convert::value::value_of;
 use std::alloc::Global;
 
 pub(crate) fn print(rt: &impl Print, alloc: Global) -> anyhow::Result<()> {

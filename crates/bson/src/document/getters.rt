@@ -6,10 +6,10 @@
 use crate::bson::Array;
 use crate::document::Document;
 use crate::kinds::Kind;
-use bson_scalar::datetime::DateTime;
-use bson_scalar::decimal128::Decimal128;
-use bson_scalar::oid::ObjectId;
-use bson_scalar::timestamp::Timestamp;
+use bson_types::datetime::DateTime;
+use bson_types::decimal128::Decimal128;
+use bson_types::oid::ObjectId;
+use bson_types::timestamp::Timestamp;
 
 /// Why a typed getter has no value to give.
 ///

@@ -1,8 +1,8 @@
 //! What the calls `.._with` and `.._in_order` take beside the form.
 ghost use Rattle.std.specs.Prelude.{◌≡◌};
-ghost use Rattle.bson_wrapper.specs.declared.form.Doubles.TheVariants.{Special};
+ghost use Rattle.bson_scalar.specs.declared.form.Doubles.TheVariants.{Special};
 
-use bson_wrapper::form::Doubles;
+use bson_scalar::form::Doubles;
 
 /// How Extended JSON is read, written and converted by the calls whose names end in `_with` or
 /// `_in_order`. The default is what the calls without an options value do.

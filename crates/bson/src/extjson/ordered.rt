@@ -1,7 +1,7 @@
 //! Texts in the order that each document has its keys in.
 ghost use Rattle.std.specs.Prelude.{◌≡◌, IfOk, OnOk, Err, true, false, string_bytes};
-ghost use Rattle.bson_wrapper.specs.declared.form.Doubles.TheVariants.{Finite};
-ghost use Rattle.bson_wrapper.specs.declared.write_error.WriteError.{WriteError};
+ghost use Rattle.bson_scalar.specs.declared.form.Doubles.TheVariants.{Finite};
+ghost use Rattle.bson_scalar.specs.declared.write_error.WriteError.{WriteError};
 ghost use Rattle.bson_model.specs.Normal.{InRange, writable_in};
 ghost use Rattle.bson_order.specs.Distinct.{AllDistinct};
 ghost use Rattle.bson.specs.Texts.{IsTextInOrder};
@@ -11,8 +11,8 @@ use crate::bson::Bson;
 use crate::extjson::key_order::KeyOrder;
 use crate::extjson::options::Options;
 use crate::extjson::text::text_of;
-use bson_wrapper::form::Form;
-use bson_wrapper::write_error::WriteError;
+use bson_scalar::form::Form;
+use bson_scalar::write_error::WriteError;
 use std::alloc::Global;
 
 impl Bson {

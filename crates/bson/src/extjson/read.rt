@@ -3,25 +3,25 @@ ghost use Rattle.serde_json.specs.View.{view, number_view, items_view, members_v
 ghost use Rattle.serde_json.specs.Data.{object};
 ghost use Rattle.std.specs.Prelude.{◌≡◌, IfOk, string_bytes};
 ghost use Rattle.bson_model.specs.Value.{code_scope};
-ghost use Rattle.bson_wrapper.specs.Faults.{Gives};
+ghost use Rattle.bson_scalar.specs.Faults.{Gives};
 ghost use Rattle.bson_model.specs.Reading.{scalar_value, reads_in, reads_items_in, reads_members_in};
 ghost use Rattle.bson_model.specs.Reading.{reads_wrapper_in, reads_scope_in, scope_value, code_at};
 ghost use Rattle.bson_model.specs.Normal.{InRange, ItemsInRange, PairsInRange};
-ghost use Rattle.bson_wrapper.specs.Reading.{number_read_in, single_at_in};
-ghost use Rattle.bson_wrapper.specs.Table.{wrapper_of};
+ghost use Rattle.bson_scalar.specs.Reading.{number_read_in, single_at_in};
+ghost use Rattle.bson_scalar.specs.Table.{wrapper_of};
 ghost use Rattle.bson.specs.View.{bson_view, document_view, values_view};
 
 use crate::bson::{Bson, JavaScriptCodeWithScope};
 use crate::document::Document;
 use crate::extjson::scalars::of_scalar;
 use bson_place::shape::{CODE, SCOPE, beside_others, first_wrapper};
+use bson_scalar::code::is_code_with_scope;
+use bson_scalar::doubles::read_number;
+use bson_scalar::error::Error;
+use bson_scalar::form::Doubles;
+use bson_scalar::read::read_single_in;
+use bson_scalar::wrapper::Wrapper;
 use bson_store::{PairStore, SmallPairs};
-use bson_wrapper::code::is_code_with_scope;
-use bson_wrapper::doubles::read_number;
-use bson_wrapper::error::Error;
-use bson_wrapper::form::Doubles;
-use bson_wrapper::read::read_single_in;
-use bson_wrapper::wrapper::Wrapper;
 use serde_json::{Map, Number, Value};
 use std::alloc::Global;
 

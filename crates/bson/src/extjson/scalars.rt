@@ -1,23 +1,23 @@
 //! Scalars as values and values as scalars.
 ghost use Rattle.std.specs.Prelude.{◌≡◌, ◌<◌, true, IfOk};
-ghost use Rattle.bson_wrapper.specs.Normal.{writable_scalar_in};
-ghost use Rattle.bson_wrapper.specs.View.{scalar_view};
-ghost use Rattle.bson_wrapper.specs.declared.form.Doubles.TheVariants.{Finite};
+ghost use Rattle.bson_scalar.specs.Normal.{writable_scalar_in};
+ghost use Rattle.bson_scalar.specs.View.{scalar_view};
+ghost use Rattle.bson_scalar.specs.declared.form.Doubles.TheVariants.{Finite};
 ghost use Rattle.bson_model.specs.Normal.{InRange};
-ghost use Rattle.bson_scalar.specs.DbPointer.{id_of};
-ghost use Rattle.bson_scalar.specs.Oid.{IsBytes, IsObjectId};
-ghost use Rattle.bson_scalar.specs.Subtype.{subtype_byte};
+ghost use Rattle.bson_types.specs.DbPointer.{id_of};
+ghost use Rattle.bson_types.specs.Oid.{IsBytes, IsObjectId};
+ghost use Rattle.bson_types.specs.Subtype.{subtype_byte};
 ghost use Rattle.bson_model.specs.Value.{scalar};
 ghost use Rattle.bson.specs.IsScalar.{IsScalar};
 ghost use Rattle.bson.specs.View.{bson_view};
 
 use crate::bson::Bson;
 use crate::scalar::scalar_ref;
-use bson_scalar::binary::Binary;
-use bson_scalar::db_pointer::DbPointer;
-use bson_scalar::oid::ObjectId;
-use bson_scalar::spec::BinarySubtype;
-use bson_wrapper::scalar::Scalar;
+use bson_scalar::scalar::Scalar;
+use bson_types::binary::Binary;
+use bson_types::db_pointer::DbPointer;
+use bson_types::oid::ObjectId;
+use bson_types::spec::BinarySubtype;
 use std::alloc::{AllocError, Global};
 
 pub(crate) fn of_scalar(value: Scalar) -> Bson

@@ -1,9 +1,9 @@
 //! Trees and texts from values.
 ghost use Rattle.std.specs.Prelude.{◌≡◌, IfOk, IfErr, OnOk, Err, true, false, string_bytes};
 ghost use Rattle.serde_json.specs.View.{view};
-ghost use Rattle.bson_wrapper.specs.declared.form.Doubles.TheVariants.{Finite};
-ghost use Rattle.bson_wrapper.specs.declared.form.Form.TheVariants.{Canonical, Relaxed};
-ghost use Rattle.bson_wrapper.specs.declared.write_error.WriteError.{WriteError};
+ghost use Rattle.bson_scalar.specs.declared.form.Doubles.TheVariants.{Finite};
+ghost use Rattle.bson_scalar.specs.declared.form.Form.TheVariants.{Canonical, Relaxed};
+ghost use Rattle.bson_scalar.specs.declared.write_error.WriteError.{WriteError};
 ghost use Rattle.bson_model.specs.Texts.{ReadsAgain, ReadsAgainIn};
 ghost use Rattle.bson_model.specs.Normal.{InRange, writable, writable_in};
 ghost use Rattle.bson_model.specs.Laws.{IsTreeOf, IsTreeOfIn, FormsAreIdempotent, FormsAreIdempotentIn};
@@ -15,8 +15,8 @@ use crate::extjson::key_order::KeyOrder;
 use crate::extjson::options::Options;
 use crate::extjson::text::text_of;
 use crate::extjson::write::write;
-use bson_wrapper::form::{Doubles, Form};
-use bson_wrapper::write_error::WriteError;
+use bson_scalar::form::{Doubles, Form};
+use bson_scalar::write_error::WriteError;
 use serde_json::Value;
 use std::alloc::Global;
 

@@ -15,12 +15,12 @@ use crate::document::Document;
 use crate::extjson::key_order::KeyOrder;
 use crate::extjson::scalars::can_be_written;
 use crate::scalar::scalar_ref;
+use bson_scalar::code::put_code;
+use bson_scalar::form::{Doubles, Form};
+use bson_scalar::scalar::Scalar;
+use bson_scalar::write::{print_scalar_in, put_binary};
+use bson_scalar::write_error::WriteError;
 use bson_store::small::Iter;
-use bson_wrapper::code::put_code;
-use bson_wrapper::form::{Doubles, Form};
-use bson_wrapper::scalar::Scalar;
-use bson_wrapper::write::{print_scalar_in, put_binary};
-use bson_wrapper::write_error::WriteError;
 use json::Writer;
 use std::alloc::{AllocError, Global};
 

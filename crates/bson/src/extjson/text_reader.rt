@@ -31,9 +31,9 @@ use crate::extjson::key_order::KeyOrder;
 use crate::extjson::options::Options;
 use crate::extjson::text_error::TextError;
 use crate::extjson::text_reader::straight::read_value;
+use bson_scalar::form::Doubles;
 use bson_tokens::unread::Unread;
 use bson_tokens::walk::first_fault_in;
-use bson_wrapper::form::Doubles;
 use json::{Reader, Scratch};
 use std::alloc::Global;
 

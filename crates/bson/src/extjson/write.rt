@@ -1,7 +1,7 @@
 //! The writer of both forms.
 ghost use Rattle.std.specs.Prelude.{IfErr, OnOk};
 ghost use Rattle.serde_json.specs.View.{view, items_view, members_view};
-ghost use Rattle.bson_wrapper.specs.Written.{Writes};
+ghost use Rattle.bson_scalar.specs.Written.{Writes};
 ghost use Rattle.bson_model.specs.Normal.{InRange, ItemsInRange, PairsInRange};
 ghost use Rattle.bson_model.specs.Writing.{writes_in, writes_items_in, writes_pairs_in};
 ghost use Rattle.bson.specs.Texts.{MayStop};
@@ -10,10 +10,10 @@ ghost use Rattle.bson.specs.View.{bson_view, scoped_view, document_view, values_
 use crate::bson::{Bson, JavaScriptCodeWithScope};
 use crate::document::Document;
 use crate::extjson::scalars::{can_be_written, to_scalar};
-use bson_wrapper::code::wrapped_code;
-use bson_wrapper::form::{Doubles, Form};
-use bson_wrapper::write::write_scalar_in;
-use bson_wrapper::write_error::WriteError;
+use bson_scalar::code::wrapped_code;
+use bson_scalar::form::{Doubles, Form};
+use bson_scalar::write::write_scalar_in;
+use bson_scalar::write_error::WriteError;
 use serde_json::{Map, Value};
 use std::alloc::Global;
 

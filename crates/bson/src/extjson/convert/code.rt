@@ -8,8 +8,8 @@ ghost use Rattle.bson.specs.Converted.{ScopeConverted, WrapperConverted};
 use crate::bson::Bson;
 use crate::extjson::convert::output::{Output, put_byte, put_code, put_value};
 use crate::extjson::convert::{Unconverted, convert_object};
-use bson_wrapper::code::is_scope;
-use bson_wrapper::form::{Doubles, Form};
+use bson_scalar::code::is_scope;
+use bson_scalar::form::{Doubles, Form};
 use json::{Reader, Token};
 use std::alloc::Global;
 

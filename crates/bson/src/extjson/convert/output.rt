@@ -3,15 +3,15 @@ ghost use Rattle.std.specs.Prelude.{◌≡◌, ◌∷◌, ◌++◌, [], true, On
 ghost use Rattle.std.specs.Str.{IsUtf8};
 ghost use Rattle.json.specs.Print.{quoted, print};
 ghost use Rattle.serde_json.specs.Written.{comma_if};
-ghost use Rattle.bson_wrapper.specs.Tokens.{code_tokens};
+ghost use Rattle.bson_scalar.specs.Tokens.{code_tokens};
 ghost use Rattle.bson_model.specs.Normal.{writable_in};
 ghost use Rattle.bson.specs.Converted.{IsBehind};
 ghost use Rattle.bson.specs.View.{bson_view};
 
 use crate::bson::Bson;
 use crate::extjson::text::print_read;
-use bson_wrapper::code;
-use bson_wrapper::form::{Doubles, Form};
+use bson_scalar::code;
+use bson_scalar::form::{Doubles, Form};
 use json::Writer;
 use std::alloc::{AllocError, Global};
 use std::mem::replace;

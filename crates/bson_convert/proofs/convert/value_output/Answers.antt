@@ -1,5 +1,5 @@
 use Rattle.std.proofs.Common.{IfOk, string_bytes, sym, ◌∙◌, subst}
-use Rattle.bson_wrapper.specs.declared.form.Form.TheVariants as form
+use Rattle.bson_scalar.specs.declared.form.Form.TheVariants as form
 use Rattle.bson.specs.Texts.{IsTextUnder}
 use Rattle.bson.specs.View.{bson_view}
 use Rattle.bson_convert.proofs.Converting.{line_written}

@@ -11,7 +11,7 @@ use Rattle.serde_json.specs.Data as tree
 use Rattle.serde_json.specs.Read.{converted}
 use Rattle.serde_json.specs.View.{view}
 use Rattle.serde_json.specs.declared.value.Value.{String, the_lemmas}
-use Rattle.bson_wrapper.specs.Table.{wrapper_of}
+use Rattle.bson_scalar.specs.Table.{wrapper_of}
 use Rattle.bson_order.specs.Kept.{kept}
 use Rattle.bson_filter.specs.Walked.{TreeMeans, ItemsWritten}
 use Rattle.bson_filter.proofs.Walking.{items_begun, item_passed, items_passed, members_begun}

@@ -1,4 +1,4 @@
-use Rattle.bson_wrapper.specs.declared.form.Doubles.TheVariants.{Special}
+use Rattle.bson_scalar.specs.declared.form.Doubles.TheVariants.{Special}
 use Rattle.bson_model.proofs.RangeLaws.{in_range}
 use Rattle.bson_model.proofs.laws.means_in_range.Goals as goal
 

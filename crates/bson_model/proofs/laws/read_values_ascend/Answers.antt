@@ -1,4 +1,4 @@
-use Rattle.bson_wrapper.specs.declared.form.Doubles.TheVariants.{Special}
+use Rattle.bson_scalar.specs.declared.form.Doubles.TheVariants.{Special}
 use Rattle.bson_model.proofs.Ascending.{is_sorted}
 use Rattle.bson_model.proofs.laws.read_values_ascend.Goals as goal
 

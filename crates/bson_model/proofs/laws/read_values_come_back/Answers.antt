@@ -1,4 +1,4 @@
-use Rattle.bson_wrapper.specs.declared.form.Doubles.TheVariants.{Special}
+use Rattle.bson_scalar.specs.declared.form.Doubles.TheVariants.{Special}
 use Rattle.bson_model.proofs.ComesBack.{read_comes_back}
 use Rattle.bson_model.proofs.laws.read_values_come_back.Goals as goal
 

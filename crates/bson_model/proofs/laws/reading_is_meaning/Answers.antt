@@ -1,4 +1,4 @@
-use Rattle.bson_wrapper.specs.declared.form.Doubles.TheVariants.{Special}
+use Rattle.bson_scalar.specs.declared.form.Doubles.TheVariants.{Special}
 use Rattle.bson_model.proofs.MeansLaws.{means_from, means_to}
 use Rattle.bson_model.proofs.laws.reading_is_meaning.Goals as goal
 

@@ -1,4 +1,4 @@
-use Rattle.bson_wrapper.specs.declared.form.Doubles.TheVariants.{Special}
+use Rattle.bson_scalar.specs.declared.form.Doubles.TheVariants.{Special}
 use Rattle.bson_model.proofs.ComesBack.{comes_back}
 use Rattle.bson_model.proofs.laws.values_come_back.Goals as goal
 

@@ -1,4 +1,4 @@
-use Rattle.bson_wrapper.specs.declared.form.Doubles.TheVariants.{Special}
+use Rattle.bson_scalar.specs.declared.form.Doubles.TheVariants.{Special}
 use Rattle.bson_place.proofs.Everywhere.{has_fault}
 use Rattle.bson_place.proofs.laws.faults_have_places.Goals as goal
 

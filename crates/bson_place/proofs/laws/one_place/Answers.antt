@@ -1,4 +1,4 @@
-use Rattle.bson_wrapper.specs.declared.form.Doubles.TheVariants.{Special}
+use Rattle.bson_scalar.specs.declared.form.Doubles.TheVariants.{Special}
 use Rattle.bson_place.proofs.Agrees.{means_nothing, one_fault, one_way}
 use Rattle.bson_place.proofs.laws.one_place.Goals as goal
 

@@ -1,4 +1,4 @@
-use Rattle.bson_wrapper.specs.declared.form.Doubles.TheVariants.{Special}
+use Rattle.bson_scalar.specs.declared.form.Doubles.TheVariants.{Special}
 use Rattle.bson_place.proofs.Agrees.{fault_to}
 use Rattle.bson_place.proofs.laws.placed_fault_is_read.Goals as goal
 

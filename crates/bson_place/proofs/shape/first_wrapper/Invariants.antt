@@ -1,5 +1,5 @@
 use Rattle.std.proofs.Common.{◌≡◌}
-use Rattle.bson_wrapper.specs.Table.{has_wrapper}
+use Rattle.bson_scalar.specs.Table.{has_wrapper}
 use Rattle.serde_json.specs.View.{members_view}
 use Rattle.bson_place.specs.Shape.{wrapper_in}
 use Rattle.bson_place.proofs.shape.first_wrapper.Given as goal

@@ -5,8 +5,8 @@ use Rattle.std.specs.Prelude.{is_some, IfOk, MatchOption, true}
 use Rattle.std.proofs.lemmas.Bool.{and_parts}
 use Rattle.std.proofs.lemmas.Slice.Eq.{bytes_eq-Decides}
 use Rattle.serde_json.specs.Data.{object}
-use Rattle.bson_wrapper.specs.Faults.{wrong_shape}
-use Rattle.bson_wrapper.specs.Table.{has_wrapper}
+use Rattle.bson_scalar.specs.Faults.{wrong_shape}
+use Rattle.bson_scalar.specs.Table.{has_wrapper}
 use Rattle.std.proofs.lemmas.List.{drop_all, drop_more}
 use Rattle.serde_json.specs.View.{view, items_view, members_view}
 use Rattle.serde_json.specs.declared.value.Value.{Value}

@@ -1,8 +1,8 @@
 use Rattle.std.proofs.Common.{sym, ap, ◌∙◌}
 use Rattle.serde_json.specs.View.{view}
-use Rattle.bson_wrapper.specs.View.{scalar_view}
-use Rattle.bson_wrapper.specs.Reading.{single_at_in}
-use Rattle.bson_wrapper.specs.Table.{wrapper_of}
+use Rattle.bson_scalar.specs.View.{scalar_view}
+use Rattle.bson_scalar.specs.Reading.{single_at_in}
+use Rattle.bson_scalar.specs.Table.{wrapper_of}
 use Rattle.bson_place.proofs.Steps.{lone_value, lone_place}
 use Rattle.bson_place.proofs.walk.of_lone.Goals as goal
 

@@ -1,6 +1,6 @@
 use Rattle.serde_json.specs.View.{number_view}
-use Rattle.bson_wrapper.specs.Reading.{number_read_in}
-use Rattle.bson_wrapper.specs.View.{scalar_view}
+use Rattle.bson_scalar.specs.Reading.{number_read_in}
+use Rattle.bson_scalar.specs.View.{scalar_view}
 use Rattle.bson_place.proofs.Steps.{number_value, number_place}
 use Rattle.bson_place.proofs.walk.of_number.Goals as goal
 

@@ -1,5 +1,5 @@
 use Rattle.std.proofs.Common.{refl, subst}
-use Rattle.bson_wrapper.specs.Faults.{wrong_shape, wrong_id, Fails}
+use Rattle.bson_scalar.specs.Faults.{wrong_shape, wrong_id, Fails}
 use Rattle.bson_place.proofs.walk.reason_of.Goals as goal
 
 pub returns-in-InvalidObjectId : goal.returns-in-InvalidObjectId

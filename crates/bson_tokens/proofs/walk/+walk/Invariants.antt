@@ -2,7 +2,7 @@ use Rattle.std.proofs.Common.{◌≡◌, ◌+◌, ◌*◌, length, is_some, true
 use Rattle.serde_json.specs.Data.{Items, Members, no_members}
 use Rattle.serde_json.specs.View.{view}
 use Rattle.bson_model.specs.Texts.{Ascends}
-use Rattle.bson_wrapper.specs.Table.{has_wrapper}
+use Rattle.bson_scalar.specs.Table.{has_wrapper}
 use Rattle.bson_tokens.specs.Found.{Verdict, found_items, or, faults}
 use Rattle.bson_tokens.specs.Told.{Tells, AreTold}
 use Rattle.bson_tokens.proofs.Elements.{Lists}

@@ -1,5 +1,5 @@
 use Rattle.std.proofs.Common.{sym, ◌∙◌}
-use Rattle.bson_scalar.proofs.Offered.{sized_from, sized_to}
+use Rattle.bson_types.proofs.Offered.{sized_from, sized_to}
 use Rattle.vbson.proofs.scalars.vbson_object_id_parse.Goals as goal
 
 pub returns-in-Ok-clause-done : goal.returns-in-Ok-clause-done

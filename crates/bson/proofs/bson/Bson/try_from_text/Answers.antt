@@ -1,4 +1,4 @@
-use Rattle.bson_wrapper.specs.declared.form.Doubles.TheVariants.{Special}
+use Rattle.bson_scalar.specs.declared.form.Doubles.TheVariants.{Special}
 use Rattle.bson.specs.View.{bson_view}
 use Rattle.bson.proofs.Accepted.{accepted, came_back, is_ranged}
 use Rattle.bson.proofs.bson.Bson.try_from_text.Goals as goal

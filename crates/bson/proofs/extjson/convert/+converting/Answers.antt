@@ -9,9 +9,9 @@ use Rattle.json.specs.Reads.{token_of}
 use Rattle.serde_json.specs.Read.{of_json, of_members, converted}
 use Rattle.serde_json.specs.Data.{no_members}
 use Rattle.json.specs.Print.{quoted}
-use Rattle.bson_wrapper.proofs.Offered.{on_ok}
-use Rattle.bson_wrapper.specs.Scalar.{code}
-use Rattle.bson_wrapper.specs.Table.{wrapper_of}
+use Rattle.bson_scalar.proofs.Offered.{on_ok}
+use Rattle.bson_scalar.specs.Scalar.{code}
+use Rattle.bson_scalar.specs.Table.{wrapper_of}
 use Rattle.bson_model.specs.Value.{scalar}
 use Rattle.bson.specs.Converted.{IsBehind, ObjectConverted, WrapperConverted}
 use Rattle.bson.specs.Pieces.{IsOpen, IsEnded, with_comma, open_text}

@@ -5,12 +5,12 @@ use Rattle.std.proofs.lemmas.Result.{err_from_is_err_and}
 use Rattle.json.specs.Token.{begin_array, begin_object, key}
 use Rattle.json.specs.Tree.{items_tokens, members_tokens}
 use Rattle.serde_json.specs.Data.{string, no_items, no_members}
-use Rattle.bson_wrapper.specs.TreeText.{items_outline, members_outline}
-use Rattle.bson_wrapper.specs.View.{scalar_view}
-use Rattle.bson_wrapper.specs.Written.{Stops}
-use Rattle.bson_wrapper.proofs.Offered.{in_turn}
-use Rattle.bson_wrapper.specs.Binaries.{binary_tree}
-use Rattle.bson_wrapper.specs.Scalar.{text, binary}
+use Rattle.bson_scalar.specs.TreeText.{items_outline, members_outline}
+use Rattle.bson_scalar.specs.View.{scalar_view}
+use Rattle.bson_scalar.specs.Written.{Stops}
+use Rattle.bson_scalar.proofs.Offered.{in_turn}
+use Rattle.bson_scalar.specs.Binaries.{binary_tree}
+use Rattle.bson_scalar.specs.Scalar.{text, binary}
 use Rattle.bson_model.specs.Value.{scalar, code_scope}
 use Rattle.bson_model.specs.Normal.{PairsInRange}
 use Rattle.bson_order.specs.Distinct.{AllDistinct}

@@ -1,7 +1,7 @@
 use Rattle.std.proofs.Common.{◌≡◌, List, drop}
 use Rattle.json.specs.Token.{Token}
-use Rattle.bson_wrapper.specs.Written.{Stops}
-use Rattle.bson_wrapper.specs.declared.write_error.WriteError.{WriteError}
+use Rattle.bson_scalar.specs.Written.{Stops}
+use Rattle.bson_scalar.specs.declared.write_error.WriteError.{WriteError}
 use Rattle.bson_model.specs.Normal.{ItemsInRange, PairsInRange}
 use Rattle.bson_order.specs.Distinct.{AllDistinct, ItemsDistinct, PairsDistinct}
 use Rattle.bson.specs.KeyOrders.{writes_by, writes_items_by, writes_pairs_by, EachValue}

@@ -5,7 +5,7 @@ use Rattle.std.proofs.lemmas.List.{map-append, nil_from_length}
 use Rattle.std.proofs.lemmas.Result.{err_from_is_err_and}
 use Rattle.serde_json.specs.View.{view, members_view}
 use Rattle.serde_json.proofs.Views.{members_view-insert_entry}
-use Rattle.bson_wrapper.specs.View.{scalar_view}
+use Rattle.bson_scalar.specs.View.{scalar_view}
 use Rattle.bson.specs.View.{bson_view, values_view, pairs_view, document_view}
 use Rattle.bson_model.specs.Normal.{ItemsInRange, PairsInRange}
 use Rattle.bson_model.specs.Writing.{writes_items_in, writes_pairs_in}

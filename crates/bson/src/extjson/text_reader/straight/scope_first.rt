@@ -17,11 +17,11 @@ use crate::extjson::text_reader::parts::{document_value, lone, read_sorted, text
 use crate::extjson::text_reader::straight::{
     read_code, read_document, read_member, read_scope, read_value,
 };
+use bson_scalar::code::{is_code_with_scope, is_scope};
+use bson_scalar::form::Doubles;
+use bson_scalar::wrapper::named;
 use bson_tokens::held::read_held;
 use bson_tokens::unread::Unread;
-use bson_wrapper::code::{is_code_with_scope, is_scope};
-use bson_wrapper::form::Doubles;
-use bson_wrapper::wrapper::named;
 use json::{Reader, Scratch};
 use std::alloc::Global;
 

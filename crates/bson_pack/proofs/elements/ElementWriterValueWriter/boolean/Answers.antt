@@ -1,6 +1,6 @@
 use Rattle.std.proofs.Common.{◌≡◌, ◌++◌, ◌∷◌, [], length, length-append, Ok, refl, sym, ap, arith}
-use Rattle.bson_scalar.specs.declared.spec.ElementType.TheVariants as tag
-use Rattle.bson_wrapper.specs.Scalar.{boolean}
+use Rattle.bson_types.specs.declared.spec.ElementType.TheVariants as tag
+use Rattle.bson_scalar.specs.Scalar.{boolean}
 use Rattle.bson_bytes.specs.Writing.{bool_byte}
 use Rattle.bson_pack.proofs.Put.{scalar_put}
 use Rattle.bson_pack.proofs.elements.ElementWriterValueWriter.boolean.Goals as goal

@@ -1,6 +1,6 @@
 use Rattle.std.proofs.Common.{Ok, refl, ap, append-nil, arith}
-use Rattle.bson_scalar.specs.declared.spec.ElementType.TheVariants as tag
-use Rattle.bson_wrapper.specs.Scalar.{null}
+use Rattle.bson_types.specs.declared.spec.ElementType.TheVariants as tag
+use Rattle.bson_scalar.specs.Scalar.{null}
 use Rattle.bson_pack.proofs.Put.{scalar_put}
 use Rattle.bson_pack.proofs.elements.ElementWriterValueWriter.null.Goals as goal
 

@@ -1,4 +1,4 @@
-use Rattle.bson_wrapper.specs.View.{scalar_view}
+use Rattle.bson_scalar.specs.View.{scalar_view}
 use Rattle.bson_pack.proofs.Put.{scalar_turned}
 use Rattle.bson_pack.proofs.elements.ElementWriterValueWriter.scalar.Goals as goal
 

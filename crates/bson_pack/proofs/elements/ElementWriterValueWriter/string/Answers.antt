@@ -1,7 +1,7 @@
 use Rattle.std.proofs.Common.{refl}
 use Rattle.std.proofs.lemmas.Str.{is_utf8-from_IsUtf8}
-use Rattle.bson_scalar.specs.declared.spec.ElementType.TheVariants as tag
-use Rattle.bson_wrapper.specs.Scalar.{text}
+use Rattle.bson_types.specs.declared.spec.ElementType.TheVariants as tag
+use Rattle.bson_scalar.specs.Scalar.{text}
 use Rattle.bson_bytes.specs.Putting.{put_text}
 use Rattle.bson_pack.proofs.Put.{turned, scalar_put}
 use Rattle.bson_pack.proofs.elements.ElementWriterValueWriter.string.Goals as goal

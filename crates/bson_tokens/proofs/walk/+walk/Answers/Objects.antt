@@ -8,7 +8,7 @@ use Rattle.json.specs.Json.{after_end_array, read_key, value}
 use Rattle.serde_json.specs.Data.{object, item, no_items, no_members, put}
 use Rattle.serde_json.specs.Read.{of_json, converted}
 use Rattle.bson_model.proofs.Offered.{ascends_put}
-use Rattle.bson_wrapper.specs.Table.{wrapper_of, has_wrapper}
+use Rattle.bson_scalar.specs.Table.{wrapper_of, has_wrapper}
 use Rattle.bson_place.specs.Place.{element}
 use Rattle.bson_tokens.specs.Found.{found, found_items, or, within, faults, least}
 use Rattle.bson_tokens.specs.Told.{Tells, AreTold}

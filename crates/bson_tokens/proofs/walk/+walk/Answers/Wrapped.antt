@@ -12,7 +12,7 @@ use Rattle.serde_json.specs.Data.{null, boolean, number, string, array, object, 
 use Rattle.serde_json.specs.Read.{of_json, converted}
 use Rattle.serde_json.specs.View.{view, number_view}
 use Rattle.bson_model.proofs.Offered.{ascends_put}
-use Rattle.bson_wrapper.specs.Table.{wrapper_of}
+use Rattle.bson_scalar.specs.Table.{wrapper_of}
 use Rattle.bson_tokens.specs.Found.{found, found_members, faults, least}
 use Rattle.bson_tokens.specs.Told.{Tells, AreTold}
 use Rattle.bson_tokens.proofs.Faulty.{faults_put, least_is}

@@ -1,8 +1,8 @@
 use Rattle.std.proofs.Common.{◌++◌, ap, ◌∙◌, subst}
 use Rattle.std.specs.Str.{IsUtf8}
 use Rattle.json.specs.Print.{print}
-use Rattle.bson_wrapper.specs.Tokens.{code_tokens}
-use Rattle.bson_wrapper.proofs.Offered.{on_ok}
+use Rattle.bson_scalar.specs.Tokens.{code_tokens}
+use Rattle.bson_scalar.proofs.Offered.{on_ok}
 use Rattle.bson.proofs.extjson.convert.output.put_code.Goals as goal
 
 pub returns-clause-ok : goal.returns-clause-ok

@@ -2,7 +2,7 @@ use Rattle.std.proofs.Common.{◌∷◌, ◌++◌, [], ap, ◌∙◌, subst}
 use Rattle.std.specs.Str.{IsUtf8}
 use Rattle.json.specs.Print.{print}
 use Rattle.json.specs.Token.{key}
-use Rattle.bson_wrapper.proofs.Offered.{on_ok}
+use Rattle.bson_scalar.proofs.Offered.{on_ok}
 use Rattle.bson.proofs.PartTexts.{key_alone}
 use Rattle.bson.proofs.extjson.convert.output.put_key.Goals as goal
 

@@ -2,7 +2,7 @@ use Rattle.std.proofs.Common.{ap, subst}
 use Rattle.serde_json.proofs.Views.{view-Object}
 use Rattle.serde_json.specs.Data.{object}
 use Rattle.serde_json.specs.View.{members_view}
-use Rattle.bson_wrapper.specs.Faults.{Gives}
+use Rattle.bson_scalar.specs.Faults.{Gives}
 use Rattle.bson_model.specs.Reading.{reads_in}
 use Rattle.bson.specs.View.{bson_view}
 use Rattle.bson_tokens.specs.Parts.{ObjectIs}

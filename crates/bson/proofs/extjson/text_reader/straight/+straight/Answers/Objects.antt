@@ -6,7 +6,7 @@ use Rattle.std.specs.Prelude.{is_some}
 use Rattle.json.specs.Json.{read_key, value}
 use Rattle.json.proofs.Grammar.{read_key-shorter}
 use Rattle.serde_json.specs.Data.{no_members}
-use Rattle.bson_wrapper.proofs.Offered.{on_ok}
+use Rattle.bson_scalar.proofs.Offered.{on_ok}
 use Rattle.bson_model.specs.Value as model
 use Rattle.bson_model.specs.Value.{no_pairs}
 use Rattle.bson.specs.View.{bson_view, document_view}

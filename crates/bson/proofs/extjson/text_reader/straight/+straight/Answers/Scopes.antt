@@ -12,7 +12,7 @@ use Rattle.json.proofs.Grammar.{value_is, read_key-shorter}
 use Rattle.serde_json.specs.Data.{null, object, no_members, member}
 use Rattle.serde_json.specs.Read.{of_json, converted}
 use Rattle.serde_json.specs.View.{view}
-use Rattle.bson_wrapper.proofs.Offered.{on_ok}
+use Rattle.bson_scalar.proofs.Offered.{on_ok}
 use Rattle.bson_order.specs.Kept.{kept, unordered}
 use Rattle.bson_order.specs.Reading.{reads_in_order, scope_in_order}
 use Rattle.bson.specs.ByOrder.{tree_by, insert_by}

@@ -10,8 +10,8 @@ use Rattle.json.proofs.Grammar.{value_is}
 use Rattle.serde_json.specs.Data.{null, boolean, number, string, array, object, item, no_items, no_members}
 use Rattle.serde_json.specs.Read.{of_json, converted}
 use Rattle.serde_json.specs.View.{number_view}
-use Rattle.bson_wrapper.specs.Reading.{number_read_in}
-use Rattle.bson_wrapper.specs.Scalar as scalars
+use Rattle.bson_scalar.specs.Reading.{number_read_in}
+use Rattle.bson_scalar.specs.Scalar as scalars
 use Rattle.bson_model.specs.Reading.{scalar_value}
 use Rattle.bson_model.specs.Value as model
 use Rattle.bson.specs.ByOrder.{tree_by, default_tree}

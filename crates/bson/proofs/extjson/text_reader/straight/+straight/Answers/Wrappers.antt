@@ -9,9 +9,9 @@ use Rattle.json.specs.Json.{read_key, value}
 use Rattle.json.proofs.Grammar.{read_key-shorter}
 use Rattle.serde_json.specs.Data.{no_members}
 use Rattle.serde_json.specs.View.{view}
-use Rattle.bson_wrapper.specs.Reading.{single_at_in}
-use Rattle.bson_wrapper.specs.Table.{wrapper_of}
-use Rattle.bson_wrapper.proofs.Offered.{on_ok}
+use Rattle.bson_scalar.specs.Reading.{single_at_in}
+use Rattle.bson_scalar.specs.Table.{wrapper_of}
+use Rattle.bson_scalar.proofs.Offered.{on_ok}
 use Rattle.bson_model.specs.Reading.{scalar_value}
 use Rattle.bson.specs.ByOrder.{insert_by}
 use Rattle.bson.specs.View.{bson_view, document_view}

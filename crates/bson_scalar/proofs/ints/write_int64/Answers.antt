@@ -1,0 +1,10 @@
+use Rattle.std.proofs.Common.{IfOk, to_z-of_z, w64, subst}
+use Rattle.bson_scalar.specs.Ints.{int64_tree}
+use Rattle.bson_scalar.proofs.ints.write_int64.Goals as goal
+
+pub returns-in-Canonical-clause-written : goal.returns-in-Canonical-clause-written
+returns-in-Canonical-clause-written g c =
+    rw c.in-Canonical.is (subst
+    (λ z. IfOk c.wrapped_numeral.result
+    (λ t. g.S.Sink.wrote c.args.out.now (int64_tree z) t c.wrapped_numeral.new.out))
+    (to_z-of_z {w = w64} {z = c.args.number} c.ranges.number) c.wrapped_numeral.ensures.written)

@@ -1,0 +1,37 @@
+-- Why a tree means nothing, and what a function answers then.
+use Rattle.std.specs.Prelude.{◌≡◌, ℕ, List, Result, Ok, Err, Option, Some, None}
+use Rattle.bson_types.specs.OidFault.{IsOidError}
+use Rattle.bson_types.specs.declared.oid.Error as oid
+use Rattle.bson_types.specs.declared.oid.Error.TheVariants.{InvalidHexStringCharacter, InvalidHexStringLength}
+use Rattle.bson_types.specs.declared.oid.Error.TheVariants as oid_error
+use Rattle.bson_scalar.specs.declared.error.Error.{Error}
+use Rattle.bson_scalar.specs.declared.error.Error.TheVariants.{InvalidObjectId, DeserializationError, OutOfMemory}
+
+-- the shape is wrong; or the shape is right, and this text is no object id
+pub data Fault : Type 0 where
+  wrong_shape : Fault
+  wrong_id : List ℕ → Fault
+
+infixl 10 ◌>>=◌
+abbrev pub ◌>>=◌ : {A B : Type 0} → Result A Fault → (A → Result B Fault) → Result B Fault
+(Ok x) >>= f = f x
+(Err e) >>= f = Err e
+
+abbrev pub or_wrong_shape : {A : Type 0} → Option A → Result A Fault
+or_wrong_shape (Some x) = Ok x
+or_wrong_shape None = Err wrong_shape
+
+-- the fault that the text has, which is never want of memory
+abbrev pub IsIdFault : List ℕ → oid.Error → Type 0
+IsIdFault s oid_error.OutOfMemory = ⊥
+IsIdFault s e = IsOidError s e
+
+-- What a function returned, seen by view, is what reading gives, unless memory ran out.
+abbrev pub Fails : {Y : Type 0} → Error → Result Y Fault → Type 0
+Fails OutOfMemory read = Unit {0}
+Fails (DeserializationError message) read = read ≡ Err wrong_shape
+Fails (InvalidObjectId e) read = (s : List ℕ) × (read ≡ Err (wrong_id s)) × IsIdFault s e
+
+abbrev pub Gives : {X Y : Type 0} → (X → Y) → Result X Error → Result Y Fault → Type 0
+Gives view (Ok x) read = read ≡ Ok (view x)
+Gives view (Err e) read = Fails e read

@@ -1,0 +1,66 @@
+-- Normal and narrowed forms, and what a scalar may be.
+use Rattle.std.specs.Prelude.{◌≡◌, ◌⊎◌, ◌<◌, ◌^◌, ℤ, length, Bool, true, FitsSigned}
+use Rattle.std.specs.Int.{w32, w64}
+use Rattle.bson_types.specs.Subtype.{subtype_byte, subtype_of}
+use Rattle.bson_decimal.specs.Pattern.{normal_decimal, bytes_meaning, is_nan}
+use Rattle.hex.specs.Hex.{IsBytes}
+use Rattle.bson_scalar.specs.Doubles.{normal_double, is_writable}
+use Rattle.bson_scalar.specs.Ints.{narrowest}
+use Rattle.bson_types.specs.Regex.{sorted_text}
+use Rattle.bson_scalar.specs.declared.form.Doubles.{Doubles}
+use Rattle.bson_scalar.specs.declared.form.Doubles.TheVariants.{Special}
+use Rattle.bson_scalar.specs.declared.form.Form.{Form}
+use Rattle.bson_scalar.specs.declared.form.Form.TheVariants.{Canonical, Relaxed}
+use Rattle.bson_scalar.specs.Scalar.{Scalar, double, int32, int64, regex, timestamp, binary, object_id, date, decimal}
+use Rattle.bson_scalar.specs.Scalar.{db_pointer}
+
+-- the normal form: options sorted, the subtype that its byte reads as, a NaN as its text means it, a decimal as its
+-- canonical pattern; all else kept
+abbrev pub normal_scalar : Scalar → Scalar
+normal_scalar (double p) = double (normal_double p)
+normal_scalar (regex p o) = regex p (sorted_text o)
+normal_scalar (binary k bytes) = binary (subtype_of (subtype_byte k)) bytes
+normal_scalar (decimal b) = decimal (normal_decimal b)
+normal_scalar x = x
+
+-- an Int64 as its tree in the form f reads back
+abbrev pub int64_as_read : Form → ℤ → Scalar
+int64_as_read Canonical z = int64 z
+int64_as_read Relaxed z = narrowest z
+
+-- a scalar as its tree in the form f reads back: narrowed where the form is the relaxed one
+abbrev pub scalar_as_read : Form → Scalar → Scalar
+scalar_as_read f (int64 z) = int64_as_read f z
+scalar_as_read f x = x
+
+-- whether it has a tree: a double is a zero, an infinity or a NaN, or in the mode `Finite` any
+abbrev pub writable_scalar_in : Doubles → Scalar → Bool
+writable_scalar_in m (double p) = is_writable m p
+writable_scalar_in m x = true
+
+abbrev pub writable_scalar : Scalar → Bool
+writable_scalar = writable_scalar_in Special
+
+-- each number in it is in the range of its Rust type
+abbrev pub ScalarInRange : Scalar → Type 0
+ScalarInRange (double p) = p < 2 ^ 64
+ScalarInRange (int32 z) = FitsSigned w32 z
+ScalarInRange (int64 z) = FitsSigned w64 z
+ScalarInRange (timestamp t i) = (t < 2 ^ 32) × (i < 2 ^ 32)
+ScalarInRange (binary k bytes) = (subtype_byte k < 256) × IsBytes bytes
+ScalarInRange (object_id id) = (length id ≡ 12) × IsBytes id
+ScalarInRange (date z) = FitsSigned w64 z
+ScalarInRange (db_pointer s id) = (length id ≡ 12) × IsBytes id
+ScalarInRange x = Unit {0}
+
+-- in normal form, or a NaN of a decimal: its text can have a sign, or say that it signals
+abbrev pub IsNormalOrNan : Scalar → Type 0
+IsNormalOrNan (decimal b) = (normal_decimal b ≡ b) ⊎ (is_nan (bytes_meaning b) ≡ true)
+IsNormalOrNan x = normal_scalar x ≡ x
+
+-- what is known of every scalar that is read
+abbrev pub IsReadScalarIn : Doubles → Scalar → Type 0
+IsReadScalarIn m x = (writable_scalar_in m x ≡ true) × IsNormalOrNan x
+
+abbrev pub IsReadScalar : Scalar → Type 0
+IsReadScalar = IsReadScalarIn Special

@@ -1,7 +1,0 @@
--- How a timestamp is shown: `Timestamp(t, i)`.
-use Rattle.std.specs.Prelude.{ℕ, ◌++◌, List, codes}
-use Rattle.std.specs.Fmt.{decimal}
-use Rattle.bson_scalar.specs.declared.timestamp.Timestamp.{Timestamp}
-
-abbrev pub timestamp_text : Timestamp → List ℕ
-timestamp_text t = codes "Timestamp(" ++ decimal t.time ++ codes ", " ++ decimal t.increment ++ codes ")"

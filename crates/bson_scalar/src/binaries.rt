@@ -1,0 +1,175 @@
+//! `$binary`: bytes and their subtype; and `$uuid`, the hyphenated text of a UUID. Read and written
+//! as `{"base64": "aGVsbG8=", "subType": "00"}` under `$binary` (RFC 4648 section 4, with padding;
+//! two hexadecimal digits, of which lower-case ones are written). `$uuid` is read alone, as
+//! `{"$uuid": "00112233-4455-6677-8899-aabbccddeeff"}`, and means a binary of subtype 04.
+ghost use Rattle.std.specs.Prelude.{◌≡◌, ◌<◌, IfOk, OnOk, ◌∷◌, [], codes, string_bytes};
+ghost use Rattle.serde_json.specs.Data.{string};
+ghost use Rattle.serde_json.specs.View.{view};
+ghost use Rattle.hex.specs.Hex.{encode_lower, IsBytes};
+ghost use Rattle.bson_types.specs.Base64.{padded_text};
+ghost use Rattle.bson_types.specs.Orders.{parsed_hyphenated};
+ghost use Rattle.bson_types.specs.Subtype.{subtype_byte};
+ghost use Rattle.bson_scalar.specs.Binaries.{binary_tree};
+ghost use Rattle.bson_scalar.specs.Faults.{Gives, or_wrong_shape};
+ghost use Rattle.bson_scalar.specs.Reading.{binary_read, uuid_read, byte_of as byte_at};
+ghost use Rattle.bson_scalar.specs.Reading.{bytes_of as bytes_at};
+ghost use Rattle.bson_scalar.specs.Shapes.{object_of_one, object_of_two};
+ghost use Rattle.bson_scalar.specs.View.{scalar_view};
+
+use crate::error::Error;
+use crate::scalar::Scalar;
+use crate::shapes::{are_bytes, expected, text_in, two_in};
+use crate::sink::Sink;
+use crate::wrapped::{begin, end_one, two_texts};
+use base64::engine::general_purpose::STANDARD;
+use bson_types::binary::{self, Binary};
+use bson_types::spec::BinarySubtype;
+use bson_types::uuid_value::Uuid;
+use serde_json::Value;
+use std::alloc::{AllocError, Global};
+
+const BINARY_SHAPE: &str = "`$binary` holds the texts `base64` and `subType`";
+
+const UUID_SHAPE: &str = "`$uuid` holds the hyphenated text of a UUID";
+
+// The byte of a text of two hexadecimal digits.
+fn byte_of(text: &str) -> Option<u8>
+    ensures { result ≡ byte_at text.now }
+{
+    let mut bytes = [0u8; 1];
+    match hex::decode_to_slice(text, &mut bytes) {
+        Ok(()) => Some(bytes[0]),
+        Err(_) => None,
+    }
+}
+
+fn bytes_of(alloc: Global, text: &str) -> Result<Vec<u8>, Error>
+    ensures { Gives (λ v. v.items) result (or_wrong_shape (bytes_at text.now)) }
+{
+    match Binary::from_base64(alloc, text, None) {
+        Ok(Binary { subtype: _, bytes }) => Ok(bytes),
+        Err(binary::Error::OutOfMemory) => Err(Error::OutOfMemory),
+        Err(_) => Err(Error::DeserializationError {
+            message: "`base64` holds no base64 text",
+        }),
+    }
+}
+
+// What `$binary` holds, as a binary.
+pub(crate) fn read_binary(alloc: Global, value: Value) -> Result<Scalar, Error>
+    ensures { Gives scalar_view result (binary_read (view value)) }
+{
+    let (base64, subtype) = two_in(value, "base64", "subType", BINARY_SHAPE)?;
+    let base64 = text_in(base64, BINARY_SHAPE)?;
+    let subtype = text_in(subtype, BINARY_SHAPE)?;
+    let bytes = bytes_of(alloc, base64.as_str())?;
+    let byte = expected(
+        byte_of(subtype.as_str()),
+        "`subType` holds two hexadecimal digits",
+    )?;
+    Ok(Scalar::Binary(Binary {
+        subtype: BinarySubtype::from(byte),
+        bytes,
+    }))
+}
+
+// The UUID of a text of the hyphenated form, the only one that has 36 bytes.
+fn uuid_of(text: &str) -> Option<Uuid>
+    ensures { result ≡ parsed_hyphenated text.now }
+{
+    if text.len() != 36 {
+        return None;
+    }
+    match Uuid::parse_str(text) {
+        Ok(id) => Some(id),
+        Err(_) => None,
+    }
+}
+
+// What `$uuid` holds, as a binary of the subtype of UUIDs: a text of 36 bytes, with `-` at places
+// 8, 13, 18 and 23, counted from 0, and hexadecimal digits of either case elsewhere. The other
+// spellings that `Uuid::parse_str` takes are refused.
+pub(crate) fn read_uuid(alloc: Global, value: Value) -> Result<Scalar, Error>
+    ensures { Gives scalar_view result (uuid_read (view value)) }
+{
+    let text = text_in(value, UUID_SHAPE)?;
+    let id = expected(uuid_of(text.as_str()), UUID_SHAPE)?;
+    Ok(Scalar::Binary(Binary::from_uuid(alloc, id)?))
+}
+
+fn byte_text(alloc: Global, subtype: BinarySubtype) -> Result<String, AllocError>
+    ensures text { IfOk result (λ s. string_bytes s ≡ encode_lower (subtype_byte subtype ∷ [])) }
+    ensures ranged { OnOk result (subtype_byte subtype < 256) }
+{
+    let byte = u8::from(subtype);
+    hex::encode(alloc, [byte])
+}
+
+fn base64_text(alloc: Global, bytes: &[u8]) -> Result<String, AllocError>
+    ensures { IfOk result (λ s. string_bytes s ≡ padded_text bytes.now) }
+{
+    STANDARD.encode(alloc, bytes)
+}
+
+// What `$binary` holds.
+#[derive(Drop)]
+struct Texts {
+    base64: String,
+    subtype: String,
+}
+
+fn texts_of(alloc: Global, binary: &Binary) -> Result<Texts, AllocError>
+    ensures base64 { IfOk result (λ texts. string_bytes texts.base64 ≡ padded_text binary.now.bytes.items) }
+    ensures subtype { IfOk result (λ texts. string_bytes texts.subtype
+        ≡ encode_lower (subtype_byte binary.now.subtype ∷ [])) }
+    ensures ranged { OnOk result ((subtype_byte binary.now.subtype < 256) × IsBytes binary.now.bytes.items) }
+{
+    are_bytes(binary.bytes.as_slice());
+    let base64 = base64_text(alloc, binary.bytes.as_slice())?;
+    let subtype = byte_text(alloc, binary.subtype)?;
+    Ok(Texts { base64, subtype })
+}
+
+fn write_texts<S: Sink>(texts: Texts, out: &mut S) -> Result<S::Tree, AllocError>
+    ensures written { IfOk result (λ t. S.wrote out.old
+        (object_of_one (codes "$binary")
+        (object_of_two (codes "base64") (string (string_bytes texts.base64)) (codes "subType")
+        (string (string_bytes texts.subtype)))) t out.new) }
+    ensures before { S.before out.new ≡ S.before out.old }
+{
+    let Texts { base64, subtype } = texts;
+    let key = begin("$binary", out)?;
+    let texts = two_texts("base64", base64, "subType", subtype, out)?;
+    end_one(key, texts, out)
+}
+
+// Writes the tree of a binary, in both forms.
+pub(crate) fn write_binary<S: Sink>(
+    alloc: Global,
+    binary: &Binary,
+    out: &mut S,
+) -> Result<S::Tree, AllocError>
+    ensures written { IfOk result (λ t. S.wrote out.old
+        (binary_tree binary.now.subtype binary.now.bytes.items) t out.new) }
+    ensures before { S.before out.new ≡ S.before out.old }
+    ensures ranged { OnOk result ((subtype_byte binary.now.subtype < 256) × IsBytes binary.now.bytes.items) }
+{
+    write_texts(texts_of(alloc, binary)?, out)
+}
+
+// Writes the tree of a binary, as `write_binary` does. Its bytes are dropped before the texts are
+// put into the sink.
+pub(crate) fn write_owned<S: Sink>(
+    alloc: Global,
+    binary: Binary,
+    out: &mut S,
+) -> Result<S::Tree, AllocError>
+    ensures written { IfOk result (λ t. S.wrote out.old
+        (binary_tree binary.subtype binary.bytes.items) t out.new) }
+    ensures before { S.before out.new ≡ S.before out.old }
+    ensures ranged { OnOk result ((subtype_byte binary.subtype < 256) × IsBytes binary.bytes.items) }
+{
+    let texts = texts_of(alloc, &binary)?;
+    drop(binary);
+    write_texts(texts, out)
+}

@@ -1,0 +1,52 @@
+//! Code with its scope, the object of the keys `$code` and `$scope`. What its scope holds, the
+//! layer above reads and writes.
+ghost use Rattle.std.specs.Prelude.{◌≡◌, ◌++◌, ◌&&◌, IfOk, OnOk, codes, string_bytes};
+ghost use Rattle.std.specs.Str.{bytes_eq};
+ghost use Rattle.serde_json.specs.Data.{object, string};
+ghost use Rattle.serde_json.specs.View.{view, members_view};
+ghost use Rattle.bson_scalar.specs.Shapes.{object_of_two};
+ghost use Rattle.bson_scalar.specs.Tokens.{code_tokens};
+
+use json::Writer;
+use serde_json::{Map, Value};
+use std::alloc::{AllocError, Global};
+
+/// Whether an object of these two keys, by ascending key, is code with its scope.
+pub fn is_code_with_scope(key: &str, other: &str) -> bool
+    ensures { result ≡ (bytes_eq key.now (codes "$code") && bytes_eq other.now (codes "$scope")) }
+{
+    key == "$code" && is_scope(other)
+}
+
+/// Whether a scope stands at the key, where code stands beside it.
+pub fn is_scope(key: &str) -> bool
+    ensures { result ≡ bytes_eq key.now (codes "$scope") }
+{
+    key == "$scope"
+}
+
+/// The tree of code with its scope's map.
+pub fn wrapped_code(
+    alloc: Global,
+    code: String,
+    scope: Map<String, Value>,
+) -> Result<Value, AllocError>
+    ensures { IfOk result (λ t. view t ≡ object_of_two (codes "$code") (string (string_bytes code))
+        (codes "$scope") (object (members_view scope.entries))) }
+{
+    let mut members = Map::new(alloc);
+    serde_json::put(&mut members, alloc, "$scope", Value::Object(scope))?;
+    serde_json::put(&mut members, alloc, "$code", Value::String(code))?;
+    Ok(Value::Object(members))
+}
+
+/// Writes what stands before the scope in the text of code with its scope.
+pub fn put_code(code: &str, out: &mut Writer) -> Result<(), AllocError>
+    ensures put { OnOk result (out.new.tokens ≡ out.old.tokens ++ code_tokens code.now) }
+    ensures before { out.new.before ≡ out.old.before }
+{
+    out.begin_object()?;
+    out.key("$code")?;
+    out.string(code)?;
+    out.key("$scope")
+}

@@ -1,0 +1,113 @@
+//! `$date`: a moment. Read as `{"$numberLong": "5"}`, as an RFC 3339 text or as a whole number of
+//! milliseconds since 1970-01-01T00:00:00Z under that key, and written as `$numberLong`, or in the
+//! relaxed form as an RFC 3339 text from 1970 to the end of the year 9999.
+ghost use Rattle.std.specs.Prelude.{◌≡◌, IfOk, OnOk, FitsSigned, codes, pos, ◌≤ℤ◌, string_bytes};
+ghost use Rattle.std.specs.Int.{w64};
+ghost use Rattle.serde_json.specs.View.{view};
+ghost use Rattle.bson_datetime.specs.Rfc3339.{named_moment};
+ghost use Rattle.bson_datetime.specs.Displayed.{rfc};
+ghost use Rattle.bson_scalar.specs.Dates.{date_tree, relaxed_date_tree};
+ghost use Rattle.bson_scalar.specs.Faults.{Gives, or_wrong_shape};
+ghost use Rattle.bson_scalar.specs.Reading.{millis_of, date_read};
+ghost use Rattle.bson_scalar.specs.Written.{date_form};
+ghost use Rattle.bson_scalar.specs.View.{scalar_view};
+
+use crate::error::Error;
+use crate::form::Form;
+use crate::ints::int64_of;
+use crate::scalar::Scalar;
+use crate::shapes::{expected, lone_in, text_in};
+use crate::sink::Sink;
+use crate::wrapped::{begin, end_one, wrapped_numeral, wrapped_owned};
+use bson_datetime::DateTime;
+use serde_json::Value;
+use std::alloc::{AllocError, Global};
+
+const SHAPE: &str = "`$date` holds `$numberLong`, an RFC 3339 text or a whole number";
+
+// The last millisecond of the year 9999.
+const LAST_RELAXED: i64 = 253_402_300_799_999;
+
+fn denoted_by(text: &str) -> Option<DateTime>
+    ensures { result ≡ named_moment text.now }
+{
+    match DateTime::parse_rfc3339_str(text) {
+        Ok(date) => Some(date),
+        Err(_) => None,
+    }
+}
+
+fn millis_in(value: Value) -> Result<i64, Error>
+    ensures { Gives (λ z. z) result (millis_of (view value)) }
+{
+    match value {
+        Value::String(text) => expected(denoted_by(text.as_str()), SHAPE).map(
+            |d| d.timestamp_millis(),
+        ),
+        Value::Number(number) => expected(number.as_i64(), SHAPE),
+        value => {
+            let text = text_in(lone_in(value, "$numberLong", SHAPE)?, SHAPE)?;
+            expected(int64_of(text.as_str()), SHAPE)
+        }
+    }
+}
+
+// What `$date` holds, as a moment.
+pub(crate) fn read_date(value: Value) -> Result<Scalar, Error>
+    ensures { Gives scalar_view result (date_read (view value)) }
+{
+    let millis = millis_in(value)?;
+    Ok(Scalar::DateTime(DateTime::from_millis(millis)))
+}
+
+fn text(alloc: Global, date: DateTime) -> Result<String, AllocError>
+    requires from { pos 0 ≤ℤ date }
+    requires to { date ≤ℤ pos 253_402_300_799_999 }
+    ensures { IfOk result (λ s. string_bytes s ≡ rfc date) }
+{
+    match date.try_to_rfc3339_string(alloc) {
+        Ok(text) => Ok(text),
+        Err(bson_datetime::Error::OutOfMemory) => Err(AllocError),
+        Err(_) => unreachable!(),
+    }
+}
+
+// The milliseconds, as canonical.
+fn write_millis<S: Sink>(date: DateTime, out: &mut S) -> Result<S::Tree, AllocError>
+    ensures written { IfOk result (λ t. S.wrote out.old (date_tree date) t out.new) }
+    ensures before { S.before out.new ≡ S.before out.old }
+{
+    let key = begin("$date", out)?;
+    let millis = wrapped_numeral("$numberLong", date.timestamp_millis(), out)?;
+    end_one(key, millis, out)
+}
+
+fn write_relaxed<S: Sink>(alloc: Global, date: DateTime, out: &mut S) -> Result<S::Tree, AllocError>
+    ensures written { IfOk result (λ t. S.wrote out.old (relaxed_date_tree date) t out.new) }
+    ensures before { S.before out.new ≡ S.before out.old }
+{
+    let millis = date.timestamp_millis();
+    if 0 <= millis && millis <= LAST_RELAXED {
+        let readable = text(alloc, date)?;
+        wrapped_owned("$date", readable, out)
+    } else {
+        write_millis(date, out)
+    }
+}
+
+// Writes the tree of a moment in a form.
+pub(crate) fn write_date<S: Sink>(
+    alloc: Global,
+    form: Form,
+    date: DateTime,
+    out: &mut S,
+) -> Result<S::Tree, AllocError>
+    ensures written { IfOk result (λ t. S.wrote out.old (date_form form date) t out.new) }
+    ensures before { S.before out.new ≡ S.before out.old }
+    ensures ranged { OnOk result (FitsSigned w64 date) }
+{
+    match form {
+        Form::Canonical => write_millis(date, out),
+        Form::Relaxed => write_relaxed(alloc, date, out),
+    }
+}

@@ -1,0 +1,48 @@
+//! `$numberDecimal`: the text of a decimal that a Decimal128 has exactly. Read as
+//! `{"$numberDecimal": "1.50"}`, and written as the printed text.
+ghost use Rattle.std.specs.Prelude.{◌≡◌, IfOk};
+ghost use Rattle.serde_json.specs.View.{view};
+ghost use Rattle.bson_scalar.specs.Decimals.{decimal_tree};
+ghost use Rattle.bson_scalar.specs.Faults.{Gives};
+ghost use Rattle.bson_scalar.specs.Reading.{decimal_of as decimal_in, decimal_read};
+ghost use Rattle.bson_scalar.specs.View.{scalar_view};
+
+use crate::error::Error;
+use crate::scalar::Scalar;
+use crate::shapes::{expected, text_in};
+use crate::sink::Sink;
+use crate::wrapped::wrapped_owned;
+use bson_decimal::Decimal128;
+use serde_json::Value;
+use std::alloc::{AllocError, Global};
+
+const SHAPE: &str = "`$numberDecimal` holds the text of a decimal that a Decimal128 has exactly";
+
+// The decimal of a text.
+fn decimal_of(text: &str) -> Option<Decimal128>
+    ensures { result ≡ decimal_in text.now }
+{
+    text.parse::<Decimal128>().ok()
+}
+
+// What `$numberDecimal` holds, as a decimal.
+pub(crate) fn read_decimal(value: Value) -> Result<Scalar, Error>
+    ensures { Gives scalar_view result (decimal_read (view value)) }
+{
+    let text = text_in(value, SHAPE)?;
+    let decimal = expected(decimal_of(text.as_str()), SHAPE)?;
+    Ok(Scalar::Decimal128(decimal))
+}
+
+// Writes the tree of a decimal, in both forms.
+pub(crate) fn write_decimal<S: Sink>(
+    alloc: Global,
+    decimal: Decimal128,
+    out: &mut S,
+) -> Result<S::Tree, AllocError>
+    ensures written { IfOk result (λ t. S.wrote out.old (decimal_tree decimal) t out.new) }
+    ensures before { S.before out.new ≡ S.before out.old }
+{
+    let text = format!(in alloc; "{decimal}")?;
+    wrapped_owned("$numberDecimal", text, out)
+}

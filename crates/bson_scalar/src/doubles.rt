@@ -1,0 +1,212 @@
+//! `$numberDouble`: one of six texts, or a decimal number where finite doubles are read and written.
+//! Read and written as `{"$numberDouble": "-0.0"}` and `{"$numberDouble": "12.5"}`, and a finite
+//! double in the relaxed form as `12.5`; a double is its pattern of 64 bits (IEEE 754-2008 binary64).
+ghost use Rattle.std.specs.Prelude.{◌≡◌, ℕ, List, Some, IfOk, IsTrue, option_map};
+ghost use Rattle.bson_double.specs.Doubles.{is_finite};
+ghost use Rattle.bson_scalar.specs.Shortest.{finite_text};
+ghost use Rattle.serde_json.specs.View.{view, number_view};
+ghost use Rattle.bson_scalar.specs.Doubles as spec;
+ghost use Rattle.bson_scalar.specs.Faults.{Gives};
+ghost use Rattle.bson_scalar.specs.Ints.{narrowest};
+ghost use Rattle.bson_scalar.specs.Reading.{double_read_in, number_read_in};
+ghost use Rattle.bson_scalar.specs.Tokens.{Sends};
+ghost use Rattle.bson_scalar.specs.View.{scalar_view};
+ghost use Rattle.bson_scalar.specs.Written.{double_writes_in, wrapped_double};
+ghost use Rattle.bson_scalar.specs.declared.form.Doubles.TheVariants.{Special, Finite};
+ghost use Rattle.bson_scalar.specs.declared.form.Form.TheVariants.{Canonical, Relaxed};
+
+use crate::error::Error;
+use crate::form::{Doubles, Form};
+use crate::scalar::Scalar;
+use crate::shapes::{expected, text_in};
+use crate::sink::Sink;
+use crate::wrapped::wrapped_text;
+use crate::write_error::WriteError;
+use serde_json::{Number, Value};
+use std::alloc::AllocError;
+
+const SHAPE: &str = "`$numberDouble` holds `0.0`, `-0.0`, `Infinity`, `-Infinity`, `NaN` or `-NaN`";
+
+const FINITE_SHAPE: &str = "`$numberDouble` holds a decimal number whose nearest double is finite, \
+    `Infinity`, `-Infinity`, `NaN` or `-NaN`";
+
+/// What is told of a JSON number that is no i64, where no finite doubles are read.
+pub const NUMBER: &str = "a number is no whole number of 64 bits";
+
+const FINITE_NUMBER: &str = "a number is greater than any double";
+
+// The pattern of a text: of a NaN the quiet one of its sign with no payload.
+fn double_of(text: &str) -> Option<u64>
+    ensures { result ≡ spec.double_of text.now }
+{
+    if text == "0.0" {
+        Some(0)
+    } else if text == "-0.0" {
+        Some(0x8000_0000_0000_0000)
+    } else if text == "Infinity" {
+        Some(0x7FF0_0000_0000_0000)
+    } else if text == "-Infinity" {
+        Some(0xFFF0_0000_0000_0000)
+    } else if text == "NaN" {
+        Some(0x7FF8_0000_0000_0000)
+    } else if text == "-NaN" {
+        Some(0xFFF8_0000_0000_0000)
+    } else {
+        None
+    }
+}
+
+// The same, and else the pattern of the double nearest to a decimal number.
+fn finite_of(text: &str) -> Option<u64>
+    ensures { result ≡ spec.or_finite_of (spec.double_of text.now) text.now }
+{
+    match double_of(text) {
+        Some(pattern) => Some(pattern),
+        None => bson_double::double_of_text(text.as_bytes()).ok(),
+    }
+}
+
+fn double_in(doubles: Doubles, text: &str) -> Option<u64>
+    ensures { result ≡ spec.double_in doubles text.now }
+{
+    match doubles {
+        Doubles::Special => double_of(text),
+        Doubles::Finite => finite_of(text),
+    }
+}
+
+fn shape(doubles: Doubles) -> &'static str {
+    match doubles {
+        Doubles::Special => SHAPE,
+        Doubles::Finite => FINITE_SHAPE,
+    }
+}
+
+// What `$numberDouble` holds, as the pattern of a double.
+pub(crate) fn read_double(doubles: Doubles, value: Value) -> Result<Scalar, Error>
+    ensures { Gives scalar_view result (double_read_in doubles (view value)) }
+{
+    let text = text_in(value, shape(doubles))?;
+    let pattern = expected(double_in(doubles, text.as_str()), shape(doubles))?;
+    Ok(Scalar::Double(pattern))
+}
+
+fn finite_number(number: &Number) -> Option<u64>
+    ensures { result ≡ spec.finite_number (number_view number.now) }
+{
+    let nearest = number.as_f64()?;
+    if nearest.is_finite() {
+        Some(nearest.to_bits())
+    } else {
+        None
+    }
+}
+
+fn narrowest(number: i64) -> Scalar
+    ensures { scalar_view result ≡ narrowest number }
+{
+    if i32::MIN as i64 <= number && number <= i32::MAX as i64 {
+        Scalar::Int32(number as i32)
+    } else {
+        Scalar::Int64(number)
+    }
+}
+
+/// What a JSON number means: a whole one the Int32 where it fits, else the Int64. One that is no
+/// i64 is refused, or where finite doubles are read it is the double nearest to it.
+pub fn read_number(doubles: Doubles, number: &Number) -> Result<Scalar, Error>
+    ensures { Gives scalar_view result (number_read_in doubles (number_view number.now)) }
+{
+    let whole = number.as_i64();
+    match doubles {
+        Doubles::Special => Ok(narrowest(expected(whole, NUMBER)?)),
+        Doubles::Finite => match whole {
+            Some(whole) => Ok(narrowest(whole)),
+            None => Ok(Scalar::Double(expected(finite_number(number), FINITE_NUMBER)?)),
+        },
+    }
+}
+
+fn double_text(pattern: u64) -> Option<&'static str>
+    ensures { option_map (λ s. s.now) result ≡ spec.double_text pattern }
+{
+    if pattern == 0 {
+        Some("0.0")
+    } else if pattern == 0x8000_0000_0000_0000 {
+        Some("-0.0")
+    } else if pattern == 0x7FF0_0000_0000_0000 {
+        Some("Infinity")
+    } else if pattern == 0xFFF0_0000_0000_0000 {
+        Some("-Infinity")
+    } else if 0x7FF0_0000_0000_0000 < pattern && pattern < 0x8000_0000_0000_0000 {
+        Some("NaN")
+    } else if 0xFFF0_0000_0000_0000 < pattern {
+        Some("-NaN")
+    } else {
+        None
+    }
+}
+
+fn write_special<S: Sink>(pattern: u64, out: &mut S) -> Result<S::Tree, WriteError>
+    ensures written { Sends (λ d t. S.wrote out.old d t out.new) result (wrapped_double (spec.double_text pattern)) }
+    ensures before { S.before out.new ≡ S.before out.old }
+{
+    match double_text(pattern) {
+        Some(text) => Ok(wrapped_text("$numberDouble", text, out)?),
+        None => Err(WriteError::FiniteDouble),
+    }
+}
+
+// Writes the shortest decimal of a double that is finite.
+fn write_finite<S: Sink>(pattern: u64, out: &mut S) -> Result<S::Tree, AllocError>
+    requires { IsTrue (is_finite pattern) }
+    ensures written { IfOk result (λ t. (s : List ℕ) × (finite_text pattern ≡ Some s)
+        × S.wrote out.old (spec.double_tree s) t out.new) }
+    ensures before { S.before out.new ≡ S.before out.old }
+{
+    wrapped_text(
+        "$numberDouble",
+        bson_double::double_text(pattern).as_str(),
+        out,
+    )
+}
+
+fn write_canonical<S: Sink>(pattern: u64, out: &mut S) -> Result<S::Tree, WriteError>
+    ensures written { Sends (λ d t. S.wrote out.old d t out.new) result (double_writes_in Finite Canonical pattern) }
+    ensures before { S.before out.new ≡ S.before out.old }
+{
+    match double_text(pattern) {
+        Some(text) => Ok(wrapped_text("$numberDouble", text, out)?),
+        None => Ok(write_finite(pattern, out)?),
+    }
+}
+
+fn write_relaxed<S: Sink>(pattern: u64, out: &mut S) -> Result<S::Tree, WriteError>
+    ensures written { Sends (λ d t. S.wrote out.old d t out.new) result (double_writes_in Finite Relaxed pattern) }
+    ensures before { S.before out.new ≡ S.before out.old }
+{
+    if bson_double::is_finite(pattern) {
+        Ok(out.double(pattern)?)
+    } else {
+        write_special(pattern, out)
+    }
+}
+
+// Writes the tree of a double: a NaN as `NaN` or `-NaN` by its sign. Where finite doubles are
+// written one that is finite is its shortest decimal, which the relaxed form has as a JSON number.
+// Where they are not one that is no zero is refused as `FiniteDouble`.
+pub(crate) fn write_double<S: Sink>(
+    doubles: Doubles,
+    form: Form,
+    pattern: u64,
+    out: &mut S,
+) -> Result<S::Tree, WriteError>
+    ensures written { Sends (λ d t. S.wrote out.old d t out.new) result (double_writes_in doubles form pattern) }
+    ensures before { S.before out.new ≡ S.before out.old }
+{
+    match (doubles, form) {
+        (Doubles::Special, _) => write_special(pattern, out),
+        (Doubles::Finite, Form::Canonical) => write_canonical(pattern, out),
+        (Doubles::Finite, Form::Relaxed) => write_relaxed(pattern, out),
+    }
+}

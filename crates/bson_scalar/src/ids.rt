@@ -1,0 +1,107 @@
+//! `$oid`: the text of an object id; and `$dbPointer`, which holds one. Read as
+//! `{"$oid": "53e37d08776f724e42000000"}` and `{"$ref": "a.b", "$id": {"$oid": ".."}}`, digits of
+//! either case, and written with lower-case ones.
+ghost use Rattle.std.specs.Prelude.{◌≡◌, IfOk, OnOk, codes, string_bytes};
+ghost use Rattle.serde_json.specs.Data.{string};
+ghost use Rattle.serde_json.specs.View.{view};
+ghost use Rattle.bson_types.specs.DbPointer.{namespace_of, id_of as pointer_id};
+ghost use Rattle.bson_types.specs.Oid.{IsObjectId};
+ghost use Rattle.bson_scalar.specs.Faults.{Gives};
+ghost use Rattle.bson_scalar.specs.Ids.{oid_tree, pointer_tree};
+ghost use Rattle.bson_scalar.specs.Reading.{id_of, oid_read, pointer_read};
+ghost use Rattle.bson_scalar.specs.Shapes.{object_of_two};
+ghost use Rattle.bson_scalar.specs.View.{scalar_view};
+
+use crate::error::Error;
+use crate::scalar::Scalar;
+use crate::shapes::{lone_in, text_in, two_in};
+use crate::sink::Sink;
+use crate::wrapped::{begin, end_one, end_two, second, wrapped_owned};
+use bson_types::db_pointer::DbPointer;
+use bson_types::oid::{self, ObjectId};
+use serde_json::Value;
+use std::alloc::{AllocError, Global};
+
+const POINTER_SHAPE: &str = "`$dbPointer` holds `$ref`, a text, and `$id`, an object of `$oid`";
+
+// The object id of a text, or `InvalidObjectId` with the fault that the text has.
+fn id_of(alloc: Global, text: &str) -> Result<ObjectId, Error>
+    ensures { Gives (λ id. id) result (id_of text.now) }
+{
+    match ObjectId::parse_str(alloc, text) {
+        Ok(id) => Ok(id),
+        Err(oid::Error::OutOfMemory) => Err(Error::OutOfMemory),
+        Err(fault) => Err(Error::InvalidObjectId(fault)),
+    }
+}
+
+// What `$oid` holds, as an object id.
+pub(crate) fn read_oid(alloc: Global, value: Value) -> Result<Scalar, Error>
+    ensures { Gives scalar_view result (oid_read (view value)) }
+{
+    let text = text_in(value, "`$oid` holds the text of an object id")?;
+    Ok(Scalar::ObjectId(id_of(alloc, text.as_str())?))
+}
+
+// What `$dbPointer` holds, as a pointer. The shape is tested first, so that the text of the
+// object id is told as the fault only where it alone is wrong.
+pub(crate) fn read_pointer(alloc: Global, value: Value) -> Result<Scalar, Error>
+    ensures { Gives scalar_view result (pointer_read (view value)) }
+{
+    let (id, name) = two_in(value, "$id", "$ref", POINTER_SHAPE)?;
+    let namespace = text_in(name, POINTER_SHAPE)?;
+    let text = text_in(lone_in(id, "$oid", POINTER_SHAPE)?, POINTER_SHAPE)?;
+    let id = id_of(alloc, text.as_str())?;
+    Ok(Scalar::DbPointer(DbPointer::new(namespace, id)))
+}
+
+// Writes the tree of an object id, in both forms.
+pub(crate) fn write_oid<S: Sink>(
+    alloc: Global,
+    id: ObjectId,
+    out: &mut S,
+) -> Result<S::Tree, AllocError>
+    ensures written { IfOk result (λ t. S.wrote out.old (oid_tree id) t out.new) }
+    ensures before { S.before out.new ≡ S.before out.old }
+    ensures ranged { OnOk result (IsObjectId id) }
+{
+    // What the type says of the bytes.
+    let _bytes = id.bytes();
+    wrapped_owned("$oid", id.to_hex(alloc)?, out)
+}
+
+// What `$dbPointer` holds.
+fn write_reference<S: Sink>(
+    alloc: Global,
+    namespace: String,
+    id: ObjectId,
+    out: &mut S,
+) -> Result<S::Tree, AllocError>
+    ensures written { IfOk result (λ t. S.wrote out.old
+        (object_of_two (codes "$id") (oid_tree id) (codes "$ref") (string (string_bytes namespace))) t out.new) }
+    ensures before { S.before out.new ≡ S.before out.old }
+    ensures ranged { OnOk result (IsObjectId id) }
+{
+    let key = begin("$id", out)?;
+    let id = write_oid(alloc, id, out)?;
+    let next = second(key, id, "$ref", out)?;
+    let namespace = out.owned_text(namespace)?;
+    end_two(next, namespace, out)
+}
+
+// Writes the tree of a pointer, in both forms.
+pub(crate) fn write_pointer<S: Sink>(
+    alloc: Global,
+    pointer: DbPointer,
+    out: &mut S,
+) -> Result<S::Tree, AllocError>
+    ensures written { IfOk result (λ t. S.wrote out.old
+        (pointer_tree (namespace_of pointer) (pointer_id pointer)) t out.new) }
+    ensures before { S.before out.new ≡ S.before out.old }
+    ensures ranged { OnOk result (IsObjectId (pointer_id pointer)) }
+{
+    let (namespace, id) = pointer.into_parts();
+    let key = begin("$dbPointer", out)?;
+    let reference = write_reference(alloc, namespace, id, out)?;
+    end_one(key, reference, out)
+}

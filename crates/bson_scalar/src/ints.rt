@@ -1,0 +1,83 @@
+//! `$numberInt` and `$numberLong`: the text of a whole number. Read as `{"$numberInt": "+007"}`,
+//! written as `{"$numberInt": "7"}`, and in the relaxed form as the number 7.
+ghost use Rattle.std.specs.Prelude.{◌≡◌, IfOk};
+ghost use Rattle.serde_json.specs.View.{view};
+ghost use Rattle.bson_scalar.specs.Faults.{Gives};
+ghost use Rattle.bson_scalar.specs.Reading.{int_of, int32_read, int64_read};
+ghost use Rattle.bson_scalar.specs.Written.{int32_form, int64_form};
+ghost use Rattle.bson_scalar.specs.View.{scalar_view};
+
+use crate::error::Error;
+use crate::form::Form;
+use crate::scalar::Scalar;
+use crate::shapes::{expected, text_in};
+use crate::sink::Sink;
+use crate::wrapped::wrapped_numeral;
+use serde_json::Value;
+use std::alloc::AllocError;
+
+const INT32_SHAPE: &str = "`$numberInt` holds the text of an i32";
+
+const INT64_SHAPE: &str = "`$numberLong` holds the text of an i64";
+
+// The number of a text: a sign or none, and digits, whose number is an i32.
+fn int32_of(text: &str) -> Option<i32>
+    ensures { result ≡ int_of 31 text.now }
+{
+    text.parse::<i32>().ok()
+}
+
+// The number of a text: a sign or none, and digits, whose number is an i64.
+pub(crate) fn int64_of(text: &str) -> Option<i64>
+    ensures { result ≡ int_of 63 text.now }
+{
+    text.parse::<i64>().ok()
+}
+
+// What `$numberInt` holds, as an Int32.
+pub(crate) fn read_int32(value: Value) -> Result<Scalar, Error>
+    ensures { Gives scalar_view result (int32_read (view value)) }
+{
+    let text = text_in(value, INT32_SHAPE)?;
+    let number = expected(int32_of(text.as_str()), INT32_SHAPE)?;
+    Ok(Scalar::Int32(number))
+}
+
+// What `$numberLong` holds, as an Int64.
+pub(crate) fn read_int64(value: Value) -> Result<Scalar, Error>
+    ensures { Gives scalar_view result (int64_read (view value)) }
+{
+    let text = text_in(value, INT64_SHAPE)?;
+    let number = expected(int64_of(text.as_str()), INT64_SHAPE)?;
+    Ok(Scalar::Int64(number))
+}
+
+// Writes the tree of an Int32: its text under `$numberInt`, or in the relaxed form the number.
+pub(crate) fn write_int32<S: Sink>(
+    form: Form,
+    number: i32,
+    out: &mut S,
+) -> Result<S::Tree, AllocError>
+    ensures written { IfOk result (λ t. S.wrote out.old (int32_form form number) t out.new) }
+    ensures before { S.before out.new ≡ S.before out.old }
+{
+    match form {
+        Form::Canonical => wrapped_numeral("$numberInt", number as i64, out),
+        Form::Relaxed => out.integer(number as i64),
+    }
+}
+
+// Writes the tree of an Int64: its text under `$numberLong`, or in the relaxed form the number.
+pub(crate) fn write_int64<S: Sink>(
+    form: Form,
+    number: i64,
+    out: &mut S,
+) -> Result<S::Tree, AllocError>
+    ensures written { IfOk result (λ t. S.wrote out.old (int64_form form number) t out.new) }
+    ensures before { S.before out.new ≡ S.before out.old }
+{
+    match form {
+        Form::Canonical => wrapped_numeral("$numberLong", number, out),
+        Form::Relaxed => out.integer(number),
+    }
+}

@@ -1,0 +1,49 @@
+//! The laws of scalars that the layer above builds on, each a fact of the definitions alone.
+ghost use Rattle.std.specs.Prelude.{to_bits};
+ghost use Rattle.std.specs.Float.{Float, binary64};
+ghost use Rattle.bson_double.specs.Text.{IsDoubleText};
+ghost use Rattle.bson_scalar.specs.Laws.{Meaning, OneMeaning, ReadForm, Tree, Writable, HasText};
+ghost use Rattle.bson_scalar.specs.Laws.{ReadsBack, NormalAgain, AsReadAgain};
+ghost use Rattle.bson_scalar.specs.Laws.{MeaningIn, OneMeaningIn, ReadFormIn, TreeIn, WritableIn};
+ghost use Rattle.bson_scalar.specs.Laws.{HasTextIn, AllWritable, ReadsBackIn};
+ghost use Rattle.bson_scalar.specs.TreeText.{IsDouble, float_text};
+ghost use Rattle.bson_scalar.specs.declared.form.Doubles.{Doubles};
+
+/// What reading a tree gives is its one meaning; what is read is writable.
+pub fn reading()
+    ensures meaning { Meaning }
+    ensures one { OneMeaning }
+    ensures form { ReadForm }
+{}
+
+/// What writing a scalar gives is the grammar's tree of its normal form, exactly for a writable
+/// one; of doubles these are the zeros, infinities and NaNs.
+pub fn writing()
+    ensures tree { Tree }
+    ensures writable { Writable }
+    ensures text { HasText }
+{}
+
+/// What is written reads back as the normal form, narrowed in the relaxed form.
+pub fn round_trip()
+    ensures back { ReadsBack }
+    ensures normal { NormalAgain }
+    ensures as_read { AsReadAgain }
+{}
+
+/// The same in each mode of doubles; in the mode `Finite` every scalar is writable.
+pub fn each_mode()
+    ensures meaning { (m : Doubles) → MeaningIn m }
+    ensures one { (m : Doubles) → OneMeaningIn m }
+    ensures form { (m : Doubles) → ReadFormIn m }
+    ensures tree { (m : Doubles) → TreeIn m }
+    ensures writable { (m : Doubles) → WritableIn m }
+    ensures all { AllWritable }
+    ensures text { (m : Doubles) → HasTextIn m }
+    ensures back { (m : Doubles) → ReadsBackIn m }
+{}
+
+/// The text of a finite double that is written as a JSON number is its shortest decimal.
+pub fn number_texts()
+    ensures { (x : Float) → IsDouble x → IsDoubleText (to_bits binary64 x) (float_text x) }
+{}

@@ -1,0 +1,72 @@
+//! Reads an object of one wrapper key: the table of wrappers and what each holds.
+ghost use Rattle.serde_json.specs.View.{view};
+ghost use Rattle.bson_scalar.specs.Faults.{Gives};
+ghost use Rattle.bson_scalar.specs.Reading.{single_in, single_at_in};
+ghost use Rattle.bson_scalar.specs.Table.{wrapper_of};
+ghost use Rattle.bson_scalar.specs.View.{scalar_view};
+
+use crate::binaries::{read_binary, read_uuid};
+use crate::dates::read_date;
+use crate::decimals::read_decimal;
+use crate::doubles::read_double;
+use crate::error::Error;
+use crate::form::Doubles;
+use crate::ids::{read_oid, read_pointer};
+use crate::ints::{read_int32, read_int64};
+use crate::lone::{read_max_key, read_min_key, read_undefined};
+use crate::regexes::read_regex;
+use crate::scalar::Scalar;
+use crate::texts::{read_code, read_symbol};
+use crate::timestamps::read_timestamp;
+use crate::wrapper::{Wrapper, named};
+use serde_json::Value;
+use std::alloc::Global;
+
+/// What the value under this wrapper's key means.
+///
+/// `InvalidObjectId` comes where the text of an object id alone is wrong, `DeserializationError`
+/// for every other tree that this wrapper does not hold.
+pub fn read_wrapper(
+    alloc: Global,
+    doubles: Doubles,
+    wrapper: Wrapper,
+    value: Value,
+) -> Result<Scalar, Error>
+    ensures { Gives scalar_view result (single_in doubles wrapper (view value)) }
+{
+    match wrapper {
+        Wrapper::Oid => read_oid(alloc, value),
+        Wrapper::Symbol => read_symbol(value),
+        Wrapper::RegularExpression => read_regex(alloc, value),
+        Wrapper::NumberInt => read_int32(value),
+        Wrapper::NumberLong => read_int64(value),
+        Wrapper::NumberDouble => read_double(doubles, value),
+        Wrapper::NumberDecimal => read_decimal(value),
+        Wrapper::Binary => read_binary(alloc, value),
+        Wrapper::Uuid => read_uuid(alloc, value),
+        Wrapper::Code => read_code(value),
+        Wrapper::Timestamp => read_timestamp(value),
+        Wrapper::Date => read_date(value),
+        Wrapper::MinKey => read_min_key(value),
+        Wrapper::MaxKey => read_max_key(value),
+        Wrapper::DbPointer => read_pointer(alloc, value),
+        Wrapper::Undefined => read_undefined(value),
+    }
+}
+
+/// What an object of this one key means, where it is a wrapper key; any other key is refused.
+pub fn read_single_in(
+    alloc: Global,
+    doubles: Doubles,
+    key: &str,
+    value: Value,
+) -> Result<Scalar, Error>
+    ensures { Gives scalar_view result (single_at_in doubles (wrapper_of key.now) (view value)) }
+{
+    match named(key) {
+        Some(wrapper) => read_wrapper(alloc, doubles, wrapper, value),
+        None => Err(Error::DeserializationError {
+            message: "an object of one wrapper key",
+        }),
+    }
+}

@@ -1,0 +1,48 @@
+//! `$regularExpression`: two texts. Read as `{"pattern": "a", "options": "xi"}` under that key,
+//! and written with the options sorted by character.
+ghost use Rattle.std.specs.Prelude.{◌≡◌, IfOk, string_bytes};
+ghost use Rattle.serde_json.specs.View.{view};
+ghost use Rattle.bson_types.specs.Regex.{sorted_text};
+ghost use Rattle.bson_scalar.specs.Faults.{Gives};
+ghost use Rattle.bson_scalar.specs.Reading.{regex_read};
+ghost use Rattle.bson_scalar.specs.Regexes.{regex_tree};
+ghost use Rattle.bson_scalar.specs.View.{scalar_view};
+
+use crate::error::Error;
+use crate::scalar::Scalar;
+use crate::shapes::{text_in, two_in};
+use crate::sink::Sink;
+use crate::wrapped::{begin, end_one, two_texts};
+use bson_types::regex::{Regex, sorted};
+use serde_json::Value;
+use std::alloc::{AllocError, Global};
+
+const SHAPE: &str = "`$regularExpression` holds the texts `pattern` and `options`";
+
+// What `$regularExpression` holds, as a regular expression with its options sorted.
+pub(crate) fn read_regex(alloc: Global, value: Value) -> Result<Scalar, Error>
+    ensures { Gives scalar_view result (regex_read (view value)) }
+{
+    let (options, pattern) = two_in(value, "options", "pattern", SHAPE)?;
+    let options = text_in(options, SHAPE)?;
+    let pattern = text_in(pattern, SHAPE)?;
+    let options = sorted(alloc, options.as_str())?;
+    Ok(Scalar::RegularExpression(Regex { pattern, options }))
+}
+
+// Writes the tree of a regular expression, in both forms, its options sorted.
+pub(crate) fn write_regex<S: Sink>(
+    alloc: Global,
+    regex: Regex,
+    out: &mut S,
+) -> Result<S::Tree, AllocError>
+    ensures written { IfOk result (λ t. S.wrote out.old
+        (regex_tree (string_bytes regex.pattern) (sorted_text (string_bytes regex.options))) t out.new) }
+    ensures before { S.before out.new ≡ S.before out.old }
+{
+    let Regex { pattern, options } = regex;
+    let ordered = sorted(alloc, options.as_str())?;
+    let key = begin("$regularExpression", out)?;
+    let texts = two_texts("options", ordered, "pattern", pattern, out)?;
+    end_one(key, texts, out)
+}

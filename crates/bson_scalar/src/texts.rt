@@ -1,0 +1,45 @@
+//! `$symbol`, and `$code` alone: a text. Read and written as `{"$symbol": "s"}`, `{"$code": "s"}`.
+ghost use Rattle.std.specs.Prelude.{◌≡◌, IfOk, string_bytes};
+ghost use Rattle.serde_json.specs.View.{view};
+ghost use Rattle.bson_scalar.specs.Faults.{Gives};
+ghost use Rattle.bson_scalar.specs.Reading.{symbol_read, code_read};
+ghost use Rattle.bson_scalar.specs.Texts.{symbol_tree, code_tree};
+ghost use Rattle.bson_scalar.specs.View.{scalar_view};
+
+use crate::error::Error;
+use crate::scalar::Scalar;
+use crate::shapes::text_in;
+use crate::sink::Sink;
+use crate::wrapped::wrapped_owned;
+use serde_json::Value;
+use std::alloc::AllocError;
+
+// What `$symbol` holds, as a symbol.
+pub(crate) fn read_symbol(value: Value) -> Result<Scalar, Error>
+    ensures { Gives scalar_view result (symbol_read (view value)) }
+{
+    Ok(Scalar::Symbol(text_in(value, "`$symbol` holds a text")?))
+}
+
+// What `$code` holds where it stands alone, as code without a scope.
+pub(crate) fn read_code(value: Value) -> Result<Scalar, Error>
+    ensures { Gives scalar_view result (code_read (view value)) }
+{
+    Ok(Scalar::JavaScriptCode(text_in(value, "`$code` holds a text")?))
+}
+
+// Writes the tree of a symbol, in both forms.
+pub(crate) fn write_symbol<S: Sink>(text: String, out: &mut S) -> Result<S::Tree, AllocError>
+    ensures written { IfOk result (λ t. S.wrote out.old (symbol_tree (string_bytes text)) t out.new) }
+    ensures before { S.before out.new ≡ S.before out.old }
+{
+    wrapped_owned("$symbol", text, out)
+}
+
+// Writes the tree of code without a scope, in both forms.
+pub(crate) fn write_code<S: Sink>(text: String, out: &mut S) -> Result<S::Tree, AllocError>
+    ensures written { IfOk result (λ t. S.wrote out.old (code_tree (string_bytes text)) t out.new) }
+    ensures before { S.before out.new ≡ S.before out.old }
+{
+    wrapped_owned("$code", text, out)
+}

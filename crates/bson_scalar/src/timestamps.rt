@@ -1,0 +1,58 @@
+//! `$timestamp`: two numbers, each from 0 to 4294967295. Read and written as `{"t": 1, "i": 2}`
+//! under that key.
+ghost use Rattle.std.specs.Prelude.{◌≡◌, ◌<◌, ◌^◌, IfOk, OnOk, codes};
+ghost use Rattle.serde_json.specs.View.{view};
+ghost use Rattle.bson_scalar.specs.Faults.{Gives};
+ghost use Rattle.bson_scalar.specs.Reading.{timestamp_read};
+ghost use Rattle.bson_scalar.specs.Shapes.{object_of_two, natural};
+ghost use Rattle.bson_scalar.specs.Timestamps.{timestamp_tree};
+ghost use Rattle.bson_scalar.specs.View.{scalar_view};
+
+use crate::error::Error;
+use crate::scalar::Scalar;
+use crate::shapes::{two_in, u32_of};
+use crate::sink::Sink;
+use crate::wrapped::{begin, end_one, end_two, second};
+use bson_types::timestamp::Timestamp;
+use serde_json::Value;
+use std::alloc::AllocError;
+
+const SHAPE: &str = "`$timestamp` holds `t` and `i`, whole numbers from 0 to 4294967295";
+
+// What `$timestamp` holds, as a timestamp: `t` is its time, `i` its increment.
+pub(crate) fn read_timestamp(value: Value) -> Result<Scalar, Error>
+    ensures { Gives scalar_view result (timestamp_read (view value)) }
+{
+    let (increment, time) = two_in(value, "i", "t", SHAPE)?;
+    match (u32_of(&time), u32_of(&increment)) {
+        (Some(time), Some(increment)) => Ok(Scalar::Timestamp(Timestamp { time, increment })),
+        _ => Err(Error::DeserializationError { message: SHAPE }),
+    }
+}
+
+// What `$timestamp` holds.
+fn write_times<S: Sink>(timestamp: Timestamp, out: &mut S) -> Result<S::Tree, AllocError>
+    ensures written { IfOk result (λ t. S.wrote out.old
+        (object_of_two (codes "i") (natural timestamp.increment) (codes "t") (natural timestamp.time)) t out.new) }
+    ensures before { S.before out.new ≡ S.before out.old }
+{
+    let key = begin("i", out)?;
+    let increment = out.natural(timestamp.increment)?;
+    let next = second(key, increment, "t", out)?;
+    let time = out.natural(timestamp.time)?;
+    end_two(next, time, out)
+}
+
+// Writes the tree of a timestamp, in both forms.
+pub(crate) fn write_timestamp<S: Sink>(
+    timestamp: Timestamp,
+    out: &mut S,
+) -> Result<S::Tree, AllocError>
+    ensures written { IfOk result (λ t. S.wrote out.old (timestamp_tree timestamp.time timestamp.increment) t out.new) }
+    ensures before { S.before out.new ≡ S.before out.old }
+    ensures ranged { OnOk result ((timestamp.time < 2 ^ 32) × (timestamp.increment < 2 ^ 32)) }
+{
+    let key = begin("$timestamp", out)?;
+    let times = write_times(timestamp, out)?;
+    end_one(key, times, out)
+}

@@ -1,0 +1,15 @@
+-- Which error it is.
+use Rattle.bson_types.specs.declared.binary.Error.{Error}
+use Rattle.bson_types.specs.declared.binary.Error.TheVariants.{DecodingError, Vector, OutOfMemory}
+
+abbrev pub IsDecodingError : Error → Type 0
+IsDecodingError (DecodingError message) = Unit {0}
+IsDecodingError _ = ⊥
+
+abbrev pub IsVectorError : Error → Type 0
+IsVectorError (Vector message) = Unit {0}
+IsVectorError _ = ⊥
+
+abbrev pub IsOutOfMemory : Error → Type 0
+IsOutOfMemory OutOfMemory = Unit {0}
+IsOutOfMemory _ = ⊥

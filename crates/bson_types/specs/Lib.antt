@@ -1,0 +1,17 @@
+pub mod Subtype
+pub mod Orders
+pub mod Base64
+pub mod Fault
+pub mod IgnoredBits
+pub mod Packed
+pub mod Vectors
+pub mod Displayed
+pub mod VectorData
+pub mod HexText
+pub mod Oid
+pub mod OidFault
+pub mod Regex
+pub mod Tags
+pub mod Timestamp
+pub mod DbPointer
+pub mod Uuid

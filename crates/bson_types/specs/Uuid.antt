@@ -1,0 +1,38 @@
+-- UUIDs: sixteen bytes, and the texts that spell them (RFC 9562 section 4, in either case of the digits).
+use Rattle.std.specs.Prelude.{◌≡◌, ℕ, List, ◌++◌, length, take, drop, codes}
+use Rattle.std.specs.Str.{str_to_ascii_lowercase}
+use Rattle.hex.specs.Hex.{IsBytes, encode_lower}
+use Rattle.bson_types.specs.HexText.{IsHexText}
+
+-- sixteen bytes
+abbrev pub IsUuid : List ℕ → Type 0
+IsUuid id = (length id ≡ 16) × IsBytes id
+
+-- 32 hexadecimal digits, two for each byte
+abbrev pub AreUuidDigits : List ℕ → List ℕ → Type 0
+AreUuidDigits digits id = IsHexText digits id × (length id ≡ 16)
+
+-- the digits in groups of 8, 4, 4, 4 and 12, with `-` between two groups
+abbrev pub in_groups : List ℕ → List ℕ
+in_groups digits =
+    take 8 digits ++ codes "-" ++ take 4 (drop 8 digits) ++ codes "-" ++ take 4 (drop 12 digits) ++ codes "-"
+    ++ take 4 (drop 16 digits) ++ codes "-" ++ drop 20 digits
+
+-- the digits of the id in their groups
+abbrev pub IsHyphenatedText : List ℕ → List ℕ → Type 0
+IsHyphenatedText text id = (digits : List ℕ) × AreUuidDigits digits id × (text ≡ in_groups digits)
+
+-- the text that is written: its digits are lower-case ones (RFC 9562 section 4)
+abbrev pub hyphenated_text : List ℕ → List ℕ
+hyphenated_text id = in_groups (encode_lower id)
+
+-- what a URN of a UUID opens with, in either case (RFC 8141 section 3.1)
+abbrev pub IsUrnPrefix : List ℕ → Type 0
+IsUrnPrefix prefix = str_to_ascii_lowercase prefix ≡ codes "urn:uuid:"
+
+-- the four spellings: the digits alone, hyphenated, hyphenated in braces, and as a URN
+pub data IsUuidText : List ℕ → List ℕ → Type 0 where
+  digits_alone : (text id : List ℕ) → AreUuidDigits text id → IsUuidText text id
+  hyphenated : (text id : List ℕ) → IsHyphenatedText text id → IsUuidText text id
+  braced : (text id : List ℕ) → IsHyphenatedText text id → IsUuidText (codes "{" ++ text ++ codes "}") id
+  urn : (prefix text id : List ℕ) → IsUrnPrefix prefix → IsHyphenatedText text id → IsUuidText (prefix ++ text) id

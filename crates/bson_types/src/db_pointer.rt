@@ -1,0 +1,64 @@
+//! Pointers into a collection (BSON 1.1, type 0x0C, deprecated).
+ghost use Rattle.std.specs.Prelude.{◌≡◌, IfOk, string_bytes};
+
+use crate::oid::ObjectId;
+use std::alloc::{AllocError, Global};
+
+/// The name of a collection, and the id of a document in it.
+///
+/// ```
+/// let id = ObjectId::parse_str(alloc, "53e37d08776f724e42000000")?;
+/// let pointer = DbPointer::new(String::from_str(alloc, "orders")?, id);
+/// println!(rt; "{} {}", pointer.namespace(), pointer.id())?; // orders 53e37d08776f724e42000000
+/// ```
+#[derive(Debug, Drop, PartialEq, Eq, Hash)]
+pub struct DbPointer {
+    namespace: String,
+    id: ObjectId,
+}
+
+impl DbPointer {
+    ghost use Rattle.bson_types.specs.DbPointer.{namespace_of, id_of};
+
+    /// The pointer to the document of this id in this collection.
+    pub fn new(namespace: String, id: ObjectId) -> DbPointer
+        ensures namespace { namespace_of result ≡ string_bytes namespace }
+        ensures id { id_of result ≡ id }
+    {
+        DbPointer { namespace, id }
+    }
+
+    /// The name of the collection.
+    pub fn namespace(&self) -> &str
+        ensures { result.now ≡ namespace_of self.now }
+    {
+        self.namespace.as_str()
+    }
+
+    /// The id of the document.
+    pub fn id(&self) -> ObjectId
+        ensures { result ≡ id_of self.now }
+    {
+        self.id
+    }
+
+    /// The name and the id, without a copy of the name.
+    pub fn into_parts(self) -> (String, ObjectId)
+        ensures namespace { string_bytes result.0 ≡ namespace_of self }
+        ensures id { result.1 ≡ id_of self }
+    {
+        let DbPointer { namespace, id } = self;
+        (namespace, id)
+    }
+
+    /// The same pointer, in memory of its own.
+    pub fn clone(&self, alloc: Global) -> Result<DbPointer, AllocError>
+        ensures namespace { IfOk result (λ p. namespace_of p ≡ namespace_of self.now) }
+        ensures id { IfOk result (λ p. id_of p ≡ id_of self.now) }
+    {
+        Ok(DbPointer {
+            namespace: String::from_str(alloc, self.namespace.as_str())?,
+            id: self.id,
+        })
+    }
+}

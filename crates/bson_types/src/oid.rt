@@ -1,0 +1,274 @@
+//! Object ids (BSON 1.1, type 0x07), and their texts of 24 hexadecimal digits.
+ghost use Rattle.std.specs.Prelude.{◌≡◌, ◌++◌, ℕ, List, Ok, Some, IfOk, IfErr, length, not};
+ghost use Rattle.std.specs.Prelude.{string_bytes};
+ghost use Rattle.std.specs.Cmp.Lexicographic.{nat_list_cmp_total, slice_cmp, texts_po, texts_ties};
+ghost use Rattle.std.specs.Int.{w32, to_be_bytes};
+ghost use Rattle.std.specs.Ordering.{nat_cmp};
+ghost use Rattle.std.proofs.Common.{refl};
+ghost use Rattle.bson_types.specs.Oid.{IsObjectId, IsOidText, BadLength, bad_place, encode_lower};
+ghost use Rattle.bson_types.specs.Oid.{fault_at, is_hex_digit, oid_fault, oid_millis};
+ghost use Rattle.bson_types.specs.OidFault.{IsOidError};
+ghost use Rattle.bson_types.specs.declared.oid.Error.TheVariants as oid_error;
+
+use bson_datetime::DateTime;
+use hex::FromHex;
+use std::alloc::{AllocError, Global};
+use std::cmp::Ordering;
+use std::fmt;
+use std::marker::Model;
+
+/// Why a text is no object id. `hex` is a copy of the text.
+///
+/// ```
+/// if let Err(error) = ObjectId::parse_str(alloc, "53e3") {
+///     println!(rt; "{error}")?; // an object id has 24 digits, but "53e3" has 4
+/// }
+/// ```
+#[derive(Debug, Drop, thiserror::Error)]
+pub enum Error {
+    /// The first byte that is no hexadecimal digit: the character whose number is that byte, and
+    /// its place, counted in bytes from 0.
+    #[error("the character '{c}' at {index} in \"{hex}\" is no hexadecimal digit")]
+    InvalidHexStringCharacter {
+        /// The character whose number is the byte.
+        c: char,
+        /// The byte's place, counted from 0.
+        index: usize,
+        /// A copy of the text.
+        hex: String,
+    },
+    /// A number of bytes other than 24.
+    #[error("an object id has 24 digits, but \"{hex}\" has {length}")]
+    InvalidHexStringLength {
+        /// The number of bytes of the text.
+        length: usize,
+        /// A copy of the text.
+        hex: String,
+    },
+    /// No memory was found for the copy of the text.
+    #[error("out of memory")]
+    OutOfMemory,
+}
+
+/// What a call on object ids answers.
+pub type Result<T, E = Error> = std::result::Result<T, E>;
+
+/// An object id of 12 bytes: 4 of seconds since 1970-01-01T00:00:00Z, 5 of process id and 3 of a
+/// counter, each big-endian.
+///
+/// Ids are ordered by seconds, then by process id, then by counter, as unsigned numbers.
+///
+/// ```
+/// let id = ObjectId::parse_str(alloc, "53e37d08776f724e42000000")?;
+/// println!(rt; "{id}")?; // 53e37d08776f724e42000000
+/// ```
+#[derive(Clone, Copy, Debug, PartialEq, Eq, Hash)]
+pub struct ObjectId {
+    bytes: [u8; 12],
+}
+
+impl Model for ObjectId {
+    ghost Value = { List ℕ };
+
+    ghost view = { λ id. id.bytes };
+
+    ghost inverse = { λ xs. record { bytes = xs } };
+}
+
+impl ObjectId {
+    /// The id of these bytes.
+    pub fn from_bytes(bytes: [u8; 12]) -> ObjectId
+        ensures { result ≡ bytes }
+    {
+        ObjectId { bytes }
+    }
+
+    /// The id of these seconds since 1970-01-01T00:00:00Z, process id and counter.
+    pub fn from_parts(seconds: u32, process_id: [u8; 5], counter: [u8; 3]) -> ObjectId
+        ensures { result ≡ to_be_bytes w32 seconds ++ process_id ++ counter }
+    {
+        ObjectId {
+            bytes: joined(&seconds.to_be_bytes(), &process_id, &counter),
+        }
+    }
+
+    /// Reads 24 hexadecimal digits of either case. A valid text takes no memory.
+    ///
+    /// Where several faults are in one text, the first of these is told: an odd number of bytes
+    /// (`InvalidHexStringLength`), a byte that is no digit (`InvalidHexStringCharacter`), another
+    /// number of bytes than 24 (`InvalidHexStringLength`). Each carries a copy of the text, and is
+    /// `OutOfMemory` where that copy finds no memory.
+    pub fn parse_str(alloc: Global, text: &str) -> Result<ObjectId>
+        ensures ok { IfOk result (λ id. IsOidText text.now id) }
+        ensures valid { (id : List ℕ) → IsOidText text.now id → result ≡ Ok id }
+
+        // No text that is an object id is refused, so the fault is there.
+        ensures err { IfErr result (λ e. IsOidError text.now e) }
+    {
+        if text.len() % 2 != 0 {
+            return Err(length_error(alloc, text));
+        }
+        match <[u8; 12] as FromHex>::from_hex(text) {
+            Ok(bytes) => Ok(ObjectId::from_bytes(bytes)),
+            Err(_) => Err(digit_error(alloc, text)),
+        }
+    }
+
+    /// The moment of the id's seconds.
+    pub fn timestamp(&self) -> DateTime
+        ensures { result ≡ oid_millis self.now }
+    {
+        let [a, b, c, d, ..] = self.bytes;
+        let seconds = u32::from_be_bytes([a, b, c, d]);
+        DateTime::from_millis(seconds as i64 * 1000)
+    }
+
+    /// The 12 bytes.
+    pub fn bytes(&self) -> [u8; 12]
+        ensures value { result ≡ self.now }
+        ensures ranged { IsObjectId self.now }
+    {
+        ranged(self.bytes)
+    }
+
+    /// The 24 lower-case hexadecimal digits, as Display writes them.
+    pub fn to_hex(&self, alloc: Global) -> Result<String, AllocError>
+        ensures { IfOk result (λ text. string_bytes text ≡ encode_lower self.now) }
+    {
+        hex::encode(alloc, self.bytes.as_slice())
+    }
+}
+
+impl From<[u8; 12]> for ObjectId {
+    ghost from_gives = { λ bytes id. id ≡ bytes };
+
+    fn from(bytes: [u8; 12]) -> ObjectId {
+        ObjectId::from_bytes(bytes)
+    }
+}
+
+impl Ord for ObjectId {
+    ghost use Rattle.bson_types.specs.Oid.{id_order};
+
+    ghost cmp = { slice_cmp nat_cmp };
+
+    ghost total = { nat_list_cmp_total };
+
+    ghost matches_partial_cmp = { λ x y. refl };
+
+    ghost matches_eq = { texts_ties };
+
+    fn cmp(&self, other: &ObjectId) -> Ordering
+        ensures bytes { result ≡ slice_cmp nat_cmp self.now other.now }
+        ensures numbers { result ≡ id_order self.now other.now }
+    {
+        self.bytes().cmp(&other.bytes())
+    }
+}
+
+impl PartialOrd for ObjectId {
+    ghost partial_cmp = { λ x y. Some (slice_cmp nat_cmp x y) };
+
+    ghost laws = { texts_po };
+
+    fn partial_cmp(&self, other: &ObjectId) -> Option<Ordering> {
+        Some(self.cmp(other))
+    }
+}
+
+impl fmt::Display for ObjectId {
+    ghost output = { λ id. Some (encode_lower id) };
+
+    fn fmt<W: fmt::Write>(&self, f: &mut fmt::Formatter<W>) -> fmt::Result {
+        let digits = digits_of(self);
+        match str::from_utf8(&digits) {
+            Ok(text) => f.write_str(text),
+            Err(_) => unreachable!(),
+        }
+    }
+}
+
+// What the type says of the bytes.
+fn ranged(bytes: [u8; 12]) -> [u8; 12]
+    ensures same { result ≡ bytes }
+    ensures ranged { IsObjectId bytes }
+{
+    bytes
+}
+
+fn length_error(alloc: Global, text: &str) -> Error
+    requires { oid_fault text.now ≡ BadLength (length text.now) }
+    ensures { IsOidError text.now result }
+{
+    match String::from_str(alloc, text) {
+        Ok(hex) => Error::InvalidHexStringLength {
+            length: text.len(),
+            hex,
+        },
+        Err(_) => Error::OutOfMemory,
+    }
+}
+
+// The fault of a text of an even number of bytes.
+fn digit_error(alloc: Global, text: &str) -> Error
+    requires { oid_fault text.now ≡ fault_at text.now (bad_place text.now) }
+    ensures { IsOidError text.now result }
+{
+    let bytes = text.as_bytes();
+    let Some(index) = bad_place_of(bytes) else {
+        return length_error(alloc, text);
+    };
+    match String::from_str(alloc, text) {
+        Ok(hex) => Error::InvalidHexStringCharacter {
+            c: char::from(bytes[index]),
+            index,
+            hex,
+        },
+        Err(_) => Error::OutOfMemory,
+    }
+}
+
+// The place of the first byte that is no digit.
+fn bad_place_of(bytes: &[u8]) -> Option<usize>
+    ensures { result ≡ bad_place bytes.now }
+{
+    bytes.iter().position(|byte| is_bad(*byte))
+}
+
+fn is_bad(byte: u8) -> bool
+    ensures { result ≡ not (is_hex_digit byte) }
+{
+    !matches!(byte, b'0'..=b'9' | b'a'..=b'f' | b'A'..=b'F')
+}
+
+// The three parts behind one another.
+fn joined(a: &[u8], b: &[u8], c: &[u8]) -> [u8; 12]
+    requires first { length a.now ≡ 4 }
+    requires second { length b.now ≡ 5 }
+    requires third { length c.now ≡ 3 }
+    ensures { result ≡ a.now ++ b.now ++ c.now }
+{
+    [
+        a[0], a[1], a[2], a[3], b[0], b[1], b[2], b[3], b[4], c[0], c[1], c[2],
+    ]
+}
+
+// The 24 digits of the bytes, on the stack.
+fn digits_of(id: &ObjectId) -> [u8; 24]
+    ensures { result ≡ encode_lower id.now }
+{
+    let mut digits = [0u8; 24];
+    let bytes = id.bytes;
+    match hex::encode_to_slice(bytes.as_slice(), &mut digits) {
+        Ok(()) => digits,
+        Err(_) => unreachable!(),
+    }
+}
+
+impl From<AllocError> for Error {
+    ghost from_gives = { λ _ e. e ≡ oid_error.OutOfMemory };
+
+    fn from(_refused: AllocError) -> Error {
+        Error::OutOfMemory
+    }
+}

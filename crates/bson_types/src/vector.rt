@@ -1,0 +1,294 @@
+//! Vectors of numbers or bits, and their bytes (the MongoDB BSON binary vector format).
+ghost use Rattle.std.specs.Prelude.{◌≡◌, ◌≢◌, [], ◌∷◌, ◌⊎◌, ◌↔◌, ◌<◌, ◌^◌, ◌%◌, FitsSigned, IfErr};
+ghost use Rattle.std.specs.Prelude.{IfOk, OnOk, false, length, map, true};
+ghost use Rattle.std.specs.Int.{cast_signed, cast_unsigned, w8};
+ghost use Rattle.std.specs.List.{AllByRecursion};
+ghost use Rattle.bson_types.specs.Oid.{IsBytes};
+ghost use Rattle.bson_types.specs.Fault.{IsOutOfMemory, IsVectorError};
+ghost use Rattle.bson_types.specs.Packed.{packed_bytes, packed_padding};
+ghost use Rattle.bson_types.specs.IgnoredBits.{cleared_bytes};
+ghost use Rattle.bson_types.specs.Vectors.{is_vector, is_vector_of_any_bits, le_bytes_of};
+ghost use Rattle.bson_types.specs.Vectors.{vector_bytes, cleared_vector};
+ghost use Rattle.bson_types.specs.VectorData.{IsInRange, IsOnlyOne, IsVectorBytes, packed, packed_view};
+ghost use Rattle.bson_types.specs.VectorData.{data_in_range, vector_view};
+
+use crate::binary::{Binary, Error, Result};
+use crate::packed::PackedBitVector;
+use crate::spec::BinarySubtype;
+use std::alloc::{AllocError, Global};
+
+const INT8: u8 = 0x03;
+
+const PACKED_BIT: u8 = 0x10;
+
+const FLOAT32: u8 = 0x27;
+
+const HEAD: &str = "a vector has a type and a padding";
+
+/// A vector as a binary of subtype Vector holds it.
+///
+/// ```
+/// let vector = Vector::Int8(Vec::from_slice(alloc, &[-1, 2])?);
+/// let binary = Binary::from_vector(alloc, &vector)?;
+/// println!(rt; "{:?}", binary.bytes)?; // [3, 0, 255, 2]
+/// println!(rt; "{:?}", Vector::from_binary(alloc, &binary)?)?; // Int8([-1, 2])
+/// ```
+#[derive(Debug, Drop, PartialEq, Eq)]
+pub enum Vector {
+    /// Signed whole numbers of 8 bits.
+    Int8(Vec<i8>),
+    /// Floating point numbers of 32 bits, by their patterns. In the bytes of a vector each is four
+    /// bytes, the lowest first.
+    Float32(Vec<u32>),
+    /// Single bits.
+    PackedBit(PackedBitVector),
+}
+
+impl Vector {
+    /// Reads the bytes of a vector: its type, its padding and its data. Writing the vector gives
+    /// the same bytes again, and no other vector has them.
+    ///
+    /// Refused as `Vector` are fewer than 2 bytes, a type other than 0x03 (int8), 0x10 (packed
+    /// bits) and 0x27 (float32), a padding other than 0 of another type than packed bits, float32
+    /// data whose length is no multiple of 4, and packed bits with a padding above 7, or without
+    /// data and with a padding, or with an ignored bit that is not zero.
+    pub fn from_bytes(alloc: Global, bytes: &[u8]) -> Result<Vector>
+        ensures ok { IfOk result (λ v. vector_bytes v ≡ bytes.now) }
+        ensures ranged { IfOk result (λ v. IsInRange (vector_view v)) }
+        ensures only { IfOk result (λ v. IsOnlyOne bytes.now (vector_view v)) }
+
+        // Exactly the bytes of a vector are accepted: those that some data in range has.
+        ensures accepted { OnOk result (is_vector bytes.now ≡ true) }
+        ensures refused { IfErr result (λ e. IsOutOfMemory e ⊎ (IsVectorError e × (is_vector bytes.now ≡ false))) }
+        ensures meaning { (is_vector bytes.now ≡ true) ↔ IsVectorBytes bytes.now }
+    {
+        match bytes {
+            [PACKED_BIT, padding, data @ ..] => packed_bits(alloc, *padding, data),
+            [kind, padding, data @ ..] => numbers(alloc, *kind, *padding, data),
+            _ => Err(Error::Vector { message: HEAD }),
+        }
+    }
+
+    /// Reads the bytes of a vector as `from_bytes` does, whatever its ignored bits hold, and makes
+    /// these zero: the vector written again is the input with the ignored bits zero. Where
+    /// `from_bytes` accepts, the two answers are equal.
+    pub fn from_bytes_clearing(alloc: Global, bytes: &[u8]) -> Result<Vector>
+        ensures ok { IfOk result (λ v. vector_bytes v ≡ cleared_vector bytes.now) }
+        ensures ranged { IfOk result (λ v. IsInRange (vector_view v)) }
+        ensures only { IfOk result (λ v. IsOnlyOne (cleared_vector bytes.now) (vector_view v)) }
+
+        // What `from_bytes` reads in these bytes is the same.
+        ensures same { IfOk result (λ v. IsOnlyOne bytes.now (vector_view v)) }
+        ensures takes_more { is_vector bytes.now ≡ true → is_vector_of_any_bits bytes.now ≡ true }
+
+        // Exactly the bytes of a vector are accepted, whatever its ignored bits.
+        ensures accepted { OnOk result (is_vector_of_any_bits bytes.now ≡ true) }
+        ensures refused { IfErr result (λ e. IsOutOfMemory e
+            ⊎ (IsVectorError e × (is_vector_of_any_bits bytes.now ≡ false))) }
+    {
+        match bytes {
+            [PACKED_BIT, padding, data @ ..] => cleared_bits(alloc, *padding, data),
+            [kind, padding, data @ ..] => numbers(alloc, *kind, *padding, data),
+            _ => Err(Error::Vector { message: HEAD }),
+        }
+    }
+
+    /// Reads the bytes of a binary of subtype Vector. Another subtype is refused as `Vector`, and
+    /// the bytes as `from_bytes` refuses them.
+    pub fn from_binary(alloc: Global, binary: &Binary) -> Result<Vector>
+        ensures subtype { OnOk result (binary.now.subtype ≡ BinarySubtype.Vector) }
+        ensures ok { IfOk result (λ v. vector_bytes v ≡ binary.now.bytes.items) }
+        ensures ranged { IfOk result (λ v. IsInRange (vector_view v)) }
+        ensures only { IfOk result (λ v. IsOnlyOne binary.now.bytes.items (vector_view v)) }
+
+        ensures accepted { OnOk result (is_vector binary.now.bytes.items ≡ true) }
+        ensures refused { IfErr result (λ e. IsOutOfMemory e
+            ⊎ (IsVectorError e
+            × ((binary.now.subtype ≢ BinarySubtype.Vector) ⊎ (is_vector binary.now.bytes.items ≡ false)))) }
+    {
+        if binary.subtype != BinarySubtype::Vector {
+            return Err(Error::Vector {
+                message: "the subtype is not Vector",
+            });
+        }
+        Vector::from_bytes(alloc, binary.bytes.as_slice())
+    }
+
+    /// The same vector, in memory of its own.
+    pub fn clone(&self, alloc: Global) -> Result<Vector, AllocError>
+        ensures { IfOk result (λ v. vector_view v ≡ vector_view self.now) }
+    {
+        Ok(match self {
+            Vector::Int8(items) => Vector::Int8(Vec::from_slice(alloc, items.as_slice())?),
+            Vector::Float32(items) => Vector::Float32(Vec::from_slice(alloc, items.as_slice())?),
+            Vector::PackedBit(packed) => Vector::PackedBit(packed.clone(alloc)?),
+        })
+    }
+
+    // The bytes that `from_bytes` reads as this vector.
+    pub(crate) fn to_bytes(&self, alloc: Global) -> Result<Vec<u8>, AllocError>
+        ensures bytes { IfOk result (λ v. v.items ≡ vector_bytes self.now) }
+        ensures readable { OnOk result (is_vector (vector_bytes self.now) ≡ true) }
+        ensures ranged { OnOk result (IsInRange (data_in_range self.now)) }
+    {
+        match self {
+            Vector::Int8(items) => int8_bytes(alloc, items.as_slice()),
+            Vector::Float32(items) => float32_bytes(alloc, items.as_slice()),
+            Vector::PackedBit(packed) => packed_bytes_of(alloc, packed),
+        }
+    }
+}
+
+fn packed_bits(alloc: Global, padding: u8, contents: &[u8]) -> Result<Vector>
+    ensures ok { IfOk result (λ v. vector_view v ≡ packed contents.now padding) }
+    ensures ranged { IfOk result (λ v. IsInRange (vector_view v)) }
+    ensures accepted { OnOk result (is_vector (0x10 ∷ padding ∷ contents.now) ≡ true) }
+    ensures refused { IfErr result (λ e. IsOutOfMemory e
+        ⊎ (IsVectorError e × (is_vector (0x10 ∷ padding ∷ contents.now) ≡ false))) }
+{
+    let Ok(bytes) = Vec::from_slice(alloc, contents) else {
+        return Err(Error::OutOfMemory);
+    };
+    Ok(Vector::PackedBit(PackedBitVector::new(bytes, Some(padding))?))
+}
+
+fn cleared_bits(alloc: Global, padding: u8, contents: &[u8]) -> Result<Vector>
+    ensures ok { IfOk result (λ v. vector_view v ≡ packed (cleared_bytes contents.now padding) padding) }
+    ensures ranged { IfOk result (λ v. IsInRange (vector_view v)) }
+    ensures accepted { OnOk result (is_vector_of_any_bits (0x10 ∷ padding ∷ contents.now) ≡ true) }
+    ensures refused { IfErr result (λ e. IsOutOfMemory e
+        ⊎ (IsVectorError e × (is_vector_of_any_bits (0x10 ∷ padding ∷ contents.now) ≡ false))) }
+{
+    let Ok(bytes) = Vec::from_slice(alloc, contents) else {
+        return Err(Error::OutOfMemory);
+    };
+    Ok(Vector::PackedBit(PackedBitVector::clearing(bytes, padding)?))
+}
+
+fn numbers(alloc: Global, kind: u8, padding: u8, contents: &[u8]) -> Result<Vector>
+    requires { kind ≢ 0x10 }
+    ensures ok { IfOk result (λ v. vector_bytes v ≡ kind ∷ padding ∷ contents.now) }
+    ensures ranged { IfOk result (λ v. IsInRange (vector_view v)) }
+    ensures accepted { OnOk result (is_vector (kind ∷ padding ∷ contents.now) ≡ true) }
+    ensures refused { IfErr result (λ e. IsOutOfMemory e
+        ⊎ (IsVectorError e × (is_vector_of_any_bits (kind ∷ padding ∷ contents.now) ≡ false))) }
+{
+    if padding != 0 {
+        return Err(Error::Vector {
+            message: "only packed bits have a padding",
+        });
+    }
+    match kind {
+        INT8 => Ok(Vector::Int8(signed_bytes(alloc, contents)?)),
+        FLOAT32 => Ok(Vector::Float32(words(alloc, contents)?)),
+        _ => Err(Error::Vector {
+            message: "a type that no vector has",
+        }),
+    }
+}
+
+fn signed_bytes(alloc: Global, contents: &[u8]) -> Result<Vec<i8>>
+    ensures ok { IfOk result (λ v. map (cast_unsigned w8) v.items ≡ contents.now) }
+    ensures range { IfOk result (λ v. AllByRecursion (FitsSigned w8) v.items) }
+    ensures err { IfErr result IsOutOfMemory }
+{
+    match collected(alloc, contents) {
+        Ok(v) => Ok(v),
+        Err(_) => Err(Error::OutOfMemory),
+    }
+}
+
+fn collected(alloc: Global, contents: &[u8]) -> Result<Vec<i8>, AllocError>
+    ensures { IfOk result (λ v. v.items ≡ map (cast_signed w8) contents.now) }
+{
+    contents
+        .iter()
+        .map(|byte| byte.cast_signed())
+        .collect(alloc)
+}
+
+fn words(alloc: Global, contents: &[u8]) -> Result<Vec<u32>>
+    ensures ok { IfOk result (λ v. le_bytes_of v.items ≡ contents.now) }
+    ensures range { IfOk result (λ v. AllByRecursion (λ n. n < 2 ^ 32) v.items) }
+    ensures whole { OnOk result (length contents.now % 4 ≡ 0) }
+    ensures err { IfErr result (λ e. IsOutOfMemory e ⊎ (IsVectorError e × (length contents.now % 4 ≢ 0))) }
+{
+    if contents.len() % 4 != 0 {
+        return Err(Error::Vector {
+            message: "the length of float32 data is no multiple of 4",
+        });
+    }
+    let Ok(mut words) = Vec::with_capacity(alloc, contents.len() / 4) else {
+        return Err(Error::OutOfMemory);
+    };
+    let mut rest = contents;
+    'words: while let [a, b, c, d, others @ ..] = rest {
+        if words.push(u32::from_le_bytes([*a, *b, *c, *d])).is_err() {
+            return Err(Error::OutOfMemory);
+        }
+        rest = others;
+    }
+    words_in_range(words.as_slice());
+    Ok(words)
+}
+
+// What the types say of numbers.
+pub(crate) fn are_bytes(bytes: &[u8])
+    ensures { IsBytes bytes.now }
+{
+    let _len = bytes.len();
+}
+
+fn words_in_range(items: &[u32])
+    ensures { AllByRecursion (λ n. n < 2 ^ 32) items.now }
+{
+    let _len = items.len();
+}
+
+fn int8_bytes(alloc: Global, items: &[i8]) -> Result<Vec<u8>, AllocError>
+    ensures bytes { IfOk result (λ v. v.items ≡ 0x03 ∷ 0 ∷ map (cast_unsigned w8) items.now) }
+    ensures readable { OnOk result (is_vector (0x03 ∷ 0 ∷ map (cast_unsigned w8) items.now) ≡ true) }
+    ensures range { OnOk result (IsBytes (map (cast_unsigned w8) items.now)) }
+{
+    let mut bytes = head(alloc, INT8, 0, items.len())?;
+    'items: for item in items {
+        bytes.push(item.cast_unsigned())?;
+    }
+    are_bytes(bytes.as_slice());
+    Ok(bytes)
+}
+
+#[tactic(auto, using(crate::proofs::VectorLaws::vector_lemmas))]
+fn float32_bytes(alloc: Global, items: &[u32]) -> Result<Vec<u8>, AllocError>
+    ensures bytes { IfOk result (λ v. v.items ≡ 0x27 ∷ 0 ∷ le_bytes_of items.now) }
+    ensures range { OnOk result (AllByRecursion (λ n. n < 2 ^ 32) items.now) }
+    ensures readable { OnOk result (is_vector (0x27 ∷ 0 ∷ le_bytes_of items.now) ≡ true) }
+{
+    words_in_range(items);
+    let mut bytes = head(alloc, FLOAT32, 0, items.len().saturating_mul(4))?;
+    'items: for item in items {
+        bytes.extend_from_slice(&item.to_le_bytes())?;
+    }
+    Ok(bytes)
+}
+
+fn packed_bytes_of(alloc: Global, packed: &PackedBitVector) -> Result<Vec<u8>, AllocError>
+    ensures bytes { IfOk result (λ v. v.items ≡ 0x10 ∷ packed_padding packed.now ∷ packed_bytes packed.now) }
+    ensures range { OnOk result (IsInRange (packed_view packed.now)) }
+    ensures readable { OnOk result (is_vector (0x10 ∷ packed_padding packed.now ∷ packed_bytes packed.now) ≡ true) }
+{
+    let data = packed.as_bytes();
+    let mut bytes = head(alloc, PACKED_BIT, packed.padding(), data.len())?;
+    bytes.extend_from_slice(data)?;
+    Ok(bytes)
+}
+
+// The type and the padding, with room for the data.
+fn head(alloc: Global, kind: u8, padding: u8, room: usize) -> Result<Vec<u8>, AllocError>
+    ensures { IfOk result (λ v. v.items ≡ kind ∷ padding ∷ []) }
+{
+    let mut bytes = Vec::with_capacity(alloc, room.saturating_add(2))?;
+    bytes.push(kind)?;
+    bytes.push(padding)?;
+    Ok(bytes)
+}

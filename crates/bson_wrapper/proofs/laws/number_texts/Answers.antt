@@ -1,5 +1,0 @@
-use Rattle.bson_wrapper.proofs.TreeTexts.{float_text_is}
-use Rattle.bson_wrapper.proofs.laws.number_texts.Goals as goal
-
-pub returns : goal.returns
-returns c = float_text_is

@@ -1,8 +1,0 @@
-use Rattle.bson_wrapper.proofs.Appending.{if_ok, keyed_next}
-use Rattle.bson_wrapper.proofs.sink.WriterSink.key.Goals as goal
-
-pub returns-clause-written : goal.returns-clause-written
-returns-clause-written c =
-    if_ok c.key.result c.key.ensures.ok
-    (λ x h start ms begun. keyed_next start.tokens c.args.self.now.tokens c.key.new.self.tokens ms c.args.name.now begun
-    h)
