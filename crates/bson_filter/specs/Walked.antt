@@ -1,6 +1,8 @@
 -- What a walk over the tokens of a text has read, and that its value was written, by a writer's own word for a value
 -- that was written under a name: for private clauses.
 use Rattle.std.specs.Prelude.{◌≡◌, ◌<◌, ◌+◌, ℕ, List, [], ◌∷◌, length, Bool, true, false, Option, None, Some, Ok}
+use Rattle.std.specs.Prelude.{if◌then◌else◌}
+use Rattle.std.specs.Str.{bytes_eq}
 use Rattle.json.specs.Json as json
 use Rattle.json.specs.Json.{value, members, members_step, read_key}
 use Rattle.json.specs.Token.{Token}
@@ -29,6 +31,20 @@ PairsWritten {S} wrote keyed (pair k v ps) old new =
 abbrev pub keys_of : Pairs → List (List ℕ)
 keys_of no_pairs = []
 keys_of (pair k v ps) = k ∷ keys_of ps
+
+-- the pairs with v at k: at k's place where k is there, else last
+abbrev pub set_pair : List ℕ → Value → Pairs → Pairs
+set_pair k v no_pairs = pair k v no_pairs
+set_pair k v (pair l w ps) = if bytes_eq k l then pair l v ps else pair l w (set_pair k v ps)
+
+-- the pairs after each in turn is set
+abbrev pub set_each : Pairs → Pairs → Pairs
+set_each no_pairs found = found
+set_each (pair k v ps) found = set_each ps (set_pair k v found)
+
+-- each key once: of one that stands twice the last value, at the place of the first
+abbrev pub once : Pairs → Pairs
+once ps = set_each ps no_pairs
 
 module _ (D : Doubles) where
   -- a tree was read, of which these tokens are left, and of the value that it means in its order this holds

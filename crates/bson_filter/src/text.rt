@@ -1,6 +1,7 @@
 //! A text of Extended JSON that values are written to.
 ghost use Rattle.std.specs.Prelude.{◌≡◌};
 
+use crate::distinct::are_distinct;
 use crate::unstreamed::Unstreamed;
 use crate::writer::ValueWriter;
 use bson_scalar::code::put_code;
@@ -82,7 +83,10 @@ impl ValueWriter for TextWriter {
         Ok(self.out.key(name)?)
     }
 
-    fn end(&mut self, _open: ()) -> Result<(), Unstreamed> {
+    fn end(&mut self, _open: (), keys: &mut [&str]) -> Result<(), Unstreamed> {
+        if !are_distinct(self.alloc, keys) {
+            return Err(Unstreamed::Left);
+        }
         Ok(self.out.end_object()?)
     }
 

@@ -11,7 +11,6 @@ ghost use Rattle.bson_order.specs.Kept.{kept, kept_items};
 ghost use Rattle.bson_filter.specs.Walked.{TreeMeans, ItemsMean, ObjectMeans, MembersMean, ScopeMeans};
 ghost use Rattle.bson_filter.specs.Walked.{kept_object, inside, from_key};
 
-use crate::distinct::are_distinct;
 use crate::unstreamed::Unstreamed;
 use crate::writer::ValueWriter;
 use bson_scalar::code::is_code_with_scope;
@@ -165,11 +164,9 @@ pub fn write_document<'a, W: ValueWriter>(
         write_value(alloc, doubles, reader, depth, key, keys, out)?;
         next = reader.next_key()?;
     }
-    if !are_distinct(alloc, &mut keys.as_mut_slice()[held..]) {
-        return Err(Unstreamed::Left);
-    }
+    out.end(begun, &mut keys.as_mut_slice()[held..])?;
     keys.truncate(held);
-    out.end(begun)
+    Ok(())
 }
 
 // The key is a wrapper's, which no document has.

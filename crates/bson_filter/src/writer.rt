@@ -1,10 +1,9 @@
 //! What the values of a text are written to as they are read.
-ghost use Rattle.std.specs.Prelude.{◌≡◌, ℕ, List, OnOk, IfOk};
-ghost use Rattle.json.specs.Strict.{AreDistinct};
+ghost use Rattle.std.specs.Prelude.{◌≡◌, ℕ, List, map, OnOk, IfOk};
 ghost use Rattle.bson_scalar.specs.Scalar as kind;
 ghost use Rattle.bson_scalar.specs.View.{scalar_view};
 ghost use Rattle.bson_model.specs.Value.{Value, Values, Pairs, scalar, code_scope, array, document};
-ghost use Rattle.bson_filter.specs.Walked.{ItemsWritten, PairsWritten, keys_of};
+ghost use Rattle.bson_filter.specs.Walked.{ItemsWritten, PairsWritten, keys_of, once};
 
 use crate::unstreamed::Unstreamed;
 use bson_scalar::scalar::Scalar;
@@ -81,12 +80,15 @@ pub trait ValueWriter {
     fn key(&mut self, name: &str) -> Result<(), Unstreamed>
         ensures { OnOk result (keyed self.old name.now self.new) };
 
-    /// Ends the document that was begun, whose keys differ.
-    fn end(&mut self, begun: Self::Open) -> Result<(), Unstreamed>
+    /// Ends the document that was begun, whose keys are these, in the order in which they came: of a
+    /// key that came twice the last value stands, at the place of the first. They may be put in
+    /// another order. A writer may leave such a document.
+    fn end(&mut self, begun: Self::Open, keys: &mut [&str]) -> Result<(), Unstreamed>
         requires { (start : Self) × (mid : Self) × (ps : Pairs) × opened start begun mid
-            × PairsWritten wrote keyed ps mid self.old }
+            × PairsWritten wrote keyed ps mid self.old × (keys_of ps ≡ map (λ k. k.now) keys.old) }
         ensures { OnOk result ((start : Self) (mid : Self) (ps : Pairs) → opened start begun mid
-            → PairsWritten wrote keyed ps mid self.old → AreDistinct (keys_of ps) → framed start ps self.new) };
+            → PairsWritten wrote keyed ps mid self.old → keys_of ps ≡ map (λ k. k.now) keys.old
+            → framed start (once ps) self.new) };
 
     /// Begins code with its scope.
     fn begin_code(&mut self, name: &str, code: &str) -> Result<Self::Open, Unstreamed>
