@@ -4,6 +4,7 @@ pub mod Keys
 pub mod Members
 pub mod Objects
 pub mod Offered
+pub mod Once
 pub mod Sending
 pub mod Walking
 pub mod Wrappers

@@ -1,22 +1,26 @@
--- The members of an object in which no key stands twice: they are kept as they stand.
-use Rattle.std.proofs.Common.{◌≡◌, ℕ, List, [], ◌∷◌, ◌||◌, Option, Some, None, option_map, option_and_then, refl}
-use Rattle.std.proofs.Common.{sym, ap, ◌∙◌, subst}
-use Rattle.std.specs.Str.{bytes_eq}
+-- The members of an object put one after another, and what they mean.
+use Rattle.std.proofs.Common.{◌≡◌, ℕ, List, Bool, true, false, cond, Option, Some, None, option_map, option_and_then}
+use Rattle.std.proofs.Common.{Result, Ok, Err, bytes_eq, is_some, refl, sym, ap, ◌∙◌}
+use Rattle.std.proofs.lemmas.Bool.{or_parts}
 use Rattle.json.specs.Json as json
-use Rattle.json.specs.Strict.{AreDistinct}
 use Rattle.serde_json.specs.Data.{Data, Members, no_members, member}
-use Rattle.bson_order.specs.Kept.{kept, kept_members, has_key, KeysDiffer}
-use Rattle.bson_order.proofs.Offered.{joined, joined_again, joined_none, put_last}
-use Rattle.bson_filter.proofs.Differ.{stands, Differ, differ}
-
-abbrev pub names : Members → List (List ℕ)
-names no_members = []
-names (member k d ms) = k ∷ names ms
+use Rattle.bson_scalar.specs.Faults.{Fault, ◌>>=◌}
+use Rattle.bson_scalar.specs.Table.{wrapper_of, has_wrapper}
+use Rattle.bson_scalar.specs.declared.form.Doubles.{Doubles}
+use Rattle.bson_model.specs.Value.{Value, Pairs, no_pairs, pair}
+use Rattle.bson_order.specs.Kept.{kept, kept_members, put_kept}
+use Rattle.bson_order.specs.Reading.{reads_in_order, members_in_order}
+use Rattle.bson_filter.specs.Walked.{set_pair, set_each}
 
 -- the members as they stand
 abbrev pub as_they_stand : json.Members → Option Members
 as_they_stand json.no_members = Some no_members
 as_they_stand (json.member k j ms) = option_and_then (λ d. option_map (member k d) (as_they_stand ms)) (kept j)
+
+-- the members after each in turn is put
+abbrev pub put_each : Members → Members → Members
+put_each no_members found = found
+put_each (member k d ms) found = put_each ms (put_kept k d found)
 
 first_of : (k : List ℕ) (x : Option Data) (y : Option Members) (ms : Members)
     → option_and_then (λ d. option_map (member k d) y) x ≡ Some ms
@@ -25,30 +29,68 @@ first_of k None y ms h = cc
 first_of k (Some d) None ms h = cc
 first_of k (Some d) (Some ds) ms h = (d, ds, refl, refl, cc)
 
--- put in one after another they are as they stand
-entered : (js : json.Members) (found ms : Members) → as_they_stand js ≡ Some ms → KeysDiffer (joined found ms)
-    → kept_members js found ≡ Some (joined found ms)
-entered json.no_members found no_members is differ = ap Some (sym (joined_none found))
-entered json.no_members found (member k d ms) is differ = cc
-entered (json.member k j js) found ms is differ =
+pub kept_each : (js : json.Members) (ms found : Members) → as_they_stand js ≡ Some ms
+    → kept_members js found ≡ Some (put_each ms found)
+kept_each json.no_members no_members found is = refl
+kept_each json.no_members (member k d ms) found is = cc
+kept_each (json.member k j js) ms found is =
     let g = first_of k (kept j) (as_they_stand js) ms is in
-    let d = g.0 in
-    let ds = g.1 in
-    let parts : KeysDiffer (joined found (member k d ds)) = subst (λ x. KeysDiffer (joined found x)) g.4 differ in
-    let again = joined_again found k d ds in
-    rw (g.2, put_last found k d ds parts) (entered js (joined found (member k d no_members)) ds g.3
-    (subst KeysDiffer (sym again) parts) ∙ ap Some (again ∙ ap (joined found) (sym g.4)))
+    ap (option_and_then (λ d. kept_members js (put_kept k d found))) g.2
+    ∙ kept_each js g.1 (put_kept k g.0 found) g.3 ∙ ap (λ all. Some (put_each all found)) (sym g.4)
 
--- ---- keys that differ
+-- ---- no wrapper's key
 
-has_is : (k : List ℕ) (ms : Members) → has_key k ms ≡ stands k (names ms)
-has_is k no_members = refl
-has_is k (member l e ms) = ap (λ b. bytes_eq k l || b) (has_is k ms)
+free_at : (b : Bool) (k l : List ℕ) (d e : Data) (ms : Members) → has_wrapper (member l e ms) ≡ false
+    → has_wrapper (put_kept k d ms) ≡ false → has_wrapper (cond b (member l d ms) (member l e (put_kept k d ms))) ≡ false
+free_at true k l d e ms h more = h
+free_at false k l d e ms h more = rw ((or_parts (is_some (wrapper_of l)) (has_wrapper ms) h).0, more) refl
 
-members_differ : (ms : Members) → Differ (names ms) → KeysDiffer ms
-members_differ no_members h = tt
-members_differ (member k d ms) h = (has_is k ms ∙ h.0, members_differ ms h.1)
+free_put : (k : List ℕ) (d : Data) (ms : Members) → is_some (wrapper_of k) ≡ false → has_wrapper ms ≡ false
+    → has_wrapper (put_kept k d ms) ≡ false
+free_put k d no_members plain h = rw plain refl
+free_put k d (member l e ms) plain h =
+    free_at (bytes_eq k l) k l d e ms h
+    (free_put k d ms plain (or_parts (is_some (wrapper_of l)) (has_wrapper ms) h).1)
 
-pub kept_as_they_stand : (js : json.Members) (ms : Members) → as_they_stand js ≡ Some ms → AreDistinct (names ms)
-    → kept_members js no_members ≡ Some ms
-kept_as_they_stand js ms is apart = entered js no_members ms is (members_differ ms (differ (names ms) apart))
+pub free_each : (ms found : Members) → has_wrapper ms ≡ false → has_wrapper found ≡ false
+    → has_wrapper (put_each ms found) ≡ false
+free_each no_members found h free = free
+free_each (member k d ms) found h free =
+    let parts = or_parts (is_some (wrapper_of k)) (has_wrapper ms) h in
+    free_each ms (put_kept k d found) parts.1 (free_put k d found parts.0 free)
+
+-- ---- what they mean
+
+module _ (D : Doubles) where
+  first_read : (k : List ℕ) (x : Result Value Fault) (y : Result Pairs Fault) (ps : Pairs)
+      → (x >>= λ v. y >>= λ qs. Ok (pair k v qs)) ≡ Ok ps
+      → (v : Value) × (qs : Pairs) × (x ≡ Ok v) × (y ≡ Ok qs) × (ps ≡ pair k v qs)
+  first_read k (Err e) y ps h = cc
+  first_read k (Ok v) (Err e) ps h = cc
+  first_read k (Ok v) (Ok qs) ps h = (v, qs, refl, refl, cc)
+
+  reads_at : (b : Bool) (k l : List ℕ) (d e : Data) (v w : Value) (ms : Members) (ps : Pairs)
+      → reads_in_order D d ≡ Ok v → reads_in_order D e ≡ Ok w → members_in_order D ms ≡ Ok ps
+      → members_in_order D (put_kept k d ms) ≡ Ok (set_pair k v ps)
+      → members_in_order D (cond b (member l d ms) (member l e (put_kept k d ms)))
+      ≡ Ok (cond b (pair l v ps) (pair l w (set_pair k v ps)))
+  reads_at true k l d e v w ms ps new old all more = rw (new, all) refl
+  reads_at false k l d e v w ms ps new old all more = rw (old, more) refl
+
+  reads_put : (k : List ℕ) (d : Data) (v : Value) (ms : Members) (ps : Pairs) → reads_in_order D d ≡ Ok v
+      → members_in_order D ms ≡ Ok ps → members_in_order D (put_kept k d ms) ≡ Ok (set_pair k v ps)
+  reads_put k d v no_members no_pairs new all = rw new refl
+  reads_put k d v no_members (pair l w ps) new all = cc
+  reads_put k d v (member l e ms) ps new all =
+      let g = first_read l (reads_in_order D e) (members_in_order D ms) ps all in
+      reads_at (bytes_eq k l) k l d e v g.0 ms g.1 new g.2 g.3 (reads_put k d v ms g.1 new g.3)
+      ∙ ap (λ qs. Ok (set_pair k v qs)) (sym g.4)
+
+  pub reads_each : (ms found : Members) (ps qs : Pairs) → members_in_order D ms ≡ Ok ps → members_in_order D found ≡ Ok qs
+      → members_in_order D (put_each ms found) ≡ Ok (set_each ps qs)
+  reads_each no_members found no_pairs qs all is = is
+  reads_each no_members found (pair k v ps) qs all is = cc
+  reads_each (member k d ms) found ps qs all is =
+      let g = first_read k (reads_in_order D d) (members_in_order D ms) ps all in
+      reads_each ms (put_kept k d found) g.1 (set_pair k g.0 qs) g.3 (reads_put k d g.0 found qs g.2 is)
+      ∙ ap (λ x. Ok (set_each x qs)) (sym g.4)

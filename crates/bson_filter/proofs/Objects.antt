@@ -4,7 +4,6 @@ use Rattle.std.proofs.Common.{Bor, true, false, option_map, option_and_then, ref
 use Rattle.std.proofs.Common.{Bool, codes, ◌&&◌, arith, append-nil, subst, drop, is_some}
 use Rattle.json.specs.Json as json
 use Rattle.json.specs.Json.{Parse, parse_map, after_end_array, read_key, items, members, members_step, value, if_last}
-use Rattle.json.specs.Strict.{AreDistinct}
 use Rattle.json.specs.Token.{Token}
 use Rattle.json.proofs.Grammar.{members_end, read_key_is}
 use Rattle.json.proofs.Grammar.{key_token, read_key-shorter, members_more}
@@ -34,9 +33,8 @@ drop_first [] ks = refl
 drop_first (k ∷ old) ks = drop_first old ks
 
 -- the keys that were held behind the old ones
-pub pushed : (old ks all : List Key) → all ≡ old ++ ks → AreDistinct (texts (drop (length old) all))
-    → AreDistinct (texts ks)
-pushed old ks all e h = subst (λ x. AreDistinct (texts x)) (ap (drop (length old)) e ∙ drop_first old ks) h
+pub pushed : (old ks all : List Key) → all ≡ old ++ ks → texts (drop (length old) all) ≡ texts ks
+pushed old ks all e = ap texts (ap (drop (length old)) e ∙ drop_first old ks)
 
 -- the first member of those from a key on that was read
 pub step_more : (p : Parse json.Json) (n : ℕ) (k : List ℕ) (ts r s : List Token) (next : Option (List ℕ)) (j : json.Json)

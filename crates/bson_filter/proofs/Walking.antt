@@ -6,7 +6,6 @@ use Rattle.std.proofs.Common.{◌≡◌, ℕ, ◌+◌, ◌-◌, ◌<◌, ◌≤�
 use Rattle.std.proofs.Common.{Ok, Bool, true, false, option_map, refl, sym, ap, ◌∙◌, subst}
 use Rattle.json.specs.Json as json
 use Rattle.json.specs.Json.{Parse, parse_map, after_end_array, read_key, items, members, members_step, value}
-use Rattle.json.specs.Strict.{AreDistinct}
 use Rattle.json.specs.Token as token
 use Rattle.json.specs.Token.{Token}
 use Rattle.json.proofs.Grammar.{items_end, items_more, value-begin_array, value-begin_object}
@@ -19,9 +18,9 @@ use Rattle.bson_model.specs.Value.{Value, Values, Pairs}
 use Rattle.bson_order.specs.Kept.{kept, kept_items}
 use Rattle.bson_order.specs.Reading.{items_in_order, members_in_order}
 use Rattle.bson_tokens.proofs.Offered.{was_read}
-use Rattle.bson_filter.specs.Walked.{ItemsWritten, PairsWritten, keys_of, TreeMeans, ItemsMean, ObjectMeans, MembersMean}
-use Rattle.bson_filter.specs.Walked.{kept_object, inside, from_key}
-use Rattle.bson_filter.proofs.Members.{names, as_they_stand, kept_as_they_stand}
+use Rattle.bson_filter.specs.Walked.{ItemsWritten, PairsWritten, keys_of, once, TreeMeans, ItemsMean, ObjectMeans}
+use Rattle.bson_filter.specs.Walked.{MembersMean, kept_object, inside, from_key}
+use Rattle.bson_filter.proofs.Members.{as_they_stand, put_each, kept_each, free_each, reads_each}
 use Rattle.bson_filter.proofs.Objects.{Key, texts, append_none, texts_more, step_more, begins, object_of, array_of}
 
 module _ {S : Type 0} (D : Doubles) (wrote : S → List ℕ → Value → S → Type 0) where
@@ -76,13 +75,13 @@ module _ {S : Type 0} (D : Doubles) (wrote : S → List ℕ → Value → S → 
         → PairsWritten wrote keyed ps now end
         → (all : json.Members) × (read : Members) × (qs : Pairs) × (whole ≡ Some (all, r))
         × (as_they_stand all ≡ Some read) × (members_in_order D read ≡ Ok qs) × (b ≡ true → has_wrapper read ≡ false)
-        × (names read ≡ texts keys ++ names ts) × (keys_of qs ≡ texts keys ++ keys_of ps)
+        × (keys_of qs ≡ texts keys ++ keys_of ps)
         × PairsWritten wrote keyed qs begun end
 
     pub members_begun : (b : Bool) (whole : Option (json.Members × List Token)) (begun : S)
         → ToGo b whole whole [] begun begun
     members_begun b whole begun js r ts ps end here is means wrapped written =
-        (js, ts, ps, here, is, means, wrapped, refl, refl, written)
+        (js, ts, ps, here, is, means, wrapped, refl, written)
 
     pub member_passed : (b : Bool) (whole : Option (json.Members × List Token)) (p : Parse json.Json) (n : ℕ) (k : Key)
         (ts r s : List Token) (next : Option (List ℕ)) (keys : List Key) (begun now named later : S) → 0 < n
@@ -105,31 +104,29 @@ module _ {S : Type 0} (D : Doubles) (wrote : S → List ℕ → Value → S → 
           g.4,
           g.5,
           g.6,
-          g.7 ∙ texts_more keys k (names ds),
-          g.8 ∙ texts_more keys k (keys_of ps),
-          g.9,
+          g.7 ∙ texts_more keys k (keys_of ps),
+          g.8,
         )
 
     pub members_written : (b : Bool) (whole : Option (json.Members × List Token)) (s : List Token) (keys : List Key)
         (begun now : S) → ToGo b whole (Some (json.no_members, s)) keys begun now
-        → (ps : Pairs) × PairsWritten wrote keyed ps begun now
+        → (ps : Pairs) × PairsWritten wrote keyed ps begun now × (keys_of ps ≡ texts keys)
     members_written b whole s keys begun now go =
-        let g = go json.no_members s no_members model.no_pairs now refl refl refl (λ is. refl) refl in (g.2, g.9)
+        let g = go json.no_members s no_members model.no_pairs now refl refl refl (λ is. refl) refl in
+        (g.2, g.8, g.7 ∙ append_none (texts keys))
 
     pub members_passed : (b : Bool) (whole : Option (json.Members × List Token)) (s : List Token) (keys : List Key)
-        (begun now : S) (Hold : Pairs → Type 0) → AreDistinct (texts keys)
-        → ToGo b whole (Some (json.no_members, s)) keys begun now
-        → ((ps : Pairs) → PairsWritten wrote keyed ps begun now → AreDistinct (keys_of ps) → Hold ps)
+        (begun now : S) (Hold : Pairs → Type 0) → ToGo b whole (Some (json.no_members, s)) keys begun now
+        → ((ps : Pairs) → PairsWritten wrote keyed ps begun now → keys_of ps ≡ texts keys → Hold (once ps))
         → MembersMean D b (kept_object whole) s Hold
-    members_passed b whole s keys begun now Hold distinct go holds =
-        let g = go json.no_members s no_members model.no_pairs now refl refl refl (λ is. refl) refl in
-        let apart : AreDistinct (names g.1) = subst AreDistinct (sym (g.7 ∙ append_none (texts keys))) distinct in (
-          g.1,
-          g.2,
-          ap kept_object g.3 ∙ ap (option_map (λ d. (d, s))) (kept_as_they_stand g.0 g.1 g.4 apart),
-          g.5,
-          g.6,
-          holds g.2 g.9 (subst AreDistinct (sym (g.8 ∙ append_none (texts keys))) distinct),
+    members_passed b whole s keys begun now Hold go holds =
+        let g = go json.no_members s no_members model.no_pairs now refl refl refl (λ is. refl) refl in (
+          put_each g.1 no_members,
+          once g.2,
+          ap kept_object g.3 ∙ ap (option_map (λ d. (d, s))) (kept_each g.0 g.1 no_members g.4),
+          reads_each D g.1 no_members g.2 model.no_pairs g.5 refl,
+          λ is. free_each g.1 no_members (g.6 is) refl,
+          holds g.2 g.8 (g.7 ∙ append_none (texts keys)),
         )
 
 -- ---- a whole value

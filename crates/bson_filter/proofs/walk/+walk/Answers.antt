@@ -6,7 +6,6 @@ use Rattle.json.specs.Token.{Token}
 use Rattle.json.specs.Json.{after_end_array, read_key, value}
 use Rattle.json.proofs.Grammar.{read_key-shorter, value_is}
 use Rattle.json.specs.Reads.{token_of}
-use Rattle.json.specs.Strict.{AreDistinct}
 use Rattle.serde_json.specs.Data as tree
 use Rattle.serde_json.specs.Read.{converted}
 use Rattle.serde_json.specs.View.{view}
@@ -17,7 +16,7 @@ use Rattle.bson_filter.specs.Walked.{TreeMeans, ItemsWritten}
 use Rattle.bson_filter.proofs.Walking.{items_begun, item_passed, items_passed, members_begun}
 use Rattle.bson_filter.proofs.Walking.{member_passed, members_written, members_passed, array_means, object_means}
 use Rattle.bson_filter.proofs.Walking.{document_means}
-use Rattle.bson_filter.proofs.Objects.{append_none, placed, pushed, texts, begins}
+use Rattle.bson_filter.proofs.Objects.{Key, append_none, placed, pushed, texts, begins}
 use Rattle.bson_filter.proofs.Wrappers.{token_means, number_means, single_means, scope_means, code_means}
 use Rattle.bson_filter.proofs.walk.+walk.Goals as goal
 
@@ -105,6 +104,13 @@ write_document-members-preserved g t c =
           c.in_ok-key.ensures c.in_ok-write_value.ensures.ok key (rw is at l.invariant.5),
     )
 
+-- the keys of the document that ends
+own_keys : (old ks all : List Key) (held : ℕ) → all ≡ old ++ ks → held ≡ length old
+    → texts (take (length all - held) (drop held all)) ≡ texts ks
+own_keys old ks all held is at =
+    ap texts (take_all _ (drop held all) (omega (arith, length-drop held all)) ∙ ap (λ n. drop n all) at)
+    ∙ pushed old ks all is
+
 pub write_document-end-requires : goal.write_document-end-requires
 write_document-end-requires g t c =
     let l = c.members in
@@ -112,24 +118,20 @@ write_document-end-requires g t c =
     let begun = c.begin.new.self in
     let W = g.W.ValueWriter in
     let all = members_written _ W.wrote W.keyed _ _ _ l.invariant.1 begun l.out (rw is at l.invariant.5) in
-    (c.args.out.now, begun, all.0, c.in_ok-begun.ensures, all.1)
+    let own = own_keys c.args.keys.now.items l.invariant.1 c.as_mut_slice.result.now c.len-held.result
+    (c.as_mut_slice.ensures.value ∙ l.invariant.2) (grind arith) in
+    (c.args.out.now, begun, all.0, c.in_ok-begun.ensures, all.1, all.2 ∙ sym own)
 
 pub write_document-returns-clause-ok : goal.write_document-returns-clause-ok
 write_document-returns-clause-ok g t c =
     let l = c.members in
     let is : l.next ≡ None = grind arith in
     let W = g.W.ValueWriter in
-    let all = c.as_mut_slice.result.now in
-    let slice : take (length all - c.len-held.result) (drop c.len-held.result all) ≡ drop c.len-held.result all =
-    take_all _ (drop c.len-held.result all) (omega (arith, length-drop c.len-held.result all)) in
-    let told : AreDistinct (texts (drop (length c.args.keys.now.items) l.keys.items)) =
-    subst (λ x. AreDistinct (texts (drop (length c.args.keys.now.items) x))) c.as_mut_slice.ensures.value
-    (subst (λ n. AreDistinct (texts (drop n all))) (grind arith)
-    (subst (λ x. AreDistinct (texts x)) slice (c.are_distinct.ensures.0 (grind arith)))) in
-    on_ok_weaker c.end.result
-    (λ ended. members_passed _ W.wrote W.keyed _ _ _ l.invariant.1 c.begin.new.self l.out _
-    (pushed c.args.keys.now.items l.invariant.1 l.keys.items l.invariant.2 told) (rw is at l.invariant.5)
-    (λ ps. ended c.args.out.now c.begin.new.self ps c.in_ok-begun.ensures)) c.end.ensures
+    let own = own_keys c.args.keys.now.items l.invariant.1 c.as_mut_slice.result.now c.len-held.result
+    (c.as_mut_slice.ensures.value ∙ l.invariant.2) (grind arith) in
+    members_passed _ W.wrote W.keyed _ _ _ l.invariant.1 c.begin.new.self l.out _ (rw is at l.invariant.5)
+    (λ ps written keys. c.in_ok-end.ensures c.args.out.now c.begin.new.self ps c.in_ok-begun.ensures written
+    (keys ∙ sym own))
 
 -- ---- objects
 
