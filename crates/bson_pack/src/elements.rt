@@ -7,6 +7,7 @@ use crate::scalars::{put_scalar, type_of};
 use bson_bytes::error::Error;
 use bson_bytes::parts::is_free;
 use bson_bytes::put::{put_end, put_length, put_name, put_room, put_text};
+use bson_filter::distinct::are_distinct;
 use bson_filter::unstreamed::Unstreamed;
 use bson_filter::writer::ValueWriter;
 use bson_scalar::scalar::Scalar;
@@ -90,7 +91,10 @@ impl ValueWriter for ElementWriter {
         Ok(())
     }
 
-    fn end(&mut self, start: usize) -> Result<(), Unstreamed> {
+    fn end(&mut self, start: usize, keys: &mut [&str]) -> Result<(), Unstreamed> {
+        if !are_distinct(*self.bytes.allocator(), keys) {
+            return Err(Unstreamed::Left);
+        }
         put_end(&mut self.bytes, start).map_err(unstreamed)
     }
 

@@ -1,5 +1,8 @@
-use Rattle.std.proofs.Common.{arith}
+use Rattle.std.proofs.Common.{arith, sym, subst}
+use Rattle.json.specs.Strict.{AreDistinct}
 use Rattle.bson_bytes.specs.Putting.{put_end}
+use Rattle.bson_filter.proofs.Offered.{once_is}
+use Rattle.bson_pack.specs.Packed.{PutFramed}
 use Rattle.bson_pack.proofs.Put.{turned, framed_room, framed_put}
 use Rattle.bson_pack.proofs.elements.ElementWriterValueWriter.end.Goals as goal
 
@@ -15,5 +18,7 @@ returns c =
     let new = c.put_end.new.out.items in
     turned c.put_end.result c.map_err.result new (put_end c.args.start now.bytes.items) c.map_err.ensures.variant
     c.put_end.ensures.put c.put_end.ensures.grows
-    (λ ended grows old mid ps begun written apart. framed_put c.args.start ps old mid now new begun written apart ended
-    grows)
+    (λ ended grows old mid ps begun written keys.
+    let apart = subst AreDistinct (sym keys) (c.are_distinct.ensures.0 (grind arith)) in
+    subst (λ qs. PutFramed qs old.bytes.items new) (sym (once_is ps apart))
+    (framed_put c.args.start ps old mid now new begun written apart ended grows))
