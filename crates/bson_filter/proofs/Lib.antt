@@ -4,6 +4,11 @@ pub mod Keys
 pub mod Members
 pub mod Objects
 pub mod Offered
+pub mod PartTexts
+pub mod PiecesInOrder
+pub mod PutTwice
 pub mod Sending
+pub mod Standing
+pub mod Turned
 pub mod Walking
 pub mod Wrappers
