@@ -8,6 +8,7 @@ pub mod PartTexts
 pub mod PiecesInOrder
 pub mod PutTwice
 pub mod Sending
+pub mod Sorting
 pub mod Standing
 pub mod Turned
 pub mod Walking

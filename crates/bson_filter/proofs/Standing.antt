@@ -7,22 +7,24 @@ use Rattle.std.proofs.lemmas.List.Elements.{All-nil, All-head, All-tail, All-con
 use Rattle.std.proofs.Math.Seq.{drop-append_seam, take-length}
 use Rattle.std.specs.List.{All}
 use Rattle.json.specs.Print.{quoted}
-use Rattle.serde_json.specs.Data.{Data}
+use Rattle.serde_json.specs.Data.{Data, Members, object}
 use Rattle.serde_json.specs.Written.{comma_if}
 use Rattle.bson_scalar.specs.TreeText.{text_of}
 use Rattle.bson_scalar.specs.declared.form.Doubles.{Doubles}
 use Rattle.bson_scalar.specs.declared.form.Form.{Form}
-use Rattle.bson_model.specs.Sorted.{put_pair, sorted}
+use Rattle.bson_model.specs.Sorted.{put_pair, sorted, sorted_pairs}
 use Rattle.bson_model.specs.Value.{Value, Pairs, no_pairs, pair, document}
-use Rattle.bson_model.specs.Writing.{writes_in}
+use Rattle.bson_model.specs.Writing.{writes_in, writes_pairs_in}
 use Rattle.bson_filter.specs.Pieces.{piece_key, piece_text, end_before, pieces_from, open_text}
-use Rattle.bson_filter.specs.Pieces.{Values, value_at, IsPiece, IsWithin, IsMemberText}
-use Rattle.bson_filter.specs.SortedWritten.{next_text, ValueAdded, KeyAdded}
+use Rattle.bson_filter.specs.Pieces.{Values, value_at, IsEnded, IsOpen, IsPiece, IsWithin, IsMemberText}
+use Rattle.bson_filter.specs.SortedWritten.{next_text, IsBegun, ValueAdded, KeyAdded}
 use Rattle.bson_filter.specs.Turns.{put_each}
-use Rattle.bson_filter.specs.Walked.{PairsWritten, keys_of}
+use Rattle.bson_filter.specs.Walked.{PairsWritten, keys_of, once}
 use Rattle.bson_filter.specs.declared.pieces.Piece.{Piece}
+use Rattle.bson_filter.specs.declared.sorted_text.Begun.{Begun}
 use Rattle.bson_filter.specs.declared.sorted_text.SortedWriter.{SortedWriter}
-use Rattle.bson_filter.proofs.PutTwice.{put_in_turn}
+use Rattle.bson_filter.proofs.PiecesInOrder.{object_in_order}
+use Rattle.bson_filter.proofs.PutTwice.{put_in_turn, once_sorted}
 
 abbrev Key : Type 0
 Key = Bor (List ℕ)
@@ -134,6 +136,12 @@ one_stands D f text front mid behind k ks start starts v t ps written here is re
       ends = λ is_behind. omega (arith, here, longer, ap (λ b. length (comma_if b)) is_behind);
     }
 
+first_of : (k l : List ℕ) (ks ls : List (List ℕ)) → k ∷ ks ≡ l ∷ ls → k ≡ l
+first_of k l ks ls e = cc
+
+rest_of : (k l : List ℕ) (ks ls : List (List ℕ)) → k ∷ ks ≡ l ∷ ls → ks ≡ ls
+rest_of k l ks ls e = cc
+
 -- the members that were written are pieces
 pub pairs_stand : (D : Doubles) (f : Form) (ps : Pairs) (ks : List Key) (old new : SortedWriter) → old.doubles ≡ D
     → old.form ≡ f → PairsWritten (λ a k v b. ValueAdded a v b) KeyAdded ps old new → keys_of ps ≡ map (λ k. k.now) ks
@@ -146,4 +154,114 @@ pairs_stand D f no_pairs [] old new mode form is named =
 pairs_stand D f no_pairs (k ∷ ks) old new mode form is named = cc
 pairs_stand D f (pair k v ps) [] old new mode form written named = cc
 pairs_stand D f (pair l v ps) (k ∷ ks) old new mode form (key, mid, keyed, (t, w, value), more) named =
-    let (d, g, off, begins, name) = keyed in ?
+    let (key_mode, key_form, off, begins, named_text) = keyed in
+    let (value_mode, value_form, after, kept, text) = value in
+    let at = length (next_text old) in
+    let near_mode : key.doubles ≡ D = key_mode ∙ mode in
+    let near_form : key.form ≡ f = key_form ∙ form in
+    let (starts, end_mode, end_form, begun, rest) = pairs_stand D f ps ks mid new (value_mode ∙ near_mode)
+    (value_form ∙ near_form) more (rest_of l k.now (keys_of ps) (map (λ k. k.now) ks) named) in
+    let first : l ≡ k.now = first_of l k.now (keys_of ps) (map (λ k. k.now) ks) named in
+    let own = quoted k.now ++ 58 ∷ [] in
+    let whole : mid.text.items ≡ next_text old ++ (quoted k.now ++ 58 ∷ text_of t) =
+    text ∙ ap (λ b. key.text.items ++ (comma_if b ++ text_of t)) off
+    ∙ ap (λ s. s ++ text_of t) (named_text ∙ ap (λ j. next_text old ++ (quoted j ++ 58 ∷ [])) first)
+    ∙ append_assoc (next_text old) own (text_of t)
+    ∙ ap (λ s. next_text old ++ s) (append_assoc (quoted k.now) (58 ∷ []) (text_of t)) in
+    let written : writes_in D f (sorted v) ≡ Ok t =
+    ap (λ E. writes_in E f (sorted v)) (sym near_mode) ∙ ap (λ g. writes_in key.doubles g (sorted v)) (sym near_form)
+    ∙ w in (
+      at ∷ starts,
+      end_mode,
+      end_form,
+      begun ∙ ap (λ s. s ++ starts) (kept ∙ begins) ∙ append_assoc old.starts.items (at ∷ []) starts,
+      subst (λ j. Stand D f new.text.items old.text.items old.behind (k ∷ ks) (at ∷ starts) (pair j v ps)) (sym first)
+          (one_stands D f new.text.items old.text.items mid.text.items old.behind k ks at starts v t ps written refl whole
+          (subst (λ b. Stand D f new.text.items mid.text.items b ks starts ps) after rest)),
+    )
+
+-- ---- a whole document
+
+text_before : (old more text : List ℕ) (start : ℕ) → text ≡ old ++ more → start ≡ length old → take start text ≡ old
+text_before old more text start is end =
+    ap (take start) is ∙ ap (λ n. take n (old ++ more)) end ∙ take-append-le (length old) old more (omega arith)
+    ∙ take-length old
+
+-- the open document's text stands behind that which stood before it, and its starts behind those that were held
+pub record DocumentStands (start now : SortedWriter) (begun : Begun) (ks : List Key) (ps : Pairs) : Type 0 where
+  pub mode : now.doubles ≡ start.doubles
+  pub form : now.form ≡ start.form
+  pub starts : List ℕ
+  pub starts_are : now.starts.items ≡ start.starts.items ++ starts
+  pub held : begun.held ≡ length start.starts.items
+  pub before : take begun.start now.text.items ≡ next_text start
+  pub paired : length ks ≡ length starts
+  pub opened : IsOpen (next_text start) now.text.items (pieces_from ks starts (length now.text.items))
+  pub values : Values
+  pub all : All (IsPiece start.doubles start.form now.text.items values) (pieces_from ks starts (length now.text.items))
+  pub put : put_each piece_key (value_at values) (pieces_from ks starts (length now.text.items)) no_pairs
+      ≡ put_in_turn ps no_pairs
+
+pub document_stands : (start mid now : SortedWriter) (begun : Begun) (ps : Pairs) (ks : List Key)
+    → IsBegun start begun mid → PairsWritten (λ a k v b. ValueAdded a v b) KeyAdded ps mid now
+    → keys_of ps ≡ map (λ k. k.now) ks → DocumentStands start now begun ks ps
+document_stands start mid now begun ps ks (here, held, first) written named =
+    let (mode, form, off, kept, text) = first in
+    let (starts, end_mode, end_form, held_are, stand) = pairs_stand start.doubles start.form ps ks mid now mode form
+    written named in
+    let pieces = pieces_from ks starts (length now.text.items) in
+    let comma = comma_if start.behind in
+    let begins : mid.text.items ≡ next_text start ++ 123 ∷ [] = text ∙ sym (append_assoc start.text.items comma (123 ∷ [])) in
+    let whole : now.text.items ≡ next_text start ++ 123 ∷ open_text now.text.items false pieces =
+    stand.opened ∙ ap (λ b. mid.text.items ++ open_text now.text.items b pieces) off
+    ∙ ap (λ l. l ++ open_text now.text.items false pieces) begins
+    ∙ append_assoc (next_text start) (123 ∷ []) (open_text now.text.items false pieces) in
+    record {
+      mode = end_mode;
+      form = end_form;
+      starts = starts;
+      starts_are = held_are ∙ ap (λ l. l ++ starts) kept;
+      held = held;
+      before = text_before (next_text start) (123 ∷ open_text now.text.items false pieces) now.text.items begun.start whole here;
+      paired = stand.paired;
+      opened = whole;
+      values = stand.values;
+      all = All-weaker (StandsBehind start.doubles start.form now.text.items (length mid.text.items) stand.values)
+          (IsPiece start.doubles start.form now.text.items stand.values) (λ p h. h.1) pieces stand.all;
+      put = stand.put no_pairs;
+    }
+
+module _ (start now : SortedWriter) (begun : Begun) (ks : List Key) (ps : Pairs)
+    (d : DocumentStands start now begun ks ps) where
+  -- the document's own starts
+  pub own_starts : (all : List ℕ) → all ≡ now.starts.items → take (length all - begun.held) (drop begun.held all) ≡ d.starts
+  own_starts all is =
+      let whole : all ≡ start.starts.items ++ (d.starts ++ []) =
+      is ∙ d.starts_are ∙ ap (λ l. start.starts.items ++ l) (sym (append-nil d.starts)) in
+      slice_between all start.starts.items d.starts [] begun.held (length all) whole d.held
+      (ap length (is ∙ d.starts_are) ∙ length-append start.starts.items d.starts)
+
+  pub are_held : (all : List ℕ) → all ≡ now.starts.items → begun.held ≤ length all
+  are_held all is =
+      omega (arith, d.held, ap length (is ∙ d.starts_are), length-append start.starts.items d.starts)
+
+  pub others_held : take begun.held now.starts.items ≡ start.starts.items
+  others_held = text_before start.starts.items d.starts now.starts.items begun.held d.starts_are d.held
+
+  pub all_within : All (IsWithin now.text.items) (pieces_from ks d.starts (length now.text.items))
+  all_within = All-weaker (IsPiece start.doubles start.form now.text.items d.values) (IsWithin now.text.items)
+      (λ p h. h.0) (pieces_from ks d.starts (length now.text.items)) d.all
+
+  -- the document whose pieces were put in order
+  pub document_added : (new : List ℕ)
+      → IsEnded (pieces_from ks d.starts (length now.text.items)) (take begun.start now.text.items) now.text.items new
+      → (ms : Members) × (writes_pairs_in start.doubles start.form (sorted_pairs (once ps)) ≡ Ok ms)
+      × (new ≡ start.text.items ++ (comma_if start.behind ++ text_of (object ms)))
+  document_added new ended =
+      let (ms, written, text) = object_in_order start.doubles start.form (take begun.start now.text.items)
+      now.text.items new d.values (pieces_from ks d.starts (length now.text.items)) d.all ended in (
+        ms,
+        ap (writes_pairs_in start.doubles start.form) (once_sorted ps ∙ sym d.put) ∙ written,
+        text ∙ ap (λ l. l ++ text_of (object ms)) d.before
+            ∙ append_assoc start.text.items (comma_if start.behind) (text_of (object ms)),
+      )
