@@ -6,8 +6,8 @@ pub mod Objects
 pub mod Offered
 pub mod PartTexts
 pub mod PiecesInOrder
-pub mod PutTwice
 pub mod Sending
+pub mod SortedPairs
 pub mod Sorting
 pub mod Standing
 pub mod Turned

@@ -1,6 +1,6 @@
 -- The text of an object from the pieces of its members, in order.
 use Rattle.std.proofs.Common.{◌≡◌, ℕ, Bool, true, false, List, [], ◌∷◌, ◌++◌, map, Bor}
-use Rattle.std.proofs.Common.{Option, Some, None, Result, Ok, Err, Less, Equal, Ordering, nat_cmp, bytes_eq}
+use Rattle.std.proofs.Common.{Option, Some, None, Result, Ok, Err, Less, Equal, nat_cmp, bytes_eq}
 use Rattle.std.proofs.Common.{refl, sym, ap, ◌∙◌, subst, append_assoc}
 use Rattle.std.proofs.lemmas.Cmp.{nat_list_cmp_total, tied_itself}
 use Rattle.std.proofs.lemmas.List.Elements.{All-head, All-tail, All-cons}
@@ -26,12 +26,12 @@ use Rattle.bson_filter.specs.Pieces as keys
 use Rattle.bson_filter.specs.Turns.{HaveTurns, put_each, pairs_of}
 use Rattle.bson_filter.specs.declared.pieces.Piece.{Piece}
 use Rattle.bson_filter.proofs.PartTexts.{printed_members, no_more_members, one_more_member, object_printed}
-use Rattle.bson_filter.proofs.PutTwice.{put_twice}
+use Rattle.bson_filter.proofs.SortedPairs.{put_twice}
 use Rattle.bson_filter.proofs.Turned.{turned, put_ascending}
 
 -- ---- what may be there
 
-pub some_more : {A : Type 0} (P Q : A → Type 0) → ((x : A) → P x → Q x) → (o : Option A) → IfSome o P → IfSome o Q
+some_more : {A : Type 0} (P Q : A → Type 0) → ((x : A) → P x → Q x) → (o : Option A) → IfSome o P → IfSome o Q
 some_more P Q more (Some x) h = more x h
 some_more P Q more None h = h
 

@@ -1,22 +1,31 @@
 -- Texts that a writer of a text with ascending keys puts one after another.
 use Rattle.std.proofs.Common.{◌≡◌, ℕ, ◌+◌, Bool, true, false, List, [], ◌∷◌, ◌++◌, Result, Ok, Err, refl, sym, ap, ◌∙◌}
-use Rattle.std.proofs.Common.{subst, append_assoc, append-nil}
+use Rattle.std.proofs.Common.{Some, subst, append_assoc}
+use Rattle.json.specs.Json.{value}
+use Rattle.json.specs.Lex.{tokens}
 use Rattle.json.specs.Print.{print}
 use Rattle.json.specs.Token.{Token}
 use Rattle.serde_json.specs.Data.{Data, Items, no_items, item, array, object}
+use Rattle.serde_json.specs.Read.{converted}
 use Rattle.serde_json.specs.Written.{comma_if}
 use Rattle.bson_scalar.specs.Tokens.{tokens_of, code_tokens, Puts}
 use Rattle.bson_scalar.specs.TreeText.{text_of}
 use Rattle.bson_scalar.specs.Written.{Refusal}
 use Rattle.bson_scalar.specs.declared.form.Doubles.{Doubles}
 use Rattle.bson_scalar.specs.declared.form.Form.{Form}
-use Rattle.bson_model.specs.Sorted.{sorted_items, sorted_pairs}
+use Rattle.bson_scalar.proofs.Offered.{text_is}
+use Rattle.bson_model.specs.Sorted.{sorted, sorted_items, sorted_pairs}
 use Rattle.bson_model.specs.Value as model
 use Rattle.bson_model.specs.Value.{Values, no_values, Pairs, code_scope, document}
-use Rattle.bson_model.specs.Writing.{writes_items_in, writes_pairs_in, with_scope}
+use Rattle.bson_model.specs.Writing.{writes_in, writes_items_in, writes_pairs_in, with_scope}
+use Rattle.bson_model.proofs.Offered.{has_no_float, has_text_in, in_range_in, read_tree, tree_is_in}
+use Rattle.bson_order.specs.Kept.{kept}
+use Rattle.bson_order.proofs.Offered.{means_from, text_means}
+use Rattle.bson_filter.specs.Sorted.{IsSortedText}
 use Rattle.bson_filter.specs.SortedWritten.{Added, Next, ValueAdded, PairsAdded}
-use Rattle.bson_filter.specs.Walked.{ItemsWritten}
+use Rattle.bson_filter.specs.Walked.{ItemsWritten, TreeMeans}
 use Rattle.bson_filter.specs.declared.sorted_text.SortedWriter.{SortedWriter}
+use Rattle.bson_filter.proofs.Objects.{last_read}
 use Rattle.bson_filter.proofs.PartTexts.{printed_items, no_more_items, one_more_item, array_printed, code_printed}
 
 -- a text and then another
@@ -110,3 +119,26 @@ code_added s ps old begun now new begin (ms, w, put) ended =
           (joined old begun new (comma ++ front) (scope ++ 125 ∷ []) false true begin
           (joined begun now new scope (125 ∷ []) true true put ended)),
     )
+
+-- ---- a whole text
+
+pub text_sorted : (D : Doubles) (f : Form) (text : List ℕ) (rest : List Token) (old new : SortedWriter)
+    → TreeMeans D (converted kept (value 127 (tokens text))) rest (λ v. ValueAdded old v new) → rest ≡ []
+    → old.doubles ≡ D → old.form ≡ f → old.behind ≡ false → old.text.items ≡ [] → IsSortedText D f text new.text.items
+text_sorted D f text rest old new (t, v, read, means, (u, w, put)) last mode form first none =
+    let tree = last_read (value 127 (tokens text)) t (read ∙ ap (λ l. Some (t, l)) last) in
+    let meaning = text_means D text t v tree (means_from D t v means) in
+    let (s, whole, meant) = meaning.by_default in
+    let writes : writes_in D f (sorted v) ≡ Ok u =
+    ap (λ E. writes_in E f (sorted v)) (sym mode) ∙ ap (λ g. writes_in old.doubles g (sorted v)) (sym form) ∙ w in
+    let ranged = in_range_in D meant.means (read_tree text s whole) in
+    record {
+      value = sorted v;
+      meaning = meaning.by_default;
+      tree = u;
+      is_tree = tree_is_in D f (sorted v) u writes ranged;
+      reads_again = λ plain. has_text_in D f (sorted v) u writes plain ranged;
+      compact = put.4 ∙ ap (λ l. l ++ (comma_if old.behind ++ text_of u)) none
+          ∙ ap (λ b. comma_if b ++ text_of u) first
+          ∙ sym (text_is D f u (has_no_float D f (sorted v) u writes));
+    }

@@ -24,7 +24,7 @@ use Rattle.bson_filter.specs.declared.pieces.Piece.{Piece}
 use Rattle.bson_filter.specs.declared.sorted_text.Begun.{Begun}
 use Rattle.bson_filter.specs.declared.sorted_text.SortedWriter.{SortedWriter}
 use Rattle.bson_filter.proofs.PiecesInOrder.{object_in_order}
-use Rattle.bson_filter.proofs.PutTwice.{put_in_turn, once_sorted}
+use Rattle.bson_filter.proofs.SortedPairs.{put_in_turn, once_sorted}
 
 abbrev Key : Type 0
 Key = Bor (List ℕ)

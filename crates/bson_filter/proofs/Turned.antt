@@ -36,7 +36,7 @@ module _ {M : Type 0} (key_of : M → List ℕ) where
   abbrev twins : M → M → Bool
   twins = have_one_key key_of
 
-  pub same_key : (m n : M) → twins m n ≡ true → key_of m ≡ key_of n
+  same_key : (m n : M) → twins m n ≡ true → key_of m ≡ key_of n
   same_key m n h = (bytes_eq-Decides (key_of m) (key_of n)).0 h
 
   has_own : (m : M) → twins m m ≡ true

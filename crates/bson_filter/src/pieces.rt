@@ -1,7 +1,6 @@
 //! The texts of an object's members, put in order where their keys do not ascend.
-ghost use Rattle.std.specs.Prelude.{◌≡◌, ◌<◌, [], List, drop, length, map, None, is_some, option_map, suc, take, true};
+ghost use Rattle.std.specs.Prelude.{◌≡◌, ◌<◌, ◌++◌, drop, length, map, None, option_map, suc, take, true};
 ghost use Rattle.std.specs.Prelude.{IfOk, IfSome, OnOk};
-ghost use Rattle.std.specs.Prelude.{◌++◌};
 ghost use Rattle.std.specs.List.{All};
 ghost use Rattle.std.specs.List.Sorted.{IsPermutation};
 ghost use Rattle.bson_filter.specs.Pieces.{end_before, pieces_from, piece_key, object_text, last_ones, stands_again, Ascend};

@@ -1,8 +1,8 @@
 //! A text of Extended JSON that values are written to, each document's keys in ascending order.
-ghost use Rattle.std.specs.Prelude.{◌≡◌, ◌++◌, ◌∷◌, [], length, Bool, OnOk, IfOk, true, false};
+ghost use Rattle.std.specs.Prelude.{◌≡◌, ◌∷◌, [], length, true, false, OnOk, IfOk};
 ghost use Rattle.json.specs.Print.{print};
 ghost use Rattle.serde_json.specs.Written.{comma_if};
-ghost use Rattle.bson_filter.specs.SortedWritten.{Added, next_text};
+ghost use Rattle.bson_filter.specs.SortedWritten.{Added};
 
 use crate::pieces::{end_object, put_comma};
 use crate::unstreamed::Unstreamed;

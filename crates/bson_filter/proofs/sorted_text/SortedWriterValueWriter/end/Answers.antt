@@ -1,7 +1,7 @@
-use Rattle.std.proofs.Common.{◌≡◌, ◌≤◌, ◌-◌, length, drop, take, refl, sym, ap, ◌∙◌, subst, arith}
+use Rattle.std.proofs.Common.{length, take, refl, sym, ap, ◌∙◌, subst, arith}
 use Rattle.std.specs.List.{All}
 use Rattle.bson_filter.specs.Pieces.{pieces_from, IsEnded, IsOpen, IsWithin}
-use Rattle.bson_filter.proofs.Standing.{DocumentStands, document_stands, own_starts, are_held, others_held, all_within}
+use Rattle.bson_filter.proofs.Standing.{document_stands, own_starts, are_held, others_held, all_within}
 use Rattle.bson_filter.proofs.Standing.{document_added}
 use Rattle.bson_filter.proofs.sorted_text.SortedWriterValueWriter.end.Goals as goal
 

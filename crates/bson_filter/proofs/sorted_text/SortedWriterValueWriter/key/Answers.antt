@@ -1,4 +1,4 @@
-use Rattle.std.proofs.Common.{◌≡◌, ℕ, ◌∷◌, ◌++◌, [], length, sym, ap, ◌∙◌, arith}
+use Rattle.std.proofs.Common.{◌≡◌, ◌∷◌, ◌++◌, [], length, ap, ◌∙◌, arith}
 use Rattle.json.specs.Print.{print}
 use Rattle.json.specs.Token.{key}
 use Rattle.bson_filter.specs.SortedWritten.{next_text}
