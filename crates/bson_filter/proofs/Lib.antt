@@ -5,6 +5,12 @@ pub mod Members
 pub mod Objects
 pub mod Offered
 pub mod Once
+pub mod PartTexts
+pub mod PiecesInOrder
 pub mod Sending
+pub mod SortedPairs
+pub mod Sorting
+pub mod Standing
+pub mod Turned
 pub mod Walking
 pub mod Wrappers

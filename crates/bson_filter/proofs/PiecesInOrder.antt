@@ -1,0 +1,224 @@
+-- The text of an object from the pieces of its members, in order.
+use Rattle.std.proofs.Common.{◌≡◌, ℕ, Bool, true, false, List, [], ◌∷◌, ◌++◌, map, Bor}
+use Rattle.std.proofs.Common.{Option, Some, None, Result, Ok, Err, Less, Equal, nat_cmp, bytes_eq}
+use Rattle.std.proofs.Common.{refl, sym, ap, ◌∙◌, subst, append_assoc}
+use Rattle.std.proofs.lemmas.Cmp.{nat_list_cmp_total, tied_itself}
+use Rattle.std.proofs.lemmas.List.Elements.{All-head, All-tail, All-cons}
+use Rattle.std.proofs.lemmas.List.Sorted.{All-permutation, IsPermutation-refl, IsPermutation-trans}
+use Rattle.std.proofs.lemmas.Slice.Eq.{bytes_eq-Decides}
+use Rattle.std.specs.Prelude.{IfSome, IfOk}
+use Rattle.std.specs.Cmp.Lexicographic.{slice_cmp}
+use Rattle.std.specs.List.{All}
+use Rattle.std.specs.List.Sorted.{IsPermutation}
+use Rattle.json.specs.Print.{quoted}
+use Rattle.serde_json.specs.Data.{Data, Members, no_members, member, object, put}
+use Rattle.serde_json.specs.Written.{comma_if}
+use Rattle.bson_scalar.specs.TreeText.{text_of}
+use Rattle.bson_scalar.specs.declared.form.Doubles.{Doubles}
+use Rattle.bson_scalar.specs.declared.form.Form.{Form}
+use Rattle.bson_model.specs.Sorted.{put_pair, IsLeast, KeysAscend}
+use Rattle.bson_model.specs.Value.{Pairs, no_pairs}
+use Rattle.bson_model.specs.Writing.{writes_pairs_in}
+use Rattle.bson_filter.specs.Pieces.{piece_key, piece_text, open_text, members_text, object_text, Ascend, Follows, InOrder}
+use Rattle.bson_filter.specs.Pieces.{last_ones, stands_again, IsOpen, IsEnded, Values, value_at, IsPiece}
+use Rattle.bson_filter.specs.Pieces.{pieces_from}
+use Rattle.bson_filter.specs.Pieces as keys
+use Rattle.bson_filter.specs.Turns.{HaveTurns, put_each, pairs_of}
+use Rattle.bson_filter.specs.declared.pieces.Piece.{Piece}
+use Rattle.bson_filter.proofs.PartTexts.{printed_members, no_more_members, one_more_member, object_printed}
+use Rattle.bson_filter.proofs.SortedPairs.{put_twice}
+use Rattle.bson_filter.proofs.Turned.{turned, put_ascending}
+
+-- ---- what may be there
+
+some_more : {A : Type 0} (P Q : A → Type 0) → ((x : A) → P x → Q x) → (o : Option A) → IfSome o P → IfSome o Q
+some_more P Q more (Some x) h = more x h
+some_more P Q more None h = h
+
+pub ok_more : {A : Type 0} {E : Type 0} (P Q : A → Type 0) → ((x : A) → P x → Q x) → (r : Result (Option A) E)
+    → IfOk r (λ o. IfSome o P) → IfOk r (λ o. IfSome o Q)
+ok_more P Q more (Ok o) h = some_more P Q more o h
+ok_more P Q more (Err e) h = h
+
+-- ---- in order
+
+-- the next piece is joined to those before it
+pub next_joined : (texts : List ℕ) (behind : Bool) (p : Piece) (ps left : List Piece) (old mid new : List ℕ)
+    → left ≡ p ∷ ps → mid ≡ old ++ comma_if behind → new ≡ mid ++ piece_text texts p
+    → new ++ members_text texts true ps ≡ old ++ members_text texts behind left
+next_joined texts behind p ps left old mid new is comma text =
+    let s = piece_text texts p in
+    let more = members_text texts true ps in
+    ap (λ l. l ++ more) (text ∙ ap (λ l. l ++ s) comma)
+    ∙ append_assoc (old ++ comma_if behind) s more ∙ append_assoc old (comma_if behind) (s ++ more)
+    ∙ ap (λ l. old ++ members_text texts behind l) (sym is)
+
+pub next_ascends : (last : Option (List ℕ)) (p : Piece) (ps left : List Piece) → left ≡ p ∷ ps
+    → Follows last (piece_key p) → Ascend (Some (piece_key p)) ps → Ascend last left
+next_ascends last p ps left is follows up = subst (Ascend last) (sym is) (follows, up)
+
+-- pieces ascend whose keys do
+pub pieces_ascend : (last : Option (List ℕ)) (ks : List (Bor (List ℕ))) (starts : List ℕ) (end : ℕ)
+    → keys.KeysAscend last (map (λ k. k.now) ks) → Ascend last (pieces_from ks starts end)
+pieces_ascend last [] starts end up = tt
+pieces_ascend last (k ∷ ks) [] end up = tt
+pieces_ascend last (k ∷ ks) (s ∷ starts) end up = (up.0, pieces_ascend (Some k.now) ks starts end up.1)
+
+least_of : (values : Values) (k l : List ℕ) (ps : List Piece) → slice_cmp nat_cmp k l ≡ Less → Ascend (Some l) ps
+    → IsLeast k (pairs_of piece_key (value_at values) ps)
+least_of values k l [] less up = tt
+least_of values k l (p ∷ ps) less up =
+    let first = nat_list_cmp_total.trans k l (piece_key p) less up.0 in
+    (first, least_of values k (piece_key p) ps first up.1)
+
+ascending_pairs : (values : Values) (last : Option (List ℕ)) (ps : List Piece) → Ascend last ps
+    → KeysAscend (pairs_of piece_key (value_at values) ps)
+ascending_pairs values last [] up = tt
+ascending_pairs values last (p ∷ ps) up =
+    (least_after values (piece_key p) ps up.1, ascending_pairs values (Some (piece_key p)) ps up.1)
+  where
+    least_after : (values : Values) (k : List ℕ) (ps : List Piece) → Ascend (Some k) ps
+        → IsLeast k (pairs_of piece_key (value_at values) ps)
+    least_after values k [] up = tt
+    least_after values k (p ∷ ps) up = (up.0, least_of values k (piece_key p) ps up.0 up.1)
+
+-- ---- the last of each key
+
+pub passed_one : (p : Piece) (ps left : List Piece) → left ≡ p ∷ ps → stands_again (piece_key p) ps ≡ true
+    → last_ones left ≡ last_ones ps
+passed_one p ps left is again = ap last_ones is ∙ rw again refl
+
+pub kept_one : (p : Piece) (ps left : List Piece) → left ≡ p ∷ ps → stands_again (piece_key p) ps ≡ false
+    → last_ones left ≡ p ∷ last_ones ps
+kept_one p ps left is once = ap last_ones is ∙ rw once refl
+
+module _ (values : Values) where
+  abbrev put_pieces : List Piece → Pairs → Pairs
+  put_pieces = put_each piece_key (value_at values)
+
+  -- one that stands again is put for nothing
+  put_again : (p : Piece) (ps : List Piece) (qs : Pairs) → stands_again (piece_key p) ps ≡ true
+      → put_pieces ps (put_pair (piece_key p) (value_at values p) qs) ≡ put_pieces ps qs
+  put_again p [] qs again = cc
+  put_again p (q ∷ ps) qs again =
+      let same = (bytes_eq-Decides (piece_key q) (piece_key p)).0 again in
+      let v = value_at values p in
+      let w = value_at values q in
+      ap (put_pieces ps) (ap (λ k. put_pair (piece_key q) w (put_pair k v qs)) (sym same)
+      ∙ put_twice (piece_key q) w v qs)
+
+  put_at : (b : Bool) (p : Piece) (ps : List Piece) (qs : Pairs) → stands_again (piece_key p) ps ≡ b
+      → ((rs : Pairs) → put_pieces ps rs ≡ put_pieces (last_ones ps) rs)
+      → put_pieces (p ∷ ps) qs ≡ put_pieces (last_ones (p ∷ ps)) qs
+  put_at true p ps qs h is = rw h (put_again p ps qs h ∙ is qs)
+  put_at false p ps qs h is = rw h (is (put_pair (piece_key p) (value_at values p) qs))
+
+  put_last_ones : (ps : List Piece) (qs : Pairs) → put_pieces ps qs ≡ put_pieces (last_ones ps) qs
+  put_last_ones [] qs = refl
+  put_last_ones (p ∷ ps) qs = put_at _ p ps qs refl (put_last_ones ps)
+
+all_last_at : (b : Bool) (P : Piece → Type 0) (p : Piece) (ps : List Piece) → stands_again (piece_key p) ps ≡ b → P p
+    → All P (last_ones ps) → All P (last_ones (p ∷ ps))
+all_last_at true P p ps h here is = rw h is
+all_last_at false P p ps h here is = rw h (All-cons P p (last_ones ps) here is)
+
+all_last : (P : Piece → Type 0) (ps : List Piece) → All P ps → All P (last_ones ps)
+all_last P [] h = h
+all_last P (p ∷ ps) h = all_last_at _ P p ps refl (All-head P p ps h) (all_last P ps (All-tail P p ps h))
+
+stands_once : (k : List ℕ) (ps : List Piece) → Ascend (Some k) ps → stands_again k ps ≡ false
+stands_once k [] up = refl
+stands_once k (p ∷ ps) up = told _ refl
+  where
+    told : (b : Bool) → bytes_eq (piece_key p) k ≡ b → bytes_eq (piece_key p) k ≡ false
+    told false h = h
+    told true h =
+        let same = (bytes_eq-Decides (piece_key p) k).0 h in
+        let tied : slice_cmp nat_cmp k k ≡ Equal = tied_itself nat_list_cmp_total k in
+        let less : slice_cmp nat_cmp k k ≡ Less = subst (λ l. slice_cmp nat_cmp k l ≡ Less) same up.0 in
+        cc
+
+-- where the keys ascend each piece is its key's last
+last_of_ascending : (last : Option (List ℕ)) (ps : List Piece) → Ascend last ps → last_ones ps ≡ ps
+last_of_ascending last [] up = refl
+last_of_ascending last (p ∷ ps) up =
+    rw (stands_once (piece_key p) ps up.1) (ap (λ l. p ∷ l) (last_of_ascending (Some (piece_key p)) ps up.1))
+
+-- pieces whose keys keep their turns may be put in order first
+pub in_order_again : (ps qs : List Piece) (texts written : List ℕ) → HaveTurns piece_key ps qs → IsPermutation ps qs
+    → InOrder qs texts written → InOrder ps texts written
+in_order_again ps qs texts written turns same o =
+    (o.0, λ p. o.1 p ∙ turns p, IsPermutation-trans ps qs o.0 same o.2, o.3, o.4)
+
+closed : (texts : List ℕ) (behind : Bool) (ps : List Piece)
+    → open_text texts behind ps ++ 125 ∷ [] ≡ members_text texts behind ps
+closed texts behind [] = refl
+closed texts behind (p ∷ ps) =
+    let s = piece_text texts p in
+    append_assoc (comma_if behind) (s ++ open_text texts true ps) (125 ∷ [])
+    ∙ ap (λ l. comma_if behind ++ l) (append_assoc s (open_text texts true ps) (125 ∷ [])
+    ∙ ap (λ l. s ++ l) (closed texts true ps))
+
+-- an object whose keys ascend is ended by its brace
+pub ended_in_place : (old texts new : List ℕ) (ps : List Piece) → IsOpen old texts ps → Ascend None ps
+    → new ≡ texts ++ 125 ∷ [] → IsEnded ps old texts new
+ended_in_place old texts new ps opened up is =
+    let same = last_of_ascending None ps up in (
+      object_text texts ps,
+      (
+        ps,
+        λ p. refl,
+        IsPermutation-refl ps,
+        subst (Ascend None) (sym same) up,
+        ap (object_text texts) (sym same),
+      ),
+      is ∙ ap (λ l. l ++ 125 ∷ []) opened ∙ append_assoc old (123 ∷ open_text texts false ps) (125 ∷ [])
+          ∙ ap (λ l. old ++ 123 ∷ l) (closed texts false ps),
+    )
+
+-- ---- the text of the object
+
+-- the texts of members by ascending key are the text of their trees, to which one of a lesser key comes first
+pieces_written : (D : Doubles) (f : Form) (texts : List ℕ) (values : Values) (behind : Bool) (last : Option (List ℕ))
+    (ps : List Piece) → Ascend last ps → All (IsPiece D f texts values) ps
+    → (ms : Members) × (writes_pairs_in D f (pairs_of piece_key (value_at values) ps) ≡ Ok ms)
+    × (members_text texts behind ps ≡ printed_members behind ms)
+    × ((k : List ℕ) (d : Data) → Ascend (Some k) ps → put k d ms ≡ member k d ms)
+pieces_written D f texts values behind last [] up h =
+    (no_members, refl, sym (no_more_members behind), λ k d up. refl)
+pieces_written D f texts values behind last (p ∷ ps) up h =
+    let here = All-head (IsPiece D f texts values) p ps h in
+    let k = piece_key p in
+    let t = here.1.0 in
+    let more = pieces_written D f texts values true (Some k) ps up.1 (All-tail (IsPiece D f texts values) p ps h) in
+    let one = quoted k ++ 58 ∷ text_of t in
+    let comma = comma_if behind in (
+      member k t more.0,
+      rw (here.1.1, more.1) (ap Ok (more.3 k t up.1)),
+      ap (λ l. comma ++ (l ++ members_text texts true ps)) here.1.2
+          ∙ ap (λ l. comma ++ (one ++ l)) more.2
+          ∙ one_more_member behind k t more.0,
+      λ l d up. rw up.0 refl,
+    )
+
+-- the object that the pieces in order give has the text of its tree
+pub object_in_order : (D : Doubles) (f : Form) (old texts new : List ℕ) (values : Values) (ps : List Piece)
+    → All (IsPiece D f texts values) ps → IsEnded ps old texts new
+    → (ms : Members) × (writes_pairs_in D f (put_each piece_key (value_at values) ps no_pairs) ≡ Ok ms)
+    × (new ≡ old ++ text_of (object ms))
+object_in_order D f old texts new values ps h ended =
+    let order = ended.1 in
+    let qs = order.0 in
+    let ks = last_ones qs in
+    let up = ascending_pairs values None ks order.3 in
+    let put : put_each piece_key (value_at values) ps no_pairs ≡ pairs_of piece_key (value_at values) ks =
+    turned piece_key (value_at values) ps qs no_pairs order.1
+    ∙ put_last_ones values qs no_pairs
+    ∙ put_ascending piece_key (value_at values) ks up in
+    let all = all_last (IsPiece D f texts values) qs (All-permutation (IsPiece D f texts values) ps qs order.2 h) in
+    let w = pieces_written D f texts values false None ks order.3 all in
+    let printed : object_text texts ks ≡ text_of (object w.0) = ap (λ l. 123 ∷ l) w.2 ∙ object_printed w.0 in (
+      w.0,
+      ap (writes_pairs_in D f) put ∙ w.1,
+      ended.2 ∙ ap (λ l. old ++ l) (order.4 ∙ printed),
+    )

@@ -1,0 +1,24 @@
+use Rattle.std.proofs.Common.{◌≡◌, suc, ◌∷◌, [], drop, get_or, map, option_map, sym, subst, arith, add-one}
+use Rattle.std.proofs.Math.Seq.{drop-cons}
+use Rattle.std.proofs.lemmas.List.{drop_all}
+use Rattle.bson_filter.specs.Pieces.{KeysAscend}
+use Rattle.bson_filter.proofs.pieces.ascend.Goals as goal
+
+pub loop-at-preserved : goal.loop-at-preserved
+loop-at-preserved c =
+    let ks = c.args.keys.now in
+    let at = c.loop-at.at in
+    let k = get_or ks at (record { ref_ptr = (0, 0); now = [] }) in
+    let rest = drop (suc at) ks in
+    let last = option_map (λ s. s.now) c.loop-at.last in
+    let left : drop at ks ≡ k ∷ rest = drop-cons ks at _ (grind arith) in
+    rw (add-one at)
+    (λ up. c.loop-at.invariant
+    (subst (λ l. KeysAscend last (map (λ s. s.now) l)) (sym left) (c.follows.ensures c.if-not-follows.false, up)))
+
+pub returns : goal.returns
+returns c = λ is.
+    let ks = c.args.keys.now in
+    let last = option_map (λ s. s.now) c.loop-at.last in
+    let none : drop c.loop-at.at ks ≡ [] = drop_all c.loop-at.at ks (grind arith) in
+    c.loop-at.invariant (subst (λ l. KeysAscend last (map (λ s. s.now) l)) (sym none) tt)
