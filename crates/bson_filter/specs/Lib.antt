@@ -1,5 +1,6 @@
 pub mod Digest
 pub mod Filtered
+pub mod Sorted
 pub mod TextWritten
 pub mod Walked
 -- what public clauses cite of the crates below, so that a caller names this crate alone

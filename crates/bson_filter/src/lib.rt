@@ -8,6 +8,7 @@
 
 pub mod distinct;
 pub mod filter;
+pub mod sorted;
 mod text;
 pub mod unstreamed;
 pub mod walk;

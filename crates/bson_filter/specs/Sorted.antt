@@ -1,0 +1,19 @@
+-- What a text is that was written from the tokens of another, its keys in ascending order.
+use Rattle.std.specs.Prelude.{◌≡◌, ℕ, List}
+use Rattle.serde_json.specs.Data.{Data}
+use Rattle.bson_scalar.specs.TreeText.{tree_text}
+use Rattle.bson_scalar.specs.declared.form.Doubles.{Doubles}
+use Rattle.bson_scalar.specs.declared.form.Form.{Form}
+use Rattle.bson_model.specs.Laws.{IsTreeOfIn}
+use Rattle.bson_model.specs.Texts.{ReadsAgainIn}
+use Rattle.bson_model.specs.Value.{Value}
+use Rattle.bson_order.specs.Texts.{MeansByDefault}
+
+-- the text means a value, and the other is the compact text of that value's one tree in the form
+pub record IsSortedText (D : Doubles) (f : Form) (text written : List ℕ) : Type 0 where
+  pub value : Value
+  pub meaning : MeansByDefault D text value
+  pub tree : Data
+  pub is_tree : IsTreeOfIn D f value tree
+  pub reads_again : ReadsAgainIn D f value tree
+  pub compact : written ≡ tree_text D f tree
