@@ -19,12 +19,14 @@ use std::alloc::{AllocError, Global};
 // How deep arrays and objects may nest.
 const MAX_DEPTH: usize = 127;
 
-/// What [`converted`](crate::convert::converted) gives.
+/// What `converted` gives.
 ///
 /// ```
 /// let bytes = br#"[{"$numberLong": "5"}]"#;
-/// if let Ok(Converted::Text(text)) = converted(alloc, Options::default(), Mode::Relaxed, bytes) {
-///     rt.print(str::from_utf8(&text)?)?; // [5]
+/// match converted(alloc, Options::default(), Mode::Relaxed, bytes) {
+///     Ok(Converted::Text(text)) => println!(rt; "{}", str::from_utf8(&text)?)?, // [5]
+///     Ok(Converted::Value(value)) => println!(rt; "{}", value.into_relaxed_text(alloc)?)?,
+///     Err(fault) => println!(rt; "{}", fault.line())?,
 /// }
 /// ```
 #[derive(Drop)]
