@@ -13,12 +13,11 @@ use Rattle.bson_scalar.specs.Normal.{IsNormalOrNan}
 use Rattle.bson_scalar.specs.Scalar as kind
 use Rattle.bson_scalar.specs.Scalar.{Scalar}
 use Rattle.bson_scalar.specs.declared.form.Doubles.{Doubles}
-use Rattle.bson_model.specs.Normal.{writable_in}
 use Rattle.bson_model.specs.Value.{IfScalar}
 use Rattle.bson_model.specs.Reading.{reads_in, reads_members_in}
 use Rattle.bson_model.specs.Sorted.{put_pair, sorted}
 use Rattle.bson_model.specs.Value.{Value, scalar, code_scope, array, document, Pairs, pair}
-use Rattle.bson_model.proofs.Offered.{value_read_in, means_from_in, normal_scalar_of}
+use Rattle.bson_model.proofs.Offered.{means_from_in, normal_scalar_of}
 use Rattle.bson_store.specs.Pairs.{values}
 use Rattle.bson_order.specs.Kept.{put_kept}
 use Rattle.bson_order.specs.Reading.{reads_in_order, members_in_order}
@@ -79,10 +78,6 @@ module _ (D : Doubles) where
   put_marked AsGiven k d (member l e ms) = set_marked_at (bytes_eq k l) k l d e ms (put_marked AsGiven k d ms)
 
 -- ---- a tree that means something
-
--- what was read can be written
-pub read_writable : (D : Doubles) (d : Data) (v : Value) → reads_in D d ≡ Ok v → writable_in D v ≡ true
-read_writable D d v h = (value_read_in D (λ w. w) d (Ok v) h).ok.read_form.1
 
 -- a double that is read is in normal form
 marks_unread : (p : ℕ) (b : Bool) → (p == 0x7FF0000000000001) ≡ b → normal_double p ≡ p → b ≡ false

@@ -1,5 +1,5 @@
 -- What ends a list or a map of tokens well from where it was printed to ends it well from its start.
-use Rattle.std.proofs.Common.{◌≡◌, ℕ, None, cond, ◌+◌, List, [], ◌∷◌, ◌++◌, Result, Ok}
+use Rattle.std.proofs.Common.{◌≡◌, ℕ, None, cond, List, [], ◌∷◌, ◌++◌, Result, Ok}
 use Rattle.std.proofs.Common.{Err, Some, false, refl, sym, ap, ◌∙◌, subst}
 use Rattle.std.proofs.lemmas.Bool.{or_from}
 use Rattle.std.specs.Ordering.{is_eq}

@@ -14,7 +14,7 @@ use Rattle.bson_store.specs.Small as store
 use Rattle.bson_store.specs.Small.{stored_pairs}
 use Rattle.bson.specs.Gathered.{Member, gathered_pairs, have_one_key, HaveTurns, put_each, pairs_of}
 use Rattle.bson.specs.Gathered.{member_key, member_value, put_all}
-use Rattle.bson.proofs.PutReads.{put_ascends}
+use Rattle.bson.proofs.PutAscends.{put_ascends}
 use Rattle.bson_model.specs.Value.{Value, Pairs, no_pairs, pair}
 use Rattle.bson_model.specs.Sorted.{put_pair, IsLeast, KeysAscend}
 use Rattle.bson_model.proofs.Offered.{flipped, put_swap}

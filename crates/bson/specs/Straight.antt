@@ -4,15 +4,15 @@ use Rattle.std.specs.Prelude.{Option, Some, None, Result, Ok, Err}
 use Rattle.json.specs.Token.{Token}
 use Rattle.json.specs.Json.{Json, members, value}
 use Rattle.json.specs.Lex.{tokens}
-use Rattle.serde_json.specs.Data.{Data, string, Items, Members, no_members, member, object}
+use Rattle.serde_json.specs.Data.{Data, string, Members, no_members, member, object}
 use Rattle.serde_json.specs.Find.{as_str}
-use Rattle.serde_json.specs.Read.{of_json, converted, read}
+use Rattle.serde_json.specs.Read.{of_json, converted}
 use Rattle.bson_scalar.specs.Faults.{Fault}
 use Rattle.bson_scalar.specs.Scalar.{double}
 use Rattle.bson_scalar.specs.Table.{has_wrapper}
 use Rattle.bson_scalar.specs.declared.form.Doubles.{Doubles}
-use Rattle.bson_model.specs.Reading.{reads_in, reads_items_in, reads_members_in, code_value}
-use Rattle.bson_model.specs.Value.{Value, scalar, Values, Pairs, no_pairs, pair}
+use Rattle.bson_model.specs.Reading.{code_value}
+use Rattle.bson_model.specs.Value.{Value, scalar, Pairs, no_pairs, pair}
 use Rattle.bson_order.specs.Kept.{kept}
 use Rattle.bson_tokens.specs.Keys.{any_key, is_wrapper, is_code, is_scope}
 use Rattle.bson.specs.ByOrder.{read_by, members_by, insert_pair_by, reads_by, reads_scope_by, MembersAreBy, ObjectIsBy}
@@ -38,25 +38,6 @@ MembersRead o f depth ts v rest =
 -- the same of a whole text
 abbrev pub TextReads : KeyOrder → Doubles → List ℕ → Option Value → Type 0
 TextReads o D text v = (d : Data) × (read_by o text ≡ Some d) × (given (reads_by o D d) ≡ v)
-
-module _ (D : Doubles) where
-  -- the text has a tree, which means the value
-  abbrev pub TextMeans : List ℕ → Value → Type 0
-  TextMeans text v = (d : Data) × (read text ≡ Some d) × (reads_in D d ≡ Ok v)
-
-  -- a tree was read, of which these tokens are left, and it means the value
-  abbrev pub TreeMeans : Option (Data × List Token) → Value → List Token → Type 0
-  TreeMeans tree v rest = (d : Data) × (tree ≡ Some (d, rest)) × (reads_in D d ≡ Ok v)
-
-  abbrev pub ItemsMean : Option (Items × List Token) → Values → List Token → Type 0
-  ItemsMean trees vs rest = (ds : Items) × (trees ≡ Some (ds, rest)) × (reads_items_in D ds ≡ Ok vs)
-
-  abbrev pub ObjectMeans : Option (Members × List Token) → Value → List Token → Type 0
-  ObjectMeans members v rest = (ms : Members) × (members ≡ Some (ms, rest)) × (reads_in D (object ms) ≡ Ok v)
-
-  -- the same of a scope
-  abbrev pub PairsMean : Option (Members × List Token) → Pairs → List Token → Type 0
-  PairsMean members ps rest = (ms : Members) × (members ≡ Some (ms, rest)) × (reads_members_in D ms ≡ Ok ps)
 
 -- ---- values of no meaning
 

@@ -13,8 +13,7 @@ use Rattle.bson_scalar.specs.declared.write_error.WriteError.{WriteError}
 use Rattle.bson_scalar.specs.declared.write_error.WriteError.TheVariants.{FiniteDouble, OutOfMemory}
 use Rattle.bson_model.specs.Texts.{ReadsAgainIn}
 use Rattle.bson_model.specs.Value.{Value, Pairs, no_pairs, pair}
-use Rattle.bson_model.specs.Writing.{writes_in}
-use Rattle.bson_model.specs.Normal.{InRange, normal_form, plain}
+use Rattle.bson_model.specs.Normal.{normal_form, plain}
 use Rattle.bson_model.specs.Laws.{IsTreeOfIn}
 use Rattle.bson_order.specs.Kept.{unordered}
 use Rattle.bson_order.specs.Texts.{IsOrderedTextOf}
@@ -66,7 +65,3 @@ MayStop Finite FiniteDouble = ⊥
 abbrev pub writes_in_turn : (Value → Result Data Refusal) → Pairs → Result Members Refusal
 writes_in_turn w no_pairs = Ok no_members
 writes_in_turn w (pair k v ps) = w v >>= λ d. writes_in_turn w ps >>= λ ms. Ok (member k d ms)
-
--- the value was printed in the form: the tokens of its tree come after the old ones
-abbrev pub IsPrinted : Doubles → Form → Value → List Token → List Token → Type 0
-IsPrinted D f v old new = (t : Data) × (writes_in D f v ≡ Ok t) × (new ≡ old ++ tokens_of t) × InRange v

@@ -3,9 +3,7 @@
 //! In reading order: `options` (which doubles are read and written); `de` (the calls that read
 //! trees) over `read` and `scalars`; `ser` and `ordered` (the calls that write, with keys that
 //! ascend and in each document's own order) over `write` (trees) and `text` (texts, in either
-//! `key_order`); `text_reader` (values from texts) with `text_error`; `convert` (a text to another,
-//! part by part).
-pub mod convert;
+//! `key_order`); `text_reader` (values from texts) with `text_error`.
 pub mod de;
 mod key_order;
 mod options;

@@ -14,9 +14,9 @@ use Rattle.bson_convert.specs.declared.fault.Fault.{Fault}
 use Rattle.bson.specs.declared.extjson.options.Options.{Options}
 use Rattle.bson.specs.TextMeaning.{IsTextOf, HasTextMeaningIn}
 use Rattle.bson.specs.Texts.{IsTextUnder}
-use Rattle.bson.specs.declared.extjson.convert.Converted.{Converted}
-use Rattle.bson.specs.declared.extjson.convert.Converted.TheVariants.{Text}
-use Rattle.bson.specs.declared.extjson.convert.Converted.TheVariants as converted
+use Rattle.bson_convert.specs.declared.converted.Converted.{Converted}
+use Rattle.bson_convert.specs.declared.converted.Converted.TheVariants.{Text}
+use Rattle.bson_convert.specs.declared.converted.Converted.TheVariants as converted
 use Rattle.bson.proofs.Offered.{tree_one}
 use Rattle.bson_convert.proofs.Again.{is_written}
 

@@ -1,4 +1,5 @@
 mod Again
+mod Broken
 mod Converting
 pub mod Offered
 mod Rows

@@ -1,5 +1,5 @@
 -- What converting makes of bytes: the output of the one value that they mean as a text, or why they mean none.
-use Rattle.std.specs.Prelude.{◌≡◌, ◌≤◌, ℕ, List, [], ◌∷◌, ◌++◌, Some, string_bytes}
+use Rattle.std.specs.Prelude.{◌≡◌, ◌≤◌, ℕ, List, [], ◌∷◌, ◌++◌, Some}
 use Rattle.serde_json.specs.Data.{Data, depth}
 use Rattle.serde_json.specs.Read.{read, max_depth}
 use Rattle.bson.specs.declared.extjson.options.Options.{Options}
@@ -17,9 +17,9 @@ use Rattle.bson_place.specs.Place.{IsFirstFaultIn}
 use Rattle.bson.specs.TextMeaning.{IsTextOf, IsNoText}
 use Rattle.bson.specs.Texts.{IsTextUnder}
 use Rattle.bson.specs.View.{bson_view}
-use Rattle.bson.specs.declared.extjson.convert.Converted.{Converted}
-use Rattle.bson.specs.declared.extjson.convert.Converted.TheVariants.{Text}
-use Rattle.bson.specs.declared.extjson.convert.Converted.TheVariants as converted
+use Rattle.bson_convert.specs.declared.converted.Converted.{Converted}
+use Rattle.bson_convert.specs.declared.converted.Converted.TheVariants.{Text}
+use Rattle.bson_convert.specs.declared.converted.Converted.TheVariants as converted
 use Rattle.bson_convert.specs.declared.mode.Mode.{Mode}
 use Rattle.bson_convert.specs.declared.mode.Mode.TheVariants.{Canonical, Relaxed, Show}
 use Rattle.bson_convert.specs.declared.fault.Fault.{Fault}
@@ -92,7 +92,7 @@ IsTextFor o Show value text = ⊥
 
 -- such a text, or the value
 abbrev pub IsConverted : Options → Mode → Value → Converted → Type 0
-IsConverted o mode value (Text text) = IsTextFor o mode value (string_bytes text)
+IsConverted o mode value (Text text) = IsTextFor o mode value text.items
 IsConverted o mode value (converted.Value read) = bson_view read ≡ value
 
 -- a value can be written

@@ -12,10 +12,10 @@ ghost use Rattle.bson_convert.specs.Convert.{default_options, IsConverted, IsWri
 ghost use Rattle.bson.specs.TextMeaning.{IsTextOf, HasTextMeaningIn, IsTextFaultIn};
 ghost use Rattle.bson.specs.declared.extjson.text_error.TextError.{TextError};
 
+use crate::converted::{Converted, sorted};
 use crate::fault::Fault;
 use crate::mode::Mode;
 use bson::Bson;
-use bson::extjson::convert::Converted;
 use bson::extjson::de::TextError;
 use bson::extjson::{Form, Options, WriteError};
 use std::alloc::Global;
@@ -96,14 +96,14 @@ pub fn converted(
         × IsConverted options mode value read) }
     ensures fault { IfErr result (λ fault. IsRefusedIn options fault bytes.now) }
 {
-    let read = match mode {
-        Mode::Canonical => Bson::convert_text_with(alloc, options, Form::Canonical, bytes),
-        Mode::Relaxed => Bson::convert_text_with(alloc, options, Form::Relaxed, bytes),
+    let form = match mode {
+        Mode::Canonical => Form::Canonical,
+        Mode::Relaxed => Form::Relaxed,
         Mode::Show => return Ok(Converted::Value(meaning(alloc, options, bytes)?)),
     };
-    match read {
-        Ok(read) => Ok(read),
-        Err(error) => Err(refused(error)),
+    match sorted(alloc, options, form, bytes)? {
+        Some(text) => Ok(Converted::Text(text)),
+        None => Ok(Converted::Value(meaning(alloc, options, bytes)?)),
     }
 }
 
@@ -140,7 +140,7 @@ fn output(alloc: Global, options: Options, mode: Mode, read: Converted) -> Resul
     ensures fault { IfErr result (λ fault. fault ≡ Fault.OutOfMemory) }
 {
     match read {
-        Converted::Text(text) => line(text),
+        Converted::Text(text) => ended(text),
         Converted::Value(value) => value_output(alloc, options, mode, value),
     }
 }

@@ -3,12 +3,13 @@
 //!
 //! In reading order: `mode` and `fault` (what is asked, and what is refused) with `no_bytes` (why a
 //! text that means something has no bytes of BSON, of which the crate above is asked), `convert`
-//! (bytes to bytes) with `value` (bytes to a value), `stream` (all bytes of a reader and to a
-//! writer) and `run` (the whole way from a reader to a writer). What the programs have in common
-//! stands in `program`.
+//! (bytes to bytes) over `converted` (a text that is written as another is read) with `value` (bytes
+//! to a value), `stream` (all bytes of a reader and to a writer) and `run` (the whole way from a
+//! reader to a writer). What the programs have in common stands in `program`.
 #![tactic(auto)]
 
 pub mod convert;
+pub mod converted;
 pub mod fault;
 pub mod mode;
 pub mod no_bytes;

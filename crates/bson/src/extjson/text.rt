@@ -1,13 +1,12 @@
 //! The text of a value in both forms, written with no tree.
-ghost use Rattle.std.specs.Prelude.{◌≡◌, [], IfErr, OnOk, true, string_bytes};
+ghost use Rattle.std.specs.Prelude.{◌≡◌, [], IfErr, OnOk, string_bytes};
 ghost use Rattle.json.specs.Print.{print as print_tokens};
 ghost use Rattle.serde_json.specs.Data.{array, object};
-ghost use Rattle.bson_model.specs.Normal.{InRange, ItemsInRange, PairsInRange, writable_in};
-ghost use Rattle.bson_model.specs.Writing.{writes_in};
+ghost use Rattle.bson_model.specs.Normal.{InRange, ItemsInRange, PairsInRange};
 ghost use Rattle.bson_order.specs.Distinct.{AllDistinct, ItemsDistinct, PairsDistinct};
 ghost use Rattle.bson_store.specs.Pairs.{HasDistinctKeys};
 ghost use Rattle.bson.specs.KeyOrders.{ordered, writes_by, writes_items_by, writes_pairs_by};
-ghost use Rattle.bson.specs.Texts.{Prints, GivesText, IsPrinted, MayStop};
+ghost use Rattle.bson.specs.Texts.{Prints, GivesText, MayStop};
 ghost use Rattle.bson.specs.View.{bson_view, scoped_view, values_view, pairs_view};
 
 use crate::bson::{Bson, JavaScriptCodeWithScope};
@@ -17,12 +16,11 @@ use crate::extjson::scalars::can_be_written;
 use crate::scalar::scalar_ref;
 use bson_scalar::code::put_code;
 use bson_scalar::form::{Doubles, Form};
-use bson_scalar::scalar::Scalar;
 use bson_scalar::write::{print_scalar_in, put_binary};
 use bson_scalar::write_error::WriteError;
 use bson_store::small::Iter;
 use json::Writer;
-use std::alloc::{AllocError, Global};
+use std::alloc::Global;
 
 pub(crate) fn text_of(
     alloc: Global,
@@ -50,43 +48,6 @@ pub(crate) fn finished(out: Writer) -> String
         unreachable!();
     };
     text
-}
-
-// Prints a value that was read, whose doubles are all written.
-pub(crate) fn print_read(
-    alloc: Global,
-    doubles: Doubles,
-    form: Form,
-    value: Bson,
-    out: &mut Writer,
-) -> Result<(), AllocError>
-    requires { writable_in doubles (bson_view value) ≡ true }
-    ensures ok { OnOk result (IsPrinted doubles form (bson_view value) out.old.tokens out.new.tokens) }
-    ensures before { out.new.before ≡ out.old.before }
-{
-    match print_owned(alloc, doubles, form, value, out) {
-        Ok(()) => Ok(()),
-        Err(WriteError::OutOfMemory) => Err(AllocError),
-        Err(WriteError::FiniteDouble) => unreachable!(),
-    }
-}
-
-// The bytes of a binary are dropped before its text is printed.
-fn print_owned(
-    alloc: Global,
-    doubles: Doubles,
-    form: Form,
-    value: Bson,
-    out: &mut Writer,
-) -> Result<(), WriteError>
-    ensures printed { Prints (λ t. t) result (writes_in doubles form (bson_view value)) out.old.tokens out.new.tokens }
-    ensures before { out.new.before ≡ out.old.before }
-    ensures ranged { OnOk result (InRange (bson_view value)) }
-{
-    match value {
-        Bson::Binary(binary) => print_scalar_in(alloc, doubles, form, Scalar::Binary(binary), out),
-        value => print(alloc, doubles, KeyOrder::Ascending, form, &value, out),
-    }
 }
 
 #[cycle(print)]

@@ -22,9 +22,9 @@ ghost use Rattle.bson_tokens.specs.Parts.{IsBroken};
 ghost use Rattle.bson.specs.Straight.{TextReads};
 ghost use Rattle.bson.specs.declared.extjson.text_error.TextError.TheVariants.{OutOfMemory};
 
-pub(crate) mod gathered;
+mod gathered;
 mod parts;
-pub(crate) mod straight;
+mod straight;
 
 use crate::bson::Bson;
 use crate::extjson::key_order::KeyOrder;
@@ -37,8 +37,8 @@ use bson_tokens::walk::first_fault_in;
 use json::{Reader, Scratch};
 use std::alloc::Global;
 
-/// How deep arrays and objects may nest.
-pub(crate) const MAX_DEPTH: usize = 127;
+// How deep arrays and objects may nest.
+const MAX_DEPTH: usize = 127;
 
 impl Bson {
     /// The value that the bytes mean, as one text of MongoDB Extended JSON v2, in either form or
@@ -142,7 +142,7 @@ impl Bson {
 }
 
 // The value that the bytes mean.
-pub(crate) fn read_bytes(alloc: Global, doubles: Doubles, bytes: &[u8]) -> Result<Bson, TextError>
+fn read_bytes(alloc: Global, doubles: Doubles, bytes: &[u8]) -> Result<Bson, TextError>
     ensures ok { IfOk result (λ v. HasTextMeaningIn doubles bytes.now (bson_view v)) }
     ensures fault { IfErr result (λ e. IsTextFaultIn doubles bytes.now e) }
 {
@@ -169,7 +169,7 @@ fn read_by(
 }
 
 // What was read, or why it means nothing.
-pub(crate) fn or_fault(
+fn or_fault(
     alloc: Global,
     doubles: Doubles,
     order: KeyOrder,
@@ -204,8 +204,8 @@ fn fault_of(alloc: Global, doubles: Doubles, bytes: &[u8]) -> TextError
     }
 }
 
-/// Refuses bytes that mean nothing, with the fault of their tree.
-pub(crate) fn find_fault(alloc: Global, doubles: Doubles, bytes: &[u8]) -> Result<(), TextError>
+// Refuses bytes that mean nothing, with the fault of their tree.
+fn find_fault(alloc: Global, doubles: Doubles, bytes: &[u8]) -> Result<(), TextError>
     ensures ok { OnOk result ((v : model.Value) × (t : Data) × (tree_of bytes.now ≡ Some t)
         × (reads_in doubles t ≡ Ok v)) }
     ensures fault { IfErr result (λ e. IsTextFaultIn doubles bytes.now e) }
@@ -222,7 +222,7 @@ pub(crate) fn find_fault(alloc: Global, doubles: Doubles, bytes: &[u8]) -> Resul
 }
 
 // The value that the text means, or none.
-pub(crate) fn read_text(
+fn read_text(
     alloc: Global,
     doubles: Doubles,
     order: KeyOrder,

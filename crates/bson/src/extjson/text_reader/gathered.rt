@@ -211,7 +211,7 @@ fn sort_by_prefix(members: &mut Vec<Pair<Bson>>) -> Result<(), AllocError>
 }
 
 // The first sixteen bytes as one number, with zeros for those that are missing.
-pub(crate) fn prefix_of(key: &[u8]) -> u128
+fn prefix_of(key: &[u8]) -> u128
     ensures { result ≡ prefix key.now 16 }
 {
     let mut prefix: u128 = 0;

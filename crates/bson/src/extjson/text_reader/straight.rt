@@ -17,7 +17,7 @@ ghost use Rattle.bson.specs.Gathered.{gathered, IsInOrder};
 ghost use Rattle.bson.specs.Straight.{Reads, IsJoined, MembersRead, RestReads, ObjectReads, IsFound, IsCode};
 ghost use Rattle.bson_tokens.specs.declared.unread.Unread.TheVariants.{Broken};
 
-pub(crate) mod scope_first;
+mod scope_first;
 
 use crate::bson::Bson;
 use crate::document::Document;
@@ -58,7 +58,7 @@ pub(crate) fn read_value(
 // The value that begins with the token, which was taken.
 #[cycle(straight)]
 #[inline(always)]
-pub(crate) fn read_begun(
+fn read_begun(
     alloc: Global,
     doubles: Doubles,
     order: KeyOrder,
@@ -228,7 +228,7 @@ fn read_document(
 // that stands again the last value counts.
 #[cycle(straight)]
 #[inline(never)]
-pub(crate) fn read_wrapped(
+fn read_wrapped(
     alloc: Global,
     doubles: Doubles,
     order: KeyOrder,

@@ -4,7 +4,7 @@ use Rattle.bson.specs.View.{bson_view}
 use Rattle.bson_model.specs.Sorted.{KeysAscend}
 use Rattle.bson.specs.Gathered.{gathered_pairs, put_all}
 use Rattle.bson.proofs.Members.{one_left}
-use Rattle.bson.proofs.PutReads.{put_ascends}
+use Rattle.bson.proofs.PutAscends.{put_ascends}
 use Rattle.bson.proofs.extjson.text_reader.gathered.last_of_each.Goals as goal
 
 pub members-preserved : goal.members-preserved

@@ -1,0 +1,94 @@
+//! A text that is written as another is read, and why one means nothing.
+ghost use Rattle.std.specs.Prelude.{◌≡◌, IfOk, IfErr, IfSome, IsTrue, None};
+ghost use Rattle.serde_json.specs.Read.{read};
+ghost use Rattle.bson_model.specs.Value as model;
+ghost use Rattle.bson.specs.TextMeaning.{HasTextMeaningIn};
+ghost use Rattle.bson.specs.Texts.{IsTextUnder};
+ghost use Rattle.bson_convert.specs.Convert.{IsRefusedIn};
+
+use crate::fault::Fault;
+use bson::Bson;
+use bson::extjson::{Form, Options};
+use bson_filter::sorted::sort_text;
+use bson_filter::unstreamed::Unstreamed;
+use bson_tokens::unread::Unread;
+use bson_tokens::walk::first_fault_in;
+use json::{Reader, Scratch};
+use std::alloc::{AllocError, Global};
+
+// How deep arrays and objects may nest.
+const MAX_DEPTH: usize = 127;
+
+/// What `converted` gives.
+///
+/// ```
+/// let bytes = br#"[{"$numberLong": "5"}]"#;
+/// match converted(alloc, Options::default(), Mode::Relaxed, bytes) {
+///     Ok(Converted::Text(text)) => println!(rt; "{}", str::from_utf8(&text)?)?, // [5]
+///     Ok(Converted::Value(value)) => println!(rt; "{}", value.into_relaxed_text(alloc)?)?,
+///     Err(fault) => println!(rt; "{}", fault.line())?,
+/// }
+/// ```
+#[derive(Drop)]
+pub enum Converted {
+    /// The text of the value in the form.
+    Text(Vec<u8>),
+    /// The value, which was read whole.
+    Value(Bson),
+}
+
+// The text in the form of the value that the bytes mean, written as they are read; none where they
+// are to be read whole.
+pub(crate) fn sorted(
+    alloc: Global,
+    options: Options,
+    form: Form,
+    bytes: &[u8],
+) -> Result<Option<Vec<u8>>, Fault>
+    ensures ok { IfOk result (λ found. IfSome found
+        (λ text. (value : model.Value) × HasTextMeaningIn options.doubles bytes.now value
+        × IsTextUnder options.doubles form value text.items)) }
+    ensures fault { IfErr result (λ fault. IsRefusedIn options fault bytes.now) }
+{
+    let Ok(text) = simdutf8::compat::from_utf8(bytes) else {
+        return Err(Fault::NotJson);
+    };
+    match sort_text(alloc, options.doubles, form, text) {
+        Ok(written) => Ok(Some(written)),
+        Err(Unstreamed::Left) => {
+            refuse(alloc, options, text)?;
+            Ok(None)
+        }
+        Err(Unstreamed::OutOfMemory) => Err(Fault::OutOfMemory),
+    }
+}
+
+/// Refuses a text that is not JSON or means nothing, with the first fault of its tree, of which no
+/// value is made.
+pub fn refuse(alloc: Global, options: Options, text: &str) -> Result<(), Fault>
+    ensures { IfErr result (λ fault. IsRefusedIn options fault text.now) }
+{
+    match breaks_grammar(alloc, text) {
+        Ok(false) => {}
+        Ok(true) => return Err(Fault::NotJson),
+        Err(_) => return Err(Fault::OutOfMemory),
+    }
+    match first_fault_in(alloc, options.doubles, text) {
+        Ok(None) => Ok(()),
+        Ok(Some(place)) => Err(Fault::NotExtendedJson(place)),
+        Err(Unread::Broken) => Err(Fault::NotJson),
+        Err(Unread::OutOfMemory) => Err(Fault::OutOfMemory),
+    }
+}
+
+// Whether the tokens of the text are no JSON value, or go on behind one.
+fn breaks_grammar(alloc: Global, text: &str) -> Result<bool, AllocError>
+    ensures { IfOk result (λ broken. IsTrue broken → read text.now ≡ None) }
+{
+    let mut scratch = Scratch::new(alloc);
+    let mut reader = Reader::new(text, &mut scratch)?;
+    match reader.skip_value(MAX_DEPTH) {
+        Ok(()) => Ok(reader.next().is_some()),
+        Err(_) => Ok(true),
+    }
+}
