@@ -1,15 +1,14 @@
 -- The members of an object as they come and by ascending key, and the place of one more. For private clauses.
-use Rattle.std.specs.Prelude.{◌≡◌, ℕ, zero, suc, ◌*◌, ◌%◌, ◌^◌, Bool, List, [], ◌∷◌, slice_index_or, String}
+use Rattle.std.specs.Prelude.{◌≡◌, ℕ, zero, suc, ◌*◌, ◌%◌, ◌^◌, List, [], ◌∷◌, slice_index_or, String}
 use Rattle.std.specs.Prelude.{string_bytes}
 use Rattle.std.specs.Int.Bits.{bit_or}
-use Rattle.std.specs.List.{filter}
-use Rattle.std.specs.Str.{bytes_eq}
 use Rattle.std.specs.Cmp.Lexicographic.{slice_cmp}
 use Rattle.std.specs.Ordering.{nat_cmp}
 use Rattle.std.specs.declared.alloc.Global.{Global}
 use Rattle.std.specs.declared.cmp.Ordering.TheVariants.{Less, Equal, Greater}
-use Rattle.bson_model.specs.Sorted.{put_pair, KeysAscend}
-use Rattle.bson_model.specs.Value.{Value, Pairs, no_pairs, pair}
+use Rattle.bson_model.specs.Sorted.{KeysAscend}
+use Rattle.bson_model.specs.Turns.{HaveTurns, put_each}
+use Rattle.bson_model.specs.Value.{Value, Pairs, no_pairs}
 use Rattle.bson_store.specs.Small.{stored_pairs}
 use Rattle.bson_store.specs.declared.small.Pair.{Pair}
 use Rattle.bson.specs.View.{bson_view, pairs_view}
@@ -29,27 +28,6 @@ member k v = record { key = k; value = v }
 
 abbrev pub gathered_pairs : List Member → Pairs
 gathered_pairs ms = pairs_view (stored_pairs ms)
-
--- ---- what has a key each, and a value
-
-module _ {M : Type 0} (key_of : M → List ℕ) where
-  -- they have one key
-  abbrev pub have_one_key : M → M → Bool
-  have_one_key m n = bytes_eq (key_of m) (key_of n)
-
-  -- the same, in which those of each key stand in the order in which they stood
-  abbrev pub HaveTurns : List M → List M → Type 0
-  HaveTurns ms ns = (m : M) → filter (have_one_key m) ns ≡ filter (have_one_key m) ms
-
-  module _ (value_of : M → Value) where
-    -- the pairs after each in turn is put to them
-    abbrev pub put_each : List M → Pairs → Pairs
-    put_each [] ps = ps
-    put_each (m ∷ ms) ps = put_each ms (put_pair (key_of m) (value_of m) ps)
-
-    abbrev pub pairs_of : List M → Pairs
-    pairs_of [] = no_pairs
-    pairs_of (m ∷ ms) = pair (key_of m) (value_of m) (pairs_of ms)
 
 -- ---- members
 
@@ -102,8 +80,3 @@ FitsAt k (m ∷ ms) (suc i) = (slice_cmp nat_cmp k (string_bytes m.key) ≡ Grea
 
 abbrev pub KeepsTurns : List Member → List Member → Type 0
 KeepsTurns ms ns = HaveTurns member_key ms ns
-
--- the first n bytes as a number
-abbrev pub prefix : List ℕ → ℕ → ℕ
-prefix bs zero = 0
-prefix bs (suc n) = bit_or (prefix bs n * 256 % 2 ^ 128) (slice_index_or bs n 0)

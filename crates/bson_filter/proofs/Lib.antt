@@ -11,6 +11,5 @@ pub mod Sending
 pub mod SortedPairs
 pub mod Sorting
 pub mod Standing
-pub mod Turned
 pub mod Walking
 pub mod Wrappers

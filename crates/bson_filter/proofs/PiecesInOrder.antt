@@ -17,17 +17,17 @@ use Rattle.bson_scalar.specs.TreeText.{text_of}
 use Rattle.bson_scalar.specs.declared.form.Doubles.{Doubles}
 use Rattle.bson_scalar.specs.declared.form.Form.{Form}
 use Rattle.bson_model.specs.Sorted.{put_pair, IsLeast, KeysAscend}
+use Rattle.bson_model.specs.Turns.{HaveTurns, put_each, pairs_of}
 use Rattle.bson_model.specs.Value.{Pairs, no_pairs}
 use Rattle.bson_model.specs.Writing.{writes_pairs_in}
+use Rattle.bson_model.proofs.Offered.{turned, put_ascending}
 use Rattle.bson_filter.specs.Pieces.{piece_key, piece_text, open_text, members_text, object_text, Ascend, Follows, InOrder}
 use Rattle.bson_filter.specs.Pieces.{last_ones, stands_again, IsOpen, IsEnded, Values, value_at, IsPiece}
 use Rattle.bson_filter.specs.Pieces.{pieces_from}
 use Rattle.bson_filter.specs.Pieces as keys
-use Rattle.bson_filter.specs.Turns.{HaveTurns, put_each, pairs_of}
 use Rattle.bson_filter.specs.declared.pieces.Piece.{Piece}
 use Rattle.bson_filter.proofs.PartTexts.{printed_members, no_more_members, one_more_member, object_printed}
 use Rattle.bson_filter.proofs.SortedPairs.{put_twice}
-use Rattle.bson_filter.proofs.Turned.{turned, put_ascending}
 
 -- ---- what may be there
 

@@ -4,7 +4,6 @@ pub mod Pieces
 pub mod Sorted
 pub mod SortedWritten
 pub mod TextWritten
-pub mod Turns
 pub mod Walked
 -- what public clauses cite of the crates below, so that a caller names this crate alone
 pub use Rattle.bson_order.specs.Texts

@@ -16,7 +16,7 @@ use Rattle.bson_scalar.specs.declared.form.Doubles.{Doubles}
 use Rattle.bson_scalar.specs.declared.form.Form.{Form}
 use Rattle.bson_model.specs.Value.{Value}
 use Rattle.bson_model.specs.Writing.{writes_in}
-use Rattle.bson_filter.specs.Turns.{HaveTurns}
+use Rattle.bson_model.specs.Turns.{HaveTurns}
 use Rattle.bson_filter.specs.declared.pieces.Piece.{Piece}
 
 abbrev pub piece_key : Piece → List ℕ
@@ -53,11 +53,6 @@ KeysAscend last (k ∷ ks) = Follows last k × KeysAscend (Some k) ks
 abbrev pub Ascend : Option (List ℕ) → List Piece → Type 0
 Ascend last [] = Unit {0}
 Ascend last (p ∷ ps) = Follows last (piece_key p) × Ascend (Some (piece_key p)) ps
-
--- the first n bytes as a number
-abbrev pub prefix : List ℕ → ℕ → ℕ
-prefix bs zero = 0
-prefix bs (suc n) = bit_or (prefix bs n * 256 % 2 ^ 128) (slice_index_or bs n 0)
 
 -- ---- joined
 

@@ -4,11 +4,12 @@ ghost use Rattle.std.specs.Prelude.{IfOk, IfSome, OnOk};
 ghost use Rattle.std.specs.List.{All};
 ghost use Rattle.std.specs.List.Sorted.{IsPermutation};
 ghost use Rattle.bson_filter.specs.Pieces.{end_before, pieces_from, piece_key, object_text, last_ones, stands_again, Ascend};
-ghost use Rattle.bson_filter.specs.Pieces.{Follows, InOrder, IsEnded, IsOpen, IsWithin, KeysAscend, prefix};
-ghost use Rattle.bson_filter.specs.Turns.{HaveTurns};
+ghost use Rattle.bson_filter.specs.Pieces.{Follows, InOrder, IsEnded, IsOpen, IsWithin, KeysAscend};
+ghost use Rattle.bson_model.specs.Turns.{HaveTurns};
 ghost use Rattle.serde_json.specs.Written.{comma_if};
 
 use crate::unstreamed::Unstreamed;
+use bson_tokens::prefix::prefix_of;
 use std::alloc::{AllocError, Global};
 
 // So many members or fewer are sorted with no memory.
@@ -158,18 +159,6 @@ fn sort_by_prefix(pieces: &mut Vec<Piece<'_>>) -> Result<(), AllocError>
 {
     pieces.sort_by_cached_key(|piece| prefix_of(piece.key.as_bytes()))?;
     Ok(())
-}
-
-// The first sixteen bytes as one number, with zeros for those that are missing.
-fn prefix_of(key: &[u8]) -> u128
-    ensures { result ≡ prefix key.now 16 }
-{
-    let mut prefix: u128 = 0;
-    'bytes: for at in 0..16 {
-        let byte = key.get(at).copied().unwrap_or(0);
-        prefix = prefix << 8 | byte as u128;
-    }
-    prefix
 }
 
 fn sort_by_key(pieces: &mut Vec<Piece<'_>>) -> Result<(), AllocError>

@@ -5,7 +5,7 @@ ghost use Rattle.bson_model.specs.Sorted.{put_pair, KeysAscend};
 ghost use Rattle.bson_model.specs.Value.{no_pairs};
 ghost use Rattle.bson.specs.View.{bson_view, document_view, pairs_view};
 ghost use Rattle.bson.specs.Gathered.{gathered_pairs, gathered, put_all, StandsAt, FitsAt};
-ghost use Rattle.bson.specs.Gathered.{order_of, FewAscend, IsInOrder, IsPut, KeepsTurns, prefix};
+ghost use Rattle.bson.specs.Gathered.{order_of, FewAscend, IsInOrder, IsPut, KeepsTurns};
 ghost use Rattle.bson.specs.Put.{put_entries};
 ghost use Rattle.bson.specs.declared.extjson.key_order.KeyOrder.TheVariants.{Ascending, AsGiven};
 ghost use Rattle.bson.specs.Straight.{is_nothing, holds_nothing, unless_nothing};
@@ -14,6 +14,7 @@ use crate::bson::Bson;
 use crate::document::Document;
 use crate::extjson::key_order::KeyOrder;
 use bson_store::{Pair, PairStore, SmallPairs};
+use bson_tokens::prefix::prefix_of;
 use std::alloc::{AllocError, Global};
 use std::cmp::Ordering;
 
@@ -208,18 +209,6 @@ fn sort_by_prefix(members: &mut Vec<Pair<Bson>>) -> Result<(), AllocError>
 {
     members.sort_by_cached_key(|member| prefix_of(member.key.as_bytes()))?;
     Ok(())
-}
-
-// The first sixteen bytes as one number, with zeros for those that are missing.
-fn prefix_of(key: &[u8]) -> u128
-    ensures { result ≡ prefix key.now 16 }
-{
-    let mut prefix: u128 = 0;
-    'bytes: for at in 0..16 {
-        let byte = key.get(at).copied().unwrap_or(0);
-        prefix = prefix << 8 | byte as u128;
-    }
-    prefix
 }
 
 fn sort_by_key(members: &mut Vec<Pair<Bson>>) -> Result<(), AllocError>

@@ -3,7 +3,7 @@ use Rattle.std.proofs.lemmas.Cmp.{nat_list_cmp_total}
 use Rattle.std.proofs.lemmas.List.MinMax.{ranks_by}
 use Rattle.std.proofs.lemmas.List.Sorted.{answers_always}
 use Rattle.bson_filter.specs.Pieces.{piece_key}
-use Rattle.bson_filter.proofs.Turned.{sorted_by}
+use Rattle.bson_model.proofs.Offered.{sorted_by}
 use Rattle.bson_filter.proofs.pieces.sort_by_key.Goals as goal
 
 pub returns-clause-turns : goal.returns-clause-turns

@@ -1,9 +1,9 @@
 use Rattle.std.proofs.Common.{ℕ, List, rules}
 use Rattle.std.proofs.lemmas.List.Sorted.{answers_always}
 use Rattle.std.specs.Cmp.{nat_cmp_total}
-use Rattle.bson_filter.specs.Pieces.{prefix}
+use Rattle.bson_tokens.specs.Prefix.{prefix}
 use Rattle.bson_filter.specs.Pieces.{piece_key}
-use Rattle.bson_filter.proofs.Turned.{sorted_by}
+use Rattle.bson_model.proofs.Offered.{sorted_by}
 use Rattle.bson_filter.proofs.pieces.sort_by_prefix.Goals as goal
 
 pub returns-clause-turns : goal.returns-clause-turns

@@ -1,7 +1,7 @@
 use Rattle.std.proofs.Common.{refl, ap, ◌∙◌}
 use Rattle.bson_model.specs.Value.{no_pairs}
+use Rattle.bson_model.proofs.Offered.{put_last}
 use Rattle.bson.specs.Gathered.{member, member_key, member_value, put_all}
-use Rattle.bson.proofs.Turned.{put_last}
 use Rattle.bson.proofs.extjson.text_reader.gathered.put_many.Goals as goal
 
 pub returns : goal.returns

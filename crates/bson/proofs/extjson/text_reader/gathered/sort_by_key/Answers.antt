@@ -2,8 +2,8 @@ use Rattle.std.proofs.Common.{string_bytes, rules}
 use Rattle.std.proofs.lemmas.Cmp.{nat_list_cmp_total}
 use Rattle.std.proofs.lemmas.List.MinMax.{ranks_by}
 use Rattle.std.proofs.lemmas.List.Sorted.{answers_always}
+use Rattle.bson_model.proofs.Offered.{sorted_by}
 use Rattle.bson.specs.Gathered.{member_key}
-use Rattle.bson.proofs.Turned.{sorted_by}
 use Rattle.bson.proofs.extjson.text_reader.gathered.sort_by_key.Goals as goal
 
 pub returns : goal.returns

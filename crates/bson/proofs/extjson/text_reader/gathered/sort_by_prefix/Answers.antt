@@ -1,8 +1,9 @@
 use Rattle.std.proofs.Common.{ℕ, List, string_bytes, rules}
 use Rattle.std.proofs.lemmas.List.Sorted.{answers_always}
 use Rattle.std.specs.Cmp.{nat_cmp_total}
-use Rattle.bson.specs.Gathered.{member_key, prefix}
-use Rattle.bson.proofs.Turned.{sorted_by}
+use Rattle.bson_model.proofs.Offered.{sorted_by}
+use Rattle.bson_tokens.specs.Prefix.{prefix}
+use Rattle.bson.specs.Gathered.{member_key}
 use Rattle.bson.proofs.extjson.text_reader.gathered.sort_by_prefix.Goals as goal
 
 pub returns : goal.returns

@@ -1,4 +1,4 @@
--- What has a key each, and a value, and its pairs in the order of the keys. For private clauses.
+-- What has a key each, and a value, in any order, and the pairs that it gives by ascending key.
 use Rattle.std.specs.Prelude.{◌≡◌, ℕ, Bool, List, [], ◌∷◌}
 use Rattle.std.specs.List.{filter}
 use Rattle.std.specs.Str.{bytes_eq}

@@ -1,5 +1,5 @@
 -- Pairs may be put in any order in which those of each key keep their turns.
-use Rattle.std.proofs.Common.{◌≡◌, ℕ, List, [], ◌∷◌, Bool, true, false, cond, Ordering, Less, refl, sym, ap, ◌∙◌, subst}
+use Rattle.std.proofs.Common.{◌≡◌, ℕ, List, [], ◌∷◌, ◌++◌, Bool, true, false, cond, Ordering, Less, refl, sym, ap, ◌∙◌, subst}
 use Rattle.std.proofs.lemmas.Cmp.{tied_itself}
 use Rattle.std.proofs.lemmas.Slice.Eq.{bytes_eq-Decides}
 use Rattle.std.specs.Cmp.{IsTotalOrder}
@@ -9,8 +9,9 @@ use Rattle.std.specs.Ordering.{is_lt}
 use Rattle.std.specs.Str.{bytes_eq}
 use Rattle.bson_model.specs.Sorted.{put_pair, IsLeast, KeysAscend}
 use Rattle.bson_model.specs.Value.{Value, Pairs, no_pairs, pair}
-use Rattle.bson_model.proofs.Offered.{flipped, put_swap}
-use Rattle.bson_filter.specs.Turns.{have_one_key, HaveTurns, put_each, pairs_of}
+use Rattle.bson_model.specs.Turns.{have_one_key, HaveTurns, put_each, pairs_of}
+use Rattle.bson_model.proofs.PutLaws.{put_swap}
+use Rattle.bson_model.proofs.PutSwap.{flipped}
 
 -- ---- stable sorts
 
@@ -149,6 +150,10 @@ module _ {M : Type 0} (key_of : M → List ℕ) where
     turned (m ∷ ms) ns ps k =
         turned ms (without m ns) (put_one m ps) (λ o. still_at _ o m ms ns refl k)
         ∙ sym (put_first m ns (filter (twins m) ms) ps (k m ∙ rw (has_own m) refl))
+
+    pub put_last : (ms : List M) (m : M) (ps : Pairs) → put (ms ++ m ∷ []) ps ≡ put_one m (put ms ps)
+    put_last [] m ps = refl
+    put_last (n ∷ ms) m ps = put_last ms m (put_one n ps)
 
     above : (k : List ℕ) (v : Value) (ms : List M) (ps : Pairs) → IsLeast k (as_pairs ms)
         → put ms (pair k v ps) ≡ pair k v (put ms ps)

@@ -1,8 +1,8 @@
 use Rattle.std.proofs.Common.{◌≡◌, ◌*◌, ◌%◌, ◌^◌, ap, ◌∙◌, add-one, get_or, arith}
 use Rattle.std.specs.Int.Bits.{bit_or}
 use Rattle.std.specs.Option.{unwrap_or}
-use Rattle.bson_filter.specs.Pieces.{prefix}
-use Rattle.bson_filter.proofs.pieces.prefix_of.Goals as goal
+use Rattle.bson_tokens.specs.Prefix.{prefix}
+use Rattle.bson_tokens.proofs.prefix.prefix_of.Goals as goal
 
 pub bytes-preserved : goal.bytes-preserved
 bytes-preserved c =
