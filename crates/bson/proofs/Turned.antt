@@ -43,7 +43,7 @@ module _ {M : Type 0} (key_of : M → List ℕ) where
   abbrev twins : M → M → Bool
   twins = have_one_key key_of
 
-  pub same_key : (m n : M) → twins m n ≡ true → key_of m ≡ key_of n
+  same_key : (m n : M) → twins m n ≡ true → key_of m ≡ key_of n
   same_key m n h = (bytes_eq-Decides (key_of m) (key_of n)).0 h
 
   has_own : (m : M) → twins m m ≡ true
@@ -167,7 +167,7 @@ module _ {M : Type 0} (key_of : M → List ℕ) where
     above k v (m ∷ ms) ps least = rw (flipped k (key_of m) Less least.0) (above k v ms (put_one m ps) least.1)
 
     -- what ascends is put as it stands
-    pub put_ascending : (ms : List M) → KeysAscend (as_pairs ms) → put ms no_pairs ≡ as_pairs ms
+    put_ascending : (ms : List M) → KeysAscend (as_pairs ms) → put ms no_pairs ≡ as_pairs ms
     put_ascending [] up = refl
     put_ascending (m ∷ ms) up =
         above (key_of m) (value_of m) ms no_pairs up.0 ∙ ap (pair (key_of m) (value_of m)) (put_ascending ms up.1)
