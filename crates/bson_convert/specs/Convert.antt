@@ -82,7 +82,7 @@ Converts = ConvertsIn default_options
 abbrev pub IsRefused : Fault → List ℕ → Type 0
 IsRefused = IsRefusedIn default_options
 
--- ---- for private clauses
+-- ---- the text or the value
 
 -- a text of the value in the mode's form
 abbrev pub IsTextFor : Options → Mode → Value → List ℕ → Type 0
@@ -94,6 +94,8 @@ IsTextFor o Show value text = ⊥
 abbrev pub IsConverted : Options → Mode → Value → Converted → Type 0
 IsConverted o mode value (Text text) = IsTextFor o mode value text.items
 IsConverted o mode value (converted.Value read) = bson_view read ≡ value
+
+-- ---- for private clauses
 
 -- a value can be written
 abbrev pub IsWritable : Options → Converted → Type 0

@@ -6,10 +6,11 @@ use crate::held::tree;
 use crate::steps;
 use crate::stop::{Outcome, Stop};
 use crate::words::cut;
-use bson::extjson::convert::Converted;
 use bson::extjson::de::{Result as Read, TextError};
 use bson::extjson::{Doubles, Form, Options};
 use bson::{Bson, Document};
+use bson_convert::convert::convert_with;
+use bson_convert::mode::Mode;
 use serde_json::Value;
 use std::alloc::Global;
 
@@ -90,14 +91,16 @@ pub(crate) fn put_text_read(read: Result<Bson, TextError>, out: &mut Answer) -> 
 }
 
 fn converted(alloc: Global, text: &str, out: &mut Answer) -> Outcome {
-    match Bson::convert_text_with(alloc, finite(), Form::Relaxed, text.as_bytes()) {
-        Ok(Converted::Text(text)) => {
-            out.text(text.as_str());
-            Ok(())
+    match convert_with(alloc, finite(), Mode::Relaxed, text.as_bytes()) {
+        Ok(line) => {
+            if let Ok(line) = std::str::from_utf8(&line) {
+                out.text(line.trim_end());
+            }
         }
-        Ok(Converted::Value(value)) => put_value(alloc, Form::Relaxed, value, out),
-        Err(fault) => put_fault(fault, out),
+        Err(fault) if fault.is_memory() => return Err(Stop::OutOfMemory),
+        Err(fault) => out.text(fault.words()),
     }
+    Ok(())
 }
 
 fn map(alloc: Global, text: &str, out: &mut Answer) -> Outcome {

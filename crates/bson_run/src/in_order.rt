@@ -12,12 +12,11 @@ ghost use Rattle.bson_run.specs.InOrder.{ConvertsInOrder, IsOutputInOrder};
 use bson::Bson;
 use bson::extjson::{Form, Options, WriteError};
 use bson_convert::convert::{displayed_line, ended, line, refused};
+use bson_convert::converted::refuse;
 use bson_convert::fault::Fault;
 use bson_convert::mode::Mode;
 use bson_filter::filter::filter_text;
 use bson_filter::unstreamed::Unstreamed;
-use bson_tokens::unread::Unread;
-use bson_tokens::walk::first_fault_in;
 use std::alloc::Global;
 
 /// [`convert_with`](bson_convert::convert::convert_with) where each document of the text has its keys in
@@ -72,23 +71,10 @@ fn filtered(
     match filter_text(alloc, options.doubles, form, text) {
         Ok(written) => Ok(Some(ended(written)?)),
         Err(Unstreamed::Left) => {
-            refuse(alloc, options, bytes, text)?;
+            refuse(alloc, options, text)?;
             Ok(None)
         }
         Err(Unstreamed::OutOfMemory) => Err(Fault::OutOfMemory),
-    }
-}
-
-// Refuses bytes that mean nothing, with the first fault of their tree.
-fn refuse(alloc: Global, options: Options, bytes: &[u8], text: &str) -> Result<(), Fault>
-    requires { bytes.now ≡ text.now }
-    ensures { IfErr result (λ fault. IsRefusedIn options fault bytes.now) }
-{
-    match first_fault_in(alloc, options.doubles, text) {
-        Ok(None) => Ok(()),
-        Ok(Some(place)) => Err(Fault::NotExtendedJson(place)),
-        Err(Unread::Broken) => Err(Fault::NotJson),
-        Err(Unread::OutOfMemory) => Err(Fault::OutOfMemory),
     }
 }
 

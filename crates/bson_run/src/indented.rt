@@ -1,20 +1,19 @@
 //! One text to another over several lines: from bytes to bytes.
 ghost use Rattle.std.specs.Prelude.{◌≡◌, IfOk, IfErr, IsUtf8, string_bytes};
 ghost use Rattle.serde_json.specs.Data.{Data};
-ghost use Rattle.bson_model.specs.Laws.{IsReadFormIn};
 ghost use Rattle.bson_model.specs.Means.{MeansIn};
 ghost use Rattle.bson_model.specs.Value as model;
 ghost use Rattle.bson_order.specs.Texts.{HasMeaningInOrder};
 ghost use Rattle.bson.specs.TextMeaning.{HasTextMeaningIn, IsTextOf};
 ghost use Rattle.bson.specs.Texts.{IsTextInOrder, IsTextUnder};
-ghost use Rattle.bson_convert.specs.Convert.{IsConverted, IsRefusedIn, IsWritable};
+ghost use Rattle.bson_convert.specs.Convert.{IsRefusedIn};
 ghost use Rattle.bson_run.specs.Indent.{mode_of, ConvertsIndented, ConvertsInOrderIndented, IsLaidOut};
 
 use crate::indent::indented;
 use bson::Bson;
-use bson::extjson::convert::Converted;
 use bson::extjson::{Form, Options, WriteError};
 use bson_convert::convert::{converted, ended, refused};
+use bson_convert::converted::Converted;
 use bson_convert::fault::Fault;
 use bson_convert::mode::Mode;
 use std::alloc::Global;
@@ -47,8 +46,7 @@ pub fn convert_indented(
         → MeansIn options.doubles tree value → IfErr result (λ fault. fault ≡ Fault.OutOfMemory) }
     ensures fault { IfErr result (λ fault. IsRefusedIn options fault bytes.now) }
 {
-    let read = converted(alloc, options, mode_of(form), bytes)?;
-    let text = text_of(alloc, options, form, read)?;
+    let text = text_of(alloc, options, form, bytes)?;
     laid_out(alloc, spaces, &text)
 }
 
@@ -92,17 +90,33 @@ fn mode_of(form: Form) -> Mode
     }
 }
 
-// The text, or the value's text in the form.
-fn text_of(alloc: Global, options: Options, form: Form, read: Converted) -> Result<String, Fault>
-    requires { IsWritable options read }
-    ensures ok { (value : model.Value) → IsReadFormIn options.doubles value
-        → IsConverted options (mode_of form) value read
-        → IfOk result (λ text. IsTextUnder options.doubles form value (string_bytes text)) }
-    ensures fault { IfErr result (λ fault. fault ≡ Fault.OutOfMemory) }
+// The text in the form of the value that the bytes mean.
+fn text_of(alloc: Global, options: Options, form: Form, bytes: &[u8]) -> Result<String, Fault>
+    ensures ok { IfOk result
+        (λ text. (value : model.Value) × HasTextMeaningIn options.doubles bytes.now value
+        × IsTextUnder options.doubles form value (string_bytes text)) }
+    ensures fault { IfErr result (λ fault. IsRefusedIn options fault bytes.now) }
 {
-    match read {
-        Converted::Text(text) => Ok(text),
+    match converted(alloc, options, mode_of(form), bytes)? {
+        Converted::Text(text) => match String::from_utf8(text) {
+            Ok(text) => Ok(text),
+            // (that what is written is UTF-8 no contract says)
+            Err(_) => whole_text(alloc, options, form, bytes),
+        },
         Converted::Value(value) => written(value.into_text_with(alloc, options, form)),
+    }
+}
+
+// The same of the value that is read whole.
+fn whole_text(alloc: Global, options: Options, form: Form, bytes: &[u8]) -> Result<String, Fault>
+    ensures ok { IfOk result
+        (λ text. (value : model.Value) × HasTextMeaningIn options.doubles bytes.now value
+        × IsTextUnder options.doubles form value (string_bytes text)) }
+    ensures fault { IfErr result (λ fault. IsRefusedIn options fault bytes.now) }
+{
+    match Bson::try_from_text_with(alloc, options, bytes) {
+        Ok(value) => written(value.into_text_with(alloc, options, form)),
+        Err(error) => Err(refused(error)),
     }
 }
 

@@ -1,7 +1,9 @@
 //! Extended JSON, from trees and texts, and why they mean nothing.
-use bson::extjson::convert::Converted;
 use bson::extjson::{Doubles, Form, Options};
 use bson::{Bson, Document};
+use bson_convert::convert::converted;
+use bson_convert::converted::Converted;
+use bson_convert::mode::Mode;
 use bson_place::walk::place_of_fault;
 use serde_json::Value;
 use std::alloc::Global;
@@ -16,7 +18,7 @@ pub(crate) fn print(rt: &impl Print, alloc: Global) -> anyhow::Result<()> {
     try_from_text_with_call(rt, alloc)?;
     try_from_text_in_order_call(rt, alloc)?;
     text_error(rt, alloc)?;
-    converted(rt, alloc)?;
+    converted_call(rt, alloc)?;
     place(rt, alloc)?;
     step(rt, alloc)?;
     reason(rt, alloc)
@@ -102,13 +104,13 @@ fn text_error(rt: &impl Print, alloc: Global) -> anyhow::Result<()> {
     Ok(())
 }
 
-fn converted(rt: &impl Print, alloc: Global) -> anyhow::Result<()> {
+fn converted_call(rt: &impl Print, alloc: Global) -> anyhow::Result<()> {
     let bytes = br#"[{"$numberLong": "5"}]"#;
-    let text = match Bson::convert_text(alloc, Form::Relaxed, bytes)? {
-        Converted::Text(text) => text,
-        Converted::Value(value) => value.into_relaxed_text(alloc)?,
-    };
-    println!(rt; "{text}")?; // [5]
+    match converted(alloc, Options::default(), Mode::Relaxed, bytes) {
+        Ok(Converted::Text(text)) => println!(rt; "{}", str::from_utf8(&text)?)?, // [5]
+        Ok(Converted::Value(value)) => println!(rt; "{}", value.into_relaxed_text(alloc)?)?,
+        Err(fault) => println!(rt; "{}", fault.line())?,
+    }
     Ok(())
 }
 

@@ -1,5 +1,4 @@
 use Rattle.std.proofs.Common.{string_bytes, subst}
-use Rattle.bson_convert.specs.Convert.{IsConverted}
 use Rattle.bson_run.specs.Indent.{IsLaidOut}
 use Rattle.bson_run.proofs.IndentedTexts.{form_converts}
 use Rattle.bson_run.proofs.LinesLaws.{oks_with}
@@ -8,12 +7,10 @@ use Rattle.bson_run.proofs.indented.convert_indented.Goals as goal
 pub returns-clause-ok : goal.returns-clause-ok
 returns-clause-ok c =
     let o = c.args.options in
-    let m = c.in_ok-read.ensures.ok in
+    let m = c.in_ok-text.ensures.ok in
     let text = string_bytes c.in_ok-text.text in
-    let read = subst (λ mode. IsConverted o mode m.0 c.in_ok-read.read) c.mode_of.ensures m.2 in
-    let under = c.in_ok-text.ensures.ok m.0 m.1.meaning.read_form read in
     oks_with c.laid_out.result c.laid_out.ensures.ok (λ output laid. record {
       text = text;
-      converts = form_converts o c.args.form c.args.bytes.now m.0 text m.1 under;
+      converts = form_converts o c.args.form c.args.bytes.now m.0 text m.1 m.2;
       is_output = subst (λ s. IsLaidOut c.args.spaces s output.items) c.deref.ensures laid;
     })
