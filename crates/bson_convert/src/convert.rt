@@ -94,6 +94,8 @@ pub fn converted(
     ensures ok { IfOk result
         (λ read. (value : model.Value) × HasTextMeaningIn options.doubles bytes.now value
         × IsConverted options mode value read) }
+    ensures accepts { (tree : Data) (value : model.Value) → IsTextOf bytes.now tree
+        → MeansIn options.doubles tree value → IfErr result (λ fault. fault ≡ Fault.OutOfMemory) }
     ensures fault { IfErr result (λ fault. IsRefusedIn options fault bytes.now) }
 {
     let form = match mode {

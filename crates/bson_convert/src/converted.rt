@@ -9,7 +9,7 @@ ghost use Rattle.bson_convert.specs.Convert.{IsRefusedIn};
 use crate::fault::Fault;
 use bson::Bson;
 use bson::extjson::{Form, Options};
-use bson_filter::sorted::sort_text;
+use bson_filter::filter::sort_text;
 use bson_filter::unstreamed::Unstreamed;
 use bson_tokens::unread::Unread;
 use bson_tokens::walk::first_fault_in;

@@ -1,7 +1,7 @@
 -- Members of an object as they are read, in their order.
 use Rattle.std.proofs.Common.{◌≡◌, ℕ, zero, suc, ◌-◌, ◌<◌, List, [], ◌∷◌, ◌++◌, length, map, Option, Some, None}
 use Rattle.std.proofs.Common.{Bor, true, false, option_map, option_and_then, refl, sym, ap, ◌∙◌}
-use Rattle.std.proofs.Common.{Bool, codes, ◌&&◌, arith, append-nil, subst, drop, is_some}
+use Rattle.std.proofs.Common.{Bool, codes, ◌&&◌, arith, append-nil, drop, is_some}
 use Rattle.json.specs.Json as json
 use Rattle.json.specs.Json.{Parse, parse_map, after_end_array, read_key, items, members, members_step, value, if_last}
 use Rattle.json.specs.Token.{Token}

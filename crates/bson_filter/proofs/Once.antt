@@ -1,5 +1,5 @@
 -- Pairs of which no key stands twice: set in turn they are as they stand.
-use Rattle.std.proofs.Common.{◌≡◌, ℕ, List, [], ◌∷◌, Bool, true, false, ◌||◌, bytes_eq, refl, sym, ap, ◌∙◌, subst}
+use Rattle.std.proofs.Common.{◌≡◌, ℕ, List, false, bytes_eq, refl, sym, ap, ◌∙◌, subst}
 use Rattle.std.proofs.lemmas.Bool.{or_parts}
 use Rattle.json.specs.Strict.{AreDistinct}
 use Rattle.bson_model.specs.Value.{Value, Pairs, no_pairs, pair}

@@ -1,15 +1,12 @@
 -- Tokens that a writer of a text puts one after another.
-use Rattle.std.proofs.Common.{◌≡◌, ℕ, ◌+◌, List, [], ◌∷◌, ◌++◌, Ok, Some, refl, sym, ap, ◌∙◌, subst, append_assoc}
+use Rattle.std.proofs.Common.{◌≡◌, ℕ, ◌+◌, List, [], ◌∷◌, ◌++◌, Ok, refl, sym, ap, ◌∙◌, subst, append_assoc}
 use Rattle.std.specs.declared.alloc.Global.{Global}
-use Rattle.json.specs.Lex.{tokens}
-use Rattle.json.specs.Json.{value}
 use Rattle.json.specs.Print.{print}
 use Rattle.json.specs.Token as token
 use Rattle.json.specs.Token.{Token}
 use Rattle.json.specs.declared.Writer.{Writer}
 use Rattle.json.specs.Tree.{items_tokens, members_tokens}
 use Rattle.serde_json.specs.Data.{Items, no_items, item, Members, no_members, member, array, object}
-use Rattle.serde_json.specs.Read.{converted}
 use Rattle.bson_scalar.specs.Tokens.{tokens_of, code_tokens}
 use Rattle.bson_scalar.specs.TreeText.{items_outline, members_outline}
 use Rattle.bson_scalar.specs.declared.form.Doubles.{Doubles}
@@ -18,14 +15,13 @@ use Rattle.bson_scalar.proofs.Offered.{text_is}
 use Rattle.bson_model.specs.Value as model
 use Rattle.bson_model.specs.Writing.{with_scope}
 use Rattle.bson_model.specs.Value.{Value, Values, no_values, Pairs, no_pairs, pair, code_scope, document}
-use Rattle.bson_order.specs.Kept.{kept}
+use Rattle.bson_order.specs.Texts.{HasMeaningInOrder}
 use Rattle.bson_order.specs.Writing.{writes_in_order, values_in_order, pairs_in_order}
-use Rattle.bson_order.proofs.Offered.{has_no_float, means_from, text_means, written_from, ordered_text}
+use Rattle.bson_order.proofs.Offered.{has_no_float, written_from, ordered_text}
 use Rattle.bson_filter.specs.Filtered.{IsFilteredText}
 use Rattle.bson_filter.specs.TextWritten.{Sent, ValueSent, PairsSent}
-use Rattle.bson_filter.specs.Walked.{ItemsWritten, PairsWritten, TreeMeans}
+use Rattle.bson_filter.specs.Walked.{ItemsWritten, PairsWritten}
 use Rattle.bson_filter.specs.declared.text.TextWriter.{TextWriter}
-use Rattle.bson_filter.proofs.Objects.{last_read}
 
 abbrev pub with_out : TextWriter → Writer Global → TextWriter
 with_out w out = record { alloc = w.alloc; doubles = w.doubles; form = w.form; out = out }
@@ -107,21 +103,17 @@ code_sent s ps old begun now new begin (us, w, sent) ended = (
 
 -- ---- a whole text
 
-pub text_sent : (D : Doubles) (f : Form) (text written : List ℕ) (rest : List Token) (old new : TextWriter)
-    → TreeMeans D (converted kept (value 127 (tokens text))) rest (λ v. ValueSent old v new) → rest ≡ []
-    → old.doubles ≡ D → old.form ≡ f → old.out.tokens ≡ [] → written ≡ print new.out.tokens
-    → IsFilteredText D f text written
-text_sent D f text written rest old new (t, v, read, means, (u, w, (d, g, before, is))) last mode form none all =
-    let tree = last_read (value 127 (tokens text)) t (read ∙ ap (λ l. Some (t, l)) last) in
-    let meaning = text_means D text t v tree (means_from D t v means) in
+pub text_sent : (D : Doubles) (f : Form) (text written : List ℕ) (old new : TextWriter)
+    → (v : Value) × HasMeaningInOrder D text v × ValueSent old v new → old.doubles ≡ D → old.form ≡ f
+    → old.out.tokens ≡ [] → written ≡ print new.out.tokens → IsFilteredText D f text written
+text_sent D f text written old new (v, meaning, (u, w, (d, g, before, is))) mode form none all =
     let writes : writes_in_order D f v ≡ Ok u =
     ap (λ e. writes_in_order e f v) (sym mode) ∙ ap (λ h. writes_in_order old.doubles h v) (sym form) ∙ w in
+    let from = written_from D f v u writes in
     record {
       value = v;
       meaning = meaning;
       tree = u;
-      is_tree = ordered_text D f v u (written_from D f v u writes) meaning.read_form.0 meaning.ranged
-          meaning.distinct;
-      compact = all ∙ ap print (is ∙ ap (λ l. l ++ tokens_of u) none)
-          ∙ sym (text_is D f u (has_no_float D f v u (written_from D f v u writes)));
+      is_tree = ordered_text D f v u from meaning.read_form.0 meaning.ranged meaning.distinct;
+      compact = all ∙ ap print (is ∙ ap (λ l. l ++ tokens_of u) none) ∙ sym (text_is D f u (has_no_float D f v u from));
     }

@@ -1,12 +1,9 @@
 -- Texts that a writer of a text with ascending keys puts one after another.
 use Rattle.std.proofs.Common.{◌≡◌, ℕ, ◌+◌, Bool, true, false, List, [], ◌∷◌, ◌++◌, Result, Ok, Err, refl, sym, ap, ◌∙◌}
-use Rattle.std.proofs.Common.{Some, subst, append_assoc}
-use Rattle.json.specs.Json.{value}
-use Rattle.json.specs.Lex.{tokens}
+use Rattle.std.proofs.Common.{subst, append_assoc}
 use Rattle.json.specs.Print.{print}
 use Rattle.json.specs.Token.{Token}
 use Rattle.serde_json.specs.Data.{Data, Items, no_items, item, array, object}
-use Rattle.serde_json.specs.Read.{converted}
 use Rattle.serde_json.specs.Written.{comma_if}
 use Rattle.bson_scalar.specs.Tokens.{tokens_of, code_tokens, Puts}
 use Rattle.bson_scalar.specs.TreeText.{text_of}
@@ -16,16 +13,14 @@ use Rattle.bson_scalar.specs.declared.form.Form.{Form}
 use Rattle.bson_scalar.proofs.Offered.{text_is}
 use Rattle.bson_model.specs.Sorted.{sorted, sorted_items, sorted_pairs}
 use Rattle.bson_model.specs.Value as model
-use Rattle.bson_model.specs.Value.{Values, no_values, Pairs, code_scope, document}
+use Rattle.bson_model.specs.Value.{Value, Values, no_values, Pairs, code_scope, document}
 use Rattle.bson_model.specs.Writing.{writes_in, writes_items_in, writes_pairs_in, with_scope}
 use Rattle.bson_model.proofs.Offered.{has_no_float, has_text_in, in_range_in, read_tree, tree_is_in}
-use Rattle.bson_order.specs.Kept.{kept}
-use Rattle.bson_order.proofs.Offered.{means_from, text_means}
-use Rattle.bson_filter.specs.Sorted.{IsSortedText}
+use Rattle.bson_order.specs.Texts.{HasMeaningInOrder}
+use Rattle.bson_filter.specs.Filtered.{IsSortedText}
 use Rattle.bson_filter.specs.SortedWritten.{Added, Next, ValueAdded, PairsAdded}
-use Rattle.bson_filter.specs.Walked.{ItemsWritten, TreeMeans}
+use Rattle.bson_filter.specs.Walked.{ItemsWritten}
 use Rattle.bson_filter.specs.declared.sorted_text.SortedWriter.{SortedWriter}
-use Rattle.bson_filter.proofs.Objects.{last_read}
 use Rattle.bson_filter.proofs.PartTexts.{printed_items, no_more_items, one_more_item, array_printed, code_printed}
 
 -- a text and then another
@@ -122,12 +117,10 @@ code_added s ps old begun now new begin (ms, w, put) ended =
 
 -- ---- a whole text
 
-pub text_sorted : (D : Doubles) (f : Form) (text : List ℕ) (rest : List Token) (old new : SortedWriter)
-    → TreeMeans D (converted kept (value 127 (tokens text))) rest (λ v. ValueAdded old v new) → rest ≡ []
-    → old.doubles ≡ D → old.form ≡ f → old.behind ≡ false → old.text.items ≡ [] → IsSortedText D f text new.text.items
-text_sorted D f text rest old new (t, v, read, means, (u, w, put)) last mode form first none =
-    let tree = last_read (value 127 (tokens text)) t (read ∙ ap (λ l. Some (t, l)) last) in
-    let meaning = text_means D text t v tree (means_from D t v means) in
+pub text_sorted : (D : Doubles) (f : Form) (text : List ℕ) (old new : SortedWriter)
+    → (v : Value) × HasMeaningInOrder D text v × ValueAdded old v new → old.doubles ≡ D → old.form ≡ f
+    → old.behind ≡ false → old.text.items ≡ [] → IsSortedText D f text new.text.items
+text_sorted D f text old new (v, meaning, (u, w, put)) mode form first none =
     let (s, whole, meant) = meaning.by_default in
     let writes : writes_in D f (sorted v) ≡ Ok u =
     ap (λ E. writes_in E f (sorted v)) (sym mode) ∙ ap (λ g. writes_in old.doubles g (sorted v)) (sym form) ∙ w in

@@ -3,7 +3,7 @@
 -- Of a list or an object that is open it is told what the whole will be, whatever the rest turns out to be. So each
 -- turn puts one item or member before that rest, and nothing is ever put behind what was read.
 use Rattle.std.proofs.Common.{◌≡◌, ℕ, ◌+◌, ◌-◌, ◌<◌, ◌≤◌, List, [], ◌∷◌, ◌++◌, length, Option, Some, None}
-use Rattle.std.proofs.Common.{Ok, Bool, true, false, option_map, refl, sym, ap, ◌∙◌, subst}
+use Rattle.std.proofs.Common.{Ok, Bool, true, false, option_map, refl, ap, ◌∙◌}
 use Rattle.json.specs.Json as json
 use Rattle.json.specs.Json.{Parse, parse_map, after_end_array, read_key, items, members, members_step, value}
 use Rattle.json.specs.Token as token

@@ -4,8 +4,10 @@ use Rattle.serde_json.specs.Data.{Data}
 use Rattle.bson_scalar.specs.TreeText.{tree_text}
 use Rattle.bson_scalar.specs.declared.form.Doubles.{Doubles}
 use Rattle.bson_scalar.specs.declared.form.Form.{Form}
+use Rattle.bson_model.specs.Laws.{IsTreeOfIn}
+use Rattle.bson_model.specs.Texts.{ReadsAgainIn}
 use Rattle.bson_model.specs.Value.{Value}
-use Rattle.bson_order.specs.Texts.{HasMeaningInOrder, IsOrderedTextOf}
+use Rattle.bson_order.specs.Texts.{HasMeaningInOrder, IsOrderedTextOf, MeansByDefault}
 
 -- the text means a value in the order of its keys, and the other is the compact text of that value's one tree in the
 -- form, in that order
@@ -14,4 +16,14 @@ pub record IsFilteredText (D : Doubles) (f : Form) (text written : List ℕ) : T
   pub meaning : HasMeaningInOrder D text value
   pub tree : Data
   pub is_tree : IsOrderedTextOf D f value tree
+  pub compact : written ≡ tree_text D f tree
+
+-- the text means a value by default, and the other is the compact text of that value's one tree in the form, its keys in
+-- ascending order
+pub record IsSortedText (D : Doubles) (f : Form) (text written : List ℕ) : Type 0 where
+  pub value : Value
+  pub meaning : MeansByDefault D text value
+  pub tree : Data
+  pub is_tree : IsTreeOfIn D f value tree
+  pub reads_again : ReadsAgainIn D f value tree
   pub compact : written ≡ tree_text D f tree

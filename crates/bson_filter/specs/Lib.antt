@@ -1,7 +1,6 @@
 pub mod Digest
 pub mod Filtered
 pub mod Pieces
-pub mod Sorted
 pub mod SortedWritten
 pub mod TextWritten
 pub mod Walked

@@ -1,16 +1,14 @@
 //! From text to text, token by token.
 ghost use Rattle.std.specs.Prelude.{IfOk};
-ghost use Rattle.bson_filter.specs.Filtered.{IsFilteredText};
+ghost use Rattle.bson_filter.specs.Filtered.{IsFilteredText, IsSortedText};
 
+use crate::sorted_text::SortedWriter;
 use crate::text::TextWriter;
 use crate::unstreamed::Unstreamed;
-use crate::walk::write_value;
+use crate::walk::write_text;
 use bson_scalar::form::{Doubles, Form};
-use json::{Reader, Scratch, Writer};
+use json::Writer;
 use std::alloc::Global;
-
-// How deep arrays and objects may nest.
-const MAX_DEPTH: usize = 127;
 
 /// The bytes of the compact text in the form of the value that the text means, each document's keys in the order
 /// of the text, at every depth: it is written as the text is read, with no value in memory.
@@ -26,27 +24,35 @@ pub fn filter_text(
 ) -> Result<Vec<u8>, Unstreamed>
     ensures ok { IfOk result (λ written. IsFilteredText doubles form text.now written.items) }
 {
-    let mut scratch = Scratch::new(alloc);
-    let mut reader = Reader::new(text, &mut scratch)?;
-    let out = Writer::new(Vec::with_capacity(alloc, text.len())?);
     let mut writer = TextWriter {
         alloc,
         doubles,
         form,
-        out,
+        out: Writer::new(Vec::with_capacity(alloc, text.len())?),
     };
-    let mut keys = Vec::new(alloc);
-    write_value(
+    write_text(alloc, doubles, text, &mut writer)?;
+    Ok(writer.out.into_inner())
+}
+
+/// [`filter_text`] with each document's keys in ascending order of bytes. Of a key that stands twice
+/// in an object the last value counts: such a text is not left.
+pub fn sort_text(
+    alloc: Global,
+    doubles: Doubles,
+    form: Form,
+    text: &str,
+) -> Result<Vec<u8>, Unstreamed>
+    ensures ok { IfOk result (λ written. IsSortedText doubles form text.now written.items) }
+{
+    let mut writer = SortedWriter {
         alloc,
         doubles,
-        &mut reader,
-        MAX_DEPTH,
-        "",
-        &mut keys,
-        &mut writer,
-    )?;
-    if reader.next().is_some() {
-        return Err(Unstreamed::Left);
-    }
-    Ok(writer.out.into_inner())
+        form,
+        text: Vec::with_capacity(alloc, text.len())?,
+        part: Vec::new(alloc),
+        starts: Vec::new(alloc),
+        behind: false,
+    };
+    write_text(alloc, doubles, text, &mut writer)?;
+    Ok(writer.text)
 }

@@ -11,7 +11,6 @@
 pub mod distinct;
 pub mod filter;
 mod pieces;
-pub mod sorted;
 mod sorted_text;
 mod text;
 pub mod unstreamed;

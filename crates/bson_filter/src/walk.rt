@@ -1,13 +1,14 @@
 //! The walk over the tokens of a text, which writes each value as it is read.
-ghost use Rattle.std.specs.Prelude.{◌≡◌, ◌<◌, ◌≤◌, ◌&&◌, length, Some, is_some, option_map, OnOk, IfOk, Ok};
+ghost use Rattle.std.specs.Prelude.{◌≡◌, ◌<◌, ◌≤◌, ◌&&◌, [], length, Some, is_some, option_map, OnOk, IfOk, Ok};
 ghost use Rattle.json.specs.Json.{value, items};
 ghost use Rattle.serde_json.specs.Read.{converted, number_of};
 ghost use Rattle.bson_scalar.specs.Reading.{number_read_in};
 ghost use Rattle.serde_json.specs.Data.{Num};
 ghost use Rattle.bson_scalar.specs.View.{scalar_view};
 ghost use Rattle.bson_scalar.specs.Table.{wrapper_of};
-ghost use Rattle.bson_model.specs.Value.{array};
+ghost use Rattle.bson_model.specs.Value.{Value as Meaning, array};
 ghost use Rattle.bson_order.specs.Kept.{kept, kept_items};
+ghost use Rattle.bson_order.specs.Texts.{HasMeaningInOrder};
 ghost use Rattle.bson_filter.specs.Walked.{TreeMeans, ItemsMean, ObjectMeans, MembersMean, ScopeMeans};
 ghost use Rattle.bson_filter.specs.Walked.{kept_object, inside, from_key};
 
@@ -22,9 +23,31 @@ use bson_scalar::wrapper::{Wrapper, named};
 use bson_tokens::held::read_held;
 use bson_tokens::number::number;
 use itoa::Buffer;
-use json::{Reader, Token};
+use json::{Reader, Scratch, Token};
 use serde_json::Value;
 use std::alloc::Global;
+
+// How deep arrays and objects may nest.
+const MAX_DEPTH: usize = 127;
+
+/// Writes the value of the whole text, under no name.
+pub(crate) fn write_text<W: ValueWriter>(
+    alloc: Global,
+    doubles: Doubles,
+    text: &str,
+    out: &mut W,
+) -> Result<(), Unstreamed>
+    ensures { OnOk result ((v : Meaning) × HasMeaningInOrder doubles text.now v × W.wrote out.old [] v out.new) }
+{
+    let mut scratch = Scratch::new(alloc);
+    let mut reader = Reader::new(text, &mut scratch)?;
+    let mut keys = Vec::new(alloc);
+    write_value(alloc, doubles, &mut reader, MAX_DEPTH, "", &mut keys, out)?;
+    if reader.next().is_some() {
+        return Err(Unstreamed::Left);
+    }
+    Ok(())
+}
 
 /// Writes the value that stands next under the name.
 ///

@@ -1,0 +1,22 @@
+use Rattle.std.proofs.Common.{false, refl}
+use Rattle.bson_filter.specs.declared.sorted_text.SortedWriter.{SortedWriter}
+use Rattle.bson_filter.proofs.Sorting.{text_sorted}
+use Rattle.bson_filter.proofs.filter.sort_text.Goals as goal
+
+pub returns : goal.returns
+returns c =
+    let D = c.args.doubles in
+    let f = c.args.form in
+    let old : SortedWriter = record {
+      alloc = c.args.alloc;
+      doubles = D;
+      form = f;
+      text = c.in_ok-with_capacity.field-0;
+      part = c.new.result;
+      starts = c.new-2.result;
+      behind = false;
+    } in
+    record {
+      ok = text_sorted D f c.args.text.now old c.write_text.new.out c.in_ok-write_text.ensures refl refl refl
+          c.in_ok-with_capacity.ensures.items;
+    }
