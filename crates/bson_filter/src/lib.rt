@@ -1,11 +1,11 @@
-//! From the tokens of a text of MongoDB Extended JSON v2 to what its value is written to, its keys
-//! in their order, with no value in memory.
+//! From the tokens of a text of MongoDB Extended JSON v2 to what its value is written to, with no
+//! value in memory.
 //!
-//! In reading order: `filter` (the text of the same value in a form), `sorted` (that text with keys
-//! in ascending order), `walk` (the way over the tokens), `writer` (what is written to), `text` (a
-//! text that is), `distinct` (whether a key stands twice), `sorted_text` (a text whose keys are put
-//! in order), `pieces` (the texts of an object's members, in order), `unstreamed` (why a text was
-//! not written so).
+//! In reading order: `filter` (the text of the same value in a form, its keys in their order or in
+//! ascending order), `walk` (the way over the tokens), `writer` (what is written to), `text` (a text
+//! that is), `distinct` (whether a key stands twice), `sorted_text` (a text whose keys are put in
+//! order), `pieces` (the texts of an object's members, in order), `unstreamed` (why a text was not
+//! written so).
 #![tactic(auto)]
 
 pub mod distinct;
