@@ -1,6 +1,6 @@
 -- What was read so far, before what is still to be read.
 use Rattle.std.proofs.Common.{◌≡◌, ℕ, ◌+◌, List, [], ◌∷◌, ◌++◌, Bool, true, false, cond, Option, None, Some}
-use Rattle.std.proofs.Common.{Result, Ok, String, Global, string_bytes, refl, sym, ap, ◌∙◌}
+use Rattle.std.proofs.Common.{Result, Ok, Err, String, Global, string_bytes, refl, sym, ap, subst, ◌∙◌}
 use Rattle.std.specs.List.{AllByRecursion}
 use Rattle.std.specs.List.Sorted.{IsStrictlySortedBy}
 use Rattle.std.specs.Cmp.Lexicographic.{nat_list_eq_equiv}
@@ -10,8 +10,9 @@ use Rattle.std.specs.String.{string_cmp}
 use Rattle.std.specs.Str.{bytes_eq}
 use Rattle.std.specs.Map.{keys_of}
 use Rattle.std.proofs.lemmas.Map.Text.{is_eq-slice_cmp}
-use Rattle.serde_json.specs.Data.{Data, Items, no_items, item, Members, no_members, member}
-use Rattle.serde_json.specs.View.{members_view}
+use Rattle.serde_json.specs.Data.{Items, Members, no_members, member}
+use Rattle.serde_json.specs.View.{view, items_view, members_view}
+use Rattle.serde_json.specs.declared.value.Value as json
 use Rattle.bson_scalar.specs.Faults.{Fault, ◌>>=◌}
 use Rattle.bson_scalar.specs.declared.form.Doubles.{Doubles}
 use Rattle.bson_model.specs.Reading.{reads_in, reads_items_in, reads_members_in}
@@ -21,7 +22,7 @@ use Rattle.bson_place.specs.declared.place.Place.{Place}
 use Rattle.bson_place.specs.Built.{then_value, then_pair, Builds}
 use Rattle.bson_place.specs.Place.{Turn, key, element, FaultAtIn, FaultAmongIn, FaultWithinIn, here, later, at_key}
 use Rattle.bson_place.specs.Place.{behind, IsPlace, way_of}
-use Rattle.bson_place.proofs.Steps.{carried}
+use Rattle.bson_place.proofs.Steps.{built_in, carried, placed_in}
 
 -- ---- the elements of a list
 
@@ -110,64 +111,100 @@ pub record PairsRead {X : Type 0} (D : Doubles) (paired : X → Pairs → Type 0
   pub whole : onto_pairs done (reads_members_in D rest) ≡ reads_members_in D all
   pub fault : (f : Fault) (way : List Turn) → FaultWithinIn D f rest way → FaultWithinIn D f all way
 
-module _ {X : Type 0} (D : Doubles) (listed : X → Values → Type 0) where
-  pub items_begun : (read : X) (all : Items) → listed read no_values → ItemsRead D listed read 0 all all
-  items_begun read all h = record { done = no_values; stands = h; whole = refl; fault = λ f way is. is }
+module _ {X Z : Type 0} (D : Doubles) (built : Z → Value → Type 0) (listed : X → Values → Type 0) (all : Items) where
+  pub items_begun : (read : X) → listed read no_values → ItemsRead D listed read 0 all all
+  items_begun read h = record { done = no_values; stands = h; whole = refl; fault = λ f way is. is }
 
   -- one more was read
-  pub items_more : (read new : X) (n : ℕ) (d : Data) (v : Value) (rest all : Items) → reads_in D d ≡ Ok v
-      → (is : ItemsRead D listed read n (item d rest) all) → listed new (then_value is.done v)
-      → ItemsRead D listed new (n + 1) rest all
-  items_more read new n d v rest all h is built = record {
-    done = then_value is.done v;
-    stands = built;
-    whole = onto_values-then is.done v (reads_items_in D rest)
-        ∙ ap (λ r. onto_values is.done (r >>= λ w. reads_items_in D rest >>= λ ws. Ok (value w ws))) (sym h)
-        ∙ is.whole;
-    fault = λ f way m. is.fault f way (later n d v rest h m);
-  }
+  pub items_more : (read new : X) (n : ℕ) (xs rest : List json.Value) (x : json.Value) (r : Result Z Place) (z : Z)
+      → xs ≡ x ∷ rest → ItemsRead D listed read n (items_view xs) all → r ≡ Ok z
+      → Builds built (reads_in D (view x)) (λ f. FaultAtIn D f (view x)) r
+      → ((vs : Values) (v : Value) → listed read vs → built z v → listed new (then_value vs v))
+      → ItemsRead D listed new (n + 1) (items_view rest) all
+  items_more read new n xs rest x r z next so_far is h push =
+      let ds = items_view rest in
+      let was = subst (λ ys. ItemsRead D listed read n (items_view ys) all) next so_far in
+      let v = built_in built (reads_in D (view x)) (λ f. FaultAtIn D f (view x)) r z is h in
+      record {
+        done = then_value was.done v.0;
+        stands = push was.done v.0 was.stands v.2;
+        whole = onto_values-then was.done v.0 (reads_items_in D ds)
+            ∙ ap (λ q. onto_values was.done (q >>= λ w. reads_items_in D ds >>= λ ws. Ok (value w ws))) (sym v.1)
+            ∙ was.whole;
+        fault = λ f way m. was.fault f way (later n (view x) v.0 ds v.1 m);
+      }
 
   -- a fault of the next one is the fault of the whole
-  pub items_stopped : (read : X) (n : ℕ) (d : Data) (rest all : Items) (p q : Place)
-      → ItemsRead D listed read n (item d rest) all → way_of q ≡ way_of p ++ element n ∷ [] → q.reason ≡ p.reason
-      → IsPlace (λ f. FaultAtIn D f d) p → IsPlace (λ f. FaultAmongIn D f 0 all) q
-  items_stopped read n d rest all p q is way reason m =
-      carried p q (element n) (λ f w h. is.fault f (w ++ element n ∷ []) (here n d rest h)) way reason m
+  pub items_stopped : (read : X) (n : ℕ) (xs rest : List json.Value) (x : json.Value) (r : Result Z Place)
+      (p q : Place) → xs ≡ x ∷ rest → ItemsRead D listed read n (items_view xs) all → r ≡ Err p
+      → Builds built (reads_in D (view x)) (λ f. FaultAtIn D f (view x)) r → way_of q ≡ way_of p ++ element n ∷ []
+      → q.reason ≡ p.reason → IsPlace (λ f. FaultAmongIn D f 0 all) q
+  items_stopped read n xs rest x r p q next so_far is h way reason =
+      let was = subst (λ ys. ItemsRead D listed read n (items_view ys) all) next so_far in
+      carried p q (element n) (λ f w m. was.fault f (w ++ element n ∷ []) (here n (view x) (items_view rest) m)) way
+      reason (placed_in built (reads_in D (view x)) (λ f. FaultAtIn D f (view x)) r p is h)
 
-  pub items_ended : (read : X) (n : ℕ) (all : Items) → ItemsRead D listed read n no_items all
+  pub items_ended : (read : X) (n : ℕ) (xs : List json.Value) → xs ≡ []
+      → ItemsRead D listed read n (items_view xs) all
       → Builds listed (reads_items_in D all) (λ f. FaultAmongIn D f 0 all) (Ok read)
-  items_ended read n all is = (is.done, sym is.whole ∙ onto_values-ok is.done, is.stands)
+  items_ended read n xs none so_far =
+      let was = subst (λ ys. ItemsRead D listed read n (items_view ys) all) none so_far in
+      (was.done, sym was.whole ∙ onto_values-ok was.done, was.stands)
 
-module _ {X : Type 0} (D : Doubles) (paired : X → Pairs → Type 0) where
-  pub pairs_begun : (read : X) (es : List Member) → paired read no_pairs → IsStrictlySortedBy string_cmp (keys_of es)
-      → PairsRead D paired read (members_view es) (members_view es)
-  pairs_begun read es h sorted = record {
+module _ {X Z : Type 0} (D : Doubles) (built : Z → Value → Type 0) (paired : X → Pairs → Type 0) (all : List Member) where
+  pub pairs_begun : (read : X) → paired read no_pairs → IsStrictlySortedBy string_cmp (keys_of all)
+      → PairsRead D paired read (members_view all) (members_view all)
+  pairs_begun read h sorted = record {
     done = no_pairs;
     stands = h;
-    fresh = fresh_start es sorted;
+    fresh = fresh_start all sorted;
     whole = refl;
     fault = λ f way is. is;
   }
 
-  pub pairs_more : (read new : X) (k : List ℕ) (d : Data) (v : Value) (rest all : Members) → reads_in D d ≡ Ok v
-      → (is : PairsRead D paired read (member k d rest) all) → paired new (then_pair is.done k v)
-      → PairsRead D paired new rest all
-  pairs_more read new k d v rest all h is built = record {
-    done = then_pair is.done k v;
-    stands = built;
-    fresh = fresh_after is.done k v rest is.fresh.1 is.fresh.2;
-    whole = onto_pairs-then is.done k v (reads_members_in D rest)
-        ∙ ap (λ r. onto_pairs is.done (r >>= λ w. reads_members_in D rest >>= λ qs. Ok (pair k w qs))) (sym h)
-        ∙ is.whole;
-    fault = λ f way m. is.fault f way (behind k d v rest h m);
-  }
+  -- the next key is not there yet
+  pub pairs_fresh : (read : X) (es rest : List Member) (x : Member) → es ≡ x ∷ rest
+      → PairsRead D paired read (members_view es) (members_view all)
+      → (ps : Pairs) × paired read ps × (get (string_bytes x.0) ps ≡ None)
+  pairs_fresh read es rest x next so_far =
+      let was = subst (λ ys. PairsRead D paired read (members_view ys) (members_view all)) next so_far in
+      (was.done, was.stands, was.fresh.0)
 
-  pub pairs_stopped : (read : X) (k : List ℕ) (d : Data) (rest all : Members) (p q : Place)
-      → PairsRead D paired read (member k d rest) all → way_of q ≡ way_of p ++ key k ∷ [] → q.reason ≡ p.reason
-      → IsPlace (λ f. FaultAtIn D f d) p → IsPlace (λ f. FaultWithinIn D f all) q
-  pairs_stopped read k d rest all p q is way reason m =
-      carried p q (key k) (λ f w h. is.fault f (w ++ key k ∷ []) (at_key k d rest h)) way reason m
+  pub pairs_more : (read new : X) (es rest : List Member) (x : Member) (r : Result Z Place) (z : Z) → es ≡ x ∷ rest
+      → PairsRead D paired read (members_view es) (members_view all) → r ≡ Ok z
+      → Builds built (reads_in D (view x.1)) (λ f. FaultAtIn D f (view x.1)) r
+      → ((ps : Pairs) (v : Value) → paired read ps → built z v → paired new (then_pair ps (string_bytes x.0) v))
+      → PairsRead D paired new (members_view rest) (members_view all)
+  pairs_more read new es rest x r z next so_far is h put =
+      let k = string_bytes x.0 in
+      let d = view x.1 in
+      let ms = members_view rest in
+      let was = subst (λ ys. PairsRead D paired read (members_view ys) (members_view all)) next so_far in
+      let v = built_in built (reads_in D d) (λ f. FaultAtIn D f d) r z is h in
+      record {
+        done = then_pair was.done k v.0;
+        stands = put was.done v.0 was.stands v.2;
+        fresh = fresh_after was.done k v.0 ms was.fresh.1 was.fresh.2;
+        whole = onto_pairs-then was.done k v.0 (reads_members_in D ms)
+            ∙ ap (λ q. onto_pairs was.done (q >>= λ w. reads_members_in D ms >>= λ qs. Ok (pair k w qs))) (sym v.1)
+            ∙ was.whole;
+        fault = λ f way m. was.fault f way (behind k d v.0 ms v.1 m);
+      }
 
-  pub pairs_ended : (read : X) (all : Members) → PairsRead D paired read no_members all
-      → Builds paired (reads_members_in D all) (λ f. FaultWithinIn D f all) (Ok read)
-  pairs_ended read all is = (is.done, sym is.whole ∙ onto_pairs-ok is.done, is.stands)
+  pub pairs_stopped : (read : X) (es rest : List Member) (x : Member) (r : Result Z Place) (p q : Place)
+      → es ≡ x ∷ rest → PairsRead D paired read (members_view es) (members_view all) → r ≡ Err p
+      → Builds built (reads_in D (view x.1)) (λ f. FaultAtIn D f (view x.1)) r
+      → way_of q ≡ way_of p ++ key (string_bytes x.0) ∷ [] → q.reason ≡ p.reason
+      → IsPlace (λ f. FaultWithinIn D f (members_view all)) q
+  pairs_stopped read es rest x r p q next so_far is h way reason =
+      let k = string_bytes x.0 in
+      let was = subst (λ ys. PairsRead D paired read (members_view ys) (members_view all)) next so_far in
+      carried p q (key k) (λ f w m. was.fault f (w ++ key k ∷ []) (at_key k (view x.1) (members_view rest) m)) way
+      reason (placed_in built (reads_in D (view x.1)) (λ f. FaultAtIn D f (view x.1)) r p is h)
+
+  pub pairs_ended : (read : X) (es : List Member) → es ≡ []
+      → PairsRead D paired read (members_view es) (members_view all)
+      → Builds paired (reads_members_in D (members_view all)) (λ f. FaultWithinIn D f (members_view all)) (Ok read)
+  pairs_ended read es none so_far =
+      let was = subst (λ ys. PairsRead D paired read (members_view ys) (members_view all)) none so_far in
+      (was.done, sym was.whole ∙ onto_pairs-ok was.done, was.stands)

@@ -97,15 +97,6 @@ pub placed_in : {X Y : Type 0} (built : X → Y → Type 0) (read : Result Y Fau
     (r : Result X Place) (p : Place) → r ≡ Err p → Builds built read lies r → IsPlace lies p
 placed_in built read lies r p is h = subst (Builds built read lies) is h
 
--- what was built of a part stands in the whole
-pub built_of : {X Y Z W : Type 0} (part : X → Y → Type 0) (whole : Z → W → Type 0) (read : Result Y Fault)
-    (lies : Fault → List Turn → Type 0) (all : Result W Fault) (g : Y → W) (r : Result X Place) (x : X) (made : Z)
-    → ((y : Y) → read ≡ Ok y → all ≡ Ok (g y)) → ((y : Y) → part x y → whole made (g y)) → r ≡ Ok x
-    → Builds part read lies r → (w : W) × (all ≡ Ok w) × whole made w
-built_of part whole read lies all g r x made reads stands is h =
-    let y = built_in part read lies r x is h in
-    (g y.0, reads y.0 y.1, stands y.0 y.2)
-
 -- ---- what a list, a map and a scope are read as
 
 abbrev pub HasItems : Doubles → Items → Type 0
@@ -154,14 +145,6 @@ no_object d none ms is = let some = sym (ap as_object is) ∙ none in cc
 pub never : {k l m : List ℕ} {c d e : Data} {ms : Members} → IsOpen (member k c (member l d (member m e ms))) → ⊥
 never is = elim is [ ]
 
-one_left : {X : Type 0} (mid : List X) (P : Type 0) → (0 < length mid → P) → (P → ⊥) → mid ≡ []
-one_left [] P some none = refl
-one_left (x ∷ mid) P some none = absurd (none (some (omega arith)))
-
-pub one_entry : {X : Type 0} (es mid : List X) (x : X) (P : Type 0) → es ≡ x ∷ mid → (0 < length mid → P) → (P → ⊥)
-    → es ≡ x ∷ []
-one_entry es mid x P is some none = is ∙ ap (λ l. x ∷ l) (one_left mid P some none)
-
 pub two_entries : {X : Type 0} (es mid rest : List X) (x y : X) → es ≡ x ∷ mid → mid ≡ y ∷ rest → length rest ≡ 0
     → es ≡ x ∷ y ∷ []
 two_entries es mid rest x y is next none =
@@ -200,29 +183,29 @@ module _ (D : Doubles) where
 
   -- ---- lists and documents
 
-  pub array_read : (ds : Items) (vs : Values) → reads_items_in D ds ≡ Ok vs
-      → reads_in D (tree.array ds) ≡ Ok (model.array vs)
-  array_read ds vs h = ap (λ r. r >>= λ ws. Ok (model.array ws)) h
-
   pub array_value : (ds : Items) → HasItems D ds → HasValueIn D (tree.array ds)
-  array_value ds vs = (model.array vs.0, array_read ds vs.0 vs.1)
+  array_value ds vs = (model.array vs.0, ap (λ r. r >>= λ ws. Ok (model.array ws)) vs.1)
 
-  pub array_place : (ds : Items) (p : Place) → IsPlace (λ f. FaultAmongIn D f 0 ds) p
+  -- the place of a fault in a list is that of the list's tree
+  pub array_place : {X : Type 0} (listed : X → Values → Type 0) (ds : Items) (r : Result X Place) (p : Place)
+      → r ≡ Err p → Builds listed (reads_items_in D ds) (λ f. FaultAmongIn D f 0 ds) r
       → IsPlace (λ f. FaultAtIn D f (tree.array ds)) p
-  array_place ds p is = with_place p (λ f way h. array ds h) is
-
-  pub document_read : (ms : Members) → has_wrapper ms ≡ false → (ps : Pairs) → reads_members_in D ms ≡ Ok ps
-      → reads_in D (tree.object ms) ≡ Ok (model.document ps)
-  document_read ms none ps h =
-      ap (λ b. cond b (reads_wrapper_in D ms) (reads_members_in D ms >>= λ qs. Ok (model.document qs))) none
-      ∙ ap (λ r. r >>= λ qs. Ok (model.document qs)) h
+  array_place listed ds r p is h =
+      with_place p (λ f way m. array ds m) (placed_in listed (reads_items_in D ds) (λ f. FaultAmongIn D f 0 ds) r p is h)
 
   pub document_value : (ms : Members) → has_wrapper ms ≡ false → HasPairs D ms → HasValueIn D (tree.object ms)
-  document_value ms none ps = (model.document ps.0, document_read ms none ps.0 ps.1)
+  document_value ms none ps = (
+    model.document ps.0,
+    ap (λ b. cond b (reads_wrapper_in D ms) (reads_members_in D ms >>= λ qs. Ok (model.document qs))) none
+        ∙ ap (λ r. r >>= λ qs. Ok (model.document qs)) ps.1,
+  )
 
-  pub document_place : (ms : Members) (p : Place) → has_wrapper ms ≡ false → IsPlace (λ f. FaultWithinIn D f ms) p
+  pub document_place : {X : Type 0} (paired : X → Pairs → Type 0) (ms : Members) (r : Result X Place) (p : Place)
+      → has_wrapper ms ≡ false → r ≡ Err p → Builds paired (reads_members_in D ms) (λ f. FaultWithinIn D f ms) r
       → IsPlace (λ f. FaultAtIn D f (tree.object ms)) p
-  document_place ms p none is = with_place p (λ f way h. document ms none h) is
+  document_place paired ms r p none is h =
+      with_place p (λ f way m. document ms none m)
+      (placed_in paired (reads_members_in D ms) (λ f. FaultWithinIn D f ms) r p is h)
 
   -- ---- wrappers
 
@@ -230,13 +213,9 @@ module _ (D : Doubles) where
   pub wrapped : (ms : Members) → has_wrapper ms ≡ true → reads_in D (tree.object ms) ≡ reads_wrapper_in D ms
   wrapped ms h = ap (λ b. cond b (reads_wrapper_in D ms) (reads_members_in D ms >>= λ qs. Ok (model.document qs))) h
 
-  pub lone_read : (k : List ℕ) (d : Data) (x : Scalar) → has_wrapper (member k d no_members) ≡ true
-      → single_at_in D (wrapper_of k) d ≡ Ok x → reads_in D (tree.object (member k d no_members)) ≡ Ok (model.scalar x)
-  lone_read k d x h e = wrapped (member k d no_members) h ∙ ap scalar_value e
-
   pub lone_value : (k : List ℕ) (d : Data) (x : Scalar) → has_wrapper (member k d no_members) ≡ true
       → single_at_in D (wrapper_of k) d ≡ Ok x → HasValueIn D (tree.object (member k d no_members))
-  lone_value k d x h e = (model.scalar x, lone_read k d x h e)
+  lone_value k d x h e = (model.scalar x, wrapped (member k d no_members) h ∙ ap scalar_value e)
 
   -- the reason at a wrapper's key
   pub lone_place : (k : List ℕ) (d : Data) (f : Fault) (e : Reason) (p : Place)
@@ -297,14 +276,13 @@ module _ (D : Doubles) where
       at_once p reason way
       (scope_way (tree.string s) e s refl wrong_shape [] (no_scope e (no_object e none) bad))
 
-  pub scope_place : (s : List ℕ) (ms : Members) (p q : Place) → way_of q ≡ way_of p ++ key (codes "$scope") ∷ []
-      → q.reason ≡ p.reason → IsPlace (λ f. FaultWithinIn D f ms) p
+  pub scope_place : {X : Type 0} (paired : X → Pairs → Type 0) (s : List ℕ) (ms : Members) (r : Result X Place)
+      (p q : Place) → r ≡ Err p → Builds paired (reads_members_in D ms) (λ f. FaultWithinIn D f ms) r
+      → way_of q ≡ way_of p ++ key (codes "$scope") ∷ [] → q.reason ≡ p.reason
       → IsPlace (λ f. FaultAtIn D f (tree.object (Coded (tree.string s) (tree.object ms)))) q
-  scope_place s ms p q way reason is = carried p q (key (codes "$scope")) (λ f w h. scope s ms h) way reason is
-
-  pub scope_read : (s : List ℕ) (ms : Members) (ps : Pairs) → reads_members_in D ms ≡ Ok ps
-      → reads_in D (tree.object (Coded (tree.string s) (tree.object ms))) ≡ Ok (model.code_scope s ps)
-  scope_read s ms ps h = ap (λ r. scope_value s (r >>= λ qs. Ok (Some qs))) h
+  scope_place paired s ms r p q is h way reason =
+      carried p q (key (codes "$scope")) (λ f w m. scope s ms m) way reason
+      (placed_in paired (reads_members_in D ms) (λ f. FaultWithinIn D f ms) r p is h)
 
   pub scope_of_map : (ms : Members) → HasPairs D ms → HasScopeIn D (tree.object ms)
   scope_of_map ms ps = (Some ps.0, ap (λ r. r >>= λ qs. Ok (Some qs)) ps.1)

@@ -52,7 +52,7 @@ pub fn place_of_fault_in(
     first_place(alloc, doubles, tree.clone()?)
 }
 
-/// The same of a tree that is let go as it is read.
+/// The first fault of a tree that is let go as it is read, as `place_of_fault_in` finds it.
 pub fn first_place(
     alloc: Global,
     doubles: Doubles,
@@ -82,7 +82,8 @@ pub fn read_tree<B: ValueBuilder>(
     read_value::<B>(alloc, doubles, tree)
 }
 
-/// The same of the pairs of a map, whose own keys are not tested.
+/// What the builder makes of the pairs of a map, whose own keys are not tested, or the first fault
+/// in its values and the way to it.
 pub fn read_pairs<B: ValueBuilder>(
     alloc: Global,
     doubles: Doubles,

@@ -1,5 +1,5 @@
-use Rattle.std.proofs.Common.{◌≡◌, ◌∷◌, [], ◌++◌, List, length, refl, sym, ap, ◌∙◌, subst, string_bytes, String}
-use Rattle.std.proofs.Common.{Global, codes, arith, rules}
+use Rattle.std.proofs.Common.{◌≡◌, ◌∷◌, [], ◌++◌, length, refl, sym, ap, ◌∙◌, subst, string_bytes}
+use Rattle.std.proofs.Common.{codes, arith, rules}
 use Rattle.std.specs.Prelude.{is_some, true, IfOk}
 use Rattle.std.specs.Vec.Iter.{into_iter_items}
 use Rattle.std.proofs.lemmas.Bool.{and_parts, false≢true}
@@ -7,132 +7,116 @@ use Rattle.std.proofs.lemmas.List.{nil_from_length}
 use Rattle.std.proofs.lemmas.Slice.Eq.{bytes_eq-Decides}
 use Rattle.serde_json.specs.Data.{object}
 use Rattle.serde_json.specs.View.{view, items_view, members_view}
-use Rattle.serde_json.specs.declared.value.Value.{Value, the_lemmas}
+use Rattle.serde_json.specs.declared.value.Value.{the_lemmas}
 use Rattle.bson_scalar.specs.Faults.{wrong_shape}
 use Rattle.bson_scalar.specs.Table.{has_wrapper}
 use Rattle.bson_model.specs.Reading.{reads_in}
 use Rattle.bson_place.specs.Built.{Builds}
 use Rattle.bson_place.specs.Place.{FaultAtIn, key, way_of}
-use Rattle.bson_place.proofs.SoFar.{ItemsRead, PairsRead, items_begun, items_more, items_stopped, items_ended}
-use Rattle.bson_place.proofs.SoFar.{pairs_begun, pairs_more, pairs_stopped, pairs_ended}
-use Rattle.bson_place.proofs.Steps.{built_in, placed_in, array_place, document_place, scope_place, at_once, no_text_place}
+use Rattle.bson_place.proofs.SoFar.{items_begun, items_more, items_stopped, items_ended}
+use Rattle.bson_place.proofs.SoFar.{pairs_begun, pairs_fresh, pairs_more, pairs_stopped, pairs_ended}
+use Rattle.bson_place.proofs.Steps.{array_place, document_place, scope_place, at_once, no_text_place}
 use Rattle.bson_place.proofs.Steps.{not_code, bad_scope_place, more_found, two_entries, Coded}
 use Rattle.bson_place.proofs.walk.+walk.Goals as goal
 
+-- ---- lists
+
 pub read_array-returns-in-Err : goal.read_array-returns-in-Err
 read_array-returns-in-Err g t c =
-    array_place c.args.doubles (items_view c.args.items.items) c.in-Err.place
-    (placed_in _ _ _ c.in_ok-items.field-0 c.in-Err.place c.in-Err.is c.in_ok-items.ensures)
+    array_place c.args.doubles g.B.ValueBuilder.listed (items_view c.args.items.items) c.in_ok-items.field-0
+    c.in-Err.place c.in-Err.is c.in_ok-items.ensures
 
 pub read_items-loop-item-init : goal.read_items-loop-item-init
 read_items-loop-item-init g t c =
     let gives = c.into_iter-item-iterator.ensures.into_iter_gives in
-    let listed = g.B.ValueBuilder.listed in
-    let all = items_view c.args.items.items in
+    let B = g.B.ValueBuilder in
     record {
       left = grind arith;
       counted = grind arith;
-      read = subst (λ (xs : List Value). ItemsRead c.args.doubles listed c.in_ok-read.read 0 (items_view xs) all)
-          (sym gives.0) (items_begun c.args.doubles listed c.in_ok-read.read all c.in_ok-read.ensures);
+      read = rw gives.0 (items_begun c.args.doubles B.built B.listed (items_view c.args.items.items) c.in_ok-read.read
+          c.in_ok-read.ensures);
     }
 
 pub read_items-loop-item-preserved : goal.read_items-loop-item-preserved
 read_items-loop-item-preserved g t c =
     let l = c.loop-item in
-    let listed = g.B.ValueBuilder.listed in
-    let steps : into_iter_items l.item-iterator ≡ c.in-Some.item ∷ into_iter_items c.next.new.self =
-    c.in-Some.ensures.steps.0 in
-    let all = items_view c.args.items.items in
-    let was = subst (λ (xs : List Value). ItemsRead c.args.doubles listed l.read l.at (items_view xs) all) steps
-    l.invariant.read in
-    let v = built_in _ _ _ c.in_ok-value.field-0 c.in-Ok.value c.in-Ok.is c.in_ok-value.ensures in
+    let B = g.B.ValueBuilder in
     let left = l.invariant.left in
     let counted = l.invariant.counted in
-    let gone = c.in-Some.ensures.steps.1 in
-    let short = ap length steps in
+    let steps = c.in-Some.ensures.steps in
+    let short = ap length steps.0 in
     record {
       left = omega arith;
       counted = omega arith;
-      read = items_more c.args.doubles listed l.read c.push.new.items l.at (view c.in-Some.item) v.0
-          (items_view (into_iter_items c.next.new.self)) all v.1 was
-          (c.in_ok-push-in-Ok.ensures was.done v.0 was.stands v.2);
+      read = items_more c.args.doubles B.built B.listed (items_view c.args.items.items) l.read c.push.new.items l.at
+          (into_iter_items l.item-iterator) (into_iter_items c.next.new.self) c.in-Some.item c.in_ok-value.field-0
+          c.in-Ok.value steps.0 l.invariant.read c.in-Ok.is c.in_ok-value.ensures c.in_ok-push-in-Ok.ensures;
     }
 
 pub read_items-returns-in-Err : goal.read_items-returns-in-Err
 read_items-returns-in-Err g t c =
     let l = c.loop-item in
-    let listed = g.B.ValueBuilder.listed in
-    let all = items_view c.args.items.items in
-    let was = subst (λ (xs : List Value). ItemsRead c.args.doubles listed l.read l.at (items_view xs) all)
-    c.in-Some.ensures.steps.0 l.invariant.read in
+    let B = g.B.ValueBuilder in
     let found = c.in_ok-inside-in-Err in
-    items_stopped c.args.doubles listed l.read l.at (view c.in-Some.item) (items_view (into_iter_items c.next.new.self))
-    all c.in-Err.place found.field-0 was found.ensures.way found.ensures.reason
-    (placed_in _ _ _ c.in_ok-value.field-0 c.in-Err.place c.in-Err.is c.in_ok-value.ensures)
+    items_stopped c.args.doubles B.built B.listed (items_view c.args.items.items) l.read l.at
+    (into_iter_items l.item-iterator) (into_iter_items c.next.new.self) c.in-Some.item c.in_ok-value.field-0
+    c.in-Err.place found.field-0 c.in-Some.ensures.steps.0 l.invariant.read c.in-Err.is c.in_ok-value.ensures
+    found.ensures.way found.ensures.reason
 
 pub read_items-returns : goal.read_items-returns
 read_items-returns g t c =
     let l = c.loop-item in
-    let listed = g.B.ValueBuilder.listed in
-    let all = items_view c.args.items.items in
-    let none = c.in-None.ensures.steps in
-    let empty : into_iter_items l.item-iterator ≡ [] = nil_from_length _ (sym l.invariant.left ∙ none.0) in
-    items_ended c.args.doubles listed l.read l.at all
-    (subst (λ (xs : List Value). ItemsRead c.args.doubles listed l.read l.at (items_view xs) all) empty
-    l.invariant.read)
+    let B = g.B.ValueBuilder in
+    let left = into_iter_items l.item-iterator in
+    items_ended c.args.doubles B.built B.listed (items_view c.args.items.items) l.read l.at left
+    (nil_from_length left (sym l.invariant.left ∙ c.in-None.ensures.steps.0)) l.invariant.read
+
+-- ---- the pairs of a map
 
 pub read_members-loop-key-init : goal.read_members-loop-key-init
 read_members-loop-key-init g t c =
     let gives = c.into_iter-key-iterator.ensures.into_iter_gives in
-    rw gives.0 (pairs_begun c.args.doubles g.B.ValueBuilder.paired c.in_ok-read.read c.args.members.entries
-    c.in_ok-read.ensures gives.5)
+    let B = g.B.ValueBuilder in
+    rw gives.0 (pairs_begun c.args.doubles B.built B.paired c.args.members.entries c.in_ok-read.read c.in_ok-read.ensures
+    gives.5)
 
 pub read_members-loop-key-preserved : goal.read_members-loop-key-preserved
 read_members-loop-key-preserved g t c =
     let l = c.loop-key in
-    let paired = g.B.ValueBuilder.paired in
-    let all = members_view c.args.members.entries in
-    let was = subst (λ (xs : List (String Global × Value)). PairsRead c.args.doubles paired l.read (members_view xs) all)
-    c.in-Some.ensures.steps l.invariant in
-    let v = built_in _ _ _ c.in_ok-value.field-0 c.in-Ok.value c.in-Ok.is c.in_ok-value.ensures in
-    pairs_more c.args.doubles paired l.read c.put.new.pairs (string_bytes c.in-Some.key) (view c.in-Some.value) v.0
-    (members_view c.next.new.self) all v.1 was (c.in_ok-put-in-Ok.ensures was.done v.0 was.stands v.2)
+    let B = g.B.ValueBuilder in
+    pairs_more c.args.doubles B.built B.paired c.args.members.entries l.read c.put.new.pairs l.key-iterator
+    c.next.new.self (c.in-Some.key, c.in-Some.value) c.in_ok-value.field-0 c.in-Ok.value c.in-Some.ensures.steps
+    l.invariant c.in-Ok.is c.in_ok-value.ensures c.in_ok-put-in-Ok.ensures
 
 pub read_members-put-requires : goal.read_members-put-requires
 read_members-put-requires g t c =
     let l = c.loop-key in
-    let paired = g.B.ValueBuilder.paired in
-    let all = members_view c.args.members.entries in
-    let was = subst (λ (xs : List (String Global × Value)). PairsRead c.args.doubles paired l.read (members_view xs) all)
-    c.in-Some.ensures.steps l.invariant in
-    (was.done, was.stands, was.fresh.0)
+    let B = g.B.ValueBuilder in
+    pairs_fresh c.args.doubles B.built B.paired c.args.members.entries l.read l.key-iterator c.next.new.self
+    (c.in-Some.key, c.in-Some.value) c.in-Some.ensures.steps l.invariant
 
 pub read_members-returns-in-Err : goal.read_members-returns-in-Err
 read_members-returns-in-Err g t c =
     let l = c.loop-key in
-    let paired = g.B.ValueBuilder.paired in
-    let all = members_view c.args.members.entries in
-    let was = subst (λ (xs : List (String Global × Value)). PairsRead c.args.doubles paired l.read (members_view xs) all)
-    c.in-Some.ensures.steps l.invariant in
+    let B = g.B.ValueBuilder in
     let found = c.in_ok-inside-in-Err in
-    pairs_stopped c.args.doubles paired l.read (string_bytes c.in-Some.key) (view c.in-Some.value)
-    (members_view c.next.new.self) all c.in-Err.place found.field-0 was found.ensures.way found.ensures.reason
-    (placed_in _ _ _ c.in_ok-value.field-0 c.in-Err.place c.in-Err.is c.in_ok-value.ensures)
+    pairs_stopped c.args.doubles B.built B.paired c.args.members.entries l.read l.key-iterator c.next.new.self
+    (c.in-Some.key, c.in-Some.value) c.in_ok-value.field-0 c.in-Err.place found.field-0 c.in-Some.ensures.steps
+    l.invariant c.in-Err.is c.in_ok-value.ensures found.ensures.way found.ensures.reason
 
 pub read_members-returns : goal.read_members-returns
 read_members-returns g t c =
     let l = c.loop-key in
-    let paired = g.B.ValueBuilder.paired in
-    let all = members_view c.args.members.entries in
-    pairs_ended c.args.doubles paired l.read all
-    (subst (λ (xs : List (String Global × Value)). PairsRead c.args.doubles paired l.read (members_view xs) all)
-    c.in-None.ensures.steps.0 l.invariant)
+    let B = g.B.ValueBuilder in
+    pairs_ended c.args.doubles B.built B.paired c.args.members.entries l.read l.key-iterator c.in-None.ensures.steps.0
+    l.invariant
+
+-- ---- objects
 
 pub read_object-returns-in-Err : goal.read_object-returns-in-Err
 read_object-returns-in-Err g t c =
-    document_place c.args.doubles (members_view c.args.members.entries) c.in-Err.place
-    (sym c.first_wrapper.ensures.has ∙ ap is_some c.in_default.is)
-    (placed_in _ _ _ c.in_ok-pairs.field-0 c.in-Err.place c.in-Err.is c.in_ok-pairs.ensures)
+    document_place c.args.doubles g.B.ValueBuilder.paired (members_view c.args.members.entries) c.in_ok-pairs.field-0
+    c.in-Err.place (sym c.first_wrapper.ensures.has ∙ ap is_some c.in_default.is) c.in-Err.is c.in_ok-pairs.ensures
 
 pub read_code-returns-in_default : goal.read_code-returns-in_default
 read_code-returns-in_default g t c =
@@ -147,10 +131,10 @@ read_scope-returns g t c =
 pub read_scope_map-returns-in_ok-inside-in-Err : goal.read_scope_map-returns-in_ok-inside-in-Err
 read_scope_map-returns-in_ok-inside-in-Err g t c =
     let found = c.in_ok-inside-in-Err in
-    scope_place c.args.doubles (string_bytes c.args.code) (members_view c.args.members.entries) c.in-Err.place found.field-0
+    scope_place c.args.doubles g.B.ValueBuilder.paired (string_bytes c.args.code) (members_view c.args.members.entries)
+    c.in_ok-scope.field-0 c.in-Err.place found.field-0 c.in-Err.is c.in_ok-scope.ensures
     (found.ensures.way ∙ ap (λ k. way_of c.in-Err.place ++ key k ∷ []) c.in_ok-key-in-Err.ensures.ok)
     found.ensures.reason
-    (placed_in _ _ _ c.in_ok-scope.field-0 c.in-Err.place c.in-Err.is c.in_ok-scope.ensures)
 
 pub read_wrapped-returns-then-not-is_empty : goal.read_wrapped-returns-then-not-is_empty
 read_wrapped-returns-then-not-is_empty g t c =
