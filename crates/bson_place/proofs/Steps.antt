@@ -1,7 +1,7 @@
 -- Places of what a tree holds are places of the tree.
-use Rattle.std.proofs.Common.{◌<◌, ◌≡◌, ℕ, List, [], ◌∷◌, ◌++◌, Bool, true, false, cond, Option, Some, None}
+use Rattle.std.proofs.Common.{◌≡◌, ℕ, List, [], ◌∷◌, ◌++◌, true, false, cond, Option, Some, None}
 use Rattle.std.proofs.Common.{ℤ, Result, Ok, Err, ◌&&◌, refl, sym, ap, subst, ◌∙◌}
-use Rattle.std.proofs.Common.{String, Global, string_bytes, rules, length, arith}
+use Rattle.std.proofs.Common.{rules, length}
 use Rattle.std.specs.Prelude.{codes}
 use Rattle.std.specs.Str.{bytes_eq}
 use Rattle.std.proofs.lemmas.List.{nil_from_length}
@@ -29,7 +29,7 @@ use Rattle.bson_model.specs.Value as model
 use Rattle.bson_model.proofs.Offered.{Member}
 use Rattle.bson_place.specs.declared.place.Place.{Place}
 use Rattle.bson_place.specs.declared.place.Reason.{Reason}
-use Rattle.bson_place.specs.Place.{dotted, word_of, Turn, key, way_of, FaultAtIn, FaultAmongIn, FaultWithinIn, number}
+use Rattle.bson_place.specs.Place.{Turn, key, way_of, FaultAtIn, FaultAmongIn, FaultWithinIn, number}
 use Rattle.bson_place.specs.Place.{array}
 use Rattle.bson_place.specs.Place.{document, wrapper, scope, shape, HasValueIn, IsReason, IsPlace}
 use Rattle.bson_place.specs.Place.{IsOpen, code_with_scope}
@@ -37,17 +37,8 @@ use Rattle.bson_place.specs.Built.{Builds}
 
 -- ---- what a value stands for
 
-pub view_null : view declared.Null ≡ tree.null
-view_null = search (rules, the_lemmas)
-
-pub view_boolean : (b : Bool) → view (declared.Bool b) ≡ tree.boolean b
-view_boolean b = search (rules, the_lemmas)
-
 pub view_number : (n : Number) → view (declared.Number n) ≡ tree.number (number_view n)
 view_number n = search (rules, the_lemmas)
-
-pub view_string : (s : String Global) → view (declared.String s) ≡ tree.string (string_bytes s)
-view_string s = search (rules, the_lemmas)
 
 -- ---- numbers
 
@@ -149,17 +140,6 @@ pub two_entries : {X : Type 0} (es mid rest : List X) (x y : X) → es ≡ x ∷
     → es ≡ x ∷ y ∷ []
 two_entries es mid rest x y is next none =
     is ∙ ap (λ l. x ∷ l) (next ∙ ap (λ l. y ∷ l) (nil_from_length rest none))
-
--- ---- the text of a way
-
-pub dotted_more : (turn : Turn) (out : List Turn) → 0 < length out
-    → dotted (turn ∷ out) ≡ dotted out ++ codes "." ++ word_of turn
-dotted_more turn [] some = absurd (omega arith)
-dotted_more turn (u ∷ out) some = refl
-
-pub dotted_one : (turn : Turn) (out : List Turn) → length out ≡ 0 → dotted (turn ∷ out) ≡ word_of turn
-dotted_one turn [] none = refl
-dotted_one turn (u ∷ out) none = absurd (omega arith)
 
 module _ (D : Doubles) where
   -- ---- values

@@ -68,7 +68,9 @@ pub struct Nothing;
 
 impl ValueBuilder for Nothing {
     type Value = ();
+
     type Items = ();
+
     type Pairs = ();
 
     ghost use Rattle.std.specs.Prelude.{⊤};
