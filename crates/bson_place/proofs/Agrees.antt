@@ -79,16 +79,19 @@ module _ (D : Doubles) where
   pub means_nothing : {f : Fault} {t : Data} {way : List Turn} → FaultAtIn D f t way → MeansNothingIn D t
   means_nothing a v m = absurd (both (means_to_in D m) (fault_to a))
 
-  -- the fault that was found is that of the tree, which means nothing
-  pub first_found : (t : Data) (r : Result (Option Place) AllocError)
-      → IfOk r (λ found. MatchOption found (HasValueIn D t) (IsPlace (λ f. FaultAtIn D f t)))
-      → IfOk r (λ found. MatchOption found (HasValueIn D t) (IsFirstFaultIn D t))
-  first_found t (Ok None) h = h
-  first_found t (Ok (Some place)) h =
+  -- the fault at the place is that of the tree, which means nothing
+  pub first_at : (t : Data) (place : Place) → IsPlace (λ f. FaultAtIn D f t) place → IsFirstFaultIn D t place
+  first_at t place h =
       let first : h.fault ≡ fault_of_in D t = ap fault_in (sym (fault_to h.way)) in
       record {
         nothing = means_nothing h.way;
         way = subst (λ f. FaultAtIn D f t (way_of place)) first h.way;
         reason = subst (λ f. IsReason f place.reason) first h.reason;
       }
+
+  pub first_found : (t : Data) (r : Result (Option Place) AllocError)
+      → IfOk r (λ found. MatchOption found (HasValueIn D t) (IsPlace (λ f. FaultAtIn D f t)))
+      → IfOk r (λ found. MatchOption found (HasValueIn D t) (IsFirstFaultIn D t))
+  first_found t (Ok None) h = h
+  first_found t (Ok (Some place)) h = first_at t place h
   first_found t (Err e) h = tt

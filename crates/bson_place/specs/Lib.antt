@@ -1,3 +1,4 @@
+pub mod Built
 pub mod Place
 pub mod Shape
 -- what public clauses cite of the crates below, so that a caller names this crate alone

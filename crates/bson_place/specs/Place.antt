@@ -1,5 +1,5 @@
 -- Where the first fault of a tree lies: the way to it, a step for each list and object that it is in.
-use Rattle.std.specs.Prelude.{◌≡◌, ℕ, ◌+◌, List, [], ◌∷◌, ◌++◌, map, codes, string_bytes, true, false, Ok, Err, Option}
+use Rattle.std.specs.Prelude.{◌≡◌, ℕ, ◌+◌, List, [], ◌∷◌, ◌++◌, map, codes, string_bytes, true, false, Ok, Err}
 use Rattle.std.specs.Fmt.{decimal}
 use Rattle.serde_json.specs.Data.{Data, Num, Items, item, Members, no_members, member}
 use Rattle.serde_json.specs.Data as tree
@@ -10,8 +10,8 @@ use Rattle.bson_scalar.specs.Table.{wrapper_of, has_wrapper}
 use Rattle.bson_scalar.specs.declared.form.Doubles.{Doubles}
 use Rattle.bson_scalar.specs.declared.form.Doubles.TheVariants.{Special}
 use Rattle.bson_model.specs.Fault.{MeansNothingIn, fault_of_in}
-use Rattle.bson_model.specs.Reading.{reads_in, reads_scope_in}
-use Rattle.bson_model.specs.Value.{Value, Pairs}
+use Rattle.bson_model.specs.Reading.{reads_in}
+use Rattle.bson_model.specs.Value.{Value}
 use Rattle.bson_place.specs.declared.place.Step.{Step}
 use Rattle.bson_place.specs.declared.place.Step.TheVariants as declared
 use Rattle.bson_place.specs.declared.place.Place.{Place}
@@ -109,19 +109,6 @@ pub record IsFirstFaultIn (D : Doubles) (t : Data) (place : Place) : Type 0 wher
 -- the tree has a value
 abbrev pub HasValueIn : Doubles → Data → Type 0
 HasValueIn D t = (v : Value) × (reads_in D t ≡ Ok v)
-
--- ---- for private clauses
-
--- the tree is a scope
-abbrev pub HasScopeIn : Doubles → Data → Type 0
-HasScopeIn D d = (ps : Option Pairs) × (reads_scope_in D d ≡ Ok ps)
-
--- why a tree is no scope, and the way from the fault to the object that it stands in
-pub data IsScopeFaultIn (D : Doubles) : Data → Fault → List Turn → Type 0 where
-  in_scope : {f : Fault} {way : List Turn} (ms : Members) → FaultWithinIn D f ms way
-      → IsScopeFaultIn D (tree.object ms) f (way ++ key (codes "$scope") ∷ [])
-  no_scope : (d : Data) → ((ms : Members) → d ≡ tree.object ms → ⊥) → reads_scope_in D d ≡ Err wrong_shape
-      → IsScopeFaultIn D d wrong_shape []
 
 -- ---- where no finite doubles are read
 

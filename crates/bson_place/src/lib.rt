@@ -1,11 +1,12 @@
-//! The first fault of a tree of MongoDB Extended JSON v2: what is wrong, and where it lies, by the
-//! keys and the places in lists on the way to it.
+//! How a tree of MongoDB Extended JSON v2 is read: what is built of it as it is read, or its first
+//! fault, with the keys and the places in lists that lead to it.
 //!
-//! It is found by a walk of its own after a tree was refused, so that reading a tree that is
-//! accepted pays nothing. In reading order: `shape` (messages), `place` (a place and its text), `walk` (how it is
-//! found), `laws` (each tree that means nothing has one).
+//! Reading order: `shape` (what is told of a wrapper of the wrong shape), `place` (a fault and the
+//! way to it), `builder` (what is built), `walk` (how a tree is read), `laws` (each tree that means
+//! nothing has one fault, and one way to it).
 #![tactic(auto)]
 
+pub mod builder;
 pub mod laws;
 pub mod place;
 pub mod shape;

@@ -1,18 +1,19 @@
-//! How the place of a fault is found.
-ghost use Rattle.std.specs.Prelude.{◌≡◌, ◌∷◌, [], ◌++◌, ℕ, List, true, IfOk, MatchBool};
+//! How a tree is read: what is built of it, or the place of its first fault.
+ghost use Rattle.std.specs.Prelude.{◌≡◌, ◌∷◌, [], ◌++◌, true, IfOk};
 ghost use Rattle.std.specs.Prelude.{MatchOption, Result, Ok, Err, codes, string_bytes};
 ghost use Rattle.serde_json.specs.View.{view, number_view, items_view, members_view};
-ghost use Rattle.serde_json.specs.Data.{number, string, object, member, no_members};
+ghost use Rattle.serde_json.specs.Data.{number, string, array, object, member, no_members};
 ghost use Rattle.bson_scalar.specs.Table.{has_wrapper};
 ghost use Rattle.bson_scalar.specs.Shapes.{object_of_two};
 ghost use Rattle.bson_scalar.specs.Faults.{Fault, Fails, wrong_shape};
-ghost use Rattle.bson_scalar.specs.Scalar.{Scalar};
-ghost use Rattle.bson_model.specs.Reading.{reads_items_in, reads_members_in};
-ghost use Rattle.bson_model.specs.Value.{Values, Pairs};
-ghost use Rattle.bson_place.specs.Place.{FaultAtIn, FaultAmongIn, FaultWithinIn, HasScopeIn, HasValue, HasValueIn};
-ghost use Rattle.bson_place.specs.Place.{IsFirstFault, IsFirstFaultIn, IsPlace, IsReason, IsScopeFaultIn, key as turn};
+ghost use Rattle.bson_scalar.specs.Scalar as kind;
+ghost use Rattle.bson_model.specs.Reading.{reads_in, reads_items_in, reads_members_in};
+ghost use Rattle.bson_place.specs.Built.{Builds};
+ghost use Rattle.bson_place.specs.Place.{FaultAtIn, FaultAmongIn, FaultWithinIn, HasValue, HasValueIn};
+ghost use Rattle.bson_place.specs.Place.{IsFirstFault, IsFirstFaultIn, IsReason, key as turn};
 ghost use Rattle.bson_place.specs.Place.{turn_of, way_of};
 
+use crate::builder::{Nothing, ValueBuilder};
 use crate::place::{Place, Reason, Step};
 use crate::shape::{CODE, SCOPE, beside_others, first_wrapper};
 use bson_scalar::code::is_code_with_scope;
@@ -20,6 +21,7 @@ use bson_scalar::doubles::read_number;
 use bson_scalar::error::Error;
 use bson_scalar::form::Doubles;
 use bson_scalar::read::read_single_in;
+use bson_scalar::scalar::Scalar;
 use bson_scalar::wrapper::Wrapper;
 use serde_json::{Map, Number, Value};
 use std::alloc::{AllocError, Global};
@@ -30,7 +32,7 @@ use std::alloc::{AllocError, Global};
 /// Faults are met in the order of reading: of a list's elements in their order, of a document's
 /// values by ascending key. The way ends at a number that is no i64, at the key of a wrapper whose
 /// value is wrong, or at an object that has a wrapper key and the shape of no wrapper. The only
-/// error is want of memory.
+/// error is want of memory. A copy of the tree is read.
 pub fn place_of_fault(alloc: Global, tree: &Value) -> Result<Option<Place>, AllocError>
     ensures { IfOk result (λ found. MatchOption found (HasValue (view tree.now)) (IsFirstFault (view tree.now))) }
 {
@@ -47,22 +49,68 @@ pub fn place_of_fault_in(
     ensures { IfOk result
         (λ found. MatchOption found (HasValueIn doubles (view tree.now)) (IsFirstFaultIn doubles (view tree.now))) }
 {
-    walk(alloc, doubles, tree)
+    first_place(alloc, doubles, tree.clone()?)
+}
+
+/// The first fault of a tree that is let go as it is read, as `place_of_fault_in` finds it.
+pub fn first_place(
+    alloc: Global,
+    doubles: Doubles,
+    tree: Value,
+) -> Result<Option<Place>, AllocError>
+    ensures { IfOk result
+        (λ found. MatchOption found (HasValueIn doubles (view tree)) (IsFirstFaultIn doubles (view tree))) }
+{
+    match read_tree::<Nothing>(alloc, doubles, tree)? {
+        Ok(()) => Ok(None),
+        Err(place) => Ok(Some(place)),
+    }
+}
+
+/// What the builder makes of the value that the tree means, or the tree's first fault and the way
+/// to it.
+///
+/// The order of faults is that of `place_of_fault`. The only other error is want of memory.
+pub fn read_tree<B: ValueBuilder>(
+    alloc: Global,
+    doubles: Doubles,
+    tree: Value,
+) -> Result<Result<B::Value, Place>, AllocError>
+    ensures { IfOk result
+        (Builds B.built (reads_in doubles (view tree)) (λ f. FaultAtIn doubles f (view tree))) }
+{
+    read_value::<B>(alloc, doubles, tree)
+}
+
+/// What the builder makes of the pairs of a map, whose own keys are not tested, or the first fault
+/// in its values and the way to it.
+pub fn read_pairs<B: ValueBuilder>(
+    alloc: Global,
+    doubles: Doubles,
+    members: Map<String, Value>,
+) -> Result<Result<B::Pairs, Place>, AllocError>
+    ensures { IfOk result (Builds B.paired (reads_members_in doubles (members_view members.entries))
+        (λ f. FaultWithinIn doubles f (members_view members.entries))) }
+{
+    read_members::<B>(alloc, doubles, members)
 }
 
 #[cycle(walk)]
-fn walk(alloc: Global, doubles: Doubles, tree: &Value) -> Result<Option<Place>, AllocError>
+fn read_value<B: ValueBuilder>(
+    alloc: Global,
+    doubles: Doubles,
+    tree: Value,
+) -> Result<Result<B::Value, Place>, AllocError>
     ensures { IfOk result
-        (λ found. MatchOption found (HasValueIn doubles (view tree.now))
-        (IsPlace (λ f. FaultAtIn doubles f (view tree.now)))) }
+        (Builds B.built (reads_in doubles (view tree)) (λ f. FaultAtIn doubles f (view tree))) }
 {
     match tree {
-        Value::Null => Ok(None),
-        Value::Bool(_) => Ok(None),
-        Value::Number(n) => of_number(alloc, doubles, n),
-        Value::String(_) => Ok(None),
-        Value::Array(items) => of_items(alloc, doubles, items),
-        Value::Object(members) => of_object(alloc, doubles, members),
+        Value::Null => Ok(Ok(B::scalar(Scalar::Null))),
+        Value::Bool(truth) => Ok(Ok(B::scalar(Scalar::Boolean(truth)))),
+        Value::Number(n) => of_number::<B>(alloc, doubles, &n),
+        Value::String(text) => Ok(Ok(B::scalar(Scalar::String(text)))),
+        Value::Array(items) => read_array::<B>(alloc, doubles, items),
+        Value::Object(members) => read_object::<B>(alloc, doubles, members),
     }
 }
 
@@ -86,7 +134,7 @@ fn here(alloc: Global, message: &'static str) -> Place
 
 // Why a scalar was not read.
 fn reason_of(error: Error) -> Result<Reason, AllocError>
-    ensures { IfOk result (λ reason. (read : Result Scalar Fault) → Fails error read
+    ensures { IfOk result (λ reason. (read : Result kind.Scalar Fault) → Fails error read
         → (f : Fault) × (read ≡ Err f) × IsReason f reason) }
 {
     match error {
@@ -96,14 +144,17 @@ fn reason_of(error: Error) -> Result<Reason, AllocError>
     }
 }
 
-fn of_number(alloc: Global, doubles: Doubles, n: &Number) -> Result<Option<Place>, AllocError>
-    ensures { IfOk result
-        (λ found. MatchOption found (HasValueIn doubles (number (number_view n.now)))
-        (IsPlace (λ f. FaultAtIn doubles f (number (number_view n.now))))) }
+fn of_number<B: ValueBuilder>(
+    alloc: Global,
+    doubles: Doubles,
+    n: &Number,
+) -> Result<Result<B::Value, Place>, AllocError>
+    ensures { IfOk result (Builds B.built (reads_in doubles (number (number_view n.now)))
+        (λ f. FaultAtIn doubles f (number (number_view n.now)))) }
 {
     match read_number(doubles, n) {
-        Ok(_) => Ok(None),
-        Err(error) => Ok(Some(at(alloc, reason_of(error)?))),
+        Ok(scalar) => Ok(Ok(B::scalar(scalar))),
+        Err(error) => Ok(Err(at(alloc, reason_of(error)?))),
     }
 }
 
@@ -117,182 +168,188 @@ fn inside(place: Place, step: Step) -> Result<Place, AllocError>
     Ok(Place { reason, steps })
 }
 
-// The place of a fault in what stands at the key.
-fn under(alloc: Global, place: Place, key: &str) -> Result<Place, AllocError>
-    ensures way { IfOk result (λ p. way_of p ≡ way_of place ++ turn key.now ∷ []) }
-    ensures reason { IfOk result (λ p. p.reason ≡ place.reason) }
+#[cycle(walk)]
+fn read_array<B: ValueBuilder>(
+    alloc: Global,
+    doubles: Doubles,
+    items: Vec<Value>,
+) -> Result<Result<B::Value, Place>, AllocError>
+    ensures { IfOk result (Builds B.built (reads_in doubles (array (items_view items.items)))
+        (λ f. FaultAtIn doubles f (array (items_view items.items)))) }
 {
-    inside(place, Step::Key(String::from_str(alloc, key)?))
+    match read_items::<B>(alloc, doubles, items)? {
+        Ok(items) => Ok(Ok(B::array(items))),
+        Err(place) => Ok(Err(place)),
+    }
 }
 
 #[cycle(walk)]
-fn of_items(
+fn read_items<B: ValueBuilder>(
     alloc: Global,
     doubles: Doubles,
-    items: &Vec<Value>,
-) -> Result<Option<Place>, AllocError>
-    ensures { IfOk result
-        (λ found. MatchOption found ((vs : Values) × (reads_items_in doubles (items_view items.now.items) ≡ Ok vs))
-        (IsPlace (λ f. FaultAmongIn doubles f 0 (items_view items.now.items)))) }
+    items: Vec<Value>,
+) -> Result<Result<B::Items, Place>, AllocError>
+    ensures { IfOk result (Builds B.listed (reads_items_in doubles (items_view items.items))
+        (λ f. FaultAmongIn doubles f 0 (items_view items.items))) }
 {
+    let mut read = B::items(alloc, items.len())?;
     let mut at = 0usize;
     for item in items {
-        match walk(alloc, doubles, item)? {
-            None => at += 1,
-            Some(place) => return Ok(Some(inside(place, Step::Element(at))?)),
+        match read_value::<B>(alloc, doubles, item)? {
+            Ok(value) => B::push(&mut read, value)?,
+            Err(place) => return Ok(Err(inside(place, Step::Element(at))?)),
+        }
+        at += 1;
+    }
+    Ok(Ok(read))
+}
+
+#[cycle(walk)]
+fn read_members<B: ValueBuilder>(
+    alloc: Global,
+    doubles: Doubles,
+    members: Map<String, Value>,
+) -> Result<Result<B::Pairs, Place>, AllocError>
+    ensures { IfOk result (Builds B.paired (reads_members_in doubles (members_view members.entries))
+        (λ f. FaultWithinIn doubles f (members_view members.entries))) }
+{
+    let mut read = B::pairs(alloc, members.len())?;
+    for (key, value) in members {
+        match read_value::<B>(alloc, doubles, value)? {
+            Ok(value) => B::put(&mut read, key, value)?,
+            Err(place) => return Ok(Err(inside(place, Step::Key(key))?)),
         }
     }
-    Ok(None)
+    Ok(Ok(read))
 }
 
 #[cycle(walk)]
-fn of_members(
+fn read_object<B: ValueBuilder>(
     alloc: Global,
     doubles: Doubles,
-    members: &Map<String, Value>,
-) -> Result<Option<Place>, AllocError>
-    ensures { IfOk result
-        (λ found.
-        MatchOption found ((ps : Pairs) × (reads_members_in doubles (members_view members.now.entries) ≡ Ok ps))
-        (IsPlace (λ f. FaultWithinIn doubles f (members_view members.now.entries)))) }
+    members: Map<String, Value>,
+) -> Result<Result<B::Value, Place>, AllocError>
+    ensures { IfOk result (Builds B.built (reads_in doubles (object (members_view members.entries)))
+        (λ f. FaultAtIn doubles f (object (members_view members.entries)))) }
 {
-    for (key, value) in members.iter() {
-        match walk(alloc, doubles, value)? {
-            None => {}
-            Some(place) => return Ok(Some(under(alloc, place, key.as_str())?)),
-        }
+    if let Some(wrapper) = first_wrapper(&members) {
+        return read_wrapped::<B>(alloc, doubles, members, wrapper);
     }
-    Ok(None)
-}
-
-#[cycle(walk)]
-fn of_object(
-    alloc: Global,
-    doubles: Doubles,
-    members: &Map<String, Value>,
-) -> Result<Option<Place>, AllocError>
-    ensures { IfOk result
-        (λ found. MatchOption found (HasValueIn doubles (object (members_view members.now.entries)))
-        (IsPlace (λ f. FaultAtIn doubles f (object (members_view members.now.entries))))) }
-{
-    match first_wrapper(members) {
-        Some(wrapper) => of_wrapper(alloc, doubles, members, wrapper),
-        None => of_members(alloc, doubles, members),
+    match read_members::<B>(alloc, doubles, members)? {
+        Ok(pairs) => Ok(Ok(B::document(pairs))),
+        Err(place) => Ok(Err(place)),
     }
 }
 
-// Of an object whose first wrapper is this one.
+// An object whose first wrapper is this one.
 #[cycle(walk)]
-fn of_wrapper(
+fn read_wrapped<B: ValueBuilder>(
     alloc: Global,
     doubles: Doubles,
-    members: &Map<String, Value>,
+    mut members: Map<String, Value>,
     wrapper: Wrapper,
-) -> Result<Option<Place>, AllocError>
-    requires { has_wrapper (members_view members.now.entries) ≡ true }
-    ensures { IfOk result
-        (λ found. MatchOption found (HasValueIn doubles (object (members_view members.now.entries)))
-        (IsPlace (λ f. FaultAtIn doubles f (object (members_view members.now.entries))))) }
+) -> Result<Result<B::Value, Place>, AllocError>
+    requires { has_wrapper (members_view members.entries) ≡ true }
+    ensures { IfOk result (Builds B.built (reads_in doubles (object (members_view members.entries)))
+        (λ f. FaultAtIn doubles f (object (members_view members.entries)))) }
 {
-    let mut pairs = members.iter();
-    let Some((key, value)) = pairs.next() else {
+    let Some((key, value)) = members.pop_first() else {
         unreachable!();
     };
-    let Some((other, scope)) = pairs.next() else {
-        return of_lone(alloc, doubles, key.as_str(), value);
+    let Some((other, scope)) = members.pop_first() else {
+        return of_lone::<B>(alloc, doubles, key, value);
     };
-    if let Some((_third, _held)) = pairs.next() {
-        return Ok(Some(here(alloc, beside_others(wrapper))));
+    if !members.is_empty() {
+        return Ok(Err(here(alloc, beside_others(wrapper))));
     }
     if !is_code_with_scope(key.as_str(), other.as_str()) {
-        return Ok(Some(here(alloc, beside_others(wrapper))));
+        return Ok(Err(here(alloc, beside_others(wrapper))));
     }
-    of_code(alloc, doubles, scope, value)
+    read_code::<B>(alloc, doubles, scope, value)
 }
 
-// Of an object of one wrapper key.
-fn of_lone(
+// An object of one wrapper key.
+fn of_lone<B: ValueBuilder>(
     alloc: Global,
     doubles: Doubles,
-    key: &str,
-    value: &Value,
-) -> Result<Option<Place>, AllocError>
-    requires { has_wrapper (member key.now (view value.now) no_members) ≡ true }
+    key: String,
+    value: Value,
+) -> Result<Result<B::Value, Place>, AllocError>
+    requires { has_wrapper (member (string_bytes key) (view value) no_members) ≡ true }
     ensures { IfOk result
-        (λ found. MatchOption found (HasValueIn doubles (object (member key.now (view value.now) no_members)))
-        (IsPlace (λ f. FaultAtIn doubles f (object (member key.now (view value.now) no_members))))) }
+        (Builds B.built (reads_in doubles (object (member (string_bytes key) (view value) no_members)))
+        (λ f. FaultAtIn doubles f (object (member (string_bytes key) (view value) no_members)))) }
 {
-    match read_single_in(alloc, doubles, key, value.clone()?) {
-        Ok(_) => Ok(None),
-        Err(error) => at_key(alloc, key, reason_of(error)?),
+    match read_single_in(alloc, doubles, key.as_str(), value) {
+        Ok(scalar) => Ok(Ok(B::scalar(scalar))),
+        Err(error) => Ok(Err(at_key(alloc, key, reason_of(error)?)?)),
     }
 }
 
 // The place at the key.
-fn at_key(alloc: Global, key: &str, reason: Reason) -> Result<Option<Place>, AllocError>
+fn at_key(alloc: Global, key: String, reason: Reason) -> Result<Place, AllocError>
     ensures { IfOk result
-        (λ found. MatchOption found ⊥ (λ place. (way_of place ≡ turn key.now ∷ []) × (place.reason ≡ reason))) }
+        (λ place. (way_of place ≡ turn (string_bytes key) ∷ []) × (place.reason ≡ reason)) }
 {
-    Ok(Some(under(alloc, at(alloc, reason), key)?))
+    inside(at(alloc, reason), Step::Key(key))
 }
 
-// Of code beside what stands as its scope.
+// What stands as a scope, beside what stands as its code.
 #[cycle(walk)]
-fn of_code(
+fn read_code<B: ValueBuilder>(
     alloc: Global,
     doubles: Doubles,
-    scope: &Value,
-    code: &Value,
-) -> Result<Option<Place>, AllocError>
-    ensures { IfOk result
-        (λ found.
-        MatchOption found
-        (HasValueIn doubles (object_of_two (codes "$code") (view code.now) (codes "$scope") (view scope.now)))
-        (IsPlace
-        (λ f. FaultAtIn doubles f (object_of_two (codes "$code") (view code.now) (codes "$scope") (view scope.now))))) }
+    scope: Value,
+    code: Value,
+) -> Result<Result<B::Value, Place>, AllocError>
+    ensures { IfOk result (Builds B.built
+        (reads_in doubles (object_of_two (codes "$code") (view code) (codes "$scope") (view scope)))
+        (λ f. FaultAtIn doubles f (object_of_two (codes "$code") (view code) (codes "$scope") (view scope)))) }
 {
-    if !is_text(code) {
-        return Ok(Some(here(alloc, CODE)));
+    match code {
+        Value::String(code) => read_scope::<B>(alloc, doubles, scope, code),
+        _ => Ok(Err(here(alloc, CODE))),
     }
-    of_scope(alloc, doubles, scope)
 }
 
-fn is_text(value: &Value) -> bool
-    ensures { MatchBool result ((s : List ℕ) × (view value.now ≡ string s)) ((s : List ℕ) → view value.now ≡ string s
-        → ⊥) }
-{
-    matches!(value, Value::String(_))
-}
-
-// Of what stands as a scope, beside code that is a text.
+// What stands as a scope, beside code that is a text.
 #[cycle(walk)]
-fn of_scope(alloc: Global, doubles: Doubles, scope: &Value) -> Result<Option<Place>, AllocError>
-    ensures { IfOk result
-        (λ found. MatchOption found (HasScopeIn doubles (view scope.now))
-        (IsPlace (IsScopeFaultIn doubles (view scope.now)))) }
+fn read_scope<B: ValueBuilder>(
+    alloc: Global,
+    doubles: Doubles,
+    scope: Value,
+    code: String,
+) -> Result<Result<B::Value, Place>, AllocError>
+    ensures { IfOk result (Builds B.built
+        (reads_in doubles (object_of_two (codes "$code") (string (string_bytes code)) (codes "$scope") (view scope)))
+        (λ f. FaultAtIn doubles f
+        (object_of_two (codes "$code") (string (string_bytes code)) (codes "$scope") (view scope)))) }
 {
     match scope {
-        Value::Null => Ok(None),
-        Value::Bool(_) => Ok(Some(here(alloc, SCOPE))),
-        Value::Number(_) => Ok(Some(here(alloc, SCOPE))),
-        Value::String(_) => Ok(Some(here(alloc, SCOPE))),
-        Value::Array(_) => Ok(Some(here(alloc, SCOPE))),
-        Value::Object(members) => of_scope_map(alloc, doubles, members),
+        Value::Null => Ok(Ok(B::scalar(Scalar::JavaScriptCode(code)))),
+        Value::Object(members) => read_scope_map::<B>(alloc, doubles, members, code),
+        _ => Ok(Err(here(alloc, SCOPE))),
     }
 }
 
 #[cycle(walk)]
-fn of_scope_map(
+fn read_scope_map<B: ValueBuilder>(
     alloc: Global,
     doubles: Doubles,
-    members: &Map<String, Value>,
-) -> Result<Option<Place>, AllocError>
-    ensures { IfOk result
-        (λ found. MatchOption found (HasScopeIn doubles (object (members_view members.now.entries)))
-        (IsPlace (IsScopeFaultIn doubles (object (members_view members.now.entries))))) }
+    members: Map<String, Value>,
+    code: String,
+) -> Result<Result<B::Value, Place>, AllocError>
+    ensures { IfOk result (Builds B.built
+        (reads_in doubles (object_of_two (codes "$code") (string (string_bytes code)) (codes "$scope")
+        (object (members_view members.entries))))
+        (λ f. FaultAtIn doubles f (object_of_two (codes "$code") (string (string_bytes code)) (codes "$scope")
+        (object (members_view members.entries))))) }
 {
-    match of_members(alloc, doubles, members)? {
-        None => Ok(None),
-        Some(place) => Ok(Some(under(alloc, place, "$scope")?)),
+    match read_members::<B>(alloc, doubles, members)? {
+        Ok(scope) => Ok(Ok(B::code(code, scope))),
+        Err(place) => {
+            let key = String::from_str(alloc, "$scope")?;
+            Ok(Err(inside(place, Step::Key(key))?))
+        }
     }
 }

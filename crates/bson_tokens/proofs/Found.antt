@@ -14,10 +14,10 @@ use Rattle.bson_scalar.specs.Scalar as kind
 use Rattle.bson_scalar.specs.Table.{wrapper_of, has_wrapper}
 use Rattle.bson_scalar.specs.declared.form.Doubles.{Doubles}
 use Rattle.bson_model.specs.Value as model
-use Rattle.bson_place.specs.Place.{Turn, key, element, FaultAtIn, FaultAmongIn, FaultWithinIn, HasValueIn, HasScopeIn}
+use Rattle.bson_place.specs.Place.{Turn, key, element, FaultAtIn, FaultAmongIn, FaultWithinIn, HasValueIn}
 use Rattle.bson_place.specs.Place.{array, document}
-use Rattle.bson_place.specs.Place.{wrapper, shape, here as at_element, later, at_key, behind, IsScopeFaultIn}
-use Rattle.bson_place.specs.Place.{in_scope, no_scope}
+use Rattle.bson_place.specs.Place.{wrapper, shape, here as at_element, later, at_key, behind}
+use Rattle.bson_place.proofs.Offered.{HasScopeIn, IsScopeFaultIn, in_scope, no_scope}
 use Rattle.bson_place.proofs.Offered.{HasItems, HasPairs, Coded, number_value, no_number, array_value, document_value}
 use Rattle.bson_place.proofs.Offered.{wrapped}
 use Rattle.bson_place.proofs.Offered.{lone_value, not_code, not_text, value_of_code, scope_way, scope_of_map, never}

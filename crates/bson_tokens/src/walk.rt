@@ -21,7 +21,7 @@ use crate::unread::Unread;
 use crate::walk::wrapped::walk_wrapper;
 use bson_place::place::{Place, Step};
 use bson_place::shape::beside_others;
-use bson_place::walk::place_of_fault_in;
+use bson_place::walk::first_place;
 use bson_scalar::code::is_scope;
 use bson_scalar::form::Doubles;
 use bson_scalar::wrapper::{Wrapper, named};
@@ -66,7 +66,7 @@ fn of_number(alloc: Global, doubles: Doubles, text: &str) -> Result<Option<Place
     ensures broken { IfErr result (IsBroken (number_of text.now)) }
 {
     match number(text) {
-        Some(n) => Ok(place_of_fault_in(alloc, doubles, &Value::Number(n))?),
+        Some(n) => Ok(first_place(alloc, doubles, Value::Number(n))?),
         None => Err(Unread::Broken),
     }
 }
@@ -243,6 +243,5 @@ fn place_in(
 ) -> Result<Option<Place>, AllocError>
     ensures { IfOk result (λ p. Tells (found doubles (object (members_view members.entries))) p) }
 {
-    let tree = Value::Object(members);
-    place_of_fault_in(alloc, doubles, &tree)
+    first_place(alloc, doubles, Value::Object(members))
 }

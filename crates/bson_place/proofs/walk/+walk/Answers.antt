@@ -1,206 +1,180 @@
-use Rattle.std.proofs.Common.{◌≡◌, ◌+◌, ◌∷◌, [], ◌++◌, List, drop, refl, sym, ap, ◌∙◌, subst, string_bytes, String}
-use Rattle.std.proofs.Common.{Global}
-use Rattle.std.proofs.Common.{codes, arith}
-use Rattle.std.specs.Prelude.{is_some, IfOk, MatchOption, true}
-use Rattle.std.proofs.lemmas.Bool.{and_parts}
+use Rattle.std.proofs.Common.{◌≡◌, ◌∷◌, [], ◌++◌, length, refl, sym, ap, ◌∙◌, subst, string_bytes}
+use Rattle.std.proofs.Common.{codes, arith, rules}
+use Rattle.std.specs.Prelude.{is_some, true, IfOk}
+use Rattle.std.specs.Vec.Iter.{into_iter_items}
+use Rattle.std.proofs.lemmas.Bool.{and_parts, false≢true}
+use Rattle.std.proofs.lemmas.List.{nil_from_length}
 use Rattle.std.proofs.lemmas.Slice.Eq.{bytes_eq-Decides}
 use Rattle.serde_json.specs.Data.{object}
+use Rattle.serde_json.specs.View.{view, items_view, members_view}
+use Rattle.serde_json.specs.declared.value.Value.{the_lemmas}
 use Rattle.bson_scalar.specs.Faults.{wrong_shape}
 use Rattle.bson_scalar.specs.Table.{has_wrapper}
-use Rattle.std.proofs.lemmas.List.{drop_all, drop_more}
-use Rattle.serde_json.specs.View.{view, items_view, members_view}
-use Rattle.serde_json.specs.declared.value.Value.{Value}
-use Rattle.serde_json.proofs.Views.{view-Array}
-use Rattle.bson_model.specs.Value.{no_values, no_pairs}
-use Rattle.bson_place.specs.Place.{FaultAtIn, FaultAmongIn, HasValueIn, IsPlace, here as at_element, at_key, element}
-use Rattle.bson_place.specs.Place.{key, way_of}
-use Rattle.bson_place.proofs.Steps.{view_null, view_boolean, view_number, view_string, inside_none, inside_some}
-use Rattle.bson_place.proofs.Steps.{is_true, is_false, no_scope_found, scope_found, scope_of_map, of_code, not_text}
-use Rattle.bson_place.proofs.Steps.{IsRest, IsRestOf, null_value, boolean_value, text_value, carried, one_less}
-use Rattle.bson_place.proofs.Steps.{Coded, not_code, more_found, of_array, member_less, of_document, at_once}
-use Rattle.bson_place.proofs.Steps.{HasItems, HasPairs}
+use Rattle.bson_model.specs.Reading.{reads_in}
+use Rattle.bson_place.specs.Built.{Builds}
+use Rattle.bson_place.specs.Place.{FaultAtIn, key, way_of}
+use Rattle.bson_place.proofs.SoFar.{items_begun, items_more, items_stopped, items_ended}
+use Rattle.bson_place.proofs.SoFar.{pairs_begun, pairs_fresh, pairs_more, pairs_stopped, pairs_ended}
+use Rattle.bson_place.proofs.Steps.{array_place, document_place, scope_place, at_once, no_text_place}
+use Rattle.bson_place.proofs.Steps.{not_code, bad_scope_place, more_found, two_entries, Coded}
 use Rattle.bson_place.proofs.walk.+walk.Goals as goal
 
-pub of_items-loop-item-preserved : goal.of_items-loop-item-preserved
-of_items-loop-item-preserved t c =
-    let xs = c.deref-item-items.result.now in
-    let i = c.loop-item.item-index in
-    let v = c.item-item.result in
-    let next : drop i xs ≡ v ∷ drop (i + 1) xs = drop_more xs i v (omega arith)
-    ∙ ap (λ w. w ∷ drop (i + 1) xs) (sym c.item-item.is) in
-    let rest =
-    subst (λ (ys : List Value). IsRest c.args.doubles c.loop-item.at (items_view ys) (items_view xs)) next
-    c.loop-item.invariant.rest
-    in
-    let was = c.loop-item.invariant.counted in
+-- ---- lists
+
+pub read_array-returns-in-Err : goal.read_array-returns-in-Err
+read_array-returns-in-Err g t c =
+    array_place c.args.doubles g.B.ValueBuilder.listed (items_view c.args.items.items) c.in_ok-items.field-0
+    c.in-Err.place c.in-Err.is c.in_ok-items.ensures
+
+pub read_items-loop-item-init : goal.read_items-loop-item-init
+read_items-loop-item-init g t c =
+    let gives = c.into_iter-item-iterator.ensures.into_iter_gives in
+    let B = g.B.ValueBuilder in
     record {
-      counted = omega arith;
-      rest = one_less c.args.doubles c.loop-item.at (view v) (items_view (drop (i + 1) xs)) (items_view xs)
-          (inside_none _ c.in_ok-walk.field-0 c.in-None.is c.in_ok-walk.ensures) rest;
+      left = grind arith;
+      counted = grind arith;
+      read = rw gives.0 (items_begun c.args.doubles B.built B.listed (items_view c.args.items.items) c.in_ok-read.read
+          c.in_ok-read.ensures);
     }
 
-pub of_items-returns-in-Some : goal.of_items-returns-in-Some
-of_items-returns-in-Some t c =
-    let xs = c.deref-item-items.result.now in
-    let i = c.loop-item.item-index in
-    let v = c.item-item.result in
-    let next : drop i xs ≡ v ∷ drop (i + 1) xs = drop_more xs i v (omega arith)
-    ∙ ap (λ w. w ∷ drop (i + 1) xs) (sym c.item-item.is) in
-    let rest =
-    subst (λ (ys : List Value). IsRest c.args.doubles c.loop-item.at (items_view ys) (items_view xs)) next
-    c.loop-item.invariant.rest
-    in
-    let found = c.in_ok-inside-in-Some.ensures in
-    subst (λ (ys : List Value).
-    IsPlace (λ f. FaultAmongIn c.args.doubles f 0 (items_view ys)) c.in_ok-inside-in-Some.field-0)
-    c.deref-item-items.ensures.value
-    (carried c.in-Some.place c.in_ok-inside-in-Some.field-0 (element c.loop-item.at)
-    (λ f way h. rest.fault f (way ++ element c.loop-item.at ∷ [])
-    (at_element c.loop-item.at (view v) (items_view (drop (i + 1) xs)) h))
-    found.way found.reason (inside_some _ _ c.in_ok-walk.field-0 c.in-Some.place c.in-Some.is c.in_ok-walk.ensures))
+pub read_items-loop-item-preserved : goal.read_items-loop-item-preserved
+read_items-loop-item-preserved g t c =
+    let l = c.loop-item in
+    let B = g.B.ValueBuilder in
+    let left = l.invariant.left in
+    let counted = l.invariant.counted in
+    let steps = c.in-Some.ensures.steps in
+    let short = ap length steps.0 in
+    record {
+      left = omega arith;
+      counted = omega arith;
+      read = items_more c.args.doubles B.built B.listed (items_view c.args.items.items) l.read c.push.new.items l.at
+          (into_iter_items l.item-iterator) (into_iter_items c.next.new.self) c.in-Some.item c.in_ok-value.field-0
+          c.in-Ok.value steps.0 l.invariant.read c.in-Ok.is c.in_ok-value.ensures c.in_ok-push-in-Ok.ensures;
+    }
 
-pub of_items-returns : goal.of_items-returns
-of_items-returns t c =
-    let xs = c.deref-item-items.result.now in
-    let i = c.loop-item.item-index in
-    let none : drop i xs ≡ [] = drop_all i xs (grind arith) in
-    subst (λ (ys : List Value). HasItems c.args.doubles (items_view ys)) c.deref-item-items.ensures.value
-    (c.loop-item.invariant.rest.value
-    (subst (λ (ys : List Value). HasItems c.args.doubles (items_view ys)) (sym none) (no_values, refl)))
+pub read_items-returns-in-Err : goal.read_items-returns-in-Err
+read_items-returns-in-Err g t c =
+    let l = c.loop-item in
+    let B = g.B.ValueBuilder in
+    let found = c.in_ok-inside-in-Err in
+    items_stopped c.args.doubles B.built B.listed (items_view c.args.items.items) l.read l.at
+    (into_iter_items l.item-iterator) (into_iter_items c.next.new.self) c.in-Some.item c.in_ok-value.field-0
+    c.in-Err.place found.field-0 c.in-Some.ensures.steps.0 l.invariant.read c.in-Err.is c.in_ok-value.ensures
+    found.ensures.way found.ensures.reason
 
-pub of_members-loop-key-preserved : goal.of_members-loop-key-preserved
-of_members-loop-key-preserved t c =
-    let rest =
-    subst (λ (xs : List (String Global × Value)).
-    IsRestOf c.args.doubles (members_view xs) (members_view c.args.members.now.entries))
-    c.in-Some.ensures.steps c.loop-key.invariant in
-    member_less c.args.doubles (string_bytes c.in-Some.key.now) (view c.in-Some.value.now)
-    (members_view c.next.new.self)
-    (members_view c.args.members.now.entries)
-    (inside_none _ c.in_ok-walk.field-0 c.in-None-2.is c.in_ok-walk.ensures) rest
+pub read_items-returns : goal.read_items-returns
+read_items-returns g t c =
+    let l = c.loop-item in
+    let B = g.B.ValueBuilder in
+    let left = into_iter_items l.item-iterator in
+    items_ended c.args.doubles B.built B.listed (items_view c.args.items.items) l.read l.at left
+    (nil_from_length left (sym l.invariant.left ∙ c.in-None.ensures.steps.0)) l.invariant.read
 
-pub of_members-returns-in-Some-2 : goal.of_members-returns-in-Some-2
-of_members-returns-in-Some-2 t c =
-    let rest =
-    subst (λ (xs : List (String Global × Value)).
-    IsRestOf c.args.doubles (members_view xs) (members_view c.args.members.now.entries))
-    c.in-Some.ensures.steps c.loop-key.invariant in
-    let found = c.in_ok-under-in-Some-2.ensures in
-    carried c.in-Some-2.place c.in_ok-under-in-Some-2.field-0 (key (string_bytes c.in-Some.key.now))
-    (λ f way h. rest.fault f (way ++ key (string_bytes c.in-Some.key.now) ∷ [])
-    (at_key (string_bytes c.in-Some.key.now) (view c.in-Some.value.now) (members_view c.next.new.self) h))
-    (found.way ∙ ap (λ k. way_of c.in-Some-2.place ++ key k ∷ []) c.as_str.ensures.value) found.reason
-    (inside_some _ _ c.in_ok-walk.field-0 c.in-Some-2.place c.in-Some-2.is c.in_ok-walk.ensures)
+-- ---- the pairs of a map
 
-pub of_members-returns : goal.of_members-returns
-of_members-returns t c =
-    c.loop-key.invariant.value
-    (subst (λ (xs : List (String Global × Value)). HasPairs c.args.doubles (members_view xs))
-    (sym c.in-None.ensures.steps.0)
-    (no_pairs, refl))
+pub read_members-loop-key-init : goal.read_members-loop-key-init
+read_members-loop-key-init g t c =
+    let gives = c.into_iter-key-iterator.ensures.into_iter_gives in
+    let B = g.B.ValueBuilder in
+    rw gives.0 (pairs_begun c.args.doubles B.built B.paired c.args.members.entries c.in_ok-read.read c.in_ok-read.ensures
+    gives.5)
 
-pub of_scope-returns-in-Bool : goal.of_scope-returns-in-Bool
-of_scope-returns-in-Bool t c =
-    no_scope_found c.args.doubles _ _ c.here.result (ap view c.in-Bool.is ∙ view_boolean c.in-Bool.field-0)
-    (λ ms e. cc) refl c.here.ensures.reason c.here.ensures.way
+pub read_members-loop-key-preserved : goal.read_members-loop-key-preserved
+read_members-loop-key-preserved g t c =
+    let l = c.loop-key in
+    let B = g.B.ValueBuilder in
+    pairs_more c.args.doubles B.built B.paired c.args.members.entries l.read c.put.new.pairs l.key-iterator
+    c.next.new.self (c.in-Some.key, c.in-Some.value) c.in_ok-value.field-0 c.in-Ok.value c.in-Some.ensures.steps
+    l.invariant c.in-Ok.is c.in_ok-value.ensures c.in_ok-put-in-Ok.ensures
 
-pub of_scope-returns-in-Number : goal.of_scope-returns-in-Number
-of_scope-returns-in-Number t c =
-    no_scope_found c.args.doubles _ _ c.here-in-Number.result (ap view c.in-Number.is ∙ view_number c.in-Number.field-0)
-    (λ ms e. cc) refl c.here-in-Number.ensures.reason c.here-in-Number.ensures.way
+pub read_members-put-requires : goal.read_members-put-requires
+read_members-put-requires g t c =
+    let l = c.loop-key in
+    let B = g.B.ValueBuilder in
+    pairs_fresh c.args.doubles B.built B.paired c.args.members.entries l.read l.key-iterator c.next.new.self
+    (c.in-Some.key, c.in-Some.value) c.in-Some.ensures.steps l.invariant
 
-pub of_scope-returns-in-String : goal.of_scope-returns-in-String
-of_scope-returns-in-String t c =
-    no_scope_found c.args.doubles _ _ c.here-in-String.result (ap view c.in-String.is ∙ view_string c.in-String.field-0)
-    (λ ms e. cc) refl c.here-in-String.ensures.reason c.here-in-String.ensures.way
+pub read_members-returns-in-Err : goal.read_members-returns-in-Err
+read_members-returns-in-Err g t c =
+    let l = c.loop-key in
+    let B = g.B.ValueBuilder in
+    let found = c.in_ok-inside-in-Err in
+    pairs_stopped c.args.doubles B.built B.paired c.args.members.entries l.read l.key-iterator c.next.new.self
+    (c.in-Some.key, c.in-Some.value) c.in_ok-value.field-0 c.in-Err.place found.field-0 c.in-Some.ensures.steps
+    l.invariant c.in-Err.is c.in_ok-value.ensures found.ensures.way found.ensures.reason
 
-pub of_scope-returns-in-Array : goal.of_scope-returns-in-Array
-of_scope-returns-in-Array t c =
-    no_scope_found c.args.doubles _ _ c.here-in-Array.result (ap view c.in-Array.is ∙ view-Array c.in-Array.field-0)
-    (λ ms e. cc) refl c.here-in-Array.ensures.reason c.here-in-Array.ensures.way
+pub read_members-returns : goal.read_members-returns
+read_members-returns g t c =
+    let l = c.loop-key in
+    let B = g.B.ValueBuilder in
+    pairs_ended c.args.doubles B.built B.paired c.args.members.entries l.read l.key-iterator c.in-None.ensures.steps.0
+    l.invariant
 
-pub of_scope_map-returns-in-None : goal.of_scope_map-returns-in-None
-of_scope_map-returns-in-None t c =
-    scope_of_map c.args.doubles (members_view c.args.members.now.entries)
-    (inside_none _ c.in_ok-of_members.field-0 c.in-None.is c.in_ok-of_members.ensures)
+-- ---- objects
 
-pub of_scope_map-returns-in_ok-under-in-Some : goal.of_scope_map-returns-in_ok-under-in-Some
-of_scope_map-returns-in_ok-under-in-Some t c =
-    let found = c.in_ok-under-in-Some.ensures in
-    carried c.in-Some.place c.in_ok-under-in-Some.field-0 (key (codes "$scope"))
-    (scope_found c.args.doubles (members_view c.args.members.now.entries)) found.way found.reason
-    (inside_some _ _ c.in_ok-of_members.field-0 c.in-Some.place c.in-Some.is c.in_ok-of_members.ensures)
+pub read_object-returns-in-Err : goal.read_object-returns-in-Err
+read_object-returns-in-Err g t c =
+    document_place c.args.doubles g.B.ValueBuilder.paired (members_view c.args.members.entries) c.in_ok-pairs.field-0
+    c.in-Err.place (sym c.first_wrapper.ensures.has ∙ ap is_some c.in_default.is) c.in-Err.is c.in_ok-pairs.ensures
 
-pub of_code-returns-then-not-is_text : goal.of_code-returns-then-not-is_text
-of_code-returns-then-not-is_text t c =
+pub read_code-returns-in_default : goal.read_code-returns-in_default
+read_code-returns-in_default g t c =
+    no_text_place c.args.doubles (view c.args.code) (view c.args.scope) c.here.result (search (rules, the_lemmas))
+    c.here.ensures.reason c.here.ensures.way
+
+pub read_scope-returns : goal.read_scope-returns
+read_scope-returns g t c =
+    bad_scope_place c.args.doubles (string_bytes c.args.code) (view c.args.scope) c.here.result
+    (search (rules, the_lemmas)) (search (rules, the_lemmas)) c.here.ensures.reason c.here.ensures.way
+
+pub read_scope_map-returns-in_ok-inside-in-Err : goal.read_scope_map-returns-in_ok-inside-in-Err
+read_scope_map-returns-in_ok-inside-in-Err g t c =
+    let found = c.in_ok-inside-in-Err in
+    scope_place c.args.doubles g.B.ValueBuilder.paired (string_bytes c.args.code) (members_view c.args.members.entries)
+    c.in_ok-scope.field-0 c.in-Err.place found.field-0 c.in-Err.is c.in_ok-scope.ensures
+    (found.ensures.way ∙ ap (λ k. way_of c.in-Err.place ++ key k ∷ []) c.in_ok-key-in-Err.ensures.ok)
+    found.ensures.reason
+
+pub read_wrapped-returns-then-not-is_empty : goal.read_wrapped-returns-then-not-is_empty
+read_wrapped-returns-then-not-is_empty g t c =
+    let some : length c.pop_first-2.new.self.entries ≡ 0 → ⊥ =
+    λ e. false≢true (sym c.if-not-is_empty.true ∙ c.is_empty.ensures.1 e) in
     at_once c.here.result c.here.ensures.reason c.here.ensures.way
-    (not_text c.args.doubles (view c.args.code.now) (view c.args.scope.now)
-    (is_false _ c.is_text.result c.if-not-is_text.true c.is_text.ensures))
+    (more_found c.args.doubles _ (c.in-Some.key, c.in-Some.value)
+    (c.in-Some-pop_first.other, c.in-Some-pop_first.scope) _ _ c.in-Some.ensures.removal
+    c.in-Some-pop_first.ensures.removal some c.requires)
 
-pub of_code-returns : goal.of_code-returns
-of_code-returns t c =
-    of_code c.args.doubles (view c.args.code.now) (view c.args.scope.now) c.of_scope.result
-    (is_true _ c.is_text.result c.if-not-is_text.false c.is_text.ensures) c.of_scope.ensures
-
-pub walk-returns-in-Null : goal.walk-returns-in-Null
-walk-returns-in-Null t c = rw (c.in-Null.is, view_null) (null_value c.args.doubles)
-
-pub walk-returns-in-Bool : goal.walk-returns-in-Bool
-walk-returns-in-Bool t c = rw (c.in-Bool.is, view_boolean c.in-Bool.field-0)
-    (boolean_value c.args.doubles c.in-Bool.field-0)
-
-pub walk-returns-in-String : goal.walk-returns-in-String
-walk-returns-in-String t c =
-    rw (c.in-String.is, view_string c.in-String.field-0) (text_value c.args.doubles (string_bytes c.in-String.field-0))
-
-pub walk-returns-in-Array : goal.walk-returns-in-Array
-walk-returns-in-Array t c =
-    rw (c.in-Array.is, view-Array c.in-Array.items)
-    (of_array c.args.doubles (items_view c.in-Array.items.items) c.of_items.result c.of_items.ensures)
-
-pub of_object-returns-in-None : goal.of_object-returns-in-None
-of_object-returns-in-None t c =
-    of_document c.args.doubles (members_view c.args.members.now.entries) c.of_members.result
-    (sym c.first_wrapper.ensures.has ∙ ap is_some c.in-None.is) c.of_members.ensures
-
-pub of_wrapper-returns-in-Some-next-2 : goal.of_wrapper-returns-in-Some-next-2
-of_wrapper-returns-in-Some-next-2 t c =
-    let third = c.in-Some-next-2 in
-    let three : c.args.members.now.entries
-    ≡ (c.in-Some.key.now, c.in-Some.value.now) ∷ (c.in-Some-next.other.now, c.in-Some-next.scope.now) ∷
-    (third._third.now, third._held.now) ∷ c.next-3.new.self = grind arith in
-    at_once c.here.result c.here.ensures.reason c.here.ensures.way
-    (more_found c.args.doubles _ _ _ _ _ three c.requires)
-
-pub of_wrapper-returns-then-not-is_code_with_scope : goal.of_wrapper-returns-then-not-is_code_with_scope
-of_wrapper-returns-then-not-is_code_with_scope t c =
-    let two : c.args.members.now.entries
-    ≡ (c.in-Some.key.now, c.in-Some.value.now) ∷
-    (c.in-Some-next.other.now, c.in-Some-next.scope.now) ∷ [] = grind arith in
+pub read_wrapped-returns-then-not-is_code_with_scope : goal.read_wrapped-returns-then-not-is_code_with_scope
+read_wrapped-returns-then-not-is_code_with_scope g t c =
+    let none : length c.pop_first-2.new.self.entries ≡ 0 = c.is_empty.ensures.0 c.if-not-is_empty.false in
+    let two = two_entries c.args.members.entries _ _ (c.in-Some.key, c.in-Some.value)
+    (c.in-Some-pop_first.other, c.in-Some-pop_first.scope) c.in-Some.ensures.removal
+    c.in-Some-pop_first.ensures.removal none in
     let found = c.here-then-not-is_code_with_scope in
     at_once found.result found.ensures.reason found.ensures.way
     (subst (λ es. FaultAtIn c.args.doubles wrong_shape (object (members_view es)) []) (sym two)
-    (not_code c.args.doubles (string_bytes c.in-Some.key.now) (view c.in-Some.value.now)
-    (string_bytes c.in-Some-next.other.now) (view c.in-Some-next.scope.now)
+    (not_code c.args.doubles (string_bytes c.in-Some.key) (view c.in-Some.value)
+    (string_bytes c.in-Some-pop_first.other) (view c.in-Some-pop_first.scope)
     (subst (λ es. has_wrapper (members_view es) ≡ true) two c.requires)
-    (rw (sym c.as_str-2.ensures.value, sym c.as_str-3.ensures.value) (sym c.is_code_with_scope.ensures
+    (rw (sym c.as_str.ensures.value, sym c.as_str-2.ensures.value) (sym c.is_code_with_scope.ensures
     ∙ c.if-not-is_code_with_scope.true))))
 
-pub of_wrapper-returns : goal.of_wrapper-returns
-of_wrapper-returns t c =
-    let two : c.args.members.now.entries
-    ≡ (c.in-Some.key.now, c.in-Some.value.now) ∷
-    (c.in-Some-next.other.now, c.in-Some-next.scope.now) ∷ [] = grind arith in
+pub read_wrapped-returns : goal.read_wrapped-returns
+read_wrapped-returns g t c =
+    let none : length c.pop_first-2.new.self.entries ≡ 0 = c.is_empty.ensures.0 c.if-not-is_empty.false in
+    let two = two_entries c.args.members.entries _ _ (c.in-Some.key, c.in-Some.value)
+    (c.in-Some-pop_first.other, c.in-Some-pop_first.scope) c.in-Some.ensures.removal
+    c.in-Some-pop_first.ensures.removal none in
     let keys = and_parts _ _ (sym c.is_code_with_scope.ensures ∙ c.if-not-is_code_with_scope.false) in
-    let at_code : string_bytes c.in-Some.key.now ≡ codes "$code" =
-    sym c.as_str-2.ensures.value ∙ (bytes_eq-Decides _ _).0 keys.0 in
-    let at_scope : string_bytes c.in-Some-next.other.now ≡ codes "$scope" =
-    sym c.as_str-3.ensures.value ∙ (bytes_eq-Decides _ _).0 keys.1 in
-    let seen : members_view c.args.members.now.entries
-    ≡ Coded (view c.in-Some.value.now) (view c.in-Some-next.scope.now) =
+    let at_code : string_bytes c.in-Some.key ≡ codes "$code" =
+    sym c.as_str.ensures.value ∙ (bytes_eq-Decides _ _).0 keys.0 in
+    let at_scope : string_bytes c.in-Some-pop_first.other ≡ codes "$scope" =
+    sym c.as_str-2.ensures.value ∙ (bytes_eq-Decides _ _).0 keys.1 in
+    let seen : members_view c.args.members.entries
+    ≡ Coded (view c.in-Some.value) (view c.in-Some-pop_first.scope) =
     ap members_view two ∙ rw (at_code, at_scope) refl in
-    subst (λ ms. IfOk c.of_code.result
-    (λ found. MatchOption found (HasValueIn c.args.doubles (object ms))
-    (IsPlace (λ f. FaultAtIn c.args.doubles f (object ms)))))
+    subst (λ ms. IfOk c.read_code.result
+    (Builds g.B.ValueBuilder.built (reads_in c.args.doubles (object ms)) (λ f. FaultAtIn c.args.doubles f (object ms))))
     (sym seen)
-    c.of_code.ensures
+    c.read_code.ensures

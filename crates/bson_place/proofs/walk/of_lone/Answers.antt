@@ -1,20 +1,16 @@
-use Rattle.std.proofs.Common.{sym, ap, ◌∙◌}
+use Rattle.std.proofs.Common.{string_bytes, sym, ap, ◌∙◌}
 use Rattle.serde_json.specs.View.{view}
-use Rattle.bson_scalar.specs.View.{scalar_view}
 use Rattle.bson_scalar.specs.Reading.{single_at_in}
 use Rattle.bson_scalar.specs.Table.{wrapper_of}
-use Rattle.bson_place.proofs.Steps.{lone_value, lone_place}
+use Rattle.bson_place.proofs.Steps.{lone_place}
 use Rattle.bson_place.proofs.walk.of_lone.Goals as goal
 
-pub returns-in-Ok : goal.returns-in-Ok
-returns-in-Ok c =
-    lone_value c.args.doubles c.args.key.now (view c.args.value.now) (scalar_view c.in-Ok.field-0) c.requires
-    (ap (single_at_in c.args.doubles (wrapper_of c.args.key.now)) (sym c.in_ok-clone.ensures.cases) ∙ c.in-Ok.ensures)
-
-pub returns : goal.returns
-returns c =
+pub returns-in_ok-at_key-in-Err : goal.returns-in_ok-at_key-in-Err
+returns-in_ok-at_key-in-Err g c =
+    let D = c.args.doubles in
+    let found = c.in_ok-at_key-in-Err in
     let is = c.in_ok-reason_of-in-Err.ensures
-    (single_at_in c.args.doubles (wrapper_of c.args.key.now) (view c.in_ok-clone.field-0)) c.in-Err.ensures in
-    lone_place c.args.doubles c.args.key.now (view c.args.value.now) is.0 _ c.at_key.result c.requires
-    (ap (single_at_in c.args.doubles (wrapper_of c.args.key.now)) (sym c.in_ok-clone.ensures.cases) ∙ is.1) is.2
-    c.at_key.ensures
+    (single_at_in D (wrapper_of c.as_str.result.now) (view c.args.value)) c.in-Err.ensures in
+    lone_place D (string_bytes c.args.key) (view c.args.value) is.0 _ found.field-0 c.requires
+    (ap (λ k. single_at_in D (wrapper_of k) (view c.args.value)) (sym c.as_str.ensures.value) ∙ is.1) is.2
+    found.ensures.0 found.ensures.1

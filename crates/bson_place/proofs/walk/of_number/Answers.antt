@@ -1,14 +1,10 @@
 use Rattle.serde_json.specs.View.{number_view}
 use Rattle.bson_scalar.specs.Reading.{number_read_in}
-use Rattle.bson_scalar.specs.View.{scalar_view}
-use Rattle.bson_place.proofs.Steps.{number_value, number_place}
+use Rattle.bson_place.proofs.Steps.{number_place}
 use Rattle.bson_place.proofs.walk.of_number.Goals as goal
 
-pub returns-in-Ok : goal.returns-in-Ok
-returns-in-Ok c = number_value c.args.doubles (number_view c.args.n.now) (scalar_view c.in-Ok.field-0) c.in-Ok.ensures
-
-pub returns : goal.returns
-returns c =
+pub returns-in_ok-reason_of-in-Err : goal.returns-in_ok-reason_of-in-Err
+returns-in_ok-reason_of-in-Err g c =
     let n = number_view c.args.n.now in
     let is = c.in_ok-reason_of-in-Err.ensures (number_read_in c.args.doubles n) c.in-Err.ensures in
     number_place c.args.doubles n is.0 _ c.at.result is.1 is.2 c.at.ensures.way c.at.ensures.reason

@@ -7,10 +7,10 @@ use Rattle.bson_tokens.specs.Told.{Tells}
 use Rattle.bson_tokens.proofs.Verdicts.{tells_place}
 use Rattle.bson_tokens.proofs.walk.of_number.Goals as goal
 
-pub returns-in_ok-place_of_fault_in-in-Some-clause-ok : goal.returns-in_ok-place_of_fault_in-in-Some-clause-ok
-returns-in_ok-place_of_fault_in-in-Some-clause-ok c =
+pub returns-in_ok-first_place-in-Some-clause-ok : goal.returns-in_ok-first_place-in-Some-clause-ok
+returns-in_ok-first_place-in-Some-clause-ok c =
     let n = c.in-Some.n in
-    let found_place = c.in_ok-place_of_fault_in-in-Some in (
+    let found_place = c.in_ok-first_place-in-Some in (
       number_view n,
       sym c.number.ensures ∙ ap (option_map number_view) c.in-Some.is,
       subst (λ d. Tells (found c.args.doubles d) found_place.field-0) (view_number n)

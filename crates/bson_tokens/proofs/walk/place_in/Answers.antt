@@ -11,5 +11,5 @@ use Rattle.bson_tokens.proofs.walk.place_in.Goals as goal
 pub returns : goal.returns
 returns c =
     let t = view (Object c.args.members) in
-    subst (λ d. IfOk c.place_of_fault_in.result (Tells (found c.args.doubles d))) (view-Object c.args.members)
-    (if_ok c.place_of_fault_in.result c.place_of_fault_in.ensures (λ p is. tells_place c.args.doubles t p is))
+    subst (λ d. IfOk c.first_place.result (Tells (found c.args.doubles d))) (view-Object c.args.members)
+    (if_ok c.first_place.result c.first_place.ensures (λ p is. tells_place c.args.doubles t p is))

@@ -1,0 +1,9 @@
+use Rattle.serde_json.specs.View.{view}
+use Rattle.bson_place.proofs.Agrees.{first_at}
+use Rattle.bson_place.proofs.Steps.{placed_in}
+use Rattle.bson_place.proofs.walk.first_place.Goals as goal
+
+pub returns-in-Err : goal.returns-in-Err
+returns-in-Err c =
+    first_at c.args.doubles (view c.args.tree) c.in-Err.place
+    (placed_in _ _ _ c.in_ok-read_tree.field-0 c.in-Err.place c.in-Err.is c.in_ok-read_tree.ensures)
