@@ -14,7 +14,7 @@ use Rattle.bson_model.specs.Feed.{feed, items_words, pairs_words, items_count, p
 use Rattle.bson_model.specs.Sorted.{sorted, sorted_items, sorted_pairs, put_pair}
 use Rattle.bson.specs.View.{bson_view, values_view, pairs_of, pairs_view}
 use Rattle.bson.specs.declared.bson.Bson.{Bson}
-use Rattle.bson.proofs.Onto.{Entry}
+use Rattle.bson.proofs.Seen.{Entry}
 
 abbrev pub sorted_views : List Entry → List (List ℕ × Value)
 sorted_views es = map (λ e. (e.0, sorted (bson_view e.1))) es

@@ -7,13 +7,30 @@ use Rattle.bson_scalar.specs.declared.form.Doubles.{Doubles}
 use Rattle.bson_model.specs.Reading.{reads_in, reads_items_in}
 use Rattle.bson_model.specs.Value as model
 use Rattle.bson_model.specs.Value.{Value, Values}
-use Rattle.bson.proofs.Onto.{onto_values, onto_values-snoc, onto_values-ok, onto_values-err}
 use Rattle.bson.specs.ByOrder.{reads_by, reads_items_by}
 use Rattle.bson_order.specs.Reading.{reads_in_order, items_in_order}
 use Rattle.bson.specs.declared.extjson.key_order.KeyOrder.{KeyOrder}
 use Rattle.bson.specs.declared.extjson.key_order.KeyOrder.TheVariants.{Ascending, AsGiven}
 use Rattle.bson.specs.Straight.{given}
 use Rattle.bson.specs.View.{values_of}
+
+-- those that were read, before what is read of the others
+abbrev pub onto_values : List Value → Result Values Fault → Result Values Fault
+onto_values [] r = r
+onto_values (x ∷ xs) r = onto_values xs r >>= λ vs. Ok (model.value x vs)
+
+onto_values-snoc : (xs : List Value) (x : Value) (r : Result Values Fault)
+    → onto_values (xs ++ x ∷ []) r ≡ onto_values xs (r >>= λ vs. Ok (model.value x vs))
+onto_values-snoc [] x r = refl
+onto_values-snoc (y ∷ xs) x r = ap (λ q. q >>= λ vs. Ok (model.value y vs)) (onto_values-snoc xs x r)
+
+onto_values-err : (xs : List Value) (e : Fault) → onto_values xs (Err e) ≡ Err e
+onto_values-err [] e = refl
+onto_values-err (y ∷ xs) e = ap (λ q. q >>= λ vs. Ok (model.value y vs)) (onto_values-err xs e)
+
+onto_values-ok : (xs : List Value) → onto_values xs (Ok model.no_values) ≡ Ok (values_of xs)
+onto_values-ok [] = refl
+onto_values-ok (y ∷ xs) = ap (λ q. q >>= λ vs. Ok (model.value y vs)) (onto_values-ok xs)
 
 some_read : (r : Result Value Fault) (v : Value) → given r ≡ Some v → r ≡ Ok v
 some_read (Ok w) v h = cc

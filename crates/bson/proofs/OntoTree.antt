@@ -15,7 +15,7 @@ use Rattle.bson_scalar.specs.declared.write_error.WriteError.{WriteError}
 use Rattle.bson_scalar.specs.declared.write_error.WriteError.TheVariants.{FiniteDouble, OutOfMemory}
 use Rattle.bson_model.proofs.Offered.{put_members_swap}
 use Rattle.bson.specs.View.{bson_view, pairs_view}
-use Rattle.bson.proofs.Onto.{Entry}
+use Rattle.bson.proofs.Seen.{Entry}
 
 -- ---- a list, from its front
 

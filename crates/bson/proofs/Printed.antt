@@ -30,7 +30,7 @@ use Rattle.bson.specs.View.{bson_view, pairs_view}
 use Rattle.bson.specs.declared.bson.Bson.{Bson}
 use Rattle.bson.specs.declared.extjson.key_order.KeyOrder.{KeyOrder}
 use Rattle.bson.specs.declared.extjson.key_order.KeyOrder.TheVariants.{Ascending, AsGiven}
-use Rattle.bson.proofs.Onto.{Entry}
+use Rattle.bson.proofs.Seen.{Entry}
 use Rattle.bson.proofs.OntoTree.{bind_same}
 
 -- ---- lists

@@ -10,7 +10,7 @@ use Rattle.bson.specs.Lines.{item_line, entry_line}
 use Rattle.bson.specs.View.{bson_view, values_view, pairs_view}
 use Rattle.bson.specs.declared.bson.Bson.{Bson}
 use Rattle.bson.proofs.Joined.{enclosed_all}
-use Rattle.bson.proofs.Onto.{Entry}
+use Rattle.bson.proofs.Seen.{Entry}
 
 abbrev pub item_text : Bson → List ℕ
 item_text v = display_text (bson_view v)

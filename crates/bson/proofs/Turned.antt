@@ -7,8 +7,8 @@ use Rattle.bson_store.specs.Pairs.{keys}
 use Rattle.bson_store.specs.Small as store
 use Rattle.bson_store.specs.Small.{stored_pairs}
 use Rattle.bson_model.specs.Sorted.{put_pair, IsLeast, KeysAscend}
-use Rattle.bson_model.specs.Turns.{put_each, pairs_of}
-use Rattle.bson_model.specs.Value.{Value, Pairs, no_pairs, pair}
+use Rattle.bson_model.specs.Turns.{pairs_of}
+use Rattle.bson_model.specs.Value.{Pairs, no_pairs, pair}
 use Rattle.bson_model.proofs.Offered.{put_ascending}
 use Rattle.bson.specs.Gathered.{Member, gathered_pairs, member_key, member_value, put_all}
 use Rattle.bson.proofs.PutAscends.{put_ascends}

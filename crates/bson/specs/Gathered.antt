@@ -1,7 +1,6 @@
 -- The members of an object as they come and by ascending key, and the place of one more. For private clauses.
-use Rattle.std.specs.Prelude.{◌≡◌, ℕ, zero, suc, ◌*◌, ◌%◌, ◌^◌, List, [], ◌∷◌, slice_index_or, String}
+use Rattle.std.specs.Prelude.{◌≡◌, ℕ, zero, suc, List, [], ◌∷◌, String}
 use Rattle.std.specs.Prelude.{string_bytes}
-use Rattle.std.specs.Int.Bits.{bit_or}
 use Rattle.std.specs.Cmp.Lexicographic.{slice_cmp}
 use Rattle.std.specs.Ordering.{nat_cmp}
 use Rattle.std.specs.declared.alloc.Global.{Global}

@@ -1,9 +1,11 @@
 //! MongoDB Extended JSON v2.
 //!
 //! In reading order: `options` (which doubles are read and written); `de` (the calls that read
-//! trees) over `read` and `scalars`; `ser` and `ordered` (the calls that write, with keys that
-//! ascend and in each document's own order) over `write` (trees) and `text` (texts, in either
-//! `key_order`); `text_reader` (values from texts) with `text_error`.
+//! trees) over `read` (by the walk of `bson_place`), `builder` (what is built as it walks) and
+//! `scalars`; `ser` and `ordered` (the calls that write, with keys that ascend and in each
+//! document's own order) over `write` (trees) and `text` (texts, in either `key_order`);
+//! `text_reader` (values from texts) with `text_error`.
+mod builder;
 pub mod de;
 mod key_order;
 mod options;

@@ -17,8 +17,9 @@ ghost use Rattle.bson_tokens.specs.declared.unread.Unread.TheVariants.{Broken};
 
 use crate::bson::Bson;
 use crate::document::Document;
+use crate::extjson::builder::with_scope;
 use crate::extjson::key_order::KeyOrder;
-use crate::extjson::read::{read, with_scope};
+use crate::extjson::read::read;
 use crate::extjson::text::finished;
 use crate::extjson::text_reader::gathered::{Gathered, NOTHING, document_of, none, put};
 use bson_scalar::error::Error;

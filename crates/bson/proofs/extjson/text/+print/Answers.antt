@@ -20,7 +20,7 @@ use Rattle.bson.specs.View.{bson_view, scoped_view, values_view, pairs_view}
 use Rattle.bson.specs.declared.bson.Bson.{Bson}
 use Rattle.bson.specs.declared.bson.Bson as bson_form
 use Rattle.bson.specs.declared.bson.JavaScriptCodeWithScope.{the_lemmas}
-use Rattle.bson.proofs.Onto.{Entry}
+use Rattle.bson.proofs.Seen.{Entry}
 use Rattle.bson.proofs.Printed.{EndsItems, EndsMembers, ordered_is, ranged_in, distinct_in, ends_more, stops_here}
 use Rattle.bson.proofs.Printed.{stops_more, ranged_more, distinct_more, scoped}
 use Rattle.bson.proofs.Sizes.{NoLarger, walk_larger, next_smaller, rest_larger}

@@ -10,10 +10,9 @@ use Rattle.bson.specs.View.{bson_view, values_view, pairs_view, document_view}
 use Rattle.bson_model.specs.Normal.{ItemsInRange, PairsInRange}
 use Rattle.bson_model.specs.Writing.{writes_items_in, writes_pairs_in}
 use Rattle.bson.specs.declared.bson.Bson.{Bson}
-use Rattle.bson.proofs.Onto.{Entry}
 use Rattle.bson.proofs.OntoTree.{onto_items, onto_members, onto_items-ok, items_stop, items_step, onto_members-start}
 use Rattle.bson.proofs.OntoTree.{members_step}
-use Rattle.bson.proofs.Seen.{document_view-pairs}
+use Rattle.bson.proofs.Seen.{Entry, document_view-pairs}
 use Rattle.bson.proofs.Stopped.{written_stopped}
 use Rattle.bson.proofs.extjson.write.+write.Goals as goal
 

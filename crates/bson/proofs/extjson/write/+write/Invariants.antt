@@ -4,7 +4,7 @@ use Rattle.serde_json.specs.View.{view, members_view}
 use Rattle.bson_model.specs.Normal.{ItemsInRange, PairsInRange}
 use Rattle.bson_model.specs.Writing.{writes_items_in, writes_pairs_in}
 use Rattle.bson.specs.View.{values_view, document_view, pairs_view}
-use Rattle.bson.proofs.Onto.{Entry}
+use Rattle.bson.proofs.Seen.{Entry}
 use Rattle.bson.proofs.OntoTree.{onto_items, onto_members}
 use Rattle.bson.proofs.extjson.write.+write.Given as goal
 

@@ -1,13 +1,8 @@
-use Rattle.std.proofs.Common.{◌≡◌, option_map, sym, ap, ◌∙◌, Some, rules}
+use Rattle.std.proofs.Common.{option_map, sym, ap, ◌∙◌, Some}
 use Rattle.bson_model.specs.Value as model
-use Rattle.bson.specs.View.{bson_view, document_view}
-use Rattle.bson.specs.declared.bson.Bson.{the_lemmas}
-use Rattle.bson.specs.declared.bson.Bson.TheVariants as bson
-use Rattle.bson.specs.declared.document.Document.{Document}
+use Rattle.bson.specs.View.{document_view}
+use Rattle.bson.proofs.Seen.{bson_view-Document}
 use Rattle.bson.proofs.extjson.text_reader.parts.document_value.Goals as goal
-
-bson_view-Document : (d : Document) → bson_view (bson.Document d) ≡ model.document (document_view d)
-bson_view-Document d = search (rules, the_lemmas)
 
 pub returns-in-Some : goal.returns-in-Some
 returns-in-Some c = ap Some (bson_view-Document c.in-Some.document)

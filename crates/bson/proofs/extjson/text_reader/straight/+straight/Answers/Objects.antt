@@ -9,26 +9,22 @@ use Rattle.serde_json.specs.Data.{no_members}
 use Rattle.bson_scalar.proofs.Offered.{on_ok}
 use Rattle.bson_model.specs.Value as model
 use Rattle.bson_model.specs.Value.{no_pairs}
-use Rattle.bson.specs.View.{bson_view, document_view}
+use Rattle.bson.specs.View.{bson_view}
 use Rattle.bson.specs.ByOrder.{default_members, insert_by, insert_pair_by, reads_by}
 use Rattle.bson.specs.Gathered.{gathered, order_of}
 use Rattle.bson.specs.Straight.{marked, unless_nothing}
 use Rattle.bson_tokens.specs.Keys.{is_wrapper, is_scope}
 use Rattle.bson.specs.declared.bson.Bson.{the_lemmas}
-use Rattle.bson.specs.declared.bson.Bson.TheVariants as bson
-use Rattle.bson.specs.declared.document.Document.{Document}
 use Rattle.bson.proofs.ByOrder.{by_default, none_passed, member_passed, one_gathered_by, all_gathered_by}
 use Rattle.bson.proofs.ByOrder.{no_more_members_by}
 use Rattle.bson.proofs.Gathering.{from_first, from_second}
 use Rattle.bson.proofs.Keys.{odd_refused}
 use Rattle.bson.proofs.Marks.{put_marked, reads_marked}
+use Rattle.bson.proofs.Seen.{bson_view-Document}
 use Rattle.bson_tokens.proofs.Offered.{if_ok, if_err, no_key, no_member, no_members_behind}
 use Rattle.bson.proofs.Wrapped.{none_by}
 use Rattle.bson.proofs.Held.{held_value, document_given, empty_given, first_found, found_more}
 use Rattle.bson.proofs.extjson.text_reader.straight.+straight.Goals as goal
-
-bson_view-Document : (d : Document) → bson_view (bson.Document d) ≡ model.document (document_view d)
-bson_view-Document d = search (rules, the_lemmas)
 
 -- ---- members
 

@@ -1,5 +1,5 @@
 -- Values, and lists of them.
-use Rattle.std.proofs.Common.{Vec, Global, ◌≡◌, [], ◌∷◌, map, true, false, Some, None}
+use Rattle.std.proofs.Common.{◌≡◌, [], ◌∷◌, map, true, false, Some, None}
 use Rattle.std.proofs.Common.{length, option_map, refl, sym, ap, ◌∙◌, subst, arith, rules}
 use Rattle.std.proofs.lemmas.List.{map-append}
 use Rattle.std.proofs.lemmas.Result.{err_from_is_err_and}
@@ -16,19 +16,17 @@ use Rattle.bson_model.specs.Reading.{scalar_value}
 use Rattle.bson_model.specs.Value as model
 use Rattle.bson.specs.ByOrder.{tree_by, default_tree}
 use Rattle.bson.specs.View.{bson_view, values_view}
-use Rattle.bson.specs.declared.bson.Bson.{Bson, the_lemmas}
+use Rattle.bson.specs.declared.bson.Bson.{the_lemmas}
 use Rattle.bson.specs.declared.bson.Bson.TheVariants as bson
 use Rattle.bson_tokens.proofs.Offered.{none_listed, one_listed}
 use Rattle.bson.proofs.ByOrder.{by_default, null_read, boolean_read, string_read, number_read, array_opened_by}
 use Rattle.bson.proofs.ByOrder.{object_opened_by, one_listed_by, all_listed_by}
 use Rattle.bson.proofs.Held.{null_given, boolean_given, text_given, number_given}
+use Rattle.bson.proofs.Seen.{bson_view-Array}
 use Rattle.bson.proofs.Listed.{Listed, one_more, none_more, list_given, list_not_given}
 use Rattle.bson_tokens.proofs.Offered.{array_opened, object_opened, if_ok, if_err, no_item, none_begins}
 use Rattle.bson_tokens.proofs.Offered.{too_deep_array, too_deep_object}
 use Rattle.bson.proofs.extjson.text_reader.straight.+straight.Goals as goal
-
-bson_view-Array : (v : Vec Bson Global) → bson_view (bson.Array v) ≡ model.array (values_view v.items)
-bson_view-Array v = search (rules, the_lemmas)
 
 -- ---- values
 

@@ -1,0 +1,35 @@
+-- What the walk answers, as a reader of values gives it.
+use Rattle.std.proofs.Common.{◌≡◌, List, Result, Ok, Err, sym, ap, ◌∙◌, subst}
+use Rattle.bson_scalar.specs.Faults.{Fault, Fails, IsIdFault}
+use Rattle.bson_scalar.specs.declared.error.Error.{Error}
+use Rattle.bson_scalar.specs.declared.error.Error.TheVariants.{InvalidObjectId, DeserializationError, OutOfMemory}
+use Rattle.bson_place.specs.Built.{Builds}
+use Rattle.bson_place.specs.Place.{Turn, IsReason, way_of}
+use Rattle.bson_place.specs.declared.place.Place.{Place}
+use Rattle.bson_place.specs.declared.place.Reason.{Reason}
+use Rattle.bson_place.specs.declared.place.Reason.TheVariants.{BadObjectId, WrongShape}
+use Rattle.bson.specs.Refused.{IsErrorOf}
+
+fails : {Y : Type 0} (read : Result Y Fault) (f : Fault) (reason : Reason) (e : Error) → IsErrorOf reason e
+    → IsReason f reason → read ≡ Err f → Fails e read
+fails read f (BadObjectId id) (InvalidObjectId d) is told h =
+    (told.0, h ∙ ap Err told.1, subst (IsIdFault told.0) (sym is) told.2)
+fails read f (BadObjectId id) (DeserializationError m) is told h = absurd is
+fails read f (BadObjectId id) OutOfMemory is told h = tt
+fails read f (WrongShape m) (InvalidObjectId d) is told h = absurd is
+fails read f (WrongShape m) (DeserializationError n) is told h = h ∙ ap Err told
+fails read f (WrongShape m) OutOfMemory is told h = tt
+
+-- what is built, each seen as what it stands for and in range
+module _ {X Y : Type 0} (see : X → Y) (InRange : X → Type 0) (read : Result Y Fault) (lies : Fault → List Turn → Type 0)
+    (answer : Result X Place) (h : Builds (λ x y. (see x ≡ y) × InRange x) read lies answer) where
+  pub value_given : (x : X) → answer ≡ Ok x → (read ≡ Ok (see x)) × InRange x
+  value_given x is =
+      let built = subst (Builds (λ x y. (see x ≡ y) × InRange x) read lies) is h in
+      (built.1 ∙ ap Ok (sym built.2.0), built.2.1)
+
+  pub fault_given : (place : Place) (e : Error) → answer ≡ Err place → IsErrorOf place.reason e
+      → ((f : Fault) (way : List Turn) → lies f way → read ≡ Err f) → Fails e read
+  fault_given place e is error to =
+      let at = subst (Builds (λ x y. (see x ≡ y) × InRange x) read lies) is h in
+      fails read at.fault place.reason e error at.reason (to at.fault (way_of place) at.way)

@@ -1,0 +1,18 @@
+use Rattle.std.proofs.Common.{◌≡◌, None, string_bytes, subst, sym}
+use Rattle.bson_model.specs.Value.{Pairs, get}
+use Rattle.bson.proofs.Built.{one_paired, lacks}
+use Rattle.bson.proofs.extjson.builder.BsonBuilderValueBuilder.put.Goals as goal
+use Rattle.bson.proofs.extjson.builder.BsonBuilderValueBuilder.put.Goals.{in-Ok, in-Err}
+
+pub push-requires : goal.push-requires
+push-requires c =
+    let k = string_bytes c.args.key in
+    lacks k c.args.pairs.now (subst (λ (ps : Pairs). get k ps ≡ None) (sym c.requires.1.0) c.requires.2)
+
+pub returns : goal.returns
+returns c = elim c.match-push.branch [
+  | in-Ok w ↦ rw w.result-is (λ ps v paired built.
+      one_paired c.push.new.self c.args.pairs.now (string_bytes c.args.key) c.args.value ps v w.in-Ok.ensures.ok paired
+      built)
+  | in-Err w ↦ rw w.result-is tt
+]

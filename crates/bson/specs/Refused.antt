@@ -1,0 +1,12 @@
+-- The error that tells why a tree was not read, for the reason at the place of its fault.
+use Rattle.std.specs.Prelude.{◌≡◌}
+use Rattle.bson_scalar.specs.declared.error.Error.{Error}
+use Rattle.bson_scalar.specs.declared.error.Error.TheVariants.{InvalidObjectId, DeserializationError}
+use Rattle.bson_place.specs.declared.place.Reason.{Reason}
+use Rattle.bson_place.specs.declared.place.Reason.TheVariants.{BadObjectId, WrongShape}
+
+-- the same fault of an object id's text, or the same message
+abbrev pub IsErrorOf : Reason → Error → Type 0
+IsErrorOf (BadObjectId id) (InvalidObjectId error) = error ≡ id
+IsErrorOf (WrongShape wanted) (DeserializationError message) = message ≡ wanted
+IsErrorOf reason error = ⊥

@@ -1,0 +1,73 @@
+//! A `Bson`, built from its parts as a tree is read.
+ghost use Rattle.std.specs.Prelude.{◌≡◌, string_bytes};
+ghost use Rattle.bson_model.specs.Value.{code_scope};
+ghost use Rattle.bson_model.specs.Normal.{InRange, ItemsInRange, PairsInRange};
+ghost use Rattle.bson.specs.View.{bson_view, document_view, pairs_view, values_view};
+
+use crate::bson::{Bson, JavaScriptCodeWithScope};
+use crate::document::Document;
+use crate::extjson::scalars::of_scalar;
+use bson_place::builder::ValueBuilder;
+use bson_scalar::scalar::Scalar;
+use bson_store::{PairStore, SmallPairs};
+use std::alloc::{AllocError, Global};
+
+/// Builds the `Bson` that stands for each value.
+pub(crate) struct BsonBuilder;
+
+impl ValueBuilder for BsonBuilder {
+    type Value = Bson;
+
+    type Items = Vec<Bson>;
+
+    type Pairs = SmallPairs<Bson>;
+
+    ghost built = { λ b v. (bson_view b ≡ v) × InRange (bson_view b) };
+
+    ghost listed = { λ items vs. (values_view items.items ≡ vs) × ItemsInRange (values_view items.items) };
+
+    ghost paired = { λ pairs ps. (pairs_view pairs ≡ ps) × PairsInRange (pairs_view pairs) };
+
+    fn scalar(value: Scalar) -> Bson {
+        of_scalar(value)
+    }
+
+    fn items(alloc: Global, len: usize) -> Result<Vec<Bson>, AllocError> {
+        Vec::with_capacity(alloc, len)
+    }
+
+    fn push(items: &mut Vec<Bson>, value: Bson) -> Result<(), AllocError> {
+        items.push(value)?;
+        Ok(())
+    }
+
+    fn array(items: Vec<Bson>) -> Bson {
+        Bson::Array(items)
+    }
+
+    fn pairs(alloc: Global, len: usize) -> Result<SmallPairs<Bson>, AllocError> {
+        SmallPairs::with_capacity(alloc, len)
+    }
+
+    fn put(pairs: &mut SmallPairs<Bson>, key: String, value: Bson) -> Result<(), AllocError> {
+        match pairs.push(key, value) {
+            Ok(()) => Ok(()),
+            Err(_) => Err(AllocError),
+        }
+    }
+
+    fn document(pairs: SmallPairs<Bson>) -> Bson {
+        Bson::Document(Document { pairs })
+    }
+
+    fn code(code: String, scope: SmallPairs<Bson>) -> Bson {
+        with_scope(code, Document { pairs: scope })
+    }
+}
+
+// Code with its scope.
+pub(crate) fn with_scope(code: String, scope: Document) -> Bson
+    ensures { bson_view result ≡ code_scope (string_bytes code) (document_view scope) }
+{
+    Bson::JavaScriptCodeWithScope(JavaScriptCodeWithScope { code, scope })
+}
