@@ -25,7 +25,6 @@ use Rattle.bson_model.specs.Writing.{writes}
 use Rattle.bson_model.specs.Written.{Written}
 pub use Rattle.bson_model.proofs.Binds.{bind_ok, fault_bind_ok, un_ok}
 pub use Rattle.bson_model.proofs.EachLaws.{as_read_each}
-pub use Rattle.bson_model.proofs.Members.{Member}
 pub use Rattle.bson_model.proofs.PutLaws.{put_swap}
 pub use Rattle.bson_model.proofs.PutMembers.{put_members_swap}
 pub use Rattle.bson_model.proofs.PutSwap.{equal_keys, flipped}
@@ -37,7 +36,6 @@ pub use Rattle.bson_model.proofs.TreeLaws.{ascends_put, trees_put}
 pub use Rattle.bson_model.proofs.Turns.{sorted_by, turned, put_last, put_ascending}
 use Rattle.bson_model.proofs.ComesBack as whole
 use Rattle.bson_model.proofs.MeansLaws as meaning
-use Rattle.bson_model.proofs.Members as member
 use Rattle.bson_model.proofs.RangeLaws as range
 use Rattle.bson_model.proofs.ReadBack as back
 use Rattle.bson_model.proofs.ReadForm as form
@@ -58,8 +56,6 @@ pub use Rattle.bson_model.proofs.ReadBack.{writable_from as writable_from_in, wr
 pub use Rattle.bson_model.proofs.ReadLaws.{value_read as value_read_in, document_read as document_read_in}
 pub use Rattle.bson_model.proofs.ReadLaws.{document_read_ascends as document_read_ascends_in}
 pub use Rattle.bson_model.proofs.WriteLaws.{canon_from as canon_from_in, writable_is as writable_is_in}
-pub use Rattle.bson_model.proofs.Members.{just_one as just_one_in, just_two as just_two_in}
-pub use Rattle.bson_model.proofs.Members.{more_than_two as more_than_two_in}
 
 -- those of the mode `Special`
 
@@ -127,16 +123,3 @@ canon_from = writing.canon_from Special
 pub writable_is : (f : Form) (v : Value) → is_ok (writes f v) ≡ writable v
 writable_is = writing.writable_is Special
 
-pub just_one : (es : List Member) (x : Member) (mid : List Member) (P : Type 0) → es ≡ x ∷ mid → (0 < length mid → P)
-    → (P → ⊥) → reads_wrapper (members_view es) ≡ scalar_value (single_at (wrapper_of (string_bytes x.0)) (view x.1))
-just_one = member.just_one Special
-
-pub just_two : (es : List Member) (x y : Member) (mid rest : List Member) → es ≡ x ∷ mid → mid ≡ y ∷ rest
-    → length rest ≡ 0
-    → reads_wrapper (members_view es) ≡ code_at (string_bytes x.0) (view x.1) (string_bytes y.0)
-    (reads_scope (view y.1))
-just_two = member.just_two Special
-
-pub more_than_two : (es : List Member) (x y : Member) (mid rest : List Member) → es ≡ x ∷ mid → mid ≡ y ∷ rest
-    → (length rest ≡ 0 → ⊥) → reads_wrapper (members_view es) ≡ Err wrong_shape
-more_than_two = member.more_than_two Special

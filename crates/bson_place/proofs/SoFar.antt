@@ -17,12 +17,11 @@ use Rattle.bson_scalar.specs.Faults.{Fault, ◌>>=◌}
 use Rattle.bson_scalar.specs.declared.form.Doubles.{Doubles}
 use Rattle.bson_model.specs.Reading.{reads_in, reads_items_in, reads_members_in}
 use Rattle.bson_model.specs.Value.{Value, Values, no_values, value, Pairs, no_pairs, pair, get}
-use Rattle.bson_model.proofs.Offered.{Member}
 use Rattle.bson_place.specs.declared.place.Place.{Place}
 use Rattle.bson_place.specs.Built.{then_value, then_pair, Builds}
 use Rattle.bson_place.specs.Place.{Turn, key, element, FaultAtIn, FaultAmongIn, FaultWithinIn, here, later, at_key}
 use Rattle.bson_place.specs.Place.{behind, IsPlace, way_of}
-use Rattle.bson_place.proofs.Steps.{built_in, carried, placed_in}
+use Rattle.bson_place.proofs.Steps.{Member, built_in, carried, placed_in}
 
 -- ---- the elements of a list
 

@@ -1,7 +1,7 @@
 -- Places of what a tree holds are places of the tree.
 use Rattle.std.proofs.Common.{◌≡◌, ℕ, List, [], ◌∷◌, ◌++◌, true, false, cond, Option, Some, None}
 use Rattle.std.proofs.Common.{ℤ, Result, Ok, Err, ◌&&◌, refl, sym, ap, subst, ◌∙◌}
-use Rattle.std.proofs.Common.{rules, length}
+use Rattle.std.proofs.Common.{rules, length, String, Global}
 use Rattle.std.specs.Prelude.{codes}
 use Rattle.std.specs.Str.{bytes_eq}
 use Rattle.std.proofs.lemmas.List.{nil_from_length}
@@ -10,7 +10,7 @@ use Rattle.serde_json.specs.Data as tree
 use Rattle.bson_scalar.specs.Faults.{Fault, wrong_shape, ◌>>=◌, or_wrong_shape}
 use Rattle.serde_json.specs.View.{view, number_view, members_view}
 use Rattle.serde_json.specs.declared.number.Number.{Number}
-use Rattle.serde_json.specs.declared.value.Value.{the_lemmas}
+use Rattle.serde_json.specs.declared.value.Value.{Value as Tree, the_lemmas}
 use Rattle.serde_json.specs.declared.value.Value.TheVariants as declared
 use Rattle.serde_json.specs.Find.{as_i64, as_str, as_object}
 use Rattle.bson_scalar.specs.Ints.{narrowest}
@@ -26,7 +26,6 @@ use Rattle.bson_model.specs.Reading.{scalar_value}
 use Rattle.bson_model.specs.Reading.{code_at, code_value, scope_value}
 use Rattle.bson_model.specs.Value.{Value, Values, value, Pairs, pair}
 use Rattle.bson_model.specs.Value as model
-use Rattle.bson_model.proofs.Offered.{Member}
 use Rattle.bson_place.specs.declared.place.Place.{Place}
 use Rattle.bson_place.specs.declared.place.Reason.{Reason}
 use Rattle.bson_place.specs.Place.{Turn, key, way_of, FaultAtIn, FaultAmongIn, FaultWithinIn, number}
@@ -34,6 +33,10 @@ use Rattle.bson_place.specs.Place.{array}
 use Rattle.bson_place.specs.Place.{document, wrapper, scope, shape, HasValueIn, IsReason, IsPlace}
 use Rattle.bson_place.specs.Place.{IsOpen, code_with_scope}
 use Rattle.bson_place.specs.Built.{Builds}
+
+-- what a map has
+abbrev pub Member : Type 0
+Member = String Global × Tree
 
 -- ---- what a value stands for
 
