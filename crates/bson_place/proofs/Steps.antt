@@ -1,11 +1,10 @@
 -- Places of what a tree holds are places of the tree.
 use Rattle.std.proofs.Common.{◌≡◌, ℕ, List, [], ◌∷◌, ◌++◌, true, false, cond, Option, Some, None}
-use Rattle.std.proofs.Common.{ℤ, Result, Ok, Err, ◌&&◌, refl, sym, ap, subst, ◌∙◌}
-use Rattle.std.proofs.Common.{rules, length}
+use Rattle.std.proofs.Common.{ℤ, Result, Ok, Err, ◌&&◌, refl, sym, ap, subst, ◌∙◌, rules, length}
 use Rattle.std.specs.Prelude.{codes}
 use Rattle.std.specs.Str.{bytes_eq}
 use Rattle.std.proofs.lemmas.List.{nil_from_length}
-use Rattle.serde_json.specs.Data.{Data, Num, Items, item, Members, no_members, member}
+use Rattle.serde_json.specs.Data.{Data, Num, Items, Members, no_members, member}
 use Rattle.serde_json.specs.Data as tree
 use Rattle.bson_scalar.specs.Faults.{Fault, wrong_shape, ◌>>=◌, or_wrong_shape}
 use Rattle.serde_json.specs.View.{view, number_view, members_view}
@@ -22,17 +21,15 @@ use Rattle.bson_scalar.specs.Table.{wrapper_of, has_wrapper}
 use Rattle.bson_scalar.specs.declared.form.Doubles.{Doubles}
 use Rattle.bson_scalar.specs.declared.form.Doubles.TheVariants.{Special, Finite}
 use Rattle.bson_model.specs.Reading.{reads_in, reads_items_in, reads_members_in, reads_wrapper_in, reads_scope_in}
-use Rattle.bson_model.specs.Reading.{scalar_value}
-use Rattle.bson_model.specs.Reading.{code_at, code_value, scope_value}
-use Rattle.bson_model.specs.Value.{Value, Values, value, Pairs, pair}
+use Rattle.bson_model.specs.Reading.{scalar_value, code_at, code_value, scope_value}
+use Rattle.bson_model.specs.Value.{Values, Pairs}
 use Rattle.bson_model.specs.Value as model
 use Rattle.bson_model.proofs.Offered.{Member}
 use Rattle.bson_place.specs.declared.place.Place.{Place}
 use Rattle.bson_place.specs.declared.place.Reason.{Reason}
 use Rattle.bson_place.specs.Place.{Turn, key, way_of, FaultAtIn, FaultAmongIn, FaultWithinIn, number}
-use Rattle.bson_place.specs.Place.{array}
-use Rattle.bson_place.specs.Place.{document, wrapper, scope, shape, HasValueIn, IsReason, IsPlace}
-use Rattle.bson_place.specs.Place.{IsOpen, code_with_scope}
+use Rattle.bson_place.specs.Place.{array, document, wrapper, scope, shape, HasValueIn, IsReason, IsPlace, IsOpen}
+use Rattle.bson_place.specs.Place.{code_with_scope}
 use Rattle.bson_place.specs.Built.{Builds}
 
 -- ---- what a value stands for
