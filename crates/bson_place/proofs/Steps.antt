@@ -253,12 +253,13 @@ module _ (D : Doubles) where
       at_once p reason way
       (scope_way (tree.string s) e s refl wrong_shape [] (no_scope e (no_object e none) bad))
 
-  pub scope_place : {X : Type 0} (paired : X → Pairs → Type 0) (s : List ℕ) (ms : Members) (r : Result X Place)
+  pub scope_place : {X : Type 0} (paired : X → Pairs → Type 0) (s k : List ℕ) (ms : Members) (r : Result X Place)
       (p q : Place) → r ≡ Err p → Builds paired (reads_members_in D ms) (λ f. FaultWithinIn D f ms) r
-      → way_of q ≡ way_of p ++ key (codes "$scope") ∷ [] → q.reason ≡ p.reason
+      → k ≡ codes "$scope" → way_of q ≡ way_of p ++ key k ∷ [] → q.reason ≡ p.reason
       → IsPlace (λ f. FaultAtIn D f (tree.object (Coded (tree.string s) (tree.object ms)))) q
-  scope_place paired s ms r p q is h way reason =
-      carried p q (key (codes "$scope")) (λ f w m. scope s ms m) way reason
+  scope_place paired s k ms r p q is h at_scope way reason =
+      carried p q (key (codes "$scope")) (λ f w m. scope s ms m)
+      (way ∙ ap (λ l. way_of p ++ key l ∷ []) at_scope) reason
       (placed_in paired (reads_members_in D ms) (λ f. FaultWithinIn D f ms) r p is h)
 
   pub scope_of_map : (ms : Members) → HasPairs D ms → HasScopeIn D (tree.object ms)
