@@ -17,9 +17,7 @@ use Rattle.bson_model.specs.Fault.{MeansNothingIn}
 use Rattle.bson_model.specs.Value as model
 use Rattle.bson_model.proofs.Offered.{means_from_in}
 use Rattle.bson_place.specs.Place.{Turn, key, element, FaultAtIn, FaultAmongIn, FaultWithinIn, HasValueIn}
-use Rattle.bson_place.specs.Place.{array}
-use Rattle.bson_place.specs.Place.{document}
-use Rattle.bson_place.specs.Place.{wrapper, shape, here, later, at_key, behind}
+use Rattle.bson_place.specs.Place.{array, document, wrapper, shape, here, later, at_key, behind}
 use Rattle.bson_place.proofs.Steps.{HasItems, HasPairs, Coded, number_value, no_number, array_value, document_value}
 use Rattle.bson_place.proofs.Steps.{wrapped, lone_value, not_code, not_text, value_of_code, scope_way, scope_of_map}
 use Rattle.bson_place.proofs.Steps.{never, HasScopeIn, IsScopeFaultIn, in_scope, no_scope}

@@ -1,11 +1,10 @@
 -- Places of what a tree holds are places of the tree.
 use Rattle.std.proofs.Common.{◌≡◌, ℕ, List, [], ◌∷◌, ◌++◌, true, false, cond, Option, Some, None}
-use Rattle.std.proofs.Common.{ℤ, Result, Ok, Err, ◌&&◌, refl, sym, ap, subst, ◌∙◌}
-use Rattle.std.proofs.Common.{rules, length, String, Global}
+use Rattle.std.proofs.Common.{ℤ, Result, Ok, Err, ◌&&◌, refl, sym, ap, subst, ◌∙◌, rules, length, String, Global}
 use Rattle.std.specs.Prelude.{codes}
 use Rattle.std.specs.Str.{bytes_eq}
 use Rattle.std.proofs.lemmas.List.{nil_from_length}
-use Rattle.serde_json.specs.Data.{Data, Num, Items, item, Members, no_members, member}
+use Rattle.serde_json.specs.Data.{Data, Num, Items, Members, no_members, member}
 use Rattle.serde_json.specs.Data as tree
 use Rattle.bson_scalar.specs.Faults.{Fault, wrong_shape, ◌>>=◌, or_wrong_shape}
 use Rattle.serde_json.specs.View.{view, number_view, members_view}
@@ -22,16 +21,14 @@ use Rattle.bson_scalar.specs.Table.{wrapper_of, has_wrapper}
 use Rattle.bson_scalar.specs.declared.form.Doubles.{Doubles}
 use Rattle.bson_scalar.specs.declared.form.Doubles.TheVariants.{Special, Finite}
 use Rattle.bson_model.specs.Reading.{reads_in, reads_items_in, reads_members_in, reads_wrapper_in, reads_scope_in}
-use Rattle.bson_model.specs.Reading.{scalar_value}
-use Rattle.bson_model.specs.Reading.{code_at, code_value, scope_value}
-use Rattle.bson_model.specs.Value.{Value, Values, value, Pairs, pair}
+use Rattle.bson_model.specs.Reading.{scalar_value, code_at, code_value, scope_value}
+use Rattle.bson_model.specs.Value.{Values, Pairs}
 use Rattle.bson_model.specs.Value as model
 use Rattle.bson_place.specs.declared.place.Place.{Place}
 use Rattle.bson_place.specs.declared.place.Reason.{Reason}
 use Rattle.bson_place.specs.Place.{Turn, key, way_of, FaultAtIn, FaultAmongIn, FaultWithinIn, number}
-use Rattle.bson_place.specs.Place.{array}
-use Rattle.bson_place.specs.Place.{document, wrapper, scope, shape, HasValueIn, IsReason, IsPlace}
-use Rattle.bson_place.specs.Place.{IsOpen, code_with_scope}
+use Rattle.bson_place.specs.Place.{array, document, wrapper, scope, shape, HasValueIn, IsReason, IsPlace, IsOpen}
+use Rattle.bson_place.specs.Place.{code_with_scope}
 use Rattle.bson_place.specs.Built.{Builds}
 
 -- what a map has
@@ -259,12 +256,13 @@ module _ (D : Doubles) where
       at_once p reason way
       (scope_way (tree.string s) e s refl wrong_shape [] (no_scope e (no_object e none) bad))
 
-  pub scope_place : {X : Type 0} (paired : X → Pairs → Type 0) (s : List ℕ) (ms : Members) (r : Result X Place)
+  pub scope_place : {X : Type 0} (paired : X → Pairs → Type 0) (s k : List ℕ) (ms : Members) (r : Result X Place)
       (p q : Place) → r ≡ Err p → Builds paired (reads_members_in D ms) (λ f. FaultWithinIn D f ms) r
-      → way_of q ≡ way_of p ++ key (codes "$scope") ∷ [] → q.reason ≡ p.reason
+      → k ≡ codes "$scope" → way_of q ≡ way_of p ++ key k ∷ [] → q.reason ≡ p.reason
       → IsPlace (λ f. FaultAtIn D f (tree.object (Coded (tree.string s) (tree.object ms)))) q
-  scope_place paired s ms r p q is h way reason =
-      carried p q (key (codes "$scope")) (λ f w m. scope s ms m) way reason
+  scope_place paired s k ms r p q is h at_scope way reason =
+      carried p q (key (codes "$scope")) (λ f w m. scope s ms m)
+      (way ∙ ap (λ l. way_of p ++ key l ∷ []) at_scope) reason
       (placed_in paired (reads_members_in D ms) (λ f. FaultWithinIn D f ms) r p is h)
 
   pub scope_of_map : (ms : Members) → HasPairs D ms → HasScopeIn D (tree.object ms)

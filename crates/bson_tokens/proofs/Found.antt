@@ -19,8 +19,7 @@ use Rattle.bson_place.specs.Place.{array, document}
 use Rattle.bson_place.specs.Place.{wrapper, shape, here as at_element, later, at_key, behind}
 use Rattle.bson_place.proofs.Offered.{HasScopeIn, IsScopeFaultIn, in_scope, no_scope}
 use Rattle.bson_place.proofs.Offered.{HasItems, HasPairs, Coded, number_value, no_number, array_value, document_value}
-use Rattle.bson_place.proofs.Offered.{wrapped}
-use Rattle.bson_place.proofs.Offered.{lone_value, not_code, not_text, value_of_code, scope_way, scope_of_map, never}
+use Rattle.bson_place.proofs.Offered.{wrapped, lone_value, not_code, not_text, value_of_code, scope_way, scope_of_map, never}
 use Rattle.bson_tokens.specs.Found.{Verdict, found, found_items, found_members, found_wrapper, found_scope, or, within}
 use Rattle.bson_tokens.specs.Found.{here, of_scalar, of_code}
 

@@ -1,5 +1,5 @@
-use Rattle.std.proofs.Common.{◌≡◌, ◌∷◌, [], ◌++◌, length, refl, sym, ap, ◌∙◌, subst, string_bytes}
-use Rattle.std.proofs.Common.{codes, arith, rules}
+use Rattle.std.proofs.Common.{◌≡◌, [], length, refl, sym, ap, ◌∙◌, subst, string_bytes, codes, arith}
+use Rattle.std.proofs.Common.{rules}
 use Rattle.std.specs.Prelude.{is_some, true, IfOk}
 use Rattle.std.specs.Vec.Iter.{into_iter_items}
 use Rattle.std.proofs.lemmas.Bool.{and_parts, false≢true}
@@ -12,7 +12,7 @@ use Rattle.bson_scalar.specs.Faults.{wrong_shape}
 use Rattle.bson_scalar.specs.Table.{has_wrapper}
 use Rattle.bson_model.specs.Reading.{reads_in}
 use Rattle.bson_place.specs.Built.{Builds}
-use Rattle.bson_place.specs.Place.{FaultAtIn, key, way_of}
+use Rattle.bson_place.specs.Place.{FaultAtIn}
 use Rattle.bson_place.proofs.SoFar.{items_begun, items_more, items_stopped, items_ended}
 use Rattle.bson_place.proofs.SoFar.{pairs_begun, pairs_fresh, pairs_more, pairs_stopped, pairs_ended}
 use Rattle.bson_place.proofs.Steps.{array_place, document_place, scope_place, at_once, no_text_place}
@@ -131,10 +131,9 @@ read_scope-returns g t c =
 pub read_scope_map-returns-in_ok-inside-in-Err : goal.read_scope_map-returns-in_ok-inside-in-Err
 read_scope_map-returns-in_ok-inside-in-Err g t c =
     let found = c.in_ok-inside-in-Err in
-    scope_place c.args.doubles g.B.ValueBuilder.paired (string_bytes c.args.code) (members_view c.args.members.entries)
-    c.in_ok-scope.field-0 c.in-Err.place found.field-0 c.in-Err.is c.in_ok-scope.ensures
-    (found.ensures.way ∙ ap (λ k. way_of c.in-Err.place ++ key k ∷ []) c.in_ok-key-in-Err.ensures.ok)
-    found.ensures.reason
+    scope_place c.args.doubles g.B.ValueBuilder.paired (string_bytes c.args.code) (string_bytes c.in_ok-key-in-Err.key)
+    (members_view c.args.members.entries) c.in_ok-scope.field-0 c.in-Err.place found.field-0 c.in-Err.is
+    c.in_ok-scope.ensures c.in_ok-key-in-Err.ensures.ok found.ensures.way found.ensures.reason
 
 pub read_wrapped-returns-then-not-is_empty : goal.read_wrapped-returns-then-not-is_empty
 read_wrapped-returns-then-not-is_empty g t c =
