@@ -1,9 +1,12 @@
 -- Places of what a tree holds are places of the tree.
-use Rattle.std.proofs.Common.{◌≡◌, ℕ, List, [], ◌∷◌, ◌++◌, true, false, cond, Option, Some, None}
-use Rattle.std.proofs.Common.{ℤ, Result, Ok, Err, ◌&&◌, refl, sym, ap, subst, ◌∙◌, rules, length, String, Global}
+use Rattle.std.proofs.Common.{◌≡◌, ℕ, List, [], ◌∷◌, ◌++◌, Bool, true, false, cond, Option, Some, None}
+use Rattle.std.proofs.Common.{ℤ, Result, Ok, Err, ◌&&◌, refl, sym, ap, subst, ◌∙◌, rules, length, string_bytes}
+use Rattle.std.proofs.Common.{String, Global}
 use Rattle.std.specs.Prelude.{codes}
 use Rattle.std.specs.Str.{bytes_eq}
+use Rattle.std.proofs.lemmas.Bool.{and_parts}
 use Rattle.std.proofs.lemmas.List.{nil_from_length}
+use Rattle.std.proofs.lemmas.Slice.Eq.{bytes_eq-Decides}
 use Rattle.serde_json.specs.Data.{Data, Num, Items, Members, no_members, member}
 use Rattle.serde_json.specs.Data as tree
 use Rattle.bson_scalar.specs.Faults.{Fault, wrong_shape, ◌>>=◌, or_wrong_shape}
@@ -136,10 +139,22 @@ no_object d none ms is = let some = sym (ap as_object is) ∙ none in cc
 pub never : {k l m : List ℕ} {c d e : Data} {ms : Members} → IsOpen (member k c (member l d (member m e ms))) → ⊥
 never is = elim is [ ]
 
-pub two_entries : {X : Type 0} (es mid rest : List X) (x y : X) → es ≡ x ∷ mid → mid ≡ y ∷ rest → length rest ≡ 0
+two_entries : {X : Type 0} (es mid rest : List X) (x y : X) → es ≡ x ∷ mid → mid ≡ y ∷ rest → length rest ≡ 0
     → es ≡ x ∷ y ∷ []
 two_entries es mid rest x y is next none =
     is ∙ ap (λ l. x ∷ l) (next ∙ ap (λ l. y ∷ l) (nil_from_length rest none))
+
+-- the keys are those of code and its scope
+abbrev pub has_code_keys : Member → Member → Bool
+has_code_keys x y = bytes_eq (string_bytes x.0) (codes "$code") && bytes_eq (string_bytes y.0) (codes "$scope")
+
+pub coded : (es mid rest : List Member) (x y : Member) → es ≡ x ∷ mid → mid ≡ y ∷ rest → length rest ≡ 0
+    → has_code_keys x y ≡ true → Coded (view x.1) (view y.1) ≡ members_view es
+coded es mid rest x y is next none keys =
+    let two = and_parts _ _ keys in
+    let at_code : codes "$code" ≡ string_bytes x.0 = sym ((bytes_eq-Decides _ _).0 two.0) in
+    let at_scope : codes "$scope" ≡ string_bytes y.0 = sym ((bytes_eq-Decides _ _).0 two.1) in
+    rw (at_code, at_scope) (ap members_view (sym (two_entries es mid rest x y is next none)))
 
 module _ (D : Doubles) where
   -- ---- values
@@ -278,10 +293,22 @@ module _ (D : Doubles) where
       let ms = members_view (x ∷ y ∷ z ∷ rest) in
       shape ms w (λ o. never o) (wrapped ms w)
 
-  pub more_found : (es : List Member) (x y : Member) (mid rest : List Member) → es ≡ x ∷ mid → mid ≡ y ∷ rest
-      → (length rest ≡ 0 → ⊥) → has_wrapper (members_view es) ≡ true
-      → FaultAtIn D wrong_shape (tree.object (members_view es)) []
-  more_found es x y mid rest is next some w =
+  pub more_place : (es mid rest : List Member) (x y : Member) (p : Place) → es ≡ x ∷ mid → mid ≡ y ∷ rest
+      → (length rest ≡ 0 → ⊥) → has_wrapper (members_view es) ≡ true → IsReason wrong_shape p.reason → way_of p ≡ []
+      → IsPlace (λ f. FaultAtIn D f (tree.object (members_view es))) p
+  more_place es mid rest x y p is next some w reason way =
       let all : es ≡ x ∷ y ∷ rest = is ∙ ap (λ l. x ∷ l) next in
-      subst (λ l. FaultAtIn D wrong_shape (tree.object (members_view l)) []) (sym all)
-      (more_cases x y rest some (subst (λ l. has_wrapper (members_view l) ≡ true) all w))
+      at_once p reason way
+      (subst (λ l. FaultAtIn D wrong_shape (tree.object (members_view l)) []) (sym all)
+      (more_cases x y rest some (subst (λ l. has_wrapper (members_view l) ≡ true) all w)))
+
+  -- two keys that are not those of code and its scope
+  pub other_place : (es mid rest : List Member) (x y : Member) (p : Place) → es ≡ x ∷ mid → mid ≡ y ∷ rest
+      → length rest ≡ 0 → has_wrapper (members_view es) ≡ true → has_code_keys x y ≡ false
+      → IsReason wrong_shape p.reason → way_of p ≡ [] → IsPlace (λ f. FaultAtIn D f (tree.object (members_view es))) p
+  other_place es mid rest x y p is next none w other reason way =
+      let two = two_entries es mid rest x y is next none in
+      at_once p reason way
+      (subst (λ l. FaultAtIn D wrong_shape (tree.object (members_view l)) []) (sym two)
+      (not_code (string_bytes x.0) (view x.1) (string_bytes y.0) (view y.1)
+      (subst (λ l. has_wrapper (members_view l) ≡ true) two w) other))

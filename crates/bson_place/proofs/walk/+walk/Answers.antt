@@ -1,22 +1,20 @@
-use Rattle.std.proofs.Common.{◌≡◌, [], length, refl, sym, ap, ◌∙◌, subst, string_bytes, codes, arith}
+use Rattle.std.proofs.Common.{◌≡◌, length, sym, ap, ◌∙◌, subst, string_bytes, arith}
 use Rattle.std.proofs.Common.{rules}
-use Rattle.std.specs.Prelude.{is_some, true, IfOk}
+use Rattle.std.specs.Prelude.{is_some, true, false, IfOk}
 use Rattle.std.specs.Vec.Iter.{into_iter_items}
-use Rattle.std.proofs.lemmas.Bool.{and_parts, false≢true}
+use Rattle.std.proofs.lemmas.Bool.{false≢true}
 use Rattle.std.proofs.lemmas.List.{nil_from_length}
-use Rattle.std.proofs.lemmas.Slice.Eq.{bytes_eq-Decides}
 use Rattle.serde_json.specs.Data.{object}
 use Rattle.serde_json.specs.View.{view, items_view, members_view}
 use Rattle.serde_json.specs.declared.value.Value.{the_lemmas}
-use Rattle.bson_scalar.specs.Faults.{wrong_shape}
-use Rattle.bson_scalar.specs.Table.{has_wrapper}
 use Rattle.bson_model.specs.Reading.{reads_in}
+use Rattle.bson_model.proofs.Offered.{Member}
 use Rattle.bson_place.specs.Built.{Builds}
 use Rattle.bson_place.specs.Place.{FaultAtIn}
 use Rattle.bson_place.proofs.SoFar.{items_begun, items_more, items_stopped, items_ended}
 use Rattle.bson_place.proofs.SoFar.{pairs_begun, pairs_fresh, pairs_more, pairs_stopped, pairs_ended}
-use Rattle.bson_place.proofs.Steps.{array_place, document_place, scope_place, at_once, no_text_place}
-use Rattle.bson_place.proofs.Steps.{not_code, bad_scope_place, more_found, two_entries, Coded}
+use Rattle.bson_place.proofs.Steps.{array_place, document_place, scope_place, no_text_place}
+use Rattle.bson_place.proofs.Steps.{bad_scope_place, coded, has_code_keys, more_place, other_place}
 use Rattle.bson_place.proofs.walk.+walk.Goals as goal
 
 -- ---- lists
@@ -137,43 +135,33 @@ read_scope_map-returns-in_ok-inside-in-Err g t c =
 
 pub read_wrapped-returns-then-not-is_empty : goal.read_wrapped-returns-then-not-is_empty
 read_wrapped-returns-then-not-is_empty g t c =
-    let some : length c.pop_first-2.new.self.entries ≡ 0 → ⊥ =
-    λ e. false≢true (sym c.if-not-is_empty.true ∙ c.is_empty.ensures.1 e) in
-    at_once c.here.result c.here.ensures.reason c.here.ensures.way
-    (more_found c.args.doubles _ (c.in-Some.key, c.in-Some.value)
-    (c.in-Some-pop_first.other, c.in-Some-pop_first.scope) _ _ c.in-Some.ensures.removal
-    c.in-Some-pop_first.ensures.removal some c.requires)
+    let rest = c.pop_first-2.new.self.entries in
+    let some : length rest ≡ 0 → ⊥ = λ e. false≢true (sym c.if-not-is_empty.true ∙ c.is_empty.ensures.1 e) in
+    more_place c.args.doubles c.args.members.entries c.pop_first.new.self.entries rest (c.in-Some.key, c.in-Some.value)
+    (c.in-Some-pop_first.other, c.in-Some-pop_first.scope) c.here.result c.in-Some.ensures.removal
+    c.in-Some-pop_first.ensures.removal some c.requires c.here.ensures.reason c.here.ensures.way
 
 pub read_wrapped-returns-then-not-is_code_with_scope : goal.read_wrapped-returns-then-not-is_code_with_scope
 read_wrapped-returns-then-not-is_code_with_scope g t c =
-    let none : length c.pop_first-2.new.self.entries ≡ 0 = c.is_empty.ensures.0 c.if-not-is_empty.false in
-    let two = two_entries c.args.members.entries _ _ (c.in-Some.key, c.in-Some.value)
-    (c.in-Some-pop_first.other, c.in-Some-pop_first.scope) c.in-Some.ensures.removal
-    c.in-Some-pop_first.ensures.removal none in
     let found = c.here-then-not-is_code_with_scope in
-    at_once found.result found.ensures.reason found.ensures.way
-    (subst (λ es. FaultAtIn c.args.doubles wrong_shape (object (members_view es)) []) (sym two)
-    (not_code c.args.doubles (string_bytes c.in-Some.key) (view c.in-Some.value)
-    (string_bytes c.in-Some-pop_first.other) (view c.in-Some-pop_first.scope)
-    (subst (λ es. has_wrapper (members_view es) ≡ true) two c.requires)
-    (rw (sym c.as_str.ensures.value, sym c.as_str-2.ensures.value) (sym c.is_code_with_scope.ensures
-    ∙ c.if-not-is_code_with_scope.true))))
+    let x : Member = (c.in-Some.key, c.in-Some.value) in
+    let y : Member = (c.in-Some-pop_first.other, c.in-Some-pop_first.scope) in
+    let other : has_code_keys x y ≡ false =
+    rw (sym c.as_str.ensures.value, sym c.as_str-2.ensures.value) (sym c.is_code_with_scope.ensures
+    ∙ c.if-not-is_code_with_scope.true) in
+    other_place c.args.doubles c.args.members.entries c.pop_first.new.self.entries c.pop_first-2.new.self.entries x y
+    found.result c.in-Some.ensures.removal c.in-Some-pop_first.ensures.removal
+    (c.is_empty.ensures.0 c.if-not-is_empty.false) c.requires other found.ensures.reason found.ensures.way
 
 pub read_wrapped-returns : goal.read_wrapped-returns
 read_wrapped-returns g t c =
-    let none : length c.pop_first-2.new.self.entries ≡ 0 = c.is_empty.ensures.0 c.if-not-is_empty.false in
-    let two = two_entries c.args.members.entries _ _ (c.in-Some.key, c.in-Some.value)
-    (c.in-Some-pop_first.other, c.in-Some-pop_first.scope) c.in-Some.ensures.removal
-    c.in-Some-pop_first.ensures.removal none in
-    let keys = and_parts _ _ (sym c.is_code_with_scope.ensures ∙ c.if-not-is_code_with_scope.false) in
-    let at_code : string_bytes c.in-Some.key ≡ codes "$code" =
-    sym c.as_str.ensures.value ∙ (bytes_eq-Decides _ _).0 keys.0 in
-    let at_scope : string_bytes c.in-Some-pop_first.other ≡ codes "$scope" =
-    sym c.as_str-2.ensures.value ∙ (bytes_eq-Decides _ _).0 keys.1 in
-    let seen : members_view c.args.members.entries
-    ≡ Coded (view c.in-Some.value) (view c.in-Some-pop_first.scope) =
-    ap members_view two ∙ rw (at_code, at_scope) refl in
+    let x : Member = (c.in-Some.key, c.in-Some.value) in
+    let y : Member = (c.in-Some-pop_first.other, c.in-Some-pop_first.scope) in
+    let keys : has_code_keys x y ≡ true =
+    rw (sym c.as_str.ensures.value, sym c.as_str-2.ensures.value) (sym c.is_code_with_scope.ensures
+    ∙ c.if-not-is_code_with_scope.false) in
     subst (λ ms. IfOk c.read_code.result
     (Builds g.B.ValueBuilder.built (reads_in c.args.doubles (object ms)) (λ f. FaultAtIn c.args.doubles f (object ms))))
-    (sym seen)
+    (coded c.args.members.entries c.pop_first.new.self.entries c.pop_first-2.new.self.entries x y
+    c.in-Some.ensures.removal c.in-Some-pop_first.ensures.removal (c.is_empty.ensures.0 c.if-not-is_empty.false) keys)
     c.read_code.ensures
