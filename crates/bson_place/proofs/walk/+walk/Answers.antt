@@ -8,11 +8,11 @@ use Rattle.serde_json.specs.Data.{object}
 use Rattle.serde_json.specs.View.{view, items_view, members_view}
 use Rattle.serde_json.specs.declared.value.Value.{the_lemmas}
 use Rattle.bson_model.specs.Reading.{reads_in}
-use Rattle.bson_model.proofs.Offered.{Member}
 use Rattle.bson_place.specs.Built.{Builds}
 use Rattle.bson_place.specs.Place.{FaultAtIn}
 use Rattle.bson_place.proofs.SoFar.{items_begun, items_more, items_stopped, items_ended}
 use Rattle.bson_place.proofs.SoFar.{pairs_begun, pairs_fresh, pairs_more, pairs_stopped, pairs_ended}
+use Rattle.bson_place.proofs.Steps.{Member}
 use Rattle.bson_place.proofs.Steps.{array_place, document_place, scope_place, no_text_place}
 use Rattle.bson_place.proofs.Steps.{bad_scope_place, coded, has_code_keys, more_place, other_place}
 use Rattle.bson_place.proofs.walk.+walk.Goals as goal
