@@ -1,11 +1,8 @@
 -- The laws that the crates above use. No other file of these proofs is cited from outside.
-use Rattle.std.proofs.Common.{◌≡◌, ◌<◌, List, ◌∷◌, length, true, false, string_bytes, Result, Ok, Err}
+use Rattle.std.proofs.Common.{◌≡◌, true, false, Result, Ok, Err}
 use Rattle.std.specs.Prelude.{IfOk, OnOk, is_ok}
 use Rattle.serde_json.specs.Data.{Data, Members}
-use Rattle.serde_json.specs.View.{view, members_view}
-use Rattle.bson_scalar.specs.Faults.{Gives, wrong_shape}
-use Rattle.bson_scalar.specs.Reading.{single_at}
-use Rattle.bson_scalar.specs.Table.{wrapper_of}
+use Rattle.bson_scalar.specs.Faults.{Gives}
 use Rattle.bson_scalar.specs.Written.{Writes}
 use Rattle.bson_scalar.specs.declared.error.Error.{Error}
 use Rattle.bson_scalar.specs.declared.form.Doubles.TheVariants.{Special}
@@ -16,7 +13,7 @@ use Rattle.bson_model.specs.Fault.{IsFaultOf, IsDocumentFault}
 use Rattle.bson_model.specs.Laws.{IsTreeOf, FormsAreIdempotent, HasMeaning, HasDocumentMeaning}
 use Rattle.bson_model.specs.Means.{Means, MeansDocument}
 use Rattle.bson_model.specs.Normal.{normal_form, plain, writable, InRange}
-use Rattle.bson_model.specs.Reading.{reads, reads_members, reads_wrapper, reads_scope, scalar_value, code_at}
+use Rattle.bson_model.specs.Reading.{reads, reads_members}
 use Rattle.bson_model.specs.Sorted.{KeysAscend}
 use Rattle.bson_model.specs.Texts.{Ascends, HasText, ComesBack, IsTree}
 use Rattle.bson_scalar.specs.Normal.{IsNormalOrNan}
@@ -122,4 +119,3 @@ canon_from = writing.canon_from Special
 
 pub writable_is : (f : Form) (v : Value) → is_ok (writes f v) ≡ writable v
 writable_is = writing.writable_is Special
-
