@@ -10,6 +10,12 @@ use bson_scalar::scalar::Scalar;
 use std::alloc::{AllocError, Global};
 
 /// Builds a value from its parts, each of which is built before what it is a part of.
+///
+/// ```
+/// let tree = Value::from_slice(alloc, br#"[1, {"n": 2}]"#)?;
+/// let read = read_tree::<Nothing>(alloc, Doubles::Special, tree)?;
+/// println!(rt; "{}", read.is_ok())?; // true
+/// ```
 pub trait ValueBuilder {
     /// A value.
     type Value: Drop;
@@ -64,6 +70,13 @@ pub trait ValueBuilder {
 }
 
 /// Builds nothing, where only the first fault is asked for.
+///
+/// ```
+/// let tree = Value::from_slice(alloc, br#"{"n": [1.5]}"#)?;
+/// if let Err(place) = read_tree::<Nothing>(alloc, Doubles::Special, tree)? {
+///     println!(rt; "{}", place.path(alloc)?)?; // n.0
+/// }
+/// ```
 pub struct Nothing;
 
 impl ValueBuilder for Nothing {

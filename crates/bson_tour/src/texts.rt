@@ -4,7 +4,8 @@ use bson::{Bson, Document};
 use bson_convert::convert::converted;
 use bson_convert::converted::Converted;
 use bson_convert::mode::Mode;
-use bson_place::walk::place_of_fault;
+use bson_place::builder::Nothing;
+use bson_place::walk::{place_of_fault, read_tree};
 use serde_json::Value;
 use std::alloc::Global;
 
@@ -21,7 +22,9 @@ pub(crate) fn print(rt: &impl Print, alloc: Global) -> anyhow::Result<()> {
     converted_call(rt, alloc)?;
     place(rt, alloc)?;
     step(rt, alloc)?;
-    reason(rt, alloc)
+    reason(rt, alloc)?;
+    value_builder(rt, alloc)?;
+    nothing(rt, alloc)
 }
 
 fn extjson_de_error(rt: &impl Print, alloc: Global) -> anyhow::Result<()> {
@@ -134,6 +137,21 @@ fn reason(rt: &impl Print, alloc: Global) -> anyhow::Result<()> {
     let tree = Value::from_slice(alloc, br#"{"$oid": "53e3"}"#)?;
     if let Some(place) = place_of_fault(alloc, &tree)? {
         println!(rt; "{}", place.reason)?; // an object id has 24 digits, but "53e3" has 4
+    }
+    Ok(())
+}
+
+fn value_builder(rt: &impl Print, alloc: Global) -> anyhow::Result<()> {
+    let tree = Value::from_slice(alloc, br#"[1, {"n": 2}]"#)?;
+    let read = read_tree::<Nothing>(alloc, Doubles::Special, tree)?;
+    println!(rt; "{}", read.is_ok())?; // true
+    Ok(())
+}
+
+fn nothing(rt: &impl Print, alloc: Global) -> anyhow::Result<()> {
+    let tree = Value::from_slice(alloc, br#"{"n": [1.5]}"#)?;
+    if let Err(place) = read_tree::<Nothing>(alloc, Doubles::Special, tree)? {
+        println!(rt; "{}", place.path(alloc)?)?; // n.0
     }
     Ok(())
 }
