@@ -148,7 +148,7 @@ uint32_t vbson_convert_with(uint32_t mode, uint32_t flags, const uint8_t *text, 
  *     " at column N (RULE)"     of what is not JSON: the column of the byte at which it stops to be, counted from 1, and
  *                               the rule of JSON that it breaks, as "a comma or a bracket is missing", or "a number is
  *                               out of range" where it has the grammar of JSON, and a number that is no double
- *     " at PATH (MESSAGE)"      of any other: the way to the first fault, its keys and places in lists counted from 0,
+ *     " at PATH (MESSAGE)"      of any other: the path to the first fault, its keys and places in arrays counted from 0,
  *                               with points between, as orders.3._id.$oid, and what is wrong there, of most faults as
  *                               "EXPECTED; found VALUE": the value as it stands in the text, its first 60 characters
  *                               with ".." behind them where it has more
@@ -176,7 +176,7 @@ typedef struct vbson_lines {
  * VBSON_NO_MODE, VBSON_OUT_OF_MEMORY. */
 uint32_t vbson_convert_lines(uint32_t mode, uint32_t flags, const uint8_t *block, size_t len, vbson_lines *out);
 
-/* Whether two texts mean the same value: the same kind, lists place by place, documents with the same keys and the
+/* Whether two texts mean the same value: the same kind, arrays place by place, documents with the same keys and the
  * same values under each, in any order. VBSON_DONE where they do, VBSON_DIFFERENT where they mean two values; the fault
  * of a, else that of b: VBSON_NOT_JSON, VBSON_BAD_OBJECT_ID, VBSON_NOT_EXTENDED_JSON, VBSON_OUT_OF_MEMORY. */
 uint32_t vbson_same(const uint8_t *a, size_t a_len, const uint8_t *b, size_t b_len);

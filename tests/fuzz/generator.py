@@ -1,6 +1,6 @@
 """Random valid trees of Extended JSON v2, in either form or mixed, and their JSON text.
 
-A node is Raw (a number, truth value or null, as it is written), a str (a text's characters), a list of nodes, or an
+A node is Raw (a number, boolean or null, as it is written), a str (a text's characters), a list of nodes, or an
 Object: a list of [key, node], in the order in which they are written.
 """
 import base64

@@ -202,7 +202,7 @@ def date(tree):
 
 
 def constant(kind, key, wanted):
-    """A wrapper that holds this one number or truth value."""
+    """A wrapper that holds this one number or boolean."""
     def read(tree):
         demand(type(tree[key]) is type(wanted) and tree[key] == wanted)
         return kind, None

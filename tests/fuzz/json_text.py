@@ -1,6 +1,6 @@
 """JSON text to tree (RFC 8259), as the Rust crate `serde_json` reads it without features.
 
-A tree is None, a truth value, an int (a number that is an i64), an OtherNumber (any other number), a str, a list,
+A tree is None, a boolean, an int (a number that is an i64), an OtherNumber (any other number), a str, a list,
 or a dict from str to tree.
 
   - The bytes are strict UTF-8. A byte order mark is no white space.

@@ -4,7 +4,7 @@ use Rattle.bson_scalar.specs.Faults.{Fault, Fails, IsIdFault}
 use Rattle.bson_scalar.specs.declared.error.Error.{Error}
 use Rattle.bson_scalar.specs.declared.error.Error.TheVariants.{InvalidObjectId, DeserializationError, OutOfMemory}
 use Rattle.bson_place.specs.Built.{Builds}
-use Rattle.bson_place.specs.Place.{Turn, IsReason, way_of}
+use Rattle.bson_place.specs.Place.{PathSegment, IsReason, path_of}
 use Rattle.bson_place.specs.declared.place.Place.{Place}
 use Rattle.bson_place.specs.declared.place.Reason.{Reason}
 use Rattle.bson_place.specs.declared.place.Reason.TheVariants.{BadObjectId, WrongShape}
@@ -21,7 +21,7 @@ fails read f (WrongShape m) (DeserializationError n) is told h = h ∙ ap Err to
 fails read f (WrongShape m) OutOfMemory is told h = tt
 
 -- what is built, each seen as what it stands for and in range
-module _ {X Y : Type 0} (see : X → Y) (InRange : X → Type 0) (read : Result Y Fault) (lies : Fault → List Turn → Type 0)
+module _ {X Y : Type 0} (see : X → Y) (InRange : X → Type 0) (read : Result Y Fault) (lies : Fault → List PathSegment → Type 0)
     (answer : Result X Place) (h : Builds (λ x y. (see x ≡ y) × InRange x) read lies answer) where
   pub value_given : (x : X) → answer ≡ Ok x → (read ≡ Ok (see x)) × InRange x
   value_given x is =
@@ -29,7 +29,7 @@ module _ {X Y : Type 0} (see : X → Y) (InRange : X → Type 0) (read : Result 
       (built.1 ∙ ap Ok (sym built.2.0), built.2.1)
 
   pub fault_given : (place : Place) (e : Error) → answer ≡ Err place → IsErrorOf place.reason e
-      → ((f : Fault) (way : List Turn) → lies f way → read ≡ Err f) → Fails e read
+      → ((f : Fault) (path : List PathSegment) → lies f path → read ≡ Err f) → Fails e read
   fault_given place e is error to =
       let at = subst (Builds (λ x y. (see x ≡ y) × InRange x) read lies) is h in
-      fails read at.fault place.reason e error at.reason (to at.fault (way_of place) at.way)
+      fails read at.fault place.reason e error at.reason (to at.fault (path_of place) at.path)

@@ -106,7 +106,7 @@ pub number_read : (o : KeyOrder) (s : List ℕ) (r : List Token)
 number_read Ascending s r = refl
 number_read AsGiven s r = refl
 
--- ---- lists and objects
+-- ---- arrays and objects
 
 under : {A B : Type 0} (g : A → B) (x : Option A) (r : List Token)
     → option_map (λ b. (b, r)) (option_map g x) ≡ parse_map g (option_map (λ a. (a, r)) x)

@@ -89,7 +89,7 @@ fits_within k [] (suc i) h = absurd h
 fits_within k (m ∷ ms) zero h = omega arith
 fits_within k (m ∷ ms) (suc i) h = omega (arith, fits_within k ms i h.1)
 
--- ---- lists
+-- ---- arrays
 
 pub nothing_left : {X : Type 0} (xs : List X) → length xs ≡ 0 → xs ≡ []
 nothing_left [] h = refl

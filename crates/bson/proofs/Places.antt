@@ -119,7 +119,7 @@ IsSameAt-from ps qs i p e h q f =
     let one : p ≡ q = cc in
     subst (λ r. option_same (Some (bson_view r.1)) (get r.0 (pairs_view qs)) ≡ true) one h
 
--- lists place by place
+-- arrays place by place
 pub items_differ : (vs ws : List Bson) → (length vs ≡ length ws → ⊥)
     → same_items (values_view vs) (values_view ws) ≡ true → ⊥
 unfolding same_items

@@ -1,4 +1,4 @@
--- What ends a list or a map of tokens well from where it was printed to ends it well from its start.
+-- What ends an array or a map of tokens well from where it was printed to ends it well from its start.
 use Rattle.std.proofs.Common.{◌≡◌, ℕ, None, cond, List, [], ◌∷◌, ◌++◌, Result, Ok}
 use Rattle.std.proofs.Common.{Err, Some, false, refl, sym, ap, ◌∙◌, subst}
 use Rattle.std.proofs.lemmas.Bool.{or_from}
@@ -33,7 +33,7 @@ use Rattle.bson.specs.declared.extjson.key_order.KeyOrder.TheVariants.{Ascending
 use Rattle.bson.proofs.Seen.{Entry}
 use Rattle.bson.proofs.OntoTree.{bind_same}
 
--- ---- lists
+-- ---- arrays
 
 abbrev pub EndsItems : Result Items Refusal → List Token → List Token → Type 0
 EndsItems w old end = (ds : Items) × (w ≡ Ok ds) × (end ≡ old ++ items_tokens (items_outline ds))

@@ -1,4 +1,4 @@
--- Where finite doubles are written, nothing but want of memory stops a writer.
+-- Where finite doubles are written, nothing but running out of memory stops a writer.
 use Rattle.std.proofs.Common.{◌≡◌, true, Result, Ok, Err, List, sym, ap, ◌∙◌}
 use Rattle.std.specs.Prelude.{IfErr, is_ok}
 use Rattle.json.specs.Token.{Token}

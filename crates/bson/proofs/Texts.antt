@@ -1,4 +1,4 @@
--- The texts of lists and documents by those of what they hold.
+-- The texts of arrays and documents by those of what they hold.
 use Rattle.std.proofs.Common.{◌≡◌, ℕ, ◌<◌, ◌≤◌, List, [], ◌∷◌, ◌++◌, length, map}
 use Rattle.std.proofs.Common.{take}
 use Rattle.std.proofs.Common.{codes, refl, ap}

@@ -78,7 +78,7 @@ insert_pair_by AsGiven = set_pair
 
 -- ---- parts of a text
 
--- the elements are read to the end of the list
+-- the elements are read to the end of the array
 abbrev pub ItemsAreBy : KeyOrder → ℕ → List Token → Items → List Token → Type 0
 ItemsAreBy o depth ts ds rest = (n : ℕ) → length ts ≤ n → converted (items_by o) (items (value depth) n ts) ≡ Some (ds, rest)
 

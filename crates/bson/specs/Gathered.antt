@@ -6,7 +6,7 @@ use Rattle.std.specs.Ordering.{nat_cmp}
 use Rattle.std.specs.declared.alloc.Global.{Global}
 use Rattle.std.specs.declared.cmp.Ordering.TheVariants.{Less, Equal, Greater}
 use Rattle.bson_model.specs.Sorted.{KeysAscend}
-use Rattle.bson_model.specs.Turns.{HaveTurns, put_each}
+use Rattle.bson_model.specs.Stable.{IsStableByKey, put_each}
 use Rattle.bson_model.specs.Value.{Value, Pairs, no_pairs}
 use Rattle.bson_store.specs.Small.{stored_pairs}
 use Rattle.bson_store.specs.declared.small.Pair.{Pair}
@@ -77,5 +77,5 @@ FitsAt k [] (suc i) = ⊥
 FitsAt k (m ∷ ms) zero = slice_cmp nat_cmp k (string_bytes m.key) ≡ Less
 FitsAt k (m ∷ ms) (suc i) = (slice_cmp nat_cmp k (string_bytes m.key) ≡ Greater) × FitsAt k ms i
 
-abbrev pub KeepsTurns : List Member → List Member → Type 0
-KeepsTurns ms ns = HaveTurns member_key ms ns
+abbrev pub SortsStably : List Member → List Member → Type 0
+SortsStably ms ns = IsStableByKey member_key ms ns

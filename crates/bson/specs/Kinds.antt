@@ -124,6 +124,6 @@ ok_copied r = result_map_both (λ x. x.now) (λ e. e) r
 abbrev pub ok_copied_mut : {T E : Type 0} → Result (MutBor T) E → Result T E
 ok_copied_mut r = result_map_both (λ x. x.now) (λ e. e) r
 
--- a whole number as the smaller of the two kinds that it fits
+-- an integer as the smaller of the two kinds that it fits
 abbrev pub whole_number : ℕ → Bson
 whole_number n = if nat_lt n (2 ^ 31) then bson.Int32 (pos n) else bson.Int64 (pos n)

@@ -6,7 +6,7 @@ use Rattle.bson_model.specs.Pretty.{pretty, blanks, inner}
 use Rattle.bson.specs.View.{bson_view}
 use Rattle.bson.specs.declared.bson.Bson.{Bson}
 
--- of an element of a list, at the indent
+-- of an element of an array, at the indent
 abbrev pub item_line : ℕ → Bson → List ℕ
 item_line i v = codes "\n" ++ (blanks i ++ pretty (inner i) (bson_view v))
 

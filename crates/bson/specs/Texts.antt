@@ -55,7 +55,7 @@ abbrev pub GivesText : Result (String Global) WriteError → Result Data Refusal
 GivesText (Ok s) written = (t : Data) × (written ≡ Ok t) × (string_bytes s ≡ text_of t)
 GivesText (Err e) written = Stops e written
 
--- why a value is not written: where finite doubles are, for want of memory alone
+-- why a value is not written: where finite doubles are, for running out of memory alone
 abbrev pub MayStop : Doubles → WriteError → Type 0
 MayStop D OutOfMemory = Unit {0}
 MayStop Special FiniteDouble = Unit {0}

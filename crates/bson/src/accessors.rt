@@ -44,14 +44,14 @@ impl Bson {
         String::kind_mut(self)
     }
 
-    /// The list of an `Array`.
+    /// The elements of an `Array`.
     pub fn as_array(&self) -> Option<&Array>
         ensures { option_copied result ≡ array_of self.now }
     {
         Array::kind(self)
     }
 
-    /// The list of an `Array`, to write.
+    /// The elements of an `Array`, to write.
     pub fn as_array_mut(&mut self) -> Option<&mut Array>
         ensures* writes_back { sem 𝓛 (LendsIf bson_row array_row self.entry result value.Array self.old) }
         ensures value { option_map (λ x. x.now) result ≡ array_of self.old }
@@ -74,7 +74,7 @@ impl Bson {
         Document::kind_mut(self)
     }
 
-    /// The truth value of a `Boolean`.
+    /// The boolean of a `Boolean`.
     pub fn as_bool(&self) -> Option<bool>
         ensures { result ≡ boolean_of self.now }
     {

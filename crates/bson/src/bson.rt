@@ -8,7 +8,7 @@ use bson_types::oid::ObjectId;
 use bson_types::regex::Regex;
 use bson_types::timestamp::Timestamp;
 
-/// A list of values.
+/// An array of values.
 ///
 /// ```
 /// let mut numbers: Array = Vec::new(alloc);
@@ -32,11 +32,11 @@ pub enum Bson {
     Double(u64),
     /// A text of UTF-8.
     String(String),
-    /// A list of values.
+    /// An array of values.
     Array(Vec<Bson>),
     /// A list of keys with their values.
     Document(Document),
-    /// A truth value.
+    /// A boolean.
     Boolean(bool),
     /// The null value.
     Null,
@@ -46,9 +46,9 @@ pub enum Bson {
     JavaScriptCode(String),
     /// JavaScript code and the values of the names that it uses (deprecated).
     JavaScriptCodeWithScope(JavaScriptCodeWithScope),
-    /// A signed whole number of 32 bits.
+    /// A signed integer of 32 bits.
     Int32(i32),
-    /// A signed whole number of 64 bits.
+    /// A signed integer of 64 bits.
     Int64(i64),
     /// MongoDB's internal timestamp.
     Timestamp(Timestamp),

@@ -12,7 +12,7 @@ use Rattle.bson_bytes.specs.declared.keys.DuplicateKeys.{DuplicateKeys}
 use Rattle.bson_bytes.proofs.PartLaws.{IsBytes, bind_ok, if_ok, ok_is}
 use Rattle.bson_bytes.proofs.Takes.{document_takes}
 use Rattle.bson_bytes.proofs.Again.{document_again}
-use Rattle.bson_bytes.proofs.Turns.{of_mapped}
+use Rattle.bson_bytes.proofs.Rounds.{of_mapped}
 use Rattle.bson_bytes.proofs.Standing.{may_stand, stand_from}
 
 pub grammar_from : (keys : DuplicateKeys) (d : ℕ) (bytes : List ℕ) (qs : Pairs) → IsBytes bytes

@@ -4,7 +4,7 @@ pub mod Tagged
 pub mod Standing
 pub mod Takes
 pub mod Again
-pub mod Turns
+pub mod Rounds
 pub mod GrammarLaws
 pub mod Putting
 pub mod Canonical

@@ -14,8 +14,8 @@ use Rattle.bson_bytes.specs.Reading.{document_at, document_in, reads, reads_in, 
 use Rattle.bson_bytes.specs.declared.keys.DuplicateKeys.TheVariants.{Replace}
 use Rattle.bson_bytes.specs.Tags.{kind_of}
 use Rattle.bson_bytes.proofs.PartLaws.{ok_is}
-use Rattle.bson_bytes.proofs.Turns.{Read, elements, then_pairs, no_more, one_more, bad_value, bad_list, document_done}
-use Rattle.bson_bytes.proofs.Turns.{document_wrong}
+use Rattle.bson_bytes.proofs.Rounds.{Read, elements, then_pairs, no_more, one_more, bad_value, bad_list, document_done}
+use Rattle.bson_bytes.proofs.Rounds.{document_wrong}
 
 pub record Behind {A : Type 0} (r : Result (A × List ℕ) Fault) (rest : List ℕ) : Type 0 where
   pub value : A

@@ -17,7 +17,7 @@ use Rattle.bson_bytes.specs.declared.keys.DuplicateKeys.TheVariants.{Replace, Re
 
 -- ---- numbers, names and texts
 
--- a whole number, its low byte first
+-- an integer, its low byte first
 unfoldable pub le : Width → ℕ → List ℕ
 le w n = to_le_bytes w n
 

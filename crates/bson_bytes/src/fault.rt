@@ -26,7 +26,7 @@ pub enum FaultKind {
     End,
     /// A name or a text is no UTF-8. The place is the name, or the first byte of the text.
     Utf8,
-    /// A truth value is neither 0 nor 1. The place is its byte.
+    /// A boolean is neither 0 nor 1. The place is its byte.
     Boolean,
     /// Bytes stand behind the document. The place is the first of them.
     Trailing,

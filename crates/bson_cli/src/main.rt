@@ -8,7 +8,7 @@
 
 use bson_convert::fault::Fault;
 use bson_convert::mode::{Mode, mode_of};
-use bson_convert::program::{ended, words_given};
+use bson_convert::program::{exit_with, words_given};
 use bson_convert::run::run;
 use std::process::ExitCode;
 
@@ -17,19 +17,19 @@ const USAGE: &str = "usage: bson_cli canonical|relaxed|show";
 // Status 0: done. Status 1: refused, with one line on standard error. Status 2: other arguments,
 // and nothing was read.
 fn main(rt: HostRuntime) -> ExitCode {
-    let answer = match asked(&rt) {
+    let answer = match read_mode(&rt) {
         Ok(Some(mode)) => run(rt.alloc(), mode, &mut rt.stdin(), &mut rt.stdout()),
-        Ok(None) => return ended(&rt, USAGE, 2),
+        Ok(None) => return exit_with(&rt, USAGE, 2),
         Err(fault) => Err(fault),
     };
     match answer {
         Ok(()) => ExitCode::SUCCESS,
-        Err(fault) => ended(&rt, fault.line(), 1),
+        Err(fault) => exit_with(&rt, fault.line(), 1),
     }
 }
 
 // The mode that the arguments ask for. One that is no UTF-8 asks for none.
-fn asked(rt: &HostRuntime) -> Result<Option<Mode>, Fault> {
+fn read_mode(rt: &HostRuntime) -> Result<Option<Mode>, Fault> {
     match words_given(rt)? {
         Some(words) => Ok(mode_of(&words)),
         None => Ok(None),

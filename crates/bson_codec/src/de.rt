@@ -120,9 +120,9 @@ pub fn from_slice_with(alloc: Global, options: ReadOptions, bytes: &[u8]) -> Res
     ensures fault { IfErr result
         (λ e. IsFaultOf e bytes.now (reads_in options.duplicate_keys options.depth bytes.now)) }
 {
-    match whole(alloc, bytes, options.depth, options.duplicate_keys) {
+    match read_whole(alloc, bytes, options.depth, options.duplicate_keys) {
         Ok(document) => Ok(document),
-        Err(stopped) => Err(located(stopped, bytes)),
+        Err(stopped) => Err(locate(stopped, bytes)),
     }
 }
 
@@ -159,7 +159,7 @@ pub fn front_with(alloc: Global, options: ReadOptions, bytes: &[u8]) -> Result<(
 {
     match document_at(alloc, bytes, options.depth, options.duplicate_keys) {
         Ok((document, rest)) => Ok((document, rest)),
-        Err(stopped) => Err(located(stopped, bytes)),
+        Err(stopped) => Err(locate(stopped, bytes)),
     }
 }
 
@@ -180,7 +180,7 @@ pub fn is_document(bytes: &[u8], depth: usize) -> Result<()>
 {
     match check::is_document(bytes, depth) {
         Ok(()) => Ok(()),
-        Err(fault) => Err(located(Stopped::Fault(fault), bytes)),
+        Err(fault) => Err(locate(Stopped::Fault(fault), bytes)),
     }
 }
 
@@ -196,12 +196,12 @@ pub fn is_canonical(alloc: Global, bytes: &[u8], depth: usize) -> Result<bool, A
     };
     match to_vec(alloc, &document) {
         Ok(written) => Ok(written.as_slice() == bytes),
-        Err(error) => unwritten(error),
+        Err(error) => is_unwritable(error),
     }
 }
 
 // What is said of bytes whose document has none for this cause.
-fn unwritten(error: ser::Error) -> Result<bool, AllocError>
+fn is_unwritable(error: ser::Error) -> Result<bool, AllocError>
     ensures { IfOk result (λ b. (b ≡ false) × (error ≡ causes.OutOfMemory → ⊥)) }
 {
     match error {
@@ -213,7 +213,7 @@ fn unwritten(error: ser::Error) -> Result<bool, AllocError>
 }
 
 #[tactic(auto, unfolding(bson_bytes::specs::Reading::reads_in))]
-fn whole(
+fn read_whole(
     alloc: Global,
     bytes: &[u8],
     depth: usize,
@@ -229,7 +229,7 @@ fn whole(
 }
 
 // The error with its place from the front of the bytes.
-fn located(stopped: Stopped, bytes: &[u8]) -> Error
+fn locate(stopped: Stopped, bytes: &[u8]) -> Error
     requires { StandsIn stopped bytes.now }
     ensures { result ≡ located stopped bytes.now }
 {

@@ -124,7 +124,7 @@ pub fn run_documents<R: Read, W: Write, T: Write>(
     for documents in 0..MOST {
         let number = documents + 1;
         if let Err(error) = take_document(reader, &mut bytes) {
-            let fault = unread(error);
+            let fault = fault_of_reader(error);
             return Err(RunEnd {
                 fault,
                 number,
@@ -232,7 +232,7 @@ fn text_line(alloc: Global, run: Run, form: Form, document: Document) -> Result<
     ensures fault { IfErr result (λ e. IsUnwritten e run.options (Text form) (document_view document)) }
 {
     match Bson::Document(document).into_text_with(alloc, run.options, form) {
-        Ok(text) => ended(text),
+        Ok(text) => end_line(text),
         Err(WriteError::FiniteDouble) => Err(RunFault::FiniteDouble),
         Err(WriteError::OutOfMemory) => Err(RunFault::OutOfMemory),
     }
@@ -249,7 +249,7 @@ fn ordered_line(
     ensures fault { IfErr result (λ e. IsUnwritten e run.options (TextInOrder form) (document_view document)) }
 {
     match Bson::Document(document).into_text_in_order(alloc, run.options, form) {
-        Ok(text) => ended(text),
+        Ok(text) => end_line(text),
         Err(WriteError::FiniteDouble) => Err(RunFault::FiniteDouble),
         Err(WriteError::OutOfMemory) => Err(RunFault::OutOfMemory),
     }
@@ -267,7 +267,7 @@ fn shown_line(alloc: Global, document: Document) -> Result<Vec<u8>, RunFault>
 }
 
 // The text, and a newline.
-fn ended(text: String) -> Result<Vec<u8>, RunFault>
+fn end_line(text: String) -> Result<Vec<u8>, RunFault>
     ensures ok { IfOk result (λ line. line.items ≡ string_bytes text ++ newline) }
     ensures fault { IfErr result (λ e. e ≡ OutOfMemory) }
 {
@@ -294,7 +294,7 @@ fn tell<T: Write>(
         number,
         start,
     };
-    let Ok(told) = end.told(alloc) else {
+    let Ok(told) = end.to_line(alloc) else {
         return Err(RunFault::OutOfMemory);
     };
     match write_whole(report, told.as_bytes()) {
@@ -328,7 +328,7 @@ fn has_length(bytes: &[u8]) -> bool
 }
 
 // Why no bytes of a document came.
-fn unread(error: ReaderError) -> RunFault
+fn fault_of_reader(error: ReaderError) -> RunFault
     ensures { (run : Run) (number start : ℕ) (taken : List ℕ) → EndsFor result run number start taken [] [] }
 {
     match error {

@@ -143,7 +143,7 @@ pub(crate) fn take_document<R: Read>(reader: &mut R, bytes: &mut Vec<u8>) -> Res
     if bytes.len() < LENGTH {
         return Ok(());
     }
-    let size = promised(bytes.as_slice());
+    let size = promised_size(bytes.as_slice());
     fill(reader, bytes, size)
 }
 
@@ -176,7 +176,7 @@ fn fill<R: Read>(reader: &mut R, bytes: &mut Vec<u8>, count: usize) -> Result<()
 }
 
 // How many bytes the document has that begins with these, no fewer than they are.
-fn promised(bytes: &[u8]) -> usize
+fn promised_size(bytes: &[u8]) -> usize
     ensures value { result ≡ promised bytes.now }
     ensures least { length bytes.now ≤ result }
 {

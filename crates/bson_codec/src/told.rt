@@ -41,7 +41,7 @@ pub enum RunFault {
 /// let (mut output, mut told) = (Vec::new(alloc), Vec::new(alloc));
 /// let run = Run::default();
 /// if let Err(end) = run_documents(alloc, run, &mut input, &mut output, &mut told) {
-///     rt.print(&end.told(alloc)?)?; // document 2 at byte 5: ends too early at its byte 0
+///     rt.print(&end.to_line(alloc)?)?; // document 2 at byte 5: ends too early at its byte 0
 /// }
 /// ```
 #[derive(Clone, Copy, PartialEq, Eq, Debug)]
@@ -56,7 +56,7 @@ pub struct RunEnd {
 
 impl RunEnd {
     /// The document and its fault, in words for people, and a newline.
-    pub fn told(&self, alloc: Global) -> Result<String, AllocError>
+    pub fn to_line(&self, alloc: Global) -> Result<String, AllocError>
         ensures { IfOk result (λ told. string_bytes told ≡ told_of self.now.number self.now.start self.now.fault) }
     {
         let place = self.fault.place(alloc)?;
@@ -74,13 +74,13 @@ fn at_place(
 ) -> Result<String, AllocError>
     ensures { IfOk result (λ told. string_bytes told ≡ told_with number start fault place.now) }
 {
-    let words = fault.words();
+    let words = fault.message();
     format!(in alloc; "document {number} at byte {start}: {words}{place}\n")
 }
 
 impl RunFault {
     /// What is wrong, in words for people.
-    pub fn words(self) -> &'static str
+    pub fn message(self) -> &'static str
         ensures { result.now ≡ words_of self }
     {
         match self {

@@ -12,7 +12,7 @@ ghost use Rattle.bson_convert.specs.Convert.{default_options, IsConverted, IsWri
 ghost use Rattle.bson.specs.TextMeaning.{IsTextOf, HasTextMeaningIn, IsTextFaultIn};
 ghost use Rattle.bson.specs.declared.extjson.text_error.TextError.{TextError};
 
-use crate::converted::{Converted, sorted};
+use crate::converted::{Converted, sorted_text};
 use crate::fault::Fault;
 use crate::mode::Mode;
 use bson::Bson;
@@ -23,9 +23,9 @@ use std::alloc::Global;
 /// The text that the mode asks for of the one value that the bytes mean, and a newline.
 ///
 /// It is Ok exactly where the bytes are UTF-8 and as a whole one JSON text (nested at most 127
-/// deep), and its tree has a meaning in MongoDB Extended JSON v2; only want of memory may come in
-/// its place. `NotJson` is answered where there is no such text, and `NotExtendedJson` with the
-/// first fault of its tree where that has no meaning. `CannotRead` and `CannotWrite` are never
+/// deep), and its tree has a meaning in MongoDB Extended JSON v2; only running out of memory may
+/// come in its place. `NotJson` is answered where there is no such text, and `NotExtendedJson` with
+/// the first fault of its tree where that has no meaning. `CannotRead` and `CannotWrite` are never
 /// answered.
 ///
 /// ```
@@ -64,7 +64,7 @@ pub fn convert_with(
         → MeansIn options.doubles tree value → IfErr result (λ fault. fault ≡ Fault.OutOfMemory) }
     ensures fault { IfErr result (λ fault. IsRefusedIn options fault bytes.now) }
 {
-    let read = converted(alloc, options, mode, bytes)?;
+    let read = text_or_value(alloc, options, mode, bytes)?;
     output(alloc, options, mode, read)
 }
 
@@ -79,13 +79,13 @@ pub(crate) fn convert_whole(
     ensures ok { IfOk result (λ output. ConvertsIn options mode bytes.items output.items) }
     ensures fault { IfErr result (λ fault. IsRefusedIn options fault bytes.items) }
 {
-    let read = converted(alloc, options, mode, &bytes)?;
+    let read = text_or_value(alloc, options, mode, &bytes)?;
     drop(bytes);
     output(alloc, options, mode, read)
 }
 
 /// The text in the mode's form of the value that the bytes mean, or that value.
-pub fn converted(
+pub fn text_or_value(
     alloc: Global,
     options: Options,
     mode: Mode,
@@ -103,7 +103,7 @@ pub fn converted(
         Mode::Relaxed => Form::Relaxed,
         Mode::Show => return Ok(Converted::Value(meaning(alloc, options, bytes)?)),
     };
-    match sorted(alloc, options, form, bytes)? {
+    match sorted_text(alloc, options, form, bytes)? {
         Some(text) => Ok(Converted::Text(text)),
         None => Ok(Converted::Value(meaning(alloc, options, bytes)?)),
     }
@@ -117,12 +117,12 @@ pub(crate) fn meaning(alloc: Global, options: Options, bytes: &[u8]) -> Result<B
 {
     match Bson::try_from_text_with(alloc, options, bytes) {
         Ok(value) => Ok(value),
-        Err(error) => Err(refused(error)),
+        Err(error) => Err(fault_of(error)),
     }
 }
 
 /// The fault of bytes that are refused so.
-pub fn refused(error: TextError) -> Fault
+pub fn fault_of(error: TextError) -> Fault
     ensures cause { (options : Options) (bytes : List ℕ) → IsTextFaultIn options.doubles bytes error
         → IsRefusedIn options result bytes }
     ensures memory { error ≡ TextError.OutOfMemory → result ≡ Fault.OutOfMemory }
@@ -142,7 +142,7 @@ fn output(alloc: Global, options: Options, mode: Mode, read: Converted) -> Resul
     ensures fault { IfErr result (λ fault. fault ≡ Fault.OutOfMemory) }
 {
     match read {
-        Converted::Text(text) => ended(text),
+        Converted::Text(text) => end_line(text),
         Converted::Value(value) => value_output(alloc, options, mode, value),
     }
 }
@@ -182,11 +182,11 @@ pub fn line(text: String) -> Result<Vec<u8>, Fault>
     ensures ok { IfOk result (λ line. line.items ≡ string_bytes text ++ newline) }
     ensures fault { IfErr result (λ fault. fault ≡ Fault.OutOfMemory) }
 {
-    ended(text.into_bytes())
+    end_line(text.into_bytes())
 }
 
 /// The bytes, and a newline.
-pub fn ended(mut line: Vec<u8>) -> Result<Vec<u8>, Fault>
+pub fn end_line(mut line: Vec<u8>) -> Result<Vec<u8>, Fault>
     ensures ok { IfOk result (λ ended. ended.items ≡ line.items ++ newline) }
     ensures fault { IfErr result (λ fault. fault ≡ Fault.OutOfMemory) }
 {

@@ -19,11 +19,11 @@ use std::alloc::{AllocError, Global};
 // How deep arrays and objects may nest.
 const MAX_DEPTH: usize = 127;
 
-/// What `converted` gives.
+/// What `text_or_value` gives.
 ///
 /// ```
 /// let bytes = br#"[{"$numberLong": "5"}]"#;
-/// match converted(alloc, Options::default(), Mode::Relaxed, bytes) {
+/// match text_or_value(alloc, Options::default(), Mode::Relaxed, bytes) {
 ///     Ok(Converted::Text(text)) => println!(rt; "{}", str::from_utf8(&text)?)?, // [5]
 ///     Ok(Converted::Value(value)) => println!(rt; "{}", value.into_relaxed_text(alloc)?)?,
 ///     Err(fault) => println!(rt; "{}", fault.line())?,
@@ -39,7 +39,7 @@ pub enum Converted {
 
 // The text in the form of the value that the bytes mean, written as they are read; none where they
 // are to be read whole.
-pub(crate) fn sorted(
+pub(crate) fn sorted_text(
     alloc: Global,
     options: Options,
     form: Form,

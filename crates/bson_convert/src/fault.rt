@@ -54,7 +54,7 @@ impl Fault {
     }
 
     /// The words of that line, without the program's name.
-    pub fn words(&self) -> &'static str
+    pub fn message(&self) -> &'static str
         ensures words { result.now ≡ words_of self.now }
     {
         match self {
@@ -64,7 +64,7 @@ impl Fault {
                 Reason::BadObjectId(_) => "bad object id",
                 Reason::WrongShape(_) => "not Extended JSON",
             },
-            Fault::NoBytes(why) => why.words(),
+            Fault::NoBytes(why) => why.message(),
             Fault::OutOfMemory => "out of memory",
             Fault::CannotWrite => "cannot write",
         }

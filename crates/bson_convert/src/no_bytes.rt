@@ -6,7 +6,7 @@ ghost use Rattle.bson_convert.specs.Words.{words_without};
 ///
 /// ```
 /// if let Err(Fault::NoBytes(why)) = encode_in_order(alloc, Options::default(), b"[1, 2]") {
-///     println!(rt; "{}", why.words())?; // no document
+///     println!(rt; "{}", why.message())?; // no document
 /// }
 /// ```
 #[derive(Clone, Copy, PartialEq, Eq, Debug)]
@@ -23,7 +23,7 @@ pub enum NoBytes {
 
 impl NoBytes {
     /// What a program says of it.
-    pub fn words(self) -> &'static str
+    pub fn message(self) -> &'static str
         ensures { result.now ≡ words_without self }
     {
         match self {

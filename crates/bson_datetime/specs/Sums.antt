@@ -1,4 +1,4 @@
--- Sums and differences of moments, which are whole numbers of milliseconds.
+-- Sums and differences of moments, which are integers of milliseconds.
 use Rattle.std.specs.Prelude.{ℕ, ◌/◌, ℤ, pos, ◌+ℤ◌, ◌-ℤ◌, ◌*ℤ◌}
 use Rattle.std.specs.Int.{int_min, int_max}
 use Rattle.std.specs.Duration.{as_nanos}

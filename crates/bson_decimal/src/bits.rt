@@ -37,7 +37,7 @@ pub(crate) const INFINITY: u128 = 0x78 << 120;
 impl Decimal128 {
     ghost use Rattle.bson_decimal.specs.Pattern.{bytes_meaning};
 
-    pub(crate) fn decoded(&self) -> Decoded
+    pub(crate) fn decode(&self) -> Decoded
         ensures { result ≡ bytes_meaning self.now }
     {
         let number = u128::from_le_bytes(self.bytes());

@@ -141,7 +141,7 @@ impl fmt::Display for Decimal128 {
 
     #[tactic(auto, unfolding(crate::specs::Displayed::display_text))]
     fn fmt<W: fmt::Write>(&self, f: &mut fmt::Formatter<W>) -> fmt::Result {
-        match self.decoded() {
+        match self.decode() {
             Decoded::Nan { .. } => f.write_str("NaN"),
             Decoded::Infinity { negative } => f.write_str(if negative {
                 "-Infinity"

@@ -79,7 +79,7 @@ pub enum ParseError {
     /// Nothing stands after the `e` or `E`.
     #[error("the exponent is empty")]
     EmptyExponent,
-    /// What stands after the `e` or `E` is no whole number from -32768 to 32767.
+    /// What stands after the `e` or `E` is no integer from -32768 to 32767.
     #[error("the exponent is no whole number from -32768 to 32767")]
     InvalidExponent,
     /// The coefficient is not digits with at most one point, or holds no digit.

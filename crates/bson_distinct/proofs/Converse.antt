@@ -10,7 +10,7 @@ use Rattle.std.specs.List.{All, Contains}
 use Rattle.json.specs.Json.{Json, Items, no_items, item, Members, no_members, member}
 use Rattle.json.specs.Json as json
 use Rattle.json.specs.Strict.{keys, AreDistinct, HasUniqueKeys, ItemsHaveUniqueKeys, MembersHaveUniqueKeys}
-use Rattle.bson_place.specs.Place.{Turn, key, element}
+use Rattle.bson_place.specs.Place.{PathSegment, key, element}
 use Rattle.bson_distinct.specs.Double.{DoubleAt, DoubleAmong, DoubleWithin}
 use Rattle.bson_distinct.specs.Double as place
 use Rattle.bson_distinct.specs.Found.{Verdict, double, double_items, double_members, within, or, at_key, stands_among}
@@ -69,40 +69,40 @@ mutual
       (λ i l d less within. distinct (suc i) (suc l) d (omega arith) (omega arith)) h.1
 
 mutual
-  found : (j : Json) (way : List Turn) → DoubleAt j way → double j ≡ Some way
-  found j way (place.array js m) = found_among 0 js way m
-  found j way (place.object ms m) = found_within [] ms way m
+  found : (j : Json) (path : List PathSegment) → DoubleAt j path → double j ≡ Some path
+  found j path (place.array js m) = found_among 0 js path m
+  found j path (place.object ms m) = found_within [] ms path m
 
-  found_among : (n : ℕ) (js : Items) (way : List Turn) → DoubleAmong n js way → double_items n js ≡ Some way
-  found_among n js way (place.here {way = w} m j rest d) =
+  found_among : (n : ℕ) (js : Items) (path : List PathSegment) → DoubleAmong n js path → double_items n js ≡ Some path
+  found_among n js path (place.here {path = w} m j rest d) =
       ap (λ v. or (within (element m) v) (double_items (m + 1) rest)) (found j w d)
-  found_among n js way (place.later m j rest h d) =
-      ap (λ v. or (within (element m) v) (double_items (m + 1) rest)) (none j h) ∙ found_among (m + 1) rest way d
+  found_among n js path (place.later m j rest h d) =
+      ap (λ v. or (within (element m) v) (double_items (m + 1) rest)) (none j h) ∙ found_among (m + 1) rest path d
 
-  found_within : (before : List (List ℕ)) (ms : Members) (way : List Turn) → DoubleWithin before ms way
-      → double_members before ms ≡ Some way
-  found_within before ms way (place.again b k j rest has) =
+  found_within : (before : List (List ℕ)) (ms : Members) (path : List PathSegment) → DoubleWithin before ms path
+      → double_members before ms ≡ Some path
+  found_within before ms path (place.again b k j rest has) =
       ap (λ s. or (at_key (not s) k (double j)) (double_members (k ∷ b) rest)) (stood b k has)
-  found_within before ms way (place.inside {way = w} b k j rest absent d) =
+  found_within before ms path (place.inside {path = w} b k j rest absent d) =
       ap (λ s. or (at_key (not s) k (double j)) (double_members (k ∷ b) rest)) (new b k absent)
       ∙ ap (λ v. or (within (key k) v) (double_members (k ∷ b) rest)) (found j w d)
-  found_within before ms way (place.behind b k j rest absent h d) =
+  found_within before ms path (place.behind b k j rest absent h d) =
       ap (λ s. or (at_key (not s) k (double j)) (double_members (k ∷ b) rest)) (new b k absent)
       ∙ ap (λ v. or (within (key k) v) (double_members (k ∷ b) rest)) (none j h)
-      ∙ found_within (k ∷ b) rest way d
+      ∙ found_within (k ∷ b) rest path d
 
-pub one_way : (j : Json) (way other : List Turn) → DoubleAt j way → DoubleAt j other → way ≡ other
-one_way j way other m n = same_Some way other (sym (found j way m) ∙ found j other n)
+pub one_path : (j : Json) (path other : List PathSegment) → DoubleAt j path → DoubleAt j other → path ≡ other
+one_path j path other m n = same_Some path other (sym (found j path m) ∙ found j other n)
 
-some_is_none : (way : List Turn) → Some way ≡ None → ⊥
-some_is_none way e = cc
+some_is_none : (path : List PathSegment) → Some path ≡ None → ⊥
+some_is_none path e = cc
 
-pub twice : (j : Json) (way : List Turn) → DoubleAt j way → ¬ HasUniqueKeys j
-twice j way m h = some_is_none way (sym (found j way m) ∙ none j h)
+pub twice : (j : Json) (path : List PathSegment) → DoubleAt j path → ¬ HasUniqueKeys j
+twice j path m h = some_is_none path (sym (found j path m) ∙ none j h)
 
-a_way : (j : Json) (v : Verdict) → double j ≡ v → ¬ HasUniqueKeys j → (way : List Turn) × DoubleAt j way
-a_way j None is other = absurd (other (unique j is))
-a_way j (Some way) is other = (way, at j way is)
+a_path : (j : Json) (v : Verdict) → double j ≡ v → ¬ HasUniqueKeys j → (path : List PathSegment) × DoubleAt j path
+a_path j None is other = absurd (other (unique j is))
+a_path j (Some path) is other = (path, at j path is)
 
-pub some_way : (j : Json) → ¬ HasUniqueKeys j → (way : List Turn) × DoubleAt j way
-some_way j other = a_way j (double j) refl other
+pub some_path : (j : Json) → ¬ HasUniqueKeys j → (path : List PathSegment) × DoubleAt j path
+some_path j other = a_path j (double j) refl other

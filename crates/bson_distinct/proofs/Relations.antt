@@ -8,9 +8,9 @@ use Rattle.std.specs.List.{All}
 use Rattle.json.specs.Json.{Json, Items, no_items, item, Members, no_members, member}
 use Rattle.json.specs.Json as json
 use Rattle.json.specs.Strict.{keys, AreDistinct, HasUniqueKeys, ItemsHaveUniqueKeys, MembersHaveUniqueKeys}
-use Rattle.bson_place.specs.Place.{Turn, key, element}
-use Rattle.bson_place.specs.declared.place.Step.{Step}
-use Rattle.bson_distinct.specs.Double.{DoubleAt, DoubleAmong, DoubleWithin, IsFirstDouble, json_of, turns}
+use Rattle.bson_place.specs.Place.{PathSegment, key, element}
+use Rattle.bson_place.specs.declared.place.Segment.{Segment}
+use Rattle.bson_distinct.specs.Double.{DoubleAt, DoubleAmong, DoubleWithin, IsFirstDouble, json_of, segments_of}
 use Rattle.bson_distinct.specs.Double as place
 use Rattle.bson_distinct.specs.Found.{Verdict, double, double_items, double_members, within, or, at_key, stands_among}
 use Rattle.bson_distinct.specs.Found.{told}
@@ -28,9 +28,9 @@ both_none : (v w : Verdict) → or v w ≡ None → (v ≡ None) × (w ≡ None)
 both_none None w e = (refl, e)
 both_none (Some f) w e = cc
 
-none_within : (t : Turn) (v : Verdict) → within t v ≡ None → v ≡ None
+none_within : (t : PathSegment) (v : Verdict) → within t v ≡ None → v ≡ None
 none_within t None e = refl
-none_within t (Some way) e = cc
+none_within t (Some path) e = cc
 
 new_key : (stood : Bool) (k : List ℕ) (v : Verdict) → at_key (not stood) k v ≡ None → (stood ≡ false) × (v ≡ None)
 new_key false k v e = (refl, none_within (key k) v e)
@@ -88,51 +88,51 @@ mutual
 
 -- ---- where a key stands twice
 
-in_item : (n : ℕ) (j : Json) (js : Items) (v : Verdict) (way : List Turn) → double j ≡ v
-    → or (within (element n) v) (double_items (n + 1) js) ≡ Some way
-    → ((w : List Turn) → double j ≡ Some w → DoubleAt j w)
-    → (double_items (n + 1) js ≡ Some way → DoubleAmong (n + 1) js way) → DoubleAmong n (item j js) way
-in_item n j js None way is e first later = place.later n j js (unique j is) (later e)
-in_item n j js (Some w) way is e first later =
+in_item : (n : ℕ) (j : Json) (js : Items) (v : Verdict) (path : List PathSegment) → double j ≡ v
+    → or (within (element n) v) (double_items (n + 1) js) ≡ Some path
+    → ((w : List PathSegment) → double j ≡ Some w → DoubleAt j w)
+    → (double_items (n + 1) js ≡ Some path → DoubleAmong (n + 1) js path) → DoubleAmong n (item j js) path
+in_item n j js None path is e first later = place.later n j js (unique j is) (later e)
+in_item n j js (Some w) path is e first later =
     subst (DoubleAmong n (item j js)) (same_Some _ _ e) (place.here n j js (first w is))
 
 in_member : (before : List (List ℕ)) (k : List ℕ) (j : Json) (ms : Members) (stood : Bool) (v : Verdict)
-    (way : List Turn) → stands_among before k ≡ stood → double j ≡ v
-    → or (at_key (not stood) k v) (double_members (k ∷ before) ms) ≡ Some way
-    → ((w : List Turn) → double j ≡ Some w → DoubleAt j w)
-    → (double_members (k ∷ before) ms ≡ Some way → DoubleWithin (k ∷ before) ms way)
-    → DoubleWithin before (member k j ms) way
-in_member before k j ms true v way stood is e first later =
+    (path : List PathSegment) → stands_among before k ≡ stood → double j ≡ v
+    → or (at_key (not stood) k v) (double_members (k ∷ before) ms) ≡ Some path
+    → ((w : List PathSegment) → double j ≡ Some w → DoubleAt j w)
+    → (double_members (k ∷ before) ms ≡ Some path → DoubleWithin (k ∷ before) ms path)
+    → DoubleWithin before (member k j ms) path
+in_member before k j ms true v path stood is e first later =
     subst (DoubleWithin before (member k j ms)) (same_Some _ _ e) (place.again before k j ms (stands before k stood))
-in_member before k j ms false None way stood is e first later =
+in_member before k j ms false None path stood is e first later =
     place.behind before k j ms (stands_not before k stood) (unique j is) (later e)
-in_member before k j ms false (Some w) way stood is e first later =
+in_member before k j ms false (Some w) path stood is e first later =
     subst (DoubleWithin before (member k j ms)) (same_Some _ _ e)
     (place.inside before k j ms (stands_not before k stood) (first w is))
 
 mutual
-  pub at : (j : Json) (way : List Turn) → double j ≡ Some way → DoubleAt j way
-  at json.null way e = cc
-  at (json.boolean b) way e = cc
-  at (json.number s) way e = cc
-  at (json.string s) way e = cc
-  at (json.array js) way e = place.array js (among 0 js way e)
-  at (json.object ms) way e = place.object ms (inside [] ms way e)
+  pub at : (j : Json) (path : List PathSegment) → double j ≡ Some path → DoubleAt j path
+  at json.null path e = cc
+  at (json.boolean b) path e = cc
+  at (json.number s) path e = cc
+  at (json.string s) path e = cc
+  at (json.array js) path e = place.array js (among 0 js path e)
+  at (json.object ms) path e = place.object ms (inside [] ms path e)
 
-  among : (n : ℕ) (js : Items) (way : List Turn) → double_items n js ≡ Some way → DoubleAmong n js way
-  among n no_items way e = cc
-  among n (item j js) way e =
-      in_item n j js (double j) way refl e (λ w is. at j w is) (λ is. among (n + 1) js way is)
+  among : (n : ℕ) (js : Items) (path : List PathSegment) → double_items n js ≡ Some path → DoubleAmong n js path
+  among n no_items path e = cc
+  among n (item j js) path e =
+      in_item n j js (double j) path refl e (λ w is. at j w is) (λ is. among (n + 1) js path is)
 
-  inside : (before : List (List ℕ)) (ms : Members) (way : List Turn) → double_members before ms ≡ Some way
-      → DoubleWithin before ms way
-  inside before no_members way e = cc
-  inside before (member k j ms) way e =
-      in_member before k j ms (stands_among before k) (double j) way refl refl e (λ w is. at j w is)
-      (λ is. inside (k ∷ before) ms way is)
+  inside : (before : List (List ℕ)) (ms : Members) (path : List PathSegment) → double_members before ms ≡ Some path
+      → DoubleWithin before ms path
+  inside before no_members path e = cc
+  inside before (member k j ms) path e =
+      in_member before k j ms (stands_among before k) (double j) path refl refl e (λ w is. at j w is)
+      (λ is. inside (k ∷ before) ms path is)
 
 -- what an answer tells
-pub answered : (j : Json) (text : List ℕ) (way : Option (Vec Step Global)) → json_of text ≡ Some j
-    → told way ≡ double j → IsFirstDouble text way
+pub answered : (j : Json) (text : List ℕ) (path : Option (Vec Segment Global)) → json_of text ≡ Some j
+    → told path ≡ double j → IsFirstDouble text path
 answered j text None is e = (j, is, unique j (sym e))
-answered j text (Some way) is e = (j, is, at j (turns way) (sym e))
+answered j text (Some path) is e = (j, is, at j (segments_of path) (sym e))

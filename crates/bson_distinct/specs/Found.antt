@@ -1,4 +1,4 @@
--- The way to the first key that stands twice, as a function. For private clauses.
+-- The path to the first key that stands twice, as a function. For private clauses.
 use Rattle.std.specs.Prelude.{◌≡◌, ◌++◌, ◌+◌, ℕ, List, [], ◌∷◌, Option, Some, None, Bool, true, false, not, option_map}
 use Rattle.std.specs.Prelude.{Vec}
 use Rattle.std.specs.List.{list_any}
@@ -7,21 +7,21 @@ use Rattle.std.specs.declared.alloc.Global.{Global}
 use Rattle.json.specs.Token.{Token}
 use Rattle.json.specs.Json.{Json, Items, no_items, item, Members, no_members, member}
 use Rattle.json.specs.Json as json
-use Rattle.bson_place.specs.Place.{Turn, key, element}
-use Rattle.bson_place.specs.declared.place.Step.{Step}
-use Rattle.bson_distinct.specs.Double.{turns}
+use Rattle.bson_place.specs.Place.{PathSegment, key, element}
+use Rattle.bson_place.specs.declared.place.Segment.{Segment}
+use Rattle.bson_distinct.specs.Double.{segments_of}
 
--- a way, or none
+-- a path, or none
 abbrev pub Verdict : Type 0
-Verdict = Option (List Turn)
+Verdict = Option (List PathSegment)
 
-abbrev pub within : Turn → Verdict → Verdict
+abbrev pub within : PathSegment → Verdict → Verdict
 within t None = None
-within t (Some way) = Some (way ++ t ∷ [])
+within t (Some path) = Some (path ++ t ∷ [])
 
 abbrev pub or : Verdict → Verdict → Verdict
 or None w = w
-or (Some way) w = Some way
+or (Some path) w = Some path
 
 -- of a member, whose key is new or stood before
 abbrev pub at_key : Bool → List ℕ → Verdict → Verdict
@@ -40,7 +40,7 @@ abbrev mutual
   double (json.array js) = double_items 0 js
   double (json.object ms) = double_members [] ms
 
-  -- of elements, the first of which has this place in its list
+  -- of elements, the first of which has this place in its array
   pub double_items : ℕ → Items → Verdict
   double_items n no_items = None
   double_items n (item j js) = or (within (element n) (double j)) (double_items (n + 1) js)
@@ -52,10 +52,10 @@ abbrev mutual
       or (at_key (not (stands_among before k)) k (double j)) (double_members (k ∷ before) ms)
 
 -- what an answer tells
-abbrev pub told : Option (Vec Step Global) → Verdict
-told way = option_map turns way
+abbrev pub told : Option (Vec Segment Global) → Verdict
+told path = option_map segments_of path
 
 -- a value or some were read, of which these tokens are left, and the answer tells their verdict
-abbrev pub Finds : {D : Type 0} → (D → Verdict) → Option (D × List Token) → Option (Vec Step Global) → List Token
+abbrev pub Finds : {D : Type 0} → (D → Verdict) → Option (D × List Token) → Option (Vec Segment Global) → List Token
     → Type 0
-Finds {D} f values way rest = (d : D) × (values ≡ Some (d, rest)) × (told way ≡ f d)
+Finds {D} f values path rest = (d : D) × (values ≡ Some (d, rest)) × (told path ≡ f d)

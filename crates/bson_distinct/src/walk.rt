@@ -5,7 +5,7 @@ ghost use Rattle.bson_tokens.specs.Parts.{IsBroken};
 ghost use Rattle.bson_distinct.specs.Double.{json_of, IsFirstDouble};
 ghost use Rattle.bson_distinct.specs.Found.{Finds, double, double_items, double_members};
 
-use crate::way::{Way, or_at, or_member};
+use crate::path::{KeyPath, or_at, or_member};
 use bson_tokens::unread::Unread;
 use json::{Reader, Scratch, Token};
 use std::alloc::Global;
@@ -14,7 +14,7 @@ use std::collections::BTreeSet;
 /// How deep arrays and objects may nest.
 const MAX_DEPTH: usize = 127;
 
-/// The way to the first key of the text that stands in its object before, from the key outward; or
+/// The path to the first key of the text that stands in its object before, from the key outward; or
 /// nothing where no object, at any depth, has a key twice.
 ///
 /// Keys are compared after their escapes are read. `Broken` is answered where the text is no JSON
@@ -22,12 +22,12 @@ const MAX_DEPTH: usize = 127;
 /// longest text with an escape.
 ///
 /// ```
-/// if let Some(way) = first_double_key(alloc, r#"{"a": [{"b": 1, "\u0062": 2}]}"#)? {
-///     println!(rt; "{way:?}")?; // [Key("b"), Element(0), Key("a")]
+/// if let Some(path) = first_double_key(alloc, r#"{"a": [{"b": 1, "\u0062": 2}]}"#)? {
+///     println!(rt; "{path:?}")?; // [Key("b"), Element(0), Key("a")]
 /// }
 /// ```
-pub fn first_double_key(alloc: Global, text: &str) -> Result<Option<Way>, Unread>
-    ensures ok { IfOk result (λ way. IsFirstDouble text.now way) }
+pub fn first_double_key(alloc: Global, text: &str) -> Result<Option<KeyPath>, Unread>
+    ensures ok { IfOk result (λ path. IsFirstDouble text.now path) }
     ensures broken { IfErr result (IsBroken (json_of text.now)) }
 {
     let mut scratch = Scratch::new(alloc);
@@ -40,8 +40,12 @@ pub fn first_double_key(alloc: Global, text: &str) -> Result<Option<Way>, Unread
 }
 
 #[cycle(walk)]
-fn walk_value(alloc: Global, reader: &mut Reader<'_>, depth: usize) -> Result<Option<Way>, Unread>
-    ensures ok { IfOk result (λ way. Finds double (value depth reader.old) way reader.new) }
+fn walk_value(
+    alloc: Global,
+    reader: &mut Reader<'_>,
+    depth: usize,
+) -> Result<Option<KeyPath>, Unread>
+    ensures ok { IfOk result (λ path. Finds double (value depth reader.old) path reader.new) }
     ensures broken { IfErr result (IsBroken (value depth reader.old)) }
     ensures shorter { OnOk result (length reader.new < length reader.old) }
 {
@@ -64,16 +68,20 @@ fn walk_value(alloc: Global, reader: &mut Reader<'_>, depth: usize) -> Result<Op
     }
 }
 
-// The elements of a list whose bracket was read.
+// The elements of an array whose bracket was read.
 #[cycle(walk)]
-fn walk_items(alloc: Global, reader: &mut Reader<'_>, depth: usize) -> Result<Option<Way>, Unread>
+fn walk_items(
+    alloc: Global,
+    reader: &mut Reader<'_>,
+    depth: usize,
+) -> Result<Option<KeyPath>, Unread>
     ensures ok { IfOk result
-        (λ way. Finds (double_items 0) (items (value depth) (length reader.old) reader.old) way reader.new) }
+        (λ path. Finds (double_items 0) (items (value depth) (length reader.old) reader.old) path reader.new) }
     ensures broken { IfErr result (IsBroken (items (value depth) (length reader.old) reader.old)) }
     ensures shorter { OnOk result (length reader.new < length reader.old) }
 {
     let mut at = 0usize;
-    let mut first: Option<Way> = None;
+    let mut first: Option<KeyPath> = None;
     'items: while !reader.take_end_array() {
         let item = walk_value(alloc, reader, depth)?;
         first = or_at(first, item, at)?;
@@ -84,14 +92,18 @@ fn walk_items(alloc: Global, reader: &mut Reader<'_>, depth: usize) -> Result<Op
 
 // The members of an object whose brace was read.
 #[cycle(walk)]
-fn walk_members(alloc: Global, reader: &mut Reader<'_>, depth: usize) -> Result<Option<Way>, Unread>
+fn walk_members(
+    alloc: Global,
+    reader: &mut Reader<'_>,
+    depth: usize,
+) -> Result<Option<KeyPath>, Unread>
     ensures ok { IfOk result
-        (λ way. Finds (double_members []) (members (value depth) (length reader.old) reader.old) way reader.new) }
+        (λ path. Finds (double_members []) (members (value depth) (length reader.old) reader.old) path reader.new) }
     ensures broken { IfErr result (IsBroken (members (value depth) (length reader.old) reader.old)) }
     ensures shorter { OnOk result (length reader.new < length reader.old) }
 {
     let mut keys = BTreeSet::new(alloc);
-    let mut first: Option<Way> = None;
+    let mut first: Option<KeyPath> = None;
     'members: while let Some(name) = reader.next_key()? {
         let is_new = keys.insert(name)?;
         let member = walk_value(alloc, reader, depth)?;

@@ -16,7 +16,7 @@ use thiserror::Error;
 #[derive(Clone, Copy, Debug, PartialEq, Eq, Error)]
 pub enum DoubleError {
     /// The text is no number: no sign or one, digits with at most one point and at least one digit,
-    /// and perhaps `e` or `E` with a whole number. Words, as `Infinity`, and spaces are none.
+    /// and perhaps `e` or `E` with an integer. Words, as `Infinity`, and spaces are none.
     #[error("the text is no number")]
     NotANumber,
     /// The double nearest to the number is an infinity: its size is at least 2^1024 - 2^970.

@@ -17,7 +17,7 @@ use Rattle.bson_scalar.specs.TreeText.{text_of}
 use Rattle.bson_scalar.specs.declared.form.Doubles.{Doubles}
 use Rattle.bson_scalar.specs.declared.form.Form.{Form}
 use Rattle.bson_model.specs.Sorted.{put_pair, IsLeast, KeysAscend}
-use Rattle.bson_model.specs.Turns.{HaveTurns, put_each, pairs_of}
+use Rattle.bson_model.specs.Stable.{IsStableByKey, put_each, pairs_of}
 use Rattle.bson_model.specs.Value.{Pairs, no_pairs}
 use Rattle.bson_model.specs.Writing.{writes_pairs_in}
 use Rattle.bson_model.proofs.Offered.{turned, put_ascending}
@@ -144,11 +144,11 @@ last_of_ascending last [] up = refl
 last_of_ascending last (p ∷ ps) up =
     rw (stands_once (piece_key p) ps up.1) (ap (λ l. p ∷ l) (last_of_ascending (Some (piece_key p)) ps up.1))
 
--- pieces whose keys keep their turns may be put in order first
-pub in_order_again : (ps qs : List Piece) (texts written : List ℕ) → HaveTurns piece_key ps qs → IsPermutation ps qs
+-- pieces that a stable sort gives may be put in order first
+pub in_order_again : (ps qs : List Piece) (texts written : List ℕ) → IsStableByKey piece_key ps qs → IsPermutation ps qs
     → InOrder qs texts written → InOrder ps texts written
-in_order_again ps qs texts written turns same o =
-    (o.0, λ p. o.1 p ∙ turns p, IsPermutation-trans ps qs o.0 same o.2, o.3, o.4)
+in_order_again ps qs texts written stable same o =
+    (o.0, λ p. o.1 p ∙ stable p, IsPermutation-trans ps qs o.0 same o.2, o.3, o.4)
 
 closed : (texts : List ℕ) (behind : Bool) (ps : List Piece)
     → open_text texts behind ps ++ 125 ∷ [] ≡ members_text texts behind ps

@@ -18,7 +18,7 @@ use Rattle.bson_model.specs.Writing.{writes_in, writes_pairs_in}
 use Rattle.bson_filter.specs.Pieces.{piece_key, piece_text, end_before, pieces_from, open_text}
 use Rattle.bson_filter.specs.Pieces.{Values, value_at, IsEnded, IsOpen, IsPiece, IsWithin, IsMemberText}
 use Rattle.bson_filter.specs.SortedWritten.{next_text, IsBegun, ValueAdded, KeyAdded}
-use Rattle.bson_model.specs.Turns.{put_each}
+use Rattle.bson_model.specs.Stable.{put_each}
 use Rattle.bson_filter.specs.Walked.{PairsWritten, keys_of, once}
 use Rattle.bson_filter.specs.declared.pieces.Piece.{Piece}
 use Rattle.bson_filter.specs.declared.sorted_text.Begun.{Begun}

@@ -1,6 +1,6 @@
 -- What is left to read and write, and what the whole is once it is done.
 --
--- Of a list or an object that is open it is told what the whole will be, whatever the rest turns out to be. So each
+-- Of an array or an object that is open it is told what the whole will be, whatever the rest turns out to be. So each
 -- turn puts one item or member before that rest, and nothing is ever put behind what was read.
 use Rattle.std.proofs.Common.{◌≡◌, ℕ, ◌+◌, ◌-◌, ◌<◌, ◌≤◌, List, [], ◌∷◌, ◌++◌, length, Option, Some, None}
 use Rattle.std.proofs.Common.{Ok, Bool, true, false, option_map, refl, ap, ◌∙◌}
@@ -24,7 +24,7 @@ use Rattle.bson_filter.proofs.Members.{as_they_stand, put_each, kept_each, free_
 use Rattle.bson_filter.proofs.Objects.{Key, texts, append_none, texts_more, step_more, begins, object_of, array_of}
 
 module _ {S : Type 0} (D : Doubles) (wrote : S → List ℕ → Value → S → Type 0) where
-  -- ---- lists
+  -- ---- arrays
 
   module _ (name : ℕ → List ℕ) where
     abbrev pub ItemsToGo : Option (json.Items × List Token) → Option (json.Items × List Token) → ℕ → S → S → Type 0

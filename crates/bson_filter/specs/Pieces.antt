@@ -15,7 +15,7 @@ use Rattle.bson_scalar.specs.declared.form.Doubles.{Doubles}
 use Rattle.bson_scalar.specs.declared.form.Form.{Form}
 use Rattle.bson_model.specs.Value.{Value}
 use Rattle.bson_model.specs.Writing.{writes_in}
-use Rattle.bson_model.specs.Turns.{HaveTurns}
+use Rattle.bson_model.specs.Stable.{IsStableByKey}
 use Rattle.bson_filter.specs.declared.pieces.Piece.{Piece}
 
 abbrev pub piece_key : Piece → List ℕ
@@ -85,7 +85,7 @@ last_ones (p ∷ ps) = if stands_again (piece_key p) ps then last_ones ps else p
 -- the object's text by ascending key, of each key the last piece
 abbrev pub InOrder : List Piece → List ℕ → List ℕ → Type 0
 InOrder pieces texts written =
-    (ps : List Piece) × HaveTurns piece_key pieces ps × IsPermutation pieces ps × Ascend None (last_ones ps)
+    (ps : List Piece) × IsStableByKey piece_key pieces ps × IsPermutation pieces ps × Ascend None (last_ones ps)
     × (written ≡ object_text texts (last_ones ps))
 
 -- the texts of the pieces stand behind those of old as they came

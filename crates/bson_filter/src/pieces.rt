@@ -5,7 +5,7 @@ ghost use Rattle.std.specs.List.{All};
 ghost use Rattle.std.specs.List.Sorted.{IsPermutation};
 ghost use Rattle.bson_filter.specs.Pieces.{end_before, pieces_from, piece_key, object_text, last_ones, stands_again, Ascend};
 ghost use Rattle.bson_filter.specs.Pieces.{Follows, InOrder, IsEnded, IsOpen, IsWithin, KeysAscend};
-ghost use Rattle.bson_model.specs.Turns.{HaveTurns};
+ghost use Rattle.bson_model.specs.Stable.{IsStableByKey};
 ghost use Rattle.serde_json.specs.Written.{comma_if};
 
 use crate::unstreamed::Unstreamed;
@@ -134,7 +134,7 @@ fn many_in_order(
     ensures { IfOk result (λ s. IfSome s (λ written. InOrder pieces.entry.items texts.now.items written.items)) }
 {
     sort_by_prefix(&mut pieces)?;
-    if let Some(written) = joined(alloc, &pieces, start, texts)? {
+    if let Some(written) = join_pieces(alloc, &pieces, start, texts)? {
         return Ok(Some(written));
     }
     few_in_order(alloc, pieces, start, texts)
@@ -150,11 +150,11 @@ fn few_in_order(
     ensures { IfOk result (λ s. IfSome s (λ written. InOrder pieces.entry.items texts.now.items written.items)) }
 {
     sort_by_key(&mut pieces)?;
-    joined(alloc, &pieces, start, texts)
+    join_pieces(alloc, &pieces, start, texts)
 }
 
 fn sort_by_prefix(pieces: &mut Vec<Piece<'_>>) -> Result<(), AllocError>
-    ensures turns { OnOk result (HaveTurns piece_key pieces.old.items pieces.new.items) }
+    ensures stable { OnOk result (IsStableByKey piece_key pieces.old.items pieces.new.items) }
     ensures same { IsPermutation pieces.old.items pieces.new.items }
 {
     pieces.sort_by_cached_key(|piece| prefix_of(piece.key.as_bytes()))?;
@@ -162,7 +162,7 @@ fn sort_by_prefix(pieces: &mut Vec<Piece<'_>>) -> Result<(), AllocError>
 }
 
 fn sort_by_key(pieces: &mut Vec<Piece<'_>>) -> Result<(), AllocError>
-    ensures turns { OnOk result (HaveTurns piece_key pieces.old.items pieces.new.items) }
+    ensures stable { OnOk result (IsStableByKey piece_key pieces.old.items pieces.new.items) }
     ensures same { IsPermutation pieces.old.items pieces.new.items }
 {
     pieces.sort_by(|one, other| one.key.cmp(other.key))?;
@@ -171,7 +171,7 @@ fn sort_by_key(pieces: &mut Vec<Piece<'_>>) -> Result<(), AllocError>
 
 // The texts in the order of the pieces, as an object, of those of one key that stand side by side
 // the last; none where the keys do not ascend.
-fn joined(
+fn join_pieces(
     alloc: Global,
     pieces: &Vec<Piece<'_>>,
     start: usize,

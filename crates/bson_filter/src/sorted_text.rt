@@ -78,7 +78,7 @@ impl SortedWriter {
         Ok(())
     }
 
-    fn here(&self) -> Begun
+    fn position(&self) -> Begun
         ensures start { result.start ≡ length self.now.text.items }
         ensures held { result.held ≡ length self.now.starts.items }
     {
@@ -139,7 +139,7 @@ impl ValueWriter for SortedWriter {
 
     fn begin_array(&mut self, _name: &str) -> Result<Begun, Unstreamed> {
         self.add_comma()?;
-        let begun = self.here();
+        let begun = self.position();
         self.add_byte(b'[', false)?;
         Ok(begun)
     }
@@ -154,7 +154,7 @@ impl ValueWriter for SortedWriter {
 
     fn begin(&mut self) -> Result<Begun, Unstreamed> {
         self.add_comma()?;
-        let begun = self.here();
+        let begun = self.position();
         self.add_byte(b'{', false)?;
         Ok(begun)
     }
@@ -176,7 +176,7 @@ impl ValueWriter for SortedWriter {
 
     fn begin_code(&mut self, _name: &str, code: &str) -> Result<Begun, Unstreamed> {
         let mut part = self.begin_part()?;
-        let begun = self.here();
+        let begun = self.position();
         put_code(code, &mut part)?;
         self.add_part(part, false)?;
         Ok(begun)

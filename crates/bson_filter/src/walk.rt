@@ -19,7 +19,7 @@ use bson_scalar::doubles::read_number;
 use bson_scalar::form::Doubles;
 use bson_scalar::read::read_wrapper;
 use bson_scalar::scalar::Scalar;
-use bson_scalar::wrapper::{Wrapper, named};
+use bson_scalar::wrapper::{Wrapper, wrapper_named};
 use bson_tokens::held::read_held;
 use bson_tokens::number::number;
 use itoa::Buffer;
@@ -148,7 +148,7 @@ fn write_object<'a, W: ValueWriter>(
 {
     let first = reader.next_key()?;
     if let Some(key) = first {
-        if let Some(wrapper) = named(key) {
+        if let Some(wrapper) = wrapper_named(key) {
             return write_wrapper(alloc, doubles, reader, depth, wrapper, key, name, keys, out);
         }
     }
@@ -196,7 +196,7 @@ pub fn write_document<'a, W: ValueWriter>(
 fn is_misplaced(is_document: bool, key: &str) -> bool
     ensures { result ≡ (is_document && is_some (wrapper_of key.now)) }
 {
-    is_document && named(key).is_some()
+    is_document && wrapper_named(key).is_some()
 }
 
 // The wrapper whose key was read: of that key alone, or code with its scope behind it.

@@ -40,7 +40,7 @@ pub trait ValueWriter {
     fn string(&mut self, name: &str, text: &str) -> Result<(), Unstreamed>
         ensures { OnOk result (wrote self.old name.now (scalar (kind.text text.now)) self.new) };
 
-    /// Writes a truth value.
+    /// Writes a boolean.
     fn boolean(&mut self, name: &str, truth: bool) -> Result<(), Unstreamed>
         ensures { OnOk result (wrote self.old name.now (scalar (kind.boolean truth)) self.new) };
 

@@ -42,7 +42,7 @@ pub breaks : {A B X : Type 0} (r : Result X Unread) (a : Option A) (b : Option B
     → IfErr r (IsBroken a) → IfErr r (IsBroken b)
 breaks r a b so h = IfErr-weaker r (IsBroken a) (IsBroken b) (λ e none broken. so (none broken)) h
 
--- ---- lists
+-- ---- arrays
 
 item_behind : (j : Json) (old : List Token) (o : Option (Items × List Token))
     → whole of_items old (parse_map (item j) o) ≡ whole of_items (old ++ of_value j) o

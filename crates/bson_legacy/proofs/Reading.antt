@@ -57,7 +57,7 @@ module _ (depth : ℕ) where
       same_turns (members (value depth)) (λ n. members_no_key (value depth) n [] refl)
       (λ n m ts same. member_turn (members (value depth) n) (members (value depth) m) ts same (read_key ts) refl)
 
-  -- ---- one more element, the end of the list, and where it breaks
+  -- ---- one more element, the end of the array, and where it breaks
 
   pub one_item : (ts r : List Token) (j : Json) → after_end_array ts ≡ None → value depth ts ≡ Some (j, r)
       → elements depth ts ≡ parse_map (item j) (elements depth r)

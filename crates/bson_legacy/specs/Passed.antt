@@ -5,7 +5,7 @@ use Rattle.json.specs.Token.{Token}
 use Rattle.json.specs.Tree.{json_tokens, items_tokens, members_tokens}
 use Rattle.bson_legacy.specs.Modern.{modern, modern_items, modern_members}
 
--- the elements of a list to its end, and the members of an object to its end
+-- the elements of an array to its end, and the members of an object to its end
 abbrev pub elements : ℕ → Parse Items
 elements depth ts = items (value depth) (length ts) ts
 

@@ -46,11 +46,11 @@ pub fn modern_text(alloc: Global, text: &str) -> Result<String, Unread>
     if reader.next().is_some() {
         return Err(Unread::Broken);
     }
-    Ok(finished(out))
+    Ok(into_text(out))
 }
 
 // The text that was written.
-fn finished(out: Writer) -> String
+fn into_text(out: Writer) -> String
     requires { out.before ≡ [] }
     ensures text { string_bytes result ≡ print out.tokens }
     ensures again { tokens (print out.tokens) ≡ out.tokens }
@@ -111,7 +111,7 @@ fn write_begun<'a>(
     }
 }
 
-// The elements of a list, and its end.
+// The elements of an array, and its end.
 #[cycle(write)]
 fn write_items<'a>(
     alloc: Global,

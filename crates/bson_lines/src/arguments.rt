@@ -197,7 +197,7 @@ impl Given {
     }
 
     /// What all words ask for.
-    pub fn asked(self) -> Result<Asked, AllocError>
+    pub fn answer(self) -> Result<Asked, AllocError>
         ensures { IfOk result (λ asked. IsAnswer self asked) }
     {
         let Some(task) = self.task else {

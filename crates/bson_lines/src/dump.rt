@@ -4,7 +4,7 @@ ghost use Rattle.bson_lines.specs.Stops.{IsLineFor};
 
 use crate::order::Order;
 use crate::progress::{Counted, Verdicts};
-use crate::run::{Stop, unwritten};
+use crate::run::{Stop, write_stop};
 use crate::streams::{Sink, Source};
 use bson::extjson::Form;
 use bson_codec::de::DEPTH;
@@ -36,7 +36,7 @@ pub fn run_dump<'a>(
         }),
         Err(end) => Err(match end.fault {
             RunFault::CannotRead => Stop::Input(name, reader.error),
-            RunFault::CannotWrite => unwritten(order, sink, report),
+            RunFault::CannotWrite => write_stop(order, sink, report),
             _ => Stop::Document(name, end),
         }),
     }

@@ -20,11 +20,11 @@ mod whole;
 mod words;
 
 use crate::messages::{line_of, summary};
-use crate::order::{Asked, Order, STANDARD, asked_by};
+use crate::order::{Asked, Order, STANDARD, parse_arguments};
 use crate::run::{Stop, run};
 use crate::words::{HELP, OUT_OF_MEMORY, USAGE, VERSION};
 use bson_convert::fault::Fault;
-use bson_convert::program::{ended, words_given};
+use bson_convert::program::{exit_with, words_given};
 use std::alloc::AllocError;
 use std::io::ErrorKind;
 use std::process::ExitCode;
@@ -36,51 +36,51 @@ const NO_READER: u8 = 141;
 // on, which standard error tells. Status 2: other arguments, and nothing was read. Status 141:
 // nobody reads the output any more, and nothing is told.
 fn main(rt: HostRuntime) -> ExitCode {
-    match given(&rt) {
-        Ok(Asked::Run(order)) => done(&rt, &order),
-        Ok(Asked::Help) => shown(&rt, HELP),
-        Ok(Asked::Version) => shown(&rt, VERSION),
-        Ok(Asked::Nothing) => ended(&rt, USAGE, 2),
-        Err(_) => ended(&rt, OUT_OF_MEMORY, 1),
+    match read_order(&rt) {
+        Ok(Asked::Run(order)) => run_order(&rt, &order),
+        Ok(Asked::Help) => print_text(&rt, HELP),
+        Ok(Asked::Version) => print_text(&rt, VERSION),
+        Ok(Asked::Nothing) => exit_with(&rt, USAGE, 2),
+        Err(_) => exit_with(&rt, OUT_OF_MEMORY, 1),
     }
 }
 
 // What the arguments ask for. One that is no UTF-8 asks for nothing.
-fn given(rt: &HostRuntime) -> Result<Asked, Fault> {
+fn read_order(rt: &HostRuntime) -> Result<Asked, Fault> {
     let Some(words) = words_given(rt)? else {
         return Ok(Asked::Nothing);
     };
-    match asked_by(rt.alloc(), words) {
+    match parse_arguments(rt.alloc(), words) {
         Ok(asked) => Ok(asked),
         Err(_) => Err(Fault::OutOfMemory),
     }
 }
 
 // Runs, and tells what came of it.
-fn done(rt: &HostRuntime, order: &Order) -> ExitCode {
+fn run_order(rt: &HostRuntime, order: &Order) -> ExitCode {
     match run(rt, order) {
         Ok(counts) if counts.refused == 0 => ExitCode::SUCCESS,
-        Ok(counts) => told(rt, summary(rt.alloc(), order.input, counts)),
+        Ok(counts) => end_with(rt, summary(rt.alloc(), order.input, counts)),
         Err(Stop::Output(_, Some(error))) if error.kind() == ErrorKind::BrokenPipe => {
             ExitCode::from(NO_READER)
         }
-        Err(stop) => told(rt, line_of(rt.alloc(), stop)),
+        Err(stop) => end_with(rt, line_of(rt.alloc(), stop)),
     }
 }
 
 // Status 1, once the line was given to standard error.
-fn told(rt: &HostRuntime, line: Result<String, AllocError>) -> ExitCode {
+fn end_with(rt: &HostRuntime, line: Result<String, AllocError>) -> ExitCode {
     match line {
-        Ok(line) => ended(rt, &line, 1),
-        Err(_) => ended(rt, OUT_OF_MEMORY, 1),
+        Ok(line) => exit_with(rt, &line, 1),
+        Err(_) => exit_with(rt, OUT_OF_MEMORY, 1),
     }
 }
 
 // Writes what the program says of itself.
-fn shown(rt: &HostRuntime, text: &str) -> ExitCode {
+fn print_text(rt: &HostRuntime, text: &str) -> ExitCode {
     match rt.println(text) {
         Ok(()) => ExitCode::SUCCESS,
         Err(error) if error.kind() == ErrorKind::BrokenPipe => ExitCode::from(NO_READER),
-        Err(error) => told(rt, line_of(rt.alloc(), Stop::Output(STANDARD, Some(error)))),
+        Err(error) => end_with(rt, line_of(rt.alloc(), Stop::Output(STANDARD, Some(error)))),
     }
 }

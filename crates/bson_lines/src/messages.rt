@@ -47,15 +47,15 @@ pub fn line_of(alloc: Global, stop: Stop<'_>) -> Result<String, AllocError>
 {
     match stop {
         Stop::Input(name, error) => {
-            let (name, cause) = (shown(alloc, name, "input")?, cause_of(alloc, error)?);
+            let (name, cause) = (show_name(alloc, name, "input")?, cause_of(alloc, error)?);
             format!(in alloc; "bson_lines: cannot read {name}{cause}")
         }
         Stop::Output(name, error) => {
-            let (name, cause) = (shown(alloc, name, "output")?, cause_of(alloc, error)?);
+            let (name, cause) = (show_name(alloc, name, "output")?, cause_of(alloc, error)?);
             format!(in alloc; "bson_lines: cannot write {name}{cause}")
         }
         Stop::Both(name) => {
-            let name = shown(alloc, name, "input")?;
+            let name = show_name(alloc, name, "input")?;
             format!(in alloc; "bson_lines: {name} is read and written")
         }
         Stop::Terminal => String::from_str(alloc, TERMINAL),
@@ -80,8 +80,11 @@ fn document_words(alloc: Global, end: RunEnd) -> Result<String, AllocError>
     ensures { IfOk result (λ words. string_bytes words ≡ document_words end.number end.start end.fault) }
 {
     match end.fault {
-        RunFault::CannotRead | RunFault::CannotWrite => String::from_str(alloc, end.fault.words()),
-        _ => end.told(alloc),
+        RunFault::CannotRead | RunFault::CannotWrite => String::from_str(
+            alloc,
+            end.fault.message(),
+        ),
+        _ => end.to_line(alloc),
     }
 }
 
@@ -90,7 +93,7 @@ fn at_line(alloc: Global, name: &str, refusal: Refusal) -> Result<String, AllocE
     ensures { IfOk result (λ line. string_bytes line
         ≡ told_at name.now refusal.line refusal.fault (string_bytes refusal.place)) }
 {
-    let words = refusal.fault.words();
+    let words = refusal.fault.message();
     if is_of_stream(&refusal.fault) {
         return format!(in alloc; "bson_lines: {words}");
     }
@@ -114,7 +117,7 @@ fn at_text(alloc: Global, name: &str, refusal: Refusal) -> Result<String, AllocE
     if refusal.line > 0 {
         return at_line(alloc, name, refusal);
     }
-    let words = refusal.fault.words();
+    let words = refusal.fault.message();
     let head = head_of(alloc, name)?;
     let place = refusal.place.as_str();
     format!(in alloc; "{head}: {words}{place}")
@@ -127,7 +130,7 @@ pub fn head_of(alloc: Global, name: &str) -> Result<String, AllocError>
     if name == STANDARD {
         return String::from_str(alloc, "bson_lines");
     }
-    escaped(alloc, name)
+    escape_name(alloc, name)
 }
 
 // The same with the number of a line.
@@ -137,22 +140,22 @@ fn line_head(alloc: Global, name: &str, number: u64) -> Result<String, AllocErro
     if name == STANDARD {
         return format!(in alloc; "bson_lines: line {number}");
     }
-    let name = escaped(alloc, name)?;
+    let name = escape_name(alloc, name)?;
     format!(in alloc; "{name}:{number}")
 }
 
 // A file as messages name it.
-fn shown(alloc: Global, name: &str, stream: &str) -> Result<String, AllocError>
+fn show_name(alloc: Global, name: &str, stream: &str) -> Result<String, AllocError>
     ensures { IfOk result (λ shown. string_bytes shown ≡ shown_name name.now stream.now) }
 {
     if name == STANDARD {
         return format!(in alloc; "standard {stream}");
     }
-    escaped(alloc, name)
+    escape_name(alloc, name)
 }
 
 // A name on one line, that steers no terminal.
-fn escaped(alloc: Global, name: &str) -> Result<String, AllocError>
+fn escape_name(alloc: Global, name: &str) -> Result<String, AllocError>
     ensures { IfOk result (λ escaped. string_bytes escaped ≡ escaped_name name.now) }
 {
     let mut escaped = String::new(alloc);
@@ -192,7 +195,7 @@ fn cause_of(alloc: Global, error: Option<Error>) -> Result<String, AllocError>
 
 /// Verdicts on lines, with a file's name and the line's number in front, as editors and grep have
 /// them; on documents, with the name in front.
-pub fn named(alloc: Global, name: &str, verdicts: &[u8]) -> Result<Vec<u8>, AllocError>
+pub fn name_verdicts(alloc: Global, name: &str, verdicts: &[u8]) -> Result<Vec<u8>, AllocError>
     ensures { IfOk result (λ named. named.items ≡ all_under name.now verdicts.now) }
 {
     let mut named = Vec::new(alloc);

@@ -73,7 +73,7 @@ impl Order {
 
 /// What the words after the program's name ask for: a mode, then names of files, with options
 /// anywhere before a word `--`, each once at most.
-pub fn asked_by(alloc: Global, words: Vec<String>) -> Result<Asked, AllocError>
+pub fn parse_arguments(alloc: Global, words: Vec<String>) -> Result<Asked, AllocError>
     ensures { IfOk result (λ asked. IsAskedBy (map string_bytes words.items) asked) }
 {
     let mut given = Given::new(alloc);
@@ -85,5 +85,5 @@ pub fn asked_by(alloc: Global, words: Vec<String>) -> Result<Asked, AllocError>
             Taken::Unknown => return Ok(Asked::Nothing),
         }
     }
-    given.asked()
+    given.answer()
 }

@@ -40,7 +40,7 @@ impl Output {
             Ok(old) if old.is_file() => replacing(rt, name, &old),
             Err(error) if error.kind() == ErrorKind::NotFound && !is_link(rt, name) => {
                 let file = String::from_str(rt.alloc(), name)?;
-                beside(rt, file, None)
+                open_beside(rt, file, None)
             }
             _ => Ok(whole(Target::File(File::create(rt, name)?))),
         }
@@ -54,7 +54,7 @@ impl Output {
         let Some(part) = part else {
             return Ok(());
         };
-        match placed(rt, &part, &sink.target) {
+        match put_in_place(rt, &part, &sink.target) {
             Ok(()) => Ok(()),
             Err(error) => {
                 let _ = fs::remove_file(rt, part.path.as_str());
@@ -96,11 +96,11 @@ fn replacing(rt: &HostRuntime, name: &str, old: &Metadata) -> io::Result<Output>
 {
     drop(OpenOptions::new().write(true).open(rt, name)?);
     let file = fs::canonicalize(rt, name)?.into_string();
-    beside(rt, file, Some(old))
+    open_beside(rt, file, Some(old))
 }
 
 // Output beside a file, by the process's number, with the rights of the old one.
-fn beside(rt: &HostRuntime, file: String, old: Option<&Metadata>) -> io::Result<Output>
+fn open_beside(rt: &HostRuntime, file: String, old: Option<&Metadata>) -> io::Result<Output>
     ensures { IfOk result (λ output. IfSome output.part IsBeside) }
 {
     let number = process::id(rt.process());
@@ -123,7 +123,7 @@ fn beside(rt: &HostRuntime, file: String, old: Option<&Metadata>) -> io::Result<
 }
 
 // The part takes the place of the file, once the system has all of it.
-fn placed(rt: &HostRuntime, part: &Part, target: &Target) -> io::Result<()> {
+fn put_in_place(rt: &HostRuntime, part: &Part, target: &Target) -> io::Result<()> {
     if part.replaces {
         target.sync()?;
     }

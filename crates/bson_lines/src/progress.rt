@@ -3,7 +3,7 @@ ghost use Rattle.std.specs.Prelude.{◌≡◌, ◌==◌, count_by, OnOk};
 ghost use Rattle.std.specs.Io.KnownBytes.{Appends};
 ghost use Rattle.bson_lines.specs.Stops.{told_under};
 
-use crate::messages::named;
+use crate::messages::name_verdicts;
 use std::alloc::Global;
 use std::cell::Cell;
 use std::io;
@@ -49,7 +49,7 @@ impl<'a> Progress<'a> {
     }
 
     // Counts bytes that were read.
-    fn took(&self, bytes: &[u8]) {
+    fn add_bytes(&self, bytes: &[u8]) {
         if let Some(total) = self.total {
             self.read
                 .set(self.read.get().saturating_add(bytes.len() as u64));
@@ -109,7 +109,7 @@ impl<R: Read> Read for Counted<'_, R> {
     fn read(&mut self, buf: &mut [u8]) -> io::Result<usize> {
         match self.reader.read(buf) {
             Ok(count) => {
-                self.progress.took(&buf[..count]);
+                self.progress.add_bytes(&buf[..count]);
                 Ok(count)
             }
             Err(error) => {
@@ -140,7 +140,7 @@ impl<T: Write> Verdicts<'_, T> {
         match &self.name {
             None => self.writer.write_all(verdicts),
             Some(name) => {
-                let verdicts = named(self.alloc, name.as_str(), verdicts)?;
+                let verdicts = name_verdicts(self.alloc, name.as_str(), verdicts)?;
                 self.writer.write_all(&verdicts)
             }
         }

@@ -138,14 +138,14 @@ fn run_each<'a>(
         Ok(counts) => Ok(counts),
         Err(refusal) => Err(match refusal.fault {
             Fault::CannotRead => Stop::Input(name, reader.error),
-            Fault::CannotWrite => unwritten(order, sink, report),
+            Fault::CannotWrite => write_stop(order, sink, report),
             _ => Stop::Line(name, refusal),
         }),
     }
 }
 
 /// What could not be written: verdicts, or else the output.
-pub fn unwritten<'a>(order: &'a Order, sink: &Sink, report: &Verdicts<'_, Stderr>) -> Stop<'a>
+pub fn write_stop<'a>(order: &'a Order, sink: &Sink, report: &Verdicts<'_, Stderr>) -> Stop<'a>
     ensures { IsUnwritten order.now report.now.error sink.now.error result }
 {
     match report.error {

@@ -19,7 +19,7 @@ use bson_run::indented::{convert_in_order_indented, convert_indented};
 use bson_run::order::{Task, Work};
 use bson_run::refusal::Refusal;
 use bson_run::stop::Stop;
-use bson_run::taken::taken;
+use bson_run::taken::take_as;
 use std::alloc::{AllocError, Global};
 use std::io::{Read, Write};
 
@@ -41,20 +41,20 @@ pub fn convert_whole<R: Read, W: Write>(
 {
     let bytes = match read_whole(alloc, reader) {
         Ok(bytes) => bytes,
-        Err(fault) => return Err(placeless(alloc, fault)),
+        Err(fault) => return Err(bare_refusal(alloc, fault)),
     };
-    let text = behind(mark, &bytes);
-    match given(alloc, order, text) {
+    let text = strip_mark(mark, &bytes);
+    match run_task(alloc, order, text) {
         Ok(output) => match writer.write_all(&output) {
             Ok(()) => Ok(()),
-            Err(_) => Err(placeless(alloc, Fault::CannotWrite)),
+            Err(_) => Err(bare_refusal(alloc, Fault::CannotWrite)),
         },
-        Err(fault) => Err(told(alloc, fault, text)),
+        Err(fault) => Err(refusal_of(alloc, fault, text)),
     }
 }
 
 // The bytes behind the mark, if that stands before them.
-fn behind<'a>(mark: &[u8], bytes: &'a [u8]) -> &'a [u8]
+fn strip_mark<'a>(mark: &[u8], bytes: &'a [u8]) -> &'a [u8]
     ensures { result.now ≡ behind mark.now bytes.now }
 {
     if bytes.starts_with(mark) {
@@ -65,37 +65,37 @@ fn behind<'a>(mark: &[u8], bytes: &'a [u8]) -> &'a [u8]
 }
 
 // What is written of the text.
-fn given(alloc: Global, order: &Order, bytes: &[u8]) -> Result<Vec<u8>, Fault>
+fn run_task(alloc: Global, order: &Order, bytes: &[u8]) -> Result<Vec<u8>, Fault>
     ensures ok { IfOk result (λ output. Gives order.now order.now.task bytes.now output.items) }
     ensures fault { IfErr result (λ fault. IsUngiven order.now.options order.now.task fault bytes.now) }
 {
     match order.task {
-        Task::Write(mode) => written(alloc, order, mode, bytes),
-        Task::WriteInOrder(mode) => written_in_order(alloc, order, mode, bytes),
-        Task::Check => checked(alloc, order, bytes),
+        Task::Write(mode) => write_text(alloc, order, mode, bytes),
+        Task::WriteInOrder(mode) => write_in_order(alloc, order, mode, bytes),
+        Task::Check => check(alloc, order, bytes),
         Task::Encode => encode_with(alloc, order.options, bytes),
         Task::EncodeInOrder => encode_in_order(alloc, order.options, bytes),
-        Task::Taken(taking, work) => match taken(alloc, taking, bytes)? {
-            Some(modern) => worked(alloc, order, work, modern.as_bytes()),
-            None => worked(alloc, order, work, bytes),
+        Task::Taken(taking, work) => match take_as(alloc, taking, bytes)? {
+            Some(modern) => work_on(alloc, order, work, modern.as_bytes()),
+            None => work_on(alloc, order, work, bytes),
         },
     }
 }
 
 // What is written of a text that was taken.
-fn worked(alloc: Global, order: &Order, work: Work, bytes: &[u8]) -> Result<Vec<u8>, Fault>
+fn work_on(alloc: Global, order: &Order, work: Work, bytes: &[u8]) -> Result<Vec<u8>, Fault>
     ensures ok { IfOk result (λ output. Works order.now work bytes.now output.items) }
     ensures fault { IfErr result (λ fault. IsRefusedIn order.now.options fault bytes.now) }
 {
     match work {
-        Work::Write(mode) => written(alloc, order, mode, bytes),
-        Work::WriteInOrder(mode) => written_in_order(alloc, order, mode, bytes),
-        Work::Check => checked(alloc, order, bytes),
+        Work::Write(mode) => write_text(alloc, order, mode, bytes),
+        Work::WriteInOrder(mode) => write_in_order(alloc, order, mode, bytes),
+        Work::Check => check(alloc, order, bytes),
     }
 }
 
 // The output in the mode, over several lines where that is asked for.
-fn written(alloc: Global, order: &Order, mode: Mode, bytes: &[u8]) -> Result<Vec<u8>, Fault>
+fn write_text(alloc: Global, order: &Order, mode: Mode, bytes: &[u8]) -> Result<Vec<u8>, Fault>
     ensures ok { IfOk result (λ output. Lays order.now.options order.now.indent mode bytes.now output.items) }
     ensures fault { IfErr result (λ fault. IsRefusedIn order.now.options fault bytes.now) }
 {
@@ -107,12 +107,7 @@ fn written(alloc: Global, order: &Order, mode: Mode, bytes: &[u8]) -> Result<Vec
 }
 
 // The same in the order of the text's keys.
-fn written_in_order(
-    alloc: Global,
-    order: &Order,
-    mode: Mode,
-    bytes: &[u8],
-) -> Result<Vec<u8>, Fault>
+fn write_in_order(alloc: Global, order: &Order, mode: Mode, bytes: &[u8]) -> Result<Vec<u8>, Fault>
     ensures ok { IfOk result (λ output. LaysInOrder order.now.options order.now.indent mode bytes.now output.items) }
     ensures fault { IfErr result (λ fault. IsRefusedIn order.now.options fault bytes.now) }
 {
@@ -124,7 +119,7 @@ fn written_in_order(
 }
 
 // Nothing, of a text that means a value.
-fn checked(alloc: Global, order: &Order, bytes: &[u8]) -> Result<Vec<u8>, Fault>
+fn check(alloc: Global, order: &Order, bytes: &[u8]) -> Result<Vec<u8>, Fault>
     ensures ok { IfOk result (λ output. Checks order.now.options bytes.now output.items) }
     ensures fault { IfErr result (λ fault. IsRefusedIn order.now.options fault bytes.now) }
 {
@@ -147,19 +142,19 @@ fn layout(order: &Order, mode: Mode) -> Option<(Form, usize)>
 }
 
 // Why the text was refused, and where.
-fn told(alloc: Global, fault: Fault, bytes: &[u8]) -> Refusal
+fn refusal_of(alloc: Global, fault: Fault, bytes: &[u8]) -> Refusal
     ensures fault { (result.fault ≡ fault) ⊎ (result.fault ≡ Fault.OutOfMemory) }
     ensures place { IsWhere result.fault (string_bytes result.place) }
     ensures line { (result.fault ≡ Fault.NotJson) ⊎ (result.line ≡ 0) }
 {
-    match placed(alloc, &fault, bytes) {
+    match place_of(alloc, &fault, bytes) {
         Ok((line, place)) => Refusal { line, fault, place },
-        Err(_) => placeless(alloc, Fault::OutOfMemory),
+        Err(_) => bare_refusal(alloc, Fault::OutOfMemory),
     }
 }
 
 // A fault that no text has.
-fn placeless(alloc: Global, fault: Fault) -> Refusal
+fn bare_refusal(alloc: Global, fault: Fault) -> Refusal
     ensures fault { result.fault ≡ fault }
     ensures line { result.line ≡ 0 }
     ensures place { string_bytes result.place ≡ [] }
@@ -171,7 +166,7 @@ fn placeless(alloc: Global, fault: Fault) -> Refusal
     }
 }
 
-fn placed(alloc: Global, fault: &Fault, bytes: &[u8]) -> Result<(u64, String), AllocError>
+fn place_of(alloc: Global, fault: &Fault, bytes: &[u8]) -> Result<(u64, String), AllocError>
     ensures line { IfOk result (λ at. (fault.now ≡ Fault.NotJson) ⊎ (at.0 ≡ 0)) }
     ensures place { IfOk result (λ at. IsWhere fault.now (string_bytes at.1)) }
 {

@@ -1,4 +1,4 @@
--- Why a tree means nothing: the first fault that reading it meets, of a list's elements in their order, of a map's
+-- Why a tree means nothing: the first fault that reading it meets, of an array's elements in their order, of a map's
 -- values by ascending key, and of a wrapper as a whole. It is an object id's text where that alone is wrong.
 use Rattle.std.specs.Prelude.{◌≡◌, ℕ, List, Result, Ok, Err}
 use Rattle.serde_json.specs.Data.{Data, Members}

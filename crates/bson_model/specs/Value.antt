@@ -3,7 +3,7 @@ use Rattle.std.specs.Prelude.{ℕ, List, [], ◌∷◌, cond, Option, None, Some
 use Rattle.std.specs.Str.{bytes_eq}
 use Rattle.bson_scalar.specs.Scalar.{Scalar}
 
--- a value that holds no other, code with its scope, a list, or a document; a scope is a document
+-- a value that holds no other, code with its scope, an array, or a document; a scope is a document
 mutual
   pub data Value : Type 0 where
     scalar : Scalar → Value

@@ -37,7 +37,7 @@ fn options() -> Options
 }
 
 /// The text of the document that the bytes are: canonical, its keys in their own order.
-pub fn decoded(alloc: Global, bytes: &[u8], depth: usize) -> Result<String, NotAgain>
+pub fn decode_bytes(alloc: Global, bytes: &[u8], depth: usize) -> Result<String, NotAgain>
     // It is that of the one document that they are in the grammar.
     ensures ok { (ps : Pairs) → IsRead depth bytes.now ps
         → IfOk result (λ text. IsTextInOrder Finite Canonical (document ps) (string_bytes text)) }
@@ -67,7 +67,7 @@ pub fn text_again(alloc: Global, text: &[u8], depth: usize) -> Result<String, No
         Ok(bytes) => bytes,
         Err(fault) => return Err(NotAgain::NoBytes(fault)),
     };
-    decoded(alloc, bytes.as_slice(), depth)
+    decode_bytes(alloc, bytes.as_slice(), depth)
 }
 
 /// Bytes to a text, and that to bytes.
@@ -78,7 +78,7 @@ pub fn bytes_again(alloc: Global, bytes: &[u8], depth: usize) -> Result<Vec<u8>,
     // Memory alone is wanting for it.
     ensures only { (ps : Pairs) → IsCanonical depth bytes.now ps → ComesBack ps → IfErr result (λ e. IsWant e) }
 {
-    let text = decoded(alloc, bytes, depth)?;
+    let text = decode_bytes(alloc, bytes, depth)?;
     match encode_in_order(alloc, options(), text.as_bytes()) {
         Ok(again) => Ok(again),
         Err(fault) => Err(NotAgain::NoBytes(fault)),

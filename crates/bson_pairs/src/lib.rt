@@ -20,7 +20,7 @@ use std::alloc::Global;
 /// wrapper key of its own, they are equal exactly if the values' normal forms are the same.
 ///
 /// A value that holds a finite double other than zero, at any depth, is refused as `FiniteDouble`,
-/// and want of memory is `OutOfMemory`.
+/// and running out of memory is `OutOfMemory`.
 pub fn have_one_text(alloc: Global, left: &Bson, right: &Bson) -> Result<bool, WriteError>
     ensures { plain (bson_view left.now) ≡ true → plain (bson_view right.now) ≡ true
         → IfOk result
@@ -36,7 +36,7 @@ pub fn have_one_text(alloc: Global, left: &Bson, right: &Bson) -> Result<bool, W
 /// plain values they are equal exactly if the values' normal forms are the same, narrowed in the
 /// relaxed form.
 ///
-/// With `Doubles::Finite` each value has a text: only want of memory may come in its place.
+/// With `Doubles::Finite` each value has a text: only running out of memory may come in its place.
 pub fn have_one_text_with(
     alloc: Global,
     options: Options,

@@ -1,4 +1,4 @@
--- Each tree has a value, or a fault and the way to it.
+-- Each tree has a value, or a fault and the path to it.
 use Rattle.std.proofs.Common.{◌≡◌, ℕ, ◌+◌, List, [], ◌∷◌, ◌++◌, Bool, true, false, None, Ok, Err}
 use Rattle.std.proofs.Common.{Result, refl, ◌&&◌, ◌⊎◌, inl, inr}
 use Rattle.std.specs.Prelude.{codes}
@@ -16,21 +16,21 @@ use Rattle.bson_scalar.specs.declared.form.Doubles.{Doubles}
 use Rattle.bson_model.specs.Fault.{MeansNothingIn}
 use Rattle.bson_model.specs.Value as model
 use Rattle.bson_model.proofs.Offered.{means_from_in}
-use Rattle.bson_place.specs.Place.{Turn, key, element, FaultAtIn, FaultAmongIn, FaultWithinIn, HasValueIn}
+use Rattle.bson_place.specs.Place.{PathSegment, key, element, FaultAtIn, FaultAmongIn, FaultWithinIn, HasValueIn}
 use Rattle.bson_place.specs.Place.{array, document, wrapper, shape, here, later, at_key, behind}
 use Rattle.bson_place.proofs.Steps.{HasItems, HasPairs, Coded, number_value, no_number, array_value, document_value}
-use Rattle.bson_place.proofs.Steps.{wrapped, lone_value, not_code, not_text, value_of_code, scope_way, scope_of_map}
+use Rattle.bson_place.proofs.Steps.{wrapped, lone_value, not_code, not_text, value_of_code, scope_path, scope_of_map}
 use Rattle.bson_place.proofs.Steps.{never, HasScopeIn, IsScopeFaultIn, in_scope, no_scope}
 
-abbrev Or : Type 0 → (Fault → List Turn → Type 0) → Type 0
-Or V A = V ⊎ ((f : Fault) × (way : List Turn) × A f way)
+abbrev Or : Type 0 → (Fault → List PathSegment → Type 0) → Type 0
+Or V A = V ⊎ ((f : Fault) × (path : List PathSegment) × A f path)
 
 module _ (D : Doubles) where
   abbrev ValueOr : Data → Type 0
-  ValueOr t = Or (HasValueIn D t) (λ f way. FaultAtIn D f t way)
+  ValueOr t = Or (HasValueIn D t) (λ f path. FaultAtIn D f t path)
 
   abbrev PairsOr : Members → Type 0
-  PairsOr ms = Or (HasPairs D ms) (λ f way. FaultWithinIn D f ms way)
+  PairsOr ms = Or (HasPairs D ms) (λ f path. FaultWithinIn D f ms path)
 
   abbrev ScopeOr : Data → Type 0
   ScopeOr e = Or (HasScopeIn D e) (IsScopeFaultIn D e)
@@ -39,13 +39,13 @@ module _ (D : Doubles) where
   number_is n (Ok x) h = inl (number_value D n x h)
   number_is n (Err f) h = inr (f, [], no_number D n f h)
 
-  array_is : (ds : Items) → Or (HasItems D ds) (λ f way. FaultAmongIn D f 0 ds way) → ValueOr (tree.array ds)
+  array_is : (ds : Items) → Or (HasItems D ds) (λ f path. FaultAmongIn D f 0 ds path) → ValueOr (tree.array ds)
   array_is ds (inl a) = inl (array_value D ds a)
   array_is ds (inr a) = inr (a.0, a.1, array ds a.2)
 
   items_are : (n : ℕ) (d : Data) (ds : Items) → ValueOr d
-      → Or (HasItems D ds) (λ f way. FaultAmongIn D f (n + 1) ds way)
-      → Or (HasItems D (item d ds)) (λ f way. FaultAmongIn D f n (item d ds) way)
+      → Or (HasItems D ds) (λ f path. FaultAmongIn D f (n + 1) ds path)
+      → Or (HasItems D (item d ds)) (λ f path. FaultAmongIn D f n (item d ds) path)
   items_are n d ds (inl a) (inl b) = inl (model.value a.0 b.0, rw (a.1, b.1) refl)
   items_are n d ds (inl a) (inr b) = inr (b.0, b.1, later n d a.0 ds a.1 b.2)
   items_are n d ds (inr a) b = inr (a.0, a.1 ++ element n ∷ [], here n d ds a.2)
@@ -74,7 +74,7 @@ module _ (D : Doubles) where
 
   text_is : (s : List ℕ) (e : Data) → ScopeOr e → ValueOr (tree.object (Coded (tree.string s) e))
   text_is s e (inl a) = inl (value_of_code D (tree.string s) e s refl a)
-  text_is s e (inr a) = inr (a.0, a.1, scope_way D (tree.string s) e s refl a.0 a.1 a.2)
+  text_is s e (inr a) = inr (a.0, a.1, scope_path D (tree.string s) e s refl a.0 a.1 a.2)
 
   code_is : (d e : Data) → ScopeOr e → ValueOr (tree.object (Coded d e))
   code_is tree.null e scope = no_text tree.null e (λ s is. cc)
@@ -108,7 +108,7 @@ module _ (D : Doubles) where
     value_or_fault (tree.array ds) = array_is ds (items_or_fault 0 ds)
     value_or_fault (tree.object ms) = object_is ms (has_wrapper ms) refl (pairs_or_fault ms) (wrapper_or_fault ms)
 
-    items_or_fault : (n : ℕ) (ds : Items) → Or (HasItems D ds) (λ f way. FaultAmongIn D f n ds way)
+    items_or_fault : (n : ℕ) (ds : Items) → Or (HasItems D ds) (λ f path. FaultAmongIn D f n ds path)
     items_or_fault n no_items = inl (model.no_values, refl)
     items_or_fault n (item d ds) = items_are n d ds (value_or_fault d) (items_or_fault (n + 1) ds)
 
@@ -132,9 +132,9 @@ module _ (D : Doubles) where
     scope_or_fault (tree.array ds) = inr (wrong_shape, [], no_scope (tree.array ds) (λ ms is. cc) refl)
     scope_or_fault (tree.object ms) = scope_map_is ms (pairs_or_fault ms)
 
-  fault_left : (t : Data) → ValueOr t → MeansNothingIn D t → (f : Fault) × (way : List Turn) × FaultAtIn D f t way
+  fault_left : (t : Data) → ValueOr t → MeansNothingIn D t → (f : Fault) × (path : List PathSegment) × FaultAtIn D f t path
   fault_left t (inl a) nothing = absurd (nothing a.0 (means_from_in D t a.0 a.1))
   fault_left t (inr a) nothing = a
 
-  pub has_fault : (t : Data) → MeansNothingIn D t → (f : Fault) × (way : List Turn) × FaultAtIn D f t way
+  pub has_fault : (t : Data) → MeansNothingIn D t → (f : Fault) × (path : List PathSegment) × FaultAtIn D f t path
   has_fault t nothing = fault_left t (value_or_fault t) nothing

@@ -19,11 +19,12 @@ use Rattle.bson_model.specs.Reading.{reads_in, reads_items_in, reads_members_in}
 use Rattle.bson_model.specs.Value.{Value, Values, no_values, value, Pairs, no_pairs, pair, get}
 use Rattle.bson_place.specs.declared.place.Place.{Place}
 use Rattle.bson_place.specs.Built.{then_value, then_pair, Builds}
-use Rattle.bson_place.specs.Place.{Turn, key, element, FaultAtIn, FaultAmongIn, FaultWithinIn, here, later, at_key}
-use Rattle.bson_place.specs.Place.{behind, IsPlace, way_of}
+use Rattle.bson_place.specs.Place.{PathSegment, key, element, FaultAtIn, FaultAmongIn, FaultWithinIn, here, later}
+use Rattle.bson_place.specs.Place.{at_key}
+use Rattle.bson_place.specs.Place.{behind, IsPlace, path_of}
 use Rattle.bson_place.proofs.Steps.{Member, built_in, carried, placed_in}
 
--- ---- the elements of a list
+-- ---- the elements of an array
 
 abbrev pub onto_values : Values → Result Values Fault → Result Values Fault
 onto_values no_values r = r
@@ -44,7 +45,7 @@ pub record ItemsRead {X : Type 0} (D : Doubles) (listed : X → Values → Type 
   pub done : Values
   pub stands : listed read done
   pub whole : onto_values done (reads_items_in D rest) ≡ reads_items_in D all
-  pub fault : (f : Fault) (way : List Turn) → FaultAmongIn D f n rest way → FaultAmongIn D f 0 all way
+  pub fault : (f : Fault) (path : List PathSegment) → FaultAmongIn D f n rest path → FaultAmongIn D f 0 all path
 
 -- ---- the pairs of a map
 
@@ -108,11 +109,11 @@ pub record PairsRead {X : Type 0} (D : Doubles) (paired : X → Pairs → Type 0
   pub stands : paired read done
   pub fresh : Fresh done rest
   pub whole : onto_pairs done (reads_members_in D rest) ≡ reads_members_in D all
-  pub fault : (f : Fault) (way : List Turn) → FaultWithinIn D f rest way → FaultWithinIn D f all way
+  pub fault : (f : Fault) (path : List PathSegment) → FaultWithinIn D f rest path → FaultWithinIn D f all path
 
 module _ {X Z : Type 0} (D : Doubles) (built : Z → Value → Type 0) (listed : X → Values → Type 0) (all : Items) where
   pub items_begun : (read : X) → listed read no_values → ItemsRead D listed read 0 all all
-  items_begun read h = record { done = no_values; stands = h; whole = refl; fault = λ f way is. is }
+  items_begun read h = record { done = no_values; stands = h; whole = refl; fault = λ f path is. is }
 
   -- one more was read
   pub items_more : (read new : X) (n : ℕ) (xs rest : List json.Value) (x : json.Value) (r : Result Z Place) (z : Z)
@@ -130,17 +131,17 @@ module _ {X Z : Type 0} (D : Doubles) (built : Z → Value → Type 0) (listed :
         whole = onto_values-then was.done v.0 (reads_items_in D ds)
             ∙ ap (λ q. onto_values was.done (q >>= λ w. reads_items_in D ds >>= λ ws. Ok (value w ws))) (sym v.1)
             ∙ was.whole;
-        fault = λ f way m. was.fault f way (later n (view x) v.0 ds v.1 m);
+        fault = λ f path m. was.fault f path (later n (view x) v.0 ds v.1 m);
       }
 
   -- a fault of the next one is the fault of the whole
   pub items_stopped : (read : X) (n : ℕ) (xs rest : List json.Value) (x : json.Value) (r : Result Z Place)
       (p q : Place) → xs ≡ x ∷ rest → ItemsRead D listed read n (items_view xs) all → r ≡ Err p
-      → Builds built (reads_in D (view x)) (λ f. FaultAtIn D f (view x)) r → way_of q ≡ way_of p ++ element n ∷ []
+      → Builds built (reads_in D (view x)) (λ f. FaultAtIn D f (view x)) r → path_of q ≡ path_of p ++ element n ∷ []
       → q.reason ≡ p.reason → IsPlace (λ f. FaultAmongIn D f 0 all) q
-  items_stopped read n xs rest x r p q next so_far is h way reason =
+  items_stopped read n xs rest x r p q next so_far is h path reason =
       let was = subst (λ ys. ItemsRead D listed read n (items_view ys) all) next so_far in
-      carried p q (element n) (λ f w m. was.fault f (w ++ element n ∷ []) (here n (view x) (items_view rest) m)) way
+      carried p q (element n) (λ f w m. was.fault f (w ++ element n ∷ []) (here n (view x) (items_view rest) m)) path
       reason (placed_in built (reads_in D (view x)) (λ f. FaultAtIn D f (view x)) r p is h)
 
   pub items_ended : (read : X) (n : ℕ) (xs : List json.Value) → xs ≡ []
@@ -158,7 +159,7 @@ module _ {X Z : Type 0} (D : Doubles) (built : Z → Value → Type 0) (paired :
     stands = h;
     fresh = fresh_start all sorted;
     whole = refl;
-    fault = λ f way is. is;
+    fault = λ f path is. is;
   }
 
   -- the next key is not there yet
@@ -187,18 +188,18 @@ module _ {X Z : Type 0} (D : Doubles) (built : Z → Value → Type 0) (paired :
         whole = onto_pairs-then was.done k v.0 (reads_members_in D ms)
             ∙ ap (λ q. onto_pairs was.done (q >>= λ w. reads_members_in D ms >>= λ qs. Ok (pair k w qs))) (sym v.1)
             ∙ was.whole;
-        fault = λ f way m. was.fault f way (behind k d v.0 ms v.1 m);
+        fault = λ f path m. was.fault f path (behind k d v.0 ms v.1 m);
       }
 
   pub pairs_stopped : (read : X) (es rest : List Member) (x : Member) (r : Result Z Place) (p q : Place)
       → es ≡ x ∷ rest → PairsRead D paired read (members_view es) (members_view all) → r ≡ Err p
       → Builds built (reads_in D (view x.1)) (λ f. FaultAtIn D f (view x.1)) r
-      → way_of q ≡ way_of p ++ key (string_bytes x.0) ∷ [] → q.reason ≡ p.reason
+      → path_of q ≡ path_of p ++ key (string_bytes x.0) ∷ [] → q.reason ≡ p.reason
       → IsPlace (λ f. FaultWithinIn D f (members_view all)) q
-  pairs_stopped read es rest x r p q next so_far is h way reason =
+  pairs_stopped read es rest x r p q next so_far is h path reason =
       let k = string_bytes x.0 in
       let was = subst (λ ys. PairsRead D paired read (members_view ys) (members_view all)) next so_far in
-      carried p q (key k) (λ f w m. was.fault f (w ++ key k ∷ []) (at_key k (view x.1) (members_view rest) m)) way
+      carried p q (key k) (λ f w m. was.fault f (w ++ key k ∷ []) (at_key k (view x.1) (members_view rest) m)) path
       reason (placed_in built (reads_in D (view x.1)) (λ f. FaultAtIn D f (view x.1)) r p is h)
 
   pub pairs_ended : (read : X) (es : List Member) → es ≡ []

@@ -29,7 +29,7 @@ use Rattle.bson_model.specs.Value.{Values, Pairs}
 use Rattle.bson_model.specs.Value as model
 use Rattle.bson_place.specs.declared.place.Place.{Place}
 use Rattle.bson_place.specs.declared.place.Reason.{Reason}
-use Rattle.bson_place.specs.Place.{Turn, key, way_of, FaultAtIn, FaultAmongIn, FaultWithinIn, number}
+use Rattle.bson_place.specs.Place.{PathSegment, key, path_of, FaultAtIn, FaultAmongIn, FaultWithinIn, number}
 use Rattle.bson_place.specs.Place.{array, document, wrapper, scope, shape, HasValueIn, IsReason, IsPlace, IsOpen}
 use Rattle.bson_place.specs.Place.{code_with_scope}
 use Rattle.bson_place.specs.Built.{Builds}
@@ -61,33 +61,33 @@ number_fault Finite n f h = no_double (as_i64 n) n f h
 
 -- ---- places
 
--- the same reason at a way that leads through one more turn
-pub carried : {A B : Fault → List Turn → Type 0} (p q : Place) (t : Turn)
-    → ((f : Fault) (way : List Turn) → A f way → B f (way ++ t ∷ []))
-    → way_of q ≡ way_of p ++ t ∷ [] → q.reason ≡ p.reason → IsPlace A p → IsPlace B q
-carried {A} {B} p q t f way reason is = record {
+-- the same reason at a path that leads through one more segment
+pub carried : {A B : Fault → List PathSegment → Type 0} (p q : Place) (t : PathSegment)
+    → ((f : Fault) (path : List PathSegment) → A f path → B f (path ++ t ∷ []))
+    → path_of q ≡ path_of p ++ t ∷ [] → q.reason ≡ p.reason → IsPlace A p → IsPlace B q
+carried {A} {B} p q t f path reason is = record {
   fault = is.fault;
-  way = subst (B is.fault) (sym way) (f is.fault (way_of p) is.way);
+  path = subst (B is.fault) (sym path) (f is.fault (path_of p) is.path);
   reason = subst (IsReason is.fault) (sym reason) is.reason;
 }
 
 -- the same place, seen from further out
-with_place : {A B : Fault → List Turn → Type 0} (p : Place) → ((f : Fault) (way : List Turn) → A f way → B f way)
+with_place : {A B : Fault → List PathSegment → Type 0} (p : Place) → ((f : Fault) (path : List PathSegment) → A f path → B f path)
     → IsPlace A p → IsPlace B p
-with_place p f is = record { fault = is.fault; way = f is.fault (way_of p) is.way; reason = is.reason }
+with_place p f is = record { fault = is.fault; path = f is.fault (path_of p) is.path; reason = is.reason }
 
 -- a place at a tree itself
-pub at_once : {A : Fault → List Turn → Type 0} (p : Place) → IsReason wrong_shape p.reason → way_of p ≡ []
+pub at_once : {A : Fault → List PathSegment → Type 0} (p : Place) → IsReason wrong_shape p.reason → path_of p ≡ []
     → A wrong_shape [] → IsPlace A p
-at_once {A} p reason way a = record { fault = wrong_shape; way = subst (A wrong_shape) (sym way) a; reason = reason }
+at_once {A} p reason path a = record { fault = wrong_shape; path = subst (A wrong_shape) (sym path) a; reason = reason }
 
 -- what was built, where it is that
-pub built_in : {X Y : Type 0} (built : X → Y → Type 0) (read : Result Y Fault) (lies : Fault → List Turn → Type 0)
+pub built_in : {X Y : Type 0} (built : X → Y → Type 0) (read : Result Y Fault) (lies : Fault → List PathSegment → Type 0)
     (r : Result X Place) (x : X) → r ≡ Ok x → Builds built read lies r → (y : Y) × (read ≡ Ok y) × built x y
 built_in built read lies r x is h = subst (Builds built read lies) is h
 
 -- the place, where it is that
-pub placed_in : {X Y : Type 0} (built : X → Y → Type 0) (read : Result Y Fault) (lies : Fault → List Turn → Type 0)
+pub placed_in : {X Y : Type 0} (built : X → Y → Type 0) (read : Result Y Fault) (lies : Fault → List PathSegment → Type 0)
     (r : Result X Place) (p : Place) → r ≡ Err p → Builds built read lies r → IsPlace lies p
 placed_in built read lies r p is h = subst (Builds built read lies) is h
 
@@ -102,10 +102,10 @@ HasPairs D ms = (ps : Pairs) × (reads_members_in D ms ≡ Ok ps)
 abbrev pub HasScopeIn : Doubles → Data → Type 0
 HasScopeIn D d = (ps : Option Pairs) × (reads_scope_in D d ≡ Ok ps)
 
--- why a tree is no scope, and the way from the fault to the object that it stands in
-pub data IsScopeFaultIn (D : Doubles) : Data → Fault → List Turn → Type 0 where
-  in_scope : {f : Fault} {way : List Turn} (ms : Members) → FaultWithinIn D f ms way
-      → IsScopeFaultIn D (tree.object ms) f (way ++ key (codes "$scope") ∷ [])
+-- why a tree is no scope, and the path from the fault to the object that it stands in
+pub data IsScopeFaultIn (D : Doubles) : Data → Fault → List PathSegment → Type 0 where
+  in_scope : {f : Fault} {path : List PathSegment} (ms : Members) → FaultWithinIn D f ms path
+      → IsScopeFaultIn D (tree.object ms) f (path ++ key (codes "$scope") ∷ [])
   no_scope : (d : Data) → ((ms : Members) → d ≡ tree.object ms → ⊥) → reads_scope_in D d ≡ Err wrong_shape
       → IsScopeFaultIn D d wrong_shape []
 
@@ -169,14 +169,14 @@ module _ (D : Doubles) where
 
   -- the reason of a number
   pub number_place : (n : Num) (f : Fault) (e : Reason) (p : Place) → number_read_in D n ≡ Err f → IsReason f e
-      → way_of p ≡ [] → p.reason ≡ e → IsPlace (λ g. FaultAtIn D g (tree.number n)) p
-  number_place n f e p h is way reason = record {
+      → path_of p ≡ [] → p.reason ≡ e → IsPlace (λ g. FaultAtIn D g (tree.number n)) p
+  number_place n f e p h is path reason = record {
     fault = f;
-    way = subst (FaultAtIn D f (tree.number n)) (sym way) (no_number n f h);
+    path = subst (FaultAtIn D f (tree.number n)) (sym path) (no_number n f h);
     reason = subst (IsReason f) (sym reason) is;
   }
 
-  -- ---- lists and documents
+  -- ---- arrays and documents
 
   pub array_value : (ds : Items) → HasItems D ds → HasValueIn D (tree.array ds)
   array_value ds vs = (model.array vs.0, ap (λ r. r >>= λ ws. Ok (model.array ws)) vs.1)
@@ -186,7 +186,7 @@ module _ (D : Doubles) where
       → r ≡ Err p → Builds listed (reads_items_in D ds) (λ f. FaultAmongIn D f 0 ds) r
       → IsPlace (λ f. FaultAtIn D f (tree.array ds)) p
   array_place listed ds r p is h =
-      with_place p (λ f way m. array ds m) (placed_in listed (reads_items_in D ds) (λ f. FaultAmongIn D f 0 ds) r p is h)
+      with_place p (λ f path m. array ds m) (placed_in listed (reads_items_in D ds) (λ f. FaultAmongIn D f 0 ds) r p is h)
 
   pub document_value : (ms : Members) → has_wrapper ms ≡ false → HasPairs D ms → HasValueIn D (tree.object ms)
   document_value ms none ps = (
@@ -199,7 +199,7 @@ module _ (D : Doubles) where
       → has_wrapper ms ≡ false → r ≡ Err p → Builds paired (reads_members_in D ms) (λ f. FaultWithinIn D f ms) r
       → IsPlace (λ f. FaultAtIn D f (tree.object ms)) p
   document_place paired ms r p none is h =
-      with_place p (λ f way m. document ms none m)
+      with_place p (λ f path m. document ms none m)
       (placed_in paired (reads_members_in D ms) (λ f. FaultWithinIn D f ms) r p is h)
 
   -- ---- wrappers
@@ -215,10 +215,10 @@ module _ (D : Doubles) where
   -- the reason at a wrapper's key
   pub lone_place : (k : List ℕ) (d : Data) (f : Fault) (e : Reason) (p : Place)
       → has_wrapper (member k d no_members) ≡ true → single_at_in D (wrapper_of k) d ≡ Err f → IsReason f e
-      → way_of p ≡ key k ∷ [] → p.reason ≡ e → IsPlace (λ g. FaultAtIn D g (tree.object (member k d no_members))) p
-  lone_place k d f e p w h is way reason = record {
+      → path_of p ≡ key k ∷ [] → p.reason ≡ e → IsPlace (λ g. FaultAtIn D g (tree.object (member k d no_members))) p
+  lone_place k d f e p w h is path reason = record {
     fault = f;
-    way = subst (λ x. FaultAtIn D f (tree.object (member k d no_members)) x) (sym way) (wrapper k d w h);
+    path = subst (λ x. FaultAtIn D f (tree.object (member k d no_members)) x) (sym path) (wrapper k d w h);
     reason = subst (IsReason f) (sym reason) is;
   }
 
@@ -251,33 +251,33 @@ module _ (D : Doubles) where
       → HasValueIn D (tree.object (Coded d e))
   value_of_code d e s is ps = (code_value s ps.0, code_read d e s is ∙ ap (scope_value s) ps.1)
 
-  pub scope_way : (d e : Data) (s : List ℕ) → d ≡ tree.string s → (f : Fault) (way : List Turn)
-      → IsScopeFaultIn D e f way
-      → FaultAtIn D f (tree.object (Coded d e)) way
-  scope_way d e s is f way (in_scope ms h) = rw is (scope s ms h)
-  scope_way d e s is f way (no_scope x none bad) =
+  pub scope_path : (d e : Data) (s : List ℕ) → d ≡ tree.string s → (f : Fault) (path : List PathSegment)
+      → IsScopeFaultIn D e f path
+      → FaultAtIn D f (tree.object (Coded d e)) path
+  scope_path d e s is f path (in_scope ms h) = rw is (scope s ms h)
+  scope_path d e s is f path (no_scope x none bad) =
       shape (Coded d e) refl (not_open_by_scope d e none) (code_read d e s is ∙ ap (scope_value s) bad)
 
   -- what is no text, where code is to stand
-  pub no_text_place : (d e : Data) (p : Place) → as_str d ≡ None → IsReason wrong_shape p.reason → way_of p ≡ []
+  pub no_text_place : (d e : Data) (p : Place) → as_str d ≡ None → IsReason wrong_shape p.reason → path_of p ≡ []
       → IsPlace (λ f. FaultAtIn D f (tree.object (Coded d e))) p
-  no_text_place d e p none reason way = at_once p reason way (not_text d e (no_string d none))
+  no_text_place d e p none reason path = at_once p reason path (not_text d e (no_string d none))
 
   -- what is no scope, beside code
   pub bad_scope_place : (s : List ℕ) (e : Data) (p : Place) → as_object e ≡ None → reads_scope_in D e ≡ Err wrong_shape
-      → IsReason wrong_shape p.reason → way_of p ≡ []
+      → IsReason wrong_shape p.reason → path_of p ≡ []
       → IsPlace (λ f. FaultAtIn D f (tree.object (Coded (tree.string s) e))) p
-  bad_scope_place s e p none bad reason way =
-      at_once p reason way
-      (scope_way (tree.string s) e s refl wrong_shape [] (no_scope e (no_object e none) bad))
+  bad_scope_place s e p none bad reason path =
+      at_once p reason path
+      (scope_path (tree.string s) e s refl wrong_shape [] (no_scope e (no_object e none) bad))
 
   pub scope_place : {X : Type 0} (paired : X → Pairs → Type 0) (s k : List ℕ) (ms : Members) (r : Result X Place)
       (p q : Place) → r ≡ Err p → Builds paired (reads_members_in D ms) (λ f. FaultWithinIn D f ms) r
-      → k ≡ codes "$scope" → way_of q ≡ way_of p ++ key k ∷ [] → q.reason ≡ p.reason
+      → k ≡ codes "$scope" → path_of q ≡ path_of p ++ key k ∷ [] → q.reason ≡ p.reason
       → IsPlace (λ f. FaultAtIn D f (tree.object (Coded (tree.string s) (tree.object ms)))) q
-  scope_place paired s k ms r p q is h at_scope way reason =
+  scope_place paired s k ms r p q is h at_scope path reason =
       carried p q (key (codes "$scope")) (λ f w m. scope s ms m)
-      (way ∙ ap (λ l. way_of p ++ key l ∷ []) at_scope) reason
+      (path ∙ ap (λ l. path_of p ++ key l ∷ []) at_scope) reason
       (placed_in paired (reads_members_in D ms) (λ f. FaultWithinIn D f ms) r p is h)
 
   pub scope_of_map : (ms : Members) → HasPairs D ms → HasScopeIn D (tree.object ms)
@@ -294,21 +294,21 @@ module _ (D : Doubles) where
       shape ms w (λ o. never o) (wrapped ms w)
 
   pub more_place : (es mid rest : List Member) (x y : Member) (p : Place) → es ≡ x ∷ mid → mid ≡ y ∷ rest
-      → (length rest ≡ 0 → ⊥) → has_wrapper (members_view es) ≡ true → IsReason wrong_shape p.reason → way_of p ≡ []
+      → (length rest ≡ 0 → ⊥) → has_wrapper (members_view es) ≡ true → IsReason wrong_shape p.reason → path_of p ≡ []
       → IsPlace (λ f. FaultAtIn D f (tree.object (members_view es))) p
-  more_place es mid rest x y p is next some w reason way =
+  more_place es mid rest x y p is next some w reason path =
       let all : es ≡ x ∷ y ∷ rest = is ∙ ap (λ l. x ∷ l) next in
-      at_once p reason way
+      at_once p reason path
       (subst (λ l. FaultAtIn D wrong_shape (tree.object (members_view l)) []) (sym all)
       (more_cases x y rest some (subst (λ l. has_wrapper (members_view l) ≡ true) all w)))
 
   -- two keys that are not those of code and its scope
   pub other_place : (es mid rest : List Member) (x y : Member) (p : Place) → es ≡ x ∷ mid → mid ≡ y ∷ rest
       → length rest ≡ 0 → has_wrapper (members_view es) ≡ true → has_code_keys x y ≡ false
-      → IsReason wrong_shape p.reason → way_of p ≡ [] → IsPlace (λ f. FaultAtIn D f (tree.object (members_view es))) p
-  other_place es mid rest x y p is next none w other reason way =
+      → IsReason wrong_shape p.reason → path_of p ≡ [] → IsPlace (λ f. FaultAtIn D f (tree.object (members_view es))) p
+  other_place es mid rest x y p is next none w other reason path =
       let two = two_entries es mid rest x y is next none in
-      at_once p reason way
+      at_once p reason path
       (subst (λ l. FaultAtIn D wrong_shape (tree.object (members_view l)) []) (sym two)
       (not_code (string_bytes x.0) (view x.1) (string_bytes y.0) (view y.1)
       (subst (λ l. has_wrapper (members_view l) ≡ true) two w) other))

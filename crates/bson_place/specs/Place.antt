@@ -1,4 +1,4 @@
--- Where the first fault of a tree lies: the way to it, a step for each list and object that it is in.
+-- Where the first fault of a tree lies: the path to it, a segment for each array and object that it is in.
 use Rattle.std.specs.Prelude.{◌≡◌, ℕ, ◌+◌, List, [], ◌∷◌, ◌++◌, map, codes, string_bytes, true, false, Ok, Err}
 use Rattle.std.specs.Fmt.{decimal}
 use Rattle.serde_json.specs.Data.{Data, Num, Items, item, Members, no_members, member}
@@ -12,39 +12,39 @@ use Rattle.bson_scalar.specs.declared.form.Doubles.TheVariants.{Special}
 use Rattle.bson_model.specs.Fault.{MeansNothingIn, fault_of_in}
 use Rattle.bson_model.specs.Reading.{reads_in}
 use Rattle.bson_model.specs.Value.{Value}
-use Rattle.bson_place.specs.declared.place.Step.{Step}
-use Rattle.bson_place.specs.declared.place.Step.TheVariants as declared
+use Rattle.bson_place.specs.declared.place.Segment.{Segment}
+use Rattle.bson_place.specs.declared.place.Segment.TheVariants as declared
 use Rattle.bson_place.specs.declared.place.Place.{Place}
 use Rattle.bson_place.specs.declared.place.Reason.{Reason}
 use Rattle.bson_place.specs.declared.place.Reason.TheVariants.{BadObjectId, WrongShape}
 
--- ---- the way
+-- ---- the path
 
--- into the value at a key, or into an element of a list, counted from 0
-pub data Turn : Type 0 where
-  key : List ℕ → Turn
-  element : ℕ → Turn
+-- into the value at a key, or into an element of an array, counted from 0
+pub data PathSegment : Type 0 where
+  key : List ℕ → PathSegment
+  element : ℕ → PathSegment
 
-abbrev pub turn_of : Step → Turn
-turn_of (declared.Key k) = key (string_bytes k)
-turn_of (declared.Element n) = element n
+abbrev pub segment_of : Segment → PathSegment
+segment_of (declared.Key k) = key (string_bytes k)
+segment_of (declared.Element n) = element n
 
 -- from the fault outward
-abbrev pub way_of : Place → List Turn
-way_of place = map turn_of place.steps.items
+abbrev pub path_of : Place → List PathSegment
+path_of place = map segment_of place.segments.items
 
 -- ---- its text
 
--- a key as it is; a place in a list as its number, counted from 0
-abbrev pub word_of : Turn → List ℕ
+-- a key as it is; a place in an array as its number, counted from 0
+abbrev pub word_of : PathSegment → List ℕ
 word_of (key k) = k
 word_of (element n) = decimal n
 
 -- the words from the tree inward, with points between
-abbrev pub dotted : List Turn → List ℕ
+abbrev pub dotted : List PathSegment → List ℕ
 dotted [] = []
-dotted (turn ∷ []) = word_of turn
-dotted (turn ∷ out ∷ more) = dotted (out ∷ more) ++ codes "." ++ word_of turn
+dotted (segment ∷ []) = word_of segment
+dotted (segment ∷ out ∷ more) = dotted (out ∷ more) ++ codes "." ++ word_of segment
 
 -- ---- where the fault lies
 
@@ -55,37 +55,37 @@ pub data IsOpen : Members → Type 0 where
       → IsOpen (member (codes "$code") (tree.string s) (member (codes "$scope") (tree.object ms) no_members))
 
 mutual
-  -- the first fault of the tree, and the way from it outward
-  pub data FaultAtIn (D : Doubles) : Fault → Data → List Turn → Type 0 where
+  -- the first fault of the tree, and the path from it outward
+  pub data FaultAtIn (D : Doubles) : Fault → Data → List PathSegment → Type 0 where
     -- a number that is no i64; where finite doubles are read, one whose nearest double is not finite
     number : (n : Num) → number_read_in D n ≡ Err wrong_shape → FaultAtIn D wrong_shape (tree.number n) []
-    array : {f : Fault} {way : List Turn} (ds : Items) → FaultAmongIn D f 0 ds way → FaultAtIn D f (tree.array ds) way
-    document : {f : Fault} {way : List Turn} (ms : Members) → has_wrapper ms ≡ false → FaultWithinIn D f ms way
-        → FaultAtIn D f (tree.object ms) way
+    array : {f : Fault} {path : List PathSegment} (ds : Items) → FaultAmongIn D f 0 ds path → FaultAtIn D f (tree.array ds) path
+    document : {f : Fault} {path : List PathSegment} (ms : Members) → has_wrapper ms ≡ false → FaultWithinIn D f ms path
+        → FaultAtIn D f (tree.object ms) path
     -- what stands at the key of a wrapper
     wrapper : {f : Fault} (k : List ℕ) (d : Data) → has_wrapper (member k d no_members) ≡ true
         → single_at_in D (wrapper_of k) d ≡ Err f
         → FaultAtIn D f (tree.object (member k d no_members)) (key k ∷ [])
-    scope : {f : Fault} {way : List Turn} (s : List ℕ) (ms : Members) → FaultWithinIn D f ms way
-        → FaultAtIn D f (object_of_two (codes "$code") (tree.string s) (codes "$scope") (tree.object ms)) (way
+    scope : {f : Fault} {path : List PathSegment} (s : List ℕ) (ms : Members) → FaultWithinIn D f ms path
+        → FaultAtIn D f (object_of_two (codes "$code") (tree.string s) (codes "$scope") (tree.object ms)) (path
         ++ key (codes "$scope") ∷ [])
     -- an object with a wrapper key that has the shape of no wrapper
     shape : (ms : Members) → has_wrapper ms ≡ true → (IsOpen ms → ⊥) → reads_in D (tree.object ms) ≡ Err wrong_shape
         → FaultAtIn D wrong_shape (tree.object ms) []
 
-  -- of elements, the first of which has this place in its list
-  pub data FaultAmongIn (D : Doubles) : Fault → ℕ → Items → List Turn → Type 0 where
-    here : {f : Fault} {way : List Turn} (n : ℕ) (d : Data) (ds : Items) → FaultAtIn D f d way
-        → FaultAmongIn D f n (item d ds) (way ++ element n ∷ [])
-    later : {f : Fault} {way : List Turn} (n : ℕ) (d : Data) (v : Value) (ds : Items) → reads_in D d ≡ Ok v
-        → FaultAmongIn D f (n + 1) ds way → FaultAmongIn D f n (item d ds) way
+  -- of elements, the first of which has this place in its array
+  pub data FaultAmongIn (D : Doubles) : Fault → ℕ → Items → List PathSegment → Type 0 where
+    here : {f : Fault} {path : List PathSegment} (n : ℕ) (d : Data) (ds : Items) → FaultAtIn D f d path
+        → FaultAmongIn D f n (item d ds) (path ++ element n ∷ [])
+    later : {f : Fault} {path : List PathSegment} (n : ℕ) (d : Data) (v : Value) (ds : Items) → reads_in D d ≡ Ok v
+        → FaultAmongIn D f (n + 1) ds path → FaultAmongIn D f n (item d ds) path
 
   -- of the values of a map, by ascending key
-  pub data FaultWithinIn (D : Doubles) : Fault → Members → List Turn → Type 0 where
-    at_key : {f : Fault} {way : List Turn} (k : List ℕ) (d : Data) (ms : Members) → FaultAtIn D f d way
-        → FaultWithinIn D f (member k d ms) (way ++ key k ∷ [])
-    behind : {f : Fault} {way : List Turn} (k : List ℕ) (d : Data) (v : Value) (ms : Members) → reads_in D d ≡ Ok v
-        → FaultWithinIn D f ms way → FaultWithinIn D f (member k d ms) way
+  pub data FaultWithinIn (D : Doubles) : Fault → Members → List PathSegment → Type 0 where
+    at_key : {f : Fault} {path : List PathSegment} (k : List ℕ) (d : Data) (ms : Members) → FaultAtIn D f d path
+        → FaultWithinIn D f (member k d ms) (path ++ key k ∷ [])
+    behind : {f : Fault} {path : List PathSegment} (k : List ℕ) (d : Data) (v : Value) (ms : Members) → reads_in D d ≡ Ok v
+        → FaultWithinIn D f ms path → FaultWithinIn D f (member k d ms) path
 
 -- ---- what is found
 
@@ -95,15 +95,15 @@ IsReason f (WrongShape message) = f ≡ wrong_shape
 IsReason f (BadObjectId e) = (s : List ℕ) × (f ≡ wrong_id s) × IsIdFault s e
 
 -- a fault lies at the place, for its reason
-pub record IsPlace (lies : Fault → List Turn → Type 0) (place : Place) : Type 0 where
+pub record IsPlace (lies : Fault → List PathSegment → Type 0) (place : Place) : Type 0 where
   pub fault : Fault
-  pub way : lies fault (way_of place)
+  pub path : lies fault (path_of place)
   pub reason : IsReason fault place.reason
 
 -- the tree means nothing, and its first fault lies at the place, for its reason
 pub record IsFirstFaultIn (D : Doubles) (t : Data) (place : Place) : Type 0 where
   pub nothing : MeansNothingIn D t
-  pub way : FaultAtIn D (fault_of_in D t) t (way_of place)
+  pub path : FaultAtIn D (fault_of_in D t) t (path_of place)
   pub reason : IsReason (fault_of_in D t) place.reason
 
 -- the tree has a value
@@ -112,13 +112,13 @@ HasValueIn D t = (v : Value) × (reads_in D t ≡ Ok v)
 
 -- ---- where no finite doubles are read
 
-abbrev pub FaultAt : Fault → Data → List Turn → Type 0
+abbrev pub FaultAt : Fault → Data → List PathSegment → Type 0
 FaultAt = FaultAtIn Special
 
-abbrev pub FaultAmong : Fault → ℕ → Items → List Turn → Type 0
+abbrev pub FaultAmong : Fault → ℕ → Items → List PathSegment → Type 0
 FaultAmong = FaultAmongIn Special
 
-abbrev pub FaultIn : Fault → Members → List Turn → Type 0
+abbrev pub FaultIn : Fault → Members → List PathSegment → Type 0
 FaultIn = FaultWithinIn Special
 
 abbrev pub IsFirstFault : Data → Place → Type 0

@@ -1,23 +1,23 @@
 //! The place of a fault.
 ghost use Rattle.std.specs.Prelude.{◌≡◌, ◌++◌, map, IfOk, OnOk, string_bytes};
-ghost use Rattle.bson_place.specs.Place.{dotted, turn_of, way_of, word_of};
+ghost use Rattle.bson_place.specs.Place.{dotted, segment_of, path_of, word_of};
 
 use bson_types::oid;
 use std::alloc::{AllocError, Global};
 
-/// A step of the way to a fault.
+/// A segment of the path to a fault.
 ///
 /// ```
 /// let tree = Value::from_slice(alloc, br#"{"orders": [1.5]}"#)?;
 /// if let Some(place) = place_of_fault(alloc, &tree)? {
-///     println!(rt; "{:?}", place.steps)?; // [Element(0), Key("orders")]
+///     println!(rt; "{:?}", place.segments)?; // [Element(0), Key("orders")]
 /// }
 /// ```
 #[derive(Debug, Drop)]
-pub enum Step {
+pub enum Segment {
     /// Into the value at a key.
     Key(String),
-    /// Into an element of a list, counted from 0.
+    /// Into an element of an array, counted from 0.
     Element(usize),
 }
 
@@ -41,7 +41,7 @@ pub enum Reason {
     WrongShape(&'static str),
 }
 
-/// The first fault of a tree: what is wrong, and the way to it.
+/// The first fault of a tree: what is wrong, and the path to it.
 ///
 /// ```
 /// let tree = Value::from_slice(alloc, br#"{"orders": [{"price": 1.5}]}"#)?;
@@ -53,43 +53,43 @@ pub enum Reason {
 pub struct Place {
     /// What is wrong there.
     pub reason: Reason,
-    /// The way, from the fault outward.
-    pub steps: Vec<Step>,
+    /// The path, from the fault outward.
+    pub segments: Vec<Segment>,
 }
 
 impl Place {
-    /// The way from the tree inward: keys as they are and places in lists by their numbers, with
+    /// The path from the tree inward: keys as they are and places in arrays by their numbers, with
     /// points between, as `orders.3._id.$oid`. It is empty where the fault is the tree's own.
     pub fn path(&self, alloc: Global) -> Result<String, AllocError>
-        ensures { IfOk result (λ text. string_bytes text ≡ dotted (way_of self.now)) }
+        ensures { IfOk result (λ text. string_bytes text ≡ dotted (path_of self.now)) }
     {
         let mut path = String::new(alloc);
-        write_way(alloc, &self.steps, &mut path)?;
+        write_path(alloc, &self.segments, &mut path)?;
         Ok(path)
     }
 }
 
-// Adds the words of the steps, the last of which comes first.
-fn write_way(alloc: Global, steps: &[Step], path: &mut String) -> Result<(), AllocError>
-    ensures { OnOk result (string_bytes path.new ≡ string_bytes path.old ++ dotted (map turn_of steps.now)) }
+// Adds the words of the segments, the last of which comes first.
+fn write_path(alloc: Global, segments: &[Segment], path: &mut String) -> Result<(), AllocError>
+    ensures { OnOk result (string_bytes path.new ≡ string_bytes path.old ++ dotted (map segment_of segments.now)) }
 {
-    let Some((step, outer)) = steps.split_first() else {
+    let Some((segment, outer)) = segments.split_first() else {
         return Ok(());
     };
     if !outer.is_empty() {
-        write_way(alloc, outer, path)?;
+        write_path(alloc, outer, path)?;
         path.push_str(".")?;
     }
-    let word = word(alloc, step)?;
+    let word = word(alloc, segment)?;
     path.push_str(&word)
 }
 
-// A key, or the number of a place in a list.
-fn word(alloc: Global, step: &Step) -> Result<String, AllocError>
-    ensures { IfOk result (λ word. string_bytes word ≡ word_of (turn_of step.now)) }
+// A key, or the number of a place in an array.
+fn word(alloc: Global, segment: &Segment) -> Result<String, AllocError>
+    ensures { IfOk result (λ word. string_bytes word ≡ word_of (segment_of segment.now)) }
 {
-    match step {
-        Step::Key(key) => key.clone(),
-        Step::Element(at) => format!(in alloc; "{at}"),
+    match segment {
+        Segment::Key(key) => key.clone(),
+        Segment::Element(at) => format!(in alloc; "{at}"),
     }
 }

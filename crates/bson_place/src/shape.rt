@@ -5,7 +5,7 @@ ghost use Rattle.bson_scalar.specs.Table.{has_wrapper};
 ghost use Rattle.serde_json.specs.View.{members_view};
 
 pub use bson_scalar::doubles::NUMBER;
-use bson_scalar::wrapper::{Wrapper, named};
+use bson_scalar::wrapper::{Wrapper, wrapper_named};
 use serde_json::{Map, Value};
 
 /// Of code that is no text, beside a scope.
@@ -44,7 +44,7 @@ pub fn first_wrapper(members: &Map<String, Value>) -> Option<Wrapper>
     ensures has { is_some result ≡ has_wrapper (members_view members.now.entries) }
 {
     for (key, _) in members.iter() {
-        if let Some(wrapper) = named(key.as_str()) {
+        if let Some(wrapper) = wrapper_named(key.as_str()) {
             return Some(wrapper);
         }
     }

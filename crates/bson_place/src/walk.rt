@@ -10,11 +10,11 @@ ghost use Rattle.bson_scalar.specs.Scalar as kind;
 ghost use Rattle.bson_model.specs.Reading.{reads_in, reads_items_in, reads_members_in};
 ghost use Rattle.bson_place.specs.Built.{Builds};
 ghost use Rattle.bson_place.specs.Place.{FaultAtIn, FaultAmongIn, FaultWithinIn, HasValue, HasValueIn};
-ghost use Rattle.bson_place.specs.Place.{IsFirstFault, IsFirstFaultIn, IsReason, key as turn};
-ghost use Rattle.bson_place.specs.Place.{turn_of, way_of};
+ghost use Rattle.bson_place.specs.Place.{IsFirstFault, IsFirstFaultIn, IsReason, key as key_segment};
+ghost use Rattle.bson_place.specs.Place.{segment_of, path_of};
 
 use crate::builder::{Nothing, ValueBuilder};
-use crate::place::{Place, Reason, Step};
+use crate::place::{Place, Reason, Segment};
 use crate::shape::{CODE, SCOPE, beside_others, first_wrapper};
 use bson_scalar::code::is_code_with_scope;
 use bson_scalar::doubles::read_number;
@@ -26,13 +26,13 @@ use bson_scalar::wrapper::Wrapper;
 use serde_json::{Map, Number, Value};
 use std::alloc::{AllocError, Global};
 
-/// The first fault of the tree and the way to it, or nothing where the tree has a meaning in
+/// The first fault of the tree and the path to it, or nothing where the tree has a meaning in
 /// MongoDB Extended JSON v2.
 ///
-/// Faults are met in the order of reading: of a list's elements in their order, of a document's
-/// values by ascending key. The way ends at a number that is no i64, at the key of a wrapper whose
+/// Faults are met in the order of reading: of an array's elements in their order, of a document's
+/// values by ascending key. The path ends at a number that is no i64, at the key of a wrapper whose
 /// value is wrong, or at an object that has a wrapper key and the shape of no wrapper. The only
-/// error is want of memory. A copy of the tree is read.
+/// error is out of memory. A copy of the tree is read.
 pub fn place_of_fault(alloc: Global, tree: &Value) -> Result<Option<Place>, AllocError>
     ensures { IfOk result (λ found. MatchOption found (HasValue (view tree.now)) (IsFirstFault (view tree.now))) }
 {
@@ -67,10 +67,10 @@ pub fn first_place(
     }
 }
 
-/// What the builder makes of the value that the tree means, or the tree's first fault and the way
+/// What the builder makes of the value that the tree means, or the tree's first fault and the path
 /// to it.
 ///
-/// The order of faults is that of `place_of_fault`. The only other error is want of memory.
+/// The order of faults is that of `place_of_fault`. The only other error is out of memory.
 pub fn read_tree<B: ValueBuilder>(
     alloc: Global,
     doubles: Doubles,
@@ -83,7 +83,7 @@ pub fn read_tree<B: ValueBuilder>(
 }
 
 /// What the builder makes of the pairs of a map, whose own keys are not tested, or the first fault
-/// in its values and the way to it.
+/// in its values and the path to it.
 pub fn read_pairs<B: ValueBuilder>(
     alloc: Global,
     doubles: Doubles,
@@ -116,18 +116,18 @@ fn read_value<B: ValueBuilder>(
 
 fn at(alloc: Global, reason: Reason) -> Place
     ensures reason { result.reason ≡ reason }
-    ensures way { way_of result ≡ [] }
+    ensures path { path_of result ≡ [] }
 {
     Place {
         reason,
-        steps: Vec::new(alloc),
+        segments: Vec::new(alloc),
     }
 }
 
 // The place at the tree itself.
-fn here(alloc: Global, message: &'static str) -> Place
+fn place_here(alloc: Global, message: &'static str) -> Place
     ensures reason { IsReason wrong_shape result.reason }
-    ensures way { way_of result ≡ [] }
+    ensures path { path_of result ≡ [] }
 {
     at(alloc, Reason::WrongShape(message))
 }
@@ -158,14 +158,17 @@ fn of_number<B: ValueBuilder>(
     }
 }
 
-// The place of a fault in what stands behind the step.
-fn inside(place: Place, step: Step) -> Result<Place, AllocError>
-    ensures way { IfOk result (λ p. way_of p ≡ way_of place ++ turn_of step ∷ []) }
+// The place of a fault in what stands behind the segment.
+fn with_segment(place: Place, segment: Segment) -> Result<Place, AllocError>
+    ensures path { IfOk result (λ p. path_of p ≡ path_of place ++ segment_of segment ∷ []) }
     ensures reason { IfOk result (λ p. p.reason ≡ place.reason) }
 {
-    let Place { reason, mut steps } = place;
-    steps.push(step)?;
-    Ok(Place { reason, steps })
+    let Place {
+        reason,
+        mut segments,
+    } = place;
+    segments.push(segment)?;
+    Ok(Place { reason, segments })
 }
 
 #[cycle(walk)]
@@ -197,7 +200,7 @@ fn read_items<B: ValueBuilder>(
     for item in items {
         match read_value::<B>(alloc, doubles, item)? {
             Ok(value) => B::push(&mut read, value)?,
-            Err(place) => return Ok(Err(inside(place, Step::Element(at))?)),
+            Err(place) => return Ok(Err(with_segment(place, Segment::Element(at))?)),
         }
         at += 1;
     }
@@ -217,7 +220,7 @@ fn read_members<B: ValueBuilder>(
     for (key, value) in members {
         match read_value::<B>(alloc, doubles, value)? {
             Ok(value) => B::put(&mut read, key, value)?,
-            Err(place) => return Ok(Err(inside(place, Step::Key(key))?)),
+            Err(place) => return Ok(Err(with_segment(place, Segment::Key(key))?)),
         }
     }
     Ok(Ok(read))
@@ -260,10 +263,10 @@ fn read_wrapped<B: ValueBuilder>(
         return of_lone::<B>(alloc, doubles, key, value);
     };
     if !members.is_empty() {
-        return Ok(Err(here(alloc, beside_others(wrapper))));
+        return Ok(Err(place_here(alloc, beside_others(wrapper))));
     }
     if !is_code_with_scope(key.as_str(), other.as_str()) {
-        return Ok(Err(here(alloc, beside_others(wrapper))));
+        return Ok(Err(place_here(alloc, beside_others(wrapper))));
     }
     read_code::<B>(alloc, doubles, scope, value)
 }
@@ -289,9 +292,9 @@ fn of_lone<B: ValueBuilder>(
 // The place at the key.
 fn at_key(alloc: Global, key: String, reason: Reason) -> Result<Place, AllocError>
     ensures { IfOk result
-        (λ place. (way_of place ≡ turn (string_bytes key) ∷ []) × (place.reason ≡ reason)) }
+        (λ place. (path_of place ≡ key_segment (string_bytes key) ∷ []) × (place.reason ≡ reason)) }
 {
-    inside(at(alloc, reason), Step::Key(key))
+    with_segment(at(alloc, reason), Segment::Key(key))
 }
 
 // What stands as a scope, beside what stands as its code.
@@ -308,7 +311,7 @@ fn read_code<B: ValueBuilder>(
 {
     match code {
         Value::String(code) => read_scope::<B>(alloc, doubles, scope, code),
-        _ => Ok(Err(here(alloc, CODE))),
+        _ => Ok(Err(place_here(alloc, CODE))),
     }
 }
 
@@ -328,7 +331,7 @@ fn read_scope<B: ValueBuilder>(
     match scope {
         Value::Null => Ok(Ok(B::scalar(Scalar::JavaScriptCode(code)))),
         Value::Object(members) => read_scope_map::<B>(alloc, doubles, members, code),
-        _ => Ok(Err(here(alloc, SCOPE))),
+        _ => Ok(Err(place_here(alloc, SCOPE))),
     }
 }
 
@@ -349,7 +352,7 @@ fn read_scope_map<B: ValueBuilder>(
         Ok(scope) => Ok(Ok(B::code(code, scope))),
         Err(place) => {
             let key = String::from_str(alloc, "$scope")?;
-            Ok(Err(inside(place, Step::Key(key))?))
+            Ok(Err(with_segment(place, Segment::Key(key))?))
         }
     }
 }

@@ -141,7 +141,7 @@ impl Answer {
 
     /// Puts why a call gave no value, in the row's style, by Debug where it names none.
     pub(crate) fn refuse<E: Refusal>(&mut self, error: &E) {
-        if error.is_want_of_memory() {
+        if error.is_out_of_memory() {
             self.stop = Some(Stop::OutOfMemory);
             return;
         }

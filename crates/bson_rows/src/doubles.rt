@@ -7,7 +7,7 @@ use bson_double::{double_of_text, double_text, is_finite};
 pub(crate) fn call(rest: &str, out: &mut Answer) -> Outcome {
     let (name, text) = cut(rest);
     match name {
-        "text" => written(text, out),
+        "text" => write_double(text, out),
         "read" => {
             read(text, out);
             Ok(())
@@ -17,7 +17,7 @@ pub(crate) fn call(rest: &str, out: &mut Answer) -> Outcome {
 }
 
 /// The text of the double of the pattern.
-fn written(pattern: &str, out: &mut Answer) -> Outcome {
+fn write_double(pattern: &str, out: &mut Answer) -> Outcome {
     let pattern = pattern_of(pattern)?;
     if is_finite(pattern) {
         out.text(double_text(pattern).as_str());

@@ -1,4 +1,4 @@
-//! `error NAME`: the refusals that no call answers by the row's arguments alone, want of memory
+//! `error NAME`: the refusals that no call answers by the row's arguments alone, out of memory
 //! among them, and what is written of them in the row's style.
 use crate::answer::Answer;
 use crate::held::value;

@@ -14,7 +14,7 @@ use std::alloc::{AllocError, Global};
 /// `FORM VALUE`: the value is read or made, and written. A refusal tells which one.
 pub(crate) fn call(alloc: Global, form: &str, rest: &str, out: &mut Answer) -> Outcome {
     match rest.strip_prefix("made ") {
-        Some(made) => put_value(alloc, form, steps::made(alloc, made)?, out),
+        Some(made) => put_value(alloc, form, steps::make_value(alloc, made)?, out),
         None => match Bson::try_from_value(alloc, tree(alloc, rest)?) {
             Ok(value) => put_value(alloc, form, value, out),
             Err(error) => put_refused(alloc, rest, error, out),

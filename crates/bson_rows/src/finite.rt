@@ -26,8 +26,8 @@ fn finite() -> Options {
 pub(crate) fn call(alloc: Global, rest: &str, out: &mut Answer) -> Outcome {
     let (name, rest) = cut(rest);
     match name {
-        "canonical" => written(alloc, Form::Canonical, rest, out),
-        "relaxed" => written(alloc, Form::Relaxed, rest, out),
+        "canonical" => write_value(alloc, Form::Canonical, rest, out),
+        "relaxed" => write_value(alloc, Form::Relaxed, rest, out),
         "read" => read(alloc, rest, out),
         "converted" => converted(alloc, rest, out),
         "map" => map(alloc, rest, out),
@@ -36,9 +36,9 @@ pub(crate) fn call(alloc: Global, rest: &str, out: &mut Answer) -> Outcome {
     }
 }
 
-fn written(alloc: Global, form: Form, rest: &str, out: &mut Answer) -> Outcome {
+fn write_value(alloc: Global, form: Form, rest: &str, out: &mut Answer) -> Outcome {
     match rest.strip_prefix("made ") {
-        Some(made) => put_value(alloc, form, steps::made(alloc, made)?, out),
+        Some(made) => put_value(alloc, form, steps::make_value(alloc, made)?, out),
         None => {
             let tree = tree(alloc, rest)?;
             put_read(
@@ -98,7 +98,7 @@ fn converted(alloc: Global, text: &str, out: &mut Answer) -> Outcome {
             }
         }
         Err(fault) if fault.is_memory() => return Err(Stop::OutOfMemory),
-        Err(fault) => out.text(fault.words()),
+        Err(fault) => out.text(fault.message()),
     }
     Ok(())
 }

@@ -18,7 +18,7 @@ pub(crate) fn tree(alloc: Global, text: &str) -> Result<Value, Stop> {
 /// The value that the text names. What can't be read is no value of a row.
 pub(crate) fn value(alloc: Global, text: &str) -> Result<Bson, Stop> {
     if let Some(made) = text.strip_prefix("made ") {
-        return steps::made(alloc, made);
+        return steps::make_value(alloc, made);
     }
     match Bson::try_from_value(alloc, tree(alloc, text)?) {
         Ok(value) => Ok(value),

@@ -15,12 +15,12 @@ use std::alloc::Global;
 pub(crate) fn call(alloc: Global, rest: &str, out: &mut Answer) -> Outcome {
     let (name, steps) = cut(rest);
     match name {
-        "canonical" => written(alloc, Options::default(), Form::Canonical, steps, out),
-        "relaxed" => written(alloc, Options::default(), Form::Relaxed, steps, out),
-        "finite" => written(alloc, finite(), Form::Canonical, steps, out),
+        "canonical" => write_value(alloc, Options::default(), Form::Canonical, steps, out),
+        "relaxed" => write_value(alloc, Options::default(), Form::Relaxed, steps, out),
+        "finite" => write_value(alloc, finite(), Form::Canonical, steps, out),
         "read" => read(alloc, Options::default(), steps, out),
         "read_finite" => read(alloc, finite(), steps, out),
-        "back" => written_back(alloc, steps, out),
+        "back" => write_back(alloc, steps, out),
         _ => Err(Stop::NotUnderstood),
     }
 }
@@ -32,8 +32,14 @@ fn finite() -> Options {
 }
 
 /// Puts what the two calls wrote, which must be alike.
-fn written(alloc: Global, options: Options, form: Form, steps: &str, out: &mut Answer) -> Outcome {
-    let value = steps::made(alloc, steps)?;
+fn write_value(
+    alloc: Global,
+    options: Options,
+    form: Form,
+    steps: &str,
+    out: &mut Answer,
+) -> Outcome {
+    let value = steps::make_value(alloc, steps)?;
     let lent = value.to_text_in_order(alloc, options, form);
     let text = value.into_text_in_order(alloc, options, form);
     let alike = text == lent;
@@ -52,7 +58,7 @@ fn read(alloc: Global, options: Options, text: &str, out: &mut Answer) -> Outcom
 }
 
 /// Puts the text that is written of what the text means.
-fn written_back(alloc: Global, text: &str, out: &mut Answer) -> Outcome {
+fn write_back(alloc: Global, text: &str, out: &mut Answer) -> Outcome {
     match Bson::try_from_text_in_order(alloc, finite(), text.as_bytes()) {
         Ok(value) => {
             out.result(value.into_text_in_order(alloc, finite(), Form::Canonical));

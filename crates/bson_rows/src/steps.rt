@@ -12,19 +12,19 @@ use bson::{Bson, DateTime, Decimal128, Document, JavaScriptCodeWithScope, Regex}
 use std::alloc::Global;
 
 /// The value that is left on the pile.
-pub(crate) fn made(alloc: Global, steps: &str) -> Result<Bson, Stop> {
+pub(crate) fn make_value(alloc: Global, steps: &str) -> Result<Bson, Stop> {
     let mut pile = Vec::new(alloc);
     for step in steps.split(' ') {
-        let value = made_by(alloc, &mut pile, step)?;
+        let value = make_by(alloc, &mut pile, step)?;
         if pile.push(value).is_err() {
             return Err(Stop::NoRoom);
         }
     }
-    taken(&mut pile)
+    pop(&mut pile)
 }
 
 /// The value that the step puts on the pile.
-fn made_by(alloc: Global, pile: &mut Vec<Bson>, step: &str) -> Result<Bson, Stop> {
+fn make_by(alloc: Global, pile: &mut Vec<Bson>, step: &str) -> Result<Bson, Stop> {
     let (name, rest) = cut_at_colon(step);
     match name {
         "put" => put(alloc, pile, rest),
@@ -37,7 +37,7 @@ fn made_by(alloc: Global, pile: &mut Vec<Bson>, step: &str) -> Result<Bson, Stop
 }
 
 /// The topmost value, which leaves the pile.
-fn taken(pile: &mut Vec<Bson>) -> Result<Bson, Stop> {
+fn pop(pile: &mut Vec<Bson>) -> Result<Bson, Stop> {
     pile.pop().ok_or(Stop::NotUnderstood)
 }
 
@@ -86,7 +86,7 @@ fn binary(alloc: Global, rest: &str) -> Result<Bson, Stop> {
 /// The document below the topmost value, with the value put into it.
 fn put(alloc: Global, pile: &mut Vec<Bson>, key: &str) -> Result<Bson, Stop> {
     let key = String::from_str(alloc, key)?;
-    let value = taken(pile)?;
+    let value = pop(pile)?;
     let mut document = document(pile)?;
     match document.insert(key, value) {
         Ok(_) => Ok(Bson::Document(document)),
@@ -96,8 +96,8 @@ fn put(alloc: Global, pile: &mut Vec<Bson>, key: &str) -> Result<Bson, Stop> {
 
 /// The list below the topmost value, with the value put into it.
 fn add(pile: &mut Vec<Bson>) -> Result<Bson, Stop> {
-    let value = taken(pile)?;
-    let Bson::Array(mut list) = taken(pile)? else {
+    let value = pop(pile)?;
+    let Bson::Array(mut list) = pop(pile)? else {
         return Err(Stop::NotUnderstood);
     };
     match list.push(value) {

@@ -16,7 +16,7 @@ pub enum Stop {
     NotUnderstood,
     /// No memory was found for the arguments, or for writing the answer.
     NoRoom,
-    /// The call itself answered want of memory.
+    /// The call itself answered out of memory.
     OutOfMemory,
 }
 
@@ -48,8 +48,8 @@ pub type Outcome = Result<(), Stop>;
 
 /// What a call may answer in place of a value.
 pub trait Refusal: fmt::Display + fmt::Debug + Drop {
-    /// Whether it is want of memory, for which all rows have one line.
-    fn is_want_of_memory(&self) -> bool {
+    /// Whether it is out of memory, for which all rows have one line.
+    fn is_out_of_memory(&self) -> bool {
         false
     }
 }
@@ -63,73 +63,73 @@ impl Refusal for uuid::Error {}
 impl Refusal for bson::document::ValueAccessError {}
 
 impl Refusal for AllocError {
-    fn is_want_of_memory(&self) -> bool {
+    fn is_out_of_memory(&self) -> bool {
         true
     }
 }
 
 impl Refusal for Refused {
-    fn is_want_of_memory(&self) -> bool {
+    fn is_out_of_memory(&self) -> bool {
         true
     }
 }
 
 impl Refusal for Stopped {
-    fn is_want_of_memory(&self) -> bool {
+    fn is_out_of_memory(&self) -> bool {
         true
     }
 }
 
 impl Refusal for oid::Error {
-    fn is_want_of_memory(&self) -> bool {
+    fn is_out_of_memory(&self) -> bool {
         matches!(self, oid::Error::OutOfMemory)
     }
 }
 
 impl Refusal for datetime::Error {
-    fn is_want_of_memory(&self) -> bool {
+    fn is_out_of_memory(&self) -> bool {
         matches!(self, datetime::Error::OutOfMemory)
     }
 }
 
 impl Refusal for binary::Error {
-    fn is_want_of_memory(&self) -> bool {
+    fn is_out_of_memory(&self) -> bool {
         matches!(self, binary::Error::OutOfMemory)
     }
 }
 
 impl Refusal for extjson::de::Error {
-    fn is_want_of_memory(&self) -> bool {
+    fn is_out_of_memory(&self) -> bool {
         matches!(self, extjson::de::Error::OutOfMemory)
     }
 }
 
 impl Refusal for WriteError {
-    fn is_want_of_memory(&self) -> bool {
+    fn is_out_of_memory(&self) -> bool {
         matches!(self, WriteError::OutOfMemory)
     }
 }
 
 impl Refusal for de::Error {
-    fn is_want_of_memory(&self) -> bool {
+    fn is_out_of_memory(&self) -> bool {
         matches!(self, de::Error::OutOfMemory)
     }
 }
 
 impl Refusal for ser::Error {
-    fn is_want_of_memory(&self) -> bool {
+    fn is_out_of_memory(&self) -> bool {
         matches!(self, ser::Error::OutOfMemory)
     }
 }
 
 impl Refusal for ReaderError {
-    fn is_want_of_memory(&self) -> bool {
+    fn is_out_of_memory(&self) -> bool {
         matches!(self, ReaderError::OutOfMemory)
     }
 }
 
 impl Refusal for WriterError {
-    fn is_want_of_memory(&self) -> bool {
+    fn is_out_of_memory(&self) -> bool {
         matches!(self, WriterError::NoBytes(ser::Error::OutOfMemory))
     }
 }

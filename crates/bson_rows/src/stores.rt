@@ -16,8 +16,8 @@ pub(crate) fn call(alloc: Global, rest: &str, out: &mut Answer) -> Outcome {
     match store {
         "small" => run(alloc, &mut SmallPairs::new(alloc), rest, out),
         "indexed" => run(alloc, &mut IndexedPairs::new(alloc), rest, out),
-        "replay_small" => replayed(alloc, &mut SmallPairs::new(alloc), rest, out),
-        "replay_indexed" => replayed(alloc, &mut IndexedPairs::new(alloc), rest, out),
+        "replay_small" => put_replay(alloc, &mut SmallPairs::new(alloc), rest, out),
+        "replay_indexed" => put_replay(alloc, &mut IndexedPairs::new(alloc), rest, out),
         _ => Err(Stop::NotUnderstood),
     }
 }
@@ -145,7 +145,7 @@ fn put_pairs<S: PairStore<i32>>(store: &S, out: &mut Answer) {
 }
 
 /// The same commands by `replay`.
-fn replayed<S: PairStore<i32>>(
+fn put_replay<S: PairStore<i32>>(
     alloc: Global,
     store: &mut S,
     text: &str,

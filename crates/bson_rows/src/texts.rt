@@ -24,12 +24,12 @@ fn compare(one: &Bson, other: &Bson, out: &mut Answer) {
         (false, false) => "unequal",
         _ => "equal one way alone",
     });
-    if hashed(one) == hashed(other) {
+    if hash_of(one) == hash_of(other) {
         out.text(", equal hashes");
     }
 }
 
-fn hashed(value: &Bson) -> u64 {
+fn hash_of(value: &Bson) -> u64 {
     let mut state = Fnv::new();
     value.hash(&mut state);
     state.finish()
@@ -38,6 +38,6 @@ fn hashed(value: &Bson) -> u64 {
 /// What FNV-1a makes of the bytes that the value feeds it.
 pub(crate) fn hash(alloc: Global, rest: &str, out: &mut Answer) -> Outcome {
     let value = value(alloc, rest)?;
-    out.hex(&hashed(&value).to_be_bytes());
+    out.hex(&hash_of(&value).to_be_bytes());
     Ok(())
 }

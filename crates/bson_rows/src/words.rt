@@ -54,7 +54,7 @@ pub(crate) fn byte_of(text: &str) -> Result<u8, Stop> {
     }
 }
 
-/// A whole number.
+/// An integer.
 pub(crate) fn number<N: std::str::FromStr>(text: &str) -> Result<N, Stop>
 where
     N::Err: Drop,

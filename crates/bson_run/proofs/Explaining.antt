@@ -10,7 +10,7 @@ use Rattle.std.specs.Str.{chars}
 use Rattle.std.proofs.lemmas.Bool.{le-ltb, lt-ltb}
 use Rattle.std.proofs.lemmas.Fmt.{hex_byte}
 use Rattle.std.proofs.lemmas.Option.{slice_get_cases, slice_get_within}
-use Rattle.bson_place.specs.Place.{dotted, way_of}
+use Rattle.bson_place.specs.Place.{dotted, path_of}
 use Rattle.bson_place.specs.declared.place.Place.{Place}
 use Rattle.bson_run.specs.Place.{IsPlaced, IsPlacedIn, IsReasonIn, at_path, cut_at, shown, told_as}
 
@@ -22,23 +22,23 @@ at_some : (path : List ℕ) → 0 < length path → at_path path ≡ codes " at 
 at_some [] h = absurd (omega arith)
 at_some (x ∷ xs) h = refl
 
-pub placed_bare : (text : List ℕ) (place : Place) (path reason message words : List ℕ) → IsReasonIn text place.reason reason → path ≡ told_as (dotted (way_of place))
+pub placed_bare : (text : List ℕ) (place : Place) (path reason message words : List ℕ) → IsReasonIn text place.reason reason → path ≡ told_as (dotted (path_of place))
     → message ≡ told_as reason → length path ≡ 0 → words ≡ codes " (" ++ message ++ codes ")" → IsPlacedIn text place words
 placed_bare text place path reason message words why e m none is = (
   reason,
   why,
   is ∙ ap (λ p. p ++ codes " (" ++ message ++ codes ")") (sym (at_none path none) ∙ ap at_path e)
-      ∙ ap (λ t. at_path (told_as (dotted (way_of place))) ++ codes " (" ++ t ++ codes ")") m,
+      ∙ ap (λ t. at_path (told_as (dotted (path_of place))) ++ codes " (" ++ t ++ codes ")") m,
 )
 
-pub placed_at : (text : List ℕ) (place : Place) (path reason message words : List ℕ) → IsReasonIn text place.reason reason → path ≡ told_as (dotted (way_of place))
+pub placed_at : (text : List ℕ) (place : Place) (path reason message words : List ℕ) → IsReasonIn text place.reason reason → path ≡ told_as (dotted (path_of place))
     → message ≡ told_as reason → 0 < length path
     → words ≡ codes " at " ++ path ++ codes " (" ++ message ++ codes ")" → IsPlacedIn text place words
 placed_at text place path reason message words why e m some is = (
   reason,
   why,
   is ∙ ap (λ p. p ++ codes " (" ++ message ++ codes ")") (sym (at_some path some) ∙ ap at_path e)
-      ∙ ap (λ t. at_path (told_as (dotted (way_of place))) ++ codes " (" ++ t ++ codes ")") m,
+      ∙ ap (λ t. at_path (told_as (dotted (path_of place))) ++ codes " (" ++ t ++ codes ")") m,
 )
 
 pub placed : (text : List ℕ) (place : Place) (words : List ℕ) → IsPlacedIn text place words → IsPlaced place words

@@ -10,7 +10,7 @@ use Rattle.json.specs.Json.{skip_value}
 use Rattle.json.specs.Lex.{tokens}
 use Rattle.json.specs.Token.{Token, begin_object, end_object, begin_array, end_array, bad}
 use Rattle.serde_json.specs.Read.{max_depth}
-use Rattle.bson_place.specs.Place.{dotted, way_of}
+use Rattle.bson_place.specs.Place.{dotted, path_of}
 use Rattle.bson_place.specs.declared.place.Place.{Place}
 use Rattle.bson_place.specs.declared.place.Reason.{Reason}
 use Rattle.bson_place.specs.declared.place.Reason.TheVariants.{BadObjectId, WrongShape}
@@ -47,10 +47,10 @@ cut_at most tell words =
 abbrev pub told_as : List ℕ → List ℕ
 told_as words = cut_at 300 shown words
 
--- the way to the place, and a message
+-- the path to the place, and a message
 abbrev pub IsPlaced : Place → List ℕ → Type 0
 IsPlaced place words =
-    (message : List ℕ) × (words ≡ at_path (told_as (dotted (way_of place))) ++ codes " (" ++ told_as message ++ codes ")")
+    (message : List ℕ) × (words ≡ at_path (told_as (dotted (path_of place))) ++ codes " (" ++ told_as message ++ codes ")")
 
 -- what is told of a value: 60 characters
 abbrev pub found_as : List ℕ → List ℕ
@@ -70,11 +70,11 @@ IsReasonIn text (WrongShape expected) words =
     (quote : List ℕ) × IsQuote text quote × (words ≡ expected.now ++ quote)
 IsReasonIn text (BadObjectId why) words = Unit {0}
 
--- the way to the place, and such a message
+-- the path to the place, and such a message
 abbrev pub IsPlacedIn : List ℕ → Place → List ℕ → Type 0
 IsPlacedIn text place words =
     (message : List ℕ) × IsReasonIn text place.reason message
-    × (words ≡ at_path (told_as (dotted (way_of place))) ++ codes " (" ++ told_as message ++ codes ")")
+    × (words ≡ at_path (told_as (dotted (path_of place))) ++ codes " (" ++ told_as message ++ codes ")")
 
 -- the bytes are UTF-8 and one value by the grammar of JSON, arrays and objects nesting as deep as texts may (RFC 8259)
 abbrev pub HasGrammar : List ℕ → Type 0

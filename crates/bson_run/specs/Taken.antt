@@ -6,7 +6,7 @@ use Rattle.json.specs.Json.{Json}
 use Rattle.json.specs.Strict.{HasUniqueKeys}
 use Rattle.bson_distinct.specs.Double.{json_of, HasDoubleKey}
 use Rattle.bson_legacy.specs.Text.{IsModernText}
-use Rattle.bson_place.specs.Place.{way_of}
+use Rattle.bson_place.specs.Place.{path_of}
 use Rattle.bson_place.specs.declared.place.Place.{Place}
 use Rattle.bson_convert.specs.declared.fault.Fault.{Fault}
 use Rattle.bson_convert.specs.declared.fault.Fault.TheVariants.{NotExtendedJson, OutOfMemory}
@@ -19,7 +19,7 @@ HasNoDoubleKey bytes = (j : Json) → IsUtf8 bytes → json_of bytes ≡ Some j 
 
 -- the bytes are a JSON text, whose first key that stands twice lies at the place
 abbrev pub HasDoubleKeyAt : Place → List ℕ → Type 0
-HasDoubleKeyAt place bytes = IsUtf8 bytes × HasDoubleKey bytes (way_of place)
+HasDoubleKeyAt place bytes = IsUtf8 bytes × HasDoubleKey bytes (path_of place)
 
 -- the bytes are no JSON text
 abbrev pub IsNoJson : List ℕ → Type 0

@@ -16,7 +16,7 @@ ghost use Rattle.bson_run.specs.Encode.{IsUnencodedIn, IsUnencodedInOrder};
 use bson::Bson;
 use bson::extjson::Options;
 use bson_codec::{ser, to_vec};
-use bson_convert::convert::refused;
+use bson_convert::convert::fault_of;
 use bson_convert::fault::Fault;
 use bson_convert::no_bytes::NoBytes;
 use bson_filter::unstreamed::Unstreamed;
@@ -46,7 +46,7 @@ pub fn encode_with(alloc: Global, options: Options, bytes: &[u8]) -> Result<Vec<
 {
     match Bson::try_from_text_with(alloc, options, bytes) {
         Ok(value) => bytes_of(alloc, value),
-        Err(error) => Err(refused(error)),
+        Err(error) => Err(fault_of(error)),
     }
 }
 
@@ -68,14 +68,14 @@ pub fn encode_in_order(alloc: Global, options: Options, bytes: &[u8]) -> Result<
         → IfErr result (λ fault. fault ≡ Fault.OutOfMemory) }
     ensures fault { IfErr result (λ fault. IsUnencodedInOrder options fault bytes.now) }
 {
-    match packed(alloc, options, bytes)? {
+    match pack_document(alloc, options, bytes)? {
         Some(document) => Ok(document),
-        None => encoded_whole(alloc, options, bytes),
+        None => encode_whole(alloc, options, bytes),
     }
 }
 
 // The bytes that are written as the text is read; none where it is to be read whole.
-fn packed(alloc: Global, options: Options, bytes: &[u8]) -> Result<Option<Vec<u8>>, Fault>
+fn pack_document(alloc: Global, options: Options, bytes: &[u8]) -> Result<Option<Vec<u8>>, Fault>
     ensures ok { IfOk result (λ found. IfSome found (λ out. EncodesInOrder options bytes.now out.items)) }
     ensures fault { IfErr result (λ fault. fault ≡ Fault.OutOfMemory) }
 {
@@ -90,7 +90,7 @@ fn packed(alloc: Global, options: Options, bytes: &[u8]) -> Result<Option<Vec<u8
 }
 
 // The bytes of the value, which is read whole.
-fn encoded_whole(alloc: Global, options: Options, bytes: &[u8]) -> Result<Vec<u8>, Fault>
+fn encode_whole(alloc: Global, options: Options, bytes: &[u8]) -> Result<Vec<u8>, Fault>
     ensures ok { IfOk result (λ out. EncodesInOrder options bytes.now out.items) }
     ensures accepts { (tree : Data) (ps : Pairs) → IsUtf8 bytes.now → read_kept bytes.now ≡ Some tree
         → MeansInOrder options.doubles tree (document ps) → FitsDocument ps
@@ -99,7 +99,7 @@ fn encoded_whole(alloc: Global, options: Options, bytes: &[u8]) -> Result<Vec<u8
 {
     match Bson::try_from_text_in_order(alloc, options, bytes) {
         Ok(value) => bytes_of(alloc, value),
-        Err(error) => Err(refused(error)),
+        Err(error) => Err(fault_of(error)),
     }
 }
 
@@ -115,12 +115,12 @@ fn bytes_of(alloc: Global, value: Bson) -> Result<Vec<u8>, Fault>
     };
     match to_vec(alloc, &document) {
         Ok(bytes) => Ok(bytes),
-        Err(error) => Err(unwritten(error)),
+        Err(error) => Err(write_fault(error)),
     }
 }
 
 // The fault of a document that has no bytes.
-fn unwritten(error: ser::Error) -> Fault
+fn write_fault(error: ser::Error) -> Fault
     ensures cause { (ps : Pairs) → IsRefusal error ps → FailsAlone result ps }
     ensures memory { error ≡ errors.OutOfMemory → result ≡ Fault.OutOfMemory }
 {

@@ -19,7 +19,7 @@ use crate::explain::explain;
 use crate::in_order::convert_in_order;
 use crate::order::{OnRefusal, Taking, Task, Work};
 use crate::refusal::Refusal;
-use crate::taken::taken;
+use crate::taken::take_as;
 use bson::extjson::Options;
 use bson_convert::convert::convert_with;
 use bson_convert::fault::Fault;
@@ -113,13 +113,13 @@ fn judge_taken(
     ensures ok { IfOk result (λ output. WritesIn options (Taken taking work) text.now output.items) }
     ensures fault { IfErr result (λ fault. IsJudged options (Taken taking work) fault text.now) }
 {
-    match taken(alloc, taking, text)? {
-        Some(modern) => worked(alloc, options, work, modern.as_bytes()),
-        None => worked(alloc, options, work, text),
+    match take_as(alloc, taking, text)? {
+        Some(modern) => work_on(alloc, options, work, modern.as_bytes()),
+        None => work_on(alloc, options, work, text),
     }
 }
 
-fn worked(alloc: Global, options: Options, work: Work, text: &[u8]) -> Result<Vec<u8>, Fault>
+fn work_on(alloc: Global, options: Options, work: Work, text: &[u8]) -> Result<Vec<u8>, Fault>
     ensures ok { IfOk result (λ output. WorksIn options work text.now output.items) }
     ensures fault { IfErr result (λ fault. IsRefusedIn options fault text.now) }
 {
@@ -146,7 +146,7 @@ fn verdict(alloc: Global, number: u64, fault: &Fault, text: &[u8]) -> Result<Str
 fn at_place(alloc: Global, number: u64, fault: &Fault, place: &str) -> Result<String, AllocError>
     ensures { IfOk result (λ told. string_bytes told ≡ told_at number fault.now place.now) }
 {
-    let words = fault.words();
+    let words = fault.message();
     format!(in alloc; "bson_lines: line {number}: {words}{place}\n")
 }
 

@@ -11,7 +11,7 @@ ghost use Rattle.bson_run.specs.InOrder.{ConvertsInOrder, IsOutputInOrder};
 
 use bson::Bson;
 use bson::extjson::{Form, Options, WriteError};
-use bson_convert::convert::{displayed_line, ended, line, refused};
+use bson_convert::convert::{displayed_line, end_line, fault_of, line};
 use bson_convert::converted::refuse;
 use bson_convert::fault::Fault;
 use bson_convert::mode::Mode;
@@ -43,15 +43,15 @@ pub fn convert_in_order(
         → MeansIn options.doubles tree value → IfErr result (λ fault. fault ≡ Fault.OutOfMemory) }
     ensures fault { IfErr result (λ fault. IsRefusedIn options fault bytes.now) }
 {
-    match filtered(alloc, options, mode, bytes)? {
+    match filter_line(alloc, options, mode, bytes)? {
         Some(line) => Ok(line),
-        None => converted_whole(alloc, options, mode, bytes),
+        None => convert_whole(alloc, options, mode, bytes),
     }
 }
 
 // The text that is written as the bytes are read, and a newline; none where they are to be read
 // whole. Where they mean nothing their first fault is told, and no value is made.
-fn filtered(
+fn filter_line(
     alloc: Global,
     options: Options,
     mode: Mode,
@@ -69,7 +69,7 @@ fn filtered(
         return Ok(None);
     };
     match filter_text(alloc, options.doubles, form, text) {
-        Ok(written) => Ok(Some(ended(written)?)),
+        Ok(written) => Ok(Some(end_line(written)?)),
         Err(Unstreamed::Left) => {
             refuse(alloc, options, text)?;
             Ok(None)
@@ -79,7 +79,7 @@ fn filtered(
 }
 
 // The output of the value, which is read whole.
-fn converted_whole(
+fn convert_whole(
     alloc: Global,
     options: Options,
     mode: Mode,
@@ -92,7 +92,7 @@ fn converted_whole(
 {
     match Bson::try_from_text_in_order(alloc, options, bytes) {
         Ok(value) => value_output(alloc, options, mode, value),
-        Err(error) => Err(refused(error)),
+        Err(error) => Err(fault_of(error)),
     }
 }
 

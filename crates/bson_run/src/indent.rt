@@ -19,7 +19,7 @@ use std::alloc::{AllocError, Global};
 /// the tokens before its fault are laid out.
 ///
 /// ```
-/// let laid = indented(alloc, 2, r#"{"a":[1,{}]}"#)?;
+/// let laid = indent_text(alloc, 2, r#"{"a":[1,{}]}"#)?;
 /// println!(rt; "{}", str::from_utf8(&laid)?)?;
 /// // {
 /// //   "a": [
@@ -28,7 +28,7 @@ use std::alloc::{AllocError, Global};
 /// //   ]
 /// // }
 /// ```
-pub fn indented(alloc: Global, spaces: usize, text: &str) -> Result<Vec<u8>, AllocError>
+pub fn indent_text(alloc: Global, spaces: usize, text: &str) -> Result<Vec<u8>, AllocError>
     ensures layout { IfOk result (λ laid. laid.items ≡ indented spaces (tokens text.now)) }
     ensures same { IfOk result (λ laid. HasSameTokens text.now laid.items) }
 {

@@ -9,17 +9,17 @@ ghost use Rattle.bson.specs.Texts.{IsTextInOrder, IsTextUnder};
 ghost use Rattle.bson_convert.specs.Convert.{IsRefusedIn};
 ghost use Rattle.bson_run.specs.Indent.{mode_of, ConvertsIndented, ConvertsInOrderIndented, IsLaidOut};
 
-use crate::indent::indented;
+use crate::indent::indent_text;
 use bson::Bson;
 use bson::extjson::{Form, Options, WriteError};
-use bson_convert::convert::{converted, ended, refused};
+use bson_convert::convert::{end_line, fault_of, text_or_value};
 use bson_convert::converted::Converted;
 use bson_convert::fault::Fault;
 use bson_convert::mode::Mode;
 use std::alloc::Global;
 
 /// [`convert_with`](bson_convert::convert::convert_with) in a form, its text over several lines, as
-/// [`indented`](crate::indent::indented) lays it out with `spaces` for each bracket.
+/// [`indent_text`](crate::indent::indent_text) lays it out with `spaces` for each bracket.
 ///
 /// The same bytes are refused, for the same fault. The text and its layout are in memory together.
 ///
@@ -47,7 +47,7 @@ pub fn convert_indented(
     ensures fault { IfErr result (λ fault. IsRefusedIn options fault bytes.now) }
 {
     let text = text_of(alloc, options, form, bytes)?;
-    laid_out(alloc, spaces, &text)
+    lay_out(alloc, spaces, &text)
 }
 
 /// [`convert_in_order`](crate::in_order::convert_in_order) in a form, its text over several lines in
@@ -77,7 +77,7 @@ pub fn convert_in_order_indented(
     ensures fault { IfErr result (λ fault. IsRefusedIn options fault bytes.now) }
 {
     let text = text_in_order(alloc, options, form, bytes)?;
-    laid_out(alloc, spaces, &text)
+    lay_out(alloc, spaces, &text)
 }
 
 // The mode that writes the form.
@@ -97,13 +97,13 @@ fn text_of(alloc: Global, options: Options, form: Form, bytes: &[u8]) -> Result<
         × IsTextUnder options.doubles form value (string_bytes text)) }
     ensures fault { IfErr result (λ fault. IsRefusedIn options fault bytes.now) }
 {
-    match converted(alloc, options, mode_of(form), bytes)? {
+    match text_or_value(alloc, options, mode_of(form), bytes)? {
         Converted::Text(text) => match String::from_utf8(text) {
             Ok(text) => Ok(text),
             // (that what is written is UTF-8 no contract says)
             Err(_) => whole_text(alloc, options, form, bytes),
         },
-        Converted::Value(value) => written(value.into_text_with(alloc, options, form)),
+        Converted::Value(value) => written_text(value.into_text_with(alloc, options, form)),
     }
 }
 
@@ -115,8 +115,8 @@ fn whole_text(alloc: Global, options: Options, form: Form, bytes: &[u8]) -> Resu
     ensures fault { IfErr result (λ fault. IsRefusedIn options fault bytes.now) }
 {
     match Bson::try_from_text_with(alloc, options, bytes) {
-        Ok(value) => written(value.into_text_with(alloc, options, form)),
-        Err(error) => Err(refused(error)),
+        Ok(value) => written_text(value.into_text_with(alloc, options, form)),
+        Err(error) => Err(fault_of(error)),
     }
 }
 
@@ -130,13 +130,13 @@ fn text_in_order(alloc: Global, options: Options, form: Form, bytes: &[u8]) -> R
     ensures fault { IfErr result (λ fault. IsRefusedIn options fault bytes.now) }
 {
     match Bson::try_from_text_in_order(alloc, options, bytes) {
-        Ok(value) => written(value.into_text_in_order(alloc, options, form)),
-        Err(error) => Err(refused(error)),
+        Ok(value) => written_text(value.into_text_in_order(alloc, options, form)),
+        Err(error) => Err(fault_of(error)),
     }
 }
 
 // The text that was written of a value that was read, which can be written.
-fn written(text: Result<String, WriteError>) -> Result<String, Fault>
+fn written_text(text: Result<String, WriteError>) -> Result<String, Fault>
     requires { text ≡ Err WriteError.FiniteDouble → ⊥ }
     ensures ok { IfOk result (λ written. text ≡ Ok written) }
     ensures fault { IfErr result (λ fault. fault ≡ Fault.OutOfMemory) }
@@ -149,12 +149,12 @@ fn written(text: Result<String, WriteError>) -> Result<String, Fault>
 }
 
 // The layout of the text, and a newline.
-fn laid_out(alloc: Global, spaces: usize, text: &str) -> Result<Vec<u8>, Fault>
+fn lay_out(alloc: Global, spaces: usize, text: &str) -> Result<Vec<u8>, Fault>
     ensures ok { IfOk result (λ output. IsLaidOut spaces text.now output.items) }
     ensures fault { IfErr result (λ fault. fault ≡ Fault.OutOfMemory) }
 {
-    match indented(alloc, spaces, text) {
-        Ok(laid) => ended(laid),
+    match indent_text(alloc, spaces, text) {
+        Ok(laid) => end_line(laid),
         Err(_) => Err(Fault::OutOfMemory),
     }
 }

@@ -3,8 +3,8 @@ ghost use Rattle.std.specs.Prelude.{◌≡◌, IfOk, IfSome, string_bytes};
 ghost use Rattle.bson_run.specs.Place.{IsPart, IsQuote, found_as};
 
 use crate::broken::MAX_DEPTH;
-use crate::told::told;
-use bson_place::place::Step;
+use crate::told::shorten;
+use bson_place::place::Segment;
 use json::{Invalid, Reader, Scratch, Token};
 use std::alloc::{AllocError, Global};
 
@@ -13,7 +13,7 @@ const MOST: usize = 60;
 
 /// The words for the value that stands at a place in the text, to be put behind those for what was
 /// expected there; empty where none stands there. Of a key that stands twice it is the last value.
-pub(crate) fn quote(alloc: Global, steps: &[Step], text: &[u8]) -> Result<String, AllocError>
+pub(crate) fn quote(alloc: Global, segments: &[Segment], text: &[u8]) -> Result<String, AllocError>
     ensures { IfOk result (λ words. IsQuote text.now (string_bytes words)) }
 {
     let Ok(text) = simdutf8::compat::from_utf8(text) else {
@@ -21,20 +21,20 @@ pub(crate) fn quote(alloc: Global, steps: &[Step], text: &[u8]) -> Result<String
     };
     let mut scratch = Scratch::new(alloc);
     let mut reader = Reader::new(text, &mut scratch)?;
-    let Ok(Some((from, behind))) = value_at(&mut reader, steps) else {
+    let Ok(Some((from, behind))) = value_at(&mut reader, segments) else {
         return Ok(String::new(alloc));
     };
     match part(text, from, behind) {
-        Some(value) => found(alloc, value),
+        Some(value) => found_text(alloc, value),
         None => Ok(String::new(alloc)),
     }
 }
 
 // The words for a value.
-fn found(alloc: Global, value: &str) -> Result<String, AllocError>
+fn found_text(alloc: Global, value: &str) -> Result<String, AllocError>
     ensures { IfOk result (λ words. string_bytes words ≡ found_as value.now) }
 {
-    let value = told(alloc, value, MOST, false)?;
+    let value = shorten(alloc, value, MOST, false)?;
     format!(in alloc; "; found {value}")
 }
 
@@ -48,35 +48,38 @@ fn part(text: &str, from: usize, behind: usize) -> Option<&str>
     Some(part.trim_ascii_end())
 }
 
-// Passes a value, and gives where the one at the end of a way into it begins, and where what is
+// Passes a value, and gives where the one at the end of a path into it begins, and where what is
 // behind that does.
 #[cycle(passing)]
-fn value_at(reader: &mut Reader<'_>, steps: &[Step]) -> Result<Option<(usize, usize)>, Invalid> {
-    let Some((step, inner)) = steps.split_last() else {
+fn value_at(
+    reader: &mut Reader<'_>,
+    segments: &[Segment],
+) -> Result<Option<(usize, usize)>, Invalid> {
+    let Some((segment, inner)) = segments.split_last() else {
         let from = reader.offset();
         reader.skip_value(MAX_DEPTH)?;
         return Ok(Some((from, reader.offset())));
     };
     match reader.next().ok_or(Invalid)? {
-        Token::BeginArray => value_in_list(reader, step, inner),
-        Token::BeginObject => value_in_object(reader, step, inner),
+        Token::BeginArray => value_in_list(reader, segment, inner),
+        Token::BeginObject => value_in_object(reader, segment, inner),
         _ => Ok(None),
     }
 }
 
-// The same of a list whose bracket was read, into which the step leads.
+// The same of an array whose bracket was read, into which the segment leads.
 #[cycle(passing)]
 fn value_in_list(
     reader: &mut Reader<'_>,
-    step: &Step,
-    inner: &[Step],
+    segment: &Segment,
+    inner: &[Segment],
 ) -> Result<Option<(usize, usize)>, Invalid> {
     let mut found = None;
     for at in 0..usize::MAX {
         if reader.take_end_array() {
             return Ok(found);
         }
-        if is_element(step, at) {
+        if is_element(segment, at) {
             found = value_at(reader, inner)?;
         } else {
             reader.skip_value(MAX_DEPTH)?;
@@ -89,15 +92,15 @@ fn value_in_list(
 #[cycle(passing)]
 fn value_in_object(
     reader: &mut Reader<'_>,
-    step: &Step,
-    inner: &[Step],
+    segment: &Segment,
+    inner: &[Segment],
 ) -> Result<Option<(usize, usize)>, Invalid> {
     let mut found = None;
     for _ in 0..usize::MAX {
         let Some(key) = reader.next_key()? else {
             return Ok(found);
         };
-        if is_key(step, key) {
+        if is_key(segment, key) {
             found = value_at(reader, inner)?;
         } else {
             reader.skip_value(MAX_DEPTH)?;
@@ -106,10 +109,10 @@ fn value_in_object(
     Err(Invalid)
 }
 
-fn is_element(step: &Step, at: usize) -> bool {
-    matches!(step, Step::Element(place) if *place == at)
+fn is_element(segment: &Segment, at: usize) -> bool {
+    matches!(segment, Segment::Element(place) if *place == at)
 }
 
-fn is_key(step: &Step, key: &str) -> bool {
-    matches!(step, Step::Key(wanted) if wanted.as_str() == key)
+fn is_key(segment: &Segment, key: &str) -> bool {
+    matches!(segment, Segment::Key(wanted) if wanted.as_str() == key)
 }

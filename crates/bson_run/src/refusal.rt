@@ -8,7 +8,7 @@ use bson_convert::fault::Fault;
 /// let (mut output, mut told) = (Vec::new(alloc), Vec::new(alloc));
 /// let (task, stop) = (Task::Check, OnRefusal::Stop);
 /// if let Err(at) = run_lines(alloc, task, stop, &mut lines, &mut output, &mut told) {
-///     println!(rt; "line {}: {}{}", at.line, at.fault.words(), at.place)?;
+///     println!(rt; "line {}: {}{}", at.line, at.fault.message(), at.place)?;
 /// }
 /// // line 1: not Extended JSON at n (a number is no whole number of 64 bits; found 1.5)
 /// ```

@@ -7,7 +7,7 @@ ghost use Rattle.bson_run.specs.Words.{words_broken};
 /// ```
 /// let text: &[u8] = b"[1, 2,]";
 /// let stop = Stop::of(alloc, text)?;
-/// println!(rt; "{}", stop.rule.words())?; // behind a comma another element is wanted
+/// println!(rt; "{}", stop.rule.message())?; // behind a comma another element is wanted
 /// ```
 #[derive(Clone, Copy, PartialEq, Eq, Debug)]
 pub enum Rule {
@@ -42,7 +42,7 @@ pub enum Rule {
 
 impl Rule {
     /// What a program says of it.
-    pub fn words(self) -> &'static str
+    pub fn message(self) -> &'static str
         ensures { result.now ≡ words_broken self }
     {
         match self {

@@ -17,18 +17,18 @@ pub(crate) const DOUBLE_KEY: &str = "a key that stands twice in its object";
 /// The text that is read in the place of the bytes, or nothing where they are read themselves.
 ///
 /// With `Distinct` and `DistinctLegacy` a JSON text is refused in which an object has a key twice,
-/// at any depth and in wrappers too, as `NotExtendedJson` with the way to the first key that stands
-/// in its object before. Keys are compared after their escapes are read. With `Legacy` and
+/// at any depth and in wrappers too, as `NotExtendedJson` with the path to the first key that
+/// stands in its object before. Keys are compared after their escapes are read. With `Legacy` and
 /// `DistinctLegacy` the text is [`modern_text`]'s. Bytes that are no JSON text are left to the
 /// reader.
 ///
 /// ```
 /// let text = br#"{"$regex": "^a", "$options": "i"}"#;
-/// if let Ok(Some(newer)) = taken(alloc, Taking::Legacy, text) {
+/// if let Ok(Some(newer)) = take_as(alloc, Taking::Legacy, text) {
 ///     println!(rt; "{newer}")?; // {"$regularExpression":{"pattern":"^a","options":"i"}}
 /// }
 /// ```
-pub fn taken(alloc: Global, taking: Taking, bytes: &[u8]) -> Result<Option<String>, Fault>
+pub fn take_as(alloc: Global, taking: Taking, bytes: &[u8]) -> Result<Option<String>, Fault>
     ensures ok { IfOk result (λ text. IsTakenAs taking bytes.now (taken_of bytes.now text)) }
     ensures fault { IfErr result (λ fault. IsUntaken taking fault bytes.now) }
 {
@@ -37,10 +37,10 @@ pub fn taken(alloc: Global, taking: Taking, bytes: &[u8]) -> Result<Option<Strin
             refuse_double_keys(alloc, bytes)?;
             Ok(None)
         }
-        Taking::Legacy => modern(alloc, bytes),
+        Taking::Legacy => modernize(alloc, bytes),
         Taking::DistinctLegacy => {
             refuse_double_keys(alloc, bytes)?;
-            modern(alloc, bytes)
+            modernize(alloc, bytes)
         }
     }
 }
@@ -55,16 +55,16 @@ fn refuse_double_keys(alloc: Global, bytes: &[u8]) -> Result<(), Fault>
     };
     match first_double_key(alloc, text) {
         Ok(None) | Err(Unread::Broken) => Ok(()),
-        Ok(Some(steps)) => {
+        Ok(Some(segments)) => {
             let reason = Reason::WrongShape(DOUBLE_KEY);
-            Err(Fault::NotExtendedJson(Place { reason, steps }))
+            Err(Fault::NotExtendedJson(Place { reason, segments }))
         }
         Err(Unread::OutOfMemory) => Err(Fault::OutOfMemory),
     }
 }
 
 // The text in the place of one of v1; none for what is no JSON text.
-fn modern(alloc: Global, bytes: &[u8]) -> Result<Option<String>, Fault>
+fn modernize(alloc: Global, bytes: &[u8]) -> Result<Option<String>, Fault>
     ensures ok { IfOk result (λ text. StandsFor bytes.now (taken_of bytes.now text)) }
     ensures fault { IfErr result (λ fault. fault ≡ Fault.OutOfMemory) }
 {

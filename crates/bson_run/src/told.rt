@@ -6,7 +6,7 @@ use std::alloc::{AllocError, Global};
 
 /// The first characters of words, so many at most, and `..` for any others. Where escapes are
 /// wanted, what could break a line or steer a terminal is told by its escape.
-pub(crate) fn told(
+pub(crate) fn shorten(
     alloc: Global,
     words: &str,
     most: usize,

@@ -1,4 +1,4 @@
--- What is left of two documents, or of two lists, is the same just if the whole is.
+-- What is left of two documents, or of two arrays, is the same just if the whole is.
 use Rattle.std.proofs.Common.{◌≡◌, ℕ, ◌+◌, ◌<◌, ◌≤◌, suc, List, [], ◌∷◌, length, drop, get_or, Bool, true, false}
 use Rattle.std.proofs.Common.{◌&&◌, not, Option, Some, None, refl, sym, ap, ap₂, ◌∙◌}
 use Rattle.std.specs.Prelude.{MatchOption, is_none}
@@ -76,7 +76,7 @@ unfolding same_in_order
 ended see None ps qs rest e h = rw (e, h.0) refl
 ended see (Some x) ps qs rest e h = rw (e, h) refl
 
--- ---- lists
+-- ---- arrays
 
 pub lengths_differ : (vs ws : List Bson) → (length vs ≡ length ws → ⊥)
     → false ≡ items_in_order (values_view vs) (values_view ws)

@@ -9,7 +9,7 @@ mod values;
 use crate::values::{documents_in_order, values_in_order};
 use bson::{Bson, Document};
 
-/// Whether the values are equal with the order of their keys: kinds and fields, lists place by
+/// Whether the values are equal with the order of their keys: kinds and fields, arrays place by
 /// place, and documents and scopes pair by pair.
 ///
 /// Values that are so are also `==`. The documents `{"$ref": "c", "$id": 1}` and

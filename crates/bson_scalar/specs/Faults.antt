@@ -21,7 +21,7 @@ abbrev pub or_wrong_shape : {A : Type 0} → Option A → Result A Fault
 or_wrong_shape (Some x) = Ok x
 or_wrong_shape None = Err wrong_shape
 
--- the fault that the text has, which is never want of memory
+-- the fault that the text has, which is never out of memory
 abbrev pub IsIdFault : List ℕ → oid.Error → Type 0
 IsIdFault s oid_error.OutOfMemory = ⊥
 IsIdFault s e = IsOidError s e

@@ -1,4 +1,4 @@
--- `$numberInt` and `$numberLong` (MongoDB Extended JSON v2): the text of a whole number.
+-- `$numberInt` and `$numberLong` (MongoDB Extended JSON v2): the text of an integer.
 -- Read: {"$numberInt": "+007"}. Written: {"$numberInt": "7"}; relaxed: 7.
 use Rattle.std.specs.Prelude.{◌≡◌, ◌^◌, nat_lt, ℕ, ℤ, pos, negsuc, List, Bool, if◌then◌else◌, FitsSigned}
 use Rattle.std.specs.Fmt.{signed_decimal}

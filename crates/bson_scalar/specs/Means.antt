@@ -30,7 +30,7 @@ pub data MeansScalar : Data → Scalar → Type 0 where
   null : MeansScalar tree.null kind.null
   boolean : (b : Bool) → MeansScalar (tree.boolean b) (kind.boolean b)
   text : (s : List ℕ) → MeansScalar (tree.string s) (kind.text s)
-  -- a whole number, as the narrower kind that has it
+  -- an integer, as the narrower kind that has it
   narrow_number : (n : Num) (z : ℤ) → as_i64 n ≡ Some z → FitsSigned w32 z → MeansScalar (tree.number n) (kind.int32 z)
   wide_number : (n : Num) (z : ℤ) → as_i64 n ≡ Some z → (FitsSigned w32 z → ⊥)
       → MeansScalar (tree.number n) (kind.int64 z)

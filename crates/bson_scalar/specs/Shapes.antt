@@ -1,4 +1,4 @@
--- Shapes of trees: an object of one key and of two, and whole numbers.
+-- Shapes of trees: an object of one key and of two, and integers.
 use Rattle.std.specs.Prelude.{ℕ, ◌^◌, nat_lt, ℤ, pos, negsuc, List, if◌then◌else◌, Option, Some, None, option_and_then}
 use Rattle.serde_json.specs.Data.{Data, unsigned, no_members, member}
 use Rattle.serde_json.specs.Data as tree
@@ -14,7 +14,7 @@ object_of_two k d l e = tree.object (member k d (member l e no_members))
 abbrev pub natural : ℕ → Data
 natural n = tree.number (unsigned n)
 
--- a whole number
+-- an integer
 abbrev pub whole : Data → Option ℤ
 whole d = option_and_then as_i64 (as_number d)
 

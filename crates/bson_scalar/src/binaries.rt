@@ -18,7 +18,7 @@ ghost use Rattle.bson_scalar.specs.View.{scalar_view};
 
 use crate::error::Error;
 use crate::scalar::Scalar;
-use crate::shapes::{are_bytes, expected, text_in, two_in};
+use crate::shapes::{are_bytes, expect, text_in, two_in};
 use crate::sink::Sink;
 use crate::wrapped::{begin, end_one, two_texts};
 use base64::engine::general_purpose::STANDARD;
@@ -63,7 +63,7 @@ pub(crate) fn read_binary(alloc: Global, value: Value) -> Result<Scalar, Error>
     let base64 = text_in(base64, BINARY_SHAPE)?;
     let subtype = text_in(subtype, BINARY_SHAPE)?;
     let bytes = bytes_of(alloc, base64.as_str())?;
-    let byte = expected(
+    let byte = expect(
         byte_of(subtype.as_str()),
         "`subType` holds two hexadecimal digits",
     )?;
@@ -93,7 +93,7 @@ pub(crate) fn read_uuid(alloc: Global, value: Value) -> Result<Scalar, Error>
     ensures { Gives scalar_view result (uuid_read (view value)) }
 {
     let text = text_in(value, UUID_SHAPE)?;
-    let id = expected(uuid_of(text.as_str()), UUID_SHAPE)?;
+    let id = expect(uuid_of(text.as_str()), UUID_SHAPE)?;
     Ok(Scalar::Binary(Binary::from_uuid(alloc, id)?))
 }
 

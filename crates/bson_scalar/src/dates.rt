@@ -1,4 +1,4 @@
-//! `$date`: a moment. Read as `{"$numberLong": "5"}`, as an RFC 3339 text or as a whole number of
+//! `$date`: a moment. Read as `{"$numberLong": "5"}`, as an RFC 3339 text or as an integer of
 //! milliseconds since 1970-01-01T00:00:00Z under that key, and written as `$numberLong`, or in the
 //! relaxed form as an RFC 3339 text from 1970 to the end of the year 9999.
 ghost use Rattle.std.specs.Prelude.{◌≡◌, IfOk, OnOk, FitsSigned, codes, pos, ◌≤ℤ◌, string_bytes};
@@ -16,7 +16,7 @@ use crate::error::Error;
 use crate::form::Form;
 use crate::ints::int64_of;
 use crate::scalar::Scalar;
-use crate::shapes::{expected, lone_in, text_in};
+use crate::shapes::{expect, lone_in, text_in};
 use crate::sink::Sink;
 use crate::wrapped::{begin, end_one, wrapped_numeral, wrapped_owned};
 use bson_datetime::DateTime;
@@ -41,13 +41,13 @@ fn millis_in(value: Value) -> Result<i64, Error>
     ensures { Gives (λ z. z) result (millis_of (view value)) }
 {
     match value {
-        Value::String(text) => expected(denoted_by(text.as_str()), SHAPE).map(
+        Value::String(text) => expect(denoted_by(text.as_str()), SHAPE).map(
             |d| d.timestamp_millis(),
         ),
-        Value::Number(number) => expected(number.as_i64(), SHAPE),
+        Value::Number(number) => expect(number.as_i64(), SHAPE),
         value => {
             let text = text_in(lone_in(value, "$numberLong", SHAPE)?, SHAPE)?;
-            expected(int64_of(text.as_str()), SHAPE)
+            expect(int64_of(text.as_str()), SHAPE)
         }
     }
 }

@@ -9,7 +9,7 @@ ghost use Rattle.bson_scalar.specs.View.{scalar_view};
 
 use crate::error::Error;
 use crate::scalar::Scalar;
-use crate::shapes::{expected, text_in};
+use crate::shapes::{expect, text_in};
 use crate::sink::Sink;
 use crate::wrapped::wrapped_owned;
 use bson_decimal::Decimal128;
@@ -30,7 +30,7 @@ pub(crate) fn read_decimal(value: Value) -> Result<Scalar, Error>
     ensures { Gives scalar_view result (decimal_read (view value)) }
 {
     let text = text_in(value, SHAPE)?;
-    let decimal = expected(decimal_of(text.as_str()), SHAPE)?;
+    let decimal = expect(decimal_of(text.as_str()), SHAPE)?;
     Ok(Scalar::Decimal128(decimal))
 }
 

@@ -18,7 +18,7 @@ ghost use Rattle.bson_scalar.specs.declared.form.Form.TheVariants.{Canonical, Re
 use crate::error::Error;
 use crate::form::{Doubles, Form};
 use crate::scalar::Scalar;
-use crate::shapes::{expected, text_in};
+use crate::shapes::{expect, text_in};
 use crate::sink::Sink;
 use crate::wrapped::wrapped_text;
 use crate::write_error::WriteError;
@@ -87,7 +87,7 @@ pub(crate) fn read_double(doubles: Doubles, value: Value) -> Result<Scalar, Erro
     ensures { Gives scalar_view result (double_read_in doubles (view value)) }
 {
     let text = text_in(value, shape(doubles))?;
-    let pattern = expected(double_in(doubles, text.as_str()), shape(doubles))?;
+    let pattern = expect(double_in(doubles, text.as_str()), shape(doubles))?;
     Ok(Scalar::Double(pattern))
 }
 
@@ -102,7 +102,7 @@ fn finite_number(number: &Number) -> Option<u64>
     }
 }
 
-fn narrowest(number: i64) -> Scalar
+fn narrowest_number(number: i64) -> Scalar
     ensures { scalar_view result ≡ narrowest number }
 {
     if i32::MIN as i64 <= number && number <= i32::MAX as i64 {
@@ -119,10 +119,10 @@ pub fn read_number(doubles: Doubles, number: &Number) -> Result<Scalar, Error>
 {
     let whole = number.as_i64();
     match doubles {
-        Doubles::Special => Ok(narrowest(expected(whole, NUMBER)?)),
+        Doubles::Special => Ok(narrowest_number(expect(whole, NUMBER)?)),
         Doubles::Finite => match whole {
-            Some(whole) => Ok(narrowest(whole)),
-            None => Ok(Scalar::Double(expected(finite_number(number), FINITE_NUMBER)?)),
+            Some(whole) => Ok(narrowest_number(whole)),
+            None => Ok(Scalar::Double(expect(finite_number(number), FINITE_NUMBER)?)),
         },
     }
 }

@@ -16,7 +16,7 @@ use std::alloc::{AllocError, AllocFailed};
 #[derive(Debug, Drop, thiserror::Error)]
 pub enum Error {
     /// The text of an object id is wrong, under `$oid` or inside a `$dbPointer` that is right in
-    /// all else. The fault is never want of memory.
+    /// all else. The fault is never out of memory.
     #[error("{0}")]
     InvalidObjectId(oid::Error),
 

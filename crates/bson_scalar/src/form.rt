@@ -5,7 +5,7 @@
 pub enum Form {
     /// Every type is kept.
     Canonical,
-    /// Plain whole numbers, and dates as texts from 1970 to the end of the year 9999. An Int64 that
+    /// Plain integers, and dates as texts from 1970 to the end of the year 9999. An Int64 that
     /// fits an i32 reads back as an Int32.
     Relaxed,
 }

@@ -16,7 +16,7 @@ use crate::error::Error;
 use crate::scalar::Scalar;
 use crate::shapes::{lone_in, text_in, two_in};
 use crate::sink::Sink;
-use crate::wrapped::{begin, end_one, end_two, second, wrapped_owned};
+use crate::wrapped::{begin, begin_second, end_one, end_two, wrapped_owned};
 use bson_types::db_pointer::DbPointer;
 use bson_types::oid::{self, ObjectId};
 use serde_json::Value;
@@ -84,7 +84,7 @@ fn write_reference<S: Sink>(
 {
     let key = begin("$id", out)?;
     let id = write_oid(alloc, id, out)?;
-    let next = second(key, id, "$ref", out)?;
+    let next = begin_second(key, id, "$ref", out)?;
     let namespace = out.owned_text(namespace)?;
     end_two(next, namespace, out)
 }

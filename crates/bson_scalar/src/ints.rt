@@ -1,4 +1,4 @@
-//! `$numberInt` and `$numberLong`: the text of a whole number. Read as `{"$numberInt": "+007"}`,
+//! `$numberInt` and `$numberLong`: the text of an integer. Read as `{"$numberInt": "+007"}`,
 //! written as `{"$numberInt": "7"}`, and in the relaxed form as the number 7.
 ghost use Rattle.std.specs.Prelude.{◌≡◌, IfOk};
 ghost use Rattle.serde_json.specs.View.{view};
@@ -10,7 +10,7 @@ ghost use Rattle.bson_scalar.specs.View.{scalar_view};
 use crate::error::Error;
 use crate::form::Form;
 use crate::scalar::Scalar;
-use crate::shapes::{expected, text_in};
+use crate::shapes::{expect, text_in};
 use crate::sink::Sink;
 use crate::wrapped::wrapped_numeral;
 use serde_json::Value;
@@ -39,7 +39,7 @@ pub(crate) fn read_int32(value: Value) -> Result<Scalar, Error>
     ensures { Gives scalar_view result (int32_read (view value)) }
 {
     let text = text_in(value, INT32_SHAPE)?;
-    let number = expected(int32_of(text.as_str()), INT32_SHAPE)?;
+    let number = expect(int32_of(text.as_str()), INT32_SHAPE)?;
     Ok(Scalar::Int32(number))
 }
 
@@ -48,7 +48,7 @@ pub(crate) fn read_int64(value: Value) -> Result<Scalar, Error>
     ensures { Gives scalar_view result (int64_read (view value)) }
 {
     let text = text_in(value, INT64_SHAPE)?;
-    let number = expected(int64_of(text.as_str()), INT64_SHAPE)?;
+    let number = expect(int64_of(text.as_str()), INT64_SHAPE)?;
     Ok(Scalar::Int64(number))
 }
 

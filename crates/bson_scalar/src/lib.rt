@@ -1,6 +1,6 @@
 //! The wrappers of MongoDB Extended JSON v2 that hold one scalar: each is read from its tree, and
 //! each scalar is written in the canonical and the relaxed form. Null, booleans, numbers and
-//! strings of JSON are read in the layer above, and so are lists, documents and code with a scope,
+//! strings of JSON are read in the layer above, and so are arrays, documents and code with a scope,
 //! which hold values.
 //!
 //! In reading order: `scalar` (a scalar value) and `scalar_ref` (the same by reference, with

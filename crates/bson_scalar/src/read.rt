@@ -18,7 +18,7 @@ use crate::regexes::read_regex;
 use crate::scalar::Scalar;
 use crate::texts::{read_code, read_symbol};
 use crate::timestamps::read_timestamp;
-use crate::wrapper::{Wrapper, named};
+use crate::wrapper::{Wrapper, wrapper_named};
 use serde_json::Value;
 use std::alloc::Global;
 
@@ -63,7 +63,7 @@ pub fn read_single_in(
 ) -> Result<Scalar, Error>
     ensures { Gives scalar_view result (single_at_in doubles (wrapper_of key.now) (view value)) }
 {
-    match named(key) {
+    match wrapper_named(key) {
         Some(wrapper) => read_wrapper(alloc, doubles, wrapper, value),
         None => Err(Error::DeserializationError {
             message: "an object of one wrapper key",

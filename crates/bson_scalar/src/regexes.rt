@@ -13,7 +13,7 @@ use crate::scalar::Scalar;
 use crate::shapes::{text_in, two_in};
 use crate::sink::Sink;
 use crate::wrapped::{begin, end_one, two_texts};
-use bson_types::regex::{Regex, sorted};
+use bson_types::regex::{Regex, sort_characters};
 use serde_json::Value;
 use std::alloc::{AllocError, Global};
 
@@ -26,7 +26,7 @@ pub(crate) fn read_regex(alloc: Global, value: Value) -> Result<Scalar, Error>
     let (options, pattern) = two_in(value, "options", "pattern", SHAPE)?;
     let options = text_in(options, SHAPE)?;
     let pattern = text_in(pattern, SHAPE)?;
-    let options = sorted(alloc, options.as_str())?;
+    let options = sort_characters(alloc, options.as_str())?;
     Ok(Scalar::RegularExpression(Regex { pattern, options }))
 }
 
@@ -41,7 +41,7 @@ pub(crate) fn write_regex<S: Sink>(
     ensures before { S.before out.new ≡ S.before out.old }
 {
     let Regex { pattern, options } = regex;
-    let ordered = sorted(alloc, options.as_str())?;
+    let ordered = sort_characters(alloc, options.as_str())?;
     let key = begin("$regularExpression", out)?;
     let texts = two_texts("options", ordered, "pattern", pattern, out)?;
     end_one(key, texts, out)

@@ -19,13 +19,13 @@ pub enum Scalar {
     MinKey,
     /// Greater than every other value.
     MaxKey,
-    /// A truth value.
+    /// A boolean.
     Boolean(bool),
     /// A double, as its pattern of 64 bits (IEEE 754-2008 binary64).
     Double(u64),
-    /// A whole number of 32 bits.
+    /// An integer of 32 bits.
     Int32(i32),
-    /// A whole number of 64 bits.
+    /// An integer of 64 bits.
     Int64(i64),
     /// A text.
     String(String),

@@ -1,4 +1,4 @@
-//! Shapes of trees: a text, a whole number, an object of one key and one of two.
+//! Shapes of trees: a text, an integer, an object of one key and one of two.
 ghost use Rattle.std.specs.Prelude.{◌≡◌, ◌&&◌, option_map, string_bytes};
 ghost use Rattle.std.specs.Str.{bytes_eq};
 ghost use Rattle.serde_json.specs.Find.{as_str};
@@ -13,7 +13,7 @@ use crate::error::Error;
 use serde_json::{Map, Value};
 
 // The value, or `DeserializationError` with the message where there is none.
-pub(crate) fn expected<T: Drop>(value: Option<T>, message: &'static str) -> Result<T, Error>
+pub(crate) fn expect<T: Drop>(value: Option<T>, message: &'static str) -> Result<T, Error>
     ensures { Gives (λ x. x) result (or_wrong_shape value) }
 {
     match value {
@@ -112,14 +112,14 @@ fn lone_of(value: Value, name: &str) -> Option<Value>
     }
 }
 
-// The whole number that a tree is, where it is an i64.
+// The integer that a tree is, where it is an i64.
 pub(crate) fn whole_of(value: &Value) -> Option<i64>
     ensures { result ≡ whole (view value.now) }
 {
     value.as_i64()
 }
 
-// The whole number from 0 to 4294967295 that a tree is.
+// The integer from 0 to 4294967295 that a tree is.
 pub(crate) fn u32_of(value: &Value) -> Option<u32>
     ensures { result ≡ u32_at (view value.now) }
 {

@@ -42,7 +42,7 @@ pub(crate) trait Sink {
         ensures written { IfOk result (λ t. wrote self.old null t self.new) }
         ensures before { before self.new ≡ before self.old };
 
-    // Writes a truth value.
+    // Writes a boolean.
     fn boolean(&mut self, b: bool) -> Result<Self::Tree, AllocError>
         ensures written { IfOk result (λ t. wrote self.old (boolean b) t self.new) }
         ensures before { before self.new ≡ before self.old };

@@ -12,7 +12,7 @@ use crate::error::Error;
 use crate::scalar::Scalar;
 use crate::shapes::{two_in, u32_of};
 use crate::sink::Sink;
-use crate::wrapped::{begin, end_one, end_two, second};
+use crate::wrapped::{begin, begin_second, end_one, end_two};
 use bson_types::timestamp::Timestamp;
 use serde_json::Value;
 use std::alloc::AllocError;
@@ -38,7 +38,7 @@ fn write_times<S: Sink>(timestamp: Timestamp, out: &mut S) -> Result<S::Tree, Al
 {
     let key = begin("i", out)?;
     let increment = out.natural(timestamp.increment)?;
-    let next = second(key, increment, "t", out)?;
+    let next = begin_second(key, increment, "t", out)?;
     let time = out.natural(timestamp.time)?;
     end_two(next, time, out)
 }

@@ -33,7 +33,7 @@ pub(crate) fn end_one<S: Sink>(
 }
 
 // Writes the second key after the tree under the first.
-pub(crate) fn second<S: Sink>(
+pub(crate) fn begin_second<S: Sink>(
     key: S::Key,
     tree: S::Tree,
     name: &str,
@@ -110,7 +110,7 @@ pub(crate) fn two_texts<S: Sink>(
 {
     let begun = begin(key, out)?;
     let text = out.owned_text(text)?;
-    let begun = second(begun, text, next_key, out)?;
+    let begun = begin_second(begun, text, next_key, out)?;
     let text = out.owned_text(next_text)?;
     end_two(begun, text, out)
 }

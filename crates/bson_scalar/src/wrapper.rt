@@ -48,7 +48,7 @@ fn is_ordinary(key: &str) -> bool
 }
 
 /// The wrapper of a key.
-pub fn named(key: &str) -> Option<Wrapper>
+pub fn wrapper_named(key: &str) -> Option<Wrapper>
     ensures { result ≡ wrapper_of key.now }
 {
     if is_ordinary(key) {
@@ -62,12 +62,12 @@ pub fn named(key: &str) -> Option<Wrapper>
     } else if key == "$binary" {
         Some(Wrapper::Binary)
     } else {
-        named_later(key)
+        later_wrapper(key)
     }
 }
 
 // Of the keys that are left: binaries, identifiers, code and pointers.
-fn named_later(key: &str) -> Option<Wrapper>
+fn later_wrapper(key: &str) -> Option<Wrapper>
     ensures { result ≡ later_wrapper key.now }
 {
     if key == "$uuid" {
@@ -77,12 +77,12 @@ fn named_later(key: &str) -> Option<Wrapper>
     } else if key == "$dbPointer" {
         Some(Wrapper::DbPointer)
     } else {
-        named_number(key)
+        number_wrapper(key)
     }
 }
 
 // Of the keys that are left: the numbers.
-fn named_number(key: &str) -> Option<Wrapper>
+fn number_wrapper(key: &str) -> Option<Wrapper>
     ensures { result ≡ number_wrapper key.now }
 {
     if key == "$numberInt" {
@@ -94,12 +94,12 @@ fn named_number(key: &str) -> Option<Wrapper>
     } else if key == "$numberDecimal" {
         Some(Wrapper::NumberDecimal)
     } else {
-        named_last(key)
+        last_wrapper(key)
     }
 }
 
 // Of the keys that are left: times, and the kinds of one value.
-fn named_last(key: &str) -> Option<Wrapper>
+fn last_wrapper(key: &str) -> Option<Wrapper>
     ensures { result ≡ last_wrapper key.now }
 {
     if key == "$timestamp" {

@@ -26,7 +26,7 @@ pub enum Command<V> {
     Clear,
 }
 
-/// Want of memory in `replay`: the first `done` commands were run, and no other.
+/// Out of memory in `replay`: the first `done` commands were run, and no other.
 ///
 /// ```
 /// println!(rt; "{}", Stopped { done: 3 })?; // out of memory after 3 commands

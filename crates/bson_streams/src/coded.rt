@@ -25,7 +25,7 @@ pub(crate) fn read(alloc: Global, ends: &mut Ends<'_>) -> Result<String, AllocEr
 }
 
 /// The answer of `to_writer` for the document of the text: `done`, or its error.
-pub(crate) fn written(
+pub(crate) fn write_document(
     alloc: Global,
     text: &[u8],
     ends: &mut Ends<'_>,
@@ -66,7 +66,7 @@ pub(crate) fn documents(
     match run_documents(alloc, run, reader, writer, report) {
         Ok(counts) => format!(in alloc; "{} {}", counts.documents, counts.refused),
         Err(end) => {
-            let words = end.fault.words();
+            let words = end.fault.message();
             format!(in alloc; "document {} at byte {}: {words}", end.number, end.start)
         }
     }

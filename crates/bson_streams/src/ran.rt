@@ -62,12 +62,12 @@ pub(crate) fn ran(alloc: Global, order: Order, input: &[u8]) -> Result<Vec<u8>, 
         }
         Call::RunLines(task, on_refusal) => by_lines(alloc, task, on_refusal, &mut ends)?,
         Call::FromReader => coded::read(alloc, &mut ends)?,
-        Call::ToWriter => coded::written(alloc, input, &mut ends)?,
+        Call::ToWriter => coded::write_document(alloc, input, &mut ends)?,
         Call::RunDocuments(line, on_refusal) => {
             coded::documents(alloc, line, on_refusal, &mut ends)?
         }
     };
-    told(
+    tell(
         alloc,
         answer.as_str(),
         &ends.writer.taken,
@@ -110,11 +110,11 @@ fn by_lines(
     let (reader, writer, report) = (&mut ends.reader, &mut ends.writer, &mut ends.report);
     match run_lines(alloc, task, on_refusal, reader, writer, report) {
         Ok(counts) => format!(in alloc; "{} {}", counts.lines, counts.refused),
-        Err(stopped) => format!(in alloc; "line {}: {}", stopped.line, stopped.fault.words()),
+        Err(stopped) => format!(in alloc; "line {}: {}", stopped.line, stopped.fault.message()),
     }
 }
 
-fn told(
+fn tell(
     alloc: Global,
     answer: &str,
     written: &[u8],

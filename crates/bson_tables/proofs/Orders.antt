@@ -86,7 +86,7 @@ reference_text : compact_text reference_tree ≡ codes "{\"$ref\":\"c\",\"$id\":
 unfolding Rattle.json.specs.Print.escape_byte
 reference_text = refl
 
--- the order at each depth, and that of a list's elements
+-- the order at each depth, and that of an array's elements
 abbrev nested : Value
 nested = document
     (pair (codes "z") (array (value (document

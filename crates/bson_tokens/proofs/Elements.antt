@@ -1,16 +1,16 @@
--- The elements of a list that were read so far, before those that are left.
+-- The elements of an array that were read so far, before those that are left.
 use Rattle.std.proofs.Common.{◌≡◌, ℕ, ◌-◌, ◌<◌, ◌≤◌, List, length, Some, None, sym, ap, ◌∙◌, arith}
 use Rattle.json.specs.Token.{Token}
 use Rattle.json.specs.Json.{after_end_array, items, value, parse_map}
 use Rattle.serde_json.specs.Data.{Data, Items, no_items, item}
 use Rattle.serde_json.specs.Read.{of_json, of_items, converted}
-use Rattle.bson_tokens.proofs.Turns.{NoItems, one_item, last_item, no_more_items}
+use Rattle.bson_tokens.proofs.Rounds.{NoItems, one_item, last_item, no_more_items}
 
--- the elements are read to the end of the list
+-- the elements are read to the end of the array
 abbrev pub ItemsAre : ℕ → List Token → Items → List Token → Type 0
 ItemsAre depth ts ds rest = (n : ℕ) → length ts ≤ n → converted of_items (items (value depth) n ts) ≡ Some (ds, rest)
 
--- from the start of the list up to here, where `front` puts what was read before what is left
+-- from the start of the array up to here, where `front` puts what was read before what is left
 pub record Lists (depth : ℕ) (start here : List Token) (front : Items → Items) : Type 0 where
   pub all : (ds : Items) (rest : List Token) → ItemsAre depth here ds rest → ItemsAre depth start (front ds) rest
   pub none : NoItems depth here → NoItems depth start

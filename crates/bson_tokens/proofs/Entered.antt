@@ -6,7 +6,7 @@ use Rattle.std.specs.declared.cmp.Ordering.{Ordering}
 use Rattle.std.specs.declared.cmp.Ordering.TheVariants.{Less, Equal, Greater}
 use Rattle.std.specs.BTreeMap.{insert_entry, is_at}
 use Rattle.std.specs.Map.{remove_entry}
-use Rattle.bson_place.specs.Place.{Turn}
+use Rattle.bson_place.specs.Place.{PathSegment}
 use Rattle.bson_scalar.specs.Faults.{Fault}
 use Rattle.bson_tokens.specs.Found.{Faults, Verdict, insert, remove, enter}
 use Rattle.bson_tokens.specs.Told.{AreTold, IsKept, Kept, Entry}
@@ -15,7 +15,7 @@ abbrev key_cmp : Bor (List ℕ) → Bor (List ℕ) → Ordering
 key_cmp a b = slice_cmp nat_cmp a.now b.now
 
 abbrev Found : Type 0
-Found = Fault × List Turn
+Found = Fault × List PathSegment
 
 inserted_at : (o : Ordering) (k : Bor (List ℕ)) (g : Found) (p : Kept) (h : List ℕ × Found) (fs : Faults) (e : Entry)
     (es : List Entry) → AreTold (h ∷ fs) (e ∷ es) → IsKept (Some g) p
@@ -64,5 +64,5 @@ entered_none k (Some f) fs es are is = cc
 pub entered_some : (k : Bor (List ℕ)) (v : Verdict) (p : Kept) (fs : Faults) (es : List Entry) → AreTold fs es
     → IsKept v p → AreTold (enter k.now v fs) (insert_entry key_cmp es k p)
 entered_some k None None fs es are is = cc
-entered_some k None (Some b) fs es are is = let never = is.way in cc
+entered_some k None (Some b) fs es are is = let never = is.path in cc
 entered_some k (Some g) p fs es are is = inserted k g p fs es are is

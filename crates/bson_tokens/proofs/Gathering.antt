@@ -10,7 +10,7 @@ use Rattle.bson_tokens.specs.Parts.{MembersAre, NoMembers}
 use Rattle.bson_tokens.specs.Found.{found}
 use Rattle.bson_tokens.specs.Told.{Finds, ObjectFinds}
 use Rattle.bson_place.specs.declared.place.Place.{Place}
-use Rattle.bson_tokens.proofs.Turns.{more_members, no_more_members, no_members_behind}
+use Rattle.bson_tokens.proofs.Rounds.{more_members, no_more_members, no_members_behind}
 
 -- from the start of the members, beside old ones, up to here
 pub record Gathers (depth : ℕ) (old : Members) (start here : List Token) (so_far : Members) : Type 0 where

@@ -1,4 +1,4 @@
-pub mod Turns
+pub mod Rounds
 pub mod Elements
 pub mod Gathering
 pub mod Trees

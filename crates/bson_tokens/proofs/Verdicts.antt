@@ -4,9 +4,9 @@ use Rattle.std.specs.Prelude.{MatchOption, Ok}
 use Rattle.serde_json.specs.Data.{Data}
 use Rattle.bson_scalar.specs.Faults.{Fault, wrong_shape}
 use Rattle.bson_scalar.specs.declared.form.Doubles.{Doubles}
-use Rattle.bson_place.specs.Place.{Turn, key, FaultAtIn, HasValueIn, IsFirstFaultIn, IsPlace, IsReason, way_of}
+use Rattle.bson_place.specs.Place.{PathSegment, key, FaultAtIn, HasValueIn, IsFirstFaultIn, IsPlace, IsReason, path_of}
 use Rattle.bson_place.specs.declared.place.Place.{Place}
-use Rattle.bson_place.proofs.Offered.{one_fault, one_way, first_found, fault_to}
+use Rattle.bson_place.proofs.Offered.{one_fault, one_path, first_found, fault_to}
 use Rattle.bson_place.proofs.Offered.{carried}
 use Rattle.bson_tokens.specs.Found.{Verdict, Faults, found, or, within, here, least}
 use Rattle.bson_tokens.specs.Told.{Tells, AreTold, IsKept, Kept, Entry}
@@ -28,46 +28,46 @@ or_none (Some f) = refl
 pub none_told : (es : List Entry) → es ≡ [] → AreTold [] es
 none_told es is = subst (λ xs. AreTold [] xs) (sym is) tt
 
-some_way : (v : Verdict) (f : Fault) (way : List Turn) (t : Turn) → v ≡ Some (f, way)
-    → within t v ≡ Some (f, way ++ t ∷ [])
-some_way v f way t is = ap (within t) is
+some_path : (v : Verdict) (f : Fault) (path : List PathSegment) (t : PathSegment) → v ≡ Some (f, path)
+    → within t v ≡ Some (f, path ++ t ∷ [])
+some_path v f path t is = ap (within t) is
 
--- one step further out
-pub within_some : (v : Verdict) (p q : Place) (t : Turn) → way_of q ≡ way_of p ++ t ∷ [] → q.reason ≡ p.reason
-    → IsPlace (λ f way. v ≡ Some (f, way)) p → IsPlace (λ f way. within t v ≡ Some (f, way)) q
-within_some v p q t way reason is = carried p q t (λ f w e. some_way v f w t e) way reason is
+-- one segment further out
+pub within_some : (v : Verdict) (p q : Place) (t : PathSegment) → path_of q ≡ path_of p ++ t ∷ [] → q.reason ≡ p.reason
+    → IsPlace (λ f path. v ≡ Some (f, path)) p → IsPlace (λ f path. within t v ≡ Some (f, path)) q
+within_some v p q t path reason is = carried p q t (λ f w e. some_path v f w t e) path reason is
 
 -- the first fault so far stands
-pub or_first : (v w : Verdict) (p : Place) → IsPlace (λ f way. v ≡ Some (f, way)) p
-    → IsPlace (λ f way. or v w ≡ Some (f, way)) p
-or_first None w p is = let never = is.way in cc
+pub or_first : (v w : Verdict) (p : Place) → IsPlace (λ f path. v ≡ Some (f, path)) p
+    → IsPlace (λ f path. or v w ≡ Some (f, path)) p
+or_first None w p is = let never = is.path in cc
 or_first (Some f) w p is = is
 
 pub or_next : (v w : Verdict) (p : Option Place) → v ≡ None → Tells w p → Tells (or v w) p
 or_next v w p is t = subst (λ x. Tells (or x w) p) (sym is) t
 
-pub at_here : (p : Place) → IsReason wrong_shape p.reason → way_of p ≡ [] → IsPlace (λ f way. here ≡ Some (f, way)) p
-at_here p reason way = record { fault = wrong_shape; way = ap (λ w. Some (wrong_shape, w)) (sym way); reason = reason }
+pub at_here : (p : Place) → IsReason wrong_shape p.reason → path_of p ≡ [] → IsPlace (λ f path. here ≡ Some (f, path)) p
+at_here p reason path = record { fault = wrong_shape; path = ap (λ w. Some (wrong_shape, w)) (sym path); reason = reason }
 
 -- ---- what is kept of faulty members
 
-pub kept_number : (v : Verdict) (p : Place) → ((f : Fault) → IsReason f p.reason → f ≡ wrong_shape) → way_of p ≡ []
-    → IsPlace (λ f way. v ≡ Some (f, way)) p → v ≡ Some (wrong_shape, [])
+pub kept_number : (v : Verdict) (p : Place) → ((f : Fault) → IsReason f p.reason → f ≡ wrong_shape) → path_of p ≡ []
+    → IsPlace (λ f path. v ≡ Some (f, path)) p → v ≡ Some (wrong_shape, [])
 kept_number v p shape none is =
-    is.way ∙ ap (λ g. Some (g, way_of p)) (shape is.fault is.reason) ∙ ap (λ w. Some (wrong_shape, w)) none
+    is.path ∙ ap (λ g. Some (g, path_of p)) (shape is.fault is.reason) ∙ ap (λ w. Some (wrong_shape, w)) none
 
-pub same_place : (v : Verdict) (p q : Place) → way_of q ≡ way_of p → q.reason ≡ p.reason
-    → IsPlace (λ f way. v ≡ Some (f, way)) p → IsPlace (λ f way. v ≡ Some (f, way)) q
-same_place v p q way reason is = record {
+pub same_place : (v : Verdict) (p q : Place) → path_of q ≡ path_of p → q.reason ≡ p.reason
+    → IsPlace (λ f path. v ≡ Some (f, path)) p → IsPlace (λ f path. v ≡ Some (f, path)) q
+same_place v p q path reason is = record {
   fault = is.fault;
-  way = is.way ∙ ap (λ w. Some (is.fault, w)) (sym way);
+  path = is.path ∙ ap (λ w. Some (is.fault, w)) (sym path);
   reason = subst (IsReason is.fault) (sym reason) is.reason;
 }
 
-pub kept_here : (v : Verdict) (p : Place) → IsReason wrong_shape p.reason → way_of p ≡ []
-    → v ≡ Some (wrong_shape, []) → IsPlace (λ f way. v ≡ Some (f, way)) p
-kept_here v p reason way is =
-    record { fault = wrong_shape; way = is ∙ ap (λ w. Some (wrong_shape, w)) (sym way); reason = reason }
+pub kept_here : (v : Verdict) (p : Place) → IsReason wrong_shape p.reason → path_of p ≡ []
+    → v ≡ Some (wrong_shape, []) → IsPlace (λ f path. v ≡ Some (f, path)) p
+kept_here v p reason path is =
+    record { fault = wrong_shape; path = is ∙ ap (λ w. Some (wrong_shape, w)) (sym path); reason = reason }
 
 pub least_none : (fs : Faults) (es : List Entry) → es ≡ [] → AreTold fs es → least fs ≡ None
 least_none [] es e are = refl
@@ -75,30 +75,30 @@ least_none (g ∷ fs) [] e are = absurd are
 least_none (g ∷ fs) (x ∷ es) e are = cc
 
 pub least_some : (fs : Faults) (k : Bor (List ℕ)) (b : Kept) (p q : Place) (es : List Entry)
-    → AreTold fs ((k, b) ∷ es) → ((v : Verdict) → IsKept v b → IsPlace (λ f way. v ≡ Some (f, way)) p)
-    → way_of q ≡ way_of p ++ key k.now ∷ [] → q.reason ≡ p.reason → IsPlace (λ f way. least fs ≡ Some (f, way)) q
-least_some [] k b p q es are kept way reason = absurd are
-least_some (g ∷ fs) k b p q es are kept way reason =
+    → AreTold fs ((k, b) ∷ es) → ((v : Verdict) → IsKept v b → IsPlace (λ f path. v ≡ Some (f, path)) p)
+    → path_of q ≡ path_of p ++ key k.now ∷ [] → q.reason ≡ p.reason → IsPlace (λ f path. least fs ≡ Some (f, path)) q
+least_some [] k b p q es are kept path reason = absurd are
+least_some (g ∷ fs) k b p q es are kept path reason =
     carried p q (key g.0) (λ f w e. ap (λ v. within (key g.0) v) e)
-    (way ∙ ap (λ l. way_of p ++ key l ∷ []) are.0) reason (kept (Some g.1) are.1)
+    (path ∙ ap (λ l. path_of p ++ key l ∷ []) are.0) reason (kept (Some g.1) are.1)
 
 module _ (D : Doubles) where
   -- ---- what a tree's walk finds
 
-  has_not : {A : Type 0} (t : Data) (f : Fault) (way : List Turn) → HasValueIn D t → FaultAtIn D f t way → A
-  has_not t f way v at = let both = sym v.1 ∙ fault_to D at in cc
+  has_not : {A : Type 0} (t : Data) (f : Fault) (path : List PathSegment) → HasValueIn D t → FaultAtIn D f t path → A
+  has_not t f path v at = let both = sym v.1 ∙ fault_to D at in cc
 
-  value_told : (t : Data) (v : Verdict) → Is (HasValueIn D t) (λ f way. FaultAtIn D f t way) v → HasValueIn D t
+  value_told : (t : Data) (v : Verdict) → Is (HasValueIn D t) (λ f path. FaultAtIn D f t path) v → HasValueIn D t
       → v ≡ None
   value_told t None is v = refl
   value_told t (Some f) is v = has_not t f.0 f.1 v is
 
-  fault_told : (t : Data) (v : Verdict) (f : Fault) (way : List Turn) → Is (HasValueIn D t) (λ g w. FaultAtIn D g t w) v
-      → FaultAtIn D f t way → v ≡ Some (f, way)
-  fault_told t None f way is at = has_not t f way is at
-  fault_told t (Some g) f way is at =
+  fault_told : (t : Data) (v : Verdict) (f : Fault) (path : List PathSegment) → Is (HasValueIn D t) (λ g w. FaultAtIn D g t w) v
+      → FaultAtIn D f t path → v ≡ Some (f, path)
+  fault_told t None f path is at = has_not t f path is at
+  fault_told t (Some g) f path is at =
       let a : g.0 ≡ f = one_fault D is at in
-      let b : g.1 ≡ way = one_way D is at in
+      let b : g.1 ≡ path = one_path D is at in
       ap (λ x. Some (x, g.1)) a ∙ ap (λ w. Some (f, w)) b
 
   pub tells_place : (t : Data) (p : Option Place) → MatchOption p (HasValueIn D t) (IsFirstFaultIn D t)
@@ -106,20 +106,20 @@ module _ (D : Doubles) where
   tells_place t None v = value_told t (found D t) (is_found D t) v
   tells_place t (Some p) is = record {
     fault = _;
-    way = fault_told t (found D t) _ (way_of p) (is_found D t) is.way;
+    path = fault_told t (found D t) _ (path_of p) (is_found D t) is.path;
     reason = is.reason;
   }
 
-  told_value : (t : Data) (v : Verdict) → Is (HasValueIn D t) (λ f way. FaultAtIn D f t way) v → v ≡ None
+  told_value : (t : Data) (v : Verdict) → Is (HasValueIn D t) (λ f path. FaultAtIn D f t path) v → v ≡ None
       → HasValueIn D t
   told_value t None is e = is
   told_value t (Some f) is e = cc
 
-  told_fault : (t : Data) (v : Verdict) (f : Fault) (way : List Turn) → Is (HasValueIn D t) (λ g w. FaultAtIn D g t w) v
-      → v ≡ Some (f, way) → FaultAtIn D f t way
-  told_fault t None f way is e = cc
-  told_fault t (Some g) f way is e =
-      subst (λ (h : Fault × List Turn). FaultAtIn D h.0 t h.1) (let same : g ≡ (f, way) = cc in same) is
+  told_fault : (t : Data) (v : Verdict) (f : Fault) (path : List PathSegment) → Is (HasValueIn D t) (λ g w. FaultAtIn D g t w) v
+      → v ≡ Some (f, path) → FaultAtIn D f t path
+  told_fault t None f path is e = cc
+  told_fault t (Some g) f path is e =
+      subst (λ (h : Fault × List PathSegment). FaultAtIn D h.0 t h.1) (let same : g ≡ (f, path) = cc in same) is
 
   pub place_told : (t : Data) (p : Option Place) → Tells (found D t) p
       → MatchOption p (HasValueIn D t) (IsFirstFaultIn D t)
@@ -127,6 +127,6 @@ module _ (D : Doubles) where
   place_told t (Some p) is =
       first_found D t (Ok (Some p)) (record {
         fault = is.fault;
-        way = told_fault t (found D t) is.fault (way_of p) (is_found D t) is.way;
+        path = told_fault t (found D t) is.fault (path_of p) (is_found D t) is.path;
         reason = is.reason;
       })

@@ -1,4 +1,4 @@
--- The first fault of a tree and the way to it, as a function, and what a walk keeps of an object. For private clauses.
+-- The first fault of a tree and the path to it, as a function, and what a walk keeps of an object. For private clauses.
 use Rattle.std.specs.Prelude.{ℕ, ◌+◌, List, [], ◌∷◌, ◌++◌, codes, ◌&&◌, if◌then◌else◌, Option, Some, None, cond}
 use Rattle.std.specs.Prelude.{Result, Ok, Err}
 use Rattle.std.specs.Ordering.{nat_cmp, match_ordering, is_eq}
@@ -11,13 +11,13 @@ use Rattle.bson_scalar.specs.Reading.{number_read_in, single_at_in}
 use Rattle.bson_scalar.specs.Scalar.{Scalar}
 use Rattle.bson_scalar.specs.Table.{wrapper_of, has_wrapper}
 use Rattle.bson_scalar.specs.declared.form.Doubles.{Doubles}
-use Rattle.bson_place.specs.Place.{Turn, key, element}
+use Rattle.bson_place.specs.Place.{PathSegment, key, element}
 
--- a fault and the way from it outward, or none
+-- a fault and the path from it outward, or none
 abbrev pub Verdict : Type 0
-Verdict = Option (Fault × List Turn)
+Verdict = Option (Fault × List PathSegment)
 
-abbrev pub within : Turn → Verdict → Verdict
+abbrev pub within : PathSegment → Verdict → Verdict
 within t None = None
 within t (Some f) = Some (f.0, f.1 ++ t ∷ [])
 
@@ -45,7 +45,7 @@ abbrev mutual
   found D (tree.array ds) = found_items D 0 ds
   found D (tree.object ms) = if has_wrapper ms then found_wrapper D ms else found_members D ms
 
-  -- of elements, the first of which has this place in its list
+  -- of elements, the first of which has this place in its array
   pub found_items : Doubles → ℕ → Items → Verdict
   found_items D n no_items = None
   found_items D n (item d ds) = or (within (element n) (found D d)) (found_items D (n + 1) ds)
@@ -75,7 +75,7 @@ abbrev mutual
 -- ---- what is kept of an object's members: those with a fault, by ascending key
 
 abbrev pub Faults : Type 0
-Faults = List (List ℕ × (Fault × List Turn))
+Faults = List (List ℕ × (Fault × List PathSegment))
 
 abbrev pub onto : List ℕ → Verdict → Faults → Faults
 onto k None fs = fs
@@ -89,7 +89,7 @@ abbrev pub least : Faults → Verdict
 least [] = None
 least (f ∷ fs) = within (key f.0) (Some f.1)
 
-abbrev pub insert : List ℕ → Fault × List Turn → Faults → Faults
+abbrev pub insert : List ℕ → Fault × List PathSegment → Faults → Faults
 insert k f [] = (k, f) ∷ []
 insert k f (g ∷ fs) = match_ordering (slice_cmp nat_cmp k g.0) ((k, f) ∷ g ∷ fs) ((g.0, f) ∷ fs) (g ∷ insert k f fs)
 

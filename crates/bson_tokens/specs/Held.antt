@@ -29,7 +29,7 @@ abbrev pub or_empty : Option Members → Members
 or_empty None = no_members
 or_empty (Some ms) = ms
 
--- the tree without what no wrapper reads: elements of lists, members of an object that has more than two, or that lies
+-- the tree without what no wrapper reads: elements of arrays, members of an object that has more than two, or that lies
 -- so many levels down
 abbrev mutual
   pub pruned : ℕ → Data → Data
@@ -59,7 +59,7 @@ entered k d (Some ms) = few (put k d ms)
 abbrev pub IsPruned : ℕ → Option (Data × List Token) → Data → List Token → Type 0
 IsPruned n tree d rest = (t : Data) × (tree ≡ Some (t, rest)) × (d ≡ pruned n t)
 
--- the elements of a list were read
+-- the elements of an array were read
 abbrev pub ArePassed : Option (Items × List Token) → List Token → Type 0
 ArePassed trees rest = (ds : Items) × (trees ≡ Some (ds, rest))
 

@@ -26,7 +26,7 @@ IsPlaceIn = IsTextPlaceIn Special
 
 -- the answer is that of the verdict
 abbrev pub Tells : Verdict → Option Place → Type 0
-Tells v place = MatchOption place (v ≡ None) (IsPlace (λ f way. v ≡ Some (f, way)))
+Tells v place = MatchOption place (v ≡ None) (IsPlace (λ f path. v ≡ Some (f, path)))
 
 -- a tree or some were read, of which these tokens are left, and the answer tells their verdict
 abbrev pub Finds : {D : Type 0} → (D → Verdict) → Option (D × List Token) → Option Place → List Token → Type 0
@@ -50,7 +50,7 @@ Entry = Bor (List ℕ) × Kept
 -- it tells the verdict: nothing that of a number
 abbrev pub IsKept : Verdict → Kept → Type 0
 IsKept v None = v ≡ Some (wrong_shape, [])
-IsKept v (Some b) = IsPlace (λ f way. v ≡ Some (f, way)) b.value
+IsKept v (Some b) = IsPlace (λ f path. v ≡ Some (f, path)) b.value
 
 -- the entries are the faults, key by key
 abbrev pub AreTold : Faults → List Entry → Type 0

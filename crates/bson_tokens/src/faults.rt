@@ -1,23 +1,26 @@
 //! The faulty members of an object.
 ghost use Rattle.std.specs.Prelude.{IfOk, OnOk, IsTrue, ◌++◌, ◌∷◌, [], ◌≡◌, Some};
 ghost use Rattle.bson_scalar.specs.Faults.{Fault, wrong_shape};
-ghost use Rattle.bson_place.specs.Place.{way_of, turn_of, IsPlace, IsReason};
+ghost use Rattle.bson_place.specs.Place.{path_of, segment_of, IsPlace, IsReason};
 ghost use Rattle.bson_tokens.specs.Found.{Faults, Verdict, enter, least};
 ghost use Rattle.bson_tokens.specs.Told.{Tells, AreTold, IsKept};
 
-use bson_place::place::{Place, Reason, Step};
+use bson_place::place::{Place, Reason, Segment};
 use bson_place::shape::NUMBER;
 use std::alloc::{AllocError, Global};
 use std::collections::BTreeMap;
 
-// The place behind one more step.
-pub(crate) fn inside(place: Place, step: Step) -> Result<Place, AllocError>
-    ensures way { IfOk result (λ p. way_of p ≡ way_of place ++ turn_of step ∷ []) }
+// The place behind one more segment.
+pub(crate) fn with_segment(place: Place, segment: Segment) -> Result<Place, AllocError>
+    ensures path { IfOk result (λ p. path_of p ≡ path_of place ++ segment_of segment ∷ []) }
     ensures reason { IfOk result (λ p. p.reason ≡ place.reason) }
 {
-    let Place { reason, mut steps } = place;
-    steps.push(step)?;
-    Ok(Place { reason, steps })
+    let Place {
+        reason,
+        mut segments,
+    } = place;
+    segments.push(segment)?;
+    Ok(Place { reason, segments })
 }
 
 // Notes what was found of the last value of the key so far.
@@ -42,14 +45,17 @@ pub(crate) fn enter<'a>(
 
 // What is kept of a faulty member: nothing where its value is a number that is no i64.
 fn keep(alloc: Global, place: Place) -> Result<Option<Box<Place>>, AllocError>
-    ensures { IfOk result (λ kept. (v : Verdict) → IsPlace (λ f way. v ≡ Some (f, way)) place → IsKept v kept) }
+    ensures { IfOk result (λ kept. (v : Verdict) → IsPlace (λ f path. v ≡ Some (f, path)) place → IsKept v kept) }
 {
-    let Place { reason, mut steps } = place;
-    if steps.is_empty() && is_of_number(&reason) {
+    let Place {
+        reason,
+        mut segments,
+    } = place;
+    if segments.is_empty() && is_of_number(&reason) {
         return Ok(None);
     }
-    steps.shrink_to_fit();
-    Ok(Some(Box::new(alloc, Place { reason, steps })?))
+    segments.shrink_to_fit();
+    Ok(Some(Box::new(alloc, Place { reason, segments })?))
 }
 
 fn is_of_number(reason: &Reason) -> bool
@@ -62,7 +68,7 @@ fn is_of_number(reason: &Reason) -> bool
 }
 
 // The fault at the least key.
-pub(crate) fn least(
+pub(crate) fn least_fault(
     alloc: Global,
     mut faults: BTreeMap<&str, Option<Box<Place>>>,
 ) -> Result<Option<Place>, AllocError>
@@ -72,28 +78,28 @@ pub(crate) fn least(
         None => Ok(None),
         Some((key, kept)) => {
             let key = String::from_str(alloc, key)?;
-            Ok(Some(inside(place_of(alloc, kept), Step::Key(key))?))
+            Ok(Some(with_segment(place_of(alloc, kept), Segment::Key(key))?))
         }
     }
 }
 
 // The place that was kept.
 fn place_of(alloc: Global, kept: Option<Box<Place>>) -> Place
-    ensures { (v : Verdict) → IsKept v kept → IsPlace (λ f way. v ≡ Some (f, way)) result }
+    ensures { (v : Verdict) → IsKept v kept → IsPlace (λ f path. v ≡ Some (f, path)) result }
 {
     match kept {
-        None => here(alloc, NUMBER),
+        None => place_here(alloc, NUMBER),
         Some(place) => Box::into_inner(place),
     }
 }
 
 // The place at the value itself.
-pub(crate) fn here(alloc: Global, message: &'static str) -> Place
+pub(crate) fn place_here(alloc: Global, message: &'static str) -> Place
     ensures reason { IsReason wrong_shape result.reason }
-    ensures way { way_of result ≡ [] }
+    ensures path { path_of result ≡ [] }
 {
     Place {
         reason: Reason::WrongShape(message),
-        steps: Vec::new(alloc),
+        segments: Vec::new(alloc),
     }
 }

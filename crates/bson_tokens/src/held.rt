@@ -21,7 +21,7 @@ const LEVELS: usize = 2;
 const MAX_KEYS: usize = 2;
 
 /// A tree that each wrapper reads as it would read the value that stands next, nested at most
-/// `depth` deep. Elements of lists, members of objects that have more keys than any wrapper reads,
+/// `depth` deep. Elements of arrays, members of objects that have more keys than any wrapper reads,
 /// and those of objects that lie deeper, are passed over.
 pub fn read_held(alloc: Global, reader: &mut Reader<'_>, depth: usize) -> Result<Value, Unread>
     ensures ok { IfOk result
@@ -70,7 +70,7 @@ fn held_value(
     }
 }
 
-// Passes over the elements of a list whose bracket was read.
+// Passes over the elements of an array whose bracket was read.
 #[cycle(held)]
 pub(crate) fn pass_items(alloc: Global, reader: &mut Reader<'_>, depth: usize) -> Result<(), Unread>
     ensures ok { OnOk result
@@ -100,7 +100,7 @@ fn held_members(
     ensures broken { IfErr result (λ e. e ≡ Broken → NoMembers depth reader.old) }
     ensures shorter { OnOk result (length reader.new < length reader.old) }
 {
-    let mut found = first(alloc, levels);
+    let mut found = first_members(alloc, levels);
     'members: while let Some(name) = reader.next_key()? {
         let member = held_value(alloc, reader, depth, levels.saturating_sub(1))?;
         found = enter(alloc, found, name, member)?;
@@ -109,7 +109,7 @@ fn held_members(
 }
 
 // No members yet, where any are kept.
-fn first(alloc: Global, levels: usize) -> Option<Map<String, Value>>
+fn first_members(alloc: Global, levels: usize) -> Option<Map<String, Value>>
     ensures { option_map (λ m. members_view m.entries) result ≡ kept_of levels no_members }
 {
     if levels == 0 {

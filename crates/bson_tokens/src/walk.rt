@@ -14,17 +14,17 @@ ghost use Rattle.bson_tokens.specs.declared.unread.Unread.TheVariants.{OutOfMemo
 
 mod wrapped;
 
-use crate::faults::{enter, here, inside, least};
+use crate::faults::{enter, least_fault, place_here, with_segment};
 use crate::number::number;
 use crate::tree::read_from;
 use crate::unread::Unread;
 use crate::walk::wrapped::walk_wrapper;
-use bson_place::place::{Place, Step};
+use bson_place::place::{Place, Segment};
 use bson_place::shape::beside_others;
 use bson_place::walk::first_place;
 use bson_scalar::code::is_scope;
 use bson_scalar::form::Doubles;
-use bson_scalar::wrapper::{Wrapper, named};
+use bson_scalar::wrapper::{Wrapper, wrapper_named};
 use json::{Reader, Scratch, Token};
 use serde_json::{Map, Value};
 use std::alloc::{AllocError, Global};
@@ -36,10 +36,10 @@ const MAX_DEPTH: usize = 127;
 /// The first fault of the text's tree and the path to it, or nothing where the tree has a meaning
 /// in MongoDB Extended JSON v2.
 ///
-/// It is the place that `place_of_fault` finds in the tree, and no tree of the whole is made: of a
-/// list the first fault is kept, of an object the faults by key, since a later value of a key takes
-/// the place of an earlier one. Only an object that begins with `$scope` is read as a tree. `Broken`
-/// is answered where the text as a whole has no tree.
+/// It is the place that `place_of_fault` finds in the tree, and no tree of the whole is made: of an
+/// array the first fault is kept, of an object the faults by key, since a later value of a key
+/// takes the place of an earlier one. Only an object that begins with `$scope` is read as a tree.
+/// `Broken` is answered where the text as a whole has no tree.
 pub fn first_fault(alloc: Global, text: &str) -> Result<Option<Place>, Unread>
     ensures place { IfOk result (λ found. IsPlaceIn text.now found) }
     ensures broken { IfErr result (IsBroken (read text.now)) }
@@ -105,7 +105,7 @@ fn walk_value(
     }
 }
 
-// The elements of a list whose bracket was read.
+// The elements of an array whose bracket was read.
 #[cycle(walk)]
 fn walk_items(
     alloc: Global,
@@ -140,7 +140,7 @@ fn or_at(first: Option<Place>, item: Option<Place>, at: usize) -> Result<Option<
         return Ok(first);
     }
     match item {
-        Some(place) => Ok(Some(inside(place, Step::Element(at))?)),
+        Some(place) => Ok(Some(with_segment(place, Segment::Element(at))?)),
         None => Ok(None),
     }
 }
@@ -168,13 +168,13 @@ fn walk_members(
             return walk_first(alloc, doubles, reader, depth, name);
         }
         is_first = false;
-        wrapper = lesser(wrapper, name);
+        wrapper = lesser_wrapper(wrapper, name);
         let member = walk_value(alloc, doubles, reader, depth)?;
         enter(alloc, &mut faults, name, member)?;
     }
     match wrapper {
-        Some((_, wrapper)) => Ok(Some(here(alloc, beside_others(wrapper)))),
-        None => Ok(least(alloc, faults)?),
+        Some((_, wrapper)) => Ok(Some(place_here(alloc, beside_others(wrapper)))),
+        None => Ok(least_fault(alloc, faults)?),
     }
 }
 
@@ -183,14 +183,14 @@ fn walk_members(
 fn may_be_wrapper(is_first: bool, key: &str) -> bool
     ensures { result ≡ (is_first && (is_some (wrapper_of key.now) || bytes_eq key.now (codes "$scope"))) }
 {
-    is_first && (named(key).is_some() || is_scope(key))
+    is_first && (wrapper_named(key).is_some() || is_scope(key))
 }
 
 // The lesser of the keys of wrappers so far.
-fn lesser<'a>(first: Option<(&'a str, Wrapper)>, key: &'a str) -> Option<(&'a str, Wrapper)>
+fn lesser_wrapper<'a>(first: Option<(&'a str, Wrapper)>, key: &'a str) -> Option<(&'a str, Wrapper)>
     ensures { is_some result ≡ (is_some (wrapper_of key.now) || is_some first.entry) }
 {
-    let Some(wrapper) = named(key) else {
+    let Some(wrapper) = wrapper_named(key) else {
         return first;
     };
     match first {
@@ -212,7 +212,7 @@ fn walk_first(
     ensures broken { IfErr result (λ e. e ≡ Broken → NoObject depth key.now reader.old) }
     ensures shorter { OnOk result (length reader.new < length reader.old) }
 {
-    if named(key).is_some() {
+    if wrapper_named(key).is_some() {
         return walk_wrapper(alloc, doubles, reader, depth, key);
     }
     walk_tree(alloc, doubles, reader, depth, key)

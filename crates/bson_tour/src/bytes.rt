@@ -141,7 +141,7 @@ fn run_end(rt: &impl Print, alloc: Global) -> anyhow::Result<()> {
     let (mut output, mut told) = (Vec::new(alloc), Vec::new(alloc));
     let run = Run::default();
     if let Err(end) = run_documents(alloc, run, &mut input, &mut output, &mut told) {
-        rt.print(&end.told(alloc)?)?; // document 2 at byte 5: ends too early at its byte 0
+        rt.print(&end.to_line(alloc)?)?; // document 2 at byte 5: ends too early at its byte 0
     }
     Ok(())
 }

@@ -8,12 +8,12 @@ use bson_convert::mode::{Mode, mode_of};
 use bson_convert::value::value_of;
 use bson_run::encode::{encode_in_order, encode_with};
 use bson_run::in_order::convert_in_order;
-use bson_run::indent::indented;
+use bson_run::indent::indent_text;
 use bson_run::indented::{convert_in_order_indented, convert_indented};
 use bson_run::lines::run_lines;
 use bson_run::order::{OnRefusal, Taking, Task, Work};
 use bson_run::stop::Stop;
-use bson_run::taken::taken;
+use bson_run::taken::take_as;
 use std::alloc::Global;
 
 pub(crate) fn print(rt: &impl Print, alloc: Global) -> anyhow::Result<()> {
@@ -71,13 +71,13 @@ fn encode_in_order_call(rt: &impl Print, alloc: Global) -> anyhow::Result<()> {
 
 fn no_bytes(rt: &impl Print, alloc: Global) -> anyhow::Result<()> {
     if let Err(Fault::NoBytes(why)) = encode_in_order(alloc, Options::default(), b"[1, 2]") {
-        println!(rt; "{}", why.words())?; // no document
+        println!(rt; "{}", why.message())?; // no document
     }
     Ok(())
 }
 
 fn indented_call(rt: &impl Print, alloc: Global) -> anyhow::Result<()> {
-    let laid = indented(alloc, 2, r#"{"a":[1,{}]}"#)?;
+    let laid = indent_text(alloc, 2, r#"{"a":[1,{}]}"#)?;
     println!(rt; "{}", str::from_utf8(&laid)?)?;
     // {
     //   "a": [
@@ -142,7 +142,7 @@ fn refusal(rt: &impl Print, alloc: Global) -> anyhow::Result<()> {
     let (mut output, mut told) = (Vec::new(alloc), Vec::new(alloc));
     let (task, stop) = (Task::Check, OnRefusal::Stop);
     if let Err(at) = run_lines(alloc, task, stop, &mut lines, &mut output, &mut told) {
-        println!(rt; "line {}: {}{}", at.line, at.fault.words(), at.place)?;
+        println!(rt; "line {}: {}{}", at.line, at.fault.message(), at.place)?;
     }
     // line 1: not Extended JSON at n (a number is no whole number of 64 bits; found 1.5)
     Ok(())
@@ -179,13 +179,13 @@ fn stop(rt: &impl Print, alloc: Global) -> anyhow::Result<()> {
 fn rule(rt: &impl Print, alloc: Global) -> anyhow::Result<()> {
     let text: &[u8] = b"[1, 2,]";
     let stop = Stop::of(alloc, text)?;
-    println!(rt; "{}", stop.rule.words())?; // behind a comma another element is wanted
+    println!(rt; "{}", stop.rule.message())?; // behind a comma another element is wanted
     Ok(())
 }
 
 fn taken_call(rt: &impl Print, alloc: Global) -> anyhow::Result<()> {
     let text = br#"{"$regex": "^a", "$options": "i"}"#;
-    if let Ok(Some(newer)) = taken(alloc, Taking::Legacy, text) {
+    if let Ok(Some(newer)) = take_as(alloc, Taking::Legacy, text) {
         println!(rt; "{newer}")?; // {"$regularExpression":{"pattern":"^a","options":"i"}}
     }
     Ok(())

@@ -1,7 +1,7 @@
 //! Extended JSON, from trees and texts, and why they mean nothing.
 use bson::extjson::{Doubles, Form, Options};
 use bson::{Bson, Document};
-use bson_convert::convert::converted;
+use bson_convert::convert::text_or_value;
 use bson_convert::converted::Converted;
 use bson_convert::mode::Mode;
 use bson_place::builder::Nothing;
@@ -21,7 +21,7 @@ pub(crate) fn print(rt: &impl Print, alloc: Global) -> anyhow::Result<()> {
     text_error(rt, alloc)?;
     converted_call(rt, alloc)?;
     place(rt, alloc)?;
-    step(rt, alloc)?;
+    segment(rt, alloc)?;
     reason(rt, alloc)?;
     value_builder(rt, alloc)?;
     nothing(rt, alloc)
@@ -109,7 +109,7 @@ fn text_error(rt: &impl Print, alloc: Global) -> anyhow::Result<()> {
 
 fn converted_call(rt: &impl Print, alloc: Global) -> anyhow::Result<()> {
     let bytes = br#"[{"$numberLong": "5"}]"#;
-    match converted(alloc, Options::default(), Mode::Relaxed, bytes) {
+    match text_or_value(alloc, Options::default(), Mode::Relaxed, bytes) {
         Ok(Converted::Text(text)) => println!(rt; "{}", str::from_utf8(&text)?)?, // [5]
         Ok(Converted::Value(value)) => println!(rt; "{}", value.into_relaxed_text(alloc)?)?,
         Err(fault) => println!(rt; "{}", fault.line())?,
@@ -125,10 +125,10 @@ fn place(rt: &impl Print, alloc: Global) -> anyhow::Result<()> {
     Ok(())
 }
 
-fn step(rt: &impl Print, alloc: Global) -> anyhow::Result<()> {
+fn segment(rt: &impl Print, alloc: Global) -> anyhow::Result<()> {
     let tree = Value::from_slice(alloc, br#"{"orders": [1.5]}"#)?;
     if let Some(place) = place_of_fault(alloc, &tree)? {
-        println!(rt; "{:?}", place.steps)?; // [Element(0), Key("orders")]
+        println!(rt; "{:?}", place.segments)?; // [Element(0), Key("orders")]
     }
     Ok(())
 }

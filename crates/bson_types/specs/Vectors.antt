@@ -19,7 +19,7 @@ vector_bytes (Float32 v) = 0x27 ∷ 0 ∷ le_bytes_of v.items
 vector_bytes (PackedBit v) = 0x10 ∷ packed_padding v ∷ packed_bytes v
 
 -- the bytes of a vector whose ignored bits may be anything: a known type, no padding but of packed bits,
--- whole numbers of four bytes
+-- integers of four bytes
 abbrev pub is_vector_of_any_bits : List ℕ → Bool
 is_vector_of_any_bits (kind ∷ padding ∷ rest) =
     if kind == 0x10 then nat_lt padding 8 && (not (length rest == 0) || (padding == 0))

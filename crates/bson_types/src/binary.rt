@@ -121,7 +121,7 @@ impl Binary {
         ensures length { IfOk result (λ b. vec_len b.bytes ≡ 16) }
         ensures undone { IfOk result (λ b. bytes_in_order representation b.bytes.items ≡ id) }
     {
-        let bytes = reordered(&id.bytes(), representation);
+        let bytes = reorder(&id.bytes(), representation);
         Ok(Binary {
             subtype: subtype_of(representation),
             bytes: Vec::from_slice(alloc, &bytes)?,
@@ -204,7 +204,7 @@ impl Binary {
             });
         }
         match <[u8; 16]>::try_from(self.bytes.as_slice()) {
-            Ok(bytes) => Ok(Uuid::from_bytes(reordered(&bytes, representation))),
+            Ok(bytes) => Ok(Uuid::from_bytes(reorder(&bytes, representation))),
             Err(_) => Err(uuid_value::Error::InvalidLength {
                 length: self.bytes.len(),
             }),
@@ -221,7 +221,7 @@ fn subtype_of(representation: UuidRepresentation) -> BinarySubtype
     }
 }
 
-fn reordered(b: &[u8; 16], representation: UuidRepresentation) -> [u8; 16]
+fn reorder(b: &[u8; 16], representation: UuidRepresentation) -> [u8; 16]
     ensures { result ≡ bytes_in_order representation b.now }
 {
     match representation {

@@ -88,7 +88,7 @@ impl ObjectId {
         ensures { result ≡ to_be_bytes w32 seconds ++ process_id ++ counter }
     {
         ObjectId {
-            bytes: joined(&seconds.to_be_bytes(), &process_id, &counter),
+            bytes: join(&seconds.to_be_bytes(), &process_id, &counter),
         }
     }
 
@@ -128,7 +128,7 @@ impl ObjectId {
         ensures value { result ≡ self.now }
         ensures ranged { IsObjectId self.now }
     {
-        ranged(self.bytes)
+        in_range(self.bytes)
     }
 
     /// The 24 lower-case hexadecimal digits, as Display writes them.
@@ -189,7 +189,7 @@ impl fmt::Display for ObjectId {
 }
 
 // What the type says of the bytes.
-fn ranged(bytes: [u8; 12]) -> [u8; 12]
+fn in_range(bytes: [u8; 12]) -> [u8; 12]
     ensures same { result ≡ bytes }
     ensures ranged { IsObjectId bytes }
 {
@@ -242,7 +242,7 @@ fn is_bad(byte: u8) -> bool
 }
 
 // The three parts behind one another.
-fn joined(a: &[u8], b: &[u8], c: &[u8]) -> [u8; 12]
+fn join(a: &[u8], b: &[u8], c: &[u8]) -> [u8; 12]
     requires first { length a.now ≡ 4 }
     requires second { length b.now ≡ 5 }
     requires third { length c.now ≡ 3 }

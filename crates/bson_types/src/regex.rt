@@ -33,7 +33,7 @@ impl Regex {
     {
         Ok(Regex {
             pattern: String::from_str(alloc, pattern)?,
-            options: sorted(alloc, options)?,
+            options: sort_characters(alloc, options)?,
         })
     }
 
@@ -60,11 +60,11 @@ impl fmt::Display for Regex {
 }
 
 /// The characters of the text in ascending order.
-pub fn sorted(alloc: Global, text: &str) -> Result<String, AllocError>
+pub fn sort_characters(alloc: Global, text: &str) -> Result<String, AllocError>
     ensures { IfOk result (λ s. string_bytes s ≡ sorted_text text.now) }
 {
     let characters = ascending_of(characters_of(alloc, text)?);
-    spelled(alloc, characters)
+    spell(alloc, characters)
 }
 
 fn characters_of(alloc: Global, text: &str) -> Result<Vec<char>, AllocError>
@@ -80,7 +80,7 @@ fn ascending_of(mut characters: Vec<char>) -> Vec<char>
     characters
 }
 
-fn spelled(alloc: Global, characters: Vec<char>) -> Result<String, AllocError>
+fn spell(alloc: Global, characters: Vec<char>) -> Result<String, AllocError>
     ensures { IfOk result (λ s. string_bytes s ≡ encode_utf8_all characters.items) }
 {
     characters.into_iter().collect(alloc)

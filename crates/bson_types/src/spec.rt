@@ -21,7 +21,7 @@ pub enum ElementType {
     String,
     /// Tag 0x03: a document inside another.
     EmbeddedDocument,
-    /// Tag 0x04: a list of values.
+    /// Tag 0x04: an array of values.
     Array,
     /// Tag 0x05: bytes with a subtype.
     Binary,
@@ -45,11 +45,11 @@ pub enum ElementType {
     Symbol,
     /// Tag 0x0F, deprecated: JavaScript code with its scope.
     JavaScriptCodeWithScope,
-    /// Tag 0x10: a whole number of 32 bits.
+    /// Tag 0x10: an integer of 32 bits.
     Int32,
     /// Tag 0x11: a timestamp of MongoDB's own use.
     Timestamp,
-    /// Tag 0x12: a whole number of 64 bits.
+    /// Tag 0x12: an integer of 64 bits.
     Int64,
     /// Tag 0x13: a decimal of 128 bits.
     Decimal128,

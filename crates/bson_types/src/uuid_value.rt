@@ -118,12 +118,12 @@ impl Uuid {
         ensures value { result ≡ self.now }
         ensures ranged { IsUuid self.now }
     {
-        ranged(self.bytes)
+        in_range(self.bytes)
     }
 }
 
 // What the type says of the bytes.
-fn ranged(bytes: [u8; 16]) -> [u8; 16]
+fn in_range(bytes: [u8; 16]) -> [u8; 16]
     ensures same { result ≡ bytes }
     ensures ranged { IsUuid bytes }
 {

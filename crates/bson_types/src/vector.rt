@@ -35,7 +35,7 @@ const HEAD: &str = "a vector has a type and a padding";
 /// ```
 #[derive(Debug, Drop, PartialEq, Eq)]
 pub enum Vector {
-    /// Signed whole numbers of 8 bits.
+    /// Signed integers of 8 bits.
     Int8(Vec<i8>),
     /// Floating point numbers of 32 bits, by their patterns. In the bytes of a vector each is four
     /// bytes, the lowest first.
@@ -192,13 +192,13 @@ fn signed_bytes(alloc: Global, contents: &[u8]) -> Result<Vec<i8>>
     ensures range { IfOk result (λ v. AllByRecursion (FitsSigned w8) v.items) }
     ensures err { IfErr result IsOutOfMemory }
 {
-    match collected(alloc, contents) {
+    match collect(alloc, contents) {
         Ok(v) => Ok(v),
         Err(_) => Err(Error::OutOfMemory),
     }
 }
 
-fn collected(alloc: Global, contents: &[u8]) -> Result<Vec<i8>, AllocError>
+fn collect(alloc: Global, contents: &[u8]) -> Result<Vec<i8>, AllocError>
     ensures { IfOk result (λ v. v.items ≡ map (cast_signed w8) contents.now) }
 {
     contents

@@ -3,7 +3,7 @@
 //! in tests/rows, and the runs over readers and writers that fail in tests/streams.
 //!
 //! A test whose name begins with `refused_` is also run with each request for memory refused in
-//! turn: it must pass, or end by `?` with want of memory. What it asserts of a call, that call must
+//! turn: it must pass, or end by `?` with out of memory. What it asserts of a call, that call must
 //! then keep.
 #![tactic(auto)]
 

@@ -83,7 +83,7 @@ pub extern "C" fn vbson_convert_with(
     let Some(mode) = mode_of(mode) else {
         return status::NO_MODE;
     };
-    match converted(alloc, order_of(flags), options_of(flags), mode, text) {
+    match convert_text(alloc, order_of(flags), options_of(flags), mode, text) {
         Ok(line) => *out = text_of_line(line),
         Err(fault) => return status_of(fault),
     }
@@ -91,7 +91,7 @@ pub extern "C" fn vbson_convert_with(
 }
 
 // The text in the mode, with keys in the order, and a newline.
-fn converted(
+fn convert_text(
     alloc: Global,
     order: KeyOrder,
     options: Options,

@@ -48,7 +48,7 @@ pub extern "C" fn vbson_decode(
     let Some(mode) = mode_of(mode) else {
         return status::NO_MODE;
     };
-    match decoded(alloc, order_of(flags), options_of(flags), mode, bytes) {
+    match decode_document(alloc, order_of(flags), options_of(flags), mode, bytes) {
         Ok(line) => *out = text_of_line(line),
         Err(status) => return status,
     }
@@ -56,7 +56,7 @@ pub extern "C" fn vbson_decode(
 }
 
 // The text in the mode of the document that the bytes are, and a newline; or the status.
-fn decoded(
+fn decode_document(
     alloc: Global,
     order: KeyOrder,
     options: Options,
@@ -68,14 +68,14 @@ fn decoded(
     ensures refused { IfErr result (λ status. IsUndecoded options mode status bytes.now) }
 {
     match from_slice(alloc, bytes, DEPTH) {
-        Ok(document) => written(alloc, order, options, mode, document),
+        Ok(document) => write_document(alloc, order, options, mode, document),
         Err(Error::Malformed { .. }) => Err(status::NO_DOCUMENT),
         Err(Error::OutOfMemory) => Err(status::OUT_OF_MEMORY),
     }
 }
 
 // The text of the document in the mode, and a newline; or the status.
-fn written(
+fn write_document(
     alloc: Global,
     order: KeyOrder,
     options: Options,
@@ -91,7 +91,7 @@ fn written(
     let form = match mode {
         Mode::Canonical => Form::Canonical,
         Mode::Relaxed => Form::Relaxed,
-        Mode::Show => return shown(alloc, &document),
+        Mode::Show => return show_document(alloc, &document),
     };
     let value = Bson::Document(document);
     let text = match order {
@@ -106,7 +106,7 @@ fn written(
 }
 
 // The text that shows the document, and a newline.
-fn shown(alloc: Global, document: &Document) -> Result<Vec<u8>, u32>
+fn show_document(alloc: Global, document: &Document) -> Result<Vec<u8>, u32>
     ensures ok { IfOk result
         (λ line. line.items ≡ display_text (model.document (document_view document.now)) ++ newline) }
     ensures refused { IfErr result (λ status. status ≡ 5) }

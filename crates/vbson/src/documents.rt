@@ -50,7 +50,7 @@ fn words_of(alloc: Global, bytes: &[u8]) -> Result<Vec<u8>, AllocError>
         Ok(()) => Vec::from_slice(alloc, b"\n"),
         Err(Error::Malformed { kind, offset }) => {
             let fault = RunFault::Malformed { kind, offset };
-            line_at(alloc, offset, fault.words())
+            line_at(alloc, offset, fault.message())
         }
         Err(Error::OutOfMemory) => Err(AllocError),
     }

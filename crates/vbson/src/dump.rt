@@ -54,7 +54,7 @@ pub extern "C" fn vbson_decode_documents(
         return status::NO_MODE;
     };
     let run = run_of(order_of(flags), options_of(flags), mode);
-    let Some(given) = decoded(alloc, run, block) else {
+    let Some(given) = decode_block(alloc, run, block) else {
         return status::OUT_OF_MEMORY;
     };
     *out = Documents {
@@ -102,8 +102,8 @@ struct Given {
     done: u64,
 }
 
-// What the documents of the block give; none for want of memory.
-fn decoded(alloc: Global, run: Run, block: &[u8]) -> Option<Given>
+// What the documents of the block give; none when out of memory.
+fn decode_block(alloc: Global, run: Run, block: &[u8]) -> Option<Given>
     ensures { IfSome result (λ given. (text : List ℕ) × (told : List ℕ)
         × GivesDocuments run block.now text told given.documents given.done
         × (given.text.items ≡ text ++ newline) × (given.told.items ≡ told ++ newline)) }
@@ -112,11 +112,11 @@ fn decoded(alloc: Global, run: Run, block: &[u8]) -> Option<Given>
     let (mut text, mut told) = (Vec::new(alloc), Vec::new(alloc));
     match run_documents(alloc, run, &mut reader, &mut text, &mut told) {
         Ok(counts) => with_newlines(text, told, counts.documents, block.len() as u64),
-        Err(end) => with_newlines(text, told_too(alloc, end, told)?, end.number, end.start),
+        Err(end) => with_newlines(text, add_line(alloc, end, told)?, end.number, end.start),
     }
 }
 
-// The texts, with a newline more behind each; none for want of memory.
+// The texts, with a newline more behind each; none when out of memory.
 fn with_newlines(text: Vec<u8>, told: Vec<u8>, documents: u64, done: u64) -> Option<Given>
     ensures { IfSome result (λ given. (given.text.items ≡ text.items ++ newline)
         × (given.told.items ≡ told.items ++ newline) × (given.documents ≡ documents) × (given.done ≡ done)) }
@@ -134,12 +134,12 @@ fn with_newlines(text: Vec<u8>, told: Vec<u8>, documents: u64, done: u64) -> Opt
 
 // The verdicts, and that on the document at which the run ended; none where memory, a reader or a
 // writer was wanting.
-fn told_too(alloc: Global, end: RunEnd, mut told: Vec<u8>) -> Option<Vec<u8>>
+fn add_line(alloc: Global, end: RunEnd, mut told: Vec<u8>) -> Option<Vec<u8>>
     ensures { IfSome result (λ all. EndsAs end told.items all.items) }
 {
     match end.fault {
         RunFault::Malformed { .. } | RunFault::FiniteDouble => {
-            let Ok(said) = end.told(alloc) else {
+            let Ok(said) = end.to_line(alloc) else {
                 return None;
             };
             let Ok(()) = told.extend_from_slice(said.as_bytes()) else {

@@ -56,7 +56,7 @@ pub extern "C" fn vbson_encode(
     if has_others(flags) {
         return status::NO_MODE;
     }
-    match encoded(alloc, order_of(flags), options_of(flags), text) {
+    match encode_text(alloc, order_of(flags), options_of(flags), text) {
         Ok(line) => *out = text_of_line(line),
         Err(status) => return status,
     }
@@ -64,7 +64,12 @@ pub extern "C" fn vbson_encode(
 }
 
 // The bytes of the document that the text means, and a newline; or the status.
-fn encoded(alloc: Global, order: KeyOrder, options: Options, text: &[u8]) -> Result<Vec<u8>, u32>
+fn encode_text(
+    alloc: Global,
+    order: KeyOrder,
+    options: Options,
+    text: &[u8],
+) -> Result<Vec<u8>, u32>
     ensures ok { IfOk result (λ line. (bytes : List ℕ) × Encodes order options text.now bytes
         × (line.items ≡ bytes ++ newline)) }
     ensures accepts { (tree : Data) (ps : Pairs) → order ≡ orders.Ascending → IsTextOf text.now tree

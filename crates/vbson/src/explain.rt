@@ -61,7 +61,7 @@ fn line_of(alloc: Global, options: Options, text: &[u8]) -> Result<Vec<u8>, Allo
 fn line_at(alloc: Global, fault: &Fault, place: &str) -> Result<Vec<u8>, AllocError>
     ensures { IfOk result (λ line. line.items ≡ (words_of fault.now ++ place.now) ++ newline) }
 {
-    let words = fault.words();
+    let words = fault.message();
     let line = format!(in alloc; "{words}{place}\n")?;
     Ok(line.into_bytes())
 }

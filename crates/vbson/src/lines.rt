@@ -106,11 +106,11 @@ fn encoding_of(order: KeyOrder) -> Task
     }
 }
 
-// What the lines of the block give; none for want of memory.
+// What the lines of the block give; none when out of memory.
 fn lines_of(alloc: Global, options: Options, task: Task, block: &[u8]) -> Option<Lines<'static>>
     ensures { IfSome result (λ lines. AreGiven options task block.now lines) }
 {
-    let given = gathered(alloc, options, task, block)?;
+    let given = run_block(alloc, options, task, block)?;
     Some(Lines {
         text: text_of_line(given.text),
         told: text_of_line(given.told),
@@ -129,7 +129,7 @@ struct Given {
 }
 
 // The same with a newline more behind each text.
-fn gathered(alloc: Global, options: Options, task: Task, block: &[u8]) -> Option<Given>
+fn run_block(alloc: Global, options: Options, task: Task, block: &[u8]) -> Option<Given>
     ensures { IfSome result (λ given. (text : List ℕ) × (told : List ℕ)
         × GivesLines options task block.now text told given.lines given.refused
         × (given.text.items ≡ text ++ newline) × (given.told.items ≡ told ++ newline)) }

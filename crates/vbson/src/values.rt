@@ -14,7 +14,7 @@ use bson_convert::value::value_of;
 use std::alloc::Global;
 use std::hash::{DefaultHasher, Hash, Hasher};
 
-/// Tells whether two texts mean the same value: of the same kind, lists place by place, and
+/// Tells whether two texts mean the same value: of the same kind, arrays place by place, and
 /// documents with the same keys and the same values under each, in any order. 0 where they do, and
 /// `DIFFERENT` where they mean two.
 ///

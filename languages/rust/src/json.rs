@@ -72,9 +72,9 @@ fn parsed(text: Text) -> Value {
 
 fn written(value: &Value) -> Result<Vec<u8>, Error> {
     match far_number(value) {
-        Some(way) => {
-            let way: Vec<_> = way.into_iter().rev().collect();
-            let place = if way.is_empty() { String::new() } else { format!(" at {}", way.join(".")) };
+        Some(path) => {
+            let path: Vec<_> = path.into_iter().rev().collect();
+            let place = if path.is_empty() { String::new() } else { format!(" at {}", path.join(".")) };
             let words = format!("not Extended JSON{place} (a number is no whole number of 64 bits)");
             Err(Error::explained(ErrorKind::NotExtendedJson, &words))
         }
@@ -82,14 +82,14 @@ fn written(value: &Value) -> Result<Vec<u8>, Error> {
     }
 }
 
-/// The way, its end first, to a whole number past those of 64 bits.
+/// The path, its end first, to an integer past those of 64 bits.
 fn far_number(value: &Value) -> Option<Vec<String>> {
-    let (mut way, key) = match value {
+    let (mut path, key) = match value {
         Value::Number(number) if number.is_u64() && !number.is_i64() => return Some(Vec::new()),
         Value::Array(items) => items.iter().enumerate().find_map(|(at, it)| Some((far_number(it)?, at.to_string()))),
         Value::Object(items) => items.iter().find_map(|(key, it)| Some((far_number(it)?, key.clone()))),
         _ => None,
     }?;
-    way.push(key);
-    Some(way)
+    path.push(key);
+    Some(path)
 }

@@ -17,8 +17,8 @@ pub struct Lines {
 /// The texts, in the mode, of the values that the lines of a block mean, each as `convert_with` reads it.
 ///
 /// A newline ends a line; what stands behind the last newline is a line too, unless it is empty. Lines of spaces, tabs and
-/// carriage returns give nothing, and count; a byte order mark at the start of the block is passed over. Only want of memory
-/// is an error.
+/// carriage returns give nothing, and count; a byte order mark at the start of the block is passed over. Only running out of memory is an
+/// error.
 pub fn convert_lines(mode: Mode, options: Options, block: &[u8]) -> Result<Lines, Error> {
     let raw = call::convert_lines(mode as u32, options.flags(), block)?;
     let (text, told) = (owned(raw.text), owned(raw.told));
@@ -37,7 +37,7 @@ pub struct EncodedLines {
 }
 
 /// The bytes of the documents that the lines of a block mean, each as `encode` writes them. The lines are those of
-/// `convert_lines`. Only want of memory is an error.
+/// `convert_lines`. Only running out of memory is an error.
 pub fn encode_lines(options: Options, block: &[u8]) -> Result<EncodedLines, Error> {
     let raw = call::encode_lines(options.flags(), block)?;
     let (bytes, told) = (Bytes(Block::of(raw.text)), owned(raw.told));
@@ -71,7 +71,7 @@ pub struct RefusedDocument {
 /// The texts, in the mode, of the documents of a block, one behind the other, each as `decode` reads it.
 ///
 /// Behind a document that is refused the next one begins where its length says. Where the block has no such length, or
-/// fewer bytes than it says, that document is the last, and what stands behind is not looked at. Only want of memory is an
+/// fewer bytes than it says, that document is the last, and what stands behind is not looked at. Only running out of memory is an
 /// error.
 pub fn decode_documents(mode: Mode, options: Options, block: &[u8]) -> Result<Documents, Error> {
     let raw = call::decode_documents(mode as u32, options.flags(), block)?;

@@ -84,14 +84,14 @@ impl Document {
         self.kind_at_mut::<String>(key)
     }
 
-    /// The list at the key.
+    /// The array at the key.
     pub fn get_array(&self, key: &str) -> ValueAccessResult<&Array>
         ensures { ok_copied result ≡ held_at array_of key.now self.now }
     {
         self.kind_at::<Array>(key)
     }
 
-    /// The list at the key, to write.
+    /// The array at the key, to write.
     pub fn get_array_mut(&mut self, key: &str) -> ValueAccessResult<&mut Array>
         ensures* writes_back { sem 𝓛 (LendsAtKey array_row value.Array self.entry self.old key.now result) }
         ensures value { ok_copied_mut result ≡ held_at array_of key.now self.old }
@@ -145,14 +145,14 @@ impl Document {
         }
     }
 
-    /// The truth value at the key.
+    /// The boolean at the key.
     pub fn get_bool(&self, key: &str) -> ValueAccessResult<bool>
         ensures { result ≡ held_at boolean_of key.now self.now }
     {
         Ok(*self.kind_at::<bool>(key)?)
     }
 
-    /// The truth value at the key, to write.
+    /// The boolean at the key, to write.
     pub fn get_bool_mut(&mut self, key: &str) -> ValueAccessResult<&mut bool>
         ensures* writes_back { sem 𝓛 (LendsAtKey boolean_row value.Boolean self.entry self.old key.now result) }
         ensures value { ok_copied_mut result ≡ held_at boolean_of key.now self.old }

@@ -14,7 +14,7 @@ use bson_store::{Pair, PairStore, SmallPairs, by_key};
 use std::alloc::{AllocError, Global};
 use thiserror::Error;
 
-/// Want of memory at a new key, with the pair that was not put. It is an error with a text, so `?`
+/// Out of memory at a new key, with the pair that was not put. It is an error with a text, so `?`
 /// carries it.
 ///
 /// Where `document` is `{ "a": 1, "b": 2 }`:

@@ -28,7 +28,7 @@ impl Bson {
     /// v2), in either form or mixed.
     ///
     /// An object with a wrapper key has exactly the shape of that wrapper, or is refused. A refusal
-    /// tells the first fault: of a list's elements in order, of a document's values by ascending
+    /// tells the first fault: of an array's elements in order, of a document's values by ascending
     /// key, of a wrapper as a whole. It is `InvalidObjectId` where the text of an object id alone
     /// is wrong, else `DeserializationError`.
     ///

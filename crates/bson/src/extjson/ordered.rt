@@ -22,8 +22,8 @@ impl Bson {
     /// With the order forgotten it is the tree that [`Bson::into_extjson_with`] makes, whose keys
     /// ascend. Inside a wrapper the order is the form's own, as `$code` before `$scope`; a scope is
     /// a document, and keeps its order. A value that holds a finite double other than zero, at any
-    /// depth, is refused as `FiniteDouble`, unless the options say `Doubles::Finite`, and want of
-    /// memory is `OutOfMemory`.
+    /// depth, is refused as `FiniteDouble`, unless the options say `Doubles::Finite`, and running
+    /// out of memory is `OutOfMemory`.
     ///
     /// ```
     /// let orders = Bson::string(alloc, "orders")?;

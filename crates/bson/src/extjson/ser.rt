@@ -59,8 +59,8 @@ impl Bson {
     /// name.
     ///
     /// With `Doubles::Finite` every value has a tree, in which a finite double is its shortest
-    /// decimal, as in `{"$numberDouble": "12.5"}`, and in the relaxed form a number; only want of
-    /// memory may come in its place. With `Doubles::Special` it is
+    /// decimal, as in `{"$numberDouble": "12.5"}`, and in the relaxed form a number; only running
+    /// out of memory may come in its place. With `Doubles::Special` it is
     /// [`Bson::into_canonical_extjson`] or [`Bson::into_relaxed_extjson`].
     pub fn into_extjson_with(
         self,
@@ -96,7 +96,7 @@ impl Bson {
     /// makes it and `serde_json` writes it. It is written straight from the value, with no tree.
     ///
     /// A value that holds a finite double other than zero, at any depth, is refused as
-    /// `FiniteDouble`, and want of memory is `OutOfMemory`.
+    /// `FiniteDouble`, and running out of memory is `OutOfMemory`.
     pub fn to_canonical_text(&self, alloc: Global) -> Result<String, WriteError>
         ensures text { IfOk result (λ s. IsTextIn Canonical (bson_view self.now) (string_bytes s)) }
         ensures ranged { OnOk result (InRange (bson_view self.now)) }
@@ -120,7 +120,7 @@ impl Bson {
     /// it and `serde_json` writes it. It is written straight from the value, with no tree.
     ///
     /// A value that holds a finite double other than zero, at any depth, is refused as
-    /// `FiniteDouble`, and want of memory is `OutOfMemory`.
+    /// `FiniteDouble`, and running out of memory is `OutOfMemory`.
     pub fn to_relaxed_text(&self, alloc: Global) -> Result<String, WriteError>
         ensures text { IfOk result (λ s. IsTextIn Relaxed (bson_view self.now) (string_bytes s)) }
         ensures ranged { OnOk result (InRange (bson_view self.now)) }
@@ -144,8 +144,8 @@ impl Bson {
     /// It is the one that `serde_json` writes, but that a number that is a double is its shortest
     /// decimal: `1e16`, and not `1e+16`. It is written straight from the value, with no tree.
     ///
-    /// With `Doubles::Finite` every value has a text, and only want of memory may come in its
-    /// place.
+    /// With `Doubles::Finite` every value has a text, and only running out of memory may come in
+    /// its place.
     ///
     /// ```
     /// let options = Options {

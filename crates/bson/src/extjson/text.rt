@@ -36,11 +36,11 @@ pub(crate) fn text_of(
 {
     let mut out = Writer::new(Vec::with_capacity(alloc, 128)?);
     print(alloc, doubles, order, form, value, &mut out)?;
-    Ok(finished(out))
+    Ok(into_text(out))
 }
 
 // The text that was written.
-pub(crate) fn finished(out: Writer) -> String
+pub(crate) fn into_text(out: Writer) -> String
     requires { out.before ≡ [] }
     ensures { string_bytes result ≡ print_tokens out.tokens }
 {

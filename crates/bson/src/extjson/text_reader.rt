@@ -45,10 +45,10 @@ impl Bson {
     /// mixed.
     ///
     /// It is Ok exactly where the bytes are UTF-8 and as a whole one JSON text (nested at most 127
-    /// deep), and its tree has a meaning; only want of memory may come in its place. Of a key that
-    /// stands twice in an object the last value counts, and a document has its keys in ascending
-    /// order of bytes. `NotJson` is answered where there is no such text, and `NotExtendedJson`
-    /// with the first fault of its tree where that has no meaning.
+    /// deep), and its tree has a meaning; only running out of memory may come in its place. Of a
+    /// key that stands twice in an object the last value counts, and a document has its keys in
+    /// ascending order of bytes. `NotJson` is answered where there is no such text, and
+    /// `NotExtendedJson` with the first fault of its tree where that has no meaning.
     ///
     /// What is read comes back: its text in either form is read as the same value again, unless it
     /// nests deeper than 127.

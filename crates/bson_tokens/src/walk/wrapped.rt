@@ -5,18 +5,18 @@ ghost use Rattle.serde_json.specs.Data.{no_members, member, object};
 ghost use Rattle.serde_json.specs.Read.{of_json, of_members, converted};
 ghost use Rattle.serde_json.specs.View.{view};
 ghost use Rattle.bson_scalar.specs.Table.{wrapper_of};
-ghost use Rattle.bson_place.specs.Place.{key as turn};
+ghost use Rattle.bson_place.specs.Place.{key as key_segment};
 ghost use Rattle.bson_tokens.specs.Found.{Verdict, found, found_members, found_scope, of_code, within};
 ghost use Rattle.bson_tokens.specs.Parts.{IsBroken, NoMembers, NoObject};
 ghost use Rattle.bson_tokens.specs.Told.{Tells, Finds, ObjectFinds};
 ghost use Rattle.bson_tokens.specs.declared.unread.Unread.TheVariants.{Broken};
 
-use crate::faults::{enter, here, inside, least};
+use crate::faults::{enter, least_fault, place_here, with_segment};
 use crate::held::{pass_items, read_held};
 use crate::number::number;
 use crate::unread::Unread;
-use crate::walk::{lesser, place_in, walk_value};
-use bson_place::place::{Place, Step};
+use crate::walk::{lesser_wrapper, place_in, walk_value};
+use bson_place::place::{Place, Segment};
 use bson_place::shape::{CODE, SCOPE, beside_others};
 use bson_scalar::code::is_code_with_scope;
 use bson_scalar::form::Doubles;
@@ -44,9 +44,9 @@ pub(super) fn walk_wrapper(
     let mut held = read_held(alloc, reader, depth)?;
     let mut scope: Option<Option<Place>> = None;
     let mut is_strange = false;
-    let mut wrapper = lesser(None, key);
+    let mut wrapper = lesser_wrapper(None, key);
     'members: while let Some(name) = reader.next_key()? {
-        wrapper = lesser(wrapper, name);
+        wrapper = lesser_wrapper(wrapper, name);
         if name == key {
             held = read_held(alloc, reader, depth)?;
         } else if is_code_with_scope(key, name) {
@@ -60,7 +60,7 @@ pub(super) fn walk_wrapper(
         unreachable!();
     };
     if is_strange {
-        return Ok(Some(here(alloc, beside_others(first))));
+        return Ok(Some(place_here(alloc, beside_others(first))));
     }
     match scope {
         None => Ok(lone_fault(alloc, doubles, key, held)?),
@@ -88,7 +88,7 @@ fn code_fault(alloc: Global, code: Value, scope: Option<Place>) -> Option<Place>
 {
     match code {
         Value::String(_) => scope,
-        _ => Some(here(alloc, CODE)),
+        _ => Some(place_here(alloc, CODE)),
     }
 }
 
@@ -108,10 +108,10 @@ fn walk_scope(
     let token = reader.next().ok_or(Unread::Broken)?;
     match token {
         Token::Null => Ok(None),
-        Token::String(_) => Ok(Some(here(alloc, SCOPE))),
-        Token::Bool(_) => Ok(Some(here(alloc, SCOPE))),
+        Token::String(_) => Ok(Some(place_here(alloc, SCOPE))),
+        Token::Bool(_) => Ok(Some(place_here(alloc, SCOPE))),
         Token::Number(text) => match number(text) {
-            Some(_) => Ok(Some(here(alloc, SCOPE))),
+            Some(_) => Ok(Some(place_here(alloc, SCOPE))),
             None => Err(Unread::Broken),
         },
         Token::EndObject | Token::EndArray | Token::Key(_) | Token::Bad => Err(Unread::Broken),
@@ -120,7 +120,7 @@ fn walk_scope(
                 return Err(Unread::Broken);
             }
             pass_items(alloc, reader, depth - 1)?;
-            Ok(Some(here(alloc, SCOPE)))
+            Ok(Some(place_here(alloc, SCOPE)))
         }
         Token::BeginObject => {
             if depth == 0 {
@@ -134,11 +134,14 @@ fn walk_scope(
 
 // The same place, seen from the object around the scope.
 fn in_scope(alloc: Global, place: Option<Place>) -> Result<Option<Place>, AllocError>
-    ensures { IfOk result (λ p. (v : Verdict) → Tells v place → Tells (within (turn (codes "$scope")) v) p) }
+    ensures { IfOk result (λ p. (v : Verdict) → Tells v place → Tells (within (key_segment (codes "$scope")) v) p) }
 {
     match place {
         None => Ok(None),
-        Some(place) => Ok(Some(inside(place, Step::Key(String::from_str(alloc, "$scope")?))?)),
+        Some(place) => Ok(Some(with_segment(
+            place,
+            Segment::Key(String::from_str(alloc, "$scope")?),
+        )?)),
     }
 }
 
@@ -162,5 +165,5 @@ fn walk_pairs(
         let member = walk_value(alloc, doubles, reader, depth)?;
         enter(alloc, &mut faults, name, member)?;
     }
-    Ok(least(alloc, faults)?)
+    Ok(least_fault(alloc, faults)?)
 }

@@ -5,7 +5,7 @@ ghost use Rattle.bson_model.specs.Sorted.{put_pair, KeysAscend};
 ghost use Rattle.bson_model.specs.Value.{no_pairs};
 ghost use Rattle.bson.specs.View.{bson_view, document_view, pairs_view};
 ghost use Rattle.bson.specs.Gathered.{gathered_pairs, gathered, put_all, StandsAt, FitsAt};
-ghost use Rattle.bson.specs.Gathered.{order_of, FewAscend, IsInOrder, IsPut, KeepsTurns};
+ghost use Rattle.bson.specs.Gathered.{order_of, FewAscend, IsInOrder, IsPut, SortsStably};
 ghost use Rattle.bson.specs.Put.{put_entries};
 ghost use Rattle.bson.specs.declared.extjson.key_order.KeyOrder.TheVariants.{Ascending, AsGiven};
 ghost use Rattle.bson.specs.Straight.{is_nothing, holds_nothing, unless_nothing};
@@ -40,7 +40,7 @@ pub(crate) enum Gathered {
 }
 
 /// No members, of which those to come stand in the order.
-pub(crate) fn none(alloc: Global, order: KeyOrder) -> Gathered
+pub(crate) fn empty_members(alloc: Global, order: KeyOrder) -> Gathered
     ensures none { gathered result ≡ no_pairs }
     ensures order { IsInOrder order result }
 {
@@ -205,14 +205,14 @@ fn of_unsorted(alloc: Global, mut members: Vec<Pair<Bson>>) -> Result<Document, 
 }
 
 fn sort_by_prefix(members: &mut Vec<Pair<Bson>>) -> Result<(), AllocError>
-    ensures { OnOk result (KeepsTurns members.old.items members.new.items) }
+    ensures { OnOk result (SortsStably members.old.items members.new.items) }
 {
     members.sort_by_cached_key(|member| prefix_of(member.key.as_bytes()))?;
     Ok(())
 }
 
 fn sort_by_key(members: &mut Vec<Pair<Bson>>) -> Result<(), AllocError>
-    ensures { OnOk result (KeepsTurns members.old.items members.new.items) }
+    ensures { OnOk result (SortsStably members.old.items members.new.items) }
 {
     members.sort_by(|one, other| one.key.cmp(&other.key))?;
     Ok(())

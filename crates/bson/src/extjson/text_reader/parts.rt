@@ -20,8 +20,8 @@ use crate::document::Document;
 use crate::extjson::builder::with_scope;
 use crate::extjson::key_order::KeyOrder;
 use crate::extjson::read::read;
-use crate::extjson::text::finished;
-use crate::extjson::text_reader::gathered::{Gathered, NOTHING, document_of, none, put};
+use crate::extjson::text::into_text;
+use crate::extjson::text_reader::gathered::{Gathered, NOTHING, document_of, empty_members, put};
 use bson_scalar::error::Error;
 use bson_scalar::form::Doubles;
 use bson_tokens::held::read_held;
@@ -32,7 +32,7 @@ use serde_json::{Map, Value};
 use std::alloc::{AllocError, Global};
 
 // The value of a tree that was read, or none where the tree means nothing.
-pub(crate) fn meant(read: Result<Bson, Error>) -> Result<Option<Bson>, AllocError>
+pub(crate) fn value_of_result(read: Result<Bson, Error>) -> Result<Option<Bson>, AllocError>
     ensures { (tree : Read Meaning Fault) → Gives bson_view read tree
         → IfOk result (λ v. given tree ≡ option_map bson_view v) }
 {
@@ -44,7 +44,7 @@ pub(crate) fn meant(read: Result<Bson, Error>) -> Result<Option<Bson>, AllocErro
 }
 
 // Code with the scope that was read, null or a document, where both mean something.
-pub(crate) fn coded(code: Value, scope: Option<Option<Document>>) -> Option<Bson>
+pub(crate) fn code_value(code: Value, scope: Option<Option<Document>>) -> Option<Bson>
     ensures { option_map bson_view result
         ≡ code_given (view code) (option_map (λ d. option_map document_view d) scope) }
 {
@@ -81,18 +81,22 @@ pub(crate) fn read_sorted(
     ensures shorter { OnOk result (length reader.new < length reader.old) }
 {
     let members = read_from(alloc, reader, depth, key, Map::new(alloc))?;
-    Ok(meant(read(alloc, doubles, Value::Object(members)))?)
+    Ok(value_of_result(read(alloc, doubles, Value::Object(members)))?)
 }
 
 // The value at the key, and no other member.
-pub(crate) fn lone(alloc: Global, key: &str, value: Option<Bson>) -> Result<Gathered, AllocError>
+pub(crate) fn one_member(
+    alloc: Global,
+    key: &str,
+    value: Option<Bson>,
+) -> Result<Gathered, AllocError>
     ensures order { IfOk result (IsInOrder AsGiven) }
     ensures value { (r : Read Meaning Fault) → given r ≡ option_map bson_view value
         → IfOk result (λ now. gathered now ≡ pair key.now (marked r) no_pairs) }
 {
     let key = String::from_str(alloc, key)?;
     put(
-        none(alloc, KeyOrder::AsGiven),
+        empty_members(alloc, KeyOrder::AsGiven),
         key,
         value.unwrap_or(NOTHING),
     )
@@ -115,7 +119,7 @@ pub(crate) fn text_held(
     };
     let mut out = Writer::new(Vec::new(alloc));
     out.value(&held)?;
-    let text = finished(out);
+    let text = into_text(out);
     find_tree(alloc, text.as_str(), depth)?;
     Ok(text)
 }

@@ -23,12 +23,12 @@ use crate::bson::Bson;
 use crate::document::Document;
 use crate::extjson::key_order::KeyOrder;
 use crate::extjson::read::{number_value, single_value};
-use crate::extjson::text_reader::gathered::{Gathered, NOTHING, document_of, none, put};
-use crate::extjson::text_reader::parts::{coded, document_value, meant};
+use crate::extjson::text_reader::gathered::{Gathered, NOTHING, document_of, empty_members, put};
+use crate::extjson::text_reader::parts::{code_value, document_value, value_of_result};
 use crate::extjson::text_reader::straight::scope_first::read_scoped;
 use bson_scalar::code::{is_code_with_scope, is_scope};
 use bson_scalar::form::Doubles;
-use bson_scalar::wrapper::named;
+use bson_scalar::wrapper::wrapper_named;
 use bson_tokens::held::read_held;
 use bson_tokens::number::number;
 use bson_tokens::unread::Unread;
@@ -76,7 +76,7 @@ fn read_begun(
     match token {
         Token::String(text) => Ok(Some(Bson::String(String::from_str(alloc, text)?))),
         Token::Number(text) => match number(text) {
-            Some(n) => Ok(meant(number_value(doubles, &n))?),
+            Some(n) => Ok(value_of_result(number_value(doubles, &n))?),
             None => Err(Unread::Broken),
         },
         Token::Bool(b) => Ok(Some(Bson::Boolean(b))),
@@ -97,7 +97,7 @@ fn read_begun(
     }
 }
 
-// A list whose bracket was read.
+// An array whose bracket was read.
 #[cycle(straight)]
 #[inline(never)]
 fn read_array(
@@ -153,7 +153,7 @@ fn read_object(
     if is_scope(name) {
         return read_scoped(alloc, doubles, order, reader, depth, name);
     }
-    if named(name).is_some() {
+    if wrapper_named(name).is_some() {
         return read_wrapped(alloc, doubles, order, reader, depth, name);
     }
     let first = read_member(
@@ -163,7 +163,7 @@ fn read_object(
         reader,
         depth,
         name,
-        none(alloc, order),
+        empty_members(alloc, order),
     )?;
     read_document(alloc, doubles, order, reader, depth, first, true)
 }
@@ -215,7 +215,7 @@ fn read_document(
     let mut found = first;
     let mut is_document = is_plain;
     'members: while let Some(name) = reader.next_key()? {
-        is_document = is_document & !named(name).is_some();
+        is_document = is_document & !wrapper_named(name).is_some();
         found = read_member(alloc, doubles, order, reader, depth, name, found)?;
     }
     if !is_document {
@@ -255,7 +255,7 @@ fn read_wrapped(
     if !is_alone {
         return Ok(None);
     }
-    Ok(meant(single_value(alloc, doubles, key, held))?)
+    Ok(value_of_result(single_value(alloc, doubles, key, held))?)
 }
 
 // Code and a scope, both of which were read. Of a key that stands again the last value counts.
@@ -289,7 +289,7 @@ fn read_code(
     if !is_code {
         return Ok(None);
     }
-    Ok(coded(code, scope))
+    Ok(code_value(code, scope))
 }
 
 // The scope of code: null, or a document whose keys are not tested.
@@ -340,7 +340,7 @@ fn read_pairs(
     ensures broken { IfErr result (λ e. e ≡ Broken → NoMembers depth reader.old) }
     ensures shorter { OnOk result (length reader.new < length reader.old) }
 {
-    let mut found = none(alloc, order);
+    let mut found = empty_members(alloc, order);
     'members: while let Some(name) = reader.next_key()? {
         found = read_member(alloc, doubles, order, reader, depth, name, found)?;
     }

@@ -6,7 +6,7 @@ use Rattle.bson_bytes.specs.declared.keys.DuplicateKeys.TheVariants.{Replace}
 use Rattle.bson_bytes.proofs.Passed.{list_start, list_fault, list_end, list_more, list_stop, passed_fault, passed_list}
 use Rattle.bson_bytes.proofs.Passed.{passed_wrong, passed_done, passed_scope}
 use Rattle.bson_bytes.proofs.Passed.{passed_short_scope, passed_bad_scope, passed_ok, passed_err}
-use Rattle.bson_bytes.proofs.Turns.{bad_byte, bad_tag, bad_name, too_deep, bad_size}
+use Rattle.bson_bytes.proofs.Rounds.{bad_byte, bad_tag, bad_name, too_deep, bad_size}
 use Rattle.bson_bytes.proofs.check.+check.Goals as goal
 
 -- ---- elements

@@ -2,7 +2,7 @@ use Rattle.std.proofs.Common.{◌+◌, ◌*◌, ◌≤◌, length, None}
 use Rattle.bson_bytes.specs.Reading.{passed}
 use Rattle.bson_bytes.specs.declared.keys.DuplicateKeys.TheVariants.{Replace}
 use Rattle.bson_bytes.proofs.Passed.{ListLeft}
-use Rattle.bson_bytes.proofs.Turns.{elements}
+use Rattle.bson_bytes.proofs.Rounds.{elements}
 use Rattle.bson_bytes.proofs.check.+check.Given as goal
 
 abbrev pub decreases-list_at : goal.decreases-list_at

@@ -20,12 +20,12 @@ returns-in-Ok-clause-only c = λ ps h. (
 pub returns-in-Err-clause-only : goal.returns-in-Err-clause-only
 returns-in-Err-clause-only c = λ ps h. (
   tt,
-  c.located.ensures ∙ memory_alone c.in-Err.stopped c.args.bytes.now (reads_in c.args.options.duplicate_keys c.args.options.depth c.args.bytes.now) ps
+  c.locate.ensures ∙ memory_alone c.in-Err.stopped c.args.bytes.now (reads_in c.args.options.duplicate_keys c.args.options.depth c.args.bytes.now) ps
       c.in-Err.ensures (is_read c.args.options.duplicate_keys c.args.options.depth c.args.bytes.now ps h),
 )
 
-pub located-requires : goal.located-requires
-located-requires c =
+pub locate-requires : goal.locate-requires
+locate-requires c =
     stands c.in-Err.stopped c.args.bytes.now (reads_in c.args.options.duplicate_keys c.args.options.depth c.args.bytes.now)
     (λ f e. fault_stands c.args.options.duplicate_keys c.args.options.depth c.args.bytes.now f e) c.in-Err.ensures
 
@@ -34,4 +34,4 @@ returns-in-Err-clause-fault c =
     let read = reads_in c.args.options.duplicate_keys c.args.options.depth c.args.bytes.now in
     let place = stands c.in-Err.stopped c.args.bytes.now read
     (λ f e. fault_stands c.args.options.duplicate_keys c.args.options.depth c.args.bytes.now f e) c.in-Err.ensures in
-    rw c.located.ensures (fault_of c.in-Err.stopped c.args.bytes.now read place c.in-Err.ensures)
+    rw c.locate.ensures (fault_of c.in-Err.stopped c.args.bytes.now read place c.in-Err.ensures)

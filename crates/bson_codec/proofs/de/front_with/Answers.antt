@@ -21,13 +21,13 @@ returns-in-Ok-clause-only c = λ ps rest h.
 pub returns-in-Err-clause-only : goal.returns-in-Err-clause-only
 returns-in-Err-clause-only c = λ ps rest h. (
   tt,
-  c.located.ensures ∙ memory_alone c.in-Err.stopped c.args.bytes.now
+  c.locate.ensures ∙ memory_alone c.in-Err.stopped c.args.bytes.now
       (settled no_pairs (document_in c.args.options.duplicate_keys c.args.options.depth (none_before c.args.options.duplicate_keys) c.args.bytes.now)) (ps, rest) c.in-Err.ensures.given
       (front_read c.args.options.duplicate_keys c.args.options.depth c.args.bytes.now ps rest h),
 )
 
-pub located-requires : goal.located-requires
-located-requires c =
+pub locate-requires : goal.locate-requires
+locate-requires c =
     stands c.in-Err.stopped c.args.bytes.now (settled no_pairs (document_in c.args.options.duplicate_keys c.args.options.depth (none_before c.args.options.duplicate_keys) c.args.bytes.now))
     (λ f e. front_fault c.args.options.duplicate_keys c.args.options.depth c.args.bytes.now f e) c.in-Err.ensures.given
 
@@ -36,4 +36,4 @@ returns-in-Err-clause-fault c =
     let read = settled no_pairs (document_in c.args.options.duplicate_keys c.args.options.depth (none_before c.args.options.duplicate_keys) c.args.bytes.now) in
     let place = stands c.in-Err.stopped c.args.bytes.now read
     (λ f e. front_fault c.args.options.duplicate_keys c.args.options.depth c.args.bytes.now f e) c.in-Err.ensures.given in
-    rw c.located.ensures (fault_of c.in-Err.stopped c.args.bytes.now read place c.in-Err.ensures.given)
+    rw c.locate.ensures (fault_of c.in-Err.stopped c.args.bytes.now read place c.in-Err.ensures.given)

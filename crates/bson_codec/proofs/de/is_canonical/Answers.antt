@@ -30,7 +30,7 @@ returns-in-Ok-to_vec c =
 
 pub returns : goal.returns
 returns c =
-    unless_written c.unwritten.result c.in-Err.error ((ps : Pairs) × IsCanonical c.args.depth c.args.bytes.now ps)
-    c.unwritten.ensures (λ x.
+    unless_written c.is_unwritable.result c.in-Err.error ((ps : Pairs) × IsCanonical c.args.depth c.args.bytes.now ps)
+    c.is_unwritable.ensures (λ x.
     let same = (c.in-Ok.ensures.only x.0 x.1.read).0 in
     c.in-Err.ensures.only (subst FitsDocument (sym same) x.1.fits))

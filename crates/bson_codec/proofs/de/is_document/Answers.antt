@@ -10,8 +10,8 @@ returns-in-Ok-clause-ok c =
     let read = c.in-Ok.ensures.ok in
     (read.0, grammar_from Replace c.args.depth c.args.bytes.now read.0 (λ i. omega (arith, c.type_inv.bytes i)) read.1)
 
-pub located-requires : goal.located-requires
-located-requires c = fault_stands Replace c.args.depth c.args.bytes.now c.in-Err.fault c.in-Err.ensures.fault
+pub locate-requires : goal.locate-requires
+locate-requires c = fault_stands Replace c.args.depth c.args.bytes.now c.in-Err.fault c.in-Err.ensures.fault
 
 pub returns-in-Err-clause-only : goal.returns-in-Err-clause-only
 returns-in-Err-clause-only c = λ ps h.
@@ -21,5 +21,5 @@ returns-in-Err-clause-only c = λ ps h.
 
 pub returns-in-Err-clause-fault : goal.returns-in-Err-clause-fault
 returns-in-Err-clause-fault c =
-    rw c.located.ensures (fault_alone c.in-Err.fault c.args.bytes.now (reads c.args.depth c.args.bytes.now)
+    rw c.locate.ensures (fault_alone c.in-Err.fault c.args.bytes.now (reads c.args.depth c.args.bytes.now)
     (fault_stands Replace c.args.depth c.args.bytes.now c.in-Err.fault c.in-Err.ensures.fault) c.in-Err.ensures.fault)

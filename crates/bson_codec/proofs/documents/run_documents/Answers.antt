@@ -18,8 +18,8 @@ returns-in-Err-clause-fails g c =
     (g.R.Read.remaining c.loop-documents.reader) (g.R.Read.remaining c.take_document.new.reader)
     (g.W.Write.contents c.args.writer.now) (g.W.Write.contents c.loop-documents.writer)
     (g.T.Write.contents c.args.report.now) (g.T.Write.contents c.loop-documents.report) c.loop-documents.documents
-    c.loop-documents.refused c.loop-documents.start number c.unread-fault.result some.0
-    c.loop-documents.invariant.1 some.1 refl (c.unread-fault.ensures c.args.run number c.loop-documents.start some.0)
+    c.loop-documents.refused c.loop-documents.start number c.fault_of_reader-fault.result some.0
+    c.loop-documents.invariant.1 some.1 refl (c.fault_of_reader-fault.ensures c.args.run number c.loop-documents.start some.0)
 
 pub loop-documents-preserved : goal.loop-documents-preserved
 loop-documents-preserved g c =

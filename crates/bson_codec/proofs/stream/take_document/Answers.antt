@@ -12,11 +12,11 @@ returns-then-len-lt-LENGTH-clause-front g c = λ d all ps rest known h.
 
 pub returns-clause-front : goal.returns-clause-front
 returns-clause-front g c = λ d all ps rest known h.
-    let says : c.promised-size.result ≡ promised c.fill.new.bytes.items =
-    c.promised-size.ensures.value ∙ ap promised c.as_slice.ensures.value in
+    let says : c.promised_size-size.result ≡ promised c.fill.new.bytes.items =
+    c.promised_size-size.ensures.value ∙ ap promised c.as_slice.ensures.value in
     on_three c.fill-2.result c.fill-2.ensures.taken c.fill-2.ensures.end c.fill-2.ensures.bound
     (λ taken end bound. take_front d all ps rest _ c.fill.new.bytes.items c.fill-2.new.bytes.items _ _ _
-    c.promised-size.result known h c.clear.ensures.items c.in_ok-fill.ensures.taken c.in_ok-fill.ensures.end
+    c.promised_size-size.result known h c.clear.ensures.items c.in_ok-fill.ensures.taken c.in_ok-fill.ensures.end
     c.in_ok-fill.ensures.bound says taken end bound)
 
 pub returns-clause-end : goal.returns-clause-end

@@ -7,4 +7,4 @@ pub returns : goal.returns
 returns c =
     subst (λ words. IfOk c.format.result (λ told. string_bytes told ≡ codes "document " ++ decimal c.args.number
     ++ codes " at byte " ++ decimal c.args.start ++ codes ": " ++ words ++ c.args.place.now ++ newline))
-    c.words-words.ensures (simp append_assoc c.format.ensures.ok)
+    c.message-words.ensures (simp append_assoc c.format.ensures.ok)

@@ -5,8 +5,8 @@ use Rattle.bson_filter.specs.Pieces.{object_text, last_ones, Ascend, IsWithin, I
 use Rattle.bson_filter.proofs.PiecesInOrder.{ok_more, in_order_again}
 use Rattle.bson_filter.proofs.pieces.many_in_order.Goals as goal
 
-pub joined-requires : goal.joined-requires
-joined-requires c =
+pub join_pieces-requires : goal.join_pieces-requires
+join_pieces-requires c =
     All-permutation (IsWithin c.args.texts.now.items) c.args.pieces.items c.sort_by_prefix.new.pieces.items
     c.in_ok-sort_by_prefix.ensures.same c.requires
 
@@ -23,7 +23,7 @@ returns-in-Some c =
     let joined = subst
     (λ s. IfSome s (λ written. Ascend None (last_ones pieces) × (written.items ≡ object_text texts (last_ones pieces))))
     c.in-Some.is c.in_ok-written.ensures in
-    (pieces, sorted.turns, sorted.same, joined.0, joined.1)
+    (pieces, sorted.stable, sorted.same, joined.0, joined.1)
 
 pub returns : goal.returns
 returns c =
@@ -32,5 +32,5 @@ returns c =
     let mid = c.sort_by_prefix.new.pieces.items in
     let sorted = c.in_ok-sort_by_prefix.ensures in
     ok_more (λ written. InOrder mid texts written.items) (λ written. InOrder old texts written.items)
-    (λ written. in_order_again old mid texts written.items sorted.turns sorted.same)
+    (λ written. in_order_again old mid texts written.items sorted.stable sorted.same)
     c.few_in_order.result c.few_in_order.ensures

@@ -6,8 +6,8 @@ use Rattle.bson_filter.specs.Pieces.{piece_key}
 use Rattle.bson_model.proofs.Offered.{sorted_by}
 use Rattle.bson_filter.proofs.pieces.sort_by_key.Goals as goal
 
-pub returns-clause-turns : goal.returns-clause-turns
-returns-clause-turns c =
+pub returns-clause-stable : goal.returns-clause-stable
+returns-clause-stable c =
     sorted_by piece_key nat_list_cmp_total (λ k. k) c.args.pieces.now.items c.sort_by.new.self.items
     (c.in_ok-sort_by.ensures.stable _ (ranks_by nat_list_cmp_total piece_key)
     (answers_always _ _ _ (λ g a r h q. search rules)))

@@ -135,8 +135,8 @@ write_document-returns-clause-ok g t c =
 
 -- ---- objects
 
-pub write_object-returns-in-Some-named-clause-ok : goal.write_object-returns-in-Some-named-clause-ok
-write_object-returns-in-Some-named-clause-ok g t c =
+pub write_object-returns-in-Some-wrapper_named-clause-ok : goal.write_object-returns-in-Some-wrapper_named-clause-ok
+write_object-returns-in-Some-wrapper_named-clause-ok g t c =
     let key : read_key c.args.reader.now ≡ Some (Some c.in-Some.key.now, c.next_key.new.self) = grind arith in
     rw (begins c.args.depth (Some c.in-Some.key.now) c.args.reader.now c.next_key.new.self key) c.write_wrapper.ensures.ok
 

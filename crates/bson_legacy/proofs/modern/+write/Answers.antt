@@ -34,7 +34,7 @@ write_begun-returns-else-depth-eq0-2-clause-ok t c =
     (object_passes c.args.depth c.args.first c.args.reader.now c.write_object.new.reader c.args.out.now.tokens
     c.write_object.new.out.tokens c.in-BeginObject.is (omega arith)) c.write_object.ensures.ok
 
--- ---- lists
+-- ---- arrays
 
 pub write_items-items-preserved : goal.write_items-items-preserved
 write_items-items-preserved t c =

@@ -15,5 +15,5 @@ returns-clause-ok c =
     let whole : value 127 (tokens c.args.text.now) ≡ Some (j, []) =
     ap (value 127) (sym start) ∙ passed.1 ∙ ap (λ r. Some (j, r)) left in
     let is : c.write_value.new.out.tokens ≡ json_tokens (modern j) = grind arith in
-    written c.args.text.now (string_bytes c.finished.result) j c.write_value.new.out.tokens whole is
-    c.finished.ensures.text c.finished.ensures.again
+    written c.args.text.now (string_bytes c.into_text.result) j c.write_value.new.out.tokens whole is
+    c.into_text.ensures.text c.into_text.ensures.again

@@ -7,5 +7,5 @@ pub returns : goal.returns
 returns c =
     let none : (c.args.refusal.line == 0) ≡ true = grind (arith, nat_tests) in
     when_so c.format.result (c.args.refusal.line == 0) _ _ none
-    (parts c.format.result (string_bytes c.in_ok-head.head) c.words-words.result.now c.as_str-place.result.now _ _ _
-    (simp append_assoc c.format.ensures.ok) c.in_ok-head.ensures c.words-words.ensures.words c.as_str-place.ensures.value)
+    (parts c.format.result (string_bytes c.in_ok-head.head) c.message-words.result.now c.as_str-place.result.now _ _ _
+    (simp append_assoc c.format.ensures.ok) c.in_ok-head.ensures c.message-words.ensures.words c.as_str-place.ensures.value)

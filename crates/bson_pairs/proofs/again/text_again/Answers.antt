@@ -14,7 +14,7 @@ returns-clause-same c = λ ps is back nests.
     let read =
     decoded_again ps text is back c.options.result c.in-Ok.bytes.items c.args.depth c.options.ensures c.in-Ok.ensures.ok
     nests in
-    IfOk-weaker c.decoded.result (λ again. IsTextInOrder Finite Canonical (document ps) (string_bytes again))
+    IfOk-weaker c.decode_bytes.result (λ again. IsTextInOrder Finite Canonical (document ps) (string_bytes again))
     (λ again. string_bytes again ≡ text)
     (λ again it. text_one Finite Canonical (document ps) (string_bytes again) text it is)
-    (c.decoded.ensures.ok ps (subst (λ l. IsRead c.args.depth l ps) (sym c.as_slice.ensures.value) read))
+    (c.decode_bytes.ensures.ok ps (subst (λ l. IsRead c.args.depth l ps) (sym c.as_slice.ensures.value) read))

@@ -17,7 +17,7 @@ use Rattle.bson_place.proofs.Steps.{array_place, document_place, scope_place, no
 use Rattle.bson_place.proofs.Steps.{bad_scope_place, coded, has_code_keys, more_place, other_place}
 use Rattle.bson_place.proofs.walk.+walk.Goals as goal
 
--- ---- lists
+-- ---- arrays
 
 pub read_array-returns-in-Err : goal.read_array-returns-in-Err
 read_array-returns-in-Err g t c =
@@ -41,25 +41,25 @@ read_items-loop-item-preserved g t c =
     let B = g.B.ValueBuilder in
     let left = l.invariant.left in
     let counted = l.invariant.counted in
-    let steps = c.in-Some.ensures.steps in
-    let short = ap length steps.0 in
+    let segments = c.in-Some.ensures.steps in
+    let short = ap length segments.0 in
     record {
       left = omega arith;
       counted = omega arith;
       read = items_more c.args.doubles B.built B.listed (items_view c.args.items.items) l.read c.push.new.items l.at
           (into_iter_items l.item-iterator) (into_iter_items c.next.new.self) c.in-Some.item c.in_ok-value.field-0
-          c.in-Ok.value steps.0 l.invariant.read c.in-Ok.is c.in_ok-value.ensures c.in_ok-push-in-Ok.ensures;
+          c.in-Ok.value segments.0 l.invariant.read c.in-Ok.is c.in_ok-value.ensures c.in_ok-push-in-Ok.ensures;
     }
 
 pub read_items-returns-in-Err : goal.read_items-returns-in-Err
 read_items-returns-in-Err g t c =
     let l = c.loop-item in
     let B = g.B.ValueBuilder in
-    let found = c.in_ok-inside-in-Err in
+    let found = c.in_ok-with_segment-in-Err in
     items_stopped c.args.doubles B.built B.listed (items_view c.args.items.items) l.read l.at
     (into_iter_items l.item-iterator) (into_iter_items c.next.new.self) c.in-Some.item c.in_ok-value.field-0
     c.in-Err.place found.field-0 c.in-Some.ensures.steps.0 l.invariant.read c.in-Err.is c.in_ok-value.ensures
-    found.ensures.way found.ensures.reason
+    found.ensures.path found.ensures.reason
 
 pub read_items-returns : goal.read_items-returns
 read_items-returns g t c =
@@ -97,10 +97,10 @@ pub read_members-returns-in-Err : goal.read_members-returns-in-Err
 read_members-returns-in-Err g t c =
     let l = c.loop-key in
     let B = g.B.ValueBuilder in
-    let found = c.in_ok-inside-in-Err in
+    let found = c.in_ok-with_segment-in-Err in
     pairs_stopped c.args.doubles B.built B.paired c.args.members.entries l.read l.key-iterator c.next.new.self
     (c.in-Some.key, c.in-Some.value) c.in_ok-value.field-0 c.in-Err.place found.field-0 c.in-Some.ensures.steps
-    l.invariant c.in-Err.is c.in_ok-value.ensures found.ensures.way found.ensures.reason
+    l.invariant c.in-Err.is c.in_ok-value.ensures found.ensures.path found.ensures.reason
 
 pub read_members-returns : goal.read_members-returns
 read_members-returns g t c =
@@ -118,32 +118,32 @@ read_object-returns-in-Err g t c =
 
 pub read_code-returns-in_default : goal.read_code-returns-in_default
 read_code-returns-in_default g t c =
-    no_text_place c.args.doubles (view c.args.code) (view c.args.scope) c.here.result (search (rules, the_lemmas))
-    c.here.ensures.reason c.here.ensures.way
+    no_text_place c.args.doubles (view c.args.code) (view c.args.scope) c.place_here.result (search (rules, the_lemmas))
+    c.place_here.ensures.reason c.place_here.ensures.path
 
 pub read_scope-returns : goal.read_scope-returns
 read_scope-returns g t c =
-    bad_scope_place c.args.doubles (string_bytes c.args.code) (view c.args.scope) c.here.result
-    (search (rules, the_lemmas)) (search (rules, the_lemmas)) c.here.ensures.reason c.here.ensures.way
+    bad_scope_place c.args.doubles (string_bytes c.args.code) (view c.args.scope) c.place_here.result
+    (search (rules, the_lemmas)) (search (rules, the_lemmas)) c.place_here.ensures.reason c.place_here.ensures.path
 
-pub read_scope_map-returns-in_ok-inside-in-Err : goal.read_scope_map-returns-in_ok-inside-in-Err
-read_scope_map-returns-in_ok-inside-in-Err g t c =
-    let found = c.in_ok-inside-in-Err in
+pub read_scope_map-returns-in_ok-with_segment-in-Err : goal.read_scope_map-returns-in_ok-with_segment-in-Err
+read_scope_map-returns-in_ok-with_segment-in-Err g t c =
+    let found = c.in_ok-with_segment-in-Err in
     scope_place c.args.doubles g.B.ValueBuilder.paired (string_bytes c.args.code) (string_bytes c.in_ok-key-in-Err.key)
     (members_view c.args.members.entries) c.in_ok-scope.field-0 c.in-Err.place found.field-0 c.in-Err.is
-    c.in_ok-scope.ensures c.in_ok-key-in-Err.ensures.ok found.ensures.way found.ensures.reason
+    c.in_ok-scope.ensures c.in_ok-key-in-Err.ensures.ok found.ensures.path found.ensures.reason
 
 pub read_wrapped-returns-then-not-is_empty : goal.read_wrapped-returns-then-not-is_empty
 read_wrapped-returns-then-not-is_empty g t c =
     let rest = c.pop_first-2.new.self.entries in
     let some : length rest ≡ 0 → ⊥ = λ e. false≢true (sym c.if-not-is_empty.true ∙ c.is_empty.ensures.1 e) in
     more_place c.args.doubles c.args.members.entries c.pop_first.new.self.entries rest (c.in-Some.key, c.in-Some.value)
-    (c.in-Some-pop_first.other, c.in-Some-pop_first.scope) c.here.result c.in-Some.ensures.removal
-    c.in-Some-pop_first.ensures.removal some c.requires c.here.ensures.reason c.here.ensures.way
+    (c.in-Some-pop_first.other, c.in-Some-pop_first.scope) c.place_here.result c.in-Some.ensures.removal
+    c.in-Some-pop_first.ensures.removal some c.requires c.place_here.ensures.reason c.place_here.ensures.path
 
 pub read_wrapped-returns-then-not-is_code_with_scope : goal.read_wrapped-returns-then-not-is_code_with_scope
 read_wrapped-returns-then-not-is_code_with_scope g t c =
-    let found = c.here-then-not-is_code_with_scope in
+    let found = c.place_here-then-not-is_code_with_scope in
     let x : Member = (c.in-Some.key, c.in-Some.value) in
     let y : Member = (c.in-Some-pop_first.other, c.in-Some-pop_first.scope) in
     let other : has_code_keys x y ≡ false =
@@ -151,7 +151,7 @@ read_wrapped-returns-then-not-is_code_with_scope g t c =
     ∙ c.if-not-is_code_with_scope.true) in
     other_place c.args.doubles c.args.members.entries c.pop_first.new.self.entries c.pop_first-2.new.self.entries x y
     found.result c.in-Some.ensures.removal c.in-Some-pop_first.ensures.removal
-    (c.is_empty.ensures.0 c.if-not-is_empty.false) c.requires other found.ensures.reason found.ensures.way
+    (c.is_empty.ensures.0 c.if-not-is_empty.false) c.requires other found.ensures.reason found.ensures.path
 
 pub read_wrapped-returns : goal.read_wrapped-returns
 read_wrapped-returns g t c =

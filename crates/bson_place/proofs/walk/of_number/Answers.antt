@@ -7,4 +7,4 @@ pub returns-in_ok-reason_of-in-Err : goal.returns-in_ok-reason_of-in-Err
 returns-in_ok-reason_of-in-Err g c =
     let n = number_view c.args.n.now in
     let is = c.in_ok-reason_of-in-Err.ensures (number_read_in c.args.doubles n) c.in-Err.ensures in
-    number_place c.args.doubles n is.0 _ c.at.result is.1 is.2 c.at.ensures.way c.at.ensures.reason
+    number_place c.args.doubles n is.0 _ c.at.result is.1 is.2 c.at.ensures.path c.at.ensures.reason

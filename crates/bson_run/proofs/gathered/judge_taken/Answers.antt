@@ -14,10 +14,10 @@ returns-in-Some-clause-fault c =
     let modern = string_bytes c.in-Some.modern in
     let is : IsTakenAs c.args.taking text modern =
     subst (λ found. IsTakenAs c.args.taking text (taken_of text found)) c.in-Some.is c.in_ok-modern.ensures.ok in
-    IfErr-weaker c.worked.result (λ fault. IsRefusedIn o fault c.as_bytes.result.now)
+    IfErr-weaker c.work_on.result (λ fault. IsRefusedIn o fault c.as_bytes.result.now)
     (λ fault. IsJudged o (Taken c.args.taking c.args.work) fault text)
     (λ fault h. refused_once_taken o c.args.taking c.args.work fault text modern is c.requires
-    (subst (IsRefusedIn o fault) c.as_bytes.ensures.value h)) c.worked.ensures.fault
+    (subst (IsRefusedIn o fault) c.as_bytes.ensures.value h)) c.work_on.ensures.fault
 
 pub returns-in-None-clause-fault : goal.returns-in-None-clause-fault
 returns-in-None-clause-fault c =
@@ -25,7 +25,7 @@ returns-in-None-clause-fault c =
     let text = c.args.text.now in
     let is : IsTakenAs c.args.taking text text =
     subst (λ found. IsTakenAs c.args.taking text (taken_of text found)) c.in-None.is c.in_ok-modern.ensures.ok in
-    IfErr-weaker c.worked-in-None.result (λ fault. IsRefusedIn o fault text)
+    IfErr-weaker c.work_on-in-None.result (λ fault. IsRefusedIn o fault text)
     (λ fault. IsJudged o (Taken c.args.taking c.args.work) fault text)
     (λ fault h. refused_once_taken o c.args.taking c.args.work fault text text is c.requires h)
-    c.worked-in-None.ensures.fault
+    c.work_on-in-None.ensures.fault

@@ -9,7 +9,7 @@ returns-clause-ok c =
     let o = c.args.options in
     let m = c.in_ok-text.ensures.ok in
     let text = string_bytes c.in_ok-text.text in
-    oks_with c.laid_out.result c.laid_out.ensures.ok (λ output laid. record {
+    oks_with c.lay_out.result c.lay_out.ensures.ok (λ output laid. record {
       text = text;
       converts = form_converts o c.args.form c.args.bytes.now m.0 text m.1 m.2;
       is_output = subst (λ s. IsLaidOut c.args.spaces s output.items) c.deref.ensures laid;

@@ -2,7 +2,7 @@ use Rattle.std.proofs.Common.{◌+◌, ◌*◌, length}
 use Rattle.bson_run.proofs.quoted.+passing.Given as goal
 
 abbrev pub decreases-value_at : goal.decreases-value_at
-decreases-value_at p = 2 * length p.steps.now
+decreases-value_at p = 2 * length p.segments.now
 
 abbrev pub decreases-value_in_list : goal.decreases-value_in_list
 decreases-value_in_list p = 2 * length p.inner.now + 1

@@ -7,4 +7,4 @@ returns-clause-written g c =
     let next = c.in_ok-next.ensures.written c.args.out.now c.begin.new.out _ _ c.in_ok-key.ensures.written
     c.in_ok-increment.ensures.written in
     if_ok c.end_two.result c.end_two.ensures.written
-    (λ t ends. ends c.args.out.now c.second.new.out _ _ _ _ next c.in_ok-time.ensures.written refl)
+    (λ t ends. ends c.args.out.now c.begin_second.new.out _ _ _ _ next c.in_ok-time.ensures.written refl)

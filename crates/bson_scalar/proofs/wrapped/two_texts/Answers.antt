@@ -10,5 +10,5 @@ returns-clause-written g c =
     let next = c.in_ok-begun-2.ensures.written c.args.out.now c.begin.new.out c.args.key.now one
     c.in_ok-begun.ensures.written c.in_ok-text.ensures.written in
     if_ok c.end_two.result c.end_two.ensures.written
-    (λ t ends. ends c.args.out.now c.second.new.out c.args.key.now c.args.next_key.now one two next
+    (λ t ends. ends c.args.out.now c.begin_second.new.out c.args.key.now c.args.next_key.now one two next
     c.in_ok-text-2.ensures.written (c.requires one two))

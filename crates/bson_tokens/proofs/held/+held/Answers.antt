@@ -14,8 +14,8 @@ use Rattle.bson_tokens.specs.Held.{entered, or_empty, pruned}
 use Rattle.bson_tokens.proofs.Elements.{none_listed, one_listed, all_listed}
 use Rattle.bson_tokens.proofs.Gathering.{none_yet, one_gathered, all_gathered}
 use Rattle.bson_tokens.proofs.Pruned.{kept_put, pruned_object}
-use Rattle.bson_tokens.proofs.Turns.{array_opened, object_opened, no_item, no_key, no_member, none_begins}
-use Rattle.bson_tokens.proofs.Turns.{too_deep_array, too_deep_object}
+use Rattle.bson_tokens.proofs.Rounds.{array_opened, object_opened, no_item, no_key, no_member, none_begins}
+use Rattle.bson_tokens.proofs.Rounds.{too_deep_array, too_deep_object}
 use Rattle.bson_tokens.proofs.held.+held.Goals as goal
 
 pub held_value-returns-in_ok-from_str-in-String-clause-ok : goal.held_value-returns-in_ok-from_str-in-String-clause-ok
@@ -103,7 +103,7 @@ pass_items-returns-clause-ok t c =
 
 pub held_members-members-init : goal.held_members-members-init
 held_members-members-init t c =
-    (no_members, none_yet c.args.depth no_members c.args.reader.now, c.first-found.ensures)
+    (no_members, none_yet c.args.depth no_members c.args.reader.now, c.first_members-found.ensures)
 
 pub held_members-members-preserved : goal.held_members-members-preserved
 held_members-members-preserved t c =

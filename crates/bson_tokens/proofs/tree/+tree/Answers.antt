@@ -14,8 +14,8 @@ use Rattle.bson_tokens.specs.Parts.{MembersAre}
 use Rattle.bson_tokens.proofs.Elements.{none_listed, one_listed, all_listed}
 use Rattle.bson_tokens.proofs.Gathering.{Gathers, none_yet, one_gathered, all_gathered}
 use Rattle.bson_tokens.proofs.Trees.{items_onto, items_onto-none, items_onto-last}
-use Rattle.bson_tokens.proofs.Turns.{array_opened, object_opened, no_item, no_key, no_member, none_begins}
-use Rattle.bson_tokens.proofs.Turns.{too_deep_array, too_deep_object}
+use Rattle.bson_tokens.proofs.Rounds.{array_opened, object_opened, no_item, no_key, no_member, none_begins}
+use Rattle.bson_tokens.proofs.Rounds.{too_deep_array, too_deep_object}
 use Rattle.bson_tokens.proofs.tree.+tree.Goals as goal
 
 pub read_tree-returns-in_ok-from_str-in-String-clause-ok : goal.read_tree-returns-in_ok-from_str-in-String-clause-ok

@@ -2,7 +2,7 @@ use Rattle.std.proofs.Common.{subst}
 use Rattle.std.proofs.lemmas.Result.{err_from_is_err_and}
 use Rattle.serde_json.specs.View.{members_view}
 use Rattle.bson_tokens.specs.Parts.{MembersAre}
-use Rattle.bson_tokens.proofs.Turns.{if_ok, if_err, more_members, no_member, no_members_behind}
+use Rattle.bson_tokens.proofs.Rounds.{if_ok, if_err, more_members, no_member, no_members_behind}
 use Rattle.bson_tokens.proofs.tree.read_from.Goals as goal
 
 pub returns-clause-ok : goal.returns-clause-ok

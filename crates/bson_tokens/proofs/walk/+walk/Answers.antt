@@ -80,8 +80,8 @@ walk_members-returns-then-may_be_wrapper-clause-broken = objects.walk_members-re
 pub walk_members-returns-in-Some-wrapper-clause-ok : goal.walk_members-returns-in-Some-wrapper-clause-ok
 walk_members-returns-in-Some-wrapper-clause-ok = objects.walk_members-returns-in-Some-wrapper-clause-ok
 
-pub walk_members-returns-in_ok-least-in-None-clause-ok : goal.walk_members-returns-in_ok-least-in-None-clause-ok
-walk_members-returns-in_ok-least-in-None-clause-ok = objects.walk_members-returns-in_ok-least-in-None-clause-ok
+pub walk_members-returns-in_ok-least_fault-in-None-clause-ok : goal.walk_members-returns-in_ok-least_fault-in-None-clause-ok
+walk_members-returns-in_ok-least_fault-in-None-clause-ok = objects.walk_members-returns-in_ok-least_fault-in-None-clause-ok
 
 pub walk_items-returns-in_err-item-clause-broken : goal.walk_items-returns-in_err-item-clause-broken
 walk_items-returns-in_err-item-clause-broken = objects.walk_items-returns-in_err-item-clause-broken

@@ -3,7 +3,7 @@ use Rattle.json.specs.Lex.{tokens}
 use Rattle.json.specs.Json.{value}
 use Rattle.serde_json.specs.Read.{of_json, converted}
 use Rattle.bson_tokens.proofs.Verdicts.{place_told}
-use Rattle.bson_tokens.proofs.Turns.{whole_read}
+use Rattle.bson_tokens.proofs.Rounds.{whole_read}
 use Rattle.bson_tokens.proofs.walk.first_fault_in.Goals as goal
 
 pub returns-clause-place : goal.returns-clause-place

@@ -4,7 +4,7 @@ use Rattle.serde_json.specs.declared.value.Value.TheVariants.{Object}
 use Rattle.serde_json.proofs.Views.{view-Object}
 use Rattle.bson_tokens.specs.Found.{found}
 use Rattle.bson_tokens.specs.Told.{Tells}
-use Rattle.bson_tokens.proofs.Turns.{if_ok}
+use Rattle.bson_tokens.proofs.Rounds.{if_ok}
 use Rattle.bson_tokens.proofs.Verdicts.{tells_place}
 use Rattle.bson_tokens.proofs.walk.place_in.Goals as goal
 

@@ -16,11 +16,11 @@ returns-in-Err-Malformed c =
     let field = c.in-Err-Malformed.field-0-is in
     let is : c.in-Err-Malformed.field-0 ≡ Malformed k n = cc in
     let fault = subst (λ e. IsFaultAlone e bytes (reads depth bytes)) is c.in-Err-Malformed.ensures.fault in
-    IfOk-weaker c.line_at.result (λ line. line.items ≡ words_at n c.words.result.now ++ newline)
+    IfOk-weaker c.line_at.result (λ line. line.items ≡ words_at n c.message.result.now ++ newline)
     (λ line. (words : List ℕ) × ExplainsDocument bytes words × (line.items ≡ words ++ newline))
     (λ line made. (
       words_at n (words_for k),
       inr (k, n, fault, refl),
-      subst (λ w. line.items ≡ words_at n w ++ newline) c.words.ensures made,
+      subst (λ w. line.items ≡ words_at n w ++ newline) c.message.ensures made,
     ))
     c.line_at.ensures

@@ -15,7 +15,7 @@ returns-in-Ok c =
     (λ line is. accepted c.args.options Canonical text c.in-Ok.field-0.items line.items c.in-Ok.ensures.ok is)
     c.from_slice.ensures.items
 
--- the arm before this one has taken want of memory
+-- the arm before this one is that of running out of memory
 told : (c : goal.Joined-fault-4) → c.in-Err.fault ≡ OutOfMemory → ⊥
 told c none = search rules
 

@@ -21,6 +21,6 @@ returns-in-Err c =
       given =
           fault_given bson_view (λ b. InRange (bson_view b)) (reads_in c.args.doubles t)
           (λ f. FaultAtIn c.args.doubles f t) c.in_ok-value.field-0 c.in_ok-value.ensures c.in-Err.place
-          c.error_of.result c.in-Err.is c.error_of.ensures (λ f way. fault_to c.args.doubles);
+          c.error_of.result c.in-Err.is c.error_of.ensures (λ f path. fault_to c.args.doubles);
       ranged = tt;
     }

@@ -25,6 +25,6 @@ returns-in-Err c =
       given =
           fault_given pairs_view (λ ps. PairsInRange (pairs_view ps)) (reads_members_in c.args.doubles ms)
           (λ f. FaultWithinIn c.args.doubles f ms) c.in_ok-pairs.field-0 c.in_ok-pairs.ensures c.in-Err.place
-          c.error_of.result c.in-Err.is c.error_of.ensures (λ f way. in_to c.args.doubles);
+          c.error_of.result c.in-Err.is c.error_of.ensures (λ f path. in_to c.args.doubles);
       ranged = tt;
     }

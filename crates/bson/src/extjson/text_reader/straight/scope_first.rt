@@ -13,13 +13,13 @@ ghost use Rattle.bson_tokens.specs.declared.unread.Unread.TheVariants.{Broken};
 use crate::bson::Bson;
 use crate::document::Document;
 use crate::extjson::key_order::KeyOrder;
-use crate::extjson::text_reader::parts::{document_value, lone, read_sorted, text_held};
+use crate::extjson::text_reader::parts::{document_value, one_member, read_sorted, text_held};
 use crate::extjson::text_reader::straight::{
     read_code, read_document, read_member, read_scope, read_value,
 };
 use bson_scalar::code::{is_code_with_scope, is_scope};
 use bson_scalar::form::Doubles;
-use bson_scalar::wrapper::named;
+use bson_scalar::wrapper::wrapper_named;
 use bson_tokens::held::read_held;
 use bson_tokens::unread::Unread;
 use json::{Reader, Scratch};
@@ -75,15 +75,15 @@ fn read_scope_first(
         }
         if !is_scope(name) {
             let value = value_held(alloc, doubles, held.as_str(), depth)?;
-            let first = lone(alloc, key, value)?;
+            let first = one_member(alloc, key, value)?;
             let found = read_member(alloc, doubles, order, reader, depth, name, first)?;
-            let is_plain = named(name).is_none();
+            let is_plain = wrapper_named(name).is_none();
             return read_document(alloc, doubles, order, reader, depth, found, is_plain);
         }
         held = text_held(alloc, reader, depth)?;
     }
     let value = value_held(alloc, doubles, held.as_str(), depth)?;
-    Ok(document_value(alloc, lone(alloc, key, value)?)?)
+    Ok(document_value(alloc, one_member(alloc, key, value)?)?)
 }
 
 // What the text means, which stood at a key.

@@ -1,4 +1,4 @@
--- Lists and objects.
+-- Arrays and objects.
 use Rattle.std.proofs.Common.{◌≡◌, ◌+◌, ◌&&◌, ◌||◌, length, Some, None, sym, ap, ◌∙◌, refl}
 use Rattle.std.proofs.Common.{true, false, is_some, arith, subst, codes}
 use Rattle.std.proofs.lemmas.Bool.{and_parts}
@@ -16,8 +16,8 @@ use Rattle.bson_tokens.proofs.Elements.{none_listed, one_listed, all_listed}
 use Rattle.bson_tokens.proofs.Faulty.{faults_put, least_is}
 use Rattle.bson_tokens.proofs.Gathering.{none_yet, one_gathered, all_gathered, from_first}
 use Rattle.bson_tokens.proofs.Keys.{begun, ordinary_from, wrapper_put, strange_here, plain_found, not_begun, IsBegun}
-use Rattle.bson_tokens.proofs.Turns.{no_item, no_key, no_member, if_ok}
-use Rattle.bson_tokens.proofs.Turns.{if_err}
+use Rattle.bson_tokens.proofs.Rounds.{no_item, no_key, no_member, if_ok}
+use Rattle.bson_tokens.proofs.Rounds.{if_err}
 use Rattle.bson_tokens.proofs.Verdicts.{told, or_or, or_none, at_here, none_told}
 use Rattle.bson_tokens.proofs.walk.+walk.Goals as goal
 
@@ -78,7 +78,7 @@ walk_members-members-preserved t c =
       ascends_put k d.0 so_far l.invariant.2,
       subst (λ fs. AreTold fs c.enter.new.faults.entries) (sym (faults_put c.args.doubles k d.0 so_far l.invariant.2))
           (c.in_ok-enter.ensures (faults c.args.doubles so_far) (found c.args.doubles d.0) l.invariant.3 d.2),
-      c.lesser-wrapper.ensures ∙ ap (λ b. is_some (wrapper_of k) || b) l.invariant.4 ∙ sym (wrapper_put k d.0 so_far),
+      c.lesser_wrapper-wrapper.ensures ∙ ap (λ b. is_some (wrapper_of k) || b) l.invariant.4 ∙ sym (wrapper_put k d.0 so_far),
       begun l.is_first k d.0 so_far
           (λ first. ordinary_from k (ap (λ b. b && (is_some (wrapper_of k) || bytes_eq k (codes "$scope"))) (sym first)
           ∙ no)) l.invariant.5,
@@ -114,13 +114,13 @@ walk_members-returns-in-Some-wrapper-clause-ok t c =
       so_far,
       all_gathered c.args.depth no_members c.args.reader.now l.reader c.next_key.new.self so_far l.invariant.1 ended
           (length c.args.reader.now) (omega arith),
-      subst (λ v. Tells v (Some c.here.result))
+      subst (λ v. Tells v (Some c.place_here.result))
           (sym (strange_here c.args.doubles so_far some (not_begun l.is_first so_far some l.invariant.5)))
-          (at_here c.here.result c.here.ensures.reason c.here.ensures.way),
+          (at_here c.place_here.result c.place_here.ensures.reason c.place_here.ensures.path),
     )
 
-pub walk_members-returns-in_ok-least-in-None-clause-ok : goal.walk_members-returns-in_ok-least-in-None-clause-ok
-walk_members-returns-in_ok-least-in-None-clause-ok t c =
+pub walk_members-returns-in_ok-least_fault-in-None-clause-ok : goal.walk_members-returns-in_ok-least_fault-in-None-clause-ok
+walk_members-returns-in_ok-least_fault-in-None-clause-ok t c =
     let l = c.members in
     let so_far = l.invariant.0 in
     let ended : read_key l.reader ≡ Some (None, c.next_key.new.self) = grind arith in
@@ -130,7 +130,7 @@ walk_members-returns-in_ok-least-in-None-clause-ok t c =
           (length c.args.reader.now) (omega arith),
       told (least (faults c.args.doubles so_far)) (found c.args.doubles (object so_far)) _
           (sym (plain_found c.args.doubles so_far none ∙ least_is c.args.doubles so_far))
-          (c.in_ok-least-in-None.ensures (faults c.args.doubles so_far) l.invariant.3),
+          (c.in_ok-least_fault-in-None.ensures (faults c.args.doubles so_far) l.invariant.3),
     )
 
 -- ---- where the text breaks

@@ -8,8 +8,8 @@ use Rattle.json.specs.Reads.{token_of}
 use Rattle.json.proofs.Grammar.{value_is}
 use Rattle.serde_json.specs.Data.{null, boolean, number, string, array, object, no_members}
 use Rattle.serde_json.specs.Read.{of_json, converted}
-use Rattle.bson_tokens.proofs.Turns.{array_opened, object_opened, none_begins}
-use Rattle.bson_tokens.proofs.Turns.{too_deep_array, too_deep_object}
+use Rattle.bson_tokens.proofs.Rounds.{array_opened, object_opened, none_begins}
+use Rattle.bson_tokens.proofs.Rounds.{too_deep_array, too_deep_object}
 use Rattle.bson_tokens.proofs.walk.+walk.Goals as goal
 
 pub walk_value-returns-in-String-clause-ok : goal.walk_value-returns-in-String-clause-ok

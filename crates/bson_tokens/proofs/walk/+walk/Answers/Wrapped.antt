@@ -17,8 +17,8 @@ use Rattle.bson_tokens.specs.Found.{found, found_members, faults, least}
 use Rattle.bson_tokens.specs.Told.{Tells, AreTold}
 use Rattle.bson_tokens.proofs.Faulty.{faults_put, least_is}
 use Rattle.bson_tokens.proofs.Gathering.{none_yet, one_gathered, all_gathered}
-use Rattle.bson_tokens.proofs.Turns.{array_opened, object_opened, no_key, no_member, none_begins}
-use Rattle.bson_tokens.proofs.Turns.{too_deep_array, too_deep_object}
+use Rattle.bson_tokens.proofs.Rounds.{array_opened, object_opened, no_key, no_member, none_begins}
+use Rattle.bson_tokens.proofs.Rounds.{too_deep_array, too_deep_object}
 use Rattle.bson_tokens.proofs.Verdicts.{told, at_here, none_told}
 use Rattle.bson_tokens.proofs.Wrapped.{first_follows, more_follows, object_is, no_object, no_first, strange_found}
 use Rattle.bson_tokens.proofs.Wrapped.{again, with_scope, with_other, lone_found, code_found, IsWrapped, IsStrange}
@@ -60,7 +60,7 @@ wrapped::walk_pairs-returns-clause-ok t c =
           (length c.args.reader.now) (omega arith),
       told (least (faults c.args.doubles so_far)) (found_members c.args.doubles so_far) _
           (sym (least_is c.args.doubles so_far))
-          (c.in_ok-least.ensures (faults c.args.doubles so_far) l.invariant.3),
+          (c.in_ok-least_fault.ensures (faults c.args.doubles so_far) l.invariant.3),
     )
 
 pub wrapped::walk_pairs-returns-in_err-name-clause-broken : goal.wrapped::walk_pairs-returns-in_err-name-clause-broken
@@ -95,7 +95,7 @@ wrapped::walk_scope-returns-in-String-clause-ok t c =
     let is : c.args.reader.now ≡ Token.string s ∷ c.next.new.self = grind (arith, first) in (
       string s,
       ap (converted of_json) (ap (value c.args.depth) is ∙ value_is c.args.depth _),
-      at_here c.here.result c.here.ensures.reason c.here.ensures.way,
+      at_here c.place_here.result c.place_here.ensures.reason c.place_here.ensures.path,
     )
 
 pub wrapped::walk_scope-returns-in-Bool-clause-ok : goal.wrapped::walk_scope-returns-in-Bool-clause-ok
@@ -105,7 +105,7 @@ wrapped::walk_scope-returns-in-Bool-clause-ok t c =
     let is : c.args.reader.now ≡ Token.boolean b ∷ c.next.new.self = grind (arith, first) in (
       boolean b,
       ap (converted of_json) (ap (value c.args.depth) is ∙ value_is c.args.depth _),
-      at_here c.here-in-Bool.result c.here-in-Bool.ensures.reason c.here-in-Bool.ensures.way,
+      at_here c.place_here-in-Bool.result c.place_here-in-Bool.ensures.reason c.place_here-in-Bool.ensures.path,
     )
 
 pub wrapped::walk_scope-returns-in-Some-clause-ok : goal.wrapped::walk_scope-returns-in-Some-clause-ok
@@ -114,7 +114,7 @@ wrapped::walk_scope-returns-in-Some-clause-ok t c =
     let is : c.args.reader.now ≡ Token.number c.in-Number.text.now ∷ c.next.new.self = grind (arith, first) in (
       number (number_view c.in-Some.field-0),
       ap (converted of_json) (ap (value c.args.depth) is ∙ value_is c.args.depth _) ∙ rw (← c.in-Some.ensures) refl,
-      at_here c.here-in-Some.result c.here-in-Some.ensures.reason c.here-in-Some.ensures.way,
+      at_here c.place_here-in-Some.result c.place_here-in-Some.ensures.reason c.place_here-in-Some.ensures.path,
     )
 
 pub wrapped::walk_scope-returns-in-None-clause-broken : goal.wrapped::walk_scope-returns-in-None-clause-broken
@@ -184,7 +184,7 @@ wrapped::walk_scope-returns-in_ok-pass_items-in-BeginArray-clause-ok t c =
     let ds = c.in_ok-pass_items-in-BeginArray.ensures.ok in (
       array ds.0,
       opened ∙ ap (parse_map array) ds.1,
-      at_here c.here-in-BeginArray.result c.here-in-BeginArray.ensures.reason c.here-in-BeginArray.ensures.way,
+      at_here c.place_here-in-BeginArray.result c.place_here-in-BeginArray.ensures.reason c.place_here-in-BeginArray.ensures.path,
     )
 
 pub wrapped::walk_scope-returns-in_ok-in_scope-in-BeginObject-clause-ok :
@@ -272,7 +272,7 @@ wrapped::walk_wrapper-members-preserved-then-eq t c =
           l.invariant.1 named (read_key-shorter l.reader (Some j) s named) d.1 c.in_ok-held-2.ensures.shorter,
       again c.args.doubles k j l.is_strange (view l.held) (view c.in_ok-held-2.held) d.0 l.scope l.invariant.0 same d.2
           l.invariant.2,
-      c.lesser-wrapper-in-Some.ensures ∙ or_right (is_some (wrapper_of j)) (is_some l.wrapper) l.invariant.3,
+      c.lesser_wrapper-wrapper-in-Some.ensures ∙ or_right (is_some (wrapper_of j)) (is_some l.wrapper) l.invariant.3,
     )
 
 pub wrapped::walk_wrapper-members-smaller-then-eq : goal.wrapped::walk_wrapper-members-smaller-then-eq
@@ -297,7 +297,7 @@ wrapped::walk_wrapper-members-preserved-then-is_code_with_scope t c =
           l.invariant.1 named (read_key-shorter l.reader (Some j) s named) e.1 c.in_ok-walk_scope.ensures.shorter,
       with_scope c.args.doubles k j l.is_strange (view l.held) e.0 l.scope c.in_ok-walk_scope.field-0 l.invariant.0
           (sym c.if-is_code_with_scope.ensures) e.2 l.invariant.2,
-      c.lesser-wrapper-in-Some.ensures ∙ or_right (is_some (wrapper_of j)) (is_some l.wrapper) l.invariant.3,
+      c.lesser_wrapper-wrapper-in-Some.ensures ∙ or_right (is_some (wrapper_of j)) (is_some l.wrapper) l.invariant.3,
     )
 
 pub wrapped::walk_wrapper-members-smaller-then-is_code_with_scope :
@@ -323,7 +323,7 @@ wrapped::walk_wrapper-members-preserved t c =
           c.in_ok-read_held.ensures.shorter,
       with_other c.args.doubles k j l.is_strange (view l.held) d.0 l.scope l.invariant.0 (sym c.if-eq.ensures)
           (sym c.if-is_code_with_scope.ensures) l.invariant.2,
-      c.lesser-wrapper-in-Some.ensures ∙ or_right (is_some (wrapper_of j)) (is_some l.wrapper) l.invariant.3,
+      c.lesser_wrapper-wrapper-in-Some.ensures ∙ or_right (is_some (wrapper_of j)) (is_some l.wrapper) l.invariant.3,
     )
 
 pub wrapped::walk_wrapper-members-smaller : goal.wrapped::walk_wrapper-members-smaller
@@ -346,8 +346,8 @@ wrapped::walk_wrapper-returns-then-is_strange-clause-ok t c =
     subst (λ b. IsWrapped c.args.doubles k b (view l.held) l.scope so_far) yes l.invariant.2 in (
       so_far,
       object_is c.args.depth k c.args.reader.now l.reader c.next_key.new.self so_far l.invariant.1 ended,
-      subst (λ v. Tells v (Some c.here.result)) (sym (strange_found c.args.doubles k so_far wrapper strange))
-          (at_here c.here.result c.here.ensures.reason c.here.ensures.way),
+      subst (λ v. Tells v (Some c.place_here.result)) (sym (strange_found c.args.doubles k so_far wrapper strange))
+          (at_here c.place_here.result c.place_here.ensures.reason c.place_here.ensures.path),
     )
 
 pub wrapped::walk_wrapper-returns-then-is_strange-clause-shorter :

@@ -7,5 +7,5 @@ returns-clause-ascending c = ascending_meaning
 pub returns-in_err-from_str-clause-ascending : goal.returns-in_err-from_str-clause-ascending
 returns-in_err-from_str-clause-ascending c = ascending_meaning
 
-pub returns-in_err-sorted-clause-ascending : goal.returns-in_err-sorted-clause-ascending
-returns-in_err-sorted-clause-ascending c = ascending_meaning
+pub returns-in_err-sort_characters-clause-ascending : goal.returns-in_err-sort_characters-clause-ascending
+returns-in_err-sort_characters-clause-ascending c = ascending_meaning

@@ -1,4 +1,4 @@
-use Rattle.bson.proofs.Turned.{to_store}
+use Rattle.bson.proofs.MembersByKey.{to_store}
 use Rattle.bson.proofs.extjson.text_reader.gathered.of_ascending.Goals as goal
 
 pub unreachable-requires : goal.unreachable-requires

@@ -4,7 +4,7 @@ use Rattle.bson_model.proofs.Offered.{turned}
 use Rattle.bson.specs.Gathered.{member_key, member_value, put_all}
 use Rattle.bson.specs.View.{document_view, pairs_view}
 use Rattle.bson.proofs.Seen.{document_view-pairs}
-use Rattle.bson.proofs.Turned.{put_gathered, from_store}
+use Rattle.bson.proofs.MembersByKey.{put_gathered, from_store}
 use Rattle.bson.proofs.extjson.text_reader.gathered.of_many.Goals as goal
 
 pub returns-in-Ok : goal.returns-in-Ok

@@ -3,7 +3,7 @@ use Rattle.bson_model.specs.Sorted.{KeysAscend}
 use Rattle.bson_model.specs.Value.{no_pairs}
 use Rattle.bson_model.proofs.Offered.{turned}
 use Rattle.bson.specs.Gathered.{member_key, member_value}
-use Rattle.bson.proofs.Turned.{all_ascend}
+use Rattle.bson.proofs.MembersByKey.{all_ascend}
 use Rattle.bson.proofs.extjson.text_reader.gathered.of_unsorted.Goals as goal
 
 pub of_ascending-requires : goal.of_ascending-requires

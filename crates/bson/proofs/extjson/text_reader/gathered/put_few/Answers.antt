@@ -4,7 +4,7 @@ use Rattle.bson.specs.Gathered.{gathered_pairs, IsPut}
 use Rattle.bson.specs.declared.extjson.key_order.KeyOrder.TheVariants.{Ascending}
 use Rattle.bson_model.specs.Sorted.{KeysAscend}
 use Rattle.bson.proofs.PutAscends.{put_ascends}
-use Rattle.bson.proofs.Turned.{put_gathered}
+use Rattle.bson.proofs.MembersByKey.{put_gathered}
 use Rattle.bson.proofs.extjson.text_reader.gathered.put_few.Goals as goal
 
 pub returns-in-Err : goal.returns-in-Err

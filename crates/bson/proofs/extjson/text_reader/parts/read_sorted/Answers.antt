@@ -14,7 +14,7 @@ returns-clause-ok c =
       ms,
       subst (λ old. ObjectIs c.args.depth old c.args.key.now c.args.reader.now ms c.read_from.new.reader)
           (ap members_view c.new.ensures.empty) c.in_ok-members.ensures.ok,
-      c.in_ok-meant.ensures (reads_in c.args.doubles (object ms))
+      c.in_ok-value_of_result.ensures (reads_in c.args.doubles (object ms))
           (subst (λ d. Gives bson_view c.read.result (reads_in c.args.doubles d)) (view-Object c.in_ok-members.members)
           c.read.ensures.given),
     )

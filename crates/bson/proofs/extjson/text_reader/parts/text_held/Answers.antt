@@ -12,9 +12,9 @@ use Rattle.bson.proofs.extjson.text_reader.parts.text_held.Goals as goal
 pub returns-in_err-find_tree-clause-broken : goal.returns-in_err-find_tree-clause-broken
 returns-in_err-find_tree-clause-broken c =
     let j = value_view c.in-Ok.held in
-    let text = string_bytes c.finished-text.result in
+    let text = string_bytes c.into_text-text.result in
     let whole = text_whole j c.args.depth text c.value.new.self.tokens c.in-Ok.ensures.writable c.in-Ok.ensures.nests
-    c.finished-text.ensures
+    c.into_text-text.ensures
     (c.in_ok-value.ensures.ok ∙ ap (λ ts. ts ++ json_tokens j) c.new-out.ensures.tokens) in
     let p = err_from_is_err_and c.from_residual-in_err-find_tree.result c.from_residual-in_err-find_tree.ensures.1 in
     rw (p.1, p.2) (λ broken. held_broken j c.args.depth c.args.reader.now c.read.new.reader text c.in-Ok.ensures.ok whole
@@ -24,9 +24,9 @@ returns-in_err-find_tree-clause-broken c =
 pub returns-clause-ok : goal.returns-clause-ok
 returns-clause-ok c =
     let j = value_view c.in-Ok.held in
-    let text = string_bytes c.finished-text.result in
+    let text = string_bytes c.into_text-text.result in
     let whole = text_whole j c.args.depth text c.value.new.self.tokens c.in-Ok.ensures.writable c.in-Ok.ensures.nests
-    c.finished-text.ensures
+    c.into_text-text.ensures
     (c.in_ok-value.ensures.ok ∙ ap (λ ts. ts ++ json_tokens j) c.new-out.ensures.tokens) in
     held_from j c.args.depth c.args.reader.now c.read.new.reader text c.in-Ok.ensures.ok whole
     (subst (λ s. HasTree (converted of_json (value c.args.depth (tokens s)))) c.as_str.ensures.value

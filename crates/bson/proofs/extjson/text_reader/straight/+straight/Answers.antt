@@ -21,8 +21,8 @@ read_begun-returns-in-Bool-clause-ok = values.read_begun-returns-in-Bool-clause-
 pub read_begun-returns-in-Null-clause-ok : goal.read_begun-returns-in-Null-clause-ok
 read_begun-returns-in-Null-clause-ok = values.read_begun-returns-in-Null-clause-ok
 
-pub read_begun-returns-in_ok-meant-in-Some-clause-ok : goal.read_begun-returns-in_ok-meant-in-Some-clause-ok
-read_begun-returns-in_ok-meant-in-Some-clause-ok = values.read_begun-returns-in_ok-meant-in-Some-clause-ok
+pub read_begun-returns-in_ok-value_of_result-in-Some-clause-ok : goal.read_begun-returns-in_ok-value_of_result-in-Some-clause-ok
+read_begun-returns-in_ok-value_of_result-in-Some-clause-ok = values.read_begun-returns-in_ok-value_of_result-in-Some-clause-ok
 
 pub read_begun-returns-in-None-clause-broken : goal.read_begun-returns-in-None-clause-broken
 read_begun-returns-in-None-clause-broken = values.read_begun-returns-in-None-clause-broken

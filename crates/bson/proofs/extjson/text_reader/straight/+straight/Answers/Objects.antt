@@ -131,10 +131,10 @@ read_object-returns-clause-ok t c =
     let named : read_key c.args.reader.now ≡ Some (Some k, s) = grind arith in
     let read = c.in_ok-first.ensures in
     let d = read.ok.0 in
-    let plain : is_wrapper k ≡ false = ap is_some (sym c.named.ensures) ∙ sym c.is_some.ensures ∙ c.if-is_some.false in
+    let plain : is_wrapper k ≡ false = ap is_some (sym c.wrapper_named.ensures) ∙ sym c.is_some.ensures ∙ c.if-is_some.false in
     let other : is_scope k ≡ false = sym c.if-is_scope.ensures in
-    let found = first_found o c.args.doubles k d (gathered c.none.result) (gathered c.in_ok-first.first)
-    c.none.ensures.none read.ok.2 plain other in
+    let found = first_found o c.args.doubles k d (gathered c.empty_members.result) (gathered c.in_ok-first.first)
+    c.empty_members.ensures.none read.ok.2 plain other in
     if_ok c.read_document.result (c.read_document.ensures.ok (insert_by o k d no_members) found) (λ v m.
     from_second o c.args.doubles c.args.depth k c.args.reader.now s r c.read_document.new.reader d
     (option_map bson_view v) named read.ok.1 read.shorter m)
@@ -191,7 +191,7 @@ read_document-members-preserved t c =
     let named : read_key l.reader ≡ Some (Some k, s) = grind arith in
     let done = c.in_ok-found.ensures in
     let d = done.ok.0 in
-    let wraps : c.is_some.result ≡ is_wrapper k = c.is_some.ensures ∙ ap is_some c.named.ensures in (
+    let wraps : c.is_some.result ≡ is_wrapper k = c.is_some.ensures ∙ ap is_some c.wrapper_named.ensures in (
       done.order,
       member_passed c.args.depth k c.args.reader.now l.reader s r _ l.invariant.1 named
           (by_default o (value c.args.depth s) d r done.ok.1) done.shorter,
@@ -235,11 +235,11 @@ read_document-returns-clause-ok t c = λ old found.
 
 pub read_pairs-members-init : goal.read_pairs-members-init
 read_pairs-members-init t c = (
-  c.none-found.ensures.order,
+  c.empty_members-found.ensures.order,
   none_passed c.args.depth c.args.reader.now,
   no_members,
   λ ms rest more. more,
-  c.none-found.ensures.none,
+  c.empty_members-found.ensures.none,
 )
 
 pub read_pairs-returns-in_err-name-clause-broken : goal.read_pairs-returns-in_err-name-clause-broken

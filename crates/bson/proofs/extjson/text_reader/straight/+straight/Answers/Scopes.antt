@@ -264,7 +264,7 @@ scope_first::read_scope_first-returns-then-not-is_scope-clause-ok t c =
     let no_scope : is_scope j ≡ false = sym c.is_scope.ensures ∙ absent in
     let found = scope_found D k j e d c.is_none-is_plain.result (gathered c.in_ok-first.first) (gathered c.in_ok-found.found)
     scope_key first read.ok.2 (not_twice c.is_none-is_plain.result
-    ∙ ap not (sym c.is_none-is_plain.ensures ∙ ap is_some c.named.ensures))
+    ∙ ap not (sym c.is_none-is_plain.ensures ∙ ap is_some c.wrapper_named.ensures))
     (stray_from j no_code no_scope) in
     let follows = more_follows AsGiven c.args.depth k j c.args.reader.now l.reader s r (member k e no_members) d
     l.invariant.2 named read.ok.1 read.shorter in
@@ -350,11 +350,11 @@ scope_first::read_scope_first-returns-clause-ok t c =
     let held = held_read (reads_in_order D) c.args.depth (string_bytes l.held) e value l.invariant.3
     (subst (λ ts. ReadsHeld (reads_in_order D) c.args.depth ts value) c.as_str-2.ensures.value
     c.in_ok-value-2.ensures.ok) in
-    let first = c.in_ok-lone.ensures.value (reads_in_order D e) held in (
+    let first = c.in_ok-one_member.ensures.value (reads_in_order D e) held in (
       member k e no_members,
       all_follow AsGiven c.args.depth k c.args.reader.now l.reader c.next_key.new.self (member k e no_members)
           l.invariant.2 (grind arith),
-      lone_document D k e (unless_nothing (gathered c.in_ok-lone.field-0)) scope_key (ap unless_nothing first)
+      lone_document D k e (unless_nothing (gathered c.in_ok-one_member.field-0)) scope_key (ap unless_nothing first)
           ∙ sym c.in_ok-document_value.ensures,
     )
 

@@ -72,8 +72,8 @@ read_begun-returns-in-Null-clause-ok t c =
       null_given c.args.order c.args.doubles ∙ ap Some (sym seen),
     )
 
-pub read_begun-returns-in_ok-meant-in-Some-clause-ok : goal.read_begun-returns-in_ok-meant-in-Some-clause-ok
-read_begun-returns-in_ok-meant-in-Some-clause-ok t c =
+pub read_begun-returns-in_ok-value_of_result-in-Some-clause-ok : goal.read_begun-returns-in_ok-value_of_result-in-Some-clause-ok
+read_begun-returns-in_ok-value_of_result-in-Some-clause-ok t c =
     let n = number_view c.in-Some.n in
     let is : token_of c.args.token ∷ c.args.reader.now ≡ Token.number c.in-Number.text.now ∷ c.args.reader.now =
     ap (λ k. token_of k ∷ c.args.reader.now) c.in-Number.is in (
@@ -81,7 +81,7 @@ read_begun-returns-in_ok-meant-in-Some-clause-ok t c =
       ap (converted (tree_by c.args.order)) (ap (value c.args.depth) is ∙ value_is c.args.depth _)
           ∙ number_read c.args.order c.in-Number.text.now c.args.reader.now ∙ rw (← c.in-Some.ensures) refl,
       number_given c.args.order c.args.doubles n
-          ∙ c.in_ok-meant-in-Some.ensures (scalar_value (number_read_in c.args.doubles n))
+          ∙ c.in_ok-value_of_result-in-Some.ensures (scalar_value (number_read_in c.args.doubles n))
           c.number_value.ensures.given,
     )
 
@@ -136,7 +136,7 @@ read_begun-returns-else-depth-eq0-2-clause-broken t c =
     if_err c.read_object.result c.read_object.ensures.broken
     (λ e none broken. opened ∙ ap (parse_map object) (none broken no_members (length c.args.reader.now)))
 
--- ---- lists
+-- ---- arrays
 
 pub read_array-items-init : goal.read_array-items-init
 read_array-items-init t c = (

@@ -130,7 +130,7 @@ read_code-returns-clause-ok t c = λ old is.
       all_gathered_by o c.args.depth old c.args.reader.now l.reader c.next_key.new.self i.0 i.1 (grind arith),
       code_read o c.args.doubles (view l.code) scope i.0
           (subst (λ b. IsCode o c.args.doubles b (view l.code) scope i.0) yes i.2)
-          ∙ sym c.coded.ensures,
+          ∙ sym c.code_value.ensures,
     )
 
 -- ---- wrappers
@@ -281,9 +281,9 @@ read_wrapped-returns-clause-ok t c =
     let yes : l.is_alone ≡ true = grind arith in (
       so_far,
       all_follow o c.args.depth k c.args.reader.now l.reader c.next_key.new.self so_far l.invariant.2 (grind arith),
-      alone_given o c.args.doubles k d so_far (option_map bson_view c.in_ok-meant.field-0) wrapper
+      alone_given o c.args.doubles k d so_far (option_map bson_view c.in_ok-value_of_result.field-0) wrapper
           (subst (λ b. IsAlone o b k d so_far) yes l.invariant.3)
-          (c.in_ok-meant.ensures (scalar_value (single_at_in c.args.doubles (wrapper_of k) d))
+          (c.in_ok-value_of_result.ensures (scalar_value (single_at_in c.args.doubles (wrapper_of k) d))
           c.single_value.ensures.given),
     )
 

@@ -1,6 +1,0 @@
-use Rattle.std.specs.Prelude.{Contains, IfSome, map, string_bytes}
-use Rattle.bson_run.specs.Words.{task_name}
-use Rattle.bson_lines.proofs.order.asked_by.Given as goal
-
-abbrev pub invariant-loop-word : goal.invariant-loop-word
-invariant-loop-word l = IfSome l.given.task (λ verb. Contains (map string_bytes l.fn.words.items) (task_name verb))

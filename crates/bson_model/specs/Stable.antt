@@ -1,0 +1,25 @@
+-- What has a key each, and a value, in any order, and the pairs that it gives by ascending key.
+use Rattle.std.specs.Prelude.{◌≡◌, ℕ, Bool, List, [], ◌∷◌}
+use Rattle.std.specs.List.{filter}
+use Rattle.std.specs.Str.{bytes_eq}
+use Rattle.bson_model.specs.Sorted.{put_pair}
+use Rattle.bson_model.specs.Value.{Value, Pairs, no_pairs, pair}
+
+module _ {M : Type 0} (key_of : M → List ℕ) where
+  -- they have one key
+  abbrev pub have_one_key : M → M → Bool
+  have_one_key m n = bytes_eq (key_of m) (key_of n)
+
+  -- the same, in which those of each key stand in the order in which they stood
+  abbrev pub IsStableByKey : List M → List M → Type 0
+  IsStableByKey ms ns = (m : M) → filter (have_one_key m) ns ≡ filter (have_one_key m) ms
+
+  module _ (value_of : M → Value) where
+    -- the pairs after each in turn is put to them
+    abbrev pub put_each : List M → Pairs → Pairs
+    put_each [] ps = ps
+    put_each (m ∷ ms) ps = put_each ms (put_pair (key_of m) (value_of m) ps)
+
+    abbrev pub pairs_of : List M → Pairs
+    pairs_of [] = no_pairs
+    pairs_of (m ∷ ms) = pair (key_of m) (value_of m) (pairs_of ms)

@@ -1,0 +1,8 @@
+use Rattle.bson_run.proofs.EncodeLaws.{unread_kept}
+use Rattle.bson_run.proofs.encode.encode_whole.Goals as goal
+
+pub returns-in-Err-clause-fault : goal.returns-in-Err-clause-fault
+returns-in-Err-clause-fault c =
+    let o = c.args.options in
+    let text = c.args.bytes.now in
+    unread_kept o text c.fault_of.result (c.fault_of.ensures.cause o text c.in-Err.ensures.fault)

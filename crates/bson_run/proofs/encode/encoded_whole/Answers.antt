@@ -1,8 +1,0 @@
-use Rattle.bson_run.proofs.EncodeLaws.{unread_kept}
-use Rattle.bson_run.proofs.encode.encoded_whole.Goals as goal
-
-pub returns-in-Err-clause-fault : goal.returns-in-Err-clause-fault
-returns-in-Err-clause-fault c =
-    let o = c.args.options in
-    let text = c.args.bytes.now in
-    unread_kept o text c.refused.result (c.refused.ensures.cause o text c.in-Err.ensures.fault)

@@ -1,0 +1,45 @@
+use Rattle.std.proofs.Common.{◌≡◌, ◌<◌, ◌++◌, IfOk, length, codes, string_bytes, append_assoc, arith, ap, ◌∙◌}
+use Rattle.std.proofs.lemmas.Grind.{common_steps}
+use Rattle.bson_place.specs.Place.{dotted, path_of}
+use Rattle.bson_run.specs.Place.{told_as}
+use Rattle.bson_run.proofs.Explaining.{placed, placed_at, placed_bare}
+use Rattle.bson_run.proofs.LinesLaws.{oks_with}
+use Rattle.bson_run.proofs.explain.place_text.Goals as goal
+
+pub returns-then-is_empty-clause-found : goal.returns-then-is_empty-clause-found
+returns-then-is_empty-clause-found c =
+    let path = string_bytes c.in_ok-path.path in
+    let reason = string_bytes c.in_ok-reason.reason in
+    let message = string_bytes c.in_ok-message.message in
+    let told : path ≡ told_as (dotted (path_of c.args.place.now)) =
+    c.in_ok-path.ensures ∙ ap told_as (c.as_str.ensures.value ∙ c.in_ok-whole.ensures) in
+    let why : message ≡ told_as reason = c.in_ok-message.ensures ∙ ap told_as c.as_str-2.ensures.value in
+    let none : length path ≡ 0 = grind (arith, common_steps) in
+    let said : IfOk c.format.result (λ s. string_bytes s ≡ codes " (" ++ message ++ codes ")") =
+    simp append_assoc c.format.ensures.ok in
+    oks_with c.format.result said (λ s e.
+    placed_bare c.args.text.now c.args.place.now path reason message (string_bytes s) c.in_ok-reason.ensures told why none e)
+
+pub returns-then-is_empty-clause-place : goal.returns-then-is_empty-clause-place
+returns-then-is_empty-clause-place c =
+    oks_with c.format.result (returns-then-is_empty-clause-found c) (λ s p.
+    placed c.args.text.now c.args.place.now (string_bytes s) p)
+
+pub returns-clause-found : goal.returns-clause-found
+returns-clause-found c =
+    let path = string_bytes c.in_ok-path.path in
+    let reason = string_bytes c.in_ok-reason.reason in
+    let message = string_bytes c.in_ok-message.message in
+    let told : path ≡ told_as (dotted (path_of c.args.place.now)) =
+    c.in_ok-path.ensures ∙ ap told_as (c.as_str.ensures.value ∙ c.in_ok-whole.ensures) in
+    let why : message ≡ told_as reason = c.in_ok-message.ensures ∙ ap told_as c.as_str-2.ensures.value in
+    let some : 0 < length path = grind (arith, common_steps) in
+    let said : IfOk c.format-2.result (λ s. string_bytes s ≡ codes " at " ++ path ++ codes " (" ++ message
+    ++ codes ")") = simp append_assoc c.format-2.ensures.ok in
+    oks_with c.format-2.result said (λ s e.
+    placed_at c.args.text.now c.args.place.now path reason message (string_bytes s) c.in_ok-reason.ensures told why some e)
+
+pub returns-clause-place : goal.returns-clause-place
+returns-clause-place c =
+    oks_with c.format-2.result (returns-clause-found c) (λ s p.
+    placed c.args.text.now c.args.place.now (string_bytes s) p)

@@ -1,0 +1,10 @@
+use Rattle.std.proofs.Common.{length}
+use Rattle.json.specs.Lex.{tokens}
+use Rattle.bson_run.specs.Indent.{IsWhole}
+use Rattle.bson_run.proofs.indent.indent_text.Given as goal
+
+abbrev pub invariant-loop-token : goal.invariant-loop-token
+invariant-loop-token l = IsWhole l.spaces (tokens l.text) l.reader l.layout
+
+abbrev pub decreases-loop-token : goal.decreases-loop-token
+decreases-loop-token l = length l.reader

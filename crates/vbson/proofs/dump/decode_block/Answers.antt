@@ -1,0 +1,25 @@
+use Rattle.std.proofs.Common.{sym, subst}
+use Rattle.std.proofs.lemmas.Option.{IfSome_then}
+use Rattle.vbson.proofs.Dumps.{cut_block}
+use Rattle.vbson.specs.Dumps.{GivesDocuments}
+use Rattle.vbson.proofs.dump.decode_block.Goals as goal
+
+-- the run ended at a document
+pub returns-in_ok-add_line-in-Err : goal.returns-in_ok-add_line-in-Err
+returns-in_ok-add_line-in-Err c =
+    let run = c.args.run in
+    let block = c.args.block.now in
+    let text = c.run_documents.new.writer.items in
+    let all = c.in_ok-add_line-in-Err.field-0.items in
+    let end = c.in-Err.end in
+    let gives = cut_block run block _ text _ _ all _ end.fault end.number end.start c.in-Err.ensures.fails
+    c.new-text.ensures.items c.new-told.ensures.items c.in_ok-add_line-in-Err.ensures.0 c.in_ok-add_line-in-Err.ensures.1 in
+    IfSome_then c.with_newlines-in-Err.result c.with_newlines-in-Err.ensures
+    (λ given is. (
+      text,
+      all,
+      subst (λ n. GivesDocuments run block text all n given.done) (sym is.2)
+          (subst (λ n. GivesDocuments run block text all end.number n) (sym is.3) gives),
+      is.0,
+      is.1,
+    ))

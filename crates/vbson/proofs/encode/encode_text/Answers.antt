@@ -1,0 +1,12 @@
+use Rattle.std.proofs.Common.{subst, sym}
+use Rattle.vbson.proofs.Causes.{unencoded}
+use Rattle.vbson.specs.Documents.{IsUnencoded}
+use Rattle.vbson.proofs.encode.encode_text.Goals as goal
+
+pub returns-in-Err-clause-refused : goal.returns-in-Err-clause-refused
+returns-in-Err-clause-refused c =
+    let k = c.args.order in
+    let o = c.args.options in
+    let text = c.args.text.now in
+    subst (λ s. IsUnencoded k o s text) (sym c.status_of.ensures.number)
+    (unencoded k o c.in-Err.fault text c.in-Err.ensures.refused)
