@@ -1,3 +1,4 @@
+pub mod Arranged
 pub mod Double
 pub mod Found
 -- what public clauses cite of the crates below, so that a caller names this crate alone
