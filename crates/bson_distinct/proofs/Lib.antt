@@ -1,4 +1,10 @@
+pub mod Again
+pub mod Arranging
 pub mod Keys
 pub mod Reading
 pub mod Relations
 pub mod Converse
+pub mod Once
+pub mod Pieces
+pub mod Putting
+pub mod ReadAlike

@@ -1,0 +1,122 @@
+-- Members that are put in turn, their values as they are.
+use Rattle.std.proofs.Common.{◌≡◌, ◌≢◌, ℕ, List, Bool, true, false, Option, Some, None, Less, refl, sym, ap, ◌∙◌}
+use Rattle.std.proofs.Common.{arith, zero, suc}
+use Rattle.std.proofs.lemmas.Cmp.{nat_list_cmp_total}
+use Rattle.std.proofs.lemmas.List.Elements.{All-head, All-tail}
+use Rattle.std.proofs.lemmas.Slice.Eq.{bytes_eq-Decides}
+use Rattle.std.specs.List.{All}
+use Rattle.std.specs.Str.{bytes_eq}
+use Rattle.json.specs.Json.{Json, Members, no_members, member}
+use Rattle.json.specs.Strict.{keys, AreDistinct}
+use Rattle.bson_distinct.specs.Arranged.{put_by, arranged, arranged_members}
+use Rattle.bson_distinct.specs.declared.arrangement.Arrangement.{Arrangement}
+use Rattle.bson_distinct.specs.declared.arrangement.Arrangement.TheVariants.{FirstPlaces, Ascending}
+use Rattle.bson_distinct.proofs.Arranging.{cmp, flipped, IsBehind, AreBehind, IsArranged, put_behind, put_stays}
+use Rattle.bson_distinct.proofs.Once.{other_key, put_none}
+
+-- the members after each of others is put to them
+abbrev pub put_members : Arrangement → Members → Members → Members
+put_members a no_members found = found
+put_members a (member k j ms) found = put_members a ms (put_by a k j found)
+
+-- the same members, the value of each arranged
+abbrev pub each_arranged : Arrangement → Members → Members
+each_arranged a no_members = no_members
+each_arranged a (member k j ms) = member k (arranged a j) (each_arranged a ms)
+
+pub arranged_puts : (a : Arrangement) (ms found : Members)
+    → arranged_members a ms found ≡ put_members a (each_arranged a ms) found
+arranged_puts a no_members found = refl
+arranged_puts a (member k j ms) found = arranged_puts a ms (put_by a k (arranged a j) found)
+
+-- some members and then others
+abbrev pub joined : Members → Members → Members
+joined no_members ns = ns
+joined (member k j ms) ns = member k j (joined ms ns)
+
+pub put_joined : (a : Arrangement) (ms ns found : Members)
+    → put_members a (joined ms ns) found ≡ put_members a ns (put_members a ms found)
+put_joined a no_members ns found = refl
+put_joined a (member k j ms) ns found = put_joined a ms ns (put_by a k j found)
+
+pub arranged_joined : (a : Arrangement) (ms ns found : Members)
+    → arranged_members a (joined ms ns) found ≡ arranged_members a ns (arranged_members a ms found)
+arranged_joined a no_members ns found = refl
+arranged_joined a (member k j ms) ns found = arranged_joined a ms ns (put_by a k (arranged a j) found)
+
+-- ---- what is put is arranged
+
+pub puts_arrange : (a : Arrangement) (ms found : Members) → IsArranged a found → IsArranged a (put_members a ms found)
+puts_arrange a no_members found are = are
+puts_arrange a (member k j ms) found are = puts_arrange a ms (put_by a k j found) (put_stays a k j found are)
+
+puts_behind : (a : Arrangement) (k : List ℕ) (i : Json) (ms found : Members) → AreBehind a k ms
+    → put_members a ms (member k i found) ≡ member k i (put_members a ms found)
+puts_behind a k i no_members found are = refl
+puts_behind a k i (member l j ms) found are =
+    ap (put_members a ms) (put_behind a k l i j found are.0) ∙ puts_behind a k i ms (put_by a l j found) are.1
+
+-- what is arranged is put as it stands
+pub put_as_it_stands : (a : Arrangement) (ms : Members) → IsArranged a ms → put_members a ms no_members ≡ ms
+put_as_it_stands a no_members are = refl
+put_as_it_stands a (member k j ms) are =
+    ap (put_members a ms) (put_none a k j) ∙ puts_behind a k j ms no_members are.0
+    ∙ ap (member k j) (put_as_it_stands a ms are.1)
+
+pub put_again : (a : Arrangement) (ms : Members)
+    → put_members a (put_members a ms no_members) no_members ≡ put_members a ms no_members
+put_again a ms = put_as_it_stands a (put_members a ms no_members) (puts_arrange a ms no_members tt)
+
+-- ---- which members are arranged
+
+behind_at : (b : Bool) (k l : List ℕ) → bytes_eq l k ≡ b → k ≢ l → b ≡ false
+behind_at false k l h differ = refl
+behind_at true k l h differ = absurd (differ (sym ((bytes_eq-Decides l k).0 h)))
+
+pub differing : (k l : List ℕ) → k ≢ l → IsBehind FirstPlaces k l
+differing k l differ = behind_at (bytes_eq l k) k l refl differ
+
+each_differs : (k : List ℕ) (ms : Members) → All (λ l. k ≢ l) (keys ms) → AreBehind FirstPlaces k ms
+each_differs k no_members are = tt
+each_differs k (member l j ms) are = (
+  differing k l (All-head (λ l. k ≢ l) l (keys ms) are),
+  each_differs k ms (All-tail (λ l. k ≢ l) l (keys ms) are),
+)
+
+pub distinct_arranged : (ms : Members) → AreDistinct (keys ms) → IsArranged FirstPlaces ms
+distinct_arranged no_members are = tt
+distinct_arranged (member k j ms) are = (
+  each_differs k ms (λ i d less. are zero (suc i) d (omega arith) (omega (arith, less))),
+  distinct_arranged ms (λ i j d less within. are (suc i) (suc j) d (omega (arith, less)) (omega (arith, within))),
+)
+
+behind_either : (a : Arrangement) (k : List ℕ) (ms : Members) → AreBehind a k ms → AreBehind FirstPlaces k ms
+behind_either a k no_members are = tt
+behind_either a k (member l j ms) are = (differing k l (other_key a k l are.0), behind_either a k ms are.1)
+
+pub arranged_either : (a : Arrangement) (ms : Members) → IsArranged a ms → IsArranged FirstPlaces ms
+arranged_either a no_members are = tt
+arranged_either a (member k j ms) are = (behind_either a k ms are.0, arranged_either a ms are.1)
+
+-- the first key is greater than the one before it, and so on
+abbrev pub Ascend : Option (List ℕ) → Members → Type 0
+Ascend last no_members = Unit {0}
+Ascend None (member k j ms) = Ascend (Some k) ms
+Ascend (Some l) (member k j ms) = (cmp l k ≡ Less) × Ascend (Some k) ms
+
+above : (k l : List ℕ) (ms : Members) → cmp k l ≡ Less → Ascend (Some l) ms → AreBehind Ascending k ms
+above k l no_members less up = tt
+above k l (member c j ms) less up =
+    let first = nat_list_cmp_total.trans k l c less up.0 in (flipped k c Less first, above k c ms first up.1)
+
+above_first : (k : List ℕ) (ms : Members) → Ascend (Some k) ms → AreBehind Ascending k ms
+above_first k no_members up = tt
+above_first k (member l j ms) up = (flipped k l Less up.0, above k l ms up.0 up.1)
+
+behind_last : (l : List ℕ) (ms : Members) → Ascend (Some l) ms → IsArranged Ascending ms
+behind_last l no_members up = tt
+behind_last l (member k j ms) up = (above_first k ms up.1, behind_last k ms up.1)
+
+pub ascending_arranged : (ms : Members) → Ascend None ms → IsArranged Ascending ms
+ascending_arranged no_members up = tt
+ascending_arranged (member k j ms) up = (above_first k ms up, behind_last k ms up)
