@@ -4,7 +4,9 @@ pub mod Keys
 pub mod Reading
 pub mod Relations
 pub mod Converse
+pub mod Merged
 pub mod Once
 pub mod Pieces
 pub mod Putting
 pub mod ReadAlike
+pub mod Settled

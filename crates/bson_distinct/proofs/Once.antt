@@ -10,7 +10,8 @@ use Rattle.json.specs.Strict.{keys, AreDistinct, HasUniqueKeys, ItemsHaveUniqueK
 use Rattle.bson_distinct.specs.Arranged.{put_by, arranged, arranged_items, arranged_members}
 use Rattle.bson_distinct.specs.declared.arrangement.Arrangement.{Arrangement}
 use Rattle.bson_distinct.specs.declared.arrangement.Arrangement.TheVariants.{FirstPlaces, Ascending}
-use Rattle.bson_distinct.proofs.Arranging.{cmp, IsBehind, AreBehind, IsArranged, put_behind, all_arranged, Each, each_put}
+use Rattle.bson_distinct.proofs.Arranging.{cmp, IsBehind, AreBehind, IsArranged, put_behind, all_arranged, Each}
+use Rattle.bson_distinct.proofs.Arranging.{each_put}
 use Rattle.bson_distinct.proofs.Keys.{apart}
 
 -- ---- each key once

@@ -1,20 +1,26 @@
 -- What has a key, a place and a value each: the first place and the last value of a key, in a list and in what is made
 -- of it.
-use Rattle.std.proofs.Common.{◌≡◌, ◌⊎◌, ℕ, List, [], ◌∷◌, Bool, true, false, cond, Option, Some, None}
-use Rattle.std.proofs.Common.{inl, inr, refl, sym, ap, ◌∙◌, subst, filter}
+use Rattle.std.proofs.Common.{◌≡◌, ◌<◌, ◌≤◌, ◌+◌, ◌⊎◌, ℕ, List, [], ◌∷◌, Bool, true, false, cond, Option, Some, None}
+use Rattle.std.proofs.Common.{inl, inr, refl, sym, ap, ◌∙◌, subst, filter, arith}
+use Rattle.std.proofs.lemmas.Cmp.{nat_list_eq_equiv}
 use Rattle.std.proofs.lemmas.Slice.Eq.{bytes_eq-Decides}
 use Rattle.std.specs.Str.{bytes_eq}
-use Rattle.json.specs.Json.{Json}
+use Rattle.json.specs.Json.{Json, Members, member}
+use Rattle.bson_distinct.specs.Arranged.{put_first}
 use Rattle.bson_model.specs.Stable.{IsStableByKey}
-use Rattle.bson_distinct.specs.PutPieces.{members_of, merged, merged_from}
+use Rattle.bson_distinct.specs.PutPieces.{Rise, members_of, put_each, merged, merged_from}
 use Rattle.bson_distinct.specs.declared.arrangement.Arrangement.TheVariants.{FirstPlaces}
 use Rattle.bson_distinct.proofs.Arranging.{AreBehind, IsArranged}
 
 pub same_key : (k l : List ℕ) → bytes_eq k l ≡ true → k ≡ l
 same_key k l h = (bytes_eq-Decides k l).0 h
 
-own_key : (k : List ℕ) → bytes_eq k k ≡ true
+pub own_key : (k : List ℕ) → bytes_eq k k ≡ true
 own_key k = (bytes_eq-Decides k k).1 refl
+
+-- keys that differ do so either way round
+pub turned : (k l : List ℕ) → bytes_eq l k ≡ false → bytes_eq k l ≡ false
+turned k l differ = nat_list_eq_equiv.symm k l ∙ differ
 
 module _ {M : Type 0} (key_of : M → List ℕ) (place_of : M → ℕ) (value_of : M → Json) where
   abbrev pub Entry : Type 0
@@ -129,12 +135,7 @@ module _ {M : Type 0} (key_of : M → List ℕ) (place_of : M → ℕ) (value_of
 
   none_at : (q : List ℕ) (ms : List M) → AreBehind FirstPlaces q (members_of key_of value_of ms) → seen q ms ≡ None
   none_at q [] are = refl
-  none_at q (m ∷ ms) are = rw (other_at _ q (key_of m) refl are.0) (none_at q ms are.1)
-    where
-      other_at : (b : Bool) (q k : List ℕ) → bytes_eq q k ≡ b → bytes_eq k q ≡ false → bytes_eq q k ≡ false
-      other_at false q k h differ = h
-      other_at true q k h differ =
-          let yes : bytes_eq k q ≡ true = (bytes_eq-Decides k q).1 (sym (same_key q k h)) in cc
+  none_at q (m ∷ ms) are = rw (turned q (key_of m) are.0) (none_at q ms are.1)
 
   first_is_at : (b : Bool) (q : List ℕ) (m : M) (ms : List M) → bytes_eq q (key_of m) ≡ b
       → AreBehind FirstPlaces (key_of m) (members_of key_of value_of ms) → first q ms ≡ seen q ms
@@ -148,3 +149,139 @@ module _ {M : Type 0} (key_of : M → List ℕ) (place_of : M → ℕ) (value_of
   pub first_is_seen : (q : List ℕ) (ms : List M) → DifferByKey ms → first q ms ≡ seen q ms
   first_is_seen q [] differ = refl
   first_is_seen q (m ∷ ms) differ = first_is_at _ q m ms refl differ.0 (first_is_seen q ms differ.1)
+
+  pub differ_by_key : (q : List ℕ) (m : M) (ms : List M) → bytes_eq q (key_of m) ≡ true → DifferByKey (m ∷ ms)
+      → first q ms ≡ None
+  differ_by_key q m ms h differ =
+      first_is_seen q ms differ.1 ∙ ap (λ k. seen k ms) (same_key q (key_of m) h) ∙ none_at (key_of m) ms differ.0
+
+  -- ---- places
+
+  abbrev pub AllAbove : ℕ → List M → Type 0
+  AllAbove n [] = Unit {0}
+  AllAbove n (m ∷ ms) = (n < place_of m) × AllAbove n ms
+
+  abbrev pub AllBelow : ℕ → List M → Type 0
+  AllBelow n [] = Unit {0}
+  AllBelow n (m ∷ ms) = (place_of m < n) × AllBelow n ms
+
+  abbrev pub Rising : List M → Type 0
+  Rising [] = Unit {0}
+  Rising (m ∷ ms) = AllAbove (place_of m) ms × Rising ms
+
+  -- ---- put one after another at their first places
+
+  module _ (merge : M → M → M) (merge_key : (m n : M) → key_of (merge m n) ≡ key_of m)
+      (merge_place : (m n : M) → place_of (merge m n) ≡ place_of m)
+      (merge_value : (m n : M) → value_of (merge m n) ≡ value_of n) where
+    -- the list with m at its key: merged where the key stands, else last
+    abbrev pub put_one : M → List M → List M
+    put_one m [] = m ∷ []
+    put_one m (n ∷ ns) = cond (bytes_eq (key_of m) (key_of n)) (merge n m ∷ ns) (n ∷ put_one m ns)
+
+    abbrev pub put_all : List M → List M → List M
+    put_all [] found = found
+    put_all (m ∷ ms) found = put_all ms (put_one m found)
+
+    abbrev members : List M → Members
+    members = members_of key_of value_of
+
+    one_member_at : (b : Bool) (m n : M) (ns : List M)
+        → members (put_one m ns) ≡ put_first (key_of m) (value_of m) (members ns)
+        → members (cond b (merge n m ∷ ns) (n ∷ put_one m ns))
+        ≡ cond b (member (key_of n) (value_of m) (members ns))
+        (member (key_of n) (value_of n) (put_first (key_of m) (value_of m) (members ns)))
+    one_member_at true m n ns is = rw (merge_key n m, merge_value n m) refl
+    one_member_at false m n ns is = ap (member (key_of n) (value_of n)) is
+
+    one_member : (m : M) (ns : List M) → members (put_one m ns) ≡ put_first (key_of m) (value_of m) (members ns)
+    one_member m [] = refl
+    one_member m (n ∷ ns) = one_member_at (bytes_eq (key_of m) (key_of n)) m n ns (one_member m ns)
+
+    pub all_members : (ms found : List M)
+        → members (put_all ms found) ≡ put_each key_of value_of FirstPlaces ms (members found)
+    all_members [] found = refl
+    all_members (m ∷ ms) found =
+        all_members ms (put_one m found) ∙ ap (put_each key_of value_of FirstPlaces ms) (one_member m found)
+
+    same_at : (b : Bool) (q : List ℕ) (m n : M) (ns : List M) → bytes_eq q (key_of n) ≡ b → key_of m ≡ key_of n
+        → first q (merge n m ∷ ns) ≡ after (first q (n ∷ ns)) (at_key q m)
+    same_at true q m n ns h same = rw (merge_key n m, same, h) (rw (merge_place n m, merge_value n m) refl)
+    same_at false q m n ns h same = rw (merge_key n m, same, h) (sym (after_none (first q ns)))
+
+    apart_at : (b : Bool) (q m n : List ℕ) → bytes_eq q m ≡ b → q ≡ n → bytes_eq m n ≡ false → b ≡ false
+    apart_at false q m n h is differ = refl
+    apart_at true q m n h is differ =
+        let yes : bytes_eq m n ≡ true = (bytes_eq-Decides m n).1 (sym (same_key q m h) ∙ is) in cc
+
+    other_at : (b : Bool) (q : List ℕ) (m n : M) (ns : List M) → bytes_eq q (key_of n) ≡ b
+        → bytes_eq (key_of m) (key_of n) ≡ false → first q (put_one m ns) ≡ after (first q ns) (at_key q m)
+        → first q (n ∷ put_one m ns) ≡ after (first q (n ∷ ns)) (at_key q m)
+    other_at true q m n ns h differ is =
+        let none : bytes_eq q (key_of m) ≡ false =
+        apart_at _ q (key_of m) (key_of n) refl (same_key q (key_of n) h) differ in
+        rw (h, none) refl
+    other_at false q m n ns h differ is = rw h is
+
+    first_put_at : (b : Bool) (q : List ℕ) (m n : M) (ns : List M) → bytes_eq (key_of m) (key_of n) ≡ b
+        → first q (put_one m ns) ≡ after (first q ns) (at_key q m)
+        → first q (cond b (merge n m ∷ ns) (n ∷ put_one m ns)) ≡ after (first q (n ∷ ns)) (at_key q m)
+    first_put_at true q m n ns h is = same_at _ q m n ns refl (same_key (key_of m) (key_of n) h)
+    first_put_at false q m n ns h is = other_at _ q m n ns refl h is
+
+    first_put : (q : List ℕ) (m : M) (ns : List M) → first q (put_one m ns) ≡ after (first q ns) (at_key q m)
+    first_put q m [] = refl
+    first_put q m (n ∷ ns) = first_put_at (bytes_eq (key_of m) (key_of n)) q m n ns refl (first_put q m ns)
+
+    pub first_put_all : (q : List ℕ) (ms found : List M)
+        → first q (put_all ms found) ≡ after (first q found) (seen q ms)
+    first_put_all q [] found = sym (after_none (first q found))
+    first_put_all q (m ∷ ms) found =
+        first_put_all q ms (put_one m found) ∙ ap (λ s. after s (seen q ms)) (first_put q m found)
+        ∙ after_after (first q found) (at_key q m) (seen q ms)
+
+    -- ---- their places rise
+
+    above_at : (b : Bool) (n : ℕ) (m o : M) (ns : List M) → AllAbove n (o ∷ ns) → AllAbove n (put_one m ns)
+        → AllAbove n (cond b (merge o m ∷ ns) (o ∷ put_one m ns))
+    above_at true n m o ns were is = (omega (arith, were.0, merge_place o m), were.1)
+    above_at false n m o ns were is = (were.0, is)
+
+    above_put : (n : ℕ) (m : M) (ns : List M) → n < place_of m → AllAbove n ns → AllAbove n (put_one m ns)
+    above_put n m [] new were = (new, tt)
+    above_put n m (o ∷ ns) new were =
+        above_at (bytes_eq (key_of m) (key_of o)) n m o ns were (above_put n m ns new were.1)
+
+    below_at : (b : Bool) (n : ℕ) (m o : M) (ns : List M) → AllBelow n (o ∷ ns) → AllBelow n (put_one m ns)
+        → AllBelow n (cond b (merge o m ∷ ns) (o ∷ put_one m ns))
+    below_at true n m o ns were is = (omega (arith, were.0, merge_place o m), were.1)
+    below_at false n m o ns were is = (were.0, is)
+
+    below_put : (n : ℕ) (m : M) (ns : List M) → place_of m < n → AllBelow n ns → AllBelow n (put_one m ns)
+    below_put n m [] new were = (new, tt)
+    below_put n m (o ∷ ns) new were =
+        below_at (bytes_eq (key_of m) (key_of o)) n m o ns were (below_put n m ns new were.1)
+
+    below_more : (n k : ℕ) (ms : List M) → n ≤ k → AllBelow n ms → AllBelow k ms
+    below_more n k [] h are = tt
+    below_more n k (m ∷ ms) h are = (omega (arith, h, are.0), below_more n k ms h are.1)
+
+    rising_at : (b : Bool) (m n : M) (ns : List M) → place_of n < place_of m → Rising (n ∷ ns) → Rising (put_one m ns)
+        → Rising (cond b (merge n m ∷ ns) (n ∷ put_one m ns))
+    rising_at true m n ns less were is = (subst (λ p. AllAbove p ns) (sym (merge_place n m)) were.0, were.1)
+    rising_at false m n ns less were is = (above_put (place_of n) m ns less were.0, is)
+
+    rising_put : (m : M) (ns : List M) → AllBelow (place_of m) ns → Rising ns → Rising (put_one m ns)
+    rising_put m [] below were = (tt, tt)
+    rising_put m (n ∷ ns) below were =
+        rising_at (bytes_eq (key_of m) (key_of n)) m n ns below.0 were (rising_put m ns below.1 were.1)
+
+    pub rising_all : (lowest : ℕ) (ms found : List M) → Rise place_of lowest ms → AllBelow lowest found → Rising found
+        → Rising (put_all ms found)
+    rising_all lowest [] found up below were = were
+    rising_all lowest (m ∷ ms) found up below were =
+        let before = below_more lowest (place_of m) found up.0 below in
+        let further = below_more (place_of m) (place_of m + 1) found (omega arith) before in
+        rising_all (place_of m + 1) ms (put_one m found) up.1
+        (below_put (place_of m + 1) m found (omega arith) further)
+        (rising_put m found before were)

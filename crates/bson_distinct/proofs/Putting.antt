@@ -1,6 +1,6 @@
 -- Members that are put in turn, their values as they are.
-use Rattle.std.proofs.Common.{◌≡◌, ◌≢◌, ℕ, List, Bool, true, false, Option, Some, None, Less, refl, sym, ap, ◌∙◌}
-use Rattle.std.proofs.Common.{arith, zero, suc}
+use Rattle.std.proofs.Common.{◌≡◌, ◌≢◌, ◌++◌, ℕ, zero, suc, List, [], ◌∷◌, map, Bool, true, false, Option, Some, None}
+use Rattle.std.proofs.Common.{Less, subst, refl, sym, ap, ◌∙◌, arith}
 use Rattle.std.proofs.lemmas.Cmp.{nat_list_cmp_total}
 use Rattle.std.proofs.lemmas.List.Elements.{All-head, All-tail}
 use Rattle.std.proofs.lemmas.Slice.Eq.{bytes_eq-Decides}
@@ -9,6 +9,7 @@ use Rattle.std.specs.Str.{bytes_eq}
 use Rattle.json.specs.Json.{Json, Members, no_members, member}
 use Rattle.json.specs.Strict.{keys, AreDistinct}
 use Rattle.bson_distinct.specs.Arranged.{put_by, arranged, arranged_members}
+use Rattle.bson_distinct.specs.PutPieces.{KeysAscend, members_of, put_each}
 use Rattle.bson_distinct.specs.declared.arrangement.Arrangement.{Arrangement}
 use Rattle.bson_distinct.specs.declared.arrangement.Arrangement.TheVariants.{FirstPlaces, Ascending}
 use Rattle.bson_distinct.proofs.Arranging.{cmp, flipped, IsBehind, AreBehind, IsArranged, put_behind, put_stays}
@@ -120,3 +121,64 @@ behind_last l (member k j ms) up = (above_first k ms up.1, behind_last k ms up.1
 pub ascending_arranged : (ms : Members) → Ascend None ms → IsArranged Ascending ms
 ascending_arranged no_members up = tt
 ascending_arranged (member k j ms) up = (above_first k ms up, behind_last k ms up)
+
+-- members whose keys ascend are arranged in either arrangement
+pub arranged_in : (a : Arrangement) (ms : Members) → Ascend None ms → IsArranged a ms
+arranged_in FirstPlaces ms up = arranged_either Ascending ms (ascending_arranged ms up)
+arranged_in Ascending ms up = ascending_arranged ms up
+
+-- ---- lists that are put
+
+keys_ascend : {M : Type 0} (key_of : M → List ℕ) (value_of : M → Json) (last : Option (List ℕ)) (xs : List M)
+    → KeysAscend last (map key_of xs) → Ascend last (members_of key_of value_of xs)
+keys_ascend key_of value_of last [] up = tt
+keys_ascend key_of value_of None (x ∷ xs) up = keys_ascend key_of value_of (Some (key_of x)) xs up.1
+keys_ascend key_of value_of (Some l) (x ∷ xs) up = (up.0, keys_ascend key_of value_of (Some (key_of x)) xs up.1)
+
+module _ {M : Type 0} (key_of : M → List ℕ) (value_of : M → Json) where
+  abbrev members : List M → Members
+  members = members_of key_of value_of
+
+  abbrev put : Arrangement → List M → Members → Members
+  put = put_each key_of value_of
+
+  pub keys_are : (xs : List M) → keys (members xs) ≡ map key_of xs
+  keys_are [] = refl
+  keys_are (x ∷ xs) = ap (λ ks. key_of x ∷ ks) (keys_are xs)
+
+  pub puts_members : (a : Arrangement) (xs : List M) (found : Members)
+      → put a xs found ≡ put_members a (members xs) found
+  puts_members a [] found = refl
+  puts_members a (x ∷ xs) found = puts_members a xs (put_by a (key_of x) (value_of x) found)
+
+  pub put_append : (a : Arrangement) (xs ys : List M) (found : Members)
+      → put a (xs ++ ys) found ≡ put a ys (put a xs found)
+  put_append a [] ys found = refl
+  put_append a (x ∷ xs) ys found = put_append a xs ys (put_by a (key_of x) (value_of x) found)
+
+  -- what stands for members, the value of each arranged, is put as these are arranged
+  pub puts_arranged : (a : Arrangement) (ms found : Members) (xs : List M) → members xs ≡ each_arranged a ms
+      → put a xs found ≡ arranged_members a ms found
+  puts_arranged a ms found xs are =
+      puts_members a xs found ∙ ap (λ ns. put_members a ns found) are ∙ sym (arranged_puts a ms found)
+
+  -- ---- what is put as it stands
+
+  pub put_distinct : (xs : List M) → AreDistinct (map key_of xs) → put FirstPlaces xs no_members ≡ members xs
+  put_distinct xs are =
+      puts_members FirstPlaces xs no_members
+      ∙ put_as_it_stands FirstPlaces (members xs)
+      (distinct_arranged (members xs) (subst AreDistinct (sym (keys_are xs)) are))
+
+  pub put_ascending_keys : (a : Arrangement) (xs : List M) → KeysAscend None (map key_of xs)
+      → put a xs no_members ≡ members xs
+  put_ascending_keys a xs up =
+      puts_members a xs no_members
+      ∙ put_as_it_stands a (members xs) (arranged_in a (members xs) (keys_ascend key_of value_of None xs up))
+
+  -- what some are put as is put again as it stands
+  pub put_put : (a : Arrangement) (xs zs : List M) → members zs ≡ put a xs no_members → put a zs no_members ≡ members zs
+  put_put a xs zs are =
+      puts_members a zs no_members
+      ∙ put_as_it_stands a (members zs)
+      (subst (IsArranged a) (sym (are ∙ puts_members a xs no_members)) (puts_arrange a (members xs) no_members tt))

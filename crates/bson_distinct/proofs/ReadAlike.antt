@@ -115,7 +115,8 @@ put_ascending_at : (o : Ordering) (k c : List ℕ) (j i : json.Json) (d e : Data
     → tree_by Ascending j ≡ Some d → tree_by Ascending i ≡ Some e → each_by Ascending ms ≡ Some ds
     → each_by Ascending (put_ascending k j ms) ≡ Some (put k d ds)
     → each_by Ascending
-    (match_ordering o (json.member k j (json.member c i ms)) (json.member c j ms) (json.member c i (put_ascending k j ms)))
+    (match_ordering o (json.member k j (json.member c i ms)) (json.member c j ms)
+    (json.member c i (put_ascending k j ms)))
     ≡ Some (match_ordering o (member k d (member c e ds)) (member c d ds) (member c e (put k d ds)))
 put_ascending_at Less k c j i d e ms ds new old are is =
     member_by Ascending k j d (json.member c i ms) (member c e ds) new (member_by Ascending c i e ms ds old are)
@@ -130,7 +131,8 @@ each_put FirstPlaces k j d json.no_members ds new are =
     member_by FirstPlaces k j d json.no_members no_members new refl
     ∙ ap (λ l. Some (put_kept k d l)) (same_Some no_members ds are)
 each_put Ascending k j d json.no_members ds new are =
-    member_by Ascending k j d json.no_members no_members new refl ∙ ap (λ l. Some (put k d l)) (same_Some no_members ds are)
+    member_by Ascending k j d json.no_members no_members new refl
+    ∙ ap (λ l. Some (put k d l)) (same_Some no_members ds are)
 each_put FirstPlaces k j d (json.member c i ms) ds new are =
     let a = after (λ e. option_map (member c e) (each_by FirstPlaces ms)) (tree_by FirstPlaces i) ds are in
     let b = mapped (member c a.0) (each_by FirstPlaces ms) ds a.2 in
