@@ -7,6 +7,8 @@ pub mod Converse
 pub mod Merged
 pub mod Once
 pub mod Pieces
+pub mod Places
 pub mod Putting
 pub mod ReadAlike
+pub mod Rows
 pub mod Settled
