@@ -5,6 +5,7 @@ pub mod Reading
 pub mod Relations
 pub mod Converse
 pub mod Merged
+pub mod Offered
 pub mod Once
 pub mod Pieces
 pub mod Places

@@ -17,8 +17,7 @@ doubled = object
 abbrev doubled_text : List ℕ
 doubled_text = codes "{\"b\":1, \"a\":{\"d\":true,\"c\":null,\"d\":false}, \"b\":[2]}"
 
-first_places : IsArrangedText FirstPlaces doubled_text
-    (codes "{\"b\":[2],\"a\":{\"d\":false,\"c\":null}}")
+first_places : IsArrangedText FirstPlaces doubled_text (codes "{\"b\":[2],\"a\":{\"d\":false,\"c\":null}}")
 unfolding Rattle.json.specs.Json.value
     Rattle.json.specs.Lex.punctuate Rattle.json.specs.Lex.lex Rattle.json.specs.Text.content
     Rattle.json.specs.Word.word Rattle.json.specs.Print.print_from Rattle.json.specs.Print.escape_byte
@@ -42,6 +41,41 @@ ascending = record {
   tree = doubled;
   is_tree = refl;
   numbers = ((unsigned 1, refl), ((tt, (tt, (tt, tt))), (((unsigned 2, refl), tt), tt)));
+  compact = refl;
+  read_again = refl;
+}
+
+-- keys are compared after their escapes are read, a lower byte comes first, and then the shorter key
+abbrev escaped : Json
+escaped = object
+    (member (codes "b") null (member (codes "aa") (boolean false)
+    (member (codes "a") (boolean true) (member (codes "a") null no_members))))
+
+abbrev escaped_text : List ℕ
+escaped_text = codes "{\"b\":null,\"aa\":false,\"\\u0061\":true,\"a\":null}"
+
+escaped_first_places : IsArrangedText FirstPlaces escaped_text (codes "{\"b\":null,\"aa\":false,\"a\":null}")
+unfolding Rattle.json.specs.Json.value
+    Rattle.json.specs.Lex.punctuate Rattle.json.specs.Lex.lex Rattle.json.specs.Text.content
+    Rattle.json.specs.Text.code_unit Rattle.json.specs.Word.word Rattle.json.specs.Print.print_from
+    Rattle.json.specs.Print.escape_byte lib.Utf8.encode
+escaped_first_places = record {
+  tree = escaped;
+  is_tree = refl;
+  numbers = (tt, (tt, (tt, (tt, tt))));
+  compact = refl;
+  read_again = refl;
+}
+
+escaped_ascending : IsArrangedText Ascending escaped_text (codes "{\"a\":null,\"aa\":false,\"b\":null}")
+unfolding Rattle.json.specs.Json.value
+    Rattle.json.specs.Lex.punctuate Rattle.json.specs.Lex.lex Rattle.json.specs.Text.content
+    Rattle.json.specs.Text.code_unit Rattle.json.specs.Word.word Rattle.json.specs.Print.print_from
+    Rattle.json.specs.Print.escape_byte lib.Utf8.encode
+escaped_ascending = record {
+  tree = escaped;
+  is_tree = refl;
+  numbers = (tt, (tt, (tt, (tt, tt))));
   compact = refl;
   read_again = refl;
 }
