@@ -8,6 +8,9 @@ pub mod Once
 pub mod PartTexts
 pub mod PiecesInOrder
 pub mod Sending
+pub mod ShownMembers
+pub mod ShownTexts
+pub mod SortedMembers
 pub mod SortedPairs
 pub mod Sorting
 pub mod Standing

@@ -1,4 +1,4 @@
--- The text of an object from the pieces of its members, in order.
+-- The pieces of the members of an object, in order.
 use Rattle.std.proofs.Common.{◌≡◌, ℕ, Bool, true, false, List, [], ◌∷◌, ◌++◌, map, Bor}
 use Rattle.std.proofs.Common.{Option, Some, None, Result, Ok, Err, Less, Equal, nat_cmp, bytes_eq}
 use Rattle.std.proofs.Common.{refl, sym, ap, ◌∙◌, subst, append_assoc}
@@ -10,23 +10,16 @@ use Rattle.std.specs.Prelude.{IfSome, IfOk}
 use Rattle.std.specs.Cmp.Lexicographic.{slice_cmp}
 use Rattle.std.specs.List.{All}
 use Rattle.std.specs.List.Sorted.{IsPermutation}
-use Rattle.json.specs.Print.{quoted}
-use Rattle.serde_json.specs.Data.{Data, Members, no_members, member, object, put}
 use Rattle.serde_json.specs.Written.{comma_if}
-use Rattle.bson_scalar.specs.TreeText.{text_of}
-use Rattle.bson_scalar.specs.declared.form.Doubles.{Doubles}
-use Rattle.bson_scalar.specs.declared.form.Form.{Form}
 use Rattle.bson_model.specs.Sorted.{put_pair, IsLeast, KeysAscend}
 use Rattle.bson_model.specs.Stable.{IsStableByKey, put_each, pairs_of}
-use Rattle.bson_model.specs.Value.{Pairs, no_pairs}
-use Rattle.bson_model.specs.Writing.{writes_pairs_in}
+use Rattle.bson_model.specs.Value.{Value, Pairs, no_pairs}
 use Rattle.bson_model.proofs.Offered.{turned, put_ascending}
 use Rattle.bson_filter.specs.Pieces.{piece_key, piece_text, open_text, members_text, object_text, Ascend, Follows, InOrder}
 use Rattle.bson_filter.specs.Pieces.{last_ones, stands_again, IsOpen, IsEnded, Values, value_at, IsPiece}
 use Rattle.bson_filter.specs.Pieces.{pieces_from}
 use Rattle.bson_filter.specs.Pieces as keys
 use Rattle.bson_filter.specs.declared.pieces.Piece.{Piece}
-use Rattle.bson_filter.proofs.PartTexts.{printed_members, no_more_members, one_more_member, object_printed}
 use Rattle.bson_filter.proofs.SortedPairs.{put_twice}
 
 -- ---- what may be there
@@ -150,7 +143,7 @@ pub in_order_again : (ps qs : List Piece) (texts written : List ℕ) → IsStabl
 in_order_again ps qs texts written stable same o =
     (o.0, λ p. o.1 p ∙ stable p, IsPermutation-trans ps qs o.0 same o.2, o.3, o.4)
 
-closed : (texts : List ℕ) (behind : Bool) (ps : List Piece)
+pub closed : (texts : List ℕ) (behind : Bool) (ps : List Piece)
     → open_text texts behind ps ++ 125 ∷ [] ≡ members_text texts behind ps
 closed texts behind [] = refl
 closed texts behind (p ∷ ps) =
@@ -176,49 +169,29 @@ ended_in_place old texts new ps opened up is =
           ∙ ap (λ l. old ++ 123 ∷ l) (closed texts false ps),
     )
 
--- ---- the text of the object
+-- ---- the object
 
--- the texts of members by ascending key are the text of their trees, to which one of a lesser key comes first
-pieces_written : (D : Doubles) (f : Form) (texts : List ℕ) (values : Values) (behind : Bool) (last : Option (List ℕ))
-    (ps : List Piece) → Ascend last ps → All (IsPiece D f texts values) ps
-    → (ms : Members) × (writes_pairs_in D f (pairs_of piece_key (value_at values) ps) ≡ Ok ms)
-    × (members_text texts behind ps ≡ printed_members behind ms)
-    × ((k : List ℕ) (d : Data) → Ascend (Some k) ps → put k d ms ≡ member k d ms)
-pieces_written D f texts values behind last [] up h =
-    (no_members, refl, sym (no_more_members behind), λ k d up. refl)
-pieces_written D f texts values behind last (p ∷ ps) up h =
-    let here = All-head (IsPiece D f texts values) p ps h in
-    let k = piece_key p in
-    let t = here.1.0 in
-    let more = pieces_written D f texts values true (Some k) ps up.1 (All-tail (IsPiece D f texts values) p ps h) in
-    let one = quoted k ++ 58 ∷ text_of t in
-    let comma = comma_if behind in (
-      member k t more.0,
-      rw (here.1.1, more.1) (ap Ok (more.3 k t up.1)),
-      ap (λ l. comma ++ (l ++ members_text texts true ps)) here.1.2
-          ∙ ap (λ l. comma ++ (one ++ l)) more.2
-          ∙ one_more_member behind k t more.0,
-      λ l d up. rw up.0 refl,
-    )
+-- an object was ended with these members behind the old text, by ascending key, whose pairs are those that were put
+pub record HasMembers (IsText : List ℕ → Value → List ℕ → Type 0) (old texts new : List ℕ) (put : Pairs) : Type 0 where
+  pub values : Values
+  pub members : List Piece
+  pub up : Ascend None members
+  pub all : All (IsPiece IsText texts values) members
+  pub pairs : put ≡ pairs_of piece_key (value_at values) members
+  pub text : new ≡ old ++ object_text texts members
 
--- the object that the pieces in order give has the text of its tree
-pub object_in_order : (D : Doubles) (f : Form) (old texts new : List ℕ) (values : Values) (ps : List Piece)
-    → All (IsPiece D f texts values) ps → IsEnded ps old texts new
-    → (ms : Members) × (writes_pairs_in D f (put_each piece_key (value_at values) ps no_pairs) ≡ Ok ms)
-    × (new ≡ old ++ text_of (object ms))
-object_in_order D f old texts new values ps h ended =
-    let order = ended.1 in
-    let qs = order.0 in
+pub object_in_order : (IsText : List ℕ → Value → List ℕ → Type 0) (old texts new : List ℕ) (values : Values)
+    (ps : List Piece) → All (IsPiece IsText texts values) ps → IsEnded ps old texts new
+    → HasMembers IsText old texts new (put_each piece_key (value_at values) ps no_pairs)
+object_in_order IsText old texts new values ps h (written, (qs, stable, same, up, is), behind) =
     let ks = last_ones qs in
-    let up = ascending_pairs values None ks order.3 in
-    let put : put_each piece_key (value_at values) ps no_pairs ≡ pairs_of piece_key (value_at values) ks =
-    turned piece_key (value_at values) ps qs no_pairs order.1
-    ∙ put_last_ones values qs no_pairs
-    ∙ put_ascending piece_key (value_at values) ks up in
-    let all = all_last (IsPiece D f texts values) qs (All-permutation (IsPiece D f texts values) ps qs order.2 h) in
-    let w = pieces_written D f texts values false None ks order.3 all in
-    let printed : object_text texts ks ≡ text_of (object w.0) = ap (λ l. 123 ∷ l) w.2 ∙ object_printed w.0 in (
-      w.0,
-      ap (writes_pairs_in D f) put ∙ w.1,
-      ended.2 ∙ ap (λ l. old ++ l) (order.4 ∙ printed),
-    )
+    record {
+      values = values;
+      members = ks;
+      up = up;
+      all = all_last (IsPiece IsText texts values) qs (All-permutation (IsPiece IsText texts values) ps qs same h);
+      pairs = turned piece_key (value_at values) ps qs no_pairs stable
+          ∙ put_last_ones values qs no_pairs
+          ∙ put_ascending piece_key (value_at values) ks (ascending_pairs values None ks up);
+      text = behind ∙ ap (λ l. old ++ l) is;
+    }

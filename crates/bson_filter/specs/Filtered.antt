@@ -4,6 +4,7 @@ use Rattle.serde_json.specs.Data.{Data}
 use Rattle.bson_scalar.specs.TreeText.{tree_text}
 use Rattle.bson_scalar.specs.declared.form.Doubles.{Doubles}
 use Rattle.bson_scalar.specs.declared.form.Form.{Form}
+use Rattle.bson_model.specs.Displayed.{display_text}
 use Rattle.bson_model.specs.Laws.{IsTreeOfIn}
 use Rattle.bson_model.specs.Texts.{ReadsAgainIn}
 use Rattle.bson_model.specs.Value.{Value}
@@ -27,3 +28,9 @@ pub record IsSortedText (D : Doubles) (f : Form) (text written : List ℕ) : Typ
   pub is_tree : IsTreeOfIn D f value tree
   pub reads_again : ReadsAgainIn D f value tree
   pub compact : written ≡ tree_text D f tree
+
+-- the text means a value by default, and the other is the text that shows that value
+pub record IsShownText (D : Doubles) (text written : List ℕ) : Type 0 where
+  pub value : Value
+  pub meaning : MeansByDefault D text value
+  pub shown : written ≡ display_text value

@@ -1,6 +1,7 @@
 pub mod Digest
 pub mod Filtered
 pub mod Pieces
+pub mod ShownWritten
 pub mod SortedWritten
 pub mod TextWritten
 pub mod Walked

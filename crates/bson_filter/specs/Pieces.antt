@@ -109,6 +109,6 @@ Values = ℕ → Value
 abbrev pub value_at : Values → Piece → Value
 value_at values p = values p.start
 
-abbrev pub IsPiece : Doubles → Form → List ℕ → Values → Piece → Type 0
-IsPiece D f texts values p =
-    IsWithin texts p × IsMemberText D f (piece_key p) (value_at values p) (piece_text texts p)
+-- the piece stands within the texts, with a text of its key and value
+abbrev pub IsPiece : (List ℕ → Value → List ℕ → Type 0) → List ℕ → Values → Piece → Type 0
+IsPiece IsText texts values p = IsWithin texts p × IsText (piece_key p) (value_at values p) (piece_text texts p)

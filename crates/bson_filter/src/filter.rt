@@ -1,7 +1,8 @@
 //! From text to text, token by token.
 ghost use Rattle.std.specs.Prelude.{IfOk};
-ghost use Rattle.bson_filter.specs.Filtered.{IsFilteredText, IsSortedText};
+ghost use Rattle.bson_filter.specs.Filtered.{IsFilteredText, IsShownText, IsSortedText};
 
+use crate::shown_text::ShownWriter;
 use crate::sorted_text::SortedWriter;
 use crate::text::TextWriter;
 use crate::unstreamed::Unstreamed;
@@ -50,6 +51,24 @@ pub fn sort_text(
         form,
         text: Vec::with_capacity(alloc, text.len())?,
         part: Vec::new(alloc),
+        starts: Vec::new(alloc),
+        behind: false,
+    };
+    write_text(alloc, doubles, text, &mut writer)?;
+    Ok(writer.text)
+}
+
+/// The bytes of the text that shows the value that the text means by default, each document's keys
+/// in ascending order of bytes: it is written as the text is read, with no value in memory.
+///
+/// `Left` says nothing of the text, and comes where it comes from [`sort_text`].
+pub fn show_text(alloc: Global, doubles: Doubles, text: &str) -> Result<Vec<u8>, Unstreamed>
+    ensures ok { IfOk result (λ written. IsShownText doubles text.now written.items) }
+{
+    let mut writer = ShownWriter {
+        alloc,
+        text: Vec::with_capacity(alloc, text.len())?,
+        part: String::new(alloc),
         starts: Vec::new(alloc),
         behind: false,
     };

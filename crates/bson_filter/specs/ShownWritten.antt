@@ -1,0 +1,50 @@
+-- What a writer of the text that shows values has written: for private clauses.
+use Rattle.std.specs.Prelude.{◌≡◌, ◌++◌, ◌∷◌, [], ℕ, List, length, Bool, true, false, codes, if◌then◌else◌}
+use Rattle.serde_json.specs.Written.{comma_if}
+use Rattle.bson_model.specs.Displayed.{display_text}
+use Rattle.bson_model.specs.Sorted.{sorted, sorted_pairs}
+use Rattle.bson_model.specs.Value.{Value, Pairs, document}
+use Rattle.bson_filter.specs.declared.sorted_text.Begun.{Begun}
+use Rattle.bson_filter.specs.declared.shown_text.ShownWriter.{ShownWriter}
+
+-- what separates an element from one before it
+abbrev pub separator_if : Bool → List ℕ
+separator_if behind = if behind then codes ", " else []
+
+-- the text so far, and the separator that comes before a value that stands next
+abbrev pub next_text : ShownWriter → List ℕ
+next_text w = w.text.items ++ separator_if w.behind
+
+-- this text comes after the old one, behind which a value stands or not, and nothing else is another
+abbrev pub Added : ShownWriter → List ℕ → Bool → ShownWriter → Type 0
+Added old s behind new =
+    (new.behind ≡ behind) × (new.starts.items ≡ old.starts.items) × (new.text.items ≡ old.text.items ++ s)
+
+-- the same with a separator where one is due
+abbrev pub Next : ShownWriter → List ℕ → Bool → ShownWriter → Type 0
+Next old s behind new = Added old (separator_if old.behind ++ s) behind new
+
+abbrev pub ValueAdded : ShownWriter → Value → ShownWriter → Type 0
+ValueAdded old v new = Next old (display_text (sorted v)) true new
+
+abbrev pub PairsAdded : ShownWriter → Pairs → ShownWriter → Type 0
+PairsAdded old ps new = Next old (display_text (document (sorted_pairs ps))) true new
+
+-- a document was begun, whose text starts here and whose members' starts come behind those before it
+abbrev pub IsBegun : ShownWriter → Begun → ShownWriter → Type 0
+IsBegun old begun new = (begun.start ≡ length (next_text old)) × (begun.held ≡ length old.starts.items)
+    × Next old (codes "{") false new
+
+-- the text up to a member that comes next
+abbrev pub member_front : ShownWriter → List ℕ
+member_front w = w.text.items ++ comma_if w.behind
+
+-- a key was added, whose member starts here, with the blank in front of it
+abbrev pub KeyAdded : ShownWriter → List ℕ → ShownWriter → Type 0
+KeyAdded old k new = (new.behind ≡ false)
+    × (new.starts.items ≡ old.starts.items ++ length (member_front old) ∷ [])
+    × (new.text.items ≡ member_front old ++ (codes " \"" ++ (k ++ codes "\": ")))
+
+-- code was added, and the text of its scope starts here
+abbrev pub IsCodeBegun : ShownWriter → List ℕ → Begun → ShownWriter → Type 0
+IsCodeBegun old s begun new = (begun.start ≡ length new.text.items) × Next old s false new

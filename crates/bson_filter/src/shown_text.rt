@@ -1,0 +1,195 @@
+//! The text that shows values, each document's keys in ascending order.
+ghost use Rattle.std.specs.Prelude.{◌≡◌, ◌∷◌, ◌++◌, [], length, true, false, codes, OnOk};
+ghost use Rattle.bson_scalar.specs.Displayed.{scalar_text};
+ghost use Rattle.bson_scalar.specs.View.{scalar_of, scalar_view};
+ghost use Rattle.bson_filter.specs.ShownWritten.{Added, Next, separator_if};
+
+use crate::pieces::{end_object, put_comma};
+use crate::sorted_text::Begun;
+use crate::unstreamed::Unstreamed;
+use crate::writer::ValueWriter;
+use bson_scalar::scalar::Scalar;
+use bson_scalar::scalar_ref::ScalarRef;
+use itoa::Buffer;
+use std::alloc::{AllocError, Global};
+
+/// The text of values on one line, as people read it. The members of an open document stand in it
+/// as they came, each from its start on.
+#[derive(Drop)]
+pub(crate) struct ShownWriter {
+    pub(crate) alloc: Global,
+    pub(crate) text: Vec<u8>,
+    // Room for the text of a scalar.
+    pub(crate) part: String,
+    // Those of the documents that are open, each document's behind those around it.
+    pub(crate) starts: Vec<usize>,
+    // A value stands before what comes next.
+    pub(crate) behind: bool,
+}
+
+impl ShownWriter {
+    // Adds the separator of elements that is due.
+    fn add_separator(&mut self) -> Result<(), AllocError>
+        ensures { OnOk result (Added self.old (separator_if self.old.behind) self.old.behind self.new) }
+    {
+        if self.behind {
+            self.text.extend_from_slice(b", ")?;
+        }
+        Ok(())
+    }
+
+    // Adds the bytes, behind which a value stands or not.
+    fn add(&mut self, bytes: &[u8], behind: bool) -> Result<(), AllocError>
+        ensures { OnOk result (Added self.old bytes.now behind self.new) }
+    {
+        self.text.extend_from_slice(bytes)?;
+        self.behind = behind;
+        Ok(())
+    }
+
+    // Adds the separator that is due, and the scalar's text.
+    fn add_scalar(&mut self, value: Scalar) -> Result<(), AllocError>
+        ensures { OnOk result (Next self.old (scalar_text (scalar_view value)) true self.new) }
+    {
+        self.add_separator()?;
+        self.part.clear();
+        write!(self.part, "{}", scalar_ref(&value))?;
+        self.text.extend_from_slice(self.part.as_bytes())?;
+        self.behind = true;
+        Ok(())
+    }
+
+    fn position(&self) -> Begun
+        ensures start { result.start ≡ length self.now.text.items }
+        ensures held { result.held ≡ length self.now.starts.items }
+    {
+        Begun {
+            start: self.text.len(),
+            held: self.starts.len(),
+        }
+    }
+}
+
+// The members begin with a blank, so that a comma alone stands between them.
+impl ValueWriter for ShownWriter {
+    type Open = Begun;
+
+    ghost use Rattle.bson_filter.specs.ShownWritten.{ValueAdded, PairsAdded, IsBegun, KeyAdded, IsCodeBegun};
+
+    ghost name_of = { λ n. [] };
+
+    ghost wrote = { λ old k v new. ValueAdded old v new };
+
+    ghost framed = { λ old ps new. PairsAdded old ps new };
+
+    ghost listed = { λ old k begun new. Next old (codes "[") false new };
+
+    ghost opened = { λ old begun new. IsBegun old begun new };
+
+    ghost keyed = { λ old k new. KeyAdded old k new };
+
+    ghost coded = { λ old k s begun new. IsCodeBegun old s begun new };
+
+    fn string(&mut self, _name: &str, text: &str) -> Result<(), Unstreamed> {
+        self.add_separator()?;
+        self.add(b"\"", false)?;
+        self.add(text.as_bytes(), false)?;
+        Ok(self.add(b"\"", true)?)
+    }
+
+    fn boolean(&mut self, _name: &str, truth: bool) -> Result<(), Unstreamed> {
+        Ok(self.add_scalar(Scalar::Boolean(truth))?)
+    }
+
+    fn null(&mut self, _name: &str) -> Result<(), Unstreamed> {
+        Ok(self.add_scalar(Scalar::Null)?)
+    }
+
+    fn scalar(&mut self, _name: &str, value: Scalar) -> Result<(), Unstreamed> {
+        Ok(self.add_scalar(value)?)
+    }
+
+    fn item_name<'b>(_buffer: &'b mut Buffer, _place: usize) -> &'b str {
+        ""
+    }
+
+    fn begin_array(&mut self, _name: &str) -> Result<Begun, Unstreamed> {
+        self.add_separator()?;
+        let begun = self.position();
+        self.add(b"[", false)?;
+        Ok(begun)
+    }
+
+    fn end_array(&mut self, _begun: Begun) -> Result<(), Unstreamed> {
+        Ok(self.add(b"]", true)?)
+    }
+
+    fn embed(&mut self, _name: &str) -> Result<(), Unstreamed> {
+        Ok(())
+    }
+
+    fn begin(&mut self) -> Result<Begun, Unstreamed> {
+        self.add_separator()?;
+        let begun = self.position();
+        self.add(b"{", false)?;
+        Ok(begun)
+    }
+
+    fn key(&mut self, name: &str) -> Result<(), Unstreamed> {
+        put_comma(self.behind, &mut self.text)?;
+        self.starts.push(self.text.len())?;
+        self.add(b" \"", false)?;
+        self.add(name.as_bytes(), false)?;
+        Ok(self.add(b"\": ", false)?)
+    }
+
+    fn end(&mut self, begun: Begun, keys: &mut [&str]) -> Result<(), Unstreamed> {
+        let starts = &self.starts[begun.held..];
+        end_object(self.alloc, keys, starts, begun.start, &mut self.text)?;
+        if !keys.is_empty() {
+            self.text.pop();
+            self.text.extend_from_slice(b" }")?;
+        }
+        self.starts.truncate(begun.held);
+        self.behind = true;
+        Ok(())
+    }
+
+    // What is begun is the scope, which is not shown.
+    fn begin_code(&mut self, _name: &str, code: &str) -> Result<Begun, Unstreamed> {
+        self.add_separator()?;
+        self.add(code.as_bytes(), false)?;
+        Ok(self.position())
+    }
+
+    fn end_code(&mut self, scope: Begun) -> Result<(), Unstreamed> {
+        self.text.truncate(scope.start);
+        self.behind = true;
+        Ok(())
+    }
+}
+
+fn scalar_ref(value: &Scalar) -> ScalarRef<'_>
+    ensures { scalar_of result ≡ scalar_view value.now }
+{
+    match value {
+        Scalar::Null => ScalarRef::Null,
+        Scalar::Undefined => ScalarRef::Undefined,
+        Scalar::MinKey => ScalarRef::MinKey,
+        Scalar::MaxKey => ScalarRef::MaxKey,
+        Scalar::Boolean(b) => ScalarRef::Boolean(*b),
+        Scalar::Double(pattern) => ScalarRef::Double(*pattern),
+        Scalar::Int32(z) => ScalarRef::Int32(*z),
+        Scalar::Int64(z) => ScalarRef::Int64(*z),
+        Scalar::String(text) => ScalarRef::String(text.as_str()),
+        Scalar::Symbol(text) => ScalarRef::Symbol(text.as_str()),
+        Scalar::JavaScriptCode(code) => ScalarRef::JavaScriptCode(code.as_str()),
+        Scalar::RegularExpression(regex) => ScalarRef::RegularExpression(regex),
+        Scalar::Timestamp(stamp) => ScalarRef::Timestamp(*stamp),
+        Scalar::Binary(binary) => ScalarRef::Binary(binary),
+        Scalar::ObjectId(id) => ScalarRef::ObjectId(*id),
+        Scalar::DateTime(date) => ScalarRef::DateTime(*date),
+        Scalar::Decimal128(decimal) => ScalarRef::Decimal128(*decimal),
+        Scalar::DbPointer(pointer) => ScalarRef::DbPointer(pointer),
+    }
+}
