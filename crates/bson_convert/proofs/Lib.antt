@@ -1,3 +1,4 @@
+mod Arranged
 mod Again
 mod Broken
 mod Converting

@@ -2,6 +2,7 @@
 ghost use Rattle.std.specs.Prelude.{IfOk};
 ghost use Rattle.bson_filter.specs.Filtered.{IsFilteredText, IsShownText, IsSortedText};
 
+use crate::pieces::memory_allowed;
 use crate::shown_text::ShownWriter;
 use crate::sorted_text::SortedWriter;
 use crate::text::TextWriter;
@@ -36,7 +37,8 @@ pub fn filter_text(
 }
 
 /// [`filter_text`] with each document's keys in ascending order of bytes. Of a key that stands twice
-/// in an object the last value counts: such a text is not left.
+/// in an object the last value counts: such a text is not left. One is that would take more than some
+/// ten times its size to be put in order.
 pub fn sort_text(
     alloc: Global,
     doubles: Doubles,
@@ -53,6 +55,7 @@ pub fn sort_text(
         part: Vec::new(alloc),
         starts: Vec::new(alloc),
         behind: false,
+        most: memory_allowed(text.len()),
     };
     write_text(alloc, doubles, text, &mut writer)?;
     Ok(writer.text)
@@ -71,6 +74,7 @@ pub fn show_text(alloc: Global, doubles: Doubles, text: &str) -> Result<Vec<u8>,
         part: String::new(alloc),
         starts: Vec::new(alloc),
         behind: false,
+        most: memory_allowed(text.len()),
     };
     write_text(alloc, doubles, text, &mut writer)?;
     Ok(writer.text)

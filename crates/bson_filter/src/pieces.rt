@@ -15,6 +15,9 @@ use std::alloc::{AllocError, Global};
 // So many members or fewer are sorted with no memory.
 const FEW: usize = 20;
 
+// What sorting takes for a member: its key and start, a piece, and its prefix.
+const PER_MEMBER: usize = 96;
+
 // The key of a member, and the place of its text, as in `"a":1`.
 #[derive(Clone, Copy, Drop)]
 pub(crate) struct Piece<'a> {
@@ -24,12 +27,14 @@ pub(crate) struct Piece<'a> {
 }
 
 // Ends the object that begins at the start, whose members have these keys and begin at the starts:
-// by ascending key, and of those of one key the last.
+// by ascending key, and of those of one key the last. It is left where that would take more bytes
+// than `most`.
 pub(crate) fn end_object(
     alloc: Global,
     keys: &[&str],
     starts: &[usize],
     start: usize,
+    most: usize,
     text: &mut Vec<u8>,
 ) -> Result<(), Unstreamed>
     requires paired { length keys.now ≡ length starts.now }
@@ -43,11 +48,27 @@ pub(crate) fn end_object(
         text.push(b'}')?;
         return Ok(());
     }
+    if memory_for(keys.len(), text.len()) > most {
+        return Err(Unstreamed::Left);
+    }
     let pieces = pieces_of(alloc, keys, starts, text.len())?;
     let written = in_order(alloc, pieces, start, text)?.ok_or(Unstreamed::Left)?;
     text.truncate(start);
     text.extend_from_slice(&written)?;
     Ok(())
+}
+
+/// How many bytes may be taken to put the members of a text of this length in order: so many that
+/// with all else it keeps to twelve times the text.
+pub(crate) fn memory_allowed(length: usize) -> usize {
+    length.saturating_mul(10).saturating_add(8 << 20)
+}
+
+// So many members of a text of this length take, which is held twice.
+fn memory_for(members: usize, length: usize) -> usize {
+    members
+        .saturating_mul(PER_MEMBER)
+        .saturating_add(length.saturating_mul(2))
 }
 
 fn ascend(keys: &[&str]) -> bool

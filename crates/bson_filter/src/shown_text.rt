@@ -25,6 +25,8 @@ pub(crate) struct ShownWriter {
     pub(crate) starts: Vec<usize>,
     // A value stands before what comes next.
     pub(crate) behind: bool,
+    // So many bytes may be taken to put members in order.
+    pub(crate) most: usize,
 }
 
 impl ShownWriter {
@@ -145,7 +147,14 @@ impl ValueWriter for ShownWriter {
 
     fn end(&mut self, begun: Begun, keys: &mut [&str]) -> Result<(), Unstreamed> {
         let starts = &self.starts[begun.held..];
-        end_object(self.alloc, keys, starts, begun.start, &mut self.text)?;
+        end_object(
+            self.alloc,
+            keys,
+            starts,
+            begun.start,
+            self.most,
+            &mut self.text,
+        )?;
         if !keys.is_empty() {
             self.text.pop();
             self.text.extend_from_slice(b" }")?;

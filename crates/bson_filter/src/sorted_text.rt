@@ -30,6 +30,8 @@ pub(crate) struct SortedWriter {
     pub(crate) starts: Vec<usize>,
     // A value stands before what comes next.
     pub(crate) behind: bool,
+    // So many bytes may be taken to put members in order.
+    pub(crate) most: usize,
 }
 
 /// Where the text of what was begun starts, and how many starts there were.
@@ -168,7 +170,14 @@ impl ValueWriter for SortedWriter {
 
     fn end(&mut self, begun: Begun, keys: &mut [&str]) -> Result<(), Unstreamed> {
         let starts = &self.starts[begun.held..];
-        end_object(self.alloc, keys, starts, begun.start, &mut self.text)?;
+        end_object(
+            self.alloc,
+            keys,
+            starts,
+            begun.start,
+            self.most,
+            &mut self.text,
+        )?;
         self.starts.truncate(begun.held);
         self.behind = true;
         Ok(())

@@ -11,6 +11,7 @@ returns c =
       part = c.new.result;
       starts = c.new-2.result;
       behind = false;
+      most = c.memory_allowed.result;
     } in
     record {
       ok = text_shown c.args.doubles c.args.text.now old c.write_text.new.out c.in_ok-write_text.ensures refl

@@ -15,6 +15,7 @@ returns c =
       part = c.new.result;
       starts = c.new-2.result;
       behind = false;
+      most = c.memory_allowed.result;
     } in
     record {
       ok = text_sorted D f c.args.text.now old c.write_text.new.out c.in_ok-write_text.ensures refl refl refl
