@@ -1,6 +1,11 @@
 -- What the members of an object are, arranged.
-use Rattle.std.proofs.Common.{◌≡◌, ℕ, List, map, None, refl, sym, ap, ◌∙◌}
-use Rattle.json.specs.Json.{no_members}
+use Rattle.std.proofs.Common.{◌≡◌, ℕ, List, [], ◌∷◌, Bool, true, false, cond, Ordering, Less, Equal, Greater, map, None, refl, sym, ap, ◌∙◌}
+use Rattle.std.specs.Cmp.Lexicographic.{slice_cmp}
+use Rattle.std.specs.Ordering.{match_ordering, nat_cmp}
+use Rattle.std.specs.Str.{bytes_eq}
+use Rattle.json.specs.Json.{Json, Members, no_members, member}
+use Rattle.bson_distinct.specs.Arranged.{put_by}
+use Rattle.bson_distinct.specs.Arranging.{some_stand}
 use Rattle.bson_distinct.specs.Arranging.{AreOrdered, Entry, Stand, entry_at, entry_key, entry_members}
 use Rattle.bson_distinct.specs.Arranging.{entry_value, merge, piece_key, piece_place, piece_value, put_entries}
 use Rattle.bson_distinct.specs.PutPieces.{KeysAscend, members_of, put_each}
@@ -9,7 +14,7 @@ use Rattle.bson_distinct.specs.declared.arrangement.Arrangement.TheVariants.{Fir
 use Rattle.bson_distinct.specs.declared.order.Piece.{Piece}
 use Rattle.bson_distinct.proofs.Merged.{settled_by_key, settled_by_place}
 use Rattle.bson_distinct.proofs.Ordered.{as_entries, put_as_entries}
-use Rattle.bson_distinct.proofs.Putting.{put_ascending_keys}
+use Rattle.bson_distinct.proofs.Putting.{put_ascending_keys, put_put}
 
 -- entries are put as their pieces are
 put_stand : (a : Arrangement) (body : List ℕ) (ps : List Piece) (es : List Entry) (stand : Stand body ps es)
@@ -41,3 +46,46 @@ pub settled : (a : Arrangement) (body : List ℕ) (xs zs : List Piece) (es : Lis
     → AreOrdered a xs zs → entry_members (map (entry_at stand.values) zs) ≡ put_entries a es
 settled a body xs zs es stand o =
     as_entries stand.values zs ∙ ordered a body xs zs es stand o ∙ sym (put_stand a body xs es stand)
+
+-- ---- before the object ends
+
+abbrev filled : Members → Bool
+filled no_members = false
+filled (member k j ms) = true
+
+filled_if : (b : Bool) (x y : Members) → filled x ≡ true → filled y ≡ true → filled (cond b x y) ≡ true
+filled_if true x y h g = h
+filled_if false x y h g = g
+
+filled_by : (o : Ordering) (x y z : Members) → filled x ≡ true → filled y ≡ true → filled z ≡ true
+    → filled (match_ordering o x y z) ≡ true
+filled_by Less x y z h g f = h
+filled_by Equal x y z h g f = g
+filled_by Greater x y z h g f = f
+
+filled_put : (a : Arrangement) (k : List ℕ) (j : Json) (ms : Members) → filled (put_by a k j ms) ≡ true
+filled_put FirstPlaces k j no_members = refl
+filled_put FirstPlaces k j (member l i ms) = filled_if (bytes_eq k l) _ _ refl refl
+filled_put Ascending k j no_members = refl
+filled_put Ascending k j (member l i ms) = filled_by (slice_cmp nat_cmp k l) _ _ _ refl refl refl
+
+filled_each : (a : Arrangement) (es : List Entry) (found : Members) → filled found ≡ true
+    → filled (put_each entry_key entry_value a es found) ≡ true
+filled_each a [] found h = h
+filled_each a (e ∷ es) found h = filled_each a es (put_by a e.0 e.1 found) (filled_put a e.0 e.1 found)
+
+filled_entries : (a : Arrangement) (es : List Entry) → filled (put_entries a es) ≡ some_stand es
+filled_entries a [] = refl
+filled_entries a (e ∷ es) = filled_each a es (put_by a e.0 e.1 no_members) (filled_put a e.0 e.1 no_members)
+
+filled_members : (es : List Entry) → filled (entry_members es) ≡ some_stand es
+filled_members [] = refl
+filled_members (e ∷ es) = refl
+
+-- what they are put as is put again as it stands
+pub settled_alike : (a : Arrangement) (es fs : List Entry) → entry_members fs ≡ put_entries a es
+    → (put_entries a fs ≡ put_entries a es) × (some_stand fs ≡ some_stand es)
+settled_alike a es fs put = (
+  put_put entry_key entry_value a es fs put ∙ put,
+  sym (filled_members fs) ∙ ap filled put ∙ filled_entries a es,
+)

@@ -1,6 +1,6 @@
 -- The texts of members, one behind the other.
 use Rattle.std.proofs.Common.{◌≡◌, ℕ, ◌+◌, ◌-◌, ◌<◌, ◌≤◌, ◌==◌, Bool, true, false, cond, List, [], ◌∷◌, ◌++◌, length}
-use Rattle.std.proofs.Common.{drop, take, map, refl, sym, ap, ◌∙◌, subst, arith, append_assoc, append-nil, slice_index_or}
+use Rattle.std.proofs.Common.{Bor, drop, take, map, refl, sym, ap, ◌∙◌, subst, arith, append_assoc, append-nil, slice_index_or}
 use Rattle.std.proofs.lemmas.Bool.{eq-eqb, ne_eqb}
 use Rattle.std.proofs.lemmas.List.{take-append-le, drop-append-le, length-append, length-drop, map-append}
 use Rattle.std.proofs.lemmas.List.Elements.{All-nil, All-head, All-tail, All-cons, All-weaker, All-append}
@@ -12,7 +12,9 @@ use Rattle.json.specs.Tree.{json_tokens}
 use Rattle.serde_json.specs.Written.{comma_if}
 use Rattle.bson_distinct.specs.Arranging.{Entry, IsPiece, Stand, Values, entry_at, member_text}
 use Rattle.bson_distinct.specs.Arranging.{piece_key, piece_place, piece_text, some_stand, spelled}
+use Rattle.bson_distinct.specs.Arranging.{IsWithin, MemberBegun, ValueAdded}
 use Rattle.bson_distinct.specs.PutPieces.{Rise}
+use Rattle.bson_distinct.specs.declared.arranger.Arranger.{Arranger}
 use Rattle.bson_distinct.specs.declared.order.Piece.{Piece}
 
 -- the text between a front and a rest
@@ -169,3 +171,47 @@ none_stand text ps no_text no_pieces =
 pub one_stands : (es : List Entry) (e : Entry) → true ≡ some_stand (es ++ e ∷ [])
 one_stands [] e = refl
 one_stands (d ∷ es) e = refl
+
+-- ---- an open object
+
+-- the text behind the first is that of the pieces
+pub record Grown (first text : List ℕ) (behind : Bool) (ps : List Piece) (es : List Entry) : Type 0 where
+  pub body : List ℕ
+  pub text_is : text ≡ first ++ body
+  pub stand : Stand body ps es
+  pub behind_is : behind ≡ some_stand es
+
+pub grown_more : (first : List ℕ) (w mid later : Arranger) (start place end : ℕ) (ps qs : List Piece) (es : List Entry)
+    (k : Bor (List ℕ)) (j : Json) → Grown first w.text.items w.behind ps es → start ≡ length first
+    → MemberBegun w start k.now place mid → ValueAdded mid j later → end ≡ length later.text.items - start
+    → qs ≡ ps ++ record { key = k; place = place; start = place; end = end } ∷ []
+    → Grown first later.text.items later.behind qs (es ++ (k.now, j) ∷ [])
+grown_more first w mid later start place end ps qs es k j g begun (at, named) added ended held =
+    let b = w.behind in
+    let own = member_text (k.now, j) in
+    let text = text_more first g.body w.text.items mid.text.items later.text.items b mid.behind k.now j g.text_is
+    named.text named.behind added.text in
+    let here = place_behind first g.body w.text.items (comma_if b) start place begun g.text_is at in
+    let there = end_behind first (g.body ++ (comma_if b ++ own)) later.text.items start end begun text ended in
+    let p : Piece = record { key = k; place = place; start = place; end = end } in
+    let more = stand_more g.body ps es p j g.stand (here ∙ ap (λ x. length (g.body ++ comma_if x)) g.behind_is) refl
+    (there ∙ ap (λ x. length (g.body ++ (comma_if x ++ own))) g.behind_is) in
+    record {
+      body = g.body ++ (comma_if (some_stand es) ++ own);
+      text_is = text ∙ ap (λ x. first ++ (g.body ++ (comma_if x ++ own))) g.behind_is;
+      stand = subst (λ ls. Stand (g.body ++ (comma_if (some_stand es) ++ own)) ls (es ++ (k.now, j) ∷ [])) (sym held) more;
+      behind_is = added.behind ∙ one_stands es (k.now, j);
+    }
+
+pub grown_inside : (first text : List ℕ) (b : Bool) (ps : List Piece) (es : List Entry) (start : ℕ)
+    → Grown first text b ps es → start ≡ length first → start ≤ length text
+grown_inside first text b ps es start g begun =
+    omega (arith, begun, ap length g.text_is, length-append first g.body)
+
+pub grown_within : (first text : List ℕ) (b : Bool) (ps : List Piece) (es : List Entry) (start : ℕ)
+    → Grown first text b ps es → start ≡ length first → All (IsWithin (drop start text)) ps
+grown_within first text b ps es start g begun =
+    let body : drop start text ≡ g.body =
+    ap (drop start) g.text_is ∙ ap (λ n. drop n (first ++ g.body)) begun ∙ drop-append_seam first g.body in
+    subst (λ t. All (IsWithin t) ps) (sym body)
+    (All-weaker (IsPiece g.body g.stand.values) (IsWithin g.body) (λ p h. h.0) ps g.stand.all)

@@ -128,6 +128,10 @@ item_fails depth ts going none = fails_at (value depth ts) refl
 abbrev pub found_at : Arrangement → List Entry → Members × List Token → Members × List Token
 found_at a es p = (arranged_members a p.0 (put_entries a es), p.1)
 
+-- the same behind these members
+abbrev pub found_from : Arrangement → Members → Option (Members × List Token) → Option (Members × List Token)
+found_from a ms o = option_map (λ p. (arranged_members a p.0 ms, p.1)) o
+
 abbrev pub found : Arrangement → List Entry → Option (Members × List Token) → Option (Members × List Token)
 found a es o = option_map (found_at a es) o
 

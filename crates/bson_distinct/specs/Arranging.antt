@@ -171,6 +171,14 @@ IsSettled w start old new later = (later.arrangement ≡ w.arrangement) × (late
     → Stand body old es
     → (t : List ℕ) × (later.text.items ≡ front ++ t) × StandArranged w.arrangement es t new)
 
+-- the same before the object ends: what they are put as stays
+abbrev pub IsSettledEarly : Arranger → ℕ → List Piece → List Piece → Arranger → Type 0
+IsSettledEarly w start old new later = (later.arrangement ≡ w.arrangement) × (later.behind ≡ w.behind)
+    × ((front body : List ℕ) (es : List Entry) → w.text.items ≡ front ++ body → start ≡ length front
+    → Stand body old es
+    → (t : List ℕ) × (fs : List Entry) × (later.text.items ≡ front ++ t) × Stand t new fs
+    × (put_entries w.arrangement fs ≡ put_entries w.arrangement es) × (some_stand fs ≡ some_stand es))
+
 -- the texts of the pieces stand one behind the other
 abbrev pub IsJoined : List ℕ → List Piece → List Piece → List ℕ → Type 0
 IsJoined body old new text = (values : Values) → All (IsPiece body values) old

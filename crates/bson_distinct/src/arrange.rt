@@ -11,7 +11,7 @@ ghost use Rattle.bson_distinct.specs.Arranging.{ranged, ranged_items, ranged_mem
 ghost use Rattle.bson_tokens.specs.declared.unread.Unread.TheVariants.{Broken};
 
 use crate::arrangement::Arrangement;
-use crate::arranger::{Arranger, into_text};
+use crate::arranger::{Arranger, EARLY, into_text};
 use crate::order::Piece;
 use bson_tokens::number::number;
 use bson_tokens::unread::Unread;
@@ -106,6 +106,7 @@ fn write_members(reader: &mut Reader<'_>, depth: usize, out: &mut Arranger) -> R
 {
     let start = out.begin_object()?;
     let mut pieces = Vec::new(out.alloc);
+    let mut most = EARLY;
     'members: while let Some(key) = reader.next_key()? {
         let place = out.begin_member(start, key)?;
         write_value(reader, depth, out)?;
@@ -115,6 +116,7 @@ fn write_members(reader: &mut Reader<'_>, depth: usize, out: &mut Arranger) -> R
             start: place,
             end: out.place(start),
         })?;
+        most = out.settle_early(start, &mut pieces, most)?;
     }
     out.settle(start, &mut pieces)?;
     Ok(out.close(b'}')?)

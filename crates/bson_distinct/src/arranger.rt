@@ -6,7 +6,7 @@ ghost use Rattle.json.specs.Print.{print, IsPrintable};
 ghost use Rattle.json.specs.Reads.{token_of};
 ghost use Rattle.serde_json.specs.Written.{comma_if};
 ghost use Rattle.bson_tokens.specs.declared.unread.Unread.TheVariants.{OutOfMemory};
-ghost use Rattle.bson_distinct.specs.Arranging.{Added, Closed, IsBegun, IsSettled, IsWithin, MemberBegun};
+ghost use Rattle.bson_distinct.specs.Arranging.{Added, Closed, IsBegun, IsSettled, IsSettledEarly, IsWithin, MemberBegun};
 
 use crate::arrangement::Arrangement;
 use crate::order::{Piece, arrange_pieces};
@@ -14,6 +14,10 @@ use bson_tokens::unread::Unread;
 use json::{Token, Writer};
 use std::alloc::{AllocError, Global};
 use std::mem::replace;
+
+// So many members of an open object are arranged before its end, and again wherever they are twice
+// as many.
+pub(crate) const EARLY: usize = 1_000;
 
 // The text so far. The members of an open object stand in it as they came.
 #[derive(Drop)]
@@ -151,5 +155,23 @@ impl Arranger {
             self.text.extend_from_slice(&arranged)?;
         }
         Ok(())
+    }
+
+    // Arranges them where there are as many as this, and answers how many there may be then.
+    pub(crate) fn settle_early(
+        &mut self,
+        start: usize,
+        pieces: &mut Vec<Piece<'_>>,
+        most: usize,
+    ) -> Result<usize, AllocError>
+        requires inside { start ≤ length self.old.text.items }
+        requires within { All (IsWithin (drop start self.old.text.items)) pieces.old.items }
+        ensures { OnOk result (IsSettledEarly self.old start pieces.old.items pieces.new.items self.new) }
+    {
+        if pieces.len() < most {
+            return Ok(most);
+        }
+        self.settle(start, pieces)?;
+        Ok(pieces.len().saturating_mul(2).max(EARLY))
     }
 }

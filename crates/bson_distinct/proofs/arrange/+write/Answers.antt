@@ -4,16 +4,14 @@ use Rattle.json.specs.Json.{array, object, after_end_array, parse_map, read_key,
 use Rattle.json.specs.Reads.{token_of}
 use Rattle.json.proofs.Grammar.{read_key-shorter}
 use Rattle.bson_distinct.specs.Arranged.{arranged}
-use Rattle.bson_distinct.specs.Arranging.{Passes, Stand, elements, inside, member_text, ranged, ranged_items, ranged_members, some_stand}
+use Rattle.bson_distinct.specs.Arranging.{Passes, elements, inside, put_entries, ranged, ranged_items, ranged_members}
 use Rattle.bson_distinct.specs.Arranging.{sound}
-use Rattle.serde_json.specs.Written.{comma_if}
-use Rattle.bson_distinct.proofs.Standing.{end_behind, none_stand, one_stands, place_behind, stand_more, text_more}
+use Rattle.bson_distinct.proofs.Standing.{grown_more, none_stand}
 use Rattle.bson_distinct.proofs.Values.{array_opened, array_too_deep, none_begins, number_fails, number_passes}
 use Rattle.bson_distinct.proofs.Values.{object_opened, object_too_deep, opened_passes, plain_passes}
 use Rattle.bson_distinct.proofs.Values.{empty_fails}
-use Rattle.bson_distinct.proofs.Writing.{all_breaks, breaks, found, found_at, item_fails, item_passed, items_passed, key_fails}
+use Rattle.bson_distinct.proofs.Writing.{all_breaks, breaks, found, found_at, found_from, item_fails, item_passed, items_passed, key_fails}
 use Rattle.bson_distinct.proofs.Writing.{member_fails, member_passed, members_passed, shorter, whole_at}
-use Rattle.bson_distinct.specs.declared.order.Piece.{Piece}
 use Rattle.bson_distinct.proofs.arrange.+write.Goals as goal
 
 -- ---- values
@@ -141,10 +139,12 @@ write_members-members-init t c =
     record {
       arrangement = refl;
       entries = [];
-      body = [];
-      text = sym (append-nil c.begin_object.new.self.text.items);
-      stand = none_stand [] c.new-pieces.result.items refl (grind arith);
-      behind = c.in_ok-start.ensures.1.behind;
+      grown = record {
+        body = [];
+        text_is = sym (append-nil c.begin_object.new.self.text.items);
+        stand = none_stand [] c.new-pieces.result.items refl (grind arith);
+        behind_is = c.in_ok-start.ensures.1.behind;
+      };
       found = refl;
     }
 
@@ -154,42 +154,35 @@ write_members-members-preserved t c =
     let h = l.invariant in
     let k = c.in-Some.key.now in
     let s = c.next_key.new.self in
-    let start = c.in_ok-start.start in
+    let first = c.begin_object.new.self.text.items in
     let mid = c.begin_member.new.self in
     let later = c.write_value.new.out in
-    let first = c.begin_object.new.self.text.items in
     let named : read_key l.reader ≡ Some (Some k, s) = grind arith in
-    let key = c.in_ok-place.ensures in
     let (j, read, added) = c.in_ok-write_value.ensures.ok in
-    let v = arranged mid.arrangement j in
-    let b = l.out.behind in
-    let text = text_more first h.body l.out.text.items mid.text.items later.text.items b mid.behind k v h.text
-    key.1.text key.1.behind added.text in
-    let begun : start ≡ length first = c.in_ok-start.ensures.0 in
-    let place : c.in_ok-place.place ≡ length (h.body ++ comma_if b) =
-    place_behind first h.body l.out.text.items (comma_if b) start c.in_ok-place.place begun h.text key.0 in
-    let end : c.place.result ≡ length (h.body ++ (comma_if b ++ member_text (k, v))) =
-    end_behind first (h.body ++ (comma_if b ++ member_text (k, v))) later.text.items start c.place.result begun text
-    c.place.ensures in
-    let piece : Piece = record { key = c.in-Some.key; place = c.in_ok-place.place; start = c.in_ok-place.place; end = c.place.result } in
-    let more = stand_more h.body l.pieces.items h.entries piece v h.stand
-    (place ∙ ap (λ x. length (h.body ++ comma_if x)) h.behind) refl
-    (end ∙ ap (λ x. length (h.body ++ (comma_if x ++ member_text (k, v)))) h.behind) in
-    let same = key.1.arrangement in
+    let a = l.out.arrangement in
+    let es = h.entries ++ (k, arranged mid.arrangement j) ∷ [] in
+    let rest = sound ranged_members (inside c.args.depth c.write_value.new.reader) in
+    let begun = c.in_ok-start.ensures.0 in
+    let g = grown_more first l.out mid later c.in_ok-start.start c.in_ok-place.place c.place.result l.pieces.items
+    c.push.new.self.items h.entries c.in-Some.key (arranged mid.arrangement j) h.grown begun c.in_ok-place.ensures added
+    c.place.ensures c.in_ok-push.ensures.items in
+    let early = c.in_ok-most.ensures in
+    let (body, fs, text, stand, put, some) = early.2 first g.body es g.text_is begun g.stand in
+    let same : later.arrangement ≡ a = added.arrangement ∙ c.in_ok-place.ensures.1.arrangement in
+    let all = member_passed c.args.depth _ a h.entries k l.reader s c.write_value.new.reader j h.found named read
+    ∙ ap (λ x. found a (h.entries ++ (k, arranged x j) ∷ []) rest) (sym c.in_ok-place.ensures.1.arrangement)
+    ∙ ap (λ ms. found_from a ms rest) (sym (ap (λ x. put_entries x fs) (sym same) ∙ put ∙ ap (λ x. put_entries x es) same)) in
     record {
-      arrangement = added.arrangement ∙ same ∙ h.arrangement;
-      entries = h.entries ++ (k, v) ∷ [];
-      body = h.body ++ (comma_if (some_stand h.entries) ++ member_text (k, v));
-      text = text ∙ ap (λ x. first ++ (h.body ++ (comma_if x ++ member_text (k, v)))) h.behind;
-      stand = subst (λ ps. Stand (h.body ++ (comma_if (some_stand h.entries) ++ member_text (k, v))) ps
-          (h.entries ++ (k, v) ∷ [])) (sym c.in_ok-push.ensures.items) more;
-      behind = added.behind ∙ one_stands h.entries (k, v);
-      found = subst (λ a. found a [] (sound ranged_members (inside c.args.depth c.args.reader.now))
-          ≡ found a (h.entries ++ (k, v) ∷ []) (sound ranged_members (inside c.args.depth c.write_value.new.reader)))
-          (sym (added.arrangement ∙ same))
-          (member_passed c.args.depth _ l.out.arrangement h.entries k l.reader s c.write_value.new.reader j h.found named read
-          ∙ ap (λ a. found l.out.arrangement (h.entries ++ (k, arranged a j) ∷ [])
-          (sound ranged_members (inside c.args.depth c.write_value.new.reader))) (sym same));
+      arrangement = early.0 ∙ same ∙ h.arrangement;
+      entries = fs;
+      grown = record {
+        body = body;
+        text_is = text;
+        stand = stand;
+        behind_is = early.1 ∙ g.behind_is ∙ sym some;
+      };
+      found = subst (λ x. found x [] (sound ranged_members (inside c.args.depth c.args.reader.now)) ≡ found x fs rest)
+          (sym (early.0 ∙ same)) all;
     }
 
 pub write_members-members-smaller : goal.write_members-members-smaller
@@ -230,7 +223,7 @@ write_members-returns-clause-ok t c =
     let first = c.begin_object.new.self.text.items in
     let later = c.close.new.self in
     let settled = c.in_ok-settle.ensures in
-    let (body, text, (fs, stand, put)) = settled.2 first h.body h.entries h.text c.in_ok-start.ensures.0 h.stand in
+    let (body, text, (fs, stand, put)) = settled.2 first h.grown.body h.entries h.grown.text_is c.in_ok-start.ensures.0 h.grown.stand in
     let ended : read_key l.reader ≡ Some (None, c.next_key.new.self) = grind arith in
     let close = c.in_ok-close.ensures in
     members_passed c.args.depth c.args.reader.now l.reader c.next_key.new.self c.args.out.now c.begin_object.new.self

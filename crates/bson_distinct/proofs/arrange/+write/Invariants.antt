@@ -1,5 +1,6 @@
-use Rattle.std.proofs.Common.{◌≡◌, ℕ, ◌+◌, ◌*◌, ◌++◌, List, [], length}
-use Rattle.bson_distinct.specs.Arranging.{Entry, Stand, elements, inside, ranged_items, ranged_members, some_stand, sound}
+use Rattle.std.proofs.Common.{◌≡◌, ◌+◌, ◌*◌, List, [], length}
+use Rattle.bson_distinct.specs.Arranging.{Entry, elements, inside, ranged_items, ranged_members, sound}
+use Rattle.bson_distinct.proofs.Standing.{Grown}
 use Rattle.bson_distinct.proofs.Writing.{found, whole}
 use Rattle.bson_distinct.proofs.arrange.+write.Given as goal
 
@@ -28,10 +29,7 @@ abbrev pub invariant-write_members-members : goal.invariant-write_members-member
 invariant-write_members-members l = record {
   arrangement : l.out.arrangement ≡ l.initial.out.arrangement;
   entries : List Entry;
-  body : List ℕ;
-  text : l.out.text.items ≡ l.initial.out.text.items ++ body;
-  stand : Stand body l.pieces.items entries;
-  behind : l.out.behind ≡ some_stand entries;
+  grown : Grown l.initial.out.text.items l.out.text.items l.out.behind l.pieces.items entries;
   found : found l.out.arrangement [] (sound ranged_members (inside l.depth l.initial.reader))
       ≡ found l.out.arrangement entries (sound ranged_members (inside l.depth l.reader));
 }
