@@ -1,7 +1,7 @@
 -- Members of an object as they are read, in their order.
 use Rattle.std.proofs.Common.{◌≡◌, ℕ, zero, suc, ◌-◌, ◌<◌, List, [], ◌∷◌, ◌++◌, length, map, Option, Some, None}
 use Rattle.std.proofs.Common.{Bor, true, false, option_map, option_and_then, refl, sym, ap, ◌∙◌}
-use Rattle.std.proofs.Common.{Bool, codes, ◌&&◌, arith, append-nil, drop, is_some}
+use Rattle.std.proofs.Common.{Bool, bytes_eq, ◌&&◌, arith, append-nil, drop, is_some}
 use Rattle.json.specs.Json as json
 use Rattle.json.specs.Json.{Parse, parse_map, after_end_array, read_key, items, members, members_step, value, if_last}
 use Rattle.json.specs.Token.{Token}
@@ -121,10 +121,11 @@ two depth k l ts r q end rest j i less read named other fewer ended =
     ∙ ap (parse_map (json.member l i))
     (members_end (value depth) (n - 1) end rest (omega (arith, less, shorter, fewer)) ended))
 
-pub two_kept : (j i : json.Json) (d e : Data) (s : List Token) → kept j ≡ Some d → kept i ≡ Some e
-    → kept_object (Some (json.member (codes "$code") j (json.member (codes "$scope") i json.no_members), s))
-    ≡ Some (member (codes "$code") d (member (codes "$scope") e no_members), s)
-two_kept j i d e s h g = rw (h, g) refl
+pub two_kept : (k l : List ℕ) (j i : json.Json) (d e : Data) (s : List Token) → bytes_eq l k ≡ false → kept j ≡ Some d
+    → kept i ≡ Some e
+    → kept_object (Some (json.member k j (json.member l i json.no_members), s))
+    ≡ Some (member k d (member l e no_members), s)
+two_kept k l j i d e s differ h g = rw (h, g, differ) refl
 
 pub alone_kept : (k : List ℕ) (j : json.Json) (d : Data) (s : List Token) → kept j ≡ Some d
     → kept_object (Some (json.member k j json.no_members, s)) ≡ Some (member k d no_members, s)

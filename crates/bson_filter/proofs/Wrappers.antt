@@ -1,30 +1,32 @@
 -- Scalars of a token alone, wrappers of one key, and code with its scope.
-use Rattle.std.proofs.Common.{◌≡◌, ℕ, suc, ◌-◌, ◌<◌, ◌≤◌, List, ◌∷◌, length, Option, Some, None, Ok}
-use Rattle.std.proofs.Common.{true, false, refl, sym, ap, ◌∙◌, codes, ◌&&◌, bytes_eq, arith, is_some, option_map}
+use Rattle.std.proofs.Common.{◌≡◌, ℕ, suc, ◌-◌, ◌<◌, List, ◌∷◌, length, Option, Some, None, Ok}
+use Rattle.std.proofs.Common.{Bool, true, false, refl, sym, ap, ◌∙◌, codes, ◌&&◌, bytes_eq, arith, is_some, option_map}
 use Rattle.std.proofs.lemmas.Bool.{and_parts}
 use Rattle.std.proofs.lemmas.Option.{same_Some}
 use Rattle.std.proofs.lemmas.Slice.Eq.{bytes_eq-Decides}
+use Rattle.json.specs.Json as json
 use Rattle.json.specs.Json.{read_key, value}
 use Rattle.json.specs.Token as token
 use Rattle.json.specs.Token.{Token}
-use Rattle.json.proofs.Grammar.{value_is, value-begin_object, read_key-shorter}
-use Rattle.serde_json.specs.Data.{Data, Num, null, boolean, number, string, array, object, Members, no_members}
+use Rattle.json.proofs.Grammar.{value_is, value-begin_object}
+use Rattle.serde_json.specs.Data.{Data, Num, null, boolean, number, string, array, object, no_members}
 use Rattle.serde_json.specs.Data.{member}
 use Rattle.serde_json.specs.Find.{as_str}
 use Rattle.serde_json.specs.Read.{of_json, converted, number_of}
 use Rattle.bson_scalar.specs.Reading.{number_read_in, single_at_in, single_in}
-use Rattle.bson_scalar.specs.Scalar.{Scalar}
+use Rattle.bson_scalar.specs.Scalar.{Scalar, code}
 use Rattle.bson_scalar.specs.Table.{wrapper_of}
 use Rattle.bson_scalar.specs.declared.form.Doubles.{Doubles}
 use Rattle.bson_scalar.specs.declared.wrapper.Wrapper.{Wrapper}
-use Rattle.bson_model.specs.Reading.{scalar_value}
+use Rattle.bson_model.specs.Reading.{scalar_value, code_value}
 use Rattle.bson_model.specs.Value as model
 use Rattle.bson_model.specs.Value.{Value, Pairs, scalar}
 use Rattle.bson_order.specs.Kept.{kept, unordered}
-use Rattle.bson_order.specs.Reading.{reads_in_order, members_in_order}
+use Rattle.bson_order.specs.Reading.{reads_in_order, scope_in_order}
 use Rattle.bson_tokens.specs.Held.{IsHeldAs}
 use Rattle.bson_tokens.proofs.Offered.{was_read}
-use Rattle.bson_filter.specs.Walked.{TreeMeans, ObjectMeans, MembersMean, ScopeMeans, kept_object, inside, from_key}
+use Rattle.bson_filter.specs.Walked.{TreeMeans, ObjectMeans, MembersMean, ScopeMeans, CodeMeans, CodeEnds, kept_object}
+use Rattle.bson_filter.specs.Walked.{inside, from_key}
 use Rattle.bson_filter.proofs.Objects.{object_of, begins, kept_from, alone, alone_kept, two, two_kept}
 
 a_text : (t : Data) (s : List ℕ) → as_str t ≡ Some s → t ≡ string s
@@ -72,49 +74,91 @@ module _ (D : Doubles) where
 
   -- ---- code with its scope
 
-  pub scope_means : (depth : ℕ) (first : Option (List ℕ)) (ts q s r rest : List Token) (Framed : Pairs → Type 0)
-      → ts ≡ token.begin_object ∷ q → 0 < depth → read_key q ≡ Some (first, s) → length r ≤ length s
-      → read_key r ≡ Some (None, rest) → MembersMean D false (kept_object (from_key (depth - 1) first s)) r Framed
-      → ScopeMeans D depth ts rest Framed
-  scope_means depth first ts q s r rest Framed is left key less ended (ms, ps, read, means, free, framed) =
-      let shorter = read_key-shorter q first s key in
-      let length_is : length ts ≡ suc (length q) = ap length is in (
-        ms,
-        ps,
+  pub scope_means : (depth : ℕ) (first : Option (List ℕ)) (ts s r : List Token) (Framed : Pairs → Type 0) → 0 < depth
+      → read_key ts ≡ Some (first, s) → MembersMean D false (kept_object (from_key (depth - 1) first s)) r Framed
+      → ScopeMeans D depth ts r Framed
+  scope_means depth first ts s r Framed left key (ms, ps, read, means, free, framed) =
+      (left, (ms, ps, ap kept_object (begins (depth - 1) first ts s key) ∙ read, means, free, framed))
+
+  pub code_alone : (depth : ℕ) (s : List ℕ) (is_behind : Bool) (ts r rest : List Token) (Wrote : Value → Type 0)
+      → ts ≡ token.null ∷ r → CodeEnds s is_behind r rest → Wrote (scalar (code s))
+      → CodeMeans D depth s is_behind ts rest Wrote
+  code_alone depth s is_behind ts r rest Wrote is ended written =
+      let length_is : length ts ≡ suc (length r) = ap length is in (
+        null,
+        None,
         r,
-        ap (λ x. converted kept (value depth x)) is ∙ ap (converted kept) (value-begin_object depth q left)
-            ∙ object_of (inside (depth - 1) q) ms r (ap kept_object (begins (depth - 1) first q s key) ∙ read),
-        omega (arith, less, shorter, length_is),
+        ap (λ x. converted kept (value depth x)) is ∙ ap (converted kept) (value_is depth (token.null ∷ r)),
+        omega (arith, length_is),
         ended,
-        means,
-        framed,
+        refl,
+        written,
       )
 
-  code_is : (s : List ℕ) (d : Data) (ms : Members) (ps : Pairs) → unordered d ≡ string s → members_in_order D ms ≡ Ok ps
-      → reads_in_order D (object (member (codes "$code") d (member (codes "$scope") (object ms) no_members)))
-      ≡ Ok (model.code_scope s ps)
-  code_is s d ms ps is means = rw (is, means) refl
+  pub code_scoped : (depth : ℕ) (s : List ℕ) (is_behind : Bool) (ts q r rest : List Token) (Framed : Pairs → Type 0)
+      (Wrote : Value → Type 0) → ts ≡ token.begin_object ∷ q → ScopeMeans D depth q r Framed → length r < length q
+      → CodeEnds s is_behind r rest → ((ps : Pairs) → Framed ps → Wrote (model.code_scope s ps))
+      → CodeMeans D depth s is_behind ts rest Wrote
+  code_scoped depth s is_behind ts q r rest Framed Wrote is (left, (ms, ps, read, means, free, framed)) less ended ends =
+      let length_is : length ts ≡ suc (length q) = ap length is in (
+        object ms,
+        Some ps,
+        r,
+        ap (λ x. converted kept (value depth x)) is ∙ ap (converted kept) (value-begin_object depth q left)
+            ∙ object_of (inside (depth - 1) q) ms r read,
+        omega (arith, length_is),
+        ended,
+        rw means refl,
+        ends ps framed,
+      )
 
-  pub code_means : (depth : ℕ) (k l s : List ℕ) (ts r q rest : List Token) (held : Data) (Framed : Pairs → Type 0)
-      (Wrote : Value → Type 0) → IsHeldAs (converted of_json (value depth ts)) held r → length r < length ts
-      → read_key r ≡ Some (Some l, q) → (bytes_eq k (codes "$code") && bytes_eq l (codes "$scope")) ≡ true
-      → held ≡ string s → ScopeMeans D depth q rest Framed
-      → ((ps : Pairs) → Framed ps → Wrote (model.code_scope s ps))
-      → ObjectMeans D (kept_object (from_key depth (Some k) ts)) rest Wrote
-  code_means depth k l s ts r q rest held Framed Wrote read less key are text
-      (ms, ps, end, scope, fewer, ended, means, framed) ends =
+  code_is : (s : List ℕ) (d e : Data) (scope : Option Pairs) → unordered d ≡ string s → scope_in_order D e ≡ Ok scope
+      → reads_in_order D (object (member (codes "$code") d (member (codes "$scope") e no_members)))
+      ≡ Ok (code_value s scope)
+  code_is s d e scope is means = rw (is, means) refl
+
+  behind_is : (s : List ℕ) (d : Data) (scope : Option Pairs) → scope_in_order D d ≡ Ok scope
+      → reads_in_order D (object (member (codes "$scope") d (member (codes "$code") (string s) no_members)))
+      ≡ Ok (code_value s scope)
+  behind_is s d scope means = rw means refl
+
+  pub code_means : (depth : ℕ) (k l s : List ℕ) (ts r q rest : List Token) (held : Data) (Wrote : Value → Type 0)
+      → IsHeldAs (converted of_json (value depth ts)) held r → length r < length ts → read_key r ≡ Some (Some l, q)
+      → (bytes_eq k (codes "$code") && bytes_eq l (codes "$scope")) ≡ true → held ≡ string s
+      → CodeMeans D depth s false q rest Wrote → ObjectMeans D (kept_object (from_key depth (Some k) ts)) rest Wrote
+  code_means depth k l s ts r q rest held Wrote read less key are text
+      (e, scope, end, found, fewer, ended, means, written) =
       let both = and_parts (bytes_eq k (codes "$code")) (bytes_eq l (codes "$scope")) are in
       let first : k ≡ codes "$code" = (bytes_eq-Decides k (codes "$code")).0 both.0 in
       let second : l ≡ codes "$scope" = (bytes_eq-Decides l (codes "$scope")).0 both.1 in
       let j = was_read of_json (value depth ts) read.0 r read.1 in
-      let i = was_read kept (value depth q) (object ms) end scope in
+      let i = was_read kept (value depth q) e end found in
       let d = kept_from j.0 read.0 j.2 in
       let named : read_key r ≡ Some (Some (codes "$scope"), q) = key ∙ ap (λ x. Some (Some x, q)) second in (
-        member (codes "$code") d.0 (member (codes "$scope") (object ms) no_members),
-        model.code_scope s ps,
+        member (codes "$code") d.0 (member (codes "$scope") e no_members),
+        code_value s scope,
         ap (λ x. kept_object (from_key depth (Some x) ts)) first
             ∙ ap kept_object (two depth (codes "$code") (codes "$scope") ts r q end rest j.0 i.0 less j.1 named i.1 fewer ended)
-            ∙ two_kept j.0 i.0 d.0 (object ms) rest d.1 i.2,
-        code_is s d.0 ms ps (d.2 ∙ a_text read.0 s (sym read.2.1 ∙ ap as_str text)) means,
-        ends ps framed,
+            ∙ two_kept (codes "$code") (codes "$scope") j.0 i.0 d.0 e rest refl d.1 i.2,
+        code_is s d.0 e scope (d.2 ∙ a_text read.0 s (sym read.2.1 ∙ ap as_str text)) means,
+        written,
+      )
+
+  pub behind_means : (depth : ℕ) (s : List ℕ) (first : Option (List ℕ)) (ts q rest : List Token) (Wrote : Value → Type 0)
+      → read_key ts ≡ Some (first, q) → first ≡ Some (codes "$scope") → CodeMeans D depth s true q rest Wrote
+      → ObjectMeans D (kept_object (inside depth ts)) rest Wrote
+  behind_means depth s first ts q rest Wrote key is (d, scope, r, found, less, (end, named, ended), means, written) =
+      let k = codes "$scope" in
+      let l = codes "$code" in
+      let j = was_read kept (value depth q) d r found in
+      let begun : inside depth ts ≡ from_key depth (Some k) q =
+      begins depth (Some k) ts q (key ∙ ap (λ x. Some (x, q)) is) in
+      let behind : value depth (token.string s ∷ end) ≡ Some (json.string s, end) = value_is depth (token.string s ∷ end) in (
+        member k d (member l (string s) no_members),
+        code_value s scope,
+        ap kept_object (begun
+            ∙ two depth k l q r (token.string s ∷ end) end rest j.0 (json.string s) less j.1 named behind (omega arith) ended)
+            ∙ two_kept k l j.0 (json.string s) d (string s) rest refl j.2 refl,
+        behind_is s d scope means,
+        written,
       )

@@ -1,19 +1,20 @@
 -- What a walk over the tokens of a text has read, and that its value was written, by a writer's own word for a value
 -- that was written under a name: for private clauses.
-use Rattle.std.specs.Prelude.{◌≡◌, ◌<◌, ◌+◌, ℕ, List, [], ◌∷◌, length, Bool, true, false, Option, None, Some, Ok}
-use Rattle.std.specs.Prelude.{if◌then◌else◌}
+use Rattle.std.specs.Prelude.{◌≡◌, ◌<◌, ◌+◌, ◌-◌, ℕ, List, [], ◌∷◌, length, Bool, true, false, Option, None, Some, Ok}
+use Rattle.std.specs.Prelude.{codes, if◌then◌else◌}
 use Rattle.std.specs.Str.{bytes_eq}
 use Rattle.json.specs.Json as json
 use Rattle.json.specs.Json.{value, members, members_step, read_key}
-use Rattle.json.specs.Token.{Token}
+use Rattle.json.specs.Token.{Token, string}
 use Rattle.serde_json.specs.Data.{Data, Items, Members, no_members, object}
 use Rattle.serde_json.specs.Read.{converted}
 use Rattle.bson_scalar.specs.Table.{has_wrapper}
 use Rattle.bson_scalar.specs.declared.form.Doubles.{Doubles}
+use Rattle.bson_model.specs.Reading.{code_value}
 use Rattle.bson_model.specs.Value as model
 use Rattle.bson_model.specs.Value.{Value, Values, no_values, Pairs, no_pairs, pair}
 use Rattle.bson_order.specs.Kept.{kept, kept_members}
-use Rattle.bson_order.specs.Reading.{reads_in_order, items_in_order, members_in_order}
+use Rattle.bson_order.specs.Reading.{reads_in_order, items_in_order, members_in_order, scope_in_order}
 
 -- the elements of an array from the place n on were written in turn, each under its place's name
 abbrev pub ItemsWritten : {S : Type 0} → (S → List ℕ → Value → S → Type 0) → (ℕ → List ℕ) → ℕ → Values → S → S → Type 0
@@ -46,6 +47,23 @@ set_each (pair k v ps) found = set_each ps (set_pair k v found)
 abbrev pub once : Pairs → Pairs
 once ps = set_each ps no_pairs
 
+-- the members of an object, in their order
+abbrev pub kept_object : Option (json.Members × List Token) → Option (Members × List Token)
+kept_object ms = converted (λ js. kept_members js no_members) ms
+
+-- the members of an object whose brace was read, and those behind a key that was read, or behind its end
+abbrev pub inside : ℕ → List Token → Option (json.Members × List Token)
+inside depth ts = members (value depth) (length ts) ts
+
+abbrev pub from_key : ℕ → Option (List ℕ) → List Token → Option (json.Members × List Token)
+from_key depth k ts = members_step (value depth) (members (value depth) (length ts)) k ts
+
+-- the end of an object of this code and its scope, before which the code stands where it comes behind
+abbrev pub CodeEnds : List ℕ → Bool → List Token → List Token → Type 0
+CodeEnds s false ts rest = read_key ts ≡ Some (None, rest)
+CodeEnds s true ts rest =
+    (r : List Token) × (read_key ts ≡ Some (Some (codes "$code"), string s ∷ r)) × (read_key r ≡ Some (None, rest))
+
 module _ (D : Doubles) where
   -- a tree was read, of which these tokens are left, and of the value that it means in its order this holds
   abbrev pub TreeMeans : Option (Data × List Token) → List Token → (Value → Type 0) → Type 0
@@ -66,19 +84,13 @@ module _ (D : Doubles) where
       (ts : Members) × (ps : Pairs) × (trees ≡ Some (ts, rest)) × (members_in_order D ts ≡ Ok ps)
       × (is_document ≡ true → has_wrapper ts ≡ false) × Hold ps
 
-  -- a scope, and the end of the object that it stands in
+  -- the document of a scope whose brace was read, in an object that may hold others so deep
   abbrev pub ScopeMeans : ℕ → List Token → List Token → (Pairs → Type 0) → Type 0
-  ScopeMeans depth ts rest Hold =
-      (ms : Members) × (ps : Pairs) × (r : List Token) × (converted kept (value depth ts) ≡ Some (object ms, r))
-      × (length r < length ts) × (read_key r ≡ Some (None, rest)) × (members_in_order D ms ≡ Ok ps) × Hold ps
+  ScopeMeans depth ts rest Hold = (0 < depth) × MembersMean false (kept_object (inside (depth - 1) ts)) rest Hold
 
--- the members of an object, in their order
-abbrev pub kept_object : Option (json.Members × List Token) → Option (Members × List Token)
-kept_object ms = converted (λ js. kept_members js no_members) ms
-
--- the members of an object whose brace was read, and those behind a key that was read, or behind its end
-abbrev pub inside : ℕ → List Token → Option (json.Members × List Token)
-inside depth ts = members (value depth) (length ts) ts
-
-abbrev pub from_key : ℕ → Option (List ℕ) → List Token → Option (json.Members × List Token)
-from_key depth k ts = members_step (value depth) (members (value depth) (length ts)) k ts
+  -- code from the scope's value on, to the end of their object
+  abbrev pub CodeMeans : ℕ → List ℕ → Bool → List Token → List Token → (Value → Type 0) → Type 0
+  CodeMeans depth s is_behind ts rest Holds =
+      (d : Data) × (scope : Option Pairs) × (r : List Token) × (converted kept (value depth ts) ≡ Some (d, r))
+      × (length r < length ts) × CodeEnds s is_behind r rest × (scope_in_order D d ≡ Ok scope)
+      × Holds (code_value s scope)

@@ -16,8 +16,7 @@ use std::alloc::Global;
 /// of the text, at every depth: it is written as the text is read, with no value in memory.
 ///
 /// `Left` says nothing of the text: it is to be read whole. It comes where the text is no JSON text
-/// of at most 127 levels, means nothing, has in some object a key twice, or code behind its scope
-/// or with the scope null.
+/// of at most 127 levels, means nothing, or has in some object a key twice.
 pub fn filter_text(
     alloc: Global,
     doubles: Doubles,

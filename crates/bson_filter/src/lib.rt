@@ -2,12 +2,14 @@
 //! value in memory.
 //!
 //! In reading order: `filter` (the text of the same value in a form, its keys in their order or in
-//! ascending order, and the text that shows it), `walk` (the way over the tokens), `writer` (what is
-//! written to), `text` (a text that is), `distinct` (whether a key stands twice), `sorted_text` (a
-//! text whose keys are put in order), `shown_text` (one that shows values), `pieces` (the texts of an
-//! object's members, in order), `unstreamed` (why a text was not written so).
+//! ascending order, and the text that shows it), `walk` (the way over the tokens), `ahead` (code that
+//! it is told of before it comes to it), `writer` (what is written to), `text` (a text that is),
+//! `distinct` (whether a key stands twice), `sorted_text` (a text whose keys are put in order),
+//! `shown_text` (one that shows values), `pieces` (the texts of an object's members, in order),
+//! `unstreamed` (why a text was not written so).
 #![tactic(auto)]
 
+pub mod ahead;
 pub mod distinct;
 pub mod filter;
 mod pieces;

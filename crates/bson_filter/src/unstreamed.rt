@@ -10,8 +10,7 @@ use std::alloc::{AllocError, AllocFailed};
 pub enum Unstreamed {
     /// A request for memory was refused.
     OutOfMemory,
-    /// It is to be read whole, since it breaks the grammar, means nothing, has a key twice, or has
-    /// code behind its scope or with the scope null.
+    /// It is to be read whole, since it breaks the grammar, means nothing, or has a key twice.
     Left,
 }
 

@@ -1,6 +1,7 @@
 //! The walk over the tokens of a text, which writes each value as it is read.
-ghost use Rattle.std.specs.Prelude.{◌≡◌, ◌<◌, ◌≤◌, ◌&&◌, [], length, Some, is_some, option_map, OnOk, IfOk, Ok};
-ghost use Rattle.json.specs.Json.{value, items};
+ghost use Rattle.std.specs.Prelude.{◌≡◌, ◌<◌, ◌≤◌, ◌&&◌, [], length, ◌∷◌, Some, codes, is_some, option_map, OnOk, IfOk, Ok};
+ghost use Rattle.json.specs.Json.{value, items, read_key};
+ghost use Rattle.json.specs.Token as token;
 ghost use Rattle.serde_json.specs.Read.{converted, number_of};
 ghost use Rattle.bson_scalar.specs.Reading.{number_read_in};
 ghost use Rattle.serde_json.specs.Data.{Num};
@@ -10,8 +11,9 @@ ghost use Rattle.bson_model.specs.Value.{Value as Meaning, array};
 ghost use Rattle.bson_order.specs.Kept.{kept, kept_items};
 ghost use Rattle.bson_order.specs.Texts.{HasMeaningInOrder};
 ghost use Rattle.bson_filter.specs.Walked.{TreeMeans, ItemsMean, ObjectMeans, MembersMean, ScopeMeans};
-ghost use Rattle.bson_filter.specs.Walked.{kept_object, inside, from_key};
+ghost use Rattle.bson_filter.specs.Walked.{CodeMeans, CodeEnds, kept_object, inside, from_key};
 
+use crate::ahead::Ahead;
 use crate::unstreamed::Unstreamed;
 use crate::writer::ValueWriter;
 use bson_scalar::code::is_code_with_scope;
@@ -42,7 +44,17 @@ pub(crate) fn write_text<W: ValueWriter>(
     let mut scratch = Scratch::new(alloc);
     let mut reader = Reader::new(text, &mut scratch)?;
     let mut keys = Vec::new(alloc);
-    write_value(alloc, doubles, &mut reader, MAX_DEPTH, "", &mut keys, out)?;
+    let mut ahead = Ahead::new(alloc, text);
+    write_value(
+        alloc,
+        doubles,
+        &mut reader,
+        MAX_DEPTH,
+        "",
+        &mut keys,
+        &mut ahead,
+        out,
+    )?;
     if reader.next().is_some() {
         return Err(Unstreamed::Left);
     }
@@ -52,10 +64,10 @@ pub(crate) fn write_text<W: ValueWriter>(
 /// Writes the value that stands next under the name.
 ///
 /// `Left` says nothing of the text: it is to be read whole. It comes where the text breaks the
-/// grammar, nests deeper, means nothing, has in some object a key twice, or code behind its scope or
-/// with the scope null.
+/// grammar, nests deeper, means nothing, or has in some object a key twice.
 ///
-/// The keys of the objects that are open are held, each object's behind those around it.
+/// The keys of the objects that are open are held, each object's behind those around it; of code
+/// behind its scope what the text has ahead.
 #[cycle(walk)]
 pub fn write_value<'a, W: ValueWriter>(
     alloc: Global,
@@ -64,6 +76,7 @@ pub fn write_value<'a, W: ValueWriter>(
     depth: usize,
     name: &str,
     keys: &mut Vec<&'a str>,
+    ahead: &mut Ahead<'_>,
     out: &mut W,
 ) -> Result<(), Unstreamed>
     ensures ok { OnOk result (TreeMeans doubles (converted kept (value depth reader.old)) reader.new
@@ -82,13 +95,13 @@ pub fn write_value<'a, W: ValueWriter>(
             if depth == 0 {
                 return Err(Unstreamed::Left);
             }
-            write_array(alloc, doubles, reader, depth - 1, name, keys, out)
+            write_array(alloc, doubles, reader, depth - 1, name, keys, ahead, out)
         }
         Token::BeginObject => {
             if depth == 0 {
                 return Err(Unstreamed::Left);
             }
-            write_object(alloc, doubles, reader, depth - 1, name, keys, out)
+            write_object(alloc, doubles, reader, depth - 1, name, keys, ahead, out)
         }
     }
 }
@@ -111,6 +124,7 @@ fn write_array<'a, W: ValueWriter>(
     depth: usize,
     name: &str,
     keys: &mut Vec<&'a str>,
+    ahead: &mut Ahead<'_>,
     out: &mut W,
 ) -> Result<(), Unstreamed>
     ensures ok { OnOk result
@@ -124,7 +138,7 @@ fn write_array<'a, W: ValueWriter>(
     'items: while !reader.take_end_array() {
         let mut buffer = Buffer::new();
         let name = W::item_name(&mut buffer, place);
-        write_value(alloc, doubles, reader, depth, name, keys, out)?;
+        write_value(alloc, doubles, reader, depth, name, keys, ahead, out)?;
         place = place.checked_add(1).ok_or(Unstreamed::Left)?;
     }
     out.end_array(begun)
@@ -139,6 +153,7 @@ fn write_object<'a, W: ValueWriter>(
     depth: usize,
     name: &str,
     keys: &mut Vec<&'a str>,
+    ahead: &mut Ahead<'_>,
     out: &mut W,
 ) -> Result<(), Unstreamed>
     ensures ok { OnOk result (ObjectMeans doubles (kept_object (inside depth reader.old)) reader.new
@@ -147,13 +162,20 @@ fn write_object<'a, W: ValueWriter>(
     ensures shorter { OnOk result (length reader.new < length reader.old) }
 {
     let first = reader.next_key()?;
+    if let Some(code) = ahead.code_behind(first, reader.offset())? {
+        return write_code(
+            alloc, doubles, reader, depth, &code, true, name, keys, ahead, out,
+        );
+    }
     if let Some(key) = first {
         if let Some(wrapper) = wrapper_named(key) {
-            return write_wrapper(alloc, doubles, reader, depth, wrapper, key, name, keys, out);
+            return write_wrapper(
+                alloc, doubles, reader, depth, wrapper, key, name, keys, ahead, out,
+            );
         }
     }
     out.embed(name)?;
-    write_document(alloc, doubles, reader, depth, first, true, keys, out)
+    write_document(alloc, doubles, reader, depth, first, true, keys, ahead, out)
 }
 
 /// Writes the document of an object from a key on that was read, or none of them: none stands
@@ -167,6 +189,7 @@ pub fn write_document<'a, W: ValueWriter>(
     first: Option<&'a str>,
     is_document: bool,
     keys: &mut Vec<&'a str>,
+    ahead: &mut Ahead<'_>,
     out: &mut W,
 ) -> Result<(), Unstreamed>
     ensures ok { OnOk result (MembersMean doubles is_document
@@ -184,7 +207,7 @@ pub fn write_document<'a, W: ValueWriter>(
         }
         keys.push(key)?;
         out.key(key)?;
-        write_value(alloc, doubles, reader, depth, key, keys, out)?;
+        write_value(alloc, doubles, reader, depth, key, keys, ahead, out)?;
         next = reader.next_key()?;
     }
     out.end(begun, &mut keys.as_mut_slice()[held..])?;
@@ -211,6 +234,7 @@ fn write_wrapper<'a, W: ValueWriter>(
     key: &str,
     name: &str,
     keys: &mut Vec<&'a str>,
+    ahead: &mut Ahead<'_>,
     out: &mut W,
 ) -> Result<(), Unstreamed>
     requires { wrapper_of key.now ≡ Some wrapper }
@@ -229,12 +253,48 @@ fn write_wrapper<'a, W: ValueWriter>(
     let Value::String(code) = held else {
         return Err(Unstreamed::Left);
     };
-    let begun = out.begin_code(name, code.as_str())?;
-    write_scope(alloc, doubles, reader, depth, keys, out)?;
-    out.end_code(begun)
+    write_code(
+        alloc, doubles, reader, depth, &code, false, name, keys, ahead, out,
+    )
 }
 
-// The scope of code that was begun, and the end of the object of both.
+// Code from the value of its scope on, to the end of their object. Where it stands behind the scope
+// it is to be this.
+#[cycle(walk)]
+#[inline(never)]
+fn write_code<'a, W: ValueWriter>(
+    alloc: Global,
+    doubles: Doubles,
+    reader: &mut Reader<'a>,
+    depth: usize,
+    code: &str,
+    is_behind: bool,
+    name: &str,
+    keys: &mut Vec<&'a str>,
+    ahead: &mut Ahead<'_>,
+    out: &mut W,
+) -> Result<(), Unstreamed>
+    ensures ok { OnOk result (CodeMeans doubles depth code.now is_behind reader.old reader.new
+        (λ v. W.wrote out.old name.now v out.new)) }
+    ensures keys { OnOk result (keys.new.items ≡ keys.old.items) }
+    ensures shorter { OnOk result (length reader.new < length reader.old) }
+{
+    match reader.next() {
+        Some(Token::Null) => {
+            end_object(reader, code, is_behind)?;
+            out.scalar(name, Scalar::JavaScriptCode(String::from_str(alloc, code)?))
+        }
+        Some(Token::BeginObject) => {
+            let begun = out.begin_code(name, code)?;
+            write_scope(alloc, doubles, reader, depth, keys, ahead, out)?;
+            end_object(reader, code, is_behind)?;
+            out.end_code(begun)
+        }
+        _ => Err(Unstreamed::Left),
+    }
+}
+
+// The document of a scope whose brace was read.
 #[cycle(walk)]
 fn write_scope<'a, W: ValueWriter>(
     alloc: Global,
@@ -242,21 +302,58 @@ fn write_scope<'a, W: ValueWriter>(
     reader: &mut Reader<'a>,
     depth: usize,
     keys: &mut Vec<&'a str>,
+    ahead: &mut Ahead<'_>,
     out: &mut W,
 ) -> Result<(), Unstreamed>
     ensures ok { OnOk result (ScopeMeans doubles depth reader.old reader.new (λ ps. W.framed out.old ps out.new)) }
     ensures keys { OnOk result (keys.new.items ≡ keys.old.items) }
     ensures shorter { OnOk result (length reader.new < length reader.old) }
 {
-    let Some(Token::BeginObject) = reader.next() else {
-        return Err(Unstreamed::Left);
-    };
     if depth == 0 {
         return Err(Unstreamed::Left);
     }
     let first = reader.next_key()?;
-    write_document(alloc, doubles, reader, depth - 1, first, false, keys, out)?;
+    write_document(
+        alloc,
+        doubles,
+        reader,
+        depth - 1,
+        first,
+        false,
+        keys,
+        ahead,
+        out,
+    )
+}
+
+// The end of the object of code and its scope. Where the code is behind, it is to stand there.
+fn end_object(reader: &mut Reader<'_>, code: &str, is_behind: bool) -> Result<(), Unstreamed>
+    ensures ok { OnOk result (CodeEnds code.now is_behind reader.old reader.new) }
+    ensures shorter { OnOk result (length reader.new < length reader.old) }
+{
+    if is_behind {
+        pass_code(reader, code)?;
+    }
     if reader.next_key()?.is_some() {
+        return Err(Unstreamed::Left);
+    }
+    Ok(())
+}
+
+// The key of code, and then this text.
+fn pass_code(reader: &mut Reader<'_>, code: &str) -> Result<(), Unstreamed>
+    ensures { OnOk result (read_key reader.old ≡ Some (Some (codes "$code"), token.string code.now ∷ reader.new)) }
+{
+    let Some(key) = reader.next_key()? else {
+        return Err(Unstreamed::Left);
+    };
+    if key != "$code" {
+        return Err(Unstreamed::Left);
+    }
+    let Some(Token::String(text)) = reader.next() else {
+        return Err(Unstreamed::Left);
+    };
+    if text != code {
         return Err(Unstreamed::Left);
     }
     Ok(())

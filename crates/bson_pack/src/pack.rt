@@ -3,6 +3,7 @@ ghost use Rattle.std.specs.Prelude.{IfOk};
 ghost use Rattle.bson_pack.specs.Packed.{IsPackedText};
 
 use crate::elements::ElementWriter;
+use bson_filter::ahead::Ahead;
 use bson_filter::unstreamed::Unstreamed;
 use bson_filter::walk::write_document;
 use bson_scalar::form::Doubles;
@@ -16,8 +17,8 @@ const MAX_DEPTH: usize = 126;
 /// every depth: they are written as the text is read, with no value in memory.
 ///
 /// `Left` says nothing of the text: it is to be read whole. It comes where the text is no JSON text
-/// of at most 127 levels, means no document, has in some object a key twice, has code behind its
-/// scope or with the scope null, or has a part that has no bytes.
+/// of at most 127 levels, means no document, has in some object a key twice, or has a part that has
+/// no bytes.
 pub fn pack_text(alloc: Global, doubles: Doubles, text: &str) -> Result<Vec<u8>, Unstreamed>
     ensures ok { IfOk result (λ out. IsPackedText doubles text.now out.items) }
 {
@@ -39,6 +40,7 @@ pub fn pack_text(alloc: Global, doubles: Doubles, text: &str) -> Result<Vec<u8>,
         first,
         true,
         &mut keys,
+        &mut Ahead::new(alloc, text),
         &mut writer,
     )?;
     if reader.next().is_some() {

@@ -11,13 +11,16 @@ use Rattle.serde_json.specs.Read.{converted}
 use Rattle.serde_json.specs.View.{view}
 use Rattle.serde_json.specs.declared.value.Value.{String, the_lemmas}
 use Rattle.bson_scalar.specs.Table.{wrapper_of}
+use Rattle.bson_scalar.specs.Scalar.{code}
+use Rattle.bson_model.specs.Value.{Value, scalar}
 use Rattle.bson_order.specs.Kept.{kept}
 use Rattle.bson_filter.specs.Walked.{TreeMeans, ItemsWritten}
 use Rattle.bson_filter.proofs.Walking.{items_begun, item_passed, items_passed, members_begun}
 use Rattle.bson_filter.proofs.Walking.{member_passed, members_written, members_passed, array_means, object_means}
 use Rattle.bson_filter.proofs.Walking.{document_means}
 use Rattle.bson_filter.proofs.Objects.{Key, append_none, placed, pushed, texts, begins}
-use Rattle.bson_filter.proofs.Wrappers.{token_means, number_means, single_means, scope_means, code_means}
+use Rattle.bson_filter.proofs.Wrappers.{token_means, number_means, single_means, scope_means, code_means, code_alone}
+use Rattle.bson_filter.proofs.Wrappers.{code_scoped, behind_means}
 use Rattle.bson_filter.proofs.walk.+walk.Goals as goal
 
 -- ---- arrays
@@ -135,10 +138,15 @@ write_document-returns-clause-ok g t c =
 
 -- ---- objects
 
+pub write_object-returns-in-Some-clause-ok : goal.write_object-returns-in-Some-clause-ok
+write_object-returns-in-Some-clause-ok g t c =
+    let scope = rw c.in-Some.is at c.in_ok-code.ensures in
+    on_ok_weaker c.write_code.result (behind_means _ _ _ _ _ _ _ _ c.in_ok-first.ensures.value scope) c.write_code.ensures.ok
+
 pub write_object-returns-in-Some-wrapper_named-clause-ok : goal.write_object-returns-in-Some-wrapper_named-clause-ok
 write_object-returns-in-Some-wrapper_named-clause-ok g t c =
-    let key : read_key c.args.reader.now ≡ Some (Some c.in-Some.key.now, c.next_key.new.self) = grind arith in
-    rw (begins c.args.depth (Some c.in-Some.key.now) c.args.reader.now c.next_key.new.self key) c.write_wrapper.ensures.ok
+    let key : read_key c.args.reader.now ≡ Some (Some c.in-Some-first.key.now, c.next_key.new.self) = grind arith in
+    rw (begins c.args.depth (Some c.in-Some-first.key.now) c.args.reader.now c.next_key.new.self key) c.write_wrapper.ensures.ok
 
 pub write_object-returns-clause-ok : goal.write_object-returns-clause-ok
 write_object-returns-clause-ok g t c =
@@ -196,10 +204,28 @@ write_value-returns-else-depth-eq0-2-clause-ok g t c =
 
 pub write_scope-returns-clause-ok : goal.write_scope-returns-clause-ok
 write_scope-returns-clause-ok g t c =
+    on_ok_weaker c.write_document.result
+    (scope_means _ _ _ _ _ _ _ (omega arith) c.in_ok-first.ensures.value) c.write_document.ensures.ok
+
+pub write_code-returns-in_ok-from_str-in-Some-Null-clause-ok : goal.write_code-returns-in_ok-from_str-in-Some-Null-clause-ok
+write_code-returns-in_ok-from_str-in-Some-Null-clause-ok g t c =
+    let is : c.args.reader.now ≡ Token.null ∷ c.next.new.self = grind arith in
+    let text = c.in_ok-from_str-in-Some-Null.ensures.ok in
+    let Wrote : Value → Type 0 = λ v. g.W.ValueWriter.wrote c.args.out.now c.args.name.now v c.scalar.new.self in
+    on_ok_weaker c.scalar.result
+    (λ wrote. code_alone _ _ _ _ _ _ _ Wrote is c.in_ok-end_object-in-Some-Null.ensures.ok
+    (subst (λ s. Wrote (scalar (code s))) text wrote)) c.scalar.ensures
+
+pub write_code-returns-in_ok-end_object-in-Some-BeginObject-clause-ok : goal.write_code-returns-in_ok-end_object-in-Some-BeginObject-clause-ok
+write_code-returns-in_ok-end_object-in-Some-BeginObject-clause-ok g t c =
     let is : c.args.reader.now ≡ Token.begin_object ∷ c.next.new.self = grind arith in
-    let ended : read_key c.write_document.new.reader ≡ Some (None, c.next_key-2.new.self) = grind arith in
-    scope_means _ _ _ _ _ _ _ _ _ is (omega arith) c.in_ok-first.ensures.value c.in_ok-write_document.ensures.shorter
-    ended c.in_ok-write_document.ensures.ok
+    let scope = c.in_ok-write_scope-in-Some-BeginObject.ensures in
+    let begun = c.in_ok-begun-in-Some-BeginObject.ensures in
+    on_ok_weaker c.end_code.result
+    (λ ended. code_scoped _ _ _ _ _ _ _ _ _
+    (λ v. g.W.ValueWriter.wrote c.args.out.now c.args.name.now v c.end_code.new.self) is scope.ok scope.shorter
+    c.in_ok-end_object-in-Some-BeginObject.ensures.ok
+    (λ ps. ended c.args.out.now c.begin_code.new.self c.args.name.now c.args.code.now ps begun)) c.end_code.ensures
 
 pub write_wrapper-returns-in_default-clause-ok : goal.write_wrapper-returns-in_default-clause-ok
 write_wrapper-returns-in_default-clause-ok g t c =
@@ -209,11 +235,6 @@ write_wrapper-returns-in_default-clause-ok g t c =
     (single_means _ _ _ _ _ _ _ _ _ _ named c.in_ok-held.ensures.ok c.in_ok-held.ensures.shorter ended
     c.in_ok-read_wrapper.ensures) c.scalar.ensures
 
-pub write_wrapper-end_code-requires : goal.write_wrapper-end_code-requires
-write_wrapper-end_code-requires g t c =
-    let scope = c.in_ok-write_scope.ensures.ok in
-    (c.args.out.now, c.begin_code.new.self, c.args.name.now, c.as_str.result.now, scope.1, c.in_ok-begun.ensures, scope.7)
-
 pub write_wrapper-returns-clause-ok : goal.write_wrapper-returns-clause-ok
 write_wrapper-returns-clause-ok g t c =
     let k = c.args.key.now in
@@ -221,9 +242,6 @@ write_wrapper-returns-clause-ok g t c =
     let named : read_key c.read_held.new.reader ≡ Some (Some l, c.next_key.new.self) = grind arith in
     let are : (bytes_eq k (codes "$code") && bytes_eq l (codes "$scope")) ≡ true = grind arith in
     let seen : view (String c.in-String.code) ≡ tree.string (string_bytes c.in-String.code) = search (rules, the_lemmas) in
-    let text = ap view c.in-String.is ∙ seen ∙ ap tree.string (sym c.as_str.ensures.value) in
-    on_ok_weaker c.end_code.result
-    (λ ended. code_means _ _ _ _ _ _ _ _ _ _ _ _ c.in_ok-held.ensures.ok c.in_ok-held.ensures.shorter named are text
-    c.in_ok-write_scope.ensures.ok
-    (λ ps. ended c.args.out.now c.begin_code.new.self c.args.name.now c.as_str.result.now ps c.in_ok-begun.ensures))
-    c.end_code.ensures
+    on_ok_weaker c.write_code.result
+    (code_means _ _ _ _ _ _ _ _ _ _ _ c.in_ok-held.ensures.ok c.in_ok-held.ensures.shorter named are
+    (ap view c.in-String.is ∙ seen ∙ ap tree.string (sym c.deref.ensures))) c.write_code.ensures.ok

@@ -15,7 +15,10 @@ abbrev pub decreases-write_wrapper : goal.decreases-write_wrapper
 decreases-write_wrapper g l = 4 * l.depth + 2
 
 abbrev pub decreases-write_scope : goal.decreases-write_scope
-decreases-write_scope g l = 4 * l.depth + 1
+decreases-write_scope g l = 4 * l.depth
+
+abbrev pub decreases-write_code : goal.decreases-write_code
+decreases-write_code g l = 4 * l.depth + 1
 
 abbrev pub decreases-write_array : goal.decreases-write_array
 decreases-write_array g l = 4 * l.depth + 1

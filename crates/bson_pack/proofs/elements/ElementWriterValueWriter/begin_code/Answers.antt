@@ -1,4 +1,4 @@
-use Rattle.std.proofs.Common.{◌≡◌, ◌++◌, ◌≤◌, length, length-append, Ok, ap, ◌∙◌, arith, subst}
+use Rattle.std.proofs.Common.{◌≡◌, ◌≤◌, length, length-append, Ok, ap, ◌∙◌, arith, subst}
 use Rattle.std.proofs.lemmas.Str.{is_utf8-from_IsUtf8}
 use Rattle.bson_types.specs.declared.spec.ElementType.TheVariants as tag
 use Rattle.bson_bytes.specs.Putting.{put_room, put_text}
