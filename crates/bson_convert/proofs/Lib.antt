@@ -1,4 +1,3 @@
-mod Arranged
 mod Again
 mod Broken
 mod Converting

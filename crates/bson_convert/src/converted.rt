@@ -1,5 +1,5 @@
 //! A text that is written as another is read, and why one means nothing.
-ghost use Rattle.std.specs.Prelude.{◌≡◌, IfOk, IfErr, IfSome, IsTrue, None, Ok};
+ghost use Rattle.std.specs.Prelude.{◌≡◌, IfOk, IfErr, IfSome, IsTrue, None};
 ghost use Rattle.serde_json.specs.Read.{read};
 ghost use Rattle.bson_model.specs.Value as model;
 ghost use Rattle.bson.specs.TextMeaning.{HasTextMeaningIn};
@@ -9,8 +9,6 @@ use crate::fault::Fault;
 use crate::mode::Mode;
 use bson::Bson;
 use bson::extjson::{Form, Options};
-use bson_distinct::arrange::arrange_text;
-use bson_distinct::arrangement::Arrangement;
 use bson_filter::filter::{show_text, sort_text};
 use bson_filter::unstreamed::Unstreamed;
 use bson_tokens::unread::Unread;
@@ -56,40 +54,13 @@ pub(crate) fn sorted_text(
         return Err(Fault::NotJson);
     };
     match stream_text(alloc, options, mode, text) {
+        Ok(written) => Ok(Some(written)),
         Err(Unstreamed::Left) => {
             refuse(alloc, options, text)?;
-            unless_left(stream_arranged(alloc, options, mode, text))
+            Ok(None)
         }
-        written => unless_left(written),
-    }
-}
-
-/// What was written as a text was read, or nothing where it was left.
-pub fn unless_left(written: Result<Vec<u8>, Unstreamed>) -> Result<Option<Vec<u8>>, Fault>
-    ensures ok { IfOk result (λ found. IfSome found (λ bytes. written ≡ Ok bytes)) }
-    ensures memory { IfErr result (λ fault. fault ≡ Fault.OutOfMemory) }
-{
-    match written {
-        Ok(bytes) => Ok(Some(bytes)),
-        Err(Unstreamed::Left) => Ok(None),
         Err(Unstreamed::OutOfMemory) => Err(Fault::OutOfMemory),
     }
-}
-
-// [`stream_text`] of the text of the same tree whose keys ascend, each once in its object: of less
-// memory where members are small or their keys stand over and over, and what a later value of its
-// key takes the place of need mean nothing.
-fn stream_arranged(
-    alloc: Global,
-    options: Options,
-    mode: Mode,
-    text: &str,
-) -> Result<Vec<u8>, Unstreamed>
-    ensures { IfOk result (λ written. (value : model.Value) × HasTextMeaningIn options.doubles text.now value
-        × IsTextFor options mode value written.items) }
-{
-    let arranged = arrange_text(alloc, Arrangement::Ascending, text)?;
-    stream_text(alloc, options, mode, arranged.as_str())
 }
 
 // The text that the mode asks for of the value that the text means.

@@ -1,3 +1,4 @@
+pub mod Arranged
 pub mod Differ
 pub mod Digests
 pub mod Keys

@@ -1,4 +1,8 @@
 //! From text to text, token by token.
+//!
+//! A text that can't be written as it is read is arranged first, so that each object has each key
+//! once: that text is of the same tree, and what it means is what the text means. So a key that
+//! stands twice needs no value in memory, nor does what a later value takes the place of.
 ghost use Rattle.std.specs.Prelude.{IfOk};
 ghost use Rattle.bson_filter.specs.Filtered.{IsFilteredText, IsShownText, IsSortedText};
 
@@ -8,16 +12,94 @@ use crate::sorted_text::SortedWriter;
 use crate::text::TextWriter;
 use crate::unstreamed::Unstreamed;
 use crate::walk::write_text;
+use bson_distinct::arrange::arrange_text;
+use bson_distinct::arrangement::Arrangement;
 use bson_scalar::form::{Doubles, Form};
 use json::Writer;
 use std::alloc::Global;
 
-/// The bytes of the compact text in the form of the value that the text means, each document's keys in the order
-/// of the text, at every depth: it is written as the text is read, with no value in memory.
+/// The bytes of the compact text in the form of the value that the text means, each document's keys
+/// in the order of the text, at every depth, and of a key that stands twice the last value at the
+/// first place. It is written as the text is read, with no value in memory.
 ///
-/// `Left` says nothing of the text: it is to be read whole. It comes where the text is no JSON text
-/// of at most 127 levels, means nothing, or has in some object a key twice.
+/// `Left` says nothing of the text. It comes where the text is no JSON text of at most 127 levels,
+/// or means nothing.
 pub fn filter_text(
+    alloc: Global,
+    doubles: Doubles,
+    form: Form,
+    text: &str,
+) -> Result<Vec<u8>, Unstreamed>
+    ensures ok { IfOk result (λ written. IsFilteredText doubles form text.now written.items) }
+{
+    match write_filtered(alloc, doubles, form, text) {
+        Err(Unstreamed::Left) => filter_arranged(alloc, doubles, form, text),
+        written => written,
+    }
+}
+
+/// [`filter_text`] with each document's keys in ascending order of bytes.
+pub fn sort_text(
+    alloc: Global,
+    doubles: Doubles,
+    form: Form,
+    text: &str,
+) -> Result<Vec<u8>, Unstreamed>
+    ensures ok { IfOk result (λ written. IsSortedText doubles form text.now written.items) }
+{
+    match write_sorted(alloc, doubles, form, text) {
+        Err(Unstreamed::Left) => sort_arranged(alloc, doubles, form, text),
+        written => written,
+    }
+}
+
+/// The bytes of the text that shows the value that the text means by default, each document's keys
+/// in ascending order of bytes: it is written as the text is read, with no value in memory.
+///
+/// `Left` says nothing of the text, and comes where it comes from [`sort_text`].
+pub fn show_text(alloc: Global, doubles: Doubles, text: &str) -> Result<Vec<u8>, Unstreamed>
+    ensures ok { IfOk result (λ written. IsShownText doubles text.now written.items) }
+{
+    match write_shown(alloc, doubles, text) {
+        Err(Unstreamed::Left) => show_arranged(alloc, doubles, text),
+        written => written,
+    }
+}
+
+// What a text that was left says, written of the arranged one.
+fn filter_arranged(
+    alloc: Global,
+    doubles: Doubles,
+    form: Form,
+    text: &str,
+) -> Result<Vec<u8>, Unstreamed>
+    ensures ok { IfOk result (λ written. IsFilteredText doubles form text.now written.items) }
+{
+    let arranged = arrange_text(alloc, Arrangement::FirstPlaces, text)?;
+    write_filtered(alloc, doubles, form, arranged.as_str())
+}
+
+fn sort_arranged(
+    alloc: Global,
+    doubles: Doubles,
+    form: Form,
+    text: &str,
+) -> Result<Vec<u8>, Unstreamed>
+    ensures ok { IfOk result (λ written. IsSortedText doubles form text.now written.items) }
+{
+    let arranged = arrange_text(alloc, Arrangement::Ascending, text)?;
+    write_sorted(alloc, doubles, form, arranged.as_str())
+}
+
+fn show_arranged(alloc: Global, doubles: Doubles, text: &str) -> Result<Vec<u8>, Unstreamed>
+    ensures ok { IfOk result (λ written. IsShownText doubles text.now written.items) }
+{
+    let arranged = arrange_text(alloc, Arrangement::Ascending, text)?;
+    write_shown(alloc, doubles, arranged.as_str())
+}
+
+// Left is also a text with a key twice in an object.
+fn write_filtered(
     alloc: Global,
     doubles: Doubles,
     form: Form,
@@ -35,10 +117,9 @@ pub fn filter_text(
     Ok(writer.out.into_inner())
 }
 
-/// [`filter_text`] with each document's keys in ascending order of bytes. Of a key that stands twice
-/// in an object the last value counts: such a text is not left. One is that would take more than some
-/// ten times its size to be put in order.
-pub fn sort_text(
+// Left is also a text that would take more than some ten times its size to be put in order, which
+// one whose keys ascend does not.
+fn write_sorted(
     alloc: Global,
     doubles: Doubles,
     form: Form,
@@ -60,11 +141,7 @@ pub fn sort_text(
     Ok(writer.text)
 }
 
-/// The bytes of the text that shows the value that the text means by default, each document's keys
-/// in ascending order of bytes: it is written as the text is read, with no value in memory.
-///
-/// `Left` says nothing of the text, and comes where it comes from [`sort_text`].
-pub fn show_text(alloc: Global, doubles: Doubles, text: &str) -> Result<Vec<u8>, Unstreamed>
+fn write_shown(alloc: Global, doubles: Doubles, text: &str) -> Result<Vec<u8>, Unstreamed>
     ensures ok { IfOk result (λ written. IsShownText doubles text.now written.items) }
 {
     let mut writer = ShownWriter {

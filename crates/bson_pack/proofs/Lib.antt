@@ -1,3 +1,4 @@
+mod Arranged
 pub mod Once
 pub mod Put
 pub mod Whole

@@ -3,6 +3,8 @@ ghost use Rattle.std.specs.Prelude.{IfOk};
 ghost use Rattle.bson_pack.specs.Packed.{IsPackedText};
 
 use crate::elements::ElementWriter;
+use bson_distinct::arrange::arrange_text;
+use bson_distinct::arrangement::Arrangement;
 use bson_filter::ahead::Ahead;
 use bson_filter::unstreamed::Unstreamed;
 use bson_filter::walk::write_document;
@@ -14,12 +16,30 @@ use std::alloc::Global;
 const MAX_DEPTH: usize = 126;
 
 /// The canonical bytes of the document that the text means, its keys in the order of the text, at
-/// every depth: they are written as the text is read, with no value in memory.
+/// every depth, and of a key that stands twice the last value at the first place: they are written
+/// as the text is read, with no value in memory.
 ///
 /// `Left` says nothing of the text: it is to be read whole. It comes where the text is no JSON text
-/// of at most 127 levels, means no document, has in some object a key twice, or has a part that has
-/// no bytes.
+/// of at most 127 levels, means no document, or has a part that has no bytes.
 pub fn pack_text(alloc: Global, doubles: Doubles, text: &str) -> Result<Vec<u8>, Unstreamed>
+    ensures ok { IfOk result (λ out. IsPackedText doubles text.now out.items) }
+{
+    match write_packed(alloc, doubles, text) {
+        Err(Unstreamed::Left) => pack_arranged(alloc, doubles, text),
+        packed => packed,
+    }
+}
+
+// A text that was left, packed from the text in which each object has each key once.
+fn pack_arranged(alloc: Global, doubles: Doubles, text: &str) -> Result<Vec<u8>, Unstreamed>
+    ensures ok { IfOk result (λ out. IsPackedText doubles text.now out.items) }
+{
+    let arranged = arrange_text(alloc, Arrangement::FirstPlaces, text)?;
+    write_packed(alloc, doubles, arranged.as_str())
+}
+
+// Left is also a text with a key twice in an object.
+fn write_packed(alloc: Global, doubles: Doubles, text: &str) -> Result<Vec<u8>, Unstreamed>
     ensures ok { IfOk result (λ out. IsPackedText doubles text.now out.items) }
 {
     let mut scratch = Scratch::new(alloc);

@@ -10,7 +10,6 @@ ghost use Rattle.bson.specs.TextMeaning.{IsTextOf};
 ghost use Rattle.bson_codec.specs.Canonical.{FitsDocument};
 ghost use Rattle.bson_codec.specs.Writing.{IsRefusal};
 ghost use Rattle.bson_codec.specs.Unwritten.TheVariants as errors;
-ghost use Rattle.bson_pack.specs.Packed.{IsPackedText};
 ghost use Rattle.bson_run.specs.Encode.{EncodesIn, EncodesInOrder, FailsAlone, IsBytesOf, IsUnencodedFor};
 ghost use Rattle.bson_run.specs.Encode.{IsUnencodedIn, IsUnencodedInOrder};
 
@@ -18,11 +17,8 @@ use bson::Bson;
 use bson::extjson::Options;
 use bson_codec::{ser, to_vec};
 use bson_convert::convert::fault_of;
-use bson_convert::converted::unless_left;
 use bson_convert::fault::Fault;
 use bson_convert::no_bytes::NoBytes;
-use bson_distinct::arrange::arrange_text;
-use bson_distinct::arrangement::Arrangement;
 use bson_filter::unstreamed::Unstreamed;
 use bson_pack::pack::pack_text;
 use std::alloc::Global;
@@ -87,17 +83,10 @@ fn pack_document(alloc: Global, options: Options, bytes: &[u8]) -> Result<Option
         return Ok(None);
     };
     match pack_text(alloc, options.doubles, text) {
-        Err(Unstreamed::Left) => unless_left(pack_arranged(alloc, options, text)),
-        packed => unless_left(packed),
+        Ok(document) => Ok(Some(document)),
+        Err(Unstreamed::Left) => Ok(None),
+        Err(Unstreamed::OutOfMemory) => Err(Fault::OutOfMemory),
     }
-}
-
-// [`pack_text`] of the text of the same tree with each key once in its object.
-fn pack_arranged(alloc: Global, options: Options, text: &str) -> Result<Vec<u8>, Unstreamed>
-    ensures { IfOk result (λ packed. IsPackedText options.doubles text.now packed.items) }
-{
-    let arranged = arrange_text(alloc, Arrangement::FirstPlaces, text)?;
-    pack_text(alloc, options.doubles, arranged.as_str())
 }
 
 // The bytes of the value, which is read whole.

@@ -7,17 +7,14 @@ ghost use Rattle.bson_model.specs.Value as model;
 ghost use Rattle.bson.specs.View.{bson_view};
 ghost use Rattle.bson.specs.TextMeaning.{IsTextOf};
 ghost use Rattle.bson_convert.specs.Convert.{IsRefusedIn};
-ghost use Rattle.bson_filter.specs.Filtered.{IsFilteredText};
 ghost use Rattle.bson_run.specs.InOrder.{ConvertsInOrder, IsOutputInOrder};
 
 use bson::Bson;
 use bson::extjson::{Form, Options, WriteError};
 use bson_convert::convert::{displayed_line, end_line, fault_of, line};
-use bson_convert::converted::{refuse, unless_left};
+use bson_convert::converted::refuse;
 use bson_convert::fault::Fault;
 use bson_convert::mode::Mode;
-use bson_distinct::arrange::arrange_text;
-use bson_distinct::arrangement::Arrangement;
 use bson_filter::filter::filter_text;
 use bson_filter::unstreamed::Unstreamed;
 use std::alloc::Global;
@@ -71,43 +68,14 @@ fn filter_line(
     let Ok(text) = simdutf8::compat::from_utf8(bytes) else {
         return Ok(None);
     };
-    let Some(written) = stream_text(alloc, options, form, text)? else {
-        return Ok(None);
-    };
-    Ok(Some(end_line(written)?))
-}
-
-// The text in the form of the value that the text means, in its order; none where it is left.
-fn stream_text(
-    alloc: Global,
-    options: Options,
-    form: Form,
-    text: &str,
-) -> Result<Option<Vec<u8>>, Fault>
-    ensures ok { IfOk result (λ found. IfSome found
-        (λ written. IsFilteredText options.doubles form text.now written.items)) }
-    ensures fault { IfErr result (λ fault. IsRefusedIn options fault text.now) }
-{
     match filter_text(alloc, options.doubles, form, text) {
+        Ok(written) => Ok(Some(end_line(written)?)),
         Err(Unstreamed::Left) => {
             refuse(alloc, options, text)?;
-            unless_left(filter_arranged(alloc, options, form, text))
+            Ok(None)
         }
-        written => unless_left(written),
+        Err(Unstreamed::OutOfMemory) => Err(Fault::OutOfMemory),
     }
-}
-
-// [`filter_text`] of the text of the same tree with each key once in its object.
-fn filter_arranged(
-    alloc: Global,
-    options: Options,
-    form: Form,
-    text: &str,
-) -> Result<Vec<u8>, Unstreamed>
-    ensures { IfOk result (λ written. IsFilteredText options.doubles form text.now written.items) }
-{
-    let arranged = arrange_text(alloc, Arrangement::FirstPlaces, text)?;
-    filter_text(alloc, options.doubles, form, arranged.as_str())
 }
 
 // The output of the value, which is read whole.

@@ -2,7 +2,7 @@ use Rattle.std.proofs.Common.{◌≡◌, [], ◌∷◌, option_map, arith}
 use Rattle.json.specs.Lex.{tokens}
 use Rattle.json.specs.Token.{Token}
 use Rattle.bson_pack.proofs.Whole.{text_packed}
-use Rattle.bson_pack.proofs.pack.pack_text.Goals as goal
+use Rattle.bson_pack.proofs.pack.write_packed.Goals as goal
 
 pub returns : goal.returns
 returns c =
