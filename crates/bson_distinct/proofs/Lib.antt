@@ -13,3 +13,14 @@ pub mod Putting
 pub mod ReadAlike
 pub mod Rows
 pub mod Settled
+pub mod Turns
+pub mod Texts
+pub mod Ranged
+pub mod Values
+pub mod Writing
+pub mod Standing
+pub mod Ordered
+pub mod Joining
+pub mod ArrangedPieces
+pub mod Behind
+pub mod Whole

@@ -1,4 +1,5 @@
 pub mod Arranged
+pub mod Arranging
 pub mod Double
 pub mod Found
 pub mod PutPieces

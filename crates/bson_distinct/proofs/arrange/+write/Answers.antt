@@ -1,0 +1,238 @@
+use Rattle.std.proofs.Common.{◌≡◌, ◌-◌, ◌∷◌, ◌++◌, [], length, None, Some, refl, sym, ap, ◌∙◌, subst, append-nil, arith}
+use Rattle.std.proofs.lemmas.Result.{IfErr-weaker, err_from_is_err_and, on_ok_weaker}
+use Rattle.json.specs.Json.{array, object, after_end_array, parse_map, read_key, value}
+use Rattle.json.specs.Reads.{token_of}
+use Rattle.json.proofs.Grammar.{read_key-shorter}
+use Rattle.bson_distinct.specs.Arranged.{arranged}
+use Rattle.bson_distinct.specs.Arranging.{Passes, Stand, elements, inside, member_text, ranged, ranged_items, ranged_members, some_stand}
+use Rattle.bson_distinct.specs.Arranging.{sound}
+use Rattle.serde_json.specs.Written.{comma_if}
+use Rattle.bson_distinct.proofs.Standing.{end_behind, none_stand, one_stands, place_behind, stand_more, text_more}
+use Rattle.bson_distinct.proofs.Values.{array_opened, array_too_deep, none_begins, number_fails, number_passes}
+use Rattle.bson_distinct.proofs.Values.{object_opened, object_too_deep, opened_passes, plain_passes}
+use Rattle.bson_distinct.proofs.Values.{empty_fails}
+use Rattle.bson_distinct.proofs.Writing.{all_breaks, breaks, found, found_at, item_fails, item_passed, items_passed, key_fails}
+use Rattle.bson_distinct.proofs.Writing.{member_fails, member_passed, members_passed, shorter, whole_at}
+use Rattle.bson_distinct.specs.declared.order.Piece.{Piece}
+use Rattle.bson_distinct.proofs.arrange.+write.Goals as goal
+
+-- ---- values
+
+pub write_value-returns-in_ok-scalar-in-String-clause-ok : goal.write_value-returns-in_ok-scalar-in-String-clause-ok
+write_value-returns-in_ok-scalar-in-String-clause-ok t c =
+    plain_passes c.args.depth c.args.reader.now c.next.new.self c.in_ok-token.token c.args.out.now c.scalar.new.self
+    (grind arith) c.in-String.is c.in_ok-scalar-in-String.ensures
+
+pub write_value-returns-in-Number-clause-ok : goal.write_value-returns-in-Number-clause-ok
+write_value-returns-in-Number-clause-ok t c =
+    let first : c.args.reader.now ≡ token_of c.in_ok-token.token ∷ c.next.new.self = grind arith in
+    on_ok_weaker c.write_number.result
+    (λ h. number_passes c.args.depth c.args.reader.now c.next.new.self c.in-Number.text.now c.args.out.now
+    c.write_number.new.out (first ∙ ap (λ k. token_of k ∷ c.next.new.self) c.in-Number.is) h.0 h.1)
+    c.write_number.ensures.ok
+
+pub write_value-returns-in-Number-clause-broken : goal.write_value-returns-in-Number-clause-broken
+write_value-returns-in-Number-clause-broken t c =
+    let first : c.args.reader.now ≡ token_of c.in_ok-token.token ∷ c.next.new.self = grind arith in
+    IfErr-weaker c.write_number.result _ _
+    (λ e h broken. number_fails c.args.depth c.args.reader.now c.next.new.self c.in-Number.text.now
+    (first ∙ ap (λ k. token_of k ∷ c.next.new.self) c.in-Number.is) (h broken)) c.write_number.ensures.broken
+
+pub write_value-returns-else-depth-eq0-clause-ok : goal.write_value-returns-else-depth-eq0-clause-ok
+write_value-returns-else-depth-eq0-clause-ok t c =
+    let first : c.args.reader.now ≡ token_of c.in_ok-token.token ∷ c.next.new.self = grind arith in
+    on_ok_weaker c.write_items.result
+    (opened_passes c.args.depth c.args.reader.now c.next.new.self array
+    (sound ranged_items (elements (c.args.depth - 1) c.next.new.self)) c.write_items.new.reader c.args.out.now
+    c.write_items.new.out (array_opened c.args.depth c.args.reader.now c.next.new.self
+    (first ∙ ap (λ k. token_of k ∷ c.next.new.self) c.in-BeginArray.is) (omega arith))) c.write_items.ensures.ok
+
+pub write_value-returns-else-depth-eq0-2-clause-ok : goal.write_value-returns-else-depth-eq0-2-clause-ok
+write_value-returns-else-depth-eq0-2-clause-ok t c =
+    let first : c.args.reader.now ≡ token_of c.in_ok-token.token ∷ c.next.new.self = grind arith in
+    on_ok_weaker c.write_members.result
+    (opened_passes c.args.depth c.args.reader.now c.next.new.self object
+    (sound ranged_members (inside (c.args.depth - 1) c.next.new.self)) c.write_members.new.reader c.args.out.now
+    c.write_members.new.out (object_opened c.args.depth c.args.reader.now c.next.new.self
+    (first ∙ ap (λ k. token_of k ∷ c.next.new.self) c.in-BeginObject.is) (omega arith))) c.write_members.ensures.ok
+
+-- ---- where a value breaks
+
+pub write_value-returns-in_err-token-clause-broken : goal.write_value-returns-in_err-token-clause-broken
+write_value-returns-in_err-token-clause-broken t c =
+    let none : c.args.reader.now ≡ [] = grind arith in
+    let p = err_from_is_err_and c.from_residual.result c.from_residual.ensures.1 in
+    rw p.1 (λ broken. empty_fails c.args.depth c.args.reader.now none)
+
+pub write_value-returns-in-EndObject-clause-broken : goal.write_value-returns-in-EndObject-clause-broken
+write_value-returns-in-EndObject-clause-broken t c =
+    let first : c.args.reader.now ≡ token_of c.in_ok-token.token ∷ c.next.new.self = grind arith in
+    λ broken. none_begins c.args.depth c.args.reader.now c.next.new.self c.in_ok-token.token first c.in-EndObject.is
+
+pub write_value-returns-then-depth-eq0-clause-broken : goal.write_value-returns-then-depth-eq0-clause-broken
+write_value-returns-then-depth-eq0-clause-broken t c =
+    let first : c.args.reader.now ≡ token_of c.in_ok-token.token ∷ c.next.new.self = grind arith in
+    λ broken. array_too_deep c.args.depth c.args.reader.now c.next.new.self
+    (first ∙ ap (λ k. token_of k ∷ c.next.new.self) c.in-BeginArray.is) (omega arith)
+
+pub write_value-returns-then-depth-eq0-2-clause-broken : goal.write_value-returns-then-depth-eq0-2-clause-broken
+write_value-returns-then-depth-eq0-2-clause-broken t c =
+    let first : c.args.reader.now ≡ token_of c.in_ok-token.token ∷ c.next.new.self = grind arith in
+    λ broken. object_too_deep c.args.depth c.args.reader.now c.next.new.self
+    (first ∙ ap (λ k. token_of k ∷ c.next.new.self) c.in-BeginObject.is) (omega arith)
+
+pub write_value-returns-else-depth-eq0-clause-broken : goal.write_value-returns-else-depth-eq0-clause-broken
+write_value-returns-else-depth-eq0-clause-broken t c =
+    let first : c.args.reader.now ≡ token_of c.in_ok-token.token ∷ c.next.new.self = grind arith in
+    let opened = array_opened c.args.depth c.args.reader.now c.next.new.self
+    (first ∙ ap (λ k. token_of k ∷ c.next.new.self) c.in-BeginArray.is) (omega arith) in
+    breaks c.write_items.result _ _ (λ none. opened ∙ ap (parse_map array) none) c.write_items.ensures.broken
+
+pub write_value-returns-else-depth-eq0-2-clause-broken : goal.write_value-returns-else-depth-eq0-2-clause-broken
+write_value-returns-else-depth-eq0-2-clause-broken t c =
+    let first : c.args.reader.now ≡ token_of c.in_ok-token.token ∷ c.next.new.self = grind arith in
+    let opened = object_opened c.args.depth c.args.reader.now c.next.new.self
+    (first ∙ ap (λ k. token_of k ∷ c.next.new.self) c.in-BeginObject.is) (omega arith) in
+    breaks c.write_members.result _ _ (λ none. opened ∙ ap (parse_map object) none) c.write_members.ensures.broken
+
+-- ---- arrays
+
+pub write_items-items-preserved : goal.write_items-items-preserved
+write_items-items-preserved t c =
+    let l = c.items in
+    let going : (after_end_array l.reader ≡ None) × (c.take_end_array.new.self ≡ l.reader) = grind arith in
+    let read : Passes (sound ranged (value c.args.depth l.reader)) (arranged l.out.arrangement) c.write_value.new.reader
+    l.out c.write_value.new.out = rw (← going.1) c.in_ok-write_value.ensures.ok in
+    record {
+      arrangement = read.2.arrangement ∙ l.invariant.arrangement;
+      whole = item_passed c.args.depth _ l.reader c.write_value.new.reader l.out c.write_value.new.out
+          l.invariant.whole going.0 read;
+    }
+
+pub write_items-items-smaller : goal.write_items-items-smaller
+write_items-items-smaller t c =
+    let l = c.items in
+    let going : c.take_end_array.new.self ≡ l.reader = grind arith in
+    let read = c.in_ok-write_value.ensures.ok in
+    let less = shorter c.args.depth c.take_end_array.new.self c.write_value.new.reader read.0 read.1 in
+    omega (arith, less, ap length going)
+
+pub write_items-returns-clause-ok : goal.write_items-returns-clause-ok
+write_items-returns-clause-ok t c =
+    let l = c.items in
+    items_passed c.args.depth c.args.reader.now l.reader c.take_end_array.new.self c.args.out.now c.open.new.self l.out
+    c.close.new.self c.in_ok-open.ensures l.invariant.whole l.invariant.arrangement (grind arith)
+    c.in_ok-close.ensures
+
+pub write_items-returns-in_err-write_value-clause-broken : goal.write_items-returns-in_err-write_value-clause-broken
+write_items-returns-in_err-write_value-clause-broken t c =
+    let l = c.items in
+    let going : (after_end_array l.reader ≡ None) × (c.take_end_array.new.self ≡ l.reader) = grind arith in
+    let p = err_from_is_err_and c.from_residual-in_err-write_value.result
+    c.from_residual-in_err-write_value.ensures.1 in
+    rw (p.1, p.2) (λ broken. all_breaks (whole_at c.open.new.self) (whole_at l.out) _ _ l.invariant.whole
+    (item_fails c.args.depth l.reader going.0
+    (ap (λ ts. sound ranged (value c.args.depth ts)) (sym going.1) ∙ c.in_err-write_value.ensures.broken broken)))
+
+-- ---- objects
+
+pub write_members-members-init : goal.write_members-members-init
+write_members-members-init t c =
+    record {
+      arrangement = refl;
+      entries = [];
+      body = [];
+      text = sym (append-nil c.begin_object.new.self.text.items);
+      stand = none_stand [] c.new-pieces.result.items refl (grind arith);
+      behind = c.in_ok-start.ensures.1.behind;
+      found = refl;
+    }
+
+pub write_members-members-preserved : goal.write_members-members-preserved
+write_members-members-preserved t c =
+    let l = c.members in
+    let h = l.invariant in
+    let k = c.in-Some.key.now in
+    let s = c.next_key.new.self in
+    let start = c.in_ok-start.start in
+    let mid = c.begin_member.new.self in
+    let later = c.write_value.new.out in
+    let first = c.begin_object.new.self.text.items in
+    let named : read_key l.reader ≡ Some (Some k, s) = grind arith in
+    let key = c.in_ok-place.ensures in
+    let (j, read, added) = c.in_ok-write_value.ensures.ok in
+    let v = arranged mid.arrangement j in
+    let b = l.out.behind in
+    let text = text_more first h.body l.out.text.items mid.text.items later.text.items b mid.behind k v h.text
+    key.1.text key.1.behind added.text in
+    let begun : start ≡ length first = c.in_ok-start.ensures.0 in
+    let place : c.in_ok-place.place ≡ length (h.body ++ comma_if b) =
+    place_behind first h.body l.out.text.items (comma_if b) start c.in_ok-place.place begun h.text key.0 in
+    let end : c.place.result ≡ length (h.body ++ (comma_if b ++ member_text (k, v))) =
+    end_behind first (h.body ++ (comma_if b ++ member_text (k, v))) later.text.items start c.place.result begun text
+    c.place.ensures in
+    let piece : Piece = record { key = c.in-Some.key; place = c.in_ok-place.place; start = c.in_ok-place.place; end = c.place.result } in
+    let more = stand_more h.body l.pieces.items h.entries piece v h.stand
+    (place ∙ ap (λ x. length (h.body ++ comma_if x)) h.behind) refl
+    (end ∙ ap (λ x. length (h.body ++ (comma_if x ++ member_text (k, v)))) h.behind) in
+    let same = key.1.arrangement in
+    record {
+      arrangement = added.arrangement ∙ same ∙ h.arrangement;
+      entries = h.entries ++ (k, v) ∷ [];
+      body = h.body ++ (comma_if (some_stand h.entries) ++ member_text (k, v));
+      text = text ∙ ap (λ x. first ++ (h.body ++ (comma_if x ++ member_text (k, v)))) h.behind;
+      stand = subst (λ ps. Stand (h.body ++ (comma_if (some_stand h.entries) ++ member_text (k, v))) ps
+          (h.entries ++ (k, v) ∷ [])) (sym c.in_ok-push.ensures.items) more;
+      behind = added.behind ∙ one_stands h.entries (k, v);
+      found = subst (λ a. found a [] (sound ranged_members (inside c.args.depth c.args.reader.now))
+          ≡ found a (h.entries ++ (k, v) ∷ []) (sound ranged_members (inside c.args.depth c.write_value.new.reader)))
+          (sym (added.arrangement ∙ same))
+          (member_passed c.args.depth _ l.out.arrangement h.entries k l.reader s c.write_value.new.reader j h.found named read
+          ∙ ap (λ a. found l.out.arrangement (h.entries ++ (k, arranged a j) ∷ [])
+          (sound ranged_members (inside c.args.depth c.write_value.new.reader))) (sym same));
+    }
+
+pub write_members-members-smaller : goal.write_members-members-smaller
+write_members-members-smaller t c =
+    let l = c.members in
+    let k = c.in-Some.key.now in
+    let s = c.next_key.new.self in
+    let named : read_key l.reader ≡ Some (Some k, s) = grind arith in
+    let read = c.in_ok-write_value.ensures.ok in
+    let less = shorter c.args.depth s c.write_value.new.reader read.0 read.1 in
+    omega (arith, less, read_key-shorter l.reader (Some k) s named)
+
+pub write_members-returns-in_err-key-clause-broken : goal.write_members-returns-in_err-key-clause-broken
+write_members-returns-in_err-key-clause-broken t c =
+    let l = c.members in
+    let a = l.out.arrangement in
+    let p = err_from_is_err_and c.from_residual-in_err-key.result c.from_residual-in_err-key.ensures.1 in
+    rw p.1 (λ broken. all_breaks (found_at a []) (found_at a l.invariant.entries) _ _ l.invariant.found
+    (key_fails c.args.depth l.reader (grind arith)))
+
+pub write_members-returns-in_err-write_value-clause-broken :
+    goal.write_members-returns-in_err-write_value-clause-broken
+write_members-returns-in_err-write_value-clause-broken t c =
+    let l = c.members in
+    let a = l.out.arrangement in
+    let k = c.in-Some.key.now in
+    let s = c.next_key.new.self in
+    let named : read_key l.reader ≡ Some (Some k, s) = grind arith in
+    let p = err_from_is_err_and c.from_residual-in_err-write_value.result
+    c.from_residual-in_err-write_value.ensures.1 in
+    rw (p.1, p.2) (λ broken. all_breaks (found_at a []) (found_at a l.invariant.entries) _ _ l.invariant.found
+    (member_fails c.args.depth k l.reader s named (c.in_err-write_value.ensures.broken broken)))
+
+pub write_members-returns-clause-ok : goal.write_members-returns-clause-ok
+write_members-returns-clause-ok t c =
+    let l = c.members in
+    let h = l.invariant in
+    let first = c.begin_object.new.self.text.items in
+    let later = c.close.new.self in
+    let settled = c.in_ok-settle.ensures in
+    let (body, text, (fs, stand, put)) = settled.2 first h.body h.entries h.text c.in_ok-start.ensures.0 h.stand in
+    let ended : read_key l.reader ≡ Some (None, c.next_key.new.self) = grind arith in
+    let close = c.in_ok-close.ensures in
+    members_passed c.args.depth c.args.reader.now l.reader c.next_key.new.self c.args.out.now c.begin_object.new.self
+    l.out later h.entries fs body c.in_ok-start.ensures.1 h.found h.arrangement ended stand.spelled_is put
+    (close.arrangement ∙ settled.0) close.behind (close.text ∙ ap (λ b. b ++ 125 ∷ []) text)

@@ -1,0 +1,192 @@
+-- What was written of what was read, each object arranged. For private clauses.
+use Rattle.std.specs.Prelude.{◌≡◌, ◌<◌, ◌≤◌, ◌-◌, ◌&&◌, ℕ, List, [], ◌∷◌, ◌++◌, length, map, slice_range}
+use Rattle.std.specs.Prelude.{Bool, true, false, is_some, Option, Some, None, MatchOption, if◌then◌else◌, Vec}
+use Rattle.std.specs.declared.alloc.Global.{Global}
+use Rattle.std.specs.Cmp.Lexicographic.{slice_cmp}
+use Rattle.std.specs.List.{All}
+use Rattle.std.specs.List.Sorted as Sorted
+use Rattle.std.specs.List.Sorted.{IsPermutation}
+use Rattle.std.specs.Ordering.{nat_cmp}
+use Rattle.json.specs.Json.{Json, null, boolean, number, string, array, object, Items, no_items, item}
+use Rattle.json.specs.Json.{Members, no_members, member, Parse, items, members, value}
+use Rattle.json.specs.Print.{print, quoted}
+use Rattle.json.specs.Token.{Token}
+use Rattle.json.specs.Tree.{json_tokens}
+use Rattle.serde_json.specs.Read.{number_of}
+use Rattle.serde_json.specs.Written.{comma_if}
+use Rattle.bson_model.specs.Stable.{IsStableByKey}
+use Rattle.bson_distinct.specs.PutPieces.{members_of, merged, put_each, Rise}
+use Rattle.bson_distinct.specs.declared.arrangement.Arrangement.{Arrangement}
+use Rattle.bson_distinct.specs.declared.arrangement.Arrangement.TheVariants.{FirstPlaces, Ascending}
+use Rattle.bson_distinct.specs.declared.arranger.Arranger.{Arranger}
+use Rattle.bson_distinct.specs.declared.order.Piece.{Piece}
+
+-- the elements of an array to its end, and the members of an object to its end
+abbrev pub elements : ℕ → Parse Items
+elements depth ts = items (value depth) (length ts) ts
+
+abbrev pub inside : ℕ → Parse Members
+inside depth ts = members (value depth) (length ts) ts
+
+-- ---- numbers
+
+abbrev pub in_range : List ℕ → Bool
+in_range s = is_some (number_of s)
+
+-- each number is in range
+abbrev mutual
+  pub ranged : Json → Bool
+  ranged null = true
+  ranged (boolean b) = true
+  ranged (number s) = in_range s
+  ranged (string s) = true
+  ranged (array js) = ranged_items js
+  ranged (object ms) = ranged_members ms
+
+  pub ranged_items : Items → Bool
+  ranged_items no_items = true
+  ranged_items (item j js) = ranged j && ranged_items js
+
+  pub ranged_members : Members → Bool
+  ranged_members no_members = true
+  ranged_members (member k j ms) = ranged j && ranged_members ms
+
+-- what was read, where it passes
+abbrev pub sound : {A : Type 0} → (A → Bool) → Option (A × List Token) → Option (A × List Token)
+sound f None = None
+sound f (Some p) = if f p.0 then Some p else None
+
+-- ---- the text
+
+-- this text comes after the old one, behind which a value stands or not
+pub record Closed (old : Arranger) (s : List ℕ) (after : Bool) (new : Arranger) : Type 0 where
+  pub arrangement : new.arrangement ≡ old.arrangement
+  pub behind : new.behind ≡ after
+  pub text : new.text.items ≡ old.text.items ++ s
+
+-- the same with a comma where one is due
+abbrev pub Added : Arranger → List ℕ → Bool → Arranger → Type 0
+Added old s behind new = Closed old (comma_if old.behind ++ s) behind new
+
+abbrev pub ValueAdded : Arranger → Json → Arranger → Type 0
+ValueAdded old j new = Added old (print (json_tokens j)) true new
+
+-- something was read, of which these tokens are left, and the value that it gives comes next
+abbrev pub Passes : {A : Type 0} → Option (A × List Token) → (A → Json) → List Token → Arranger → Arranger → Type 0
+Passes {A} read given rest old new = (a : A) × (read ≡ Some (a, rest)) × ValueAdded old (given a) new
+
+-- an object was begun, whose members start here
+abbrev pub IsBegun : Arranger → ℕ → Arranger → Type 0
+IsBegun old start new = (start ≡ length new.text.items) × Added old (123 ∷ []) false new
+
+-- a member was begun, whose text starts here in its object
+abbrev pub MemberBegun : Arranger → ℕ → List ℕ → ℕ → Arranger → Type 0
+MemberBegun old start k place new = (place ≡ length (old.text.items ++ comma_if old.behind) - start)
+    × Added old (quoted k ++ 58 ∷ []) false new
+
+-- ---- the members of an object
+
+-- a key with its value
+abbrev pub Entry : Type 0
+Entry = List ℕ × Json
+
+abbrev pub entry_key : Entry → List ℕ
+entry_key e = e.0
+
+abbrev pub entry_value : Entry → Json
+entry_value e = e.1
+
+abbrev pub entry_members : List Entry → Members
+entry_members = members_of entry_key entry_value
+
+abbrev pub put_entries : Arrangement → List Entry → Members
+put_entries a es = put_each entry_key entry_value a es no_members
+
+abbrev pub member_text : Entry → List ℕ
+member_text e = quoted e.0 ++ 58 ∷ print (json_tokens e.1)
+
+-- the texts with commas between them
+abbrev pub spelled : Bool → List Entry → List ℕ
+spelled behind [] = []
+spelled behind (e ∷ es) = comma_if behind ++ (member_text e ++ spelled true es)
+
+-- ---- their pieces
+
+-- the values of pieces, by where their texts begin
+abbrev pub Values : Type 0
+Values = ℕ → Json
+
+abbrev pub piece_key : Piece → List ℕ
+piece_key p = p.key.now
+
+abbrev pub piece_place : Piece → ℕ
+piece_place p = p.place
+
+abbrev pub piece_value : Values → Piece → Json
+piece_value values p = values p.start
+
+abbrev pub piece_text : List ℕ → Piece → List ℕ
+piece_text body p = slice_range body p.start p.end
+
+-- the place of the one with the text of the other
+abbrev pub merge : Piece → Piece → Piece
+merge p q = record { key = p.key; place = p.place; start = q.start; end = q.end }
+
+abbrev pub entry_at : Values → Piece → Entry
+entry_at values p = (piece_key p, values p.start)
+
+abbrev pub IsWithin : List ℕ → Piece → Type 0
+IsWithin body p = (p.start < p.end) × (p.end ≤ length body)
+
+abbrev pub IsPiece : List ℕ → Values → Piece → Type 0
+IsPiece body values p = IsWithin body p × (piece_text body p ≡ member_text (entry_at values p))
+
+-- something stands before
+abbrev pub some_stand : List Entry → Bool
+some_stand [] = false
+some_stand (e ∷ es) = true
+
+-- the pieces are the texts of these entries, one behind the other
+pub record Stand (body : List ℕ) (ps : List Piece) (es : List Entry) : Type 0 where
+  pub values : Values
+  pub spelled_is : body ≡ spelled false es
+  pub entries : map (entry_at values) ps ≡ es
+  pub all : All (IsPiece body values) ps
+  pub rise : Rise piece_place 0 ps
+  pub below : All (λ p. p.place < length body) ps
+
+-- the pieces of other entries stand in the place of those of the first, arranged
+abbrev pub StandArranged : Arrangement → List Entry → List ℕ → List Piece → Type 0
+StandArranged a es body ps = (fs : List Entry) × Stand body ps fs × (entry_members fs ≡ put_entries a es)
+
+-- the pieces are arranged as they stand, or this text is where they stand
+abbrev pub PiecesArranged : Arrangement → List ℕ → List Piece → List Piece → Option (Vec ℕ Global) → Type 0
+PiecesArranged a body old new text = (es : List Entry) → Stand body old es
+    → MatchOption text (StandArranged a es body new) (λ t. StandArranged a es t.items new)
+
+-- the pieces are arranged behind where they start
+abbrev pub IsSettled : Arranger → ℕ → List Piece → List Piece → Arranger → Type 0
+IsSettled w start old new later = (later.arrangement ≡ w.arrangement) × (later.behind ≡ w.behind)
+    × ((front body : List ℕ) (es : List Entry) → w.text.items ≡ front ++ body → start ≡ length front
+    → Stand body old es
+    → (t : List ℕ) × (later.text.items ≡ front ++ t) × StandArranged w.arrangement es t new)
+
+-- the texts of the pieces stand one behind the other
+abbrev pub IsJoined : List ℕ → List Piece → List Piece → List ℕ → Type 0
+IsJoined body old new text = (values : Values) → All (IsPiece body values) old
+    → Stand text new (map (entry_at values) old)
+
+-- ---- their order
+
+-- pieces by ascending key, where they are to stand
+abbrev pub ArePlaced : Arrangement → List Piece → List Piece → Type 0
+ArePlaced FirstPlaces ms zs = IsPermutation ms zs × Sorted.IsSortedByKey piece_place nat_cmp zs
+ArePlaced Ascending ms zs = zs ≡ ms
+
+-- each key once: by a stable sort, of those of one key the place of the first and the text of the last
+pub record AreOrdered (a : Arrangement) (xs zs : List Piece) : Type 0 where
+  pub ys : List Piece
+  pub stable : IsStableByKey piece_key xs ys
+  pub same : IsPermutation xs ys
+  pub sorted : Sorted.IsSortedByKey piece_key (slice_cmp nat_cmp) ys
+  pub placed : ArePlaced a (merged piece_key merge ys) zs

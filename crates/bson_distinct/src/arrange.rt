@@ -1,0 +1,121 @@
+//! From a text to the text in which each object has each key once, token by token.
+ghost use Rattle.std.specs.Prelude.{◌≡◌, false, true, IfErr, IfOk, OnOk, string_bytes};
+ghost use Rattle.json.specs.Json.{array, object, value};
+ghost use Rattle.json.specs.Json as json;
+ghost use Rattle.json.specs.Print.{IsNumber};
+ghost use Rattle.serde_json.specs.Read.{read};
+ghost use Rattle.bson_tokens.specs.Parts.{IsBroken};
+ghost use Rattle.bson_distinct.specs.Arranged.{IsArrangedText, arranged};
+ghost use Rattle.bson_distinct.specs.Arranging.{Passes, ValueAdded, elements, in_range, inside, sound};
+ghost use Rattle.bson_distinct.specs.Arranging.{ranged, ranged_items, ranged_members};
+ghost use Rattle.bson_tokens.specs.declared.unread.Unread.TheVariants.{Broken};
+
+use crate::arrangement::Arrangement;
+use crate::arranger::{Arranger, into_text};
+use crate::order::Piece;
+use bson_tokens::number::number;
+use bson_tokens::unread::Unread;
+use json::{Reader, Scratch, Token};
+use std::alloc::Global;
+
+/// How deep arrays and objects may nest.
+const MAX_DEPTH: usize = 127;
+
+/// The compact text of the text's tree with each key once in its object, with its last value: at its
+/// first place, or by ascending bytes.
+///
+/// Keys are compared after their escapes are read. `Broken` is answered where the text is no JSON
+/// text of at most 127 levels, or has a number out of range. No tree is made: memory is that of the
+/// text that is written, and of the members of the objects that are open their keys and places.
+///
+/// ```
+/// let text = arrange_text(alloc, Arrangement::FirstPlaces, r#"{"b": 1, "a": 2, "b": 3}"#)?;
+/// println!(rt; "{text}")?; // {"b":3,"a":2}
+/// ```
+pub fn arrange_text(alloc: Global, arrangement: Arrangement, text: &str) -> Result<String, Unread>
+    ensures ok { IfOk result (λ written. IsArrangedText arrangement text.now (string_bytes written)) }
+    ensures broken { IfErr result (IsBroken (read text.now)) }
+{
+    let mut scratch = Scratch::new(alloc);
+    let mut reader = Reader::new(text, &mut scratch)?;
+    let mut out = Arranger::new(alloc, arrangement, text.len())?;
+    write_value(&mut reader, MAX_DEPTH, &mut out)?;
+    if reader.next().is_some() {
+        return Err(Unread::Broken);
+    }
+    into_text(out.text)
+}
+
+#[cycle(write)]
+fn write_value(reader: &mut Reader<'_>, depth: usize, out: &mut Arranger) -> Result<(), Unread>
+    ensures ok { OnOk result (Passes (sound ranged (value depth reader.old)) (arranged out.old.arrangement)
+        reader.new out.old out.new) }
+    ensures broken { IfErr result (IsBroken (sound ranged (value depth reader.old))) }
+{
+    let token = reader.next().ok_or(Unread::Broken)?;
+    match token {
+        Token::String(_) | Token::Bool(_) | Token::Null => Ok(out.scalar(token)?),
+        Token::Number(text) => write_number(text, out),
+        Token::EndObject | Token::EndArray | Token::Key(_) | Token::Bad => Err(Unread::Broken),
+        Token::BeginArray => {
+            if depth == 0 {
+                return Err(Unread::Broken);
+            }
+            write_items(reader, depth - 1, out)
+        }
+        Token::BeginObject => {
+            if depth == 0 {
+                return Err(Unread::Broken);
+            }
+            write_members(reader, depth - 1, out)
+        }
+    }
+}
+
+fn write_number(text: &str, out: &mut Arranger) -> Result<(), Unread>
+    requires { IsNumber text.now }
+    ensures ok { OnOk result ((in_range text.now ≡ true) × ValueAdded out.old (json.number text.now) out.new) }
+    ensures broken { IfErr result (λ e. e ≡ Broken → in_range text.now ≡ false) }
+{
+    if number(text).is_none() {
+        return Err(Unread::Broken);
+    }
+    Ok(out.scalar(Token::Number(text))?)
+}
+
+// The elements of an array whose bracket was read.
+#[cycle(write)]
+fn write_items(reader: &mut Reader<'_>, depth: usize, out: &mut Arranger) -> Result<(), Unread>
+    ensures ok { OnOk result (Passes (sound ranged_items (elements depth reader.old))
+        (λ js. arranged out.old.arrangement (array js)) reader.new out.old out.new) }
+    ensures broken { IfErr result (IsBroken (sound ranged_items (elements depth reader.old))) }
+{
+    out.open(b'[')?;
+    'items: while !reader.take_end_array() {
+        write_value(reader, depth, out)?;
+    }
+    Ok(out.close(b']')?)
+}
+
+// The members of an object whose brace was read.
+#[cycle(write)]
+fn write_members(reader: &mut Reader<'_>, depth: usize, out: &mut Arranger) -> Result<(), Unread>
+    ensures ok { OnOk result (Passes (sound ranged_members (inside depth reader.old))
+        (λ ms. arranged out.old.arrangement (object ms)) reader.new out.old out.new) }
+    ensures broken { IfErr result (IsBroken (sound ranged_members (inside depth reader.old))) }
+{
+    let start = out.begin_object()?;
+    let mut pieces = Vec::new(out.alloc);
+    'members: while let Some(key) = reader.next_key()? {
+        let place = out.begin_member(start, key)?;
+        write_value(reader, depth, out)?;
+        pieces.push(Piece {
+            key,
+            place,
+            start: place,
+            end: out.place(start),
+        })?;
+    }
+    out.settle(start, &mut pieces)?;
+    Ok(out.close(b'}')?)
+}

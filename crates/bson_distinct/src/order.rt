@@ -1,0 +1,167 @@
+//! The texts of an object's members, put in order with each key once.
+ghost use Rattle.std.specs.Prelude.{◌≡◌, ◌++◌, map, None, option_map, true, IfOk, OnOk};
+ghost use Rattle.std.specs.List.{All};
+ghost use Rattle.std.specs.Cmp.Lexicographic.{slice_cmp};
+ghost use Rattle.std.specs.List.Sorted.{IsPermutation, IsSortedByKey};
+ghost use Rattle.std.specs.Ordering.{nat_cmp};
+ghost use Rattle.serde_json.specs.Written.{comma_if};
+ghost use Rattle.bson_model.specs.Stable.{IsStableByKey};
+ghost use Rattle.bson_distinct.specs.Arranging.{merge, piece_key, piece_place};
+ghost use Rattle.bson_distinct.specs.Arranging.{AreOrdered, ArePlaced, IsJoined, IsWithin, PiecesArranged};
+ghost use Rattle.bson_distinct.specs.PutPieces.{merged, Follows, KeysAscend};
+
+use crate::arrangement::Arrangement;
+use std::alloc::{AllocError, Global};
+
+// The key of a member, the place that it takes among the others, and where its text stands, as in
+// `"a":1`: all behind the start of its object.
+#[derive(Clone, Copy, Drop)]
+pub(crate) struct Piece<'a> {
+    pub(crate) key: &'a str,
+    pub(crate) place: usize,
+    pub(crate) start: usize,
+    pub(crate) end: usize,
+}
+
+// Puts the pieces in order, each key once with its last text, and answers the text that they give;
+// or nothing where they stand so.
+pub(crate) fn arrange_pieces(
+    alloc: Global,
+    arrangement: Arrangement,
+    pieces: &mut Vec<Piece<'_>>,
+    body: &[u8],
+) -> Result<Option<Vec<u8>>, AllocError>
+    requires { All (IsWithin body.now) pieces.old.items }
+    ensures { IfOk result (λ text. PiecesArranged arrangement body.now pieces.old.items pieces.new.items text) }
+{
+    if ascend(pieces) {
+        return Ok(None);
+    }
+    order_pieces(arrangement, pieces)?;
+    Ok(Some(join_pieces(alloc, pieces, body)?))
+}
+
+// Each key once, with the text of its last piece.
+fn order_pieces(arrangement: Arrangement, pieces: &mut Vec<Piece<'_>>) -> Result<(), AllocError>
+    ensures { OnOk result (AreOrdered arrangement pieces.old.items pieces.new.items) }
+{
+    sort_by_key(pieces)?;
+    merge_runs(pieces);
+    place_pieces(arrangement, pieces);
+    Ok(())
+}
+
+// Puts pieces that stand by ascending key where they are to stand.
+fn place_pieces(arrangement: Arrangement, pieces: &mut Vec<Piece<'_>>)
+    ensures { ArePlaced arrangement pieces.old.items pieces.new.items }
+{
+    match arrangement {
+        Arrangement::FirstPlaces => sort_by_place(pieces),
+        Arrangement::Ascending => {}
+    }
+}
+
+// Each key is greater than the one before, by bytes.
+fn ascend(pieces: &Vec<Piece<'_>>) -> bool
+    ensures { result ≡ true → KeysAscend None (map piece_key pieces.now.items) }
+{
+    let mut last: Option<&str> = None;
+    for at in 0..pieces.len() {
+        let key = pieces[at].key;
+        if !follows(last, key) {
+            return false;
+        }
+        last = Some(key);
+    }
+    true
+}
+
+// The key is greater than the last one, by bytes.
+fn follows(last: Option<&str>, key: &str) -> bool
+    ensures { result ≡ true → Follows (option_map (λ s. s.now) last.entry) key.now }
+{
+    match last {
+        Some(last) => last.cmp(key).is_lt(),
+        None => true,
+    }
+}
+
+fn sort_by_key(pieces: &mut Vec<Piece<'_>>) -> Result<(), AllocError>
+    ensures stable { OnOk result (IsStableByKey piece_key pieces.old.items pieces.new.items) }
+    ensures same { IsPermutation pieces.old.items pieces.new.items }
+    ensures sorted { OnOk result (IsSortedByKey piece_key (slice_cmp nat_cmp) pieces.new.items) }
+{
+    pieces.sort_by(|one, other| one.key.cmp(other.key))?;
+    Ok(())
+}
+
+// Of those of one key that stand side by side, one with the place of the first and the text of the
+// last.
+fn merge_runs(pieces: &mut Vec<Piece<'_>>)
+    ensures { pieces.new.items ≡ merged piece_key merge pieces.old.items }
+{
+    if pieces.is_empty() {
+        return;
+    }
+    let mut kept = 0;
+    let mut last = pieces[0];
+    'pieces: for at in 1..pieces.len() {
+        let next = pieces[at];
+        if next.key == last.key {
+            last.start = next.start;
+            last.end = next.end;
+        } else {
+            pieces[kept] = last;
+            kept += 1;
+            last = next;
+        }
+    }
+    pieces[kept] = last;
+    pieces.truncate(kept + 1);
+}
+
+fn sort_by_place(pieces: &mut Vec<Piece<'_>>)
+    ensures same { IsPermutation pieces.old.items pieces.new.items }
+    ensures sorted { IsSortedByKey piece_place nat_cmp pieces.new.items }
+{
+    pieces.sort_unstable_by_key(|piece| piece.place);
+}
+
+// The texts of the pieces one behind the other, where they stand from then on.
+fn join_pieces(
+    alloc: Global,
+    pieces: &mut Vec<Piece<'_>>,
+    body: &[u8],
+) -> Result<Vec<u8>, AllocError>
+    requires { All (IsWithin body.now) pieces.old.items }
+    ensures { IfOk result (λ text. IsJoined body.now pieces.old.items pieces.new.items text.items) }
+{
+    let mut text = Vec::with_capacity(alloc, body.len())?;
+    'pieces: for at in 0..pieces.len() {
+        let Piece {
+            key,
+            start,
+            end,
+            ..
+        } = pieces[at];
+        put_comma(at > 0, &mut text)?;
+        let place = text.len();
+        text.extend_from_slice(&body[start..end])?;
+        pieces[at] = Piece {
+            key,
+            place,
+            start: place,
+            end: text.len(),
+        };
+    }
+    Ok(text)
+}
+
+fn put_comma(behind: bool, text: &mut Vec<u8>) -> Result<(), AllocError>
+    ensures { OnOk result (text.new.items ≡ text.old.items ++ comma_if behind) }
+{
+    if behind {
+        text.push(b',')?;
+    }
+    Ok(())
+}
