@@ -5,10 +5,13 @@ pub mod Reading
 pub mod Relations
 pub mod Converse
 pub mod Merged
+pub mod Offered
 pub mod Once
 pub mod Pieces
+pub mod Places
 pub mod Putting
 pub mod ReadAlike
+pub mod Rows
 pub mod Settled
 pub mod Turns
 pub mod Texts

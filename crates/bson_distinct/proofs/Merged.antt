@@ -23,7 +23,7 @@ use Rattle.bson_distinct.proofs.Settled.{differ_permuted, found_permuted}
 
 -- ---- members by ascending key, with the same at each key
 
-abbrev value_at : List ℕ → Members → Option Json
+abbrev pub value_at : List ℕ → Members → Option Json
 value_at q no_members = None
 value_at q (member k j ms) = cond (bytes_eq q k) (Some j) (value_at q ms)
 
@@ -95,11 +95,11 @@ same_members (member k j ms) (member l i ns) mine other same =
 
 -- ---- what is put
 
-again : {A : Type 0} (b : Bool) (x y z : A) → cond b x z ≡ cond b x (cond b y z)
+pub again : {A : Type 0} (b : Bool) (x y z : A) → cond b x z ≡ cond b x (cond b y z)
 again true x y z = refl
 again false x y z = refl
 
-apart : {A : Type 0} (b c : Bool) (x y z : A) → (c ≡ true → b ≡ false) → cond c y (cond b x z) ≡ cond b x (cond c y z)
+pub apart : {A : Type 0} (b c : Bool) (x y z : A) → (c ≡ true → b ≡ false) → cond c y (cond b x z) ≡ cond b x (cond c y z)
 apart b true x y z h = rw (h refl) refl
 apart b false x y z h = refl
 
@@ -124,7 +124,7 @@ put_at Greater q k c j i ms h is =
     ap (cond (bytes_eq q c) (Some i)) is
     ∙ apart (bytes_eq q k) (bytes_eq q c) (Some j) (Some i) (value_at q ms) (not_both (bytes_eq q k) q k c refl h)
 
-value_put : (q k : List ℕ) (j : Json) (ms : Members)
+pub value_put : (q k : List ℕ) (j : Json) (ms : Members)
     → value_at q (put_ascending k j ms) ≡ cond (bytes_eq q k) (Some j) (value_at q ms)
 value_put q k j no_members = refl
 value_put q k j (member c i ms) = put_at (cmp k c) q k c j i ms refl (value_put q k j ms)

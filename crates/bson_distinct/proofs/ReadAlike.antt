@@ -1,5 +1,5 @@
 -- An arranged tree is read as the tree itself.
-use Rattle.std.proofs.Common.{◌≡◌, ℕ, List, Bool, true, false, cond, Ordering, Less, Equal, Greater, Option, Some}
+use Rattle.std.proofs.Common.{◌≡◌, ◌↔◌, ℕ, List, Bool, true, false, cond, Ordering, Less, Equal, Greater, Option, Some}
 use Rattle.std.proofs.Common.{option_map, option_and_then, refl, sym, ap, ◌∙◌}
 use Rattle.std.proofs.lemmas.Option.{same_Some}
 use Rattle.std.specs.Ordering.{match_ordering}
@@ -8,6 +8,10 @@ use Rattle.json.specs.Json as json
 use Rattle.serde_json.specs.Data.{Data, null, boolean, number, string, array, object, Items, no_items, item, Members}
 use Rattle.serde_json.specs.Data.{no_members, member, put}
 use Rattle.serde_json.specs.Read.{number_of, of_json, of_items, of_members, read}
+use Rattle.bson_scalar.specs.declared.form.Doubles.{Doubles}
+use Rattle.bson_model.specs.Sorted.{sorted}
+use Rattle.bson_model.specs.Value.{Value}
+use Rattle.bson_order.specs.Texts.{HasMeaningInOrder, MeansByDefault}
 use Rattle.bson_order.specs.Kept.{put_kept, kept, kept_items, kept_members, read_kept, unordered}
 use Rattle.bson_order.proofs.Offered.{read_forgotten}
 use Rattle.bson_distinct.specs.Arranged.{put_first, put_ascending, put_by, arranged, arranged_items, arranged_members}
@@ -245,3 +249,35 @@ text_read FirstPlaces text written is =
     read_forgotten written ∙ ap (option_map unordered) (text_kept text written is) ∙ sym (read_forgotten text)
 text_read Ascending text written is = ap (option_and_then of_json) is.read_again ∙ read_alike is.tree is.numbers
     ∙ sym (ap (option_and_then of_json) is.is_tree)
+
+-- ---- meanings
+
+meant_by : (D : Doubles) (v : Value) (text other : List ℕ) → read text ≡ read other → MeansByDefault D text v
+    → MeansByDefault D other v
+meant_by D v text other same (t, is, means) = (t, sym same ∙ is, means)
+
+pub meant : (D : Doubles) (a : Arrangement) (text written : List ℕ) (v : Value) → IsArrangedText a text written
+    → (MeansByDefault D written v ↔ MeansByDefault D text v)
+meant D a text written v is =
+    let same = text_read a text written is in
+    (meant_by D v written text same, meant_by D v text written (sym same))
+
+ordered_by : (D : Doubles) (v : Value) (text other : List ℕ) → read_kept text ≡ read_kept other → read text ≡ read other
+    → HasMeaningInOrder D text v → HasMeaningInOrder D other v
+ordered_by D v text other same by_key has = record {
+  tree = has.tree;
+  tree_read = sym same ∙ has.tree_read;
+  means = has.means;
+  one = has.one;
+  read_form = has.read_form;
+  ranged = has.ranged;
+  distinct = has.distinct;
+  by_default = meant_by D (sorted v) text other by_key has.by_default;
+}
+
+pub meant_in_order : (D : Doubles) (text written : List ℕ) (v : Value) → IsArrangedText FirstPlaces text written
+    → (HasMeaningInOrder D written v ↔ HasMeaningInOrder D text v)
+meant_in_order D text written v is =
+    let same = text_kept text written is in
+    let by_key = text_read FirstPlaces text written is in
+    (ordered_by D v written text same by_key, ordered_by D v text written (sym same) (sym by_key))
