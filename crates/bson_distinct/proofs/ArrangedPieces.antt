@@ -1,20 +1,20 @@
 -- What the members of an object are, arranged.
-use Rattle.std.proofs.Common.{◌≡◌, ℕ, List, [], ◌∷◌, Bool, true, false, cond, Ordering, Less, Equal, Greater, map, None, refl, sym, ap, ◌∙◌}
+use Rattle.std.proofs.Common.{◌≡◌, ℕ, inl, inr, List, [], ◌∷◌, Bool, true, false, cond, Ordering, Less, Equal, Greater, map, refl, sym, ap, ◌∙◌}
 use Rattle.std.specs.Cmp.Lexicographic.{slice_cmp}
 use Rattle.std.specs.Ordering.{match_ordering, nat_cmp}
 use Rattle.std.specs.Str.{bytes_eq}
 use Rattle.json.specs.Json.{Json, Members, no_members, member}
 use Rattle.bson_distinct.specs.Arranged.{put_by}
-use Rattle.bson_distinct.specs.Arranging.{some_stand}
+use Rattle.bson_distinct.specs.Arranging.{some_stand, StandInOrder, Values}
 use Rattle.bson_distinct.specs.Arranging.{AreOrdered, Entry, Stand, entry_at, entry_key, entry_members}
 use Rattle.bson_distinct.specs.Arranging.{entry_value, merge, piece_key, piece_place, piece_value, put_entries}
-use Rattle.bson_distinct.specs.PutPieces.{KeysAscend, members_of, put_each}
+use Rattle.bson_distinct.specs.PutPieces.{members_of, put_each}
 use Rattle.bson_distinct.specs.declared.arrangement.Arrangement.{Arrangement}
 use Rattle.bson_distinct.specs.declared.arrangement.Arrangement.TheVariants.{FirstPlaces, Ascending}
 use Rattle.bson_distinct.specs.declared.order.Piece.{Piece}
 use Rattle.bson_distinct.proofs.Merged.{settled_by_key, settled_by_place}
 use Rattle.bson_distinct.proofs.Ordered.{as_entries, put_as_entries}
-use Rattle.bson_distinct.proofs.Putting.{put_ascending_keys, put_put}
+use Rattle.bson_distinct.proofs.Putting.{put_ascending_keys, put_distinct, put_put}
 
 -- entries are put as their pieces are
 put_stand : (a : Arrangement) (body : List ℕ) (ps : List Piece) (es : List Entry) (stand : Stand body ps es)
@@ -23,12 +23,18 @@ put_stand a body ps es stand =
     ap (λ fs. put_each entry_key entry_value a fs no_members) (sym stand.entries)
     ∙ put_as_entries stand.values a ps no_members
 
--- those whose keys ascend stay
+-- those that stand in their order stay
+put_stands : (a : Arrangement) (values : Values) (ps : List Piece) → StandInOrder a (map piece_key ps)
+    → put_each piece_key (piece_value values) a ps no_members ≡ members_of piece_key (piece_value values) ps
+put_stands a values ps (inl up) = put_ascending_keys piece_key (piece_value values) a ps up
+put_stands a values ps (inr (is, are)) =
+    ap (λ b. put_each piece_key (piece_value values) b ps no_members) is
+    ∙ put_distinct piece_key (piece_value values) ps are
+
 pub stays : (a : Arrangement) (body : List ℕ) (ps : List Piece) (es : List Entry) → Stand body ps es
-    → KeysAscend None (map piece_key ps) → entry_members es ≡ put_entries a es
-stays a body ps es stand up =
-    ap entry_members (sym stand.entries) ∙ as_entries stand.values ps
-    ∙ sym (put_ascending_keys piece_key (piece_value stand.values) a ps up)
+    → StandInOrder a (map piece_key ps) → entry_members es ≡ put_entries a es
+stays a body ps es stand are =
+    ap entry_members (sym stand.entries) ∙ as_entries stand.values ps ∙ sym (put_stands a stand.values ps are)
     ∙ sym (put_stand a body ps es stand)
 
 ordered : (a : Arrangement) (body : List ℕ) (xs zs : List Piece) (es : List Entry) (stand : Stand body xs es)

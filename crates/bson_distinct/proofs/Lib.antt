@@ -22,5 +22,6 @@ pub mod Standing
 pub mod Ordered
 pub mod Joining
 pub mod ArrangedPieces
+pub mod Distinct
 pub mod Behind
 pub mod Whole

@@ -1,5 +1,5 @@
 -- What was written of what was read, each object arranged. For private clauses.
-use Rattle.std.specs.Prelude.{◌≡◌, ◌<◌, ◌≤◌, ◌-◌, ◌&&◌, ℕ, List, [], ◌∷◌, ◌++◌, length, map, slice_range}
+use Rattle.std.specs.Prelude.{◌≡◌, ◌≢◌, ◌⊎◌, ◌<◌, ◌≤◌, ◌-◌, ◌&&◌, ℕ, List, [], ◌∷◌, ◌++◌, length, map, slice_index_or, slice_range}
 use Rattle.std.specs.Prelude.{Bool, true, false, is_some, Option, Some, None, MatchOption, if◌then◌else◌, Vec}
 use Rattle.std.specs.declared.alloc.Global.{Global}
 use Rattle.std.specs.Cmp.Lexicographic.{slice_cmp}
@@ -10,12 +10,13 @@ use Rattle.std.specs.Ordering.{nat_cmp}
 use Rattle.json.specs.Json.{Json, null, boolean, number, string, array, object, Items, no_items, item}
 use Rattle.json.specs.Json.{Members, no_members, member, Parse, items, members, value}
 use Rattle.json.specs.Print.{print, quoted}
+use Rattle.json.specs.Strict.{AreDistinct}
 use Rattle.json.specs.Token.{Token}
 use Rattle.json.specs.Tree.{json_tokens}
 use Rattle.serde_json.specs.Read.{number_of}
 use Rattle.serde_json.specs.Written.{comma_if}
 use Rattle.bson_model.specs.Stable.{IsStableByKey}
-use Rattle.bson_distinct.specs.PutPieces.{members_of, merged, put_each, Rise}
+use Rattle.bson_distinct.specs.PutPieces.{members_of, merged, put_each, KeysAscend, Rise}
 use Rattle.bson_distinct.specs.declared.arrangement.Arrangement.{Arrangement}
 use Rattle.bson_distinct.specs.declared.arrangement.Arrangement.TheVariants.{FirstPlaces, Ascending}
 use Rattle.bson_distinct.specs.declared.arranger.Arranger.{Arranger}
@@ -185,6 +186,15 @@ IsJoined body old new text = (values : Values) → All (IsPiece body values) old
     → Stand text new (map (entry_at values) old)
 
 -- ---- their order
+
+-- the keys stand in their order, each once
+abbrev pub StandInOrder : Arrangement → List (List ℕ) → Type 0
+StandInOrder a ks = KeysAscend None ks ⊎ ((a ≡ FirstPlaces) × AreDistinct ks)
+
+-- no piece before this one has its key
+abbrev pub DifferAt : List Piece → ℕ → Type 0
+DifferAt ps at = (i : ℕ) (d : Piece) → i < at
+    → piece_key (slice_index_or ps i d) ≢ piece_key (slice_index_or ps at d)
 
 -- pieces by ascending key, where they are to stand
 abbrev pub ArePlaced : Arrangement → List Piece → List Piece → Type 0

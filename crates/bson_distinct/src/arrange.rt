@@ -12,7 +12,7 @@ ghost use Rattle.bson_tokens.specs.declared.unread.Unread.TheVariants.{Broken};
 
 use crate::arrangement::Arrangement;
 use crate::arranger::{Arranger, EARLY, into_text};
-use crate::order::Piece;
+use crate::order::{Piece, hold};
 use bson_tokens::number::number;
 use bson_tokens::unread::Unread;
 use json::{Reader, Scratch, Token};
@@ -110,12 +110,13 @@ fn write_members(reader: &mut Reader<'_>, depth: usize, out: &mut Arranger) -> R
     'members: while let Some(key) = reader.next_key()? {
         let place = out.begin_member(start, key)?;
         write_value(reader, depth, out)?;
-        pieces.push(Piece {
+        let piece = Piece {
             key,
             place,
             start: place,
             end: out.place(start),
-        })?;
+        };
+        hold(&mut pieces, piece)?;
         most = out.settle_early(start, &mut pieces, most)?;
     }
     out.settle(start, &mut pieces)?;

@@ -1,5 +1,5 @@
 //! The texts of an object's members, put in order with each key once.
-ghost use Rattle.std.specs.Prelude.{◌≡◌, ◌++◌, map, None, option_map, true, IfOk, OnOk};
+ghost use Rattle.std.specs.Prelude.{◌≡◌, ◌<◌, ◌++◌, ◌∷◌, [], false, length, map, None, option_map, true, IfOk, OnOk};
 ghost use Rattle.std.specs.List.{All};
 ghost use Rattle.std.specs.Cmp.Lexicographic.{slice_cmp};
 ghost use Rattle.std.specs.List.Sorted.{IsPermutation, IsSortedByKey};
@@ -7,11 +7,15 @@ ghost use Rattle.std.specs.Ordering.{nat_cmp};
 ghost use Rattle.serde_json.specs.Written.{comma_if};
 ghost use Rattle.bson_model.specs.Stable.{IsStableByKey};
 ghost use Rattle.bson_distinct.specs.Arranging.{merge, piece_key, piece_place};
-ghost use Rattle.bson_distinct.specs.Arranging.{AreOrdered, ArePlaced, IsJoined, IsWithin, PiecesArranged};
+ghost use Rattle.bson_distinct.specs.Arranging.{AreOrdered, ArePlaced, DifferAt, IsJoined, IsWithin, PiecesArranged, StandInOrder};
+ghost use Rattle.json.specs.Strict.{AreDistinct};
 ghost use Rattle.bson_distinct.specs.PutPieces.{merged, Follows, KeysAscend};
 
 use crate::arrangement::Arrangement;
 use std::alloc::{AllocError, Global};
+
+// Among so many pieces or fewer a key that stands twice is looked for in pairs.
+const FEW: usize = 32;
 
 // The key of a member, the place that it takes among the others, and where its text stands, as in
 // `"a":1`: all behind the start of its object.
@@ -21,6 +25,17 @@ pub(crate) struct Piece<'a> {
     pub(crate) place: usize,
     pub(crate) start: usize,
     pub(crate) end: usize,
+}
+
+// Holds one more piece, with room for a quarter more at most.
+pub(crate) fn hold<'a>(pieces: &mut Vec<Piece<'a>>, piece: Piece<'a>) -> Result<(), AllocError>
+    ensures { OnOk result (pieces.new.items ≡ pieces.old.items ++ piece.entry ∷ []) }
+{
+    if pieces.len() == pieces.capacity() {
+        pieces.reserve_exact(pieces.len() / 4 + 4)?;
+    }
+    pieces.push(piece)?;
+    Ok(())
 }
 
 // Puts the pieces in order, each key once with its last text, and answers the text that they give;
@@ -34,11 +49,54 @@ pub(crate) fn arrange_pieces(
     requires { All (IsWithin body.now) pieces.old.items }
     ensures { IfOk result (λ text. PiecesArranged arrangement body.now pieces.old.items pieces.new.items text) }
 {
-    if ascend(pieces) {
+    if are_arranged(arrangement, pieces) {
         return Ok(None);
     }
     order_pieces(arrangement, pieces)?;
     Ok(Some(join_pieces(alloc, pieces, body)?))
+}
+
+// The pieces stand in their order, each key once. Of more than a few at their first places this is
+// not looked for.
+fn are_arranged(arrangement: Arrangement, pieces: &Vec<Piece<'_>>) -> bool
+    ensures { result ≡ true → StandInOrder arrangement (map piece_key pieces.now.items) }
+{
+    if ascend(pieces) {
+        return true;
+    }
+    match arrangement {
+        Arrangement::FirstPlaces => differ(pieces),
+        Arrangement::Ascending => false,
+    }
+}
+
+// The keys are few, and no two of them are equal.
+fn differ(pieces: &Vec<Piece<'_>>) -> bool
+    ensures { result ≡ true → AreDistinct (map piece_key pieces.now.items) }
+{
+    if pieces.len() > FEW {
+        return false;
+    }
+    for at in 1..pieces.len() {
+        if stands_before(pieces, at) {
+            return false;
+        }
+    }
+    true
+}
+
+// A piece before this one has its key.
+fn stands_before(pieces: &Vec<Piece<'_>>, at: usize) -> bool
+    requires { at < length pieces.now.items }
+    ensures { result ≡ false → DifferAt pieces.now.items at }
+{
+    let key = pieces[at].key;
+    for before in 0..at {
+        if pieces[before].key == key {
+            return true;
+        }
+    }
+    false
 }
 
 // Each key once, with the text of its last piece.

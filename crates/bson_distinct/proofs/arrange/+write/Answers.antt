@@ -164,8 +164,8 @@ write_members-members-preserved t c =
     let rest = sound ranged_members (inside c.args.depth c.write_value.new.reader) in
     let begun = c.in_ok-start.ensures.0 in
     let g = grown_more first l.out mid later c.in_ok-start.start c.in_ok-place.place c.place.result l.pieces.items
-    c.push.new.self.items h.entries c.in-Some.key (arranged mid.arrangement j) h.grown begun c.in_ok-place.ensures added
-    c.place.ensures c.in_ok-push.ensures.items in
+    c.hold.new.pieces.items h.entries c.in-Some.key (arranged mid.arrangement j) h.grown begun c.in_ok-place.ensures added
+    c.place.ensures c.in_ok-hold.ensures in
     let early = c.in_ok-most.ensures in
     let (body, fs, text, stand, put, some) = early.2 first g.body es g.text_is begun g.stand in
     let same : later.arrangement ≡ a = added.arrangement ∙ c.in_ok-place.ensures.1.arrangement in

@@ -4,9 +4,9 @@ use Rattle.bson_distinct.proofs.Ordered.{all_pieces, all_within}
 use Rattle.bson_distinct.proofs.ArrangedPieces.{stays, settled}
 use Rattle.bson_distinct.proofs.order.arrange_pieces.Goals as goal
 
-pub returns-then-ascend : goal.returns-then-ascend
-returns-then-ascend c = λ es stand.
-    (es, stand, stays c.args.arrangement c.args.body.now c.args.pieces.now.items es stand (c.ascend.ensures c.if-ascend.true))
+pub returns-then-are_arranged : goal.returns-then-are_arranged
+returns-then-are_arranged c = λ es stand.
+    (es, stand, stays c.args.arrangement c.args.body.now c.args.pieces.now.items es stand (c.are_arranged.ensures c.if-are_arranged.true))
 
 pub join_pieces-requires : goal.join_pieces-requires
 join_pieces-requires c =
