@@ -1,7 +1,7 @@
 -- Keys of a map, whether there is one of a kind.
 use Rattle.std.proofs.Common.{◌≡◌, ℕ, List, Bool, true, false, not, ◌&&◌, ◌||◌, codes, cond}
 use Rattle.std.proofs.Common.{Ordering, Less, Equal, Greater, nat_cmp, inl, inr, ◌⊎◌, refl, sym, ap, ◌∙◌}
-use Rattle.std.proofs.lemmas.Bool.{both_paths, not-true, or_left, or_right, or_cases, and_parts}
+use Rattle.std.proofs.lemmas.Bool.{both_ways, not-true, or_left, or_right, or_cases, and_parts}
 use Rattle.std.proofs.lemmas.Bool.{and_left, and_right}
 use Rattle.std.proofs.lemmas.Slice.Eq.{bytes_eq-Decides}
 use Rattle.std.specs.Cmp.Lexicographic.{slice_cmp}
@@ -76,7 +76,7 @@ not_scope : (k : List ℕ) → is_ordinary k ≡ true → is_scope k ≡ false
 not_scope k h = not-true (is_scope k) (and_parts (not (is_wrapper k)) (not (is_scope k)) h).1
 
 no_code : (k : List ℕ) (b : Bool) → is_code k ≡ b → is_wrapper k ≡ false → b ≡ false
-no_code k true is h = absurd (both_paths (is_wrapper k) h (ap is_wrapper ((bytes_eq-Decides k (codes "$code")).0 is)))
+no_code k true is h = absurd (both_ways (is_wrapper k) h (ap is_wrapper ((bytes_eq-Decides k (codes "$code")).0 is)))
 no_code k false is h = refl
 
 not_both : (k l : List ℕ) → (is_ordinary k ≡ true) ⊎ (is_ordinary l ≡ true) → (is_code k && is_scope l) ≡ false
@@ -87,7 +87,7 @@ strange : (D : Doubles) (ms : Members) → any_key is_wrapper ms ≡ true → an
     → found_wrapper D ms ≡ here
 strange D no_members h i = refl
 strange D (member k d no_members) h i =
-    absurd (both_paths (is_wrapper k) (not_wrapper k (one_true (is_ordinary k) i)) (one_true (is_wrapper k) h))
+    absurd (both_ways (is_wrapper k) (not_wrapper k (one_true (is_ordinary k) i)) (one_true (is_wrapper k) h))
 strange D (member k d (member l e no_members)) h i =
     rw (not_both k l (by (or_cases (is_ordinary k) (is_ordinary l || false) i))) refl
   where

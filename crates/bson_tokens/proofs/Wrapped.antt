@@ -1,7 +1,7 @@
 -- An object whose first key is a wrapper's: what is found of it by the members so far.
 use Rattle.std.proofs.Common.{◌≡◌, ℕ, ◌<◌, List, length, Bool, true, false, not, ◌&&◌, ◌||◌, codes, cond, Option, Some, None}
 use Rattle.std.proofs.Common.{Equal, nat_cmp, inl, inr, ◌⊎◌, refl, sym, ap, ◌∙◌, arith, is_some}
-use Rattle.std.proofs.lemmas.Bool.{both_paths, or_left, or_right, or_cases, and_parts}
+use Rattle.std.proofs.lemmas.Bool.{both_ways, or_left, or_right, or_cases, and_parts}
 use Rattle.std.proofs.lemmas.Cmp.{nat_list_cmp_total, tied_itself}
 use Rattle.std.proofs.lemmas.Slice.Eq.{bytes_eq-Decides}
 use Rattle.std.specs.Cmp.Lexicographic.{slice_cmp}
@@ -96,10 +96,10 @@ clash : {A : Type 0} (k a b : List ℕ) → a ≡ codes "$code" → b ≡ codes 
 clash k a b first second w (inl same) i =
     let named : k ≡ codes "$code" = sym ((bytes_eq-Decides a k).0 same) ∙ first in
     let none : (is_beside k a || (is_beside k b || false)) ≡ false = rw (named, first, second) refl in
-    absurd (both_paths (is_beside k a || (is_beside k b || false)) none i)
+    absurd (both_ways (is_beside k a || (is_beside k b || false)) none i)
 clash k a b first second w (inr same) i =
     let named : k ≡ codes "$scope" = sym ((bytes_eq-Decides b k).0 (one_true (bytes_eq b k) same)) ∙ second in
-    absurd (both_paths (is_wrapper k) (ap is_wrapper named) w)
+    absurd (both_ways (is_wrapper k) (ap is_wrapper named) w)
 
 not_code : (k a b : List ℕ) (c : Bool) → (is_code a && is_scope b) ≡ c → is_wrapper k ≡ true
     → (bytes_eq a k || (bytes_eq b k || false)) ≡ true → (is_beside k a || (is_beside k b || false)) ≡ true → c ≡ false
@@ -113,7 +113,7 @@ strange_in : (D : Doubles) (k : List ℕ) (ms : Members) → is_wrapper k ≡ tr
     → found_wrapper D ms ≡ here
 strange_in D k no_members w is = refl
 strange_in D k (member a d no_members) w is =
-    absurd (both_paths (is_beside k a) (one_beside k a (one_true (bytes_eq a k) is.0)) (one_true (is_beside k a) is.1))
+    absurd (both_ways (is_beside k a) (one_beside k a (one_true (bytes_eq a k) is.0)) (one_true (is_beside k a) is.1))
 strange_in D k (member a d (member b e no_members)) w is =
     rw (not_code k a b (is_code a && is_scope b) refl w is.0 is.1) refl
 strange_in D k (member a d (member b e (member c f ms))) w is = refl
