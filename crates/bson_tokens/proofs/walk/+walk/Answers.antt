@@ -7,54 +7,22 @@ use Rattle.bson_tokens.proofs.walk.+walk.Answers.Objects as objects
 use Rattle.bson_tokens.proofs.walk.+walk.Answers.Wrapped as in_wrapper
 use Rattle.bson_tokens.proofs.walk.+walk.Goals as goal
 
-pub walk_value-returns-in-String-clause-ok : goal.walk_value-returns-in-String-clause-ok
-walk_value-returns-in-String-clause-ok = values.walk_value-returns-in-String-clause-ok
+pub walk_value-returns-in_ok-primitive_fault-in-Primitive-clause-ok :
+    goal.walk_value-returns-in_ok-primitive_fault-in-Primitive-clause-ok
+walk_value-returns-in_ok-primitive_fault-in-Primitive-clause-ok =
+    values.walk_value-returns-in_ok-primitive_fault-in-Primitive-clause-ok
 
-pub walk_value-returns-in-Bool-clause-ok : goal.walk_value-returns-in-Bool-clause-ok
-walk_value-returns-in-Bool-clause-ok = values.walk_value-returns-in-Bool-clause-ok
+pub walk_value-returns-in-Array-clause-ok : goal.walk_value-returns-in-Array-clause-ok
+walk_value-returns-in-Array-clause-ok = values.walk_value-returns-in-Array-clause-ok
 
-pub walk_value-returns-in-Null-clause-ok : goal.walk_value-returns-in-Null-clause-ok
-walk_value-returns-in-Null-clause-ok = values.walk_value-returns-in-Null-clause-ok
+pub walk_value-returns-in-Array-clause-broken : goal.walk_value-returns-in-Array-clause-broken
+walk_value-returns-in-Array-clause-broken = values.walk_value-returns-in-Array-clause-broken
 
-pub walk_value-returns-in_ok-of_number-in-Number-clause-ok : goal.walk_value-returns-in_ok-of_number-in-Number-clause-ok
-walk_value-returns-in_ok-of_number-in-Number-clause-ok = values.walk_value-returns-in_ok-of_number-in-Number-clause-ok
+pub walk_value-returns-in-Object-clause-ok : goal.walk_value-returns-in-Object-clause-ok
+walk_value-returns-in-Object-clause-ok = values.walk_value-returns-in-Object-clause-ok
 
-pub walk_value-returns-in_err-of_number-in-Number-clause-broken :
-    goal.walk_value-returns-in_err-of_number-in-Number-clause-broken
-walk_value-returns-in_err-of_number-in-Number-clause-broken =
-    values.walk_value-returns-in_err-of_number-in-Number-clause-broken
-
-pub walk_value-returns-in_ok-walk_items-in-BeginArray-clause-ok :
-    goal.walk_value-returns-in_ok-walk_items-in-BeginArray-clause-ok
-walk_value-returns-in_ok-walk_items-in-BeginArray-clause-ok =
-    values.walk_value-returns-in_ok-walk_items-in-BeginArray-clause-ok
-
-pub walk_value-returns-in_ok-walk_members-in-BeginObject-clause-ok :
-    goal.walk_value-returns-in_ok-walk_members-in-BeginObject-clause-ok
-walk_value-returns-in_ok-walk_members-in-BeginObject-clause-ok =
-    values.walk_value-returns-in_ok-walk_members-in-BeginObject-clause-ok
-
-pub walk_value-returns-in_err-token-clause-broken : goal.walk_value-returns-in_err-token-clause-broken
-walk_value-returns-in_err-token-clause-broken = values.walk_value-returns-in_err-token-clause-broken
-
-pub walk_value-returns-then-depth-eq0-clause-broken : goal.walk_value-returns-then-depth-eq0-clause-broken
-walk_value-returns-then-depth-eq0-clause-broken = values.walk_value-returns-then-depth-eq0-clause-broken
-
-pub walk_value-returns-then-depth-eq0-2-clause-broken : goal.walk_value-returns-then-depth-eq0-2-clause-broken
-walk_value-returns-then-depth-eq0-2-clause-broken = values.walk_value-returns-then-depth-eq0-2-clause-broken
-
-pub walk_value-returns-in_err-walk_items-in-BeginArray-clause-broken :
-    goal.walk_value-returns-in_err-walk_items-in-BeginArray-clause-broken
-walk_value-returns-in_err-walk_items-in-BeginArray-clause-broken =
-    values.walk_value-returns-in_err-walk_items-in-BeginArray-clause-broken
-
-pub walk_value-returns-in_err-walk_members-in-BeginObject-clause-broken :
-    goal.walk_value-returns-in_err-walk_members-in-BeginObject-clause-broken
-walk_value-returns-in_err-walk_members-in-BeginObject-clause-broken =
-    values.walk_value-returns-in_err-walk_members-in-BeginObject-clause-broken
-
-pub walk_value-returns-in-EndObject-clause-broken : goal.walk_value-returns-in-EndObject-clause-broken
-walk_value-returns-in-EndObject-clause-broken = values.walk_value-returns-in-EndObject-clause-broken
+pub walk_value-returns-in-Object-clause-broken : goal.walk_value-returns-in-Object-clause-broken
+walk_value-returns-in-Object-clause-broken = values.walk_value-returns-in-Object-clause-broken
 
 pub walk_items-items-init : goal.walk_items-items-init
 walk_items-items-init = objects.walk_items-items-init
@@ -80,8 +48,10 @@ walk_members-returns-then-may_be_wrapper-clause-broken = objects.walk_members-re
 pub walk_members-returns-in-Some-wrapper-clause-ok : goal.walk_members-returns-in-Some-wrapper-clause-ok
 walk_members-returns-in-Some-wrapper-clause-ok = objects.walk_members-returns-in-Some-wrapper-clause-ok
 
-pub walk_members-returns-in_ok-least_fault-in-None-clause-ok : goal.walk_members-returns-in_ok-least_fault-in-None-clause-ok
-walk_members-returns-in_ok-least_fault-in-None-clause-ok = objects.walk_members-returns-in_ok-least_fault-in-None-clause-ok
+pub walk_members-returns-in_ok-least_fault-in-None-clause-ok :
+    goal.walk_members-returns-in_ok-least_fault-in-None-clause-ok
+walk_members-returns-in_ok-least_fault-in-None-clause-ok =
+    objects.walk_members-returns-in_ok-least_fault-in-None-clause-ok
 
 pub walk_items-returns-in_err-item-clause-broken : goal.walk_items-returns-in_err-item-clause-broken
 walk_items-returns-in_err-item-clause-broken = objects.walk_items-returns-in_err-item-clause-broken
@@ -109,58 +79,28 @@ pub wrapped::walk_pairs-returns-in_err-member-clause-broken :
 wrapped::walk_pairs-returns-in_err-member-clause-broken =
     in_wrapper.wrapped::walk_pairs-returns-in_err-member-clause-broken
 
-pub wrapped::walk_scope-returns-in-Null-clause-ok : goal.wrapped::walk_scope-returns-in-Null-clause-ok
-wrapped::walk_scope-returns-in-Null-clause-ok = in_wrapper.wrapped::walk_scope-returns-in-Null-clause-ok
+pub wrapped::walk_scope-returns-in-Primitive-clause-ok : goal.wrapped::walk_scope-returns-in-Primitive-clause-ok
+wrapped::walk_scope-returns-in-Primitive-clause-ok = in_wrapper.wrapped::walk_scope-returns-in-Primitive-clause-ok
 
-pub wrapped::walk_scope-returns-in-String-clause-ok : goal.wrapped::walk_scope-returns-in-String-clause-ok
-wrapped::walk_scope-returns-in-String-clause-ok = in_wrapper.wrapped::walk_scope-returns-in-String-clause-ok
+pub wrapped::walk_scope-returns-in_ok-pass_items-in-Array-clause-ok :
+    goal.wrapped::walk_scope-returns-in_ok-pass_items-in-Array-clause-ok
+wrapped::walk_scope-returns-in_ok-pass_items-in-Array-clause-ok =
+    in_wrapper.wrapped::walk_scope-returns-in_ok-pass_items-in-Array-clause-ok
 
-pub wrapped::walk_scope-returns-in-Bool-clause-ok : goal.wrapped::walk_scope-returns-in-Bool-clause-ok
-wrapped::walk_scope-returns-in-Bool-clause-ok = in_wrapper.wrapped::walk_scope-returns-in-Bool-clause-ok
+pub wrapped::walk_scope-returns-in_ok-in_scope-in-Object-clause-ok :
+    goal.wrapped::walk_scope-returns-in_ok-in_scope-in-Object-clause-ok
+wrapped::walk_scope-returns-in_ok-in_scope-in-Object-clause-ok =
+    in_wrapper.wrapped::walk_scope-returns-in_ok-in_scope-in-Object-clause-ok
 
-pub wrapped::walk_scope-returns-in-Some-clause-ok : goal.wrapped::walk_scope-returns-in-Some-clause-ok
-wrapped::walk_scope-returns-in-Some-clause-ok = in_wrapper.wrapped::walk_scope-returns-in-Some-clause-ok
+pub wrapped::walk_scope-returns-in_err-pass_items-in-Array-clause-broken :
+    goal.wrapped::walk_scope-returns-in_err-pass_items-in-Array-clause-broken
+wrapped::walk_scope-returns-in_err-pass_items-in-Array-clause-broken =
+    in_wrapper.wrapped::walk_scope-returns-in_err-pass_items-in-Array-clause-broken
 
-pub wrapped::walk_scope-returns-in-None-clause-broken : goal.wrapped::walk_scope-returns-in-None-clause-broken
-wrapped::walk_scope-returns-in-None-clause-broken = in_wrapper.wrapped::walk_scope-returns-in-None-clause-broken
-
-pub wrapped::walk_scope-returns-in-EndObject-clause-broken : goal.wrapped::walk_scope-returns-in-EndObject-clause-broken
-wrapped::walk_scope-returns-in-EndObject-clause-broken =
-    in_wrapper.wrapped::walk_scope-returns-in-EndObject-clause-broken
-
-pub wrapped::walk_scope-returns-in_err-token-clause-broken : goal.wrapped::walk_scope-returns-in_err-token-clause-broken
-wrapped::walk_scope-returns-in_err-token-clause-broken =
-    in_wrapper.wrapped::walk_scope-returns-in_err-token-clause-broken
-
-pub wrapped::walk_scope-returns-then-depth-eq0-clause-broken :
-    goal.wrapped::walk_scope-returns-then-depth-eq0-clause-broken
-wrapped::walk_scope-returns-then-depth-eq0-clause-broken =
-    in_wrapper.wrapped::walk_scope-returns-then-depth-eq0-clause-broken
-
-pub wrapped::walk_scope-returns-then-depth-eq0-2-clause-broken :
-    goal.wrapped::walk_scope-returns-then-depth-eq0-2-clause-broken
-wrapped::walk_scope-returns-then-depth-eq0-2-clause-broken =
-    in_wrapper.wrapped::walk_scope-returns-then-depth-eq0-2-clause-broken
-
-pub wrapped::walk_scope-returns-in_err-pass_items-in-BeginArray-clause-broken :
-    goal.wrapped::walk_scope-returns-in_err-pass_items-in-BeginArray-clause-broken
-wrapped::walk_scope-returns-in_err-pass_items-in-BeginArray-clause-broken =
-    in_wrapper.wrapped::walk_scope-returns-in_err-pass_items-in-BeginArray-clause-broken
-
-pub wrapped::walk_scope-returns-in_err-place-in-BeginObject-clause-broken :
-    goal.wrapped::walk_scope-returns-in_err-place-in-BeginObject-clause-broken
-wrapped::walk_scope-returns-in_err-place-in-BeginObject-clause-broken =
-    in_wrapper.wrapped::walk_scope-returns-in_err-place-in-BeginObject-clause-broken
-
-pub wrapped::walk_scope-returns-in_ok-pass_items-in-BeginArray-clause-ok :
-    goal.wrapped::walk_scope-returns-in_ok-pass_items-in-BeginArray-clause-ok
-wrapped::walk_scope-returns-in_ok-pass_items-in-BeginArray-clause-ok =
-    in_wrapper.wrapped::walk_scope-returns-in_ok-pass_items-in-BeginArray-clause-ok
-
-pub wrapped::walk_scope-returns-in_ok-in_scope-in-BeginObject-clause-ok :
-    goal.wrapped::walk_scope-returns-in_ok-in_scope-in-BeginObject-clause-ok
-wrapped::walk_scope-returns-in_ok-in_scope-in-BeginObject-clause-ok =
-    in_wrapper.wrapped::walk_scope-returns-in_ok-in_scope-in-BeginObject-clause-ok
+pub wrapped::walk_scope-returns-in_err-place-in-Object-clause-broken :
+    goal.wrapped::walk_scope-returns-in_err-place-in-Object-clause-broken
+wrapped::walk_scope-returns-in_err-place-in-Object-clause-broken =
+    in_wrapper.wrapped::walk_scope-returns-in_err-place-in-Object-clause-broken
 
 pub wrapped::walk_wrapper-returns-in_err-held-clause-broken :
     goal.wrapped::walk_wrapper-returns-in_err-held-clause-broken
