@@ -1,5 +1,5 @@
 -- How a value starts: with one token as a whole, or with the bracket or brace of what is in it.
-use Rattle.std.proofs.Common.{◌≡◌, ℕ, ◌-◌, List, length, Option, Some, None, option_map, refl, ap, ◌∙◌, subst, ◌∷◌, ◌⊎◌}
+use Rattle.std.proofs.Common.{◌≡◌, ℕ, ◌-◌, ◌<◌, List, length, Option, Some, None, option_map, refl, ap, ◌∙◌, subst, ◌∷◌, ◌⊎◌}
 use Rattle.std.proofs.Common.{inl, inr, Bor}
 use Rattle.json.specs.Token.{Token}
 use Rattle.json.specs.Json as json
@@ -7,7 +7,7 @@ use Rattle.json.specs.Json.{parse_map, items, members, value}
 use Rattle.json.specs.Reads.{token_of}
 use Rattle.json.specs.declared.token.Token as found
 use Rattle.json.specs.declared.token.Token.TheVariants.{EndObject, EndArray, Key, Bad}
-use Rattle.json.proofs.Grammar.{value_is}
+use Rattle.json.proofs.Grammar.{value_is, value-begin_array, value-begin_object}
 use Rattle.serde_json.specs.Data.{number, array, object, no_members}
 use Rattle.serde_json.specs.Read.{of_json, of_items, of_members, converted}
 use Rattle.bson_tokens.specs.Start.{primitive_tree, IsPrimitive, Starts}
@@ -27,29 +27,42 @@ object_converted : (o : Option (json.Members × List Token))
 object_converted None = refl
 object_converted (Some (js, r)) = under object (of_members js no_members) r
 
-primitive_of : (p : Primitive) (j : json.Json) → IsPrimitive p j → of_json j ≡ Some (primitive_tree p)
-primitive_of Null j is = ap of_json is
-primitive_of (Truth b) j is = ap of_json is
-primitive_of (Number n) j is = ap of_json is.1 ∙ ap (option_map number) is.2
-primitive_of (String s) j is = ap of_json is
+pub primitive_json : (p : Primitive) (j : json.Json) → IsPrimitive p j → of_json j ≡ Some (primitive_tree p)
+primitive_json Null j is = ap of_json is
+primitive_json (Truth b) j is = ap of_json is
+primitive_json (Number n) j is = ap of_json is.1 ∙ ap (option_map number) is.2
+primitive_json (String s) j is = ap of_json is
 
 module _ (depth : ℕ) (ts r : List Token) (s : Start) where
   pub primitive_read : (p : Primitive) → s ≡ start.Primitive p → Starts depth ts s r
       → converted of_json (value depth ts) ≡ Some (primitive_tree p, r)
   primitive_read p is h =
       let of = subst (λ x. Starts depth ts x r) is h in
-      ap (converted of_json) of.1 ∙ ap (option_map (λ d. (d, r))) (primitive_of p of.0 of.2)
+      ap (converted of_json) of.1 ∙ ap (option_map (λ d. (d, r))) (primitive_json p of.0 of.2)
 
-  pub array_opened : s ≡ start.Array → Starts depth ts s r
+  pub array_read : s ≡ start.Array → Starts depth ts s r
       → converted of_json (value depth ts) ≡ parse_map array (converted of_items (items (value (depth - 1)) (length r) r))
-  array_opened is h = ap (converted of_json) (subst (λ x. Starts depth ts x r) is h).1
+  array_read is h = ap (converted of_json) (subst (λ x. Starts depth ts x r) is h).1
       ∙ array_converted (items (value (depth - 1)) (length r) r)
 
-  pub object_opened : s ≡ start.Object → Starts depth ts s r
+  pub object_read : s ≡ start.Object → Starts depth ts s r
       → converted of_json (value depth ts)
       ≡ parse_map object (converted (λ ms. of_members ms no_members) (members (value (depth - 1)) (length r) r))
-  object_opened is h = ap (converted of_json) (subst (λ x. Starts depth ts x r) is h).1
+  object_read is h = ap (converted of_json) (subst (λ x. Starts depth ts x r) is h).1
       ∙ object_converted (members (value (depth - 1)) (length r) r)
+
+-- a bracket or a brace was read, and what stands behind it is left
+pub array_opened : (depth : ℕ) (ts r : List Token) → ts ≡ Token.begin_array ∷ r → 0 < depth
+    → converted of_json (value depth ts) ≡ parse_map array (converted of_items (items (value (depth - 1)) (length r) r))
+array_opened depth ts r is left = ap (λ t. converted of_json (value depth t)) is
+    ∙ ap (converted of_json) (value-begin_array depth r left) ∙ array_converted (items (value (depth - 1)) (length r) r)
+
+pub object_opened : (depth : ℕ) (ts r : List Token) → ts ≡ Token.begin_object ∷ r → 0 < depth
+    → converted of_json (value depth ts)
+    ≡ parse_map object (converted (λ ms. of_members ms no_members) (members (value (depth - 1)) (length r) r))
+object_opened depth ts r is left = ap (λ t. converted of_json (value depth t)) is
+    ∙ ap (converted of_json) (value-begin_object depth r left)
+    ∙ object_converted (members (value (depth - 1)) (length r) r)
 
 -- ---- where none does
 

@@ -55,9 +55,9 @@ fn held_value(
     }
 }
 
-// Passes over the elements of an array whose bracket was read.
+/// Passes over the elements of an array whose bracket was read, each nested at most `depth` deep.
 #[cycle(held)]
-pub(crate) fn pass_items(alloc: Global, reader: &mut Reader<'_>, depth: usize) -> Result<(), Unread>
+pub fn pass_items(alloc: Global, reader: &mut Reader<'_>, depth: usize) -> Result<(), Unread>
     ensures ok { OnOk result
         (ArePassed (converted of_items (items (value depth) (length reader.old) reader.old)) reader.new) }
     ensures broken { IfErr result

@@ -11,7 +11,7 @@ use Rattle.bson_tokens.proofs.Elements.{none_listed, one_listed, all_listed}
 use Rattle.bson_tokens.proofs.Gathering.{none_yet, one_gathered, all_gathered}
 use Rattle.bson_tokens.proofs.Pruned.{kept_put, pruned_object, pruned_primitive}
 use Rattle.bson_tokens.proofs.Rounds.{no_item, no_key, no_member}
-use Rattle.bson_tokens.proofs.Starts.{primitive_read, array_opened, object_opened}
+use Rattle.bson_tokens.proofs.Starts.{primitive_read, array_read, object_read}
 use Rattle.bson_tokens.specs.Start.{primitive_tree}
 use Rattle.bson_tokens.proofs.held.+held.Goals as goal
 
@@ -30,7 +30,7 @@ held_value-returns-in_ok-held_members-in-Object-clause-ok t c =
     let found = c.in_ok-held_members-in-Object in
     let ms = found.ensures.ok in (
       object ms.0,
-      object_opened c.args.depth c.args.reader.now c.read_start.new.reader _ c.in-Object.is c.in_ok-start.ensures.ok
+      object_read c.args.depth c.args.reader.now c.read_start.new.reader _ c.in-Object.is c.in_ok-start.ensures.ok
           ∙ ap (parse_map object) ms.1,
       view-Object found.field-0 ∙ ap object ms.2 ∙ sym (pruned_object c.args.levels ms.0),
     )
@@ -39,7 +39,7 @@ pub held_value-returns-in_ok-pass_items-in-Array-clause-ok : goal.held_value-ret
 held_value-returns-in_ok-pass_items-in-Array-clause-ok t c =
     let ds = c.in_ok-pass_items-in-Array.ensures.ok in (
       array ds.0,
-      array_opened c.args.depth c.args.reader.now c.read_start.new.reader _ c.in-Array.is c.in_ok-start.ensures.ok
+      array_read c.args.depth c.args.reader.now c.read_start.new.reader _ c.in-Array.is c.in_ok-start.ensures.ok
           ∙ ap (parse_map array) ds.1,
       view-Array c.new.result ∙ ap (λ vs. array (items_view vs)) c.new.ensures.items,
     )
@@ -108,7 +108,7 @@ held_value-returns-in_err-pass_items-in-Array-clause-broken t c =
     let returned = c.from_residual-in_err-pass_items-in-Array in
     let p = err_from_is_err_and returned.result returned.ensures.1 in
     rw (p.1, p.2) (λ broken.
-    array_opened c.args.depth c.args.reader.now c.read_start.new.reader _ c.in-Array.is c.in_ok-start.ensures.ok
+    array_read c.args.depth c.args.reader.now c.read_start.new.reader _ c.in-Array.is c.in_ok-start.ensures.ok
     ∙ ap (parse_map array) (c.in_err-pass_items-in-Array.ensures.broken broken))
 
 pub held_value-returns-in_err-held_members-in-Object-clause-broken :
@@ -117,7 +117,7 @@ held_value-returns-in_err-held_members-in-Object-clause-broken t c =
     let returned = c.from_residual-in_err-held_members-in-Object in
     let p = err_from_is_err_and returned.result returned.ensures.1 in
     rw (p.1, p.2) (λ broken.
-    object_opened c.args.depth c.args.reader.now c.read_start.new.reader _ c.in-Object.is c.in_ok-start.ensures.ok
+    object_read c.args.depth c.args.reader.now c.read_start.new.reader _ c.in-Object.is c.in_ok-start.ensures.ok
     ∙ ap (parse_map object)
     (c.in_err-held_members-in-Object.ensures.broken broken no_members (length c.read_start.new.reader)))
 

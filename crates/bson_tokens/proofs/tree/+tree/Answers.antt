@@ -11,7 +11,7 @@ use Rattle.bson_tokens.proofs.Elements.{none_listed, one_listed, all_listed}
 use Rattle.bson_tokens.proofs.Gathering.{Gathers, none_yet, one_gathered, all_gathered}
 use Rattle.bson_tokens.proofs.Trees.{items_onto, items_onto-none, items_onto-last}
 use Rattle.bson_tokens.proofs.Rounds.{no_item, no_key, no_member}
-use Rattle.bson_tokens.proofs.Starts.{primitive_read, array_opened, object_opened}
+use Rattle.bson_tokens.proofs.Starts.{primitive_read, array_read, object_read}
 use Rattle.bson_tokens.proofs.tree.+tree.Goals as goal
 
 pub read_tree-returns-in_ok-primitive_value-in-Primitive-clause-ok :
@@ -30,14 +30,14 @@ read_tree-returns-in_ok-read_members-in-Object-clause-ok t c =
     subst (λ ms. MembersAre (c.args.depth - 1) ms c.read_start.new.reader
     (members_view found.field-0.entries) c.read_members.new.reader) none found.ensures.ok
     (length c.read_start.new.reader) (omega arith) in
-    object_opened c.args.depth c.args.reader.now c.read_start.new.reader _ c.in-Object.is c.in_ok-start.ensures.ok
+    object_read c.args.depth c.args.reader.now c.read_start.new.reader _ c.in-Object.is c.in_ok-start.ensures.ok
     ∙ ap (parse_map object) read
     ∙ ap (λ d. Some (d, c.read_members.new.reader)) (sym (view-Object found.field-0))
 
 pub read_tree-returns-in_ok-read_items-in-Array-clause-ok : goal.read_tree-returns-in_ok-read_items-in-Array-clause-ok
 read_tree-returns-in_ok-read_items-in-Array-clause-ok t c =
     let found = c.in_ok-read_items-in-Array in
-    array_opened c.args.depth c.args.reader.now c.read_start.new.reader _ c.in-Array.is c.in_ok-start.ensures.ok
+    array_read c.args.depth c.args.reader.now c.read_start.new.reader _ c.in-Array.is c.in_ok-start.ensures.ok
     ∙ ap (parse_map array) found.ensures.ok
     ∙ ap (λ d. Some (d, c.read_items.new.reader)) (sym (view-Array found.field-0))
 
@@ -109,7 +109,7 @@ read_tree-returns-in_err-read_items-in-Array-clause-broken t c =
     let returned = c.from_residual-in_err-read_items-in-Array in
     let p = err_from_is_err_and returned.result returned.ensures.1 in
     rw (p.1, p.2) (λ broken.
-    array_opened c.args.depth c.args.reader.now c.read_start.new.reader _ c.in-Array.is c.in_ok-start.ensures.ok
+    array_read c.args.depth c.args.reader.now c.read_start.new.reader _ c.in-Array.is c.in_ok-start.ensures.ok
     ∙ ap (parse_map array) (c.in_err-read_items-in-Array.ensures.broken broken))
 
 pub read_tree-returns-in_err-read_members-in-Object-clause-broken :
@@ -118,7 +118,7 @@ read_tree-returns-in_err-read_members-in-Object-clause-broken t c =
     let returned = c.from_residual-in_err-read_members-in-Object in
     let p = err_from_is_err_and returned.result returned.ensures.1 in
     rw (p.1, p.2) (λ broken.
-    object_opened c.args.depth c.args.reader.now c.read_start.new.reader _ c.in-Object.is c.in_ok-start.ensures.ok
+    object_read c.args.depth c.args.reader.now c.read_start.new.reader _ c.in-Object.is c.in_ok-start.ensures.ok
     ∙ ap (parse_map object)
     (c.in_err-read_members-in-Object.ensures.broken broken no_members (length c.read_start.new.reader)))
 

@@ -15,7 +15,7 @@ use Rattle.bson_tokens.specs.Told.{Tells, AreTold}
 use Rattle.bson_tokens.proofs.Faulty.{faults_put, least_is}
 use Rattle.bson_tokens.proofs.Gathering.{none_yet, one_gathered, all_gathered}
 use Rattle.bson_tokens.proofs.Rounds.{no_key, no_member}
-use Rattle.bson_tokens.proofs.Starts.{primitive_read, array_opened, object_opened}
+use Rattle.bson_tokens.proofs.Starts.{primitive_read, array_read, object_read}
 use Rattle.bson_tokens.specs.Start.{primitive_tree}
 use Rattle.bson_tokens.proofs.Verdicts.{told, at_here, none_told}
 use Rattle.bson_tokens.proofs.Wrapped.{first_follows, more_follows, object_is, no_object, no_first, strange_found}
@@ -93,7 +93,7 @@ pub wrapped::walk_scope-returns-in_ok-pass_items-in-Array-clause-ok :
 wrapped::walk_scope-returns-in_ok-pass_items-in-Array-clause-ok t c =
     let ds = c.in_ok-pass_items-in-Array.ensures.ok in (
       array ds.0,
-      array_opened c.args.depth c.args.reader.now c.read_start.new.reader _ c.in-Array.is c.in_ok-start.ensures.ok
+      array_read c.args.depth c.args.reader.now c.read_start.new.reader _ c.in-Array.is c.in_ok-start.ensures.ok
           ∙ ap (parse_map array) ds.1,
       at_here c.place_here.result c.place_here.ensures.reason c.place_here.ensures.path,
     )
@@ -103,7 +103,7 @@ pub wrapped::walk_scope-returns-in_ok-in_scope-in-Object-clause-ok :
 wrapped::walk_scope-returns-in_ok-in_scope-in-Object-clause-ok t c =
     let ms = c.in_ok-place-in-Object.ensures.ok in (
       object ms.0,
-      object_opened c.args.depth c.args.reader.now c.read_start.new.reader _ c.in-Object.is c.in_ok-start.ensures.ok
+      object_read c.args.depth c.args.reader.now c.read_start.new.reader _ c.in-Object.is c.in_ok-start.ensures.ok
           ∙ ap (parse_map object) ms.1,
       c.in_ok-in_scope-in-Object.ensures (found_members c.args.doubles ms.0) ms.2,
     )
@@ -114,7 +114,7 @@ wrapped::walk_scope-returns-in_err-pass_items-in-Array-clause-broken t c =
     let returned = c.from_residual-in_err-pass_items-in-Array in
     let p = err_from_is_err_and returned.result returned.ensures.1 in
     rw (p.1, p.2) (λ broken.
-    array_opened c.args.depth c.args.reader.now c.read_start.new.reader _ c.in-Array.is c.in_ok-start.ensures.ok
+    array_read c.args.depth c.args.reader.now c.read_start.new.reader _ c.in-Array.is c.in_ok-start.ensures.ok
     ∙ ap (parse_map array) (c.in_err-pass_items-in-Array.ensures.broken broken))
 
 pub wrapped::walk_scope-returns-in_err-place-in-Object-clause-broken :
@@ -123,7 +123,7 @@ wrapped::walk_scope-returns-in_err-place-in-Object-clause-broken t c =
     let returned = c.from_residual-in_err-place-in-Object in
     let p = err_from_is_err_and returned.result returned.ensures.1 in
     rw (p.1, p.2) (λ broken.
-    object_opened c.args.depth c.args.reader.now c.read_start.new.reader _ c.in-Object.is c.in_ok-start.ensures.ok
+    object_read c.args.depth c.args.reader.now c.read_start.new.reader _ c.in-Object.is c.in_ok-start.ensures.ok
     ∙ ap (parse_map object)
     (c.in_err-place-in-Object.ensures.broken broken no_members (length c.read_start.new.reader)))
 
