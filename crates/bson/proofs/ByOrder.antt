@@ -1,27 +1,32 @@
 -- A turn of the grammar's loops over tokens in either order of keys, and what stands by default where a part was read.
 use Rattle.std.proofs.Common.{◌≡◌, ℕ, ◌-◌, ◌<◌, ◌≤◌, List, length, Bool, Option, Some, None, Result}
-use Rattle.std.proofs.Common.{option_map, refl, sym, ap, ◌∙◌, arith, append-nil, ◌∷◌, []}
+use Rattle.std.proofs.Common.{option_map, refl, sym, ap, ◌∙◌, subst, arith, append-nil, []}
 use Rattle.std.proofs.lemmas.Option.{same_Some}
 use Rattle.json.specs.Lex.{tokens}
 use Rattle.json.specs.Token.{Token}
 use Rattle.json.specs.Json as json
 use Rattle.json.specs.Json.{Parse, parse_map, after_end_array, read_key, items, members, value}
-use Rattle.json.proofs.Grammar.{value-begin_array, value-begin_object, items_end, items_more, members_end, members_more}
+use Rattle.json.proofs.Grammar.{items_end, items_more, members_end, members_more}
 use Rattle.json.proofs.Grammar.{read_key-shorter}
 use Rattle.json.proofs.Printed.Tokens.{tokens-print}
 use Rattle.json.proofs.Printed.Trees.{ArePrintable-json_tokens, value-json_tokens}
 use Rattle.json.specs.Print.{print}
 use Rattle.json.specs.Tree.{json_tokens, depth as nesting, HasNumbers}
-use Rattle.serde_json.specs.Data.{Data, null, boolean, number, string, array, object, Items, no_items, item, Members}
+use Rattle.serde_json.specs.Data.{Data, number, array, object, Items, no_items, item, Members}
 use Rattle.serde_json.specs.Data.{no_members, member, put}
-use Rattle.serde_json.specs.Read.{of_json, of_items, of_members, converted, number_of}
+use Rattle.serde_json.specs.Read.{of_json, of_items, of_members, converted}
 use Rattle.bson_order.specs.Kept.{kept, kept_items, kept_members, unordered}
 use Rattle.bson_order.proofs.Offered.{forgotten, put_forgotten}
 use Rattle.bson_scalar.specs.Faults.{Fault}
 use Rattle.bson_tokens.specs.Parts.{IsBroken, NoMembers, NoObject}
 use Rattle.bson_tokens.specs.declared.unread.Unread.{Unread}
 use Rattle.bson_tokens.specs.declared.unread.Unread.TheVariants.{Broken}
-use Rattle.bson_tokens.proofs.Offered.{was_read, no_members_behind}
+use Rattle.bson_tokens.specs.Start.{primitive_tree, IsPrimitive, Starts}
+use Rattle.bson_tokens.specs.declared.start.Primitive.{Primitive}
+use Rattle.bson_tokens.specs.declared.start.Primitive.TheVariants.{Null, Bool as Truth, Number, String as Text}
+use Rattle.bson_tokens.specs.declared.start.Start.{Start}
+use Rattle.bson_tokens.specs.declared.start.Start.TheVariants as start
+use Rattle.bson_tokens.proofs.Offered.{was_read, no_members_behind, primitive_json}
 use Rattle.bson_tokens.proofs.Offered.{Gathers, none_yet, one_gathered}
 use Rattle.bson.specs.ByOrder.{tree_by, items_by, members_by, insert_by, default_tree, default_members}
 use Rattle.bson.specs.ByOrder.{ItemsAreBy, MembersAreBy, ObjectIsBy}
@@ -61,17 +66,6 @@ by_order AsGiven x d r h =
     let m = mapped unordered (kept j.0) d (sym (forgotten j.0) ∙ j.2) in
     (m.0, ap (converted kept) j.1 ∙ ap (λ t. option_map (λ b. (b, r)) t) m.1, m.2)
 
-none_kept : (x : Option (json.Json × List Token)) → converted of_json x ≡ None → converted kept x ≡ None
-none_kept None h = refl
-none_kept (Some (j, r)) h =
-    let no = was_none unordered (kept j) (sym (forgotten j) ∙ was_none (λ b. (b, r)) (of_json j) h) in
-    ap (λ t. option_map (λ b. (b, r)) t) no
-
-pub none_by_order : (o : KeyOrder) (x : Option (json.Json × List Token)) → converted of_json x ≡ None
-    → converted (tree_by o) x ≡ None
-none_by_order Ascending x h = h
-none_by_order AsGiven x h = none_kept x h
-
 pub default_insert : (o : KeyOrder) (k : List ℕ) (d : Data) (ms : Members)
     → default_members o (insert_by o k d ms) ≡ put k (default_tree o d) (default_members o ms)
 default_insert Ascending k d ms = refl
@@ -85,28 +79,7 @@ pub default_none : (o : KeyOrder) → default_members o no_members ≡ no_member
 default_none Ascending = refl
 default_none AsGiven = refl
 
--- ---- values of one token
-
-pub null_read : (o : KeyOrder) (r : List Token) → converted (tree_by o) (Some (json.null, r)) ≡ Some (null, r)
-null_read Ascending r = refl
-null_read AsGiven r = refl
-
-pub boolean_read : (o : KeyOrder) (b : Bool) (r : List Token)
-    → converted (tree_by o) (Some (json.boolean b, r)) ≡ Some (boolean b, r)
-boolean_read Ascending b r = refl
-boolean_read AsGiven b r = refl
-
-pub string_read : (o : KeyOrder) (s : List ℕ) (r : List Token)
-    → converted (tree_by o) (Some (json.string s, r)) ≡ Some (string s, r)
-string_read Ascending s r = refl
-string_read AsGiven s r = refl
-
-pub number_read : (o : KeyOrder) (s : List ℕ) (r : List Token)
-    → converted (tree_by o) (Some (json.number s, r)) ≡ option_map (λ d. (d, r)) (option_map number (number_of s))
-number_read Ascending s r = refl
-number_read AsGiven s r = refl
-
--- ---- arrays and objects
+-- ---- how a value starts
 
 under : {A B : Type 0} (g : A → B) (x : Option A) (r : List Token)
     → option_map (λ b. (b, r)) (option_map g x) ≡ parse_map g (option_map (λ a. (a, r)) x)
@@ -126,19 +99,31 @@ object_converted o None = refl
 object_converted Ascending (Some (js, r)) = under object (of_members js no_members) r
 object_converted AsGiven (Some (js, r)) = under object (kept_members js no_members) r
 
-pub array_opened_by : (o : KeyOrder) (depth : ℕ) (ts r : List Token) → ts ≡ Token.begin_array ∷ r → 0 < depth
-    → converted (tree_by o) (value depth ts)
-    ≡ parse_map array (converted (items_by o) (items (value (depth - 1)) (length r) r))
-array_opened_by o depth ts r is left = ap (λ t. converted (tree_by o) (value depth t)) is
-    ∙ ap (converted (tree_by o)) (value-begin_array depth r left)
-    ∙ array_converted o (items (value (depth - 1)) (length r) r)
+primitive_of : (o : KeyOrder) (p : Primitive) (j : json.Json) → IsPrimitive p j → tree_by o j ≡ Some (primitive_tree p)
+primitive_of Ascending p j is = primitive_json p j is
+primitive_of AsGiven Null j is = ap kept is
+primitive_of AsGiven (Truth b) j is = ap kept is
+primitive_of AsGiven (Number n) j is = ap kept is.1 ∙ ap (option_map number) is.2
+primitive_of AsGiven (Text s) j is = ap kept is
 
-pub object_opened_by : (o : KeyOrder) (depth : ℕ) (ts r : List Token) → ts ≡ Token.begin_object ∷ r → 0 < depth
-    → converted (tree_by o) (value depth ts)
-    ≡ parse_map object (converted (λ js. members_by o js no_members) (members (value (depth - 1)) (length r) r))
-object_opened_by o depth ts r is left = ap (λ t. converted (tree_by o) (value depth t)) is
-    ∙ ap (converted (tree_by o)) (value-begin_object depth r left)
-    ∙ object_converted o (members (value (depth - 1)) (length r) r)
+module _ (o : KeyOrder) (depth : ℕ) (ts r : List Token) (s : Start) where
+  pub primitive_by : (p : Primitive) → s ≡ start.Primitive p → Starts depth ts s r
+      → converted (tree_by o) (value depth ts) ≡ Some (primitive_tree p, r)
+  primitive_by p is h =
+      let of = subst (λ x. Starts depth ts x r) is h in
+      ap (converted (tree_by o)) of.1 ∙ ap (option_map (λ d. (d, r))) (primitive_of o p of.0 of.2)
+
+  pub array_by : s ≡ start.Array → Starts depth ts s r
+      → converted (tree_by o) (value depth ts)
+      ≡ parse_map array (converted (items_by o) (items (value (depth - 1)) (length r) r))
+  array_by is h = ap (converted (tree_by o)) (subst (λ x. Starts depth ts x r) is h).1
+      ∙ array_converted o (items (value (depth - 1)) (length r) r)
+
+  pub object_by : s ≡ start.Object → Starts depth ts s r
+      → converted (tree_by o) (value depth ts)
+      ≡ parse_map object (converted (λ js. members_by o js no_members) (members (value (depth - 1)) (length r) r))
+  object_by is h = ap (converted (tree_by o)) (subst (λ x. Starts depth ts x r) is h).1
+      ∙ object_converted o (members (value (depth - 1)) (length r) r)
 
 first_item : (o : KeyOrder) (j : json.Json) (d : Data) (x : Option (json.Items × List Token)) → tree_by o j ≡ Some d
     → converted (items_by o) (parse_map (json.item j) x) ≡ parse_map (item d) (converted (items_by o) x)

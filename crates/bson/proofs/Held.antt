@@ -4,43 +4,38 @@ use Rattle.std.proofs.Common.{Some, None, Result, Ok, Err, []}
 use Rattle.std.proofs.Common.{option_map, refl, sym, ap, ◌∙◌, subst, arith, rules}
 use Rattle.std.proofs.lemmas.Bool.{and_parts}
 use Rattle.std.proofs.lemmas.Slice.Eq.{bytes_eq-Decides}
-use Rattle.std.proofs.lemmas.Option.{same_Some}
 use Rattle.std.specs.Prelude.{unwrap_or, String, string_bytes}
 use Rattle.std.specs.declared.alloc.Global.{Global}
 use Rattle.json.specs.Lex.{tokens}
-use Rattle.json.specs.Token.{Token}
-use Rattle.json.specs.Json.{value, items, parse_map}
-use Rattle.json.specs.Reads.{token_of}
-use Rattle.json.specs.declared.token.Token.{Token as Read}
-use Rattle.json.specs.declared.token.Token.TheVariants as read
-use Rattle.json.proofs.Grammar.{value_is}
-use Rattle.serde_json.specs.Data.{Num, Data, null, boolean, number, string, array, Items, Members, no_members, member, object}
-use Rattle.serde_json.specs.Read.{converted, number_of}
+use Rattle.json.specs.Json.{value}
+use Rattle.serde_json.specs.Data.{Data, null, boolean, number, string, array, Items, Members, no_members, member, object}
+use Rattle.serde_json.specs.Read.{converted}
 use Rattle.bson_scalar.specs.Faults.{Fault}
-use Rattle.bson_scalar.specs.Reading.{number_read_in}
-use Rattle.bson_scalar.specs.Scalar as kind
 use Rattle.bson_scalar.specs.Table.{has_wrapper}
 use Rattle.bson_scalar.specs.declared.form.Doubles.{Doubles}
-use Rattle.bson_model.specs.Reading.{reads_members_in, scalar_value}
-use Rattle.bson_model.specs.Value.{Value, scalar, Pairs, no_pairs, pair, document}
-use Rattle.bson.specs.Straight.{given, marked, marked_by, nothing, unless_nothing, is_other}
+use Rattle.bson_model.specs.Reading.{reads_in, reads_members_in, reads_scope_in}
+use Rattle.bson_model.specs.Value.{Value, Pairs, no_pairs, pair, document}
+use Rattle.bson.specs.Straight.{given, marked, marked_by, nothing, unless_nothing}
+use Rattle.bson_tokens.specs.Keys.{is_other}
 use Rattle.bson_tokens.specs.Keys.{any_key, is_wrapper, is_code, is_scope}
-use Rattle.bson.specs.Straight.{is_stray, IsFound}
+use Rattle.bson.specs.Straight.{IsFound}
+use Rattle.bson_tokens.specs.Keys.{is_stray}
 use Rattle.bson.specs.View.{bson_view}
 use Rattle.bson.specs.declared.bson.Bson.{Bson, the_lemmas}
 use Rattle.bson.specs.declared.bson.Bson.TheVariants as bson
-use Rattle.bson.proofs.Keys.{ordinary_stray}
+use Rattle.bson_tokens.proofs.Offered.{ordinary}
 use Rattle.bson.proofs.Marks.{given_map, put_marked, reads_marked}
 use Rattle.bson.proofs.Wrapped.{plain_insert, odd_insert, odd_first, odd_second}
-use Rattle.bson_tokens.proofs.Offered.{too_deep_array}
+use Rattle.bson_tokens.specs.Start.{primitive_tree}
+use Rattle.bson_tokens.specs.declared.start.Primitive.{Primitive}
+use Rattle.bson_tokens.specs.declared.start.Primitive.TheVariants.{Null, Bool as Truth, Number, String as Text}
 use Rattle.bson_order.specs.Kept.{kept}
 use Rattle.bson_order.specs.Reading.{reads_in_order, members_in_order}
 use Rattle.bson_order.proofs.Offered.{same_wrapper}
-use Rattle.bson.specs.ByOrder.{tree_by, items_by, insert_by, insert_pair_by, default_members, reads_by}
+use Rattle.bson.specs.ByOrder.{insert_by, insert_pair_by, default_tree, default_members, reads_by}
 use Rattle.bson.specs.ByOrder.{reads_members_by, reads_scope_by}
 use Rattle.bson.specs.declared.extjson.key_order.KeyOrder.{KeyOrder}
 use Rattle.bson.specs.declared.extjson.key_order.KeyOrder.TheVariants.{Ascending, AsGiven}
-use Rattle.bson.proofs.ByOrder.{none_by_order, array_opened_by, boolean_read, string_read, number_read}
 
 bson_view-nothing : bson_view (bson.Double 0x7FF0000000000001) ≡ nothing
 bson_view-nothing = search (rules, the_lemmas)
@@ -70,116 +65,39 @@ code_keys k l h =
 
 -- ---- scopes
 
-pub null_scope : (o : KeyOrder) (D : Doubles) → given (reads_scope_by o D null) ≡ Some None
-null_scope Ascending D = refl
-null_scope AsGiven D = refl
-
 pub object_scope : (o : KeyOrder) (D : Doubles) (ms : Members)
     → given (reads_scope_by o D (object ms)) ≡ option_map Some (given (reads_members_by o D ms))
 object_scope Ascending D ms = given_map Some (reads_members_in D ms)
 object_scope AsGiven D ms = given_map Some (members_in_order D ms)
 
-abbrev ScopeIsNot : Data → Type 0
-ScopeIsNot null = ⊥
-ScopeIsNot (object ms) = ⊥
-ScopeIsNot (boolean b) = Unit {0}
-ScopeIsNot (number n) = Unit {0}
-ScopeIsNot (string s) = Unit {0}
-ScopeIsNot (array ds) = Unit {0}
+-- no list is a scope
+pub list_scope : (o : KeyOrder) (D : Doubles) (d : Data) (ds : Items) → default_tree o d ≡ array ds
+    → given (reads_scope_by o D d) ≡ None
+list_scope Ascending D d ds is = ap (λ x. given (reads_scope_by Ascending D x)) is
+list_scope AsGiven D (array es) ds is = refl
+list_scope AsGiven D null ds is = cc
+list_scope AsGiven D (boolean b) ds is = cc
+list_scope AsGiven D (number n) ds is = cc
+list_scope AsGiven D (string s) ds is = cc
+list_scope AsGiven D (object ms) ds is = cc
 
--- a scope that is neither null nor a document
-no_scope : (o : KeyOrder) (D : Doubles) (d : Data) → ScopeIsNot d → given (reads_scope_by o D d) ≡ None
-no_scope o D null h = absurd h
-no_scope o D (object ms) h = absurd h
-no_scope Ascending D (boolean b) h = refl
-no_scope Ascending D (number n) h = refl
-no_scope Ascending D (string s) h = refl
-no_scope Ascending D (array ds) h = refl
-no_scope AsGiven D (boolean b) h = refl
-no_scope AsGiven D (number n) h = refl
-no_scope AsGiven D (string s) h = refl
-no_scope AsGiven D (array ds) h = refl
+-- ---- values of one token, in either order
 
-module _ (o : KeyOrder) (D : Doubles) where
-  scope_is : (e d : Data) (r rest : List Token) (x : Option (Data × List Token)) → given (reads_scope_by o D e) ≡ None
-      → x ≡ Some (e, r) → x ≡ Some (d, rest) → given (reads_scope_by o D d) ≡ None
-  scope_is e d r rest x none was is =
-      let same = same_Some {A = Data × List Token} (e, r) (d, rest) (sym was ∙ is) in
-      subst (λ y. given (reads_scope_by o D y) ≡ None) (ap (λ p. p.0) same) none
+pub primitive_reads : (o : KeyOrder) (D : Doubles) (p : Primitive)
+    → reads_by o D (primitive_tree p) ≡ reads_in D (primitive_tree p)
+primitive_reads Ascending D p = refl
+primitive_reads AsGiven D Null = refl
+primitive_reads AsGiven D (Truth b) = refl
+primitive_reads AsGiven D (Number n) = refl
+primitive_reads AsGiven D (Text s) = refl
 
-  number_scope : (n : Option Num) (d : Data) (r rest : List Token)
-      → option_map {U = Data × List Token} (λ x. (x, r)) (option_map number n) ≡ Some (d, rest)
-      → given (reads_scope_by o D d) ≡ None
-  number_scope None d r rest h = cc
-  number_scope (Some n) d r rest h =
-      scope_is (number n) d r rest (Some (number n, r)) (no_scope o D (number n) tt) refl h
-
-  list_scope : (x : Option (Items × List Token)) (d : Data) (rest : List Token) → parse_map array x ≡ Some (d, rest)
-      → given (reads_scope_by o D d) ≡ None
-  list_scope None d rest h = cc
-  list_scope (Some (ds, r)) d rest h =
-      scope_is (array ds) d r rest (Some (array ds, r)) (no_scope o D (array ds) tt) refl h
-
-  array_scope : (depth : ℕ) (ts r rest : List Token) (d : Data) → ts ≡ Token.begin_array ∷ r
-      → converted (tree_by o) (value depth ts) ≡ Some (d, rest) → given (reads_scope_by o D d) ≡ None
-  array_scope zero ts r rest d is e =
-      let never : converted (tree_by o) (value 0 ts) ≡ None =
-      none_by_order o (value 0 ts) (too_deep_array 0 ts r is refl) in
-      let some : converted (tree_by o) (value 0 ts) ≡ Some (d, rest) = e in cc
-  array_scope (suc n) ts r rest d is e =
-      list_scope (converted (items_by o) (items (value (suc n - 1)) (length r) r)) d rest
-      (sym (array_opened_by o (suc n) ts r is (omega arith)) ∙ e)
-
-  none_else : {A : Type 0} (depth : ℕ) (ts rest : List Token) (d : Data)
-      → converted (tree_by o) (value depth ts) ≡ None → converted (tree_by o) (value depth ts) ≡ Some (d, rest) → A
-  none_else depth ts rest d none some = cc
-
-  tokens_are : (depth : ℕ) (ts : List Token) (k : Token) (r : List Token) → ts ≡ k ∷ r
-      → converted (tree_by o) (value depth ts) ≡ converted (tree_by o) (value depth (k ∷ r))
-  tokens_are depth ts k r is = ap (λ t. converted (tree_by o) (value depth t)) is
-
-  pub other_scope : (depth : ℕ) (k : Read) (ts r rest : List Token) (d : Data) → ts ≡ token_of k ∷ r
-      → (k ≡ read.BeginObject → ⊥) → (k ≡ read.Null → ⊥) → converted (tree_by o) (value depth ts) ≡ Some (d, rest)
-      → given (reads_scope_by o D d) ≡ None
-  other_scope depth read.BeginObject ts r rest d is a b e = absurd (a refl)
-  other_scope depth read.Null ts r rest d is a b e = absurd (b refl)
-  other_scope depth (read.String s) ts r rest d is a b e =
-      scope_is (string s.now) d r rest (converted (tree_by o) (value depth ts)) (no_scope o D (string s.now) tt)
-      (tokens_are depth ts _ r is ∙ ap (converted (tree_by o)) (value_is depth _) ∙ string_read o s.now r) e
-  other_scope depth (read.Bool x) ts r rest d is a b e =
-      scope_is (boolean x) d r rest (converted (tree_by o) (value depth ts)) (no_scope o D (boolean x) tt)
-      (tokens_are depth ts _ r is ∙ ap (converted (tree_by o)) (value_is depth _) ∙ boolean_read o x r) e
-  other_scope depth (read.Number s) ts r rest d is a b e = number_scope (number_of s.now) d r rest
-      (sym (tokens_are depth ts _ r is ∙ ap (converted (tree_by o)) (value_is depth _) ∙ number_read o s.now r) ∙ e)
-  other_scope depth read.BeginArray ts r rest d is a b e = array_scope depth ts r rest d is e
-  other_scope depth read.EndObject ts r rest d is a b e = none_else depth ts rest d
-      (tokens_are depth ts _ r is ∙ ap (converted (tree_by o)) (value_is depth _)) e
-  other_scope depth read.EndArray ts r rest d is a b e = none_else depth ts rest d
-      (tokens_are depth ts _ r is ∙ ap (converted (tree_by o)) (value_is depth _)) e
-  other_scope depth (read.Key s) ts r rest d is a b e = none_else depth ts rest d
-      (tokens_are depth ts _ r is ∙ ap (converted (tree_by o)) (value_is depth _)) e
-  other_scope depth read.Bad ts r rest d is a b e = none_else depth ts rest d
-      (tokens_are depth ts _ r is ∙ ap (converted (tree_by o)) (value_is depth _)) e
-
--- ---- values of one token
-
-pub null_given : (o : KeyOrder) (D : Doubles) → given (reads_by o D null) ≡ Some (scalar kind.null)
-null_given Ascending D = refl
-null_given AsGiven D = refl
-
-pub boolean_given : (o : KeyOrder) (D : Doubles) (b : Bool)
-    → given (reads_by o D (boolean b)) ≡ Some (scalar (kind.boolean b))
-boolean_given Ascending D b = refl
-boolean_given AsGiven D b = refl
-
-pub text_given : (o : KeyOrder) (D : Doubles) (s : List ℕ) → given (reads_by o D (string s)) ≡ Some (scalar (kind.text s))
-text_given Ascending D s = refl
-text_given AsGiven D s = refl
-
-pub number_given : (o : KeyOrder) (D : Doubles) (n : Num)
-    → given (reads_by o D (number n)) ≡ given (scalar_value (number_read_in D n))
-number_given Ascending D n = refl
-number_given AsGiven D n = refl
+pub primitive_scope : (o : KeyOrder) (D : Doubles) (p : Primitive)
+    → reads_scope_by o D (primitive_tree p) ≡ reads_scope_in D (primitive_tree p)
+primitive_scope Ascending D p = refl
+primitive_scope AsGiven D Null = refl
+primitive_scope AsGiven D (Truth b) = refl
+primitive_scope AsGiven D (Number n) = refl
+primitive_scope AsGiven D (Text s) = refl
 
 -- ---- what is held as a text
 
@@ -208,7 +126,7 @@ pub first_found : (o : KeyOrder) (D : Doubles) (k : List ℕ) (d : Data) (none n
 first_found o D k d none now is put plain other = (
   put ∙ ap (insert_pair_by o k (marked (reads_by o D d))) (is ∙ sym (no_marks o D)) ∙ sym (put_marked D o k d no_members),
   plain_insert o k d no_members true (still_none o) ∙ ap not (ap not plain),
-  odd_first o k d no_members (ap not plain) (ordinary_stray k plain other),
+  odd_first o k d no_members (ap not plain) (ordinary k plain other).1,
 )
 
 -- one more

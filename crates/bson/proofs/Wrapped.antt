@@ -27,15 +27,15 @@ use Rattle.bson_tokens.specs.Held.{StandsFor, IsHeldAs}
 use Rattle.bson_tokens.specs.Parts.{NoObject}
 use Rattle.bson_tokens.proofs.Offered.{no_member}
 use Rattle.bson.specs.ByOrder.{insert_by, tree_by, default_tree, default_members, reads_by, reads_scope_by}
-use Rattle.bson.specs.Straight.{given, code_given, is_other, is_stray, IsOdd}
+use Rattle.bson.specs.Straight.{given, code_given}
+use Rattle.bson_tokens.specs.Keys.{is_other, is_stray, IsOdd}
 use Rattle.bson_tokens.specs.Keys.{any_key, is_wrapper, is_code, is_scope}
 use Rattle.bson.specs.Straight.{AreTwo, IsCode}
 use Rattle.bson.specs.declared.extjson.key_order.KeyOrder.{KeyOrder}
 use Rattle.bson.specs.declared.extjson.key_order.KeyOrder.TheVariants.{Ascending, AsGiven}
 use Rattle.bson.proofs.ByOrder.{by_order, default_insert}
-use Rattle.bson_tokens.proofs.Offered.{any_kept, any_new, any_other, wrapper_key}
-use Rattle.bson.proofs.Keys.{stray_refused, IsStrange, strange_kept}
-use Rattle.bson.proofs.Keys.{strange_from, strange_refused}
+use Rattle.bson_tokens.proofs.Offered.{any_kept, any_new, wrapper_put, put_tied, kept_strange, strange_put, IsStrange}
+use Rattle.bson.proofs.Keys.{stray_refused, strange_refused}
 use Rattle.bson.proofs.Marks.{given_none}
 
 -- ---- what means nothing by default means nothing in order
@@ -54,11 +54,6 @@ none_by AsGiven D ms h =
 
 -- ---- the keys so far, by default
 
-wrapper_put : (b : Bool) (k : List ℕ) (d : Data) (ms : Members) → is_wrapper k ≡ b
-    → any_key is_wrapper (put k d ms) ≡ (b || any_key is_wrapper ms)
-wrapper_put true k d ms is = any_new is_wrapper k d ms is
-wrapper_put false k d ms is = any_other is_wrapper k d ms is
-
 neither : (a b : Bool) → (a || not b) ≡ not (b && not a)
 neither true true = refl
 neither true false = refl
@@ -67,8 +62,8 @@ neither false false = refl
 
 still_plain : (b : Bool) (k : List ℕ) (d : Data) (ms : Members) → has_wrapper ms ≡ not b
     → has_wrapper (put k d ms) ≡ not (b && not (is_wrapper k))
-still_plain b k d ms is = wrapper_key (put k d ms) ∙ wrapper_put (is_wrapper k) k d ms refl
-    ∙ ap (λ w. is_wrapper k || w) (sym (wrapper_key ms) ∙ is) ∙ neither (is_wrapper k) b
+still_plain b k d ms is =
+    wrapper_put k d ms ∙ ap (λ w. is_wrapper k || w) is ∙ neither (is_wrapper k) b
 
 module _ (o : KeyOrder) (k : List ℕ) (d : Data) (ms : Members) where
   -- whether there is a wrapper's key
@@ -106,8 +101,9 @@ IsAlone o false k held ms = IsStrange k (default_members o ms)
 same_bytes : (k : List ℕ) → bytes_eq k k ≡ true
 same_bytes k = (bytes_eq-Decides k k).1 refl
 
-put_tied : (k : List ℕ) (c d : Data) → put k d (member k c no_members) ≡ member k d no_members
-put_tied k c d = let is : slice_cmp nat_cmp k k ≡ Equal = tied_itself nat_list_cmp_total k in rw is refl
+not_same : (k l : List ℕ) (b : Bool) → bytes_eq l k ≡ b → bytes_eq k l ≡ false → b ≡ false
+not_same k l false is h = refl
+not_same k l true is h = let yes = (bytes_eq-Decides k l).1 (sym ((bytes_eq-Decides l k).0 is)) in cc
 
 -- of a key that stands again the last value counts
 pub tied : (o : KeyOrder) (k : List ℕ) (c d : Data) → insert_by o k d (member k c no_members) ≡ member k d no_members
@@ -130,11 +126,10 @@ alone_at o true true k l held d e ms is unlike from h =
     )
 alone_at o true false k l held d e ms is unlike from h =
     subst (IsStrange k) (sym (default_insert o l e ms))
-    (strange_from k l (default_tree o e) (default_members o ms)
-    (λ same. let yes = (bytes_eq-Decides k l).1 same in cc) (unlike refl)
+    (strange_put k l (default_tree o e) (default_members o ms) (not_same k l (bytes_eq l k) refl is) (unlike refl)
     (ap (λ x. any_key (λ j. bytes_eq j k) (default_members o x)) h.1 ∙ single o k h.0))
 alone_at o false same k l held d e ms is unlike from h =
-    subst (IsStrange k) (sym (default_insert o l e ms)) (strange_kept k l (default_tree o e) (default_members o ms) h)
+    subst (IsStrange k) (sym (default_insert o l e ms)) (kept_strange k l (default_tree o e) (default_members o ms) h)
 
 pub alone_again : (o : KeyOrder) (b : Bool) (k l : List ℕ) (held d e : Data) (ms : Members)
     → (b ≡ true → (is_code k && is_scope l) ≡ false) → StandsFor (default_tree o e) d → IsAlone o b k held ms

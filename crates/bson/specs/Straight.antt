@@ -1,5 +1,5 @@
 -- What the tokens of a text mean, where they are read with no tree of the whole. For private clauses.
-use Rattle.std.specs.Prelude.{◌≡◌, ◌==◌, ◌||◌, ◌&&◌, ◌⊎◌, if◌then◌else◌, ℕ, List, [], length, codes, Bool, true, false, not}
+use Rattle.std.specs.Prelude.{◌≡◌, ◌==◌, ◌||◌, ◌⊎◌, if◌then◌else◌, ℕ, List, [], length, codes, Bool, true, false, not}
 use Rattle.std.specs.Prelude.{Option, Some, None, Result, Ok, Err}
 use Rattle.json.specs.Token.{Token}
 use Rattle.json.specs.Json.{Json, members, value}
@@ -14,7 +14,7 @@ use Rattle.bson_scalar.specs.declared.form.Doubles.{Doubles}
 use Rattle.bson_model.specs.Reading.{code_value}
 use Rattle.bson_model.specs.Value.{Value, scalar, Pairs, no_pairs, pair}
 use Rattle.bson_order.specs.Kept.{kept}
-use Rattle.bson_tokens.specs.Keys.{any_key, is_wrapper, is_code, is_scope}
+use Rattle.bson_tokens.specs.Keys.{any_key, is_code, is_stray, IsOdd}
 use Rattle.bson.specs.ByOrder.{read_by, members_by, insert_pair_by, reads_by, reads_scope_by, MembersAreBy, ObjectIsBy}
 use Rattle.bson.specs.ByOrder.{default_tree, default_members}
 use Rattle.bson.specs.declared.extjson.key_order.KeyOrder.{KeyOrder}
@@ -82,16 +82,6 @@ RestReads o D depth old ts v rest =
 abbrev pub ObjectReads : KeyOrder → Doubles → ℕ → List ℕ → List Token → Option Value → List Token → Type 0
 ObjectReads o D depth k ts v rest =
     (ms : Members) × ObjectIsBy o depth k ts ms rest × (given (reads_by o D (object ms)) ≡ v)
-
--- a key that is no wrapper's, and one that stands beside no code: with a wrapper's key they mean nothing
-abbrev pub is_stray : List ℕ → Bool
-is_stray k = not (is_code k) && not (is_scope k)
-
-abbrev pub is_other : List ℕ → Bool
-is_other k = not (is_wrapper k)
-
-abbrev pub IsOdd : Members → Type 0
-IsOdd ms = (any_key is_other ms ≡ true) × (any_key is_stray ms ≡ true)
 
 -- the values of these members, which have a wrapper's key or none, were found
 abbrev pub IsFound : KeyOrder → Doubles → Members → Bool → Pairs → Type 0

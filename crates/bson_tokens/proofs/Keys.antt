@@ -2,7 +2,7 @@
 use Rattle.std.proofs.Common.{◌≡◌, ℕ, List, Bool, true, false, not, ◌&&◌, ◌||◌, codes, cond}
 use Rattle.std.proofs.Common.{Ordering, Less, Equal, Greater, nat_cmp, inl, inr, ◌⊎◌, refl, sym, ap, ◌∙◌}
 use Rattle.std.proofs.lemmas.Bool.{both_ways, not-true, or_left, or_right, or_cases, and_parts}
-use Rattle.std.proofs.lemmas.Bool.{and_left, and_right}
+use Rattle.std.proofs.lemmas.Bool.{and_from, and_left, and_right}
 use Rattle.std.proofs.lemmas.Slice.Eq.{bytes_eq-Decides}
 use Rattle.std.specs.Cmp.Lexicographic.{slice_cmp}
 use Rattle.std.specs.Ordering.{match_ordering}
@@ -12,11 +12,7 @@ use Rattle.bson_scalar.specs.Table.{wrapper_of, has_wrapper}
 use Rattle.bson_scalar.specs.declared.form.Doubles.{Doubles}
 use Rattle.bson_model.proofs.Offered.{equal_keys}
 use Rattle.bson_tokens.specs.Found.{found, found_wrapper, found_members, here}
-use Rattle.bson_tokens.specs.Keys.{any_key, is_wrapper, is_code, is_scope}
-
--- a key that stands beside no wrapper's
-abbrev pub is_ordinary : List ℕ → Bool
-is_ordinary k = not (is_wrapper k) && not (is_scope k)
+use Rattle.bson_tokens.specs.Keys.{any_key, is_wrapper, is_code, is_scope, is_other, is_stray, IsOdd}
 
 pub wrapper_key : (ms : Members) → has_wrapper ms ≡ any_key is_wrapper ms
 wrapper_key no_members = refl
@@ -63,43 +59,40 @@ module _ (f : List ℕ → Bool) (k : List ℕ) (d : Data) where
   any_other no_members h = ap (λ b. b || false) h
   any_other (member l e ms) h = other_at (slice_cmp nat_cmp k l) l e ms h (any_other ms h)
 
--- ---- a wrapper's key beside an ordinary one
+-- ---- a wrapper's key beside others
 
 pub one_true : (a : Bool) → (a || false) ≡ true → a ≡ true
 one_true true h = refl
 one_true false h = h
 
-not_wrapper : (k : List ℕ) → is_ordinary k ≡ true → is_wrapper k ≡ false
-not_wrapper k h = not-true (is_wrapper k) (and_parts (not (is_wrapper k)) (not (is_scope k)) h).0
-
-not_scope : (k : List ℕ) → is_ordinary k ≡ true → is_scope k ≡ false
-not_scope k h = not-true (is_scope k) (and_parts (not (is_wrapper k)) (not (is_scope k)) h).1
-
 no_code : (k : List ℕ) (b : Bool) → is_code k ≡ b → is_wrapper k ≡ false → b ≡ false
 no_code k true is h = absurd (both_ways (is_wrapper k) h (ap is_wrapper ((bytes_eq-Decides k (codes "$code")).0 is)))
 no_code k false is h = refl
 
-not_both : (k l : List ℕ) → (is_ordinary k ≡ true) ⊎ (is_ordinary l ≡ true) → (is_code k && is_scope l) ≡ false
-not_both k l (inl h) = and_left (is_code k) (is_scope l) (no_code k (is_code k) refl (not_wrapper k h))
-not_both k l (inr h) = and_right (is_code k) (is_scope l) (not_scope l h)
+-- a key that is neither a wrapper's nor `$scope`
+pub ordinary : (k : List ℕ) → is_wrapper k ≡ false → is_scope k ≡ false → (is_other k ≡ true) × (is_stray k ≡ true)
+ordinary k plain other =
+    (ap not plain, and_from (not (is_code k)) (not (is_scope k)) (ap not (no_code k (is_code k) refl plain)) (ap not other))
 
-strange : (D : Doubles) (ms : Members) → any_key is_wrapper ms ≡ true → any_key is_ordinary ms ≡ true
-    → found_wrapper D ms ≡ here
-strange D no_members h i = refl
-strange D (member k d no_members) h i =
-    absurd (both_ways (is_wrapper k) (not_wrapper k (one_true (is_ordinary k) i)) (one_true (is_wrapper k) h))
-strange D (member k d (member l e no_members)) h i =
-    rw (not_both k l (by (or_cases (is_ordinary k) (is_ordinary l || false) i))) refl
+not_both : (k l : List ℕ) → (is_stray k ≡ true) ⊎ (is_stray l ≡ true) → (is_code k && is_scope l) ≡ false
+not_both k l (inl h) = and_left (is_code k) (is_scope l) (not-true (is_code k) (and_parts _ _ h).0)
+not_both k l (inr h) = and_right (is_code k) (is_scope l) (not-true (is_scope l) (and_parts _ _ h).1)
+
+odd : (D : Doubles) (ms : Members) → any_key is_wrapper ms ≡ true → IsOdd ms → found_wrapper D ms ≡ here
+odd D no_members h is = refl
+odd D (member k d no_members) h is =
+    absurd (both_ways (is_wrapper k) (not-true (is_wrapper k) (one_true (is_other k) is.0)) (one_true (is_wrapper k) h))
+odd D (member k d (member l e no_members)) h is =
+    rw (not_both k l (by (or_cases (is_stray k) (is_stray l || false) is.1))) refl
   where
-    by : (is_ordinary k ≡ true) ⊎ ((is_ordinary l || false) ≡ true) → (is_ordinary k ≡ true) ⊎ (is_ordinary l ≡ true)
+    by : (is_stray k ≡ true) ⊎ ((is_stray l || false) ≡ true) → (is_stray k ≡ true) ⊎ (is_stray l ≡ true)
     by (inl is) = inl is
-    by (inr is) = inr (one_true (is_ordinary l) is)
-strange D (member k d (member l e (member m c ms))) h i = refl
+    by (inr is) = inr (one_true (is_stray l) is)
+odd D (member k d (member l e (member m c ms))) h is = refl
 
-pub strange_here : (D : Doubles) (ms : Members) → has_wrapper ms ≡ true → any_key is_ordinary ms ≡ true
-    → found D (object ms) ≡ here
-strange_here D ms h i = ap (λ b. cond b (found_wrapper D ms) (found_members D ms)) h
-    ∙ strange D ms (sym (wrapper_key ms) ∙ h) i
+pub odd_here : (D : Doubles) (ms : Members) → has_wrapper ms ≡ true → IsOdd ms → found D (object ms) ≡ here
+odd_here D ms h is = ap (λ b. cond b (found_wrapper D ms) (found_members D ms)) h
+    ∙ odd D ms (sym (wrapper_key ms) ∙ h) is
 
 pub plain_found : (D : Doubles) (ms : Members) → has_wrapper ms ≡ false → found D (object ms) ≡ found_members D ms
 plain_found D ms h = ap (λ b. cond b (found_wrapper D ms) (found_members D ms)) h
@@ -109,12 +102,12 @@ plain_found D ms h = ap (λ b. cond b (found_wrapper D ms) (found_members D ms))
 -- no member was read yet, or one whose key is neither a wrapper's nor `$scope`
 abbrev pub IsBegun : Bool → Members → Type 0
 IsBegun true ms = ms ≡ no_members
-IsBegun false ms = any_key is_ordinary ms ≡ true
+IsBegun false ms = IsOdd ms
 
-pub begun : (b : Bool) (k : List ℕ) (d : Data) (ms : Members) → (b ≡ true → is_ordinary k ≡ true) → IsBegun b ms
-    → any_key is_ordinary (put k d ms) ≡ true
-begun true k d ms first is = any_new is_ordinary k d ms (first refl)
-begun false k d ms first is = any_kept is_ordinary k d ms is
+pub begun : (b : Bool) (k : List ℕ) (d : Data) (ms : Members)
+    → (b ≡ true → (is_other k ≡ true) × (is_stray k ≡ true)) → IsBegun b ms → IsOdd (put k d ms)
+begun true k d ms first is = let f = first refl in (any_new is_other k d ms f.0, any_new is_stray k d ms f.1)
+begun false k d ms first is = (any_kept is_other k d ms is.0, any_kept is_stray k d ms is.1)
 
 wrapper_at : (b : Bool) (k : List ℕ) (d : Data) (ms : Members) → is_wrapper k ≡ b
     → any_key is_wrapper (put k d ms) ≡ (b || any_key is_wrapper ms)
@@ -126,16 +119,16 @@ pub wrapper_put : (k : List ℕ) (d : Data) (ms : Members)
 wrapper_put k d ms = wrapper_key (put k d ms) ∙ wrapper_at (is_wrapper k) k d ms refl
     ∙ ap (λ b. is_wrapper k || b) (sym (wrapper_key ms))
 
-neither : (a b : Bool) → (a || b) ≡ false → (not a && not b) ≡ true
+neither : (a b : Bool) → (a || b) ≡ false → (a ≡ false) × (b ≡ false)
 neither true b h = cc
 neither false true h = cc
-neither false false h = refl
+neither false false h = (refl, refl)
 
 -- a first key that may begin no wrapper
-pub ordinary_from : (k : List ℕ) → (is_wrapper k || is_scope k) ≡ false → is_ordinary k ≡ true
-ordinary_from k h = neither (is_wrapper k) (is_scope k) h
+pub ordinary_from : (k : List ℕ) → (is_wrapper k || is_scope k) ≡ false → (is_other k ≡ true) × (is_stray k ≡ true)
+ordinary_from k h = let no = neither (is_wrapper k) (is_scope k) h in ordinary k no.0 no.1
 
 -- a map with a wrapper's key behind its first has that first key
-pub not_begun : (b : Bool) (ms : Members) → has_wrapper ms ≡ true → IsBegun b ms → any_key is_ordinary ms ≡ true
+pub not_begun : (b : Bool) (ms : Members) → has_wrapper ms ≡ true → IsBegun b ms → IsOdd ms
 not_begun true ms some none = let never : has_wrapper ms ≡ false = ap has_wrapper none in cc
 not_begun false ms some is = is

@@ -1,4 +1,5 @@
 pub mod Rounds
+pub mod Starts
 pub mod Elements
 pub mod Gathering
 pub mod Trees

@@ -22,6 +22,9 @@ use Rattle.bson_scalar.specs.declared.wrapper.Wrapper.TheVariants.{NumberLong, N
 use Rattle.bson_scalar.specs.declared.wrapper.Wrapper.TheVariants.{Uuid, Code, Timestamp, Date, MinKey, MaxKey}
 use Rattle.bson_scalar.specs.declared.wrapper.Wrapper.TheVariants.{DbPointer, Undefined}
 use Rattle.bson_scalar.specs.declared.form.Doubles.{Doubles}
+use Rattle.bson_tokens.specs.Start.{primitive_tree}
+use Rattle.bson_tokens.specs.declared.start.Primitive.{Primitive}
+use Rattle.bson_tokens.specs.declared.start.Primitive.TheVariants.{Null, Bool as Truth, Number, String as Text}
 use Rattle.bson_tokens.specs.Held.{StandsFor, few, or_empty, pruned, pruned_members, kept_of, entered}
 
 -- ---- one more member
@@ -243,3 +246,9 @@ same_at D None d = refl
 
 pub pruned_stands : (t : Data) → StandsFor t (pruned 2 t)
 pruned_stands t = (λ D w. same_at D w t, same_text 2 t)
+
+pub pruned_primitive : (n : ℕ) (p : Primitive) → pruned n (primitive_tree p) ≡ primitive_tree p
+pruned_primitive n Null = refl
+pruned_primitive n (Truth b) = refl
+pruned_primitive n (Number x) = refl
+pruned_primitive n (Text s) = refl

@@ -1,18 +1,13 @@
 -- A round of the grammar's loops over tokens, where each part that is read becomes a part of the tree.
 use Rattle.std.proofs.Common.{◌≡◌, ℕ, zero, suc, ◌-◌, ◌<◌, ◌≤◌, List, length, Option, Some, None, Result, Ok, Err}
-use Rattle.std.proofs.Common.{IfOk, IfErr, option_map, option_and_then, refl, ap, ◌∙◌, arith, [], ◌∷◌, ◌⊎◌, inl, inr}
-use Rattle.std.proofs.Common.{Bor}
+use Rattle.std.proofs.Common.{IfOk, IfErr, option_map, option_and_then, refl, ap, ◌∙◌, arith, []}
 use Rattle.std.proofs.lemmas.Option.{same_Some}
 use Rattle.json.specs.Token.{Token}
 use Rattle.json.specs.Json as json
 use Rattle.json.specs.Json.{Parse, parse_map, after_end_array, read_key, items, members, value, if_last}
-use Rattle.json.specs.Reads.{token_of}
-use Rattle.json.specs.declared.token.Token as found
-use Rattle.json.specs.declared.token.Token.TheVariants.{EndObject, EndArray, Key, Bad}
-use Rattle.json.proofs.Grammar.{value_is, value-begin_array, value-begin_object}
 use Rattle.json.proofs.Grammar.{items_end, items_more, members_end, members_more}
 use Rattle.json.proofs.Grammar.{read_key-shorter, items_fail, members_no_key, members_fail}
-use Rattle.serde_json.specs.Data.{Data, array, object, no_items, item, Members, no_members, put}
+use Rattle.serde_json.specs.Data.{Data, no_items, item, Members, put}
 use Rattle.serde_json.specs.Read.{of_json, of_items, of_members, converted}
 use Rattle.bson_tokens.specs.Parts.{MembersAre, NoMembers}
 
@@ -36,33 +31,10 @@ was_read f None b r e = cc
 was_read f (Some (a, s)) b r e = let h = beside (f a) s r b e in (a, ap (λ t. Some (a, t)) h.1, h.0)
 
 -- a function of the part, before or after the tokens that are left come to it
-under : {A B : Type 0} (g : A → B) (x : Option A) (r : List Token)
+pub under : {A B : Type 0} (g : A → B) (x : Option A) (r : List Token)
     → option_map (λ b. (b, r)) (option_map g x) ≡ parse_map g (option_map (λ a. (a, r)) x)
 under g None r = refl
 under g (Some a) r = refl
-
-array_converted : (o : Option (json.Items × List Token))
-    → converted of_json (parse_map json.array o) ≡ parse_map array (converted of_items o)
-array_converted None = refl
-array_converted (Some (js, r)) = under array (of_items js) r
-
-object_converted : (o : Option (json.Members × List Token))
-    → converted of_json (parse_map json.object o) ≡ parse_map object (converted (λ ms. of_members ms no_members) o)
-object_converted None = refl
-object_converted (Some (js, r)) = under object (of_members js no_members) r
-
--- a bracket was read, and what stands behind it is left
-pub array_opened : (depth : ℕ) (ts r : List Token) → ts ≡ Token.begin_array ∷ r → 0 < depth
-    → converted of_json (value depth ts) ≡ parse_map array (converted of_items (items (value (depth - 1)) (length r) r))
-array_opened depth ts r is left = ap (λ t. converted of_json (value depth t)) is
-    ∙ ap (converted of_json) (value-begin_array depth r left) ∙ array_converted (items (value (depth - 1)) (length r) r)
-
-pub object_opened : (depth : ℕ) (ts r : List Token) → ts ≡ Token.begin_object ∷ r → 0 < depth
-    → converted of_json (value depth ts)
-    ≡ parse_map object (converted (λ ms. of_members ms no_members) (members (value (depth - 1)) (length r) r))
-object_opened depth ts r is left = ap (λ t. converted of_json (value depth t)) is
-    ∙ ap (converted of_json) (value-begin_object depth r left)
-    ∙ object_converted (members (value (depth - 1)) (length r) r)
 
 first_item : (j : json.Json) (d : Data) (o : Option (json.Items × List Token)) → of_json j ≡ Some d
     → converted of_items (parse_map (json.item j) o) ≡ parse_map (item d) (converted of_items o)
@@ -183,33 +155,6 @@ unfolding members
 no_members_behind depth k ts s r d named read h old zero = refl
 no_members_behind depth k ts s r d named read h old (suc n) =
     one_member (value depth) (suc n) old k ts s r d (omega arith) named read ∙ h (put k d old) (suc n - 1)
-
--- an array or an object that is too deep
-pub too_deep_array : (depth : ℕ) (ts r : List Token) → ts ≡ Token.begin_array ∷ r → depth ≡ 0
-    → converted of_json (value depth ts) ≡ None
-unfolding value
-too_deep_array depth ts r is deep = rw (is, deep) refl
-
-pub too_deep_object : (depth : ℕ) (ts r : List Token) → ts ≡ Token.begin_object ∷ r → depth ≡ 0
-    → converted of_json (value depth ts) ≡ None
-unfolding value
-too_deep_object depth ts r is deep = rw (is, deep) refl
-
--- no value begins with a closing bracket, a key, or what is no token
-pub none_begins : (depth : ℕ) (k : found.Token) (ts r : List Token) → ts ≡ token_of k ∷ r
-    → (k ≡ EndObject) ⊎ (k ≡ EndArray) ⊎ ((s : Bor (List ℕ)) × (k ≡ Key s)) ⊎ (k ≡ Bad)
-    → converted of_json (value depth ts) ≡ None
-none_begins depth k ts r is (inl e) = ap (λ t. converted of_json (value depth t)) (is ∙ ap (λ t. token_of t ∷ r) e)
-    ∙ ap (converted of_json) (value_is depth (Token.end_object ∷ r))
-none_begins depth k ts r is (inr (inl e)) =
-    ap (λ t. converted of_json (value depth t)) (is ∙ ap (λ t. token_of t ∷ r) e)
-    ∙ ap (converted of_json) (value_is depth (Token.end_array ∷ r))
-none_begins depth k ts r is (inr (inr (inl (s, e)))) =
-    ap (λ t. converted of_json (value depth t)) (is ∙ ap (λ t. token_of t ∷ r) e)
-    ∙ ap (converted of_json) (value_is depth (Token.key s.now ∷ r))
-none_begins depth k ts r is (inr (inr (inr e))) =
-    ap (λ t. converted of_json (value depth t)) (is ∙ ap (λ t. token_of t ∷ r) e)
-    ∙ ap (converted of_json) (value_is depth (Token.bad ∷ r))
 
 -- what holds of an error has what follows from it
 pub if_err : {X E : Type 0} {P Q : E → Type 0} (r : Result X E) → IfErr r P → ((e : E) → P e → Q e) → IfErr r Q

@@ -1,6 +1,7 @@
 -- Answers and verdicts.
 use Rattle.std.proofs.Common.{◌≡◌, ℕ, List, [], ◌∷◌, ◌++◌, Option, Some, None, refl, sym, ap, ◌∙◌, subst, Bor}
-use Rattle.std.specs.Prelude.{MatchOption, Ok}
+use Rattle.std.specs.Prelude.{MatchOption, Ok, Err}
+use Rattle.bson_model.specs.Reading.{reads_in}
 use Rattle.serde_json.specs.Data.{Data}
 use Rattle.bson_scalar.specs.Faults.{Fault, wrong_shape}
 use Rattle.bson_scalar.specs.declared.form.Doubles.{Doubles}
@@ -109,6 +110,10 @@ module _ (D : Doubles) where
     path = fault_told t (found D t) _ (path_of p) (is_found D t) is.path;
     reason = is.reason;
   }
+
+  -- what has the fault here means nothing
+  pub here_read : (t : Data) → found D t ≡ here → reads_in D t ≡ Err wrong_shape
+  here_read t is = fault_to D (subst (λ v. Is (HasValueIn D t) (λ f path. FaultAtIn D f t path) v) is (is_found D t))
 
   told_value : (t : Data) (v : Verdict) → Is (HasValueIn D t) (λ f path. FaultAtIn D f t path) v → v ≡ None
       → HasValueIn D t

@@ -23,7 +23,7 @@ use Rattle.bson_tokens.specs.Parts.{NoMembers, NoObject, ObjectIs}
 use Rattle.bson_tokens.specs.Told.{Tells}
 use Rattle.bson_tokens.proofs.Gathering.{Gathers, none_yet, one_gathered, all_gathered}
 use Rattle.bson_tokens.specs.Keys.{any_key, is_wrapper, is_code, is_scope}
-use Rattle.bson_tokens.proofs.Keys.{any_new, any_kept, wrapper_key}
+use Rattle.bson_tokens.proofs.Keys.{any_new, any_kept, one_true, wrapper_key}
 use Rattle.bson_tokens.proofs.Rounds.{no_member}
 use Rattle.bson_tokens.proofs.Verdicts.{told}
 
@@ -84,10 +84,6 @@ all_more f g more no_members h = cc
 all_more f g more (member k d ms) h =
     either (f k) (any_key f ms) (g k) (any_key g ms) (more k) (all_more f g more ms) (or_cases (f k) (any_key f ms) h)
 
-one_true : (a : Bool) → (a || false) ≡ true → a ≡ true
-one_true true h = refl
-one_true false h = h
-
 one_beside : (k a : List ℕ) → bytes_eq a k ≡ true → is_beside k a ≡ false
 one_beside k a is = ap (λ b. not b && not (is_code k && is_scope a)) is
 
@@ -137,10 +133,10 @@ IsWrapped D k false held (Some p) ms = (t : Data) × (e : Data) × (k ≡ codes 
     × (ms ≡ member (codes "$code") t (member (codes "$scope") e no_members)) × StandsFor t held
     × Tells (found_scope D e) p
 
-put_tied : (k : List ℕ) (c d : Data) → put k d (member k c no_members) ≡ member k d no_members
+pub put_tied : (k : List ℕ) (c d : Data) → put k d (member k c no_members) ≡ member k d no_members
 put_tied k c d = let is : slice_cmp nat_cmp k k ≡ Equal = tied_itself nat_list_cmp_total k in rw is refl
 
-kept_strange : (k j : List ℕ) (d : Data) (ms : Members) → IsStrange k ms → IsStrange k (put j d ms)
+pub kept_strange : (k j : List ℕ) (d : Data) (ms : Members) → IsStrange k ms → IsStrange k (put j d ms)
 kept_strange k j d ms is = (any_kept (λ l. bytes_eq l k) j d ms is.0, any_kept (is_beside k) j d ms is.1)
 
 -- the key again, the scope, and another key
@@ -206,13 +202,18 @@ neither false false h i = refl
 neither true b h i = cc
 neither false true h i = cc
 
+pub strange_put : (k j : List ℕ) (d : Data) (ms : Members) → bytes_eq j k ≡ false → (is_code k && is_scope j) ≡ false
+    → any_key (λ l. bytes_eq l k) ms ≡ true → IsStrange k (put j d ms)
+strange_put k j d ms apart unlike h = (
+  any_kept (λ l. bytes_eq l k) j d ms h,
+  any_new (is_beside k) j d ms (neither (bytes_eq j k) (is_code k && is_scope j) apart unlike),
+)
+
 pub with_other : (D : Doubles) (k j : List ℕ) (b : Bool) (held d : Data) (scope : Option (Option Place)) (ms : Members)
     → bytes_eq j k ≡ false → (is_code k && is_scope j) ≡ false → IsWrapped D k b held scope ms
     → IsStrange k (put j d ms)
-with_other D k j b held d scope ms apart unlike is = (
-  any_kept (λ l. bytes_eq l k) j d ms (there D k b held scope ms is),
-  any_new (is_beside k) j d ms (neither (bytes_eq j k) (is_code k && is_scope j) apart unlike),
-)
+with_other D k j b held d scope ms apart unlike is =
+    strange_put k j d ms apart unlike (there D k b held scope ms is)
 
 -- ---- the object as a whole
 

@@ -1,5 +1,5 @@
 -- Keys of an object's members, as Extended JSON tells them apart.
-use Rattle.std.specs.Prelude.{ℕ, List, Bool, false, ◌||◌, codes, is_some}
+use Rattle.std.specs.Prelude.{◌≡◌, ℕ, List, Bool, true, false, not, ◌||◌, ◌&&◌, codes, is_some}
 use Rattle.std.specs.Str.{bytes_eq}
 use Rattle.serde_json.specs.Data.{Members, no_members, member}
 use Rattle.bson_scalar.specs.Table.{wrapper_of}
@@ -17,3 +17,13 @@ is_code k = bytes_eq k (codes "$code")
 
 abbrev pub is_scope : List ℕ → Bool
 is_scope k = bytes_eq k (codes "$scope")
+
+-- a key that is no wrapper's, and one that stands beside no code: with a wrapper's key they mean nothing
+abbrev pub is_other : List ℕ → Bool
+is_other k = not (is_wrapper k)
+
+abbrev pub is_stray : List ℕ → Bool
+is_stray k = not (is_code k) && not (is_scope k)
+
+abbrev pub IsOdd : Members → Type 0
+IsOdd ms = (any_key is_other ms ≡ true) × (any_key is_stray ms ≡ true)

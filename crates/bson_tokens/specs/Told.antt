@@ -6,9 +6,8 @@ use Rattle.bson_scalar.specs.declared.form.Doubles.{Doubles}
 use Rattle.bson_scalar.specs.declared.form.Doubles.TheVariants.{Special}
 use Rattle.std.specs.Borrow.{Bor}
 use Rattle.json.specs.Token.{Token}
-use Rattle.serde_json.specs.Data.{Data, Num, Members, no_members, object}
-use Rattle.serde_json.specs.Data as tree
-use Rattle.serde_json.specs.Read.{read, number_of}
+use Rattle.serde_json.specs.Data.{Data, Members, no_members, object}
+use Rattle.serde_json.specs.Read.{read}
 use Rattle.bson_place.specs.Place.{HasValueIn, IsFirstFaultIn, IsPlace}
 use Rattle.bson_place.specs.declared.place.Place.{Place}
 use Rattle.bson_tokens.specs.Found.{Verdict, found, Faults}
@@ -31,9 +30,6 @@ Tells v place = MatchOption place (v ≡ None) (IsPlace (λ f path. v ≡ Some (
 -- a tree or some were read, of which these tokens are left, and the answer tells their verdict
 abbrev pub Finds : {D : Type 0} → (D → Verdict) → Option (D × List Token) → Option Place → List Token → Type 0
 Finds {D} f trees place rest = (d : D) × (trees ≡ Some (d, rest)) × Tells (f d) place
-
-abbrev pub FindsNumber : Doubles → List ℕ → Option Place → Type 0
-FindsNumber D text place = (n : Num) × (number_of text ≡ Some n) × Tells (found D (tree.number n)) place
 
 -- the same of an object whose first key was read
 abbrev pub ObjectFinds : Doubles → ℕ → List ℕ → List Token → Option Place → List Token → Type 0

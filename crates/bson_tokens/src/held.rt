@@ -8,9 +8,9 @@ ghost use Rattle.bson_tokens.specs.Held.{IsHeldAs, IsPruned, ArePassed, AreKept,
 ghost use Rattle.bson_tokens.specs.Parts.{IsBroken, NoMembers};
 ghost use Rattle.bson_tokens.specs.declared.unread.Unread.TheVariants.{Broken};
 
-use crate::number::number;
+use crate::start::{Start, primitive_value, read_start};
 use crate::unread::Unread;
-use json::{Reader, Token};
+use json::Reader;
 use serde_json::{Map, Value};
 use std::alloc::{AllocError, Global};
 
@@ -44,35 +44,20 @@ fn held_value(
     ensures broken { IfErr result (IsBroken (converted of_json (value depth reader.old))) }
     ensures shorter { OnOk result (length reader.new < length reader.old) }
 {
-    let token = reader.next().ok_or(Unread::Broken)?;
-    match token {
-        Token::String(text) => Ok(Value::String(String::from_str(alloc, text)?)),
-        Token::Number(text) => match number(text) {
-            Some(n) => Ok(Value::Number(n)),
-            None => Err(Unread::Broken),
-        },
-        Token::Bool(b) => Ok(Value::Bool(b)),
-        Token::Null => Ok(Value::Null),
-        Token::EndObject | Token::EndArray | Token::Key(_) | Token::Bad => Err(Unread::Broken),
-        Token::BeginArray => {
-            if depth == 0 {
-                return Err(Unread::Broken);
-            }
+    let start = read_start(reader, depth)?;
+    match start {
+        Start::Primitive(primitive) => Ok(primitive_value(alloc, primitive)?),
+        Start::Array => {
             pass_items(alloc, reader, depth - 1)?;
             Ok(Value::Array(Vec::new(alloc)))
         }
-        Token::BeginObject => {
-            if depth == 0 {
-                return Err(Unread::Broken);
-            }
-            Ok(Value::Object(held_members(alloc, reader, depth - 1, levels)?))
-        }
+        Start::Object => Ok(Value::Object(held_members(alloc, reader, depth - 1, levels)?)),
     }
 }
 
-// Passes over the elements of an array whose bracket was read.
+/// Passes over the elements of an array whose bracket was read, each nested at most `depth` deep.
 #[cycle(held)]
-pub(crate) fn pass_items(alloc: Global, reader: &mut Reader<'_>, depth: usize) -> Result<(), Unread>
+pub fn pass_items(alloc: Global, reader: &mut Reader<'_>, depth: usize) -> Result<(), Unread>
     ensures ok { OnOk result
         (ArePassed (converted of_items (items (value depth) (length reader.old) reader.old)) reader.new) }
     ensures broken { IfErr result

@@ -6,9 +6,9 @@ ghost use Rattle.serde_json.specs.View.{view, items_view, members_view};
 ghost use Rattle.bson_tokens.specs.Parts.{IsBroken, IsEntered, MembersAre, NoMembers, ObjectIs, NoObject};
 ghost use Rattle.bson_tokens.specs.declared.unread.Unread.TheVariants.{Broken};
 
-use crate::number::number;
+use crate::start::{Start, primitive_value, read_start};
 use crate::unread::Unread;
-use json::{Reader, Token};
+use json::Reader;
 use serde_json::{Map, Value};
 use std::alloc::Global;
 
@@ -19,26 +19,11 @@ pub fn read_tree(alloc: Global, reader: &mut Reader<'_>, depth: usize) -> Result
     ensures broken { IfErr result (IsBroken (converted of_json (value depth reader.old))) }
     ensures shorter { OnOk result (length reader.new < length reader.old) }
 {
-    let token = reader.next().ok_or(Unread::Broken)?;
-    match token {
-        Token::String(text) => Ok(Value::String(String::from_str(alloc, text)?)),
-        Token::Number(text) => match number(text) {
-            Some(n) => Ok(Value::Number(n)),
-            None => Err(Unread::Broken),
-        },
-        Token::Bool(b) => Ok(Value::Bool(b)),
-        Token::Null => Ok(Value::Null),
-        Token::EndObject | Token::EndArray | Token::Key(_) | Token::Bad => Err(Unread::Broken),
-        Token::BeginArray => {
-            if depth == 0 {
-                return Err(Unread::Broken);
-            }
-            Ok(Value::Array(read_items(alloc, reader, depth - 1)?))
-        }
-        Token::BeginObject => {
-            if depth == 0 {
-                return Err(Unread::Broken);
-            }
+    let start = read_start(reader, depth)?;
+    match start {
+        Start::Primitive(primitive) => Ok(primitive_value(alloc, primitive)?),
+        Start::Array => Ok(Value::Array(read_items(alloc, reader, depth - 1)?)),
+        Start::Object => {
             let none = Map::new(alloc);
             Ok(Value::Object(read_members(alloc, reader, depth - 1, none)?))
         }

@@ -3,19 +3,20 @@ ghost use Rattle.std.specs.Prelude.{◌≡◌, ◌<◌, ◌&&◌, ◌||◌, code
 ghost use Rattle.std.specs.Str.{bytes_eq};
 ghost use Rattle.json.specs.Json.{value, items, members};
 ghost use Rattle.serde_json.specs.Data.{no_members, object};
-ghost use Rattle.serde_json.specs.Read.{of_json, of_items, of_members, converted, number_of, read};
+ghost use Rattle.serde_json.specs.Read.{of_json, of_items, of_members, converted, read};
 ghost use Rattle.serde_json.specs.View.{members_view};
 ghost use Rattle.bson_scalar.specs.Table.{wrapper_of};
 ghost use Rattle.bson_place.specs.Place.{element};
 ghost use Rattle.bson_tokens.specs.Found.{Verdict, found, found_items, or, within};
 ghost use Rattle.bson_tokens.specs.Parts.{IsBroken, NoMembers, NoObject};
-ghost use Rattle.bson_tokens.specs.Told.{Tells, Finds, FindsNumber, ObjectFinds, IsPlaceIn, IsTextPlaceIn};
+ghost use Rattle.bson_tokens.specs.Start.{primitive_tree};
+ghost use Rattle.bson_tokens.specs.Told.{Tells, Finds, ObjectFinds, IsPlaceIn, IsTextPlaceIn};
 ghost use Rattle.bson_tokens.specs.declared.unread.Unread.TheVariants.{OutOfMemory, Broken};
 
 mod wrapped;
 
 use crate::faults::{enter, least_fault, place_here, with_segment};
-use crate::number::number;
+use crate::start::{Primitive, Start, read_start};
 use crate::tree::read_from;
 use crate::unread::Unread;
 use crate::walk::wrapped::walk_wrapper;
@@ -25,7 +26,7 @@ use bson_place::walk::first_place;
 use bson_scalar::code::is_scope;
 use bson_scalar::form::Doubles;
 use bson_scalar::wrapper::{Wrapper, wrapper_named};
-use json::{Reader, Scratch, Token};
+use json::{Reader, Scratch};
 use serde_json::{Map, Value};
 use std::alloc::{AllocError, Global};
 use std::collections::BTreeMap;
@@ -61,13 +62,17 @@ pub fn first_fault_in(alloc: Global, doubles: Doubles, text: &str) -> Result<Opt
     Ok(found)
 }
 
-fn of_number(alloc: Global, doubles: Doubles, text: &str) -> Result<Option<Place>, Unread>
-    ensures ok { IfOk result (λ found. FindsNumber doubles text.now found) }
-    ensures broken { IfErr result (IsBroken (number_of text.now)) }
+// Of values of one token numbers alone may be at fault.
+fn primitive_fault(
+    alloc: Global,
+    doubles: Doubles,
+    primitive: Primitive<'_>,
+) -> Result<Option<Place>, AllocError>
+    ensures { IfOk result (Tells (found doubles (primitive_tree primitive.entry))) }
 {
-    match number(text) {
-        Some(n) => Ok(first_place(alloc, doubles, Value::Number(n))?),
-        None => Err(Unread::Broken),
+    match primitive {
+        Primitive::Number(n) => first_place(alloc, doubles, Value::Number(n)),
+        Primitive::String(_) | Primitive::Bool(_) | Primitive::Null => Ok(None),
     }
 }
 
@@ -83,25 +88,11 @@ fn walk_value(
     ensures broken { IfErr result (IsBroken (converted of_json (value depth reader.old))) }
     ensures shorter { OnOk result (length reader.new < length reader.old) }
 {
-    let token = reader.next().ok_or(Unread::Broken)?;
-    match token {
-        Token::String(_) => Ok(None),
-        Token::Number(text) => Ok(of_number(alloc, doubles, text)?),
-        Token::Bool(_) => Ok(None),
-        Token::Null => Ok(None),
-        Token::EndObject | Token::EndArray | Token::Key(_) | Token::Bad => Err(Unread::Broken),
-        Token::BeginArray => {
-            if depth == 0 {
-                return Err(Unread::Broken);
-            }
-            Ok(walk_items(alloc, doubles, reader, depth - 1)?)
-        }
-        Token::BeginObject => {
-            if depth == 0 {
-                return Err(Unread::Broken);
-            }
-            Ok(walk_members(alloc, doubles, reader, depth - 1)?)
-        }
+    let start = read_start(reader, depth)?;
+    match start {
+        Start::Primitive(primitive) => Ok(primitive_fault(alloc, doubles, primitive)?),
+        Start::Array => walk_items(alloc, doubles, reader, depth - 1),
+        Start::Object => walk_members(alloc, doubles, reader, depth - 1),
     }
 }
 

@@ -5,22 +5,24 @@ ghost use Rattle.serde_json.specs.Data.{no_members, member, object};
 ghost use Rattle.serde_json.specs.Read.{of_json, of_members, converted};
 ghost use Rattle.serde_json.specs.View.{view};
 ghost use Rattle.bson_scalar.specs.Table.{wrapper_of};
+ghost use Rattle.bson_scalar.specs.declared.form.Doubles.{Doubles};
 ghost use Rattle.bson_place.specs.Place.{key as key_segment};
 ghost use Rattle.bson_tokens.specs.Found.{Verdict, found, found_members, found_scope, of_code, within};
 ghost use Rattle.bson_tokens.specs.Parts.{IsBroken, NoMembers, NoObject};
+ghost use Rattle.bson_tokens.specs.Start.{primitive_tree};
 ghost use Rattle.bson_tokens.specs.Told.{Tells, Finds, ObjectFinds};
 ghost use Rattle.bson_tokens.specs.declared.unread.Unread.TheVariants.{Broken};
 
 use crate::faults::{enter, least_fault, place_here, with_segment};
 use crate::held::{pass_items, read_held};
-use crate::number::number;
+use crate::start::{Primitive, Start, read_start};
 use crate::unread::Unread;
 use crate::walk::{lesser_wrapper, place_in, walk_value};
 use bson_place::place::{Place, Segment};
 use bson_place::shape::{CODE, SCOPE, beside_others};
 use bson_scalar::code::is_code_with_scope;
 use bson_scalar::form::Doubles;
-use json::{Reader, Token};
+use json::Reader;
 use serde_json::{Map, Value};
 use std::alloc::{AllocError, Global};
 use std::collections::BTreeMap;
@@ -105,29 +107,28 @@ fn walk_scope(
     ensures broken { IfErr result (IsBroken (converted of_json (value depth reader.old))) }
     ensures shorter { OnOk result (length reader.new < length reader.old) }
 {
-    let token = reader.next().ok_or(Unread::Broken)?;
-    match token {
-        Token::Null => Ok(None),
-        Token::String(_) => Ok(Some(place_here(alloc, SCOPE))),
-        Token::Bool(_) => Ok(Some(place_here(alloc, SCOPE))),
-        Token::Number(text) => match number(text) {
-            Some(_) => Ok(Some(place_here(alloc, SCOPE))),
-            None => Err(Unread::Broken),
-        },
-        Token::EndObject | Token::EndArray | Token::Key(_) | Token::Bad => Err(Unread::Broken),
-        Token::BeginArray => {
-            if depth == 0 {
-                return Err(Unread::Broken);
-            }
+    let start = read_start(reader, depth)?;
+    match start {
+        Start::Primitive(primitive) => Ok(primitive_scope_fault(alloc, primitive)),
+        Start::Array => {
             pass_items(alloc, reader, depth - 1)?;
             Ok(Some(place_here(alloc, SCOPE)))
         }
-        Token::BeginObject => {
-            if depth == 0 {
-                return Err(Unread::Broken);
-            }
+        Start::Object => {
             let place = walk_pairs(alloc, doubles, reader, depth - 1)?;
             Ok(in_scope(alloc, place)?)
+        }
+    }
+}
+
+// Of values of one token null alone is a scope.
+fn primitive_scope_fault(alloc: Global, primitive: Primitive<'_>) -> Option<Place>
+    ensures { (D : Doubles) → Tells (found_scope D (primitive_tree primitive.entry)) result }
+{
+    match primitive {
+        Primitive::Null => None,
+        Primitive::String(_) | Primitive::Number(_) | Primitive::Bool(_) => {
+            Some(place_here(alloc, SCOPE))
         }
     }
 }

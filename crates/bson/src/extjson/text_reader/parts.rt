@@ -8,6 +8,9 @@ ghost use Rattle.serde_json.specs.Read.{of_json, converted};
 ghost use Rattle.serde_json.specs.View.{view};
 ghost use Rattle.bson_scalar.specs.Faults.{Fault, Gives};
 ghost use Rattle.bson_model.specs.Value.{Value as Meaning, document, no_pairs, pair};
+ghost use Rattle.bson_model.specs.Reading.{reads_in, reads_scope_in};
+ghost use Rattle.bson_tokens.specs.Start.{primitive_tree};
+ghost use Rattle.bson_scalar.specs.declared.form.Doubles.{Doubles};
 ghost use Rattle.bson_tokens.specs.Parts.{IsBroken, NoObject};
 ghost use Rattle.bson.specs.View.{bson_view, document_view};
 ghost use Rattle.bson.specs.Gathered.{gathered, FewAscend, IsInOrder};
@@ -19,12 +22,13 @@ use crate::bson::Bson;
 use crate::document::Document;
 use crate::extjson::builder::with_scope;
 use crate::extjson::key_order::KeyOrder;
-use crate::extjson::read::read;
+use crate::extjson::read::{number_value, read};
 use crate::extjson::text::into_text;
 use crate::extjson::text_reader::gathered::{Gathered, NOTHING, document_of, empty_members, put};
 use bson_scalar::error::Error;
 use bson_scalar::form::Doubles;
 use bson_tokens::held::read_held;
+use bson_tokens::start::Primitive;
 use bson_tokens::tree::read_from;
 use bson_tokens::unread::Unread;
 use json::{Reader, Scratch, Writer};
@@ -40,6 +44,34 @@ pub(crate) fn value_of_result(read: Result<Bson, Error>) -> Result<Option<Bson>,
         Ok(value) => Ok(Some(value)),
         Err(Error::OutOfMemory) => Err(AllocError),
         Err(_) => Ok(None),
+    }
+}
+
+// What a value of one token means, or none where that is a number that means nothing.
+pub(crate) fn value_of_primitive(
+    alloc: Global,
+    doubles: Doubles,
+    primitive: Primitive<'_>,
+) -> Result<Option<Bson>, AllocError>
+    ensures { IfOk result
+        (λ v. given (reads_in doubles (primitive_tree primitive.entry)) ≡ option_map bson_view v) }
+{
+    match primitive {
+        Primitive::String(text) => Ok(Some(Bson::String(String::from_str(alloc, text)?))),
+        Primitive::Number(n) => value_of_result(number_value(doubles, &n)),
+        Primitive::Bool(b) => Ok(Some(Bson::Boolean(b))),
+        Primitive::Null => Ok(Some(Bson::Null)),
+    }
+}
+
+// Of values of one token null alone is a scope.
+pub(crate) fn scope_of_primitive(primitive: Primitive<'_>) -> Option<Option<Document>>
+    ensures { (D : Doubles) → given (reads_scope_in D (primitive_tree primitive.entry))
+        ≡ option_map (λ d. option_map document_view d) result }
+{
+    match primitive {
+        Primitive::Null => Some(None),
+        Primitive::String(_) | Primitive::Number(_) | Primitive::Bool(_) => None,
     }
 }
 

@@ -2,10 +2,9 @@
 //!
 //! Each function reads a whole part of the text, also where that means nothing, and answers the
 //! value or none. It fails only where the text is no JSON text, or memory runs out.
-ghost use Rattle.std.specs.Prelude.{◌≡◌, ◌<◌, ◌≤◌, ◌∷◌, length, option_map};
+ghost use Rattle.std.specs.Prelude.{◌≡◌, ◌<◌, length, option_map};
 ghost use Rattle.std.specs.Prelude.{is_some, true, IfOk, IfErr, OnOk};
 ghost use Rattle.json.specs.Json.{value, items};
-ghost use Rattle.json.specs.Reads.{token_of};
 ghost use Rattle.serde_json.specs.Data.{Members, array, object};
 ghost use Rattle.serde_json.specs.Read.{of_json, of_items, converted};
 ghost use Rattle.serde_json.specs.View.{view};
@@ -22,17 +21,19 @@ mod scope_first;
 use crate::bson::Bson;
 use crate::document::Document;
 use crate::extjson::key_order::KeyOrder;
-use crate::extjson::read::{number_value, single_value};
+use crate::extjson::read::single_value;
 use crate::extjson::text_reader::gathered::{Gathered, NOTHING, document_of, empty_members, put};
-use crate::extjson::text_reader::parts::{code_value, document_value, value_of_result};
+use crate::extjson::text_reader::parts::{
+    code_value, document_value, scope_of_primitive, value_of_primitive, value_of_result,
+};
 use crate::extjson::text_reader::straight::scope_first::read_scoped;
 use bson_scalar::code::{is_code_with_scope, is_scope};
 use bson_scalar::form::Doubles;
 use bson_scalar::wrapper::wrapper_named;
-use bson_tokens::held::read_held;
-use bson_tokens::number::number;
+use bson_tokens::held::{pass_items, read_held};
+use bson_tokens::start::{Start, read_start};
 use bson_tokens::unread::Unread;
-use json::{Reader, Token};
+use json::Reader;
 use serde_json::Value;
 use std::alloc::Global;
 
@@ -51,49 +52,11 @@ pub(crate) fn read_value(
     ensures broken { IfErr result (IsBroken (converted of_json (value depth reader.old))) }
     ensures shorter { OnOk result (length reader.new < length reader.old) }
 {
-    let token = reader.next().ok_or(Unread::Broken)?;
-    read_begun(alloc, doubles, order, reader, depth, token)
-}
-
-// The value that begins with the token, which was taken.
-#[cycle(straight)]
-#[inline(always)]
-fn read_begun(
-    alloc: Global,
-    doubles: Doubles,
-    order: KeyOrder,
-    reader: &mut Reader<'_>,
-    depth: usize,
-    token: Token<'_>,
-) -> Result<Option<Bson>, Unread>
-    ensures ok { IfOk result
-        (λ v. Reads (reads_by order doubles)
-        (converted (tree_by order) (value depth (token_of token.entry ∷ reader.old))) (option_map bson_view v)
-        reader.new) }
-    ensures broken { IfErr result (IsBroken (converted of_json (value depth (token_of token.entry ∷ reader.old)))) }
-    ensures shorter { OnOk result (length reader.new ≤ length reader.old) }
-{
-    match token {
-        Token::String(text) => Ok(Some(Bson::String(String::from_str(alloc, text)?))),
-        Token::Number(text) => match number(text) {
-            Some(n) => Ok(value_of_result(number_value(doubles, &n))?),
-            None => Err(Unread::Broken),
-        },
-        Token::Bool(b) => Ok(Some(Bson::Boolean(b))),
-        Token::Null => Ok(Some(Bson::Null)),
-        Token::EndObject | Token::EndArray | Token::Key(_) | Token::Bad => Err(Unread::Broken),
-        Token::BeginArray => {
-            if depth == 0 {
-                return Err(Unread::Broken);
-            }
-            read_array(alloc, doubles, order, reader, depth - 1)
-        }
-        Token::BeginObject => {
-            if depth == 0 {
-                return Err(Unread::Broken);
-            }
-            read_object(alloc, doubles, order, reader, depth - 1)
-        }
+    let start = read_start(reader, depth)?;
+    match start {
+        Start::Primitive(primitive) => Ok(value_of_primitive(alloc, doubles, primitive)?),
+        Start::Array => read_array(alloc, doubles, order, reader, depth - 1),
+        Start::Object => read_object(alloc, doubles, order, reader, depth - 1),
     }
 }
 
@@ -307,22 +270,17 @@ fn read_scope(
     ensures broken { IfErr result (IsBroken (converted of_json (value depth reader.old))) }
     ensures shorter { OnOk result (length reader.new < length reader.old) }
 {
-    let token = reader.next().ok_or(Unread::Broken)?;
-    match token {
-        Token::Null => Ok(Some(None)),
-        Token::BeginObject => {
-            if depth == 0 {
-                return Err(Unread::Broken);
-            }
-            match read_pairs(alloc, doubles, order, reader, depth - 1)? {
-                Some(scope) => Ok(Some(Some(scope))),
-                None => Ok(None),
-            }
-        }
-        token => {
-            drop(read_begun(alloc, doubles, order, reader, depth, token)?);
+    let start = read_start(reader, depth)?;
+    match start {
+        Start::Primitive(primitive) => Ok(scope_of_primitive(primitive)),
+        Start::Array => {
+            pass_items(alloc, reader, depth - 1)?;
             Ok(None)
         }
+        Start::Object => match read_pairs(alloc, doubles, order, reader, depth - 1)? {
+            Some(scope) => Ok(Some(Some(scope))),
+            None => Ok(None),
+        },
     }
 }
 

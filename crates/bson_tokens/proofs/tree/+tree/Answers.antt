@@ -1,80 +1,44 @@
-use Rattle.std.proofs.Common.{◌≡◌, ◌-◌, [], ◌∷◌, length, Some, None, option_map, string_bytes, sym, ap, ◌∙◌, subst}
+use Rattle.std.proofs.Common.{◌≡◌, ◌-◌, length, Some, None, string_bytes, sym, ap, ◌∙◌, subst}
 use Rattle.std.proofs.Common.{arith, rules}
 use Rattle.std.proofs.lemmas.Result.{err_from_is_err_and}
-use Rattle.json.specs.Token.{Token}
 use Rattle.json.specs.Json.{parse_map, after_end_array, read_key, value}
-use Rattle.json.specs.Reads.{token_of}
-use Rattle.json.proofs.Grammar.{value_is}
-use Rattle.serde_json.specs.Data.{null, boolean, number, string, array, object, item, no_items, no_members, put}
+use Rattle.serde_json.specs.Data.{array, object, item, no_items, no_members, put}
 use Rattle.serde_json.specs.Read.{of_json, converted}
-use Rattle.serde_json.specs.View.{view, number_view, members_view}
-use Rattle.serde_json.specs.declared.value.Value.{String, Number, Bool, Null, the_lemmas}
+use Rattle.serde_json.specs.View.{view, members_view}
 use Rattle.serde_json.proofs.Views.{view-Array, view-Object, members_view-insert_entry}
 use Rattle.bson_tokens.specs.Parts.{MembersAre}
 use Rattle.bson_tokens.proofs.Elements.{none_listed, one_listed, all_listed}
 use Rattle.bson_tokens.proofs.Gathering.{Gathers, none_yet, one_gathered, all_gathered}
 use Rattle.bson_tokens.proofs.Trees.{items_onto, items_onto-none, items_onto-last}
-use Rattle.bson_tokens.proofs.Rounds.{array_opened, object_opened, no_item, no_key, no_member, none_begins}
-use Rattle.bson_tokens.proofs.Rounds.{too_deep_array, too_deep_object}
+use Rattle.bson_tokens.proofs.Rounds.{no_item, no_key, no_member}
+use Rattle.bson_tokens.proofs.Starts.{primitive_read, array_read, object_read}
 use Rattle.bson_tokens.proofs.tree.+tree.Goals as goal
 
-pub read_tree-returns-in_ok-from_str-in-String-clause-ok : goal.read_tree-returns-in_ok-from_str-in-String-clause-ok
-read_tree-returns-in_ok-from_str-in-String-clause-ok t c =
-    let first : c.args.reader.now ≡ token_of c.in_ok-token.token ∷ c.next.new.self = grind arith in
-    let is : c.args.reader.now ≡ Token.string c.in-String.text.now ∷ c.next.new.self = grind (arith, first) in
-    let seen : view (String c.in_ok-from_str-in-String.field-0) ≡ string c.in-String.text.now =
-    search (rules, the_lemmas) in
-    ap (converted of_json) (ap (value c.args.depth) is ∙ value_is c.args.depth _)
-    ∙ ap (λ d. Some (d, c.next.new.self)) (sym seen)
+pub read_tree-returns-in_ok-primitive_value-in-Primitive-clause-ok :
+    goal.read_tree-returns-in_ok-primitive_value-in-Primitive-clause-ok
+read_tree-returns-in_ok-primitive_value-in-Primitive-clause-ok t c =
+    primitive_read c.args.depth c.args.reader.now c.read_start.new.reader _ c.in-Primitive.primitive c.in-Primitive.is
+    c.in_ok-start.ensures.ok
+    ∙ ap (λ d. Some (d, c.read_start.new.reader)) (sym c.in_ok-primitive_value-in-Primitive.ensures)
 
-pub read_tree-returns-in-Bool-clause-ok : goal.read_tree-returns-in-Bool-clause-ok
-read_tree-returns-in-Bool-clause-ok t c =
-    let first : c.args.reader.now ≡ token_of c.in_ok-token.token ∷ c.next.new.self = grind arith in
-    let is : c.args.reader.now ≡ Token.boolean c.in-Bool.b ∷ c.next.new.self = grind (arith, first) in
-    let seen : view (Bool c.in-Bool.b) ≡ boolean c.in-Bool.b = search (rules, the_lemmas) in
-    ap (converted of_json) (ap (value c.args.depth) is ∙ value_is c.args.depth _)
-    ∙ ap (λ d. Some (d, c.next.new.self)) (sym seen)
-
-pub read_tree-returns-in-Null-clause-ok : goal.read_tree-returns-in-Null-clause-ok
-read_tree-returns-in-Null-clause-ok t c =
-    let first : c.args.reader.now ≡ token_of c.in_ok-token.token ∷ c.next.new.self = grind arith in
-    let is : c.args.reader.now ≡ Token.null ∷ c.next.new.self = grind (arith, first) in
-    let seen : view (Null) ≡ null = search (rules, the_lemmas) in
-    ap (converted of_json) (ap (value c.args.depth) is ∙ value_is c.args.depth _)
-    ∙ ap (λ d. Some (d, c.next.new.self)) (sym seen)
-
-pub read_tree-returns-in-Some-clause-ok : goal.read_tree-returns-in-Some-clause-ok
-read_tree-returns-in-Some-clause-ok t c =
-    let first : c.args.reader.now ≡ token_of c.in_ok-token.token ∷ c.next.new.self = grind arith in
-    let is : c.args.reader.now ≡ Token.number c.in-Number.text.now ∷ c.next.new.self = grind (arith, first) in
-    let seen : view (Number c.in-Some.n) ≡ number (number_view c.in-Some.n) = search (rules, the_lemmas) in
-    ap (converted of_json) (ap (value c.args.depth) is ∙ value_is c.args.depth _) ∙ rw (← c.in-Some.ensures, seen)
-
-pub read_tree-returns-in_ok-read_members-in-BeginObject-clause-ok :
-    goal.read_tree-returns-in_ok-read_members-in-BeginObject-clause-ok
-read_tree-returns-in_ok-read_members-in-BeginObject-clause-ok t c =
-    let first : c.args.reader.now ≡ token_of c.in_ok-token.token ∷ c.next.new.self = grind arith in
-    let opened =
-    object_opened c.args.depth c.args.reader.now c.next.new.self
-    (first ∙ ap (λ k. token_of k ∷ c.next.new.self) c.in-BeginObject.is) (omega arith) in
-    let found = c.in_ok-read_members-in-BeginObject in
+pub read_tree-returns-in_ok-read_members-in-Object-clause-ok :
+    goal.read_tree-returns-in_ok-read_members-in-Object-clause-ok
+read_tree-returns-in_ok-read_members-in-Object-clause-ok t c =
+    let found = c.in_ok-read_members-in-Object in
     let none : members_view c.new-none.result.entries ≡ no_members = ap members_view c.new-none.ensures.empty in
     let read =
-    subst (λ ms. MembersAre (c.args.depth - 1) ms c.next.new.self
-    (members_view found.field-0.entries) c.read_members.new.reader) none found.ensures.ok (length c.next.new.self)
-    (omega arith) in
-    opened ∙ ap (parse_map object) read
+    subst (λ ms. MembersAre (c.args.depth - 1) ms c.read_start.new.reader
+    (members_view found.field-0.entries) c.read_members.new.reader) none found.ensures.ok
+    (length c.read_start.new.reader) (omega arith) in
+    object_read c.args.depth c.args.reader.now c.read_start.new.reader _ c.in-Object.is c.in_ok-start.ensures.ok
+    ∙ ap (parse_map object) read
     ∙ ap (λ d. Some (d, c.read_members.new.reader)) (sym (view-Object found.field-0))
 
-pub read_tree-returns-in_ok-read_items-in-BeginArray-clause-ok :
-    goal.read_tree-returns-in_ok-read_items-in-BeginArray-clause-ok
-read_tree-returns-in_ok-read_items-in-BeginArray-clause-ok t c =
-    let first : c.args.reader.now ≡ token_of c.in_ok-token.token ∷ c.next.new.self = grind arith in
-    let opened =
-    array_opened c.args.depth c.args.reader.now c.next.new.self
-    (first ∙ ap (λ k. token_of k ∷ c.next.new.self) c.in-BeginArray.is) (omega arith) in
-    let found = c.in_ok-read_items-in-BeginArray in
-    opened ∙ ap (parse_map array) found.ensures.ok
+pub read_tree-returns-in_ok-read_items-in-Array-clause-ok : goal.read_tree-returns-in_ok-read_items-in-Array-clause-ok
+read_tree-returns-in_ok-read_items-in-Array-clause-ok t c =
+    let found = c.in_ok-read_items-in-Array in
+    array_read c.args.depth c.args.reader.now c.read_start.new.reader _ c.in-Array.is c.in_ok-start.ensures.ok
+    ∙ ap (parse_map array) found.ensures.ok
     ∙ ap (λ d. Some (d, c.read_items.new.reader)) (sym (view-Array found.field-0))
 
 pub read_items-items-init : goal.read_items-items-init
@@ -139,55 +103,24 @@ read_members-returns-clause-ok t c =
 
 -- ---- where the text breaks
 
-pub read_tree-returns-in_err-token-clause-broken : goal.read_tree-returns-in_err-token-clause-broken
-read_tree-returns-in_err-token-clause-broken t c =
-    let none : c.args.reader.now ≡ [] = grind arith in
-    let p = err_from_is_err_and c.from_residual.result c.from_residual.ensures.1 in
-    rw p.1 (λ broken. ap (λ ts. converted of_json (value c.args.depth ts)) none
-    ∙ ap (converted of_json) (value_is c.args.depth []))
-
-pub read_tree-returns-then-depth-eq0-clause-broken : goal.read_tree-returns-then-depth-eq0-clause-broken
-read_tree-returns-then-depth-eq0-clause-broken t c =
-    let first : c.args.reader.now ≡ token_of c.in_ok-token.token ∷ c.next.new.self = grind arith in
-    λ broken. too_deep_array c.args.depth c.args.reader.now c.next.new.self
-    (first ∙ ap (λ k. token_of k ∷ c.next.new.self) c.in-BeginArray.is) (omega arith)
-
-pub read_tree-returns-then-depth-eq0-2-clause-broken : goal.read_tree-returns-then-depth-eq0-2-clause-broken
-read_tree-returns-then-depth-eq0-2-clause-broken t c =
-    let first : c.args.reader.now ≡ token_of c.in_ok-token.token ∷ c.next.new.self = grind arith in
-    λ broken. too_deep_object c.args.depth c.args.reader.now c.next.new.self
-    (first ∙ ap (λ k. token_of k ∷ c.next.new.self) c.in-BeginObject.is) (omega arith)
-
-pub read_tree-returns-in_err-read_items-in-BeginArray-clause-broken :
-    goal.read_tree-returns-in_err-read_items-in-BeginArray-clause-broken
-read_tree-returns-in_err-read_items-in-BeginArray-clause-broken t c =
-    let first : c.args.reader.now ≡ token_of c.in_ok-token.token ∷ c.next.new.self = grind arith in
-    let opened =
-    array_opened c.args.depth c.args.reader.now c.next.new.self
-    (first ∙ ap (λ k. token_of k ∷ c.next.new.self) c.in-BeginArray.is) (omega arith) in
-    let returned = c.from_residual-in_err-read_items-in-BeginArray in
+pub read_tree-returns-in_err-read_items-in-Array-clause-broken :
+    goal.read_tree-returns-in_err-read_items-in-Array-clause-broken
+read_tree-returns-in_err-read_items-in-Array-clause-broken t c =
+    let returned = c.from_residual-in_err-read_items-in-Array in
     let p = err_from_is_err_and returned.result returned.ensures.1 in
-    rw (p.1, p.2) (λ broken. opened ∙ ap (parse_map array) (c.in_err-read_items-in-BeginArray.ensures.broken broken))
+    rw (p.1, p.2) (λ broken.
+    array_read c.args.depth c.args.reader.now c.read_start.new.reader _ c.in-Array.is c.in_ok-start.ensures.ok
+    ∙ ap (parse_map array) (c.in_err-read_items-in-Array.ensures.broken broken))
 
-pub read_tree-returns-in_err-read_members-in-BeginObject-clause-broken :
-    goal.read_tree-returns-in_err-read_members-in-BeginObject-clause-broken
-read_tree-returns-in_err-read_members-in-BeginObject-clause-broken t c =
-    let first : c.args.reader.now ≡ token_of c.in_ok-token.token ∷ c.next.new.self = grind arith in
-    let opened =
-    object_opened c.args.depth c.args.reader.now c.next.new.self
-    (first ∙ ap (λ k. token_of k ∷ c.next.new.self) c.in-BeginObject.is) (omega arith) in
-    let returned = c.from_residual-in_err-read_members-in-BeginObject in
+pub read_tree-returns-in_err-read_members-in-Object-clause-broken :
+    goal.read_tree-returns-in_err-read_members-in-Object-clause-broken
+read_tree-returns-in_err-read_members-in-Object-clause-broken t c =
+    let returned = c.from_residual-in_err-read_members-in-Object in
     let p = err_from_is_err_and returned.result returned.ensures.1 in
-    rw (p.1, p.2) (λ broken. opened ∙ ap (parse_map object)
-    (c.in_err-read_members-in-BeginObject.ensures.broken broken no_members (length c.next.new.self)))
-
-pub read_tree-returns-in-None-clause-broken : goal.read_tree-returns-in-None-clause-broken
-read_tree-returns-in-None-clause-broken t c =
-    let r = c.next.new.self in
-    let first : c.args.reader.now ≡ token_of c.in_ok-token.token ∷ r = grind arith in
-    let is : c.args.reader.now ≡ Token.number c.in-Number.text.now ∷ r = grind (arith, first) in
-    λ broken. ap (converted of_json) (ap (value c.args.depth) is ∙ value_is c.args.depth _)
-    ∙ ap (λ n. option_map (λ d. (d, r)) (option_map number n)) (sym c.in-None.ensures)
+    rw (p.1, p.2) (λ broken.
+    object_read c.args.depth c.args.reader.now c.read_start.new.reader _ c.in-Object.is c.in_ok-start.ensures.ok
+    ∙ ap (parse_map object)
+    (c.in_err-read_members-in-Object.ensures.broken broken no_members (length c.read_start.new.reader)))
 
 pub read_items-returns-in_err-item-clause-broken : goal.read_items-returns-in_err-item-clause-broken
 read_items-returns-in_err-item-clause-broken t c =
@@ -213,8 +146,3 @@ read_members-returns-in_err-found-clause-broken t c =
     let p = err_from_is_err_and c.from_residual-in_err-found.result c.from_residual-in_err-found.ensures.1 in
     rw (p.1, p.2) (λ broken. l.invariant.none
     (no_member c.args.depth k l.reader s named (c.in_err-found.ensures.broken broken)))
-
-pub read_tree-returns-in-EndObject-clause-broken : goal.read_tree-returns-in-EndObject-clause-broken
-read_tree-returns-in-EndObject-clause-broken t c =
-    let first : c.args.reader.now ≡ token_of c.in_ok-token.token ∷ c.next.new.self = grind arith in
-    λ broken. none_begins c.args.depth c.in_ok-token.token c.args.reader.now c.next.new.self first c.in-EndObject.is

@@ -1,24 +1,22 @@
 -- Objects that begin with a wrapper's key.
-use Rattle.std.proofs.Common.{◌≡◌, [], ◌∷◌, length, Some, None, option_map, sym, ap, ◌∙◌, refl}
+use Rattle.std.proofs.Common.{◌≡◌, length, Some, None, sym, ap, ◌∙◌, refl}
 use Rattle.std.proofs.Common.{true, false, is_some, arith, subst}
 use Rattle.std.proofs.lemmas.Bool.{or_right}
 use Rattle.std.proofs.lemmas.Result.{err_from_is_err_and}
 use Rattle.std.proofs.lemmas.Slice.Eq.{bytes_eq-Decides}
-use Rattle.json.specs.Token.{Token}
-use Rattle.json.specs.Json.{parse_map, read_key, value}
-use Rattle.json.specs.Reads.{token_of}
-use Rattle.json.proofs.Grammar.{value_is, read_key-shorter}
-use Rattle.serde_json.specs.Data.{null, boolean, number, string, array, object, no_members, member, put}
-use Rattle.serde_json.specs.Read.{of_json, converted}
-use Rattle.serde_json.specs.View.{view, number_view}
+use Rattle.json.specs.Json.{parse_map, read_key}
+use Rattle.json.proofs.Grammar.{read_key-shorter}
+use Rattle.serde_json.specs.Data.{array, object, no_members, member, put}
+use Rattle.serde_json.specs.View.{view}
 use Rattle.bson_model.proofs.Offered.{ascends_put}
 use Rattle.bson_scalar.specs.Table.{wrapper_of}
 use Rattle.bson_tokens.specs.Found.{found, found_members, faults, least}
 use Rattle.bson_tokens.specs.Told.{Tells, AreTold}
 use Rattle.bson_tokens.proofs.Faulty.{faults_put, least_is}
 use Rattle.bson_tokens.proofs.Gathering.{none_yet, one_gathered, all_gathered}
-use Rattle.bson_tokens.proofs.Rounds.{array_opened, object_opened, no_key, no_member, none_begins}
-use Rattle.bson_tokens.proofs.Rounds.{too_deep_array, too_deep_object}
+use Rattle.bson_tokens.proofs.Rounds.{no_key, no_member}
+use Rattle.bson_tokens.proofs.Starts.{primitive_read, array_read, object_read}
+use Rattle.bson_tokens.specs.Start.{primitive_tree}
 use Rattle.bson_tokens.proofs.Verdicts.{told, at_here, none_told}
 use Rattle.bson_tokens.proofs.Wrapped.{first_follows, more_follows, object_is, no_object, no_first, strange_found}
 use Rattle.bson_tokens.proofs.Wrapped.{again, with_scope, with_other, lone_found, code_found, IsWrapped, IsStrange}
@@ -82,123 +80,52 @@ wrapped::walk_pairs-returns-in_err-member-clause-broken t c =
 
 -- ---- what stands as a scope
 
-pub wrapped::walk_scope-returns-in-Null-clause-ok : goal.wrapped::walk_scope-returns-in-Null-clause-ok
-wrapped::walk_scope-returns-in-Null-clause-ok t c =
-    let first : c.args.reader.now ≡ token_of c.in_ok-token.token ∷ c.next.new.self = grind arith in
-    let is : c.args.reader.now ≡ Token.null ∷ c.next.new.self = grind (arith, first) in
-    (null, ap (converted of_json) (ap (value c.args.depth) is ∙ value_is c.args.depth _), refl)
+pub wrapped::walk_scope-returns-in-Primitive-clause-ok : goal.wrapped::walk_scope-returns-in-Primitive-clause-ok
+wrapped::walk_scope-returns-in-Primitive-clause-ok t c =
+    let p = c.in-Primitive.primitive in (
+      primitive_tree p,
+      primitive_read c.args.depth c.args.reader.now c.read_start.new.reader _ p c.in-Primitive.is c.in_ok-start.ensures.ok,
+      c.primitive_scope_fault.ensures c.args.doubles,
+    )
 
-pub wrapped::walk_scope-returns-in-String-clause-ok : goal.wrapped::walk_scope-returns-in-String-clause-ok
-wrapped::walk_scope-returns-in-String-clause-ok t c =
-    let first : c.args.reader.now ≡ token_of c.in_ok-token.token ∷ c.next.new.self = grind arith in
-    let s = c.in-String.field-0.now in
-    let is : c.args.reader.now ≡ Token.string s ∷ c.next.new.self = grind (arith, first) in (
-      string s,
-      ap (converted of_json) (ap (value c.args.depth) is ∙ value_is c.args.depth _),
+pub wrapped::walk_scope-returns-in_ok-pass_items-in-Array-clause-ok :
+    goal.wrapped::walk_scope-returns-in_ok-pass_items-in-Array-clause-ok
+wrapped::walk_scope-returns-in_ok-pass_items-in-Array-clause-ok t c =
+    let ds = c.in_ok-pass_items-in-Array.ensures.ok in (
+      array ds.0,
+      array_read c.args.depth c.args.reader.now c.read_start.new.reader _ c.in-Array.is c.in_ok-start.ensures.ok
+          ∙ ap (parse_map array) ds.1,
       at_here c.place_here.result c.place_here.ensures.reason c.place_here.ensures.path,
     )
 
-pub wrapped::walk_scope-returns-in-Bool-clause-ok : goal.wrapped::walk_scope-returns-in-Bool-clause-ok
-wrapped::walk_scope-returns-in-Bool-clause-ok t c =
-    let first : c.args.reader.now ≡ token_of c.in_ok-token.token ∷ c.next.new.self = grind arith in
-    let b = c.in-Bool.field-0 in
-    let is : c.args.reader.now ≡ Token.boolean b ∷ c.next.new.self = grind (arith, first) in (
-      boolean b,
-      ap (converted of_json) (ap (value c.args.depth) is ∙ value_is c.args.depth _),
-      at_here c.place_here-in-Bool.result c.place_here-in-Bool.ensures.reason c.place_here-in-Bool.ensures.path,
-    )
-
-pub wrapped::walk_scope-returns-in-Some-clause-ok : goal.wrapped::walk_scope-returns-in-Some-clause-ok
-wrapped::walk_scope-returns-in-Some-clause-ok t c =
-    let first : c.args.reader.now ≡ token_of c.in_ok-token.token ∷ c.next.new.self = grind arith in
-    let is : c.args.reader.now ≡ Token.number c.in-Number.text.now ∷ c.next.new.self = grind (arith, first) in (
-      number (number_view c.in-Some.field-0),
-      ap (converted of_json) (ap (value c.args.depth) is ∙ value_is c.args.depth _) ∙ rw (← c.in-Some.ensures) refl,
-      at_here c.place_here-in-Some.result c.place_here-in-Some.ensures.reason c.place_here-in-Some.ensures.path,
-    )
-
-pub wrapped::walk_scope-returns-in-None-clause-broken : goal.wrapped::walk_scope-returns-in-None-clause-broken
-wrapped::walk_scope-returns-in-None-clause-broken t c =
-    let r = c.next.new.self in
-    let first : c.args.reader.now ≡ token_of c.in_ok-token.token ∷ r = grind arith in
-    let is : c.args.reader.now ≡ Token.number c.in-Number.text.now ∷ r = grind (arith, first) in
-    λ broken. ap (converted of_json) (ap (value c.args.depth) is ∙ value_is c.args.depth _)
-    ∙ ap (λ n. option_map (λ d. (d, r)) (option_map number n)) (sym c.in-None.ensures)
-
-pub wrapped::walk_scope-returns-in-EndObject-clause-broken : goal.wrapped::walk_scope-returns-in-EndObject-clause-broken
-wrapped::walk_scope-returns-in-EndObject-clause-broken t c =
-    let first : c.args.reader.now ≡ token_of c.in_ok-token.token ∷ c.next.new.self = grind arith in
-    λ broken. none_begins c.args.depth c.in_ok-token.token c.args.reader.now c.next.new.self first c.in-EndObject.is
-
-pub wrapped::walk_scope-returns-in_err-token-clause-broken : goal.wrapped::walk_scope-returns-in_err-token-clause-broken
-wrapped::walk_scope-returns-in_err-token-clause-broken t c =
-    let none : c.args.reader.now ≡ [] = grind arith in
-    let p = err_from_is_err_and c.from_residual.result c.from_residual.ensures.1 in
-    rw p.1 (λ broken. ap (λ ts. converted of_json (value c.args.depth ts)) none
-    ∙ ap (converted of_json) (value_is c.args.depth []))
-
-pub wrapped::walk_scope-returns-then-depth-eq0-clause-broken :
-    goal.wrapped::walk_scope-returns-then-depth-eq0-clause-broken
-wrapped::walk_scope-returns-then-depth-eq0-clause-broken t c =
-    let first : c.args.reader.now ≡ token_of c.in_ok-token.token ∷ c.next.new.self = grind arith in
-    λ broken. too_deep_array c.args.depth c.args.reader.now c.next.new.self
-    (first ∙ ap (λ k. token_of k ∷ c.next.new.self) c.in-BeginArray.is) (omega arith)
-
-pub wrapped::walk_scope-returns-then-depth-eq0-2-clause-broken :
-    goal.wrapped::walk_scope-returns-then-depth-eq0-2-clause-broken
-wrapped::walk_scope-returns-then-depth-eq0-2-clause-broken t c =
-    let first : c.args.reader.now ≡ token_of c.in_ok-token.token ∷ c.next.new.self = grind arith in
-    λ broken. too_deep_object c.args.depth c.args.reader.now c.next.new.self
-    (first ∙ ap (λ k. token_of k ∷ c.next.new.self) c.in-BeginObject.is) (omega arith)
-
-pub wrapped::walk_scope-returns-in_err-pass_items-in-BeginArray-clause-broken :
-    goal.wrapped::walk_scope-returns-in_err-pass_items-in-BeginArray-clause-broken
-wrapped::walk_scope-returns-in_err-pass_items-in-BeginArray-clause-broken t c =
-    let first : c.args.reader.now ≡ token_of c.in_ok-token.token ∷ c.next.new.self = grind arith in
-    let opened =
-    array_opened c.args.depth c.args.reader.now c.next.new.self
-    (first ∙ ap (λ k. token_of k ∷ c.next.new.self) c.in-BeginArray.is) (omega arith) in
-    let returned = c.from_residual-in_err-pass_items-in-BeginArray in
-    let p = err_from_is_err_and returned.result returned.ensures.1 in
-    rw (p.1, p.2) (λ broken. opened ∙ ap (parse_map array) (c.in_err-pass_items-in-BeginArray.ensures.broken broken))
-
-pub wrapped::walk_scope-returns-in_err-place-in-BeginObject-clause-broken :
-    goal.wrapped::walk_scope-returns-in_err-place-in-BeginObject-clause-broken
-wrapped::walk_scope-returns-in_err-place-in-BeginObject-clause-broken t c =
-    let first : c.args.reader.now ≡ token_of c.in_ok-token.token ∷ c.next.new.self = grind arith in
-    let opened =
-    object_opened c.args.depth c.args.reader.now c.next.new.self
-    (first ∙ ap (λ k. token_of k ∷ c.next.new.self) c.in-BeginObject.is) (omega arith) in
-    let returned = c.from_residual-in_err-place-in-BeginObject in
-    let p = err_from_is_err_and returned.result returned.ensures.1 in
-    rw (p.1, p.2) (λ broken. opened ∙ ap (parse_map object)
-    (c.in_err-place-in-BeginObject.ensures.broken broken no_members (length c.next.new.self)))
-
-pub wrapped::walk_scope-returns-in_ok-pass_items-in-BeginArray-clause-ok :
-    goal.wrapped::walk_scope-returns-in_ok-pass_items-in-BeginArray-clause-ok
-wrapped::walk_scope-returns-in_ok-pass_items-in-BeginArray-clause-ok t c =
-    let first : c.args.reader.now ≡ token_of c.in_ok-token.token ∷ c.next.new.self = grind arith in
-    let opened =
-    array_opened c.args.depth c.args.reader.now c.next.new.self
-    (first ∙ ap (λ k. token_of k ∷ c.next.new.self) c.in-BeginArray.is) (omega arith) in
-    let ds = c.in_ok-pass_items-in-BeginArray.ensures.ok in (
-      array ds.0,
-      opened ∙ ap (parse_map array) ds.1,
-      at_here c.place_here-in-BeginArray.result c.place_here-in-BeginArray.ensures.reason c.place_here-in-BeginArray.ensures.path,
-    )
-
-pub wrapped::walk_scope-returns-in_ok-in_scope-in-BeginObject-clause-ok :
-    goal.wrapped::walk_scope-returns-in_ok-in_scope-in-BeginObject-clause-ok
-wrapped::walk_scope-returns-in_ok-in_scope-in-BeginObject-clause-ok t c =
-    let first : c.args.reader.now ≡ token_of c.in_ok-token.token ∷ c.next.new.self = grind arith in
-    let opened =
-    object_opened c.args.depth c.args.reader.now c.next.new.self
-    (first ∙ ap (λ k. token_of k ∷ c.next.new.self) c.in-BeginObject.is) (omega arith) in
-    let ms = c.in_ok-place-in-BeginObject.ensures.ok in (
+pub wrapped::walk_scope-returns-in_ok-in_scope-in-Object-clause-ok :
+    goal.wrapped::walk_scope-returns-in_ok-in_scope-in-Object-clause-ok
+wrapped::walk_scope-returns-in_ok-in_scope-in-Object-clause-ok t c =
+    let ms = c.in_ok-place-in-Object.ensures.ok in (
       object ms.0,
-      opened ∙ ap (parse_map object) ms.1,
-      c.in_ok-in_scope-in-BeginObject.ensures (found_members c.args.doubles ms.0) ms.2,
+      object_read c.args.depth c.args.reader.now c.read_start.new.reader _ c.in-Object.is c.in_ok-start.ensures.ok
+          ∙ ap (parse_map object) ms.1,
+      c.in_ok-in_scope-in-Object.ensures (found_members c.args.doubles ms.0) ms.2,
     )
+
+pub wrapped::walk_scope-returns-in_err-pass_items-in-Array-clause-broken :
+    goal.wrapped::walk_scope-returns-in_err-pass_items-in-Array-clause-broken
+wrapped::walk_scope-returns-in_err-pass_items-in-Array-clause-broken t c =
+    let returned = c.from_residual-in_err-pass_items-in-Array in
+    let p = err_from_is_err_and returned.result returned.ensures.1 in
+    rw (p.1, p.2) (λ broken.
+    array_read c.args.depth c.args.reader.now c.read_start.new.reader _ c.in-Array.is c.in_ok-start.ensures.ok
+    ∙ ap (parse_map array) (c.in_err-pass_items-in-Array.ensures.broken broken))
+
+pub wrapped::walk_scope-returns-in_err-place-in-Object-clause-broken :
+    goal.wrapped::walk_scope-returns-in_err-place-in-Object-clause-broken
+wrapped::walk_scope-returns-in_err-place-in-Object-clause-broken t c =
+    let returned = c.from_residual-in_err-place-in-Object in
+    let p = err_from_is_err_and returned.result returned.ensures.1 in
+    rw (p.1, p.2) (λ broken.
+    object_read c.args.depth c.args.reader.now c.read_start.new.reader _ c.in-Object.is c.in_ok-start.ensures.ok
+    ∙ ap (parse_map object)
+    (c.in_err-place-in-Object.ensures.broken broken no_members (length c.read_start.new.reader)))
 
 -- ---- the object
 

@@ -9,44 +9,22 @@ use Rattle.bson.proofs.extjson.text_reader.straight.+straight.Answers.Wrappers a
 use Rattle.bson.proofs.extjson.text_reader.straight.+straight.Answers.Scopes as scopes
 use Rattle.bson.proofs.extjson.text_reader.straight.+straight.Goals as goal
 
-pub read_value-returns-in_err-token-clause-broken : goal.read_value-returns-in_err-token-clause-broken
-read_value-returns-in_err-token-clause-broken = values.read_value-returns-in_err-token-clause-broken
+pub read_value-returns-in_ok-value_of_primitive-in-Primitive-clause-ok :
+    goal.read_value-returns-in_ok-value_of_primitive-in-Primitive-clause-ok
+read_value-returns-in_ok-value_of_primitive-in-Primitive-clause-ok =
+    values.read_value-returns-in_ok-value_of_primitive-in-Primitive-clause-ok
 
-pub read_begun-returns-in_ok-from_str-in-String-clause-ok : goal.read_begun-returns-in_ok-from_str-in-String-clause-ok
-read_begun-returns-in_ok-from_str-in-String-clause-ok = values.read_begun-returns-in_ok-from_str-in-String-clause-ok
+pub read_value-returns-in-Array-clause-ok : goal.read_value-returns-in-Array-clause-ok
+read_value-returns-in-Array-clause-ok = values.read_value-returns-in-Array-clause-ok
 
-pub read_begun-returns-in-Bool-clause-ok : goal.read_begun-returns-in-Bool-clause-ok
-read_begun-returns-in-Bool-clause-ok = values.read_begun-returns-in-Bool-clause-ok
+pub read_value-returns-in-Array-clause-broken : goal.read_value-returns-in-Array-clause-broken
+read_value-returns-in-Array-clause-broken = values.read_value-returns-in-Array-clause-broken
 
-pub read_begun-returns-in-Null-clause-ok : goal.read_begun-returns-in-Null-clause-ok
-read_begun-returns-in-Null-clause-ok = values.read_begun-returns-in-Null-clause-ok
+pub read_value-returns-in-Object-clause-ok : goal.read_value-returns-in-Object-clause-ok
+read_value-returns-in-Object-clause-ok = values.read_value-returns-in-Object-clause-ok
 
-pub read_begun-returns-in_ok-value_of_result-in-Some-clause-ok : goal.read_begun-returns-in_ok-value_of_result-in-Some-clause-ok
-read_begun-returns-in_ok-value_of_result-in-Some-clause-ok = values.read_begun-returns-in_ok-value_of_result-in-Some-clause-ok
-
-pub read_begun-returns-in-None-clause-broken : goal.read_begun-returns-in-None-clause-broken
-read_begun-returns-in-None-clause-broken = values.read_begun-returns-in-None-clause-broken
-
-pub read_begun-returns-in-EndObject-clause-broken : goal.read_begun-returns-in-EndObject-clause-broken
-read_begun-returns-in-EndObject-clause-broken = values.read_begun-returns-in-EndObject-clause-broken
-
-pub read_begun-returns-then-depth-eq0-clause-broken : goal.read_begun-returns-then-depth-eq0-clause-broken
-read_begun-returns-then-depth-eq0-clause-broken = values.read_begun-returns-then-depth-eq0-clause-broken
-
-pub read_begun-returns-then-depth-eq0-2-clause-broken : goal.read_begun-returns-then-depth-eq0-2-clause-broken
-read_begun-returns-then-depth-eq0-2-clause-broken = values.read_begun-returns-then-depth-eq0-2-clause-broken
-
-pub read_begun-returns-else-depth-eq0-clause-ok : goal.read_begun-returns-else-depth-eq0-clause-ok
-read_begun-returns-else-depth-eq0-clause-ok = values.read_begun-returns-else-depth-eq0-clause-ok
-
-pub read_begun-returns-else-depth-eq0-clause-broken : goal.read_begun-returns-else-depth-eq0-clause-broken
-read_begun-returns-else-depth-eq0-clause-broken = values.read_begun-returns-else-depth-eq0-clause-broken
-
-pub read_begun-returns-else-depth-eq0-2-clause-ok : goal.read_begun-returns-else-depth-eq0-2-clause-ok
-read_begun-returns-else-depth-eq0-2-clause-ok = values.read_begun-returns-else-depth-eq0-2-clause-ok
-
-pub read_begun-returns-else-depth-eq0-2-clause-broken : goal.read_begun-returns-else-depth-eq0-2-clause-broken
-read_begun-returns-else-depth-eq0-2-clause-broken = values.read_begun-returns-else-depth-eq0-2-clause-broken
+pub read_value-returns-in-Object-clause-broken : goal.read_value-returns-in-Object-clause-broken
+read_value-returns-in-Object-clause-broken = values.read_value-returns-in-Object-clause-broken
 
 pub read_array-items-init : goal.read_array-items-init
 read_array-items-init = values.read_array-items-init
@@ -214,19 +192,20 @@ read_wrapped-returns-then-not-is_alone-clause-shorter = wrappers.read_wrapped-re
 pub read_wrapped-returns-clause-shorter : goal.read_wrapped-returns-clause-shorter
 read_wrapped-returns-clause-shorter = wrappers.read_wrapped-returns-clause-shorter
 
-pub read_scope-returns-in_err-token-clause-broken : goal.read_scope-returns-in_err-token-clause-broken
-read_scope-returns-in_err-token-clause-broken = scopes.read_scope-returns-in_err-token-clause-broken
+pub read_scope-returns-in_err-scope-in-Object-clause-broken :
+    goal.read_scope-returns-in_err-scope-in-Object-clause-broken
+read_scope-returns-in_err-scope-in-Object-clause-broken = scopes.read_scope-returns-in_err-scope-in-Object-clause-broken
 
-pub read_scope-returns-then-depth-eq0-clause-broken : goal.read_scope-returns-then-depth-eq0-clause-broken
-read_scope-returns-then-depth-eq0-clause-broken = scopes.read_scope-returns-then-depth-eq0-clause-broken
+pub read_scope-returns-in_err-pass_items-in-Array-clause-broken :
+    goal.read_scope-returns-in_err-pass_items-in-Array-clause-broken
+read_scope-returns-in_err-pass_items-in-Array-clause-broken =
+    scopes.read_scope-returns-in_err-pass_items-in-Array-clause-broken
 
-pub read_scope-returns-in_err-scope-in-BeginObject-clause-broken :
-    goal.read_scope-returns-in_err-scope-in-BeginObject-clause-broken
-read_scope-returns-in_err-scope-in-BeginObject-clause-broken =
-    scopes.read_scope-returns-in_err-scope-in-BeginObject-clause-broken
+pub read_scope-returns-in-Primitive-clause-ok : goal.read_scope-returns-in-Primitive-clause-ok
+read_scope-returns-in-Primitive-clause-ok = scopes.read_scope-returns-in-Primitive-clause-ok
 
-pub read_scope-returns-in-Null-clause-ok : goal.read_scope-returns-in-Null-clause-ok
-read_scope-returns-in-Null-clause-ok = scopes.read_scope-returns-in-Null-clause-ok
+pub read_scope-returns-in_ok-pass_items-in-Array-clause-ok : goal.read_scope-returns-in_ok-pass_items-in-Array-clause-ok
+read_scope-returns-in_ok-pass_items-in-Array-clause-ok = scopes.read_scope-returns-in_ok-pass_items-in-Array-clause-ok
 
 pub read_scope-returns-in-Some-clause-ok : goal.read_scope-returns-in-Some-clause-ok
 read_scope-returns-in-Some-clause-ok = scopes.read_scope-returns-in-Some-clause-ok
@@ -234,29 +213,34 @@ read_scope-returns-in-Some-clause-ok = scopes.read_scope-returns-in-Some-clause-
 pub read_scope-returns-in-None-clause-ok : goal.read_scope-returns-in-None-clause-ok
 read_scope-returns-in-None-clause-ok = scopes.read_scope-returns-in-None-clause-ok
 
-pub read_scope-returns-in_ok-read_begun-in_default : goal.read_scope-returns-in_ok-read_begun-in_default
-read_scope-returns-in_ok-read_begun-in_default = scopes.read_scope-returns-in_ok-read_begun-in_default
-
 pub scope_first::value_held-returns-clause-ok : goal.scope_first::value_held-returns-clause-ok
 scope_first::value_held-returns-clause-ok = scopes.scope_first::value_held-returns-clause-ok
 
 pub scope_first::scope_held-returns-clause-ok : goal.scope_first::scope_held-returns-clause-ok
 scope_first::scope_held-returns-clause-ok = scopes.scope_first::scope_held-returns-clause-ok
 
-pub scope_first::read_scope_first-returns-in_err-held-clause-broken : goal.scope_first::read_scope_first-returns-in_err-held-clause-broken
-scope_first::read_scope_first-returns-in_err-held-clause-broken = scopes.scope_first::read_scope_first-returns-in_err-held-clause-broken
+pub scope_first::read_scope_first-returns-in_err-held-clause-broken :
+    goal.scope_first::read_scope_first-returns-in_err-held-clause-broken
+scope_first::read_scope_first-returns-in_err-held-clause-broken =
+    scopes.scope_first::read_scope_first-returns-in_err-held-clause-broken
 
 pub scope_first::read_scope_first-members-init : goal.scope_first::read_scope_first-members-init
 scope_first::read_scope_first-members-init = scopes.scope_first::read_scope_first-members-init
 
-pub scope_first::read_scope_first-returns-in_err-name-clause-broken : goal.scope_first::read_scope_first-returns-in_err-name-clause-broken
-scope_first::read_scope_first-returns-in_err-name-clause-broken = scopes.scope_first::read_scope_first-returns-in_err-name-clause-broken
+pub scope_first::read_scope_first-returns-in_err-name-clause-broken :
+    goal.scope_first::read_scope_first-returns-in_err-name-clause-broken
+scope_first::read_scope_first-returns-in_err-name-clause-broken =
+    scopes.scope_first::read_scope_first-returns-in_err-name-clause-broken
 
-pub scope_first::read_scope_first-returns-in_err-scope-clause-broken : goal.scope_first::read_scope_first-returns-in_err-scope-clause-broken
-scope_first::read_scope_first-returns-in_err-scope-clause-broken = scopes.scope_first::read_scope_first-returns-in_err-scope-clause-broken
+pub scope_first::read_scope_first-returns-in_err-scope-clause-broken :
+    goal.scope_first::read_scope_first-returns-in_err-scope-clause-broken
+scope_first::read_scope_first-returns-in_err-scope-clause-broken =
+    scopes.scope_first::read_scope_first-returns-in_err-scope-clause-broken
 
-pub scope_first::read_scope_first-returns-in_err-code-clause-broken : goal.scope_first::read_scope_first-returns-in_err-code-clause-broken
-scope_first::read_scope_first-returns-in_err-code-clause-broken = scopes.scope_first::read_scope_first-returns-in_err-code-clause-broken
+pub scope_first::read_scope_first-returns-in_err-code-clause-broken :
+    goal.scope_first::read_scope_first-returns-in_err-code-clause-broken
+scope_first::read_scope_first-returns-in_err-code-clause-broken =
+    scopes.scope_first::read_scope_first-returns-in_err-code-clause-broken
 
 pub scope_first::read_scope_first-returns-then-is_code_with_scope-clause-ok :
     goal.scope_first::read_scope_first-returns-then-is_code_with_scope-clause-ok
@@ -273,14 +257,20 @@ pub scope_first::read_scope_first-returns-then-is_code_with_scope-clause-shorter
 scope_first::read_scope_first-returns-then-is_code_with_scope-clause-shorter =
     scopes.scope_first::read_scope_first-returns-then-is_code_with_scope-clause-shorter
 
-pub scope_first::read_scope_first-returns-in_err-value-clause-broken : goal.scope_first::read_scope_first-returns-in_err-value-clause-broken
-scope_first::read_scope_first-returns-in_err-value-clause-broken = scopes.scope_first::read_scope_first-returns-in_err-value-clause-broken
+pub scope_first::read_scope_first-returns-in_err-value-clause-broken :
+    goal.scope_first::read_scope_first-returns-in_err-value-clause-broken
+scope_first::read_scope_first-returns-in_err-value-clause-broken =
+    scopes.scope_first::read_scope_first-returns-in_err-value-clause-broken
 
-pub scope_first::read_scope_first-returns-in_err-found-clause-broken : goal.scope_first::read_scope_first-returns-in_err-found-clause-broken
-scope_first::read_scope_first-returns-in_err-found-clause-broken = scopes.scope_first::read_scope_first-returns-in_err-found-clause-broken
+pub scope_first::read_scope_first-returns-in_err-found-clause-broken :
+    goal.scope_first::read_scope_first-returns-in_err-found-clause-broken
+scope_first::read_scope_first-returns-in_err-found-clause-broken =
+    scopes.scope_first::read_scope_first-returns-in_err-found-clause-broken
 
-pub scope_first::read_scope_first-returns-then-not-is_scope-clause-ok : goal.scope_first::read_scope_first-returns-then-not-is_scope-clause-ok
-scope_first::read_scope_first-returns-then-not-is_scope-clause-ok = scopes.scope_first::read_scope_first-returns-then-not-is_scope-clause-ok
+pub scope_first::read_scope_first-returns-then-not-is_scope-clause-ok :
+    goal.scope_first::read_scope_first-returns-then-not-is_scope-clause-ok
+scope_first::read_scope_first-returns-then-not-is_scope-clause-ok =
+    scopes.scope_first::read_scope_first-returns-then-not-is_scope-clause-ok
 
 pub scope_first::read_scope_first-returns-then-not-is_scope-clause-broken :
     goal.scope_first::read_scope_first-returns-then-not-is_scope-clause-broken
@@ -292,14 +282,18 @@ pub scope_first::read_scope_first-returns-then-not-is_scope-clause-shorter :
 scope_first::read_scope_first-returns-then-not-is_scope-clause-shorter =
     scopes.scope_first::read_scope_first-returns-then-not-is_scope-clause-shorter
 
-pub scope_first::read_scope_first-returns-in_err-held-2-clause-broken : goal.scope_first::read_scope_first-returns-in_err-held-2-clause-broken
-scope_first::read_scope_first-returns-in_err-held-2-clause-broken = scopes.scope_first::read_scope_first-returns-in_err-held-2-clause-broken
+pub scope_first::read_scope_first-returns-in_err-held-2-clause-broken :
+    goal.scope_first::read_scope_first-returns-in_err-held-2-clause-broken
+scope_first::read_scope_first-returns-in_err-held-2-clause-broken =
+    scopes.scope_first::read_scope_first-returns-in_err-held-2-clause-broken
 
 pub scope_first::read_scope_first-members-preserved : goal.scope_first::read_scope_first-members-preserved
 scope_first::read_scope_first-members-preserved = scopes.scope_first::read_scope_first-members-preserved
 
-pub scope_first::read_scope_first-returns-in_err-value-2-clause-broken : goal.scope_first::read_scope_first-returns-in_err-value-2-clause-broken
-scope_first::read_scope_first-returns-in_err-value-2-clause-broken = scopes.scope_first::read_scope_first-returns-in_err-value-2-clause-broken
+pub scope_first::read_scope_first-returns-in_err-value-2-clause-broken :
+    goal.scope_first::read_scope_first-returns-in_err-value-2-clause-broken
+scope_first::read_scope_first-returns-in_err-value-2-clause-broken =
+    scopes.scope_first::read_scope_first-returns-in_err-value-2-clause-broken
 
 pub scope_first::read_scope_first-returns-clause-ok : goal.scope_first::read_scope_first-returns-clause-ok
 scope_first::read_scope_first-returns-clause-ok = scopes.scope_first::read_scope_first-returns-clause-ok

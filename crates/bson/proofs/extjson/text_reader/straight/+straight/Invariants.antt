@@ -13,10 +13,7 @@ use Rattle.bson.proofs.Wrapped.{IsAlone}
 use Rattle.bson.proofs.extjson.text_reader.straight.+straight.Given as goal
 
 abbrev pub decreases-read_value : goal.decreases-read_value
-decreases-read_value l = 8 * l.depth + 1
-
-abbrev pub decreases-read_begun : goal.decreases-read_begun
-decreases-read_begun l = 8 * l.depth
+decreases-read_value l = 8 * l.depth
 
 abbrev pub decreases-read_array : goal.decreases-read_array
 decreases-read_array l = 8 * l.depth + 2

@@ -4,32 +4,31 @@ use Rattle.std.proofs.Common.{length, option_map, sym, ap, ◌∙◌, subst, ari
 use Rattle.std.proofs.lemmas.Result.{err_from_is_err_and}
 use Rattle.std.proofs.lemmas.Slice.Eq.{bytes_eq-Decides}
 use Rattle.std.specs.Prelude.{is_some}
-use Rattle.json.specs.Token.{Token}
 use Rattle.json.specs.Json.{parse_map, read_key, value}
 use Rattle.json.specs.Lex.{tokens}
-use Rattle.json.specs.Reads.{token_of}
-use Rattle.json.proofs.Grammar.{value_is, read_key-shorter}
-use Rattle.serde_json.specs.Data.{null, object, no_members, member}
+use Rattle.json.proofs.Grammar.{read_key-shorter}
+use Rattle.serde_json.specs.Data.{array, object, no_members, member}
 use Rattle.serde_json.specs.Read.{of_json, converted}
 use Rattle.serde_json.specs.View.{view}
 use Rattle.bson_scalar.proofs.Offered.{on_ok}
 use Rattle.bson_order.specs.Kept.{kept, unordered}
 use Rattle.bson_order.specs.Reading.{reads_in_order, scope_in_order}
-use Rattle.bson.specs.ByOrder.{tree_by, insert_by}
+use Rattle.bson.specs.ByOrder.{insert_by}
 use Rattle.bson.specs.View.{bson_view, document_view}
 use Rattle.bson.specs.Gathered.{gathered}
-use Rattle.bson.specs.Straight.{IsCode, ReadsHeld, unless_nothing}
+use Rattle.bson.specs.Straight.{IsCode, ReadsHeld, given, unless_nothing}
 use Rattle.bson_tokens.specs.Keys.{is_code, is_scope}
 use Rattle.bson_tokens.specs.Parts.{IsBroken}
 use Rattle.bson.specs.declared.extjson.key_order.KeyOrder.TheVariants.{AsGiven}
-use Rattle.bson_tokens.proofs.Offered.{object_opened, if_ok, if_err, no_key, no_member, too_deep_object}
-use Rattle.bson.proofs.ByOrder.{by_default, null_read, object_opened_by, FollowsBy}
+use Rattle.bson_tokens.proofs.Offered.{array_read, object_read, if_ok, if_err, no_key, no_member}
+use Rattle.bson_tokens.specs.Start.{primitive_tree}
+use Rattle.bson.proofs.ByOrder.{by_default, by_order, primitive_by, object_by, FollowsBy}
 use Rattle.bson.proofs.ByOrder.{first_passed, one_passed, first_follows, more_follows}
 use Rattle.bson.proofs.ByOrder.{all_follow, held_tree, held_read, held_whole}
 use Rattle.bson.proofs.Gathering.{with_rest}
 use Rattle.bson.proofs.Wrapped.{held_by, no_first, tied}
 use Rattle.bson.proofs.Wrapped.{scope_then_code}
-use Rattle.bson.proofs.Held.{code_keys, other_scope, null_scope, object_scope, second_false, not_twice, stray_from}
+use Rattle.bson.proofs.Held.{code_keys, list_scope, primitive_scope, object_scope, second_false, not_twice, stray_from}
 use Rattle.bson.proofs.Held.{scope_found, lone_document}
 use Rattle.bson.proofs.extjson.text_reader.straight.+straight.Goals.{read_wrapped-else-is_alone-via-then-is_alone+else-is_code_with_scope}
 use Rattle.bson.proofs.extjson.text_reader.straight.+straight.Goals.{read_wrapped-else-is_alone-via-else-is_alone}
@@ -37,82 +36,62 @@ use Rattle.bson.proofs.extjson.text_reader.straight.+straight.Goals as goal
 
 -- ---- scopes
 
-pub read_scope-returns-in_err-token-clause-broken : goal.read_scope-returns-in_err-token-clause-broken
-read_scope-returns-in_err-token-clause-broken t c =
-    let none : c.args.reader.now ≡ [] = grind arith in
-    let p = err_from_is_err_and c.from_residual.result c.from_residual.ensures.1 in
-    rw p.1 (λ broken. ap (λ ts. converted of_json (value c.args.depth ts)) none
-    ∙ ap (converted of_json) (value_is c.args.depth []))
-
-pub read_scope-returns-then-depth-eq0-clause-broken : goal.read_scope-returns-then-depth-eq0-clause-broken
-read_scope-returns-then-depth-eq0-clause-broken t c =
-    let first : c.args.reader.now ≡ token_of c.in_ok-token.token ∷ c.next.new.self = grind arith in
-    λ broken. too_deep_object c.args.depth c.args.reader.now c.next.new.self
-    (first ∙ ap (λ k. token_of k ∷ c.next.new.self) c.in-BeginObject.is) (omega arith)
-
-pub read_scope-returns-in_err-scope-in-BeginObject-clause-broken :
-    goal.read_scope-returns-in_err-scope-in-BeginObject-clause-broken
-read_scope-returns-in_err-scope-in-BeginObject-clause-broken t c =
-    let first : c.args.reader.now ≡ token_of c.in_ok-token.token ∷ c.next.new.self = grind arith in
-    let opened = object_opened c.args.depth c.args.reader.now c.next.new.self
-    (first ∙ ap (λ k. token_of k ∷ c.next.new.self) c.in-BeginObject.is) (omega arith) in
-    let returned = c.from_residual-in_err-scope-in-BeginObject in
+pub read_scope-returns-in_err-scope-in-Object-clause-broken :
+    goal.read_scope-returns-in_err-scope-in-Object-clause-broken
+read_scope-returns-in_err-scope-in-Object-clause-broken t c =
+    let returned = c.from_residual-in_err-scope-in-Object in
     let p = err_from_is_err_and returned.result returned.ensures.1 in
-    rw (p.1, p.2) (λ broken. opened ∙ ap (parse_map object)
-    (c.in_err-scope-in-BeginObject.ensures.broken broken no_members (length c.next.new.self)))
+    rw (p.1, p.2) (λ broken.
+    object_read c.args.depth c.args.reader.now c.read_start.new.reader _ c.in-Object.is c.in_ok-start.ensures.ok
+    ∙ ap (parse_map object)
+    (c.in_err-scope-in-Object.ensures.broken broken no_members (length c.read_start.new.reader)))
 
-pub read_scope-returns-in-Null-clause-ok : goal.read_scope-returns-in-Null-clause-ok
-read_scope-returns-in-Null-clause-ok t c =
-    let first : c.args.reader.now ≡ token_of c.in_ok-token.token ∷ c.next.new.self = grind arith in
-    let is : c.args.reader.now ≡ Token.null ∷ c.next.new.self = grind (arith, first) in (
-      null,
-      ap (converted (tree_by c.args.order)) (ap (value c.args.depth) is ∙ value_is c.args.depth _)
-          ∙ null_read c.args.order c.next.new.self,
-      null_scope c.args.order c.args.doubles,
+pub read_scope-returns-in_err-pass_items-in-Array-clause-broken :
+    goal.read_scope-returns-in_err-pass_items-in-Array-clause-broken
+read_scope-returns-in_err-pass_items-in-Array-clause-broken t c =
+    let returned = c.from_residual-in_err-pass_items-in-Array in
+    let p = err_from_is_err_and returned.result returned.ensures.1 in
+    rw (p.1, p.2) (λ broken.
+    array_read c.args.depth c.args.reader.now c.read_start.new.reader _ c.in-Array.is c.in_ok-start.ensures.ok
+    ∙ ap (parse_map array) (c.in_err-pass_items-in-Array.ensures.broken broken))
+
+pub read_scope-returns-in-Primitive-clause-ok : goal.read_scope-returns-in-Primitive-clause-ok
+read_scope-returns-in-Primitive-clause-ok t c =
+    let p = c.in-Primitive.primitive in (
+      primitive_tree p,
+      primitive_by c.args.order c.args.depth c.args.reader.now c.read_start.new.reader _ p c.in-Primitive.is
+          c.in_ok-start.ensures.ok,
+      ap given (primitive_scope c.args.order c.args.doubles p) ∙ c.scope_of_primitive.ensures c.args.doubles,
     )
+
+pub read_scope-returns-in_ok-pass_items-in-Array-clause-ok : goal.read_scope-returns-in_ok-pass_items-in-Array-clause-ok
+read_scope-returns-in_ok-pass_items-in-Array-clause-ok t c =
+    let ds = c.in_ok-pass_items-in-Array.ensures.ok in
+    let read =
+    array_read c.args.depth c.args.reader.now c.read_start.new.reader _ c.in-Array.is c.in_ok-start.ensures.ok
+    ∙ ap (parse_map array) ds.1 in
+    let e = by_order c.args.order (value c.args.depth c.args.reader.now) (array ds.0) c.pass_items.new.reader read in
+    (e.0, e.1, list_scope c.args.order c.args.doubles e.0 ds.0 e.2)
 
 pub read_scope-returns-in-Some-clause-ok : goal.read_scope-returns-in-Some-clause-ok
 read_scope-returns-in-Some-clause-ok t c =
-    let first : c.args.reader.now ≡ token_of c.in_ok-token.token ∷ c.next.new.self = grind arith in
-    let opened = object_opened_by c.args.order c.args.depth c.args.reader.now c.next.new.self
-    (first ∙ ap (λ k. token_of k ∷ c.next.new.self) c.in-BeginObject.is) (omega arith) in
-    let read = c.in_ok-scope-in-BeginObject.ensures.ok in (
+    let read = c.in_ok-scope-in-Object.ensures.ok in (
       object read.0,
-      opened ∙ ap (parse_map object) read.1,
+      object_by c.args.order c.args.depth c.args.reader.now c.read_start.new.reader _ c.in-Object.is
+          c.in_ok-start.ensures.ok ∙ ap (parse_map object) read.1,
       object_scope c.args.order c.args.doubles read.0
           ∙ ap (option_map Some) (read.2 ∙ ap (option_map document_view) c.in-Some.is),
     )
 
 pub read_scope-returns-in-None-clause-ok : goal.read_scope-returns-in-None-clause-ok
 read_scope-returns-in-None-clause-ok t c =
-    let first : c.args.reader.now ≡ token_of c.in_ok-token.token ∷ c.next.new.self = grind arith in
-    let opened = object_opened_by c.args.order c.args.depth c.args.reader.now c.next.new.self
-    (first ∙ ap (λ k. token_of k ∷ c.next.new.self) c.in-BeginObject.is) (omega arith) in
-    let read = c.in_ok-scope-in-BeginObject.ensures.ok in (
+    let read = c.in_ok-scope-in-Object.ensures.ok in (
       object read.0,
-      opened ∙ ap (parse_map object) read.1,
+      object_by c.args.order c.args.depth c.args.reader.now c.read_start.new.reader _ c.in-Object.is
+          c.in_ok-start.ensures.ok ∙ ap (parse_map object) read.1,
       object_scope c.args.order c.args.doubles read.0
           ∙ ap (option_map Some) (read.2 ∙ ap (option_map document_view) c.in-None.is),
     )
-
-pub read_scope-returns-in_ok-read_begun-in_default : goal.read_scope-returns-in_ok-read_begun-in_default
-read_scope-returns-in_ok-read_begun-in_default t c =
-    let first : c.args.reader.now ≡ token_of c.in_ok-token.token ∷ c.next.new.self = grind arith in
-    let read = c.in_ok-read_begun-in_default.ensures in
-    let tree = ap (λ ts. converted (tree_by c.args.order) (value c.args.depth ts)) first ∙ read.ok.1 in
-    let shorter : length c.read_begun.new.reader < length c.args.reader.now =
-    omega (arith, ap length first, read.shorter) in
-    record {
-      ok = (
-        read.ok.0,
-        tree,
-        other_scope c.args.order c.args.doubles c.args.depth c.in_ok-token.token c.args.reader.now c.next.new.self
-            c.read_begun.new.reader
-            read.ok.0 first c.in_default.not-BeginObject c.in_default.not-Null tree,
-      );
-      broken = tt;
-      shorter = shorter;
-    }
 
 -- ---- `$scope` first
 

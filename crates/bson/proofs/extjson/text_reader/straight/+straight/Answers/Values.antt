@@ -19,122 +19,52 @@ use Rattle.bson.specs.View.{bson_view, values_view}
 use Rattle.bson.specs.declared.bson.Bson.{the_lemmas}
 use Rattle.bson.specs.declared.bson.Bson.TheVariants as bson
 use Rattle.bson_tokens.proofs.Offered.{none_listed, one_listed}
-use Rattle.bson.proofs.ByOrder.{by_default, null_read, boolean_read, string_read, number_read, array_opened_by}
-use Rattle.bson.proofs.ByOrder.{object_opened_by, one_listed_by, all_listed_by}
-use Rattle.bson.proofs.Held.{null_given, boolean_given, text_given, number_given}
+use Rattle.bson.proofs.ByOrder.{by_default, primitive_by, array_by, object_by, one_listed_by, all_listed_by}
+use Rattle.bson.proofs.Held.{primitive_reads}
+use Rattle.bson.specs.Straight.{given}
 use Rattle.bson.proofs.Seen.{bson_view-Array}
 use Rattle.bson.proofs.Listed.{Listed, one_more, none_more, list_given, list_not_given}
-use Rattle.bson_tokens.proofs.Offered.{array_opened, object_opened, if_ok, if_err, no_item, none_begins}
-use Rattle.bson_tokens.proofs.Offered.{too_deep_array, too_deep_object}
+use Rattle.bson_tokens.proofs.Offered.{array_read, object_read, if_ok, if_err, no_item}
+use Rattle.bson_tokens.specs.Start.{primitive_tree}
 use Rattle.bson.proofs.extjson.text_reader.straight.+straight.Goals as goal
 
 -- ---- values
 
-pub read_value-returns-in_err-token-clause-broken : goal.read_value-returns-in_err-token-clause-broken
-read_value-returns-in_err-token-clause-broken t c =
-    let none : c.args.reader.now ≡ [] = grind arith in
-    let p = err_from_is_err_and c.from_residual.result c.from_residual.ensures.1 in
-    rw p.1 (λ broken. ap (λ ts. converted of_json (value c.args.depth ts)) none
-    ∙ ap (converted of_json) (value_is c.args.depth []))
-
-pub read_begun-returns-in_ok-from_str-in-String-clause-ok : goal.read_begun-returns-in_ok-from_str-in-String-clause-ok
-read_begun-returns-in_ok-from_str-in-String-clause-ok t c =
-    let is : token_of c.args.token ∷ c.args.reader.now ≡ Token.string c.in-String.text.now ∷ c.args.reader.now =
-    ap (λ k. token_of k ∷ c.args.reader.now) c.in-String.is in
-    let seen : bson_view (bson.String c.in_ok-from_str-in-String.field-0)
-    ≡ model.scalar (scalars.text c.in-String.text.now) = search (rules, the_lemmas) in (
-      string c.in-String.text.now,
-      ap (converted (tree_by c.args.order)) (ap (value c.args.depth) is ∙ value_is c.args.depth _)
-          ∙ string_read c.args.order c.in-String.text.now c.args.reader.now,
-      text_given c.args.order c.args.doubles c.in-String.text.now ∙ ap Some (sym seen),
+pub read_value-returns-in_ok-value_of_primitive-in-Primitive-clause-ok :
+    goal.read_value-returns-in_ok-value_of_primitive-in-Primitive-clause-ok
+read_value-returns-in_ok-value_of_primitive-in-Primitive-clause-ok t c =
+    let p = c.in-Primitive.primitive in (
+      primitive_tree p,
+      primitive_by c.args.order c.args.depth c.args.reader.now c.read_start.new.reader _ p c.in-Primitive.is
+          c.in_ok-start.ensures.ok,
+      ap given (primitive_reads c.args.order c.args.doubles p) ∙ c.in_ok-value_of_primitive-in-Primitive.ensures,
     )
 
-pub read_begun-returns-in-Bool-clause-ok : goal.read_begun-returns-in-Bool-clause-ok
-read_begun-returns-in-Bool-clause-ok t c =
-    let is : token_of c.args.token ∷ c.args.reader.now ≡ Token.boolean c.in-Bool.b ∷ c.args.reader.now =
-    ap (λ k. token_of k ∷ c.args.reader.now) c.in-Bool.is in
-    let seen : bson_view (bson.Boolean c.in-Bool.b) ≡ model.scalar (scalars.boolean c.in-Bool.b) =
-    search (rules, the_lemmas) in (
-      boolean c.in-Bool.b,
-      ap (converted (tree_by c.args.order)) (ap (value c.args.depth) is ∙ value_is c.args.depth _)
-          ∙ boolean_read c.args.order c.in-Bool.b c.args.reader.now,
-      boolean_given c.args.order c.args.doubles c.in-Bool.b ∙ ap Some (sym seen),
-    )
-
-pub read_begun-returns-in-Null-clause-ok : goal.read_begun-returns-in-Null-clause-ok
-read_begun-returns-in-Null-clause-ok t c =
-    let is : token_of c.args.token ∷ c.args.reader.now ≡ Token.null ∷ c.args.reader.now =
-    ap (λ k. token_of k ∷ c.args.reader.now) c.in-Null.is in
-    let seen : bson_view bson.Null ≡ model.scalar scalars.null = search (rules, the_lemmas) in (
-      null,
-      ap (converted (tree_by c.args.order)) (ap (value c.args.depth) is ∙ value_is c.args.depth _)
-          ∙ null_read c.args.order c.args.reader.now,
-      null_given c.args.order c.args.doubles ∙ ap Some (sym seen),
-    )
-
-pub read_begun-returns-in_ok-value_of_result-in-Some-clause-ok : goal.read_begun-returns-in_ok-value_of_result-in-Some-clause-ok
-read_begun-returns-in_ok-value_of_result-in-Some-clause-ok t c =
-    let n = number_view c.in-Some.n in
-    let is : token_of c.args.token ∷ c.args.reader.now ≡ Token.number c.in-Number.text.now ∷ c.args.reader.now =
-    ap (λ k. token_of k ∷ c.args.reader.now) c.in-Number.is in (
-      number n,
-      ap (converted (tree_by c.args.order)) (ap (value c.args.depth) is ∙ value_is c.args.depth _)
-          ∙ number_read c.args.order c.in-Number.text.now c.args.reader.now ∙ rw (← c.in-Some.ensures) refl,
-      number_given c.args.order c.args.doubles n
-          ∙ c.in_ok-value_of_result-in-Some.ensures (scalar_value (number_read_in c.args.doubles n))
-          c.number_value.ensures.given,
-    )
-
-pub read_begun-returns-in-None-clause-broken : goal.read_begun-returns-in-None-clause-broken
-read_begun-returns-in-None-clause-broken t c =
-    let r = c.args.reader.now in
-    let is : token_of c.args.token ∷ r ≡ Token.number c.in-Number.text.now ∷ r =
-    ap (λ k. token_of k ∷ r) c.in-Number.is in
-    λ broken. ap (converted of_json) (ap (value c.args.depth) is ∙ value_is c.args.depth _)
-    ∙ ap (λ n. option_map (λ d. (d, r)) (option_map number n)) (sym c.in-None.ensures)
-
-pub read_begun-returns-in-EndObject-clause-broken : goal.read_begun-returns-in-EndObject-clause-broken
-read_begun-returns-in-EndObject-clause-broken t c = λ broken.
-    none_begins c.args.depth c.args.token (token_of c.args.token ∷ c.args.reader.now) c.args.reader.now refl
-    c.in-EndObject.is
-
-pub read_begun-returns-then-depth-eq0-clause-broken : goal.read_begun-returns-then-depth-eq0-clause-broken
-read_begun-returns-then-depth-eq0-clause-broken t c = λ broken.
-    too_deep_array c.args.depth (token_of c.args.token ∷ c.args.reader.now) c.args.reader.now
-    (ap (λ k. token_of k ∷ c.args.reader.now) c.in-BeginArray.is) (omega arith)
-
-pub read_begun-returns-then-depth-eq0-2-clause-broken : goal.read_begun-returns-then-depth-eq0-2-clause-broken
-read_begun-returns-then-depth-eq0-2-clause-broken t c = λ broken.
-    too_deep_object c.args.depth (token_of c.args.token ∷ c.args.reader.now) c.args.reader.now
-    (ap (λ k. token_of k ∷ c.args.reader.now) c.in-BeginObject.is) (omega arith)
-
-pub read_begun-returns-else-depth-eq0-clause-ok : goal.read_begun-returns-else-depth-eq0-clause-ok
-read_begun-returns-else-depth-eq0-clause-ok t c =
-    let opened = array_opened_by c.args.order c.args.depth (token_of c.args.token ∷ c.args.reader.now) c.args.reader.now
-    (ap (λ k. token_of k ∷ c.args.reader.now) c.in-BeginArray.is) (omega arith) in
+pub read_value-returns-in-Array-clause-ok : goal.read_value-returns-in-Array-clause-ok
+read_value-returns-in-Array-clause-ok t c =
+    let opened = array_by c.args.order c.args.depth c.args.reader.now c.read_start.new.reader _ c.in-Array.is
+    c.in_ok-start.ensures.ok in
     if_ok c.read_array.result c.read_array.ensures.ok
     (λ v read. (array read.0, opened ∙ ap (parse_map array) read.1, read.2))
 
-pub read_begun-returns-else-depth-eq0-clause-broken : goal.read_begun-returns-else-depth-eq0-clause-broken
-read_begun-returns-else-depth-eq0-clause-broken t c =
-    let opened = array_opened c.args.depth (token_of c.args.token ∷ c.args.reader.now) c.args.reader.now
-    (ap (λ k. token_of k ∷ c.args.reader.now) c.in-BeginArray.is) (omega arith) in
+pub read_value-returns-in-Array-clause-broken : goal.read_value-returns-in-Array-clause-broken
+read_value-returns-in-Array-clause-broken t c =
+    let opened = array_read c.args.depth c.args.reader.now c.read_start.new.reader _ c.in-Array.is c.in_ok-start.ensures.ok in
     if_err c.read_array.result c.read_array.ensures.broken
     (λ e none broken. opened ∙ ap (parse_map array) (none broken))
 
-pub read_begun-returns-else-depth-eq0-2-clause-ok : goal.read_begun-returns-else-depth-eq0-2-clause-ok
-read_begun-returns-else-depth-eq0-2-clause-ok t c =
-    let opened = object_opened_by c.args.order c.args.depth (token_of c.args.token ∷ c.args.reader.now) c.args.reader.now
-    (ap (λ k. token_of k ∷ c.args.reader.now) c.in-BeginObject.is) (omega arith) in
+pub read_value-returns-in-Object-clause-ok : goal.read_value-returns-in-Object-clause-ok
+read_value-returns-in-Object-clause-ok t c =
+    let opened = object_by c.args.order c.args.depth c.args.reader.now c.read_start.new.reader _ c.in-Object.is
+    c.in_ok-start.ensures.ok in
     if_ok c.read_object.result c.read_object.ensures.ok
     (λ v read. (object read.0, opened ∙ ap (parse_map object) read.1, read.2))
 
-pub read_begun-returns-else-depth-eq0-2-clause-broken : goal.read_begun-returns-else-depth-eq0-2-clause-broken
-read_begun-returns-else-depth-eq0-2-clause-broken t c =
-    let opened = object_opened c.args.depth (token_of c.args.token ∷ c.args.reader.now) c.args.reader.now
-    (ap (λ k. token_of k ∷ c.args.reader.now) c.in-BeginObject.is) (omega arith) in
+pub read_value-returns-in-Object-clause-broken : goal.read_value-returns-in-Object-clause-broken
+read_value-returns-in-Object-clause-broken t c =
+    let opened = object_read c.args.depth c.args.reader.now c.read_start.new.reader _ c.in-Object.is c.in_ok-start.ensures.ok in
     if_err c.read_object.result c.read_object.ensures.broken
-    (λ e none broken. opened ∙ ap (parse_map object) (none broken no_members (length c.args.reader.now)))
+    (λ e none broken. opened ∙ ap (parse_map object) (none broken no_members (length c.read_start.new.reader)))
 
 -- ---- arrays
 

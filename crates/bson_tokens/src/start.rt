@@ -1,0 +1,78 @@
+//! How a value starts.
+ghost use Rattle.std.specs.Prelude.{◌≡◌, ◌<◌, length, IfOk, IfErr, OnOk};
+ghost use Rattle.json.specs.Json.{value};
+ghost use Rattle.serde_json.specs.Read.{of_json, converted};
+ghost use Rattle.serde_json.specs.View.{view};
+ghost use Rattle.bson_tokens.specs.Parts.{IsBroken};
+ghost use Rattle.bson_tokens.specs.Start.{Starts, primitive_tree};
+
+use crate::number::number;
+use crate::unread::Unread;
+use json::{Reader, Token};
+use serde_json::{Number, Value};
+use std::alloc::{AllocError, Global};
+
+/// A value of one token.
+#[derive(Drop)]
+pub enum Primitive<'a> {
+    Null,
+    Bool(bool),
+    Number(Number),
+    String(&'a str),
+}
+
+/// How a value starts.
+#[derive(Drop)]
+pub enum Start<'a> {
+    /// The value as a whole.
+    Primitive(Primitive<'a>),
+    /// The bracket of an array.
+    Array,
+    /// The brace of an object.
+    Object,
+}
+
+/// How the value starts that stands next, nested at most `depth` deep: its first token is taken.
+/// `Broken` is answered where no such value starts there.
+#[inline(always)]
+pub fn read_start<'a>(reader: &mut Reader<'a>, depth: usize) -> Result<Start<'a>, Unread>
+    ensures ok { IfOk result (λ start. Starts depth reader.old start reader.new) }
+    ensures broken { IfErr result (IsBroken (converted of_json (value depth reader.old))) }
+    ensures shorter { OnOk result (length reader.new < length reader.old) }
+{
+    let token = reader.next().ok_or(Unread::Broken)?;
+    match token {
+        Token::String(text) => Ok(Start::Primitive(Primitive::String(text))),
+        Token::Number(text) => match number(text) {
+            Some(n) => Ok(Start::Primitive(Primitive::Number(n))),
+            None => Err(Unread::Broken),
+        },
+        Token::Bool(b) => Ok(Start::Primitive(Primitive::Bool(b))),
+        Token::Null => Ok(Start::Primitive(Primitive::Null)),
+        Token::EndObject | Token::EndArray | Token::Key(_) | Token::Bad => Err(Unread::Broken),
+        Token::BeginArray => {
+            if depth == 0 {
+                return Err(Unread::Broken);
+            }
+            Ok(Start::Array)
+        }
+        Token::BeginObject => {
+            if depth == 0 {
+                return Err(Unread::Broken);
+            }
+            Ok(Start::Object)
+        }
+    }
+}
+
+// The tree of a value of one token.
+pub(crate) fn primitive_value(alloc: Global, primitive: Primitive<'_>) -> Result<Value, AllocError>
+    ensures { IfOk result (λ v. view v ≡ primitive_tree primitive.entry) }
+{
+    match primitive {
+        Primitive::String(text) => Ok(Value::String(String::from_str(alloc, text)?)),
+        Primitive::Number(n) => Ok(Value::Number(n)),
+        Primitive::Bool(b) => Ok(Value::Bool(b)),
+        Primitive::Null => Ok(Value::Null),
+    }
+}
