@@ -1,5 +1,5 @@
 -- Members that are put in turn, their values as they are.
-use Rattle.std.proofs.Common.{◌≡◌, ◌≢◌, ◌++◌, ℕ, zero, suc, List, [], ◌∷◌, map, Bool, true, false, Option, Some, None}
+use Rattle.std.proofs.Common.{◌≡◌, ◌≢◌, ℕ, zero, suc, List, [], ◌∷◌, map, Bool, true, false, Option, Some, None}
 use Rattle.std.proofs.Common.{Less, subst, refl, sym, ap, ◌∙◌, arith}
 use Rattle.std.proofs.lemmas.Cmp.{nat_list_cmp_total}
 use Rattle.std.proofs.lemmas.List.Elements.{All-head, All-tail}
@@ -8,7 +8,7 @@ use Rattle.std.specs.List.{All}
 use Rattle.std.specs.Str.{bytes_eq}
 use Rattle.json.specs.Json.{Json, Members, no_members, member}
 use Rattle.json.specs.Strict.{keys, AreDistinct}
-use Rattle.bson_distinct.specs.Arranged.{put_by, arranged, arranged_members}
+use Rattle.bson_distinct.specs.Arranged.{put_by}
 use Rattle.bson_distinct.specs.PutPieces.{KeysAscend, members_of, put_each}
 use Rattle.bson_distinct.specs.declared.arrangement.Arrangement.{Arrangement}
 use Rattle.bson_distinct.specs.declared.arrangement.Arrangement.TheVariants.{FirstPlaces, Ascending}
@@ -19,31 +19,6 @@ use Rattle.bson_distinct.proofs.Once.{other_key, put_none}
 abbrev pub put_members : Arrangement → Members → Members → Members
 put_members a no_members found = found
 put_members a (member k j ms) found = put_members a ms (put_by a k j found)
-
--- the same members, the value of each arranged
-abbrev pub each_arranged : Arrangement → Members → Members
-each_arranged a no_members = no_members
-each_arranged a (member k j ms) = member k (arranged a j) (each_arranged a ms)
-
-pub arranged_puts : (a : Arrangement) (ms found : Members)
-    → arranged_members a ms found ≡ put_members a (each_arranged a ms) found
-arranged_puts a no_members found = refl
-arranged_puts a (member k j ms) found = arranged_puts a ms (put_by a k (arranged a j) found)
-
--- some members and then others
-abbrev pub joined : Members → Members → Members
-joined no_members ns = ns
-joined (member k j ms) ns = member k j (joined ms ns)
-
-pub put_joined : (a : Arrangement) (ms ns found : Members)
-    → put_members a (joined ms ns) found ≡ put_members a ns (put_members a ms found)
-put_joined a no_members ns found = refl
-put_joined a (member k j ms) ns found = put_joined a ms ns (put_by a k j found)
-
-pub arranged_joined : (a : Arrangement) (ms ns found : Members)
-    → arranged_members a (joined ms ns) found ≡ arranged_members a ns (arranged_members a ms found)
-arranged_joined a no_members ns found = refl
-arranged_joined a (member k j ms) ns found = arranged_joined a ms ns (put_by a k (arranged a j) found)
 
 -- ---- what is put is arranged
 
@@ -63,10 +38,6 @@ put_as_it_stands a no_members are = refl
 put_as_it_stands a (member k j ms) are =
     ap (put_members a ms) (put_none a k j) ∙ puts_behind a k j ms no_members are.0
     ∙ ap (member k j) (put_as_it_stands a ms are.1)
-
-pub put_again : (a : Arrangement) (ms : Members)
-    → put_members a (put_members a ms no_members) no_members ≡ put_members a ms no_members
-put_again a ms = put_as_it_stands a (put_members a ms no_members) (puts_arrange a ms no_members tt)
 
 -- ---- which members are arranged
 
@@ -150,17 +121,6 @@ module _ {M : Type 0} (key_of : M → List ℕ) (value_of : M → Json) where
       → put a xs found ≡ put_members a (members xs) found
   puts_members a [] found = refl
   puts_members a (x ∷ xs) found = puts_members a xs (put_by a (key_of x) (value_of x) found)
-
-  pub put_append : (a : Arrangement) (xs ys : List M) (found : Members)
-      → put a (xs ++ ys) found ≡ put a ys (put a xs found)
-  put_append a [] ys found = refl
-  put_append a (x ∷ xs) ys found = put_append a xs ys (put_by a (key_of x) (value_of x) found)
-
-  -- what stands for members, the value of each arranged, is put as these are arranged
-  pub puts_arranged : (a : Arrangement) (ms found : Members) (xs : List M) → members xs ≡ each_arranged a ms
-      → put a xs found ≡ arranged_members a ms found
-  puts_arranged a ms found xs are =
-      puts_members a xs found ∙ ap (λ ns. put_members a ns found) are ∙ sym (arranged_puts a ms found)
 
   -- ---- what is put as it stands
 
