@@ -1,6 +1,6 @@
 -- A sort by key, and then by place, is a stable sort by key of what stands in the order of its places.
 use Rattle.std.proofs.Common.{◌≡◌, ◌<◌, ◌≤◌, ◌+◌, ℕ, List, [], ◌∷◌, Bool, true, false, cond, ◌||◌, Option, Some, None}
-use Rattle.std.proofs.Common.{Ordering, Less, Equal, Greater, nat_cmp, get_or, length, All, IsPermutation, filter, refl}
+use Rattle.std.proofs.Common.{Ordering, Less, Equal, Greater, nat_cmp, get_or, All, IsPermutation, filter, refl}
 use Rattle.std.proofs.Common.{sym, ap, ap₂, ◌∙◌, subst, arith}
 use Rattle.std.proofs.lemmas.Cmp.{nat_list_cmp_total, nat_cmp_total, tied_itself}
 use Rattle.std.proofs.lemmas.List.Elements.{All-cons, All-head, All-nil, All-tail}
