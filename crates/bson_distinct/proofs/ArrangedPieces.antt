@@ -12,6 +12,9 @@ use Rattle.bson_distinct.specs.PutPieces.{members_of, put_each}
 use Rattle.bson_distinct.specs.declared.arrangement.Arrangement.{Arrangement}
 use Rattle.bson_distinct.specs.declared.arrangement.Arrangement.TheVariants.{FirstPlaces, Ascending}
 use Rattle.bson_distinct.specs.declared.order.Piece.{Piece}
+use Rattle.std.specs.List.Sorted.{IsSortedByKey}
+use Rattle.bson_model.specs.Stable.{IsStableByKey}
+use Rattle.bson_distinct.proofs.InPlace.{stable_by_place}
 use Rattle.bson_distinct.proofs.Merged.{settled_by_key, settled_by_place}
 use Rattle.bson_distinct.proofs.Ordered.{as_entries, put_as_entries}
 use Rattle.bson_distinct.proofs.Putting.{put_ascending_keys, put_distinct, put_put}
@@ -37,16 +40,23 @@ stays a body ps es stand are =
     ap entry_members (sym stand.entries) ∙ as_entries stand.values ps ∙ sym (put_stands a stand.values ps are)
     ∙ sym (put_stand a body ps es stand)
 
+-- in that order those of one key stand as they stood
+keeps_turns : (a : Arrangement) (body : List ℕ) (xs zs : List Piece) (es : List Entry) (stand : Stand body xs es)
+    → (o : AreOrdered a xs zs) → IsStableByKey piece_key xs o.ys × IsSortedByKey piece_key (slice_cmp nat_cmp) o.ys
+keeps_turns a body xs zs es stand o = stable_by_place piece_key piece_place xs o.ys 0 stand.rise o.same o.sorted
+
 ordered : (a : Arrangement) (body : List ℕ) (xs zs : List Piece) (es : List Entry) (stand : Stand body xs es)
     → AreOrdered a xs zs
     → members_of piece_key (piece_value stand.values) zs ≡ put_each piece_key (piece_value stand.values) a xs no_members
 ordered FirstPlaces body xs zs es stand o =
+    let turns = keeps_turns FirstPlaces body xs zs es stand o in
     settled_by_place piece_key piece_place (piece_value stand.values) merge (λ p q. refl) (λ p q. refl) (λ p q. refl)
-    xs o.ys o.stable o.sorted zs 0 stand.rise o.placed.0 o.placed.1
+    xs o.ys turns.0 turns.1 zs 0 stand.rise o.placed.0 o.placed.1
 ordered Ascending body xs zs es stand o =
+    let turns = keeps_turns Ascending body xs zs es stand o in
     ap (members_of piece_key (piece_value stand.values)) o.placed
     ∙ settled_by_key piece_key piece_place (piece_value stand.values) merge (λ p q. refl) (λ p q. refl) (λ p q. refl)
-    xs o.ys o.stable o.sorted
+    xs o.ys turns.0 turns.1
 
 pub settled : (a : Arrangement) (body : List ℕ) (xs zs : List Piece) (es : List Entry) (stand : Stand body xs es)
     → AreOrdered a xs zs → entry_members (map (entry_at stand.values) zs) ≡ put_entries a es

@@ -1,5 +1,6 @@
 pub mod Again
 pub mod Arranging
+pub mod InPlace
 pub mod Keys
 pub mod Reading
 pub mod Relations

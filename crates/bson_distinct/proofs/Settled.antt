@@ -207,7 +207,7 @@ module _ {M : Type 0} (key_of : M → List ℕ) (place_of : M → ℕ) (value_of
   abbrev IsIn : List M → M → Type 0
   IsIn ms n = found (key_of n) ms ≡ Some (value n)
 
-  all_behind : (k : List ℕ) (ms : List M) → AreBehind FirstPlaces k (members ms)
+  pub all_behind : (k : List ℕ) (ms : List M) → AreBehind FirstPlaces k (members ms)
       → All (λ n. bytes_eq (key_of n) k ≡ false) ms
   all_behind k [] are = All-nil (λ n. bytes_eq (key_of n) k ≡ false)
   all_behind k (m ∷ ms) are = All-cons (λ n. bytes_eq (key_of n) k ≡ false) m ms are.0 (all_behind k ms are.1)

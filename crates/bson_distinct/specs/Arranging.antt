@@ -6,7 +6,8 @@ use Rattle.std.specs.Cmp.Lexicographic.{slice_cmp}
 use Rattle.std.specs.List.{All}
 use Rattle.std.specs.List.Sorted as Sorted
 use Rattle.std.specs.List.Sorted.{IsPermutation}
-use Rattle.std.specs.Ordering.{nat_cmp}
+use Rattle.std.specs.Ordering.{is_lt, nat_cmp, ordering_then}
+use Rattle.std.specs.declared.cmp.Ordering.{Ordering}
 use Rattle.json.specs.Json.{Json, null, boolean, number, string, array, object, Items, no_items, item}
 use Rattle.json.specs.Json.{Members, no_members, member, Parse, items, members, value}
 use Rattle.json.specs.Print.{print, quoted}
@@ -15,7 +16,6 @@ use Rattle.json.specs.Token.{Token}
 use Rattle.json.specs.Tree.{json_tokens}
 use Rattle.serde_json.specs.Read.{number_of}
 use Rattle.serde_json.specs.Written.{comma_if}
-use Rattle.bson_model.specs.Stable.{IsStableByKey}
 use Rattle.bson_distinct.specs.PutPieces.{members_of, merged, put_each, KeysAscend, Rise}
 use Rattle.bson_distinct.specs.declared.arrangement.Arrangement.{Arrangement}
 use Rattle.bson_distinct.specs.declared.arrangement.Arrangement.TheVariants.{FirstPlaces, Ascending}
@@ -201,10 +201,14 @@ abbrev pub ArePlaced : Arrangement → List Piece → List Piece → Type 0
 ArePlaced FirstPlaces ms zs = IsPermutation ms zs × Sorted.IsSortedByKey piece_place nat_cmp zs
 ArePlaced Ascending ms zs = zs ≡ ms
 
--- each key once: by a stable sort, of those of one key the place of the first and the text of the last
+-- by key, and those of one key by place
+abbrev pub key_and_place_cmp : Piece → Piece → Ordering
+key_and_place_cmp p q =
+    ordering_then (slice_cmp nat_cmp (piece_key p) (piece_key q)) (nat_cmp (piece_place p) (piece_place q))
+
+-- each key once: in that order, of those of one key the place of the first and the text of the last
 pub record AreOrdered (a : Arrangement) (xs zs : List Piece) : Type 0 where
   pub ys : List Piece
-  pub stable : IsStableByKey piece_key xs ys
   pub same : IsPermutation xs ys
-  pub sorted : Sorted.IsSortedByKey piece_key (slice_cmp nat_cmp) ys
+  pub sorted : Sorted.IsSortedBy (λ p q. is_lt (key_and_place_cmp p q)) ys
   pub placed : ArePlaced a (merged piece_key merge ys) zs

@@ -21,8 +21,8 @@ use std::alloc::Global;
 /// How deep arrays and objects may nest.
 const MAX_DEPTH: usize = 127;
 
-/// The compact text of the text's tree with each key once in its object, with its last value: at its
-/// first place, or by ascending bytes.
+/// The compact text of the text's tree with each key once in its object, with its last value: at
+/// its first place, or by ascending bytes.
 ///
 /// Keys are compared after their escapes are read. `Broken` is answered where the text is no JSON
 /// text of at most 127 levels, or has a number out of range. No tree is made: memory is that of the

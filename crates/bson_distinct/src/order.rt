@@ -1,18 +1,17 @@
 //! The texts of an object's members, put in order with each key once.
 ghost use Rattle.std.specs.Prelude.{◌≡◌, ◌<◌, ◌++◌, ◌∷◌, [], false, length, map, None, option_map, true, IfOk, OnOk};
 ghost use Rattle.std.specs.List.{All};
-ghost use Rattle.std.specs.Cmp.Lexicographic.{slice_cmp};
-ghost use Rattle.std.specs.List.Sorted.{IsPermutation, IsSortedByKey};
-ghost use Rattle.std.specs.Ordering.{nat_cmp};
+ghost use Rattle.std.specs.List.Sorted.{IsPermutation, IsSortedBy, IsSortedByKey};
+ghost use Rattle.std.specs.Ordering.{is_lt, nat_cmp};
 ghost use Rattle.serde_json.specs.Written.{comma_if};
-ghost use Rattle.bson_model.specs.Stable.{IsStableByKey};
-ghost use Rattle.bson_distinct.specs.Arranging.{merge, piece_key, piece_place};
+ghost use Rattle.bson_distinct.specs.Arranging.{key_and_place_cmp, merge, piece_key, piece_place};
 ghost use Rattle.bson_distinct.specs.Arranging.{AreOrdered, ArePlaced, DifferAt, IsJoined, IsWithin, PiecesArranged, StandInOrder};
 ghost use Rattle.json.specs.Strict.{AreDistinct};
 ghost use Rattle.bson_distinct.specs.PutPieces.{merged, Follows, KeysAscend};
 
 use crate::arrangement::Arrangement;
 use std::alloc::{AllocError, Global};
+use std::cmp::Ordering;
 
 // Among so many pieces or fewer a key that stands twice is looked for in pairs.
 const FEW: usize = 32;
@@ -52,7 +51,7 @@ pub(crate) fn arrange_pieces(
     if are_arranged(arrangement, pieces) {
         return Ok(None);
     }
-    order_pieces(arrangement, pieces)?;
+    order_pieces(arrangement, pieces);
     Ok(Some(join_pieces(alloc, pieces, body)?))
 }
 
@@ -100,13 +99,12 @@ fn stands_before(pieces: &Vec<Piece<'_>>, at: usize) -> bool
 }
 
 // Each key once, with the text of its last piece.
-fn order_pieces(arrangement: Arrangement, pieces: &mut Vec<Piece<'_>>) -> Result<(), AllocError>
-    ensures { OnOk result (AreOrdered arrangement pieces.old.items pieces.new.items) }
+fn order_pieces(arrangement: Arrangement, pieces: &mut Vec<Piece<'_>>)
+    ensures { AreOrdered arrangement pieces.old.items pieces.new.items }
 {
-    sort_by_key(pieces)?;
+    sort_by_key(pieces);
     merge_runs(pieces);
     place_pieces(arrangement, pieces);
-    Ok(())
 }
 
 // Puts pieces that stand by ascending key where they are to stand.
@@ -144,13 +142,19 @@ fn follows(last: Option<&str>, key: &str) -> bool
     }
 }
 
-fn sort_by_key(pieces: &mut Vec<Piece<'_>>) -> Result<(), AllocError>
-    ensures stable { OnOk result (IsStableByKey piece_key pieces.old.items pieces.new.items) }
+// By key, and those of one key by place.
+fn sort_by_key(pieces: &mut Vec<Piece<'_>>)
     ensures same { IsPermutation pieces.old.items pieces.new.items }
-    ensures sorted { OnOk result (IsSortedByKey piece_key (slice_cmp nat_cmp) pieces.new.items) }
+    ensures sorted { IsSortedBy (λ p q. is_lt (key_and_place_cmp p q)) pieces.new.items }
 {
-    pieces.sort_by(|one, other| one.key.cmp(other.key))?;
-    Ok(())
+    pieces.sort_unstable_by(|one, other| by_key_and_place(one, other));
+}
+
+fn by_key_and_place(one: &Piece<'_>, other: &Piece<'_>) -> Ordering
+    ensures { result ≡ key_and_place_cmp one.now other.now }
+{
+    let by_key = one.key.cmp(other.key);
+    by_key.then(one.place.cmp(&other.place))
 }
 
 // Of those of one key that stand side by side, one with the place of the first and the text of the

@@ -11,13 +11,13 @@ returns-then-are_arranged c = λ es stand.
 pub join_pieces-requires : goal.join_pieces-requires
 join_pieces-requires c =
     all_within c.args.body.now c.args.arrangement c.args.pieces.now.items c.order_pieces.new.pieces.items
-    c.in_ok-order_pieces.ensures c.requires
+    c.order_pieces.ensures c.requires
 
 pub returns : goal.returns
 returns c = λ es stand.
     let xs = c.args.pieces.now.items in
     let zs = c.order_pieces.new.pieces.items in
-    let ordered = c.in_ok-order_pieces.ensures in (
+    let ordered = c.order_pieces.ensures in (
       map (entry_at stand.values) zs,
       c.in_ok-join_pieces.ensures stand.values
           (all_pieces c.args.body.now stand.values c.args.arrangement xs zs ordered stand.all),
