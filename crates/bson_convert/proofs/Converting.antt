@@ -58,7 +58,8 @@ module _ (o : Options) where
       → IfOk r (λ out. IsOutputIn o mode v out.items)
   text_output Canonical v text r p i h = line_written form.Canonical v text r p i h
   text_output Relaxed v text r p i h = line_written form.Relaxed v text r p i h
-  text_output Show v text r p i h = absurd i
+  text_output Show v text (Ok q) p i h = h ∙ ap (λ s. s ++ newline) i
+  text_output Show v text (Err e) p i h = tt
 
   -- what was converted can be written, and its output is that of the bytes
   pub writable : (mode : Mode) (v : Value) (read : Converted) → IsReadFormIn o.doubles v → IsConverted o mode v read

@@ -84,11 +84,11 @@ IsRefused = IsRefusedIn default_options
 
 -- ---- the text or the value
 
--- a text of the value in the mode's form
+-- a text of the value in the mode's form, or the one that shows it
 abbrev pub IsTextFor : Options → Mode → Value → List ℕ → Type 0
 IsTextFor o Canonical value text = IsTextUnder o.doubles form.Canonical value text
 IsTextFor o Relaxed value text = IsTextUnder o.doubles form.Relaxed value text
-IsTextFor o Show value text = ⊥
+IsTextFor o Show value text = text ≡ display_text value
 
 -- such a text, or the value
 abbrev pub IsConverted : Options → Mode → Value → Converted → Type 0

@@ -84,7 +84,7 @@ pub(crate) fn convert_whole(
     output(alloc, options, mode, read)
 }
 
-/// The text in the mode's form of the value that the bytes mean, or that value.
+/// The text that the mode asks for of the value that the bytes mean, or that value.
 pub fn text_or_value(
     alloc: Global,
     options: Options,
@@ -98,12 +98,7 @@ pub fn text_or_value(
         → MeansIn options.doubles tree value → IfErr result (λ fault. fault ≡ Fault.OutOfMemory) }
     ensures fault { IfErr result (λ fault. IsRefusedIn options fault bytes.now) }
 {
-    let form = match mode {
-        Mode::Canonical => Form::Canonical,
-        Mode::Relaxed => Form::Relaxed,
-        Mode::Show => return Ok(Converted::Value(meaning(alloc, options, bytes)?)),
-    };
-    match sorted_text(alloc, options, form, bytes)? {
+    match sorted_text(alloc, options, mode, bytes)? {
         Some(text) => Ok(Converted::Text(text)),
         None => Ok(Converted::Value(meaning(alloc, options, bytes)?)),
     }

@@ -3,13 +3,13 @@ ghost use Rattle.std.specs.Prelude.{◌≡◌, IfOk, IfErr, IfSome, IsTrue, None
 ghost use Rattle.serde_json.specs.Read.{read};
 ghost use Rattle.bson_model.specs.Value as model;
 ghost use Rattle.bson.specs.TextMeaning.{HasTextMeaningIn};
-ghost use Rattle.bson.specs.Texts.{IsTextUnder};
-ghost use Rattle.bson_convert.specs.Convert.{IsRefusedIn};
+ghost use Rattle.bson_convert.specs.Convert.{IsRefusedIn, IsTextFor};
 
 use crate::fault::Fault;
+use crate::mode::Mode;
 use bson::Bson;
 use bson::extjson::{Form, Options};
-use bson_filter::filter::sort_text;
+use bson_filter::filter::{show_text, sort_text};
 use bson_filter::unstreamed::Unstreamed;
 use bson_tokens::unread::Unread;
 use bson_tokens::walk::first_fault_in;
@@ -31,35 +31,52 @@ const MAX_DEPTH: usize = 127;
 /// ```
 #[derive(Drop)]
 pub enum Converted {
-    /// The text of the value in the form.
+    /// The text of the value that the mode asks for.
     Text(Vec<u8>),
     /// The value, which was read whole.
     Value(Bson),
 }
 
-// The text in the form of the value that the bytes mean, written as they are read; none where they
-// are to be read whole.
+// The text that the mode asks for of the value that the bytes mean, written as they are read; none
+// where they are to be read whole.
 pub(crate) fn sorted_text(
     alloc: Global,
     options: Options,
-    form: Form,
+    mode: Mode,
     bytes: &[u8],
 ) -> Result<Option<Vec<u8>>, Fault>
     ensures ok { IfOk result (λ found. IfSome found
         (λ text. (value : model.Value) × HasTextMeaningIn options.doubles bytes.now value
-        × IsTextUnder options.doubles form value text.items)) }
+        × IsTextFor options mode value text.items)) }
     ensures fault { IfErr result (λ fault. IsRefusedIn options fault bytes.now) }
 {
     let Ok(text) = simdutf8::compat::from_utf8(bytes) else {
         return Err(Fault::NotJson);
     };
-    match sort_text(alloc, options.doubles, form, text) {
+    match stream_text(alloc, options, mode, text) {
         Ok(written) => Ok(Some(written)),
         Err(Unstreamed::Left) => {
             refuse(alloc, options, text)?;
             Ok(None)
         }
         Err(Unstreamed::OutOfMemory) => Err(Fault::OutOfMemory),
+    }
+}
+
+// The text that the mode asks for of the value that the text means.
+fn stream_text(
+    alloc: Global,
+    options: Options,
+    mode: Mode,
+    text: &str,
+) -> Result<Vec<u8>, Unstreamed>
+    ensures { IfOk result (λ written. (value : model.Value) × HasTextMeaningIn options.doubles text.now value
+        × IsTextFor options mode value written.items) }
+{
+    match mode {
+        Mode::Canonical => sort_text(alloc, options.doubles, Form::Canonical, text),
+        Mode::Relaxed => sort_text(alloc, options.doubles, Form::Relaxed, text),
+        Mode::Show => show_text(alloc, options.doubles, text),
     }
 }
 
