@@ -14,7 +14,7 @@ pub mod Putting
 pub mod ReadAlike
 pub mod Rows
 pub mod Settled
-pub mod Turns
+pub mod Rounds
 pub mod Texts
 pub mod Ranged
 pub mod Values

@@ -21,7 +21,7 @@ use Rattle.bson_distinct.specs.declared.arranger.Arranger.{Arranger}
 use Rattle.bson_distinct.specs.declared.arrangement.Arrangement.{Arrangement}
 use Rattle.bson_distinct.proofs.Ranged.{is_sound, none_sound, sound_none, sound_under, was_sound}
 use Rattle.bson_distinct.proofs.Texts.{array_printed, no_more_items, object_printed, one_more_item, printed_items}
-use Rattle.bson_distinct.proofs.Turns.{last_item, last_member, no_item, no_key, no_member, one_item, one_member}
+use Rattle.bson_distinct.proofs.Rounds.{last_item, last_member, no_item, no_key, no_member, one_item, one_member}
 
 -- where what is left breaks, all does
 pub all_breaks : {A B X : Type 0} (f : A → X) (g : B → X) (all : Option A) (left : Option B)

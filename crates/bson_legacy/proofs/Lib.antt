@@ -1,4 +1,3 @@
-pub mod Reading
 pub mod Values
 pub mod Shapes
 pub mod Passing

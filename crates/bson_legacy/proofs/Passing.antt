@@ -15,8 +15,9 @@ use Rattle.json.proofs.Grammar.{value_is}
 use Rattle.bson_tokens.specs.Parts.{IsBroken}
 use Rattle.bson_tokens.specs.declared.unread.Unread.{Unread}
 use Rattle.bson_legacy.specs.Modern.{older, other, renewed, modern_members, of_one, of_texts}
-use Rattle.bson_legacy.specs.Passed.{MemberPasses, Passes, elements, inside, of_items, of_members, of_object, of_value}
-use Rattle.bson_legacy.proofs.Reading.{one_item, last_item, one_member, last_member}
+use Rattle.bson_distinct.specs.Arranging.{elements, inside}
+use Rattle.bson_legacy.specs.Passed.{MemberPasses, Passes, of_items, of_members, of_object, of_value}
+use Rattle.bson_distinct.proofs.Offered.{one_item, last_item, one_member, last_member}
 use Rattle.bson_legacy.proofs.Shapes.{IsOther, no_text_begins, other_first, other_second}
 
 -- the tokens of what is read behind those that stand, beside the tokens that are left

@@ -9,7 +9,8 @@ use Rattle.json.specs.declared.token.Token as found
 use Rattle.json.specs.declared.token.Token.TheVariants.{BeginObject, EndObject, BeginArray, EndArray, Key, String, Number}
 use Rattle.json.specs.declared.token.Token.TheVariants.{Bool, Null, Bad}
 use Rattle.json.proofs.Grammar.{value_is, value-begin_array, value-begin_object}
-use Rattle.bson_legacy.specs.Passed.{Passes, elements, inside, of_items, of_object, of_value}
+use Rattle.bson_distinct.specs.Arranging.{elements, inside}
+use Rattle.bson_legacy.specs.Passed.{Passes, of_items, of_object, of_value}
 
 module _ (depth : ℕ) (t : found.Token) (ts : List Token) where
   -- it is a value of its own

@@ -1,16 +1,10 @@
 -- What was written of what was read, token by token. For private clauses.
-use Rattle.std.specs.Prelude.{◌≡◌, ◌++◌, ℕ, List, length, Option, Some}
-use Rattle.json.specs.Json.{Json, object, Items, Members, member, Parse, items, members, value}
+use Rattle.std.specs.Prelude.{◌≡◌, ◌++◌, ℕ, List, Option, Some}
+use Rattle.json.specs.Json.{Json, object, Items, Members, member, value}
 use Rattle.json.specs.Token.{Token}
 use Rattle.json.specs.Tree.{json_tokens, items_tokens, members_tokens}
+use Rattle.bson_distinct.specs.Arranging.{inside}
 use Rattle.bson_legacy.specs.Modern.{modern, modern_items, modern_members}
-
--- the elements of an array to its end, and the members of an object to its end
-abbrev pub elements : ℕ → Parse Items
-elements depth ts = items (value depth) (length ts) ts
-
-abbrev pub inside : ℕ → Parse Members
-inside depth ts = members (value depth) (length ts) ts
 
 -- the tokens of what each stands for
 abbrev pub of_value : Json → List Token

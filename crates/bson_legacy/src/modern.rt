@@ -7,7 +7,8 @@ ghost use Rattle.json.specs.Reads.{token_of};
 ghost use Rattle.json.specs.Token as token;
 ghost use Rattle.bson_distinct.specs.Double.{json_of};
 ghost use Rattle.bson_tokens.specs.Parts.{IsBroken};
-ghost use Rattle.bson_legacy.specs.Passed.{MemberPasses, Passes, elements, inside};
+ghost use Rattle.bson_distinct.specs.Arranging.{elements, inside};
+ghost use Rattle.bson_legacy.specs.Passed.{MemberPasses, Passes};
 ghost use Rattle.bson_legacy.specs.Passed.{of_items, of_members, of_object, of_value};
 ghost use Rattle.bson_legacy.specs.Text.{IsModernText};
 

@@ -4,11 +4,12 @@ use Rattle.json.specs.Json.{array, object, member, after_end_array, parse_map, r
 use Rattle.json.specs.Reads.{token_of}
 use Rattle.json.specs.Token as token
 use Rattle.json.proofs.Grammar.{left, read_key_is, read_key-shorter, skip_value-shorter, value_is}
-use Rattle.bson_legacy.specs.Passed.{Passes, inside, of_items, of_members, of_value}
+use Rattle.bson_distinct.specs.Arranging.{inside}
+use Rattle.bson_legacy.specs.Passed.{Passes, of_items, of_members, of_value}
 use Rattle.bson_legacy.proofs.Passing.{all_breaks, breaks, first_passes, item_passed, items_passed, lone_passes}
 use Rattle.bson_legacy.proofs.Passing.{member_passed, members_passed, no_text_held, no_texts_held, none_passes}
 use Rattle.bson_legacy.proofs.Passing.{pair_passes, second_passes, third_passes}
-use Rattle.bson_legacy.proofs.Reading.{no_item, no_key, no_member, one_member}
+use Rattle.bson_distinct.proofs.Offered.{no_item, no_key, no_member, one_member}
 use Rattle.bson_legacy.proofs.Values.{array_opened, array_passes, array_too_deep, none_begins, object_opened}
 use Rattle.bson_legacy.proofs.Values.{object_passes, object_too_deep, plain_passes}
 use Rattle.bson_legacy.proofs.modern.+write.Goals as goal

@@ -1,5 +1,6 @@
 use Rattle.std.proofs.Common.{◌≡◌, ◌+◌, ◌*◌, length}
-use Rattle.bson_legacy.specs.Passed.{elements, inside, of_items, of_members}
+use Rattle.bson_distinct.specs.Arranging.{elements, inside}
+use Rattle.bson_legacy.specs.Passed.{of_items, of_members}
 use Rattle.bson_legacy.proofs.Passing.{whole}
 use Rattle.bson_legacy.proofs.modern.+write.Given as goal
 

@@ -1,4 +1,4 @@
--- Elements and members as they are read, a turn at a time.
+-- Elements and members as they are read, a round at a time.
 use Rattle.std.proofs.Common.{◌≡◌, ℕ, zero, suc, ◌-◌, ◌<◌, ◌≤◌, List, [], ◌∷◌, length, Option, Some, None}
 use Rattle.std.proofs.Common.{option_and_then, refl, sym, ap, ◌∙◌, arith}
 use Rattle.json.specs.Token.{Token}
@@ -8,7 +8,7 @@ use Rattle.json.proofs.Grammar.{left, items_end, items_fail, items_more, members
 use Rattle.json.proofs.Grammar.{members_no_key, read_key-shorter, skip_value-shorter, value_is}
 use Rattle.bson_distinct.specs.Arranging.{elements, inside}
 
--- ---- more turns than there are tokens change nothing
+-- ---- more rounds than there are tokens change nothing
 
 same_turns : {A : Type 0} (f : ℕ → Parse A) → ((n : ℕ) → f n [] ≡ None)
     → ((n m : ℕ) (ts : List Token) → ((r : List Token) → length r < length ts → f n r ≡ f m r)
