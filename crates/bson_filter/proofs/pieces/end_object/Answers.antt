@@ -17,7 +17,7 @@ returns-then-ascend c =
 pub in_order-requires : goal.in_order-requires
 in_order-requires c =
     let texts = c.args.text.now.items in
-    let long : c.len.result ≡ length texts = grind arith in
+    let long : c.len-2.result ≡ length texts = grind arith in
     let whole = c.in_ok-pieces.ensures
     ∙ ap (pieces_from c.args.keys.now c.args.starts.now) long in
     subst (All (IsWithin texts)) (sym whole) c.requires.within
@@ -25,7 +25,7 @@ in_order-requires c =
 pub returns : goal.returns
 returns c =
     let texts = c.args.text.now.items in
-    let long : c.len.result ≡ length texts = grind arith in
+    let long : c.len-2.result ≡ length texts = grind arith in
     let written = c.in_ok-written.written.items in
     let whole = c.in_ok-pieces.ensures ∙ ap (pieces_from c.args.keys.now c.args.starts.now) long in (
       written,

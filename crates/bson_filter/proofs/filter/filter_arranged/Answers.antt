@@ -1,0 +1,14 @@
+use Rattle.std.proofs.Common.{◌≡◌, sym, subst, arith}
+use Rattle.std.specs.Prelude.{string_bytes}
+use Rattle.bson_distinct.specs.Arranged.{IsArrangedText}
+use Rattle.bson_distinct.specs.declared.arrangement.Arrangement.TheVariants.{FirstPlaces}
+use Rattle.bson_filter.proofs.Arranged.{filtered_alike}
+use Rattle.bson_filter.proofs.filter.filter_arranged.Goals as goal
+
+pub returns : goal.returns
+returns c =
+    let text = c.args.text.now in
+    let arranged = c.as_str.result.now in
+    let same : arranged ≡ string_bytes c.in_ok-arranged.arranged = grind arith in
+    let is = subst (λ s. IsArrangedText FirstPlaces text s) (sym same) c.in_ok-arranged.ensures.ok in
+    record { ok = filtered_alike c.args.doubles c.args.form text arranged c.write_filtered.result is c.write_filtered.ensures.ok }
