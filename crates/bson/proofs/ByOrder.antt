@@ -20,7 +20,7 @@ use Rattle.bson_order.proofs.Offered.{forgotten, put_forgotten}
 use Rattle.bson_scalar.specs.Faults.{Fault}
 use Rattle.bson_tokens.specs.Parts.{IsBroken, NoMembers, NoObject}
 use Rattle.bson_tokens.specs.declared.unread.Unread.{Unread}
-use Rattle.bson_tokens.specs.declared.unread.Unread.TheVariants.{Broken}
+use Rattle.bson_tokens.specs.declared.unread.Unread.TheVariants.{Refused}
 use Rattle.bson_tokens.specs.Start.{primitive_tree, IsPrimitive, Starts}
 use Rattle.bson_tokens.specs.declared.start.Primitive.{Primitive}
 use Rattle.bson_tokens.specs.declared.start.Primitive.TheVariants.{Null, Bool as Truth, Number, String as Text}
@@ -315,7 +315,7 @@ held_read f depth text e v is read =
 -- it does not break
 pub held_whole : (depth : ℕ) (text : List ℕ) (e : Data) (x : Unread)
     → converted kept (value depth (tokens text)) ≡ Some (e, [])
-    → IsBroken (converted of_json (value depth (tokens text))) x → x ≡ Broken → ⊥
+    → IsBroken (converted of_json (value depth (tokens text))) x → x ≡ Refused → ⊥
 held_whole depth text e x is broken was =
     let some = by_default AsGiven (value depth (tokens text)) e [] is in
     let none = broken was in

@@ -1,5 +1,4 @@
 mod Again
-mod Broken
 mod Converting
 pub mod Offered
 mod Rows

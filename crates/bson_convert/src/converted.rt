@@ -1,23 +1,24 @@
 //! A text that is written as another is read, and why one means nothing.
-ghost use Rattle.std.specs.Prelude.{◌≡◌, IfOk, IfErr, IfSome, IsTrue, None};
+ghost use Rattle.std.specs.Prelude.{IfOk, IfErr, IfSome};
 ghost use Rattle.serde_json.specs.Read.{read};
 ghost use Rattle.bson_model.specs.Value as model;
 ghost use Rattle.bson.specs.TextMeaning.{HasTextMeaningIn};
+ghost use Rattle.bson_tokens.specs.Parts.{IsBroken};
+ghost use Rattle.bson_tokens.specs.Told.{IsTextPlaceIn};
 ghost use Rattle.bson_convert.specs.Convert.{IsRefusedIn, IsTextFor};
 
 use crate::fault::Fault;
 use crate::mode::Mode;
 use bson::Bson;
 use bson::extjson::{Form, Options};
+use bson_distinct::arrange::arrange_text;
+use bson_distinct::arrangement::Arrangement;
 use bson_filter::filter::{show_text, sort_text};
-use bson_filter::unstreamed::Unstreamed;
+use bson_place::place::Place;
+use bson_scalar::form::Doubles;
 use bson_tokens::unread::Unread;
 use bson_tokens::walk::first_fault_in;
-use json::{Reader, Scratch};
-use std::alloc::{AllocError, Global};
-
-// How deep arrays and objects may nest.
-const MAX_DEPTH: usize = 127;
+use std::alloc::Global;
 
 /// What `text_or_value` gives.
 ///
@@ -55,21 +56,16 @@ pub(crate) fn sorted_text(
     };
     match stream_text(alloc, options, mode, text) {
         Ok(written) => Ok(Some(written)),
-        Err(Unstreamed::Left) => {
+        Err(Unread::Refused) => {
             refuse(alloc, options, text)?;
             Ok(None)
         }
-        Err(Unstreamed::OutOfMemory) => Err(Fault::OutOfMemory),
+        Err(Unread::OutOfMemory) => Err(Fault::OutOfMemory),
     }
 }
 
 // The text that the mode asks for of the value that the text means.
-fn stream_text(
-    alloc: Global,
-    options: Options,
-    mode: Mode,
-    text: &str,
-) -> Result<Vec<u8>, Unstreamed>
+fn stream_text(alloc: Global, options: Options, mode: Mode, text: &str) -> Result<Vec<u8>, Unread>
     ensures { IfOk result (λ written. (value : model.Value) × HasTextMeaningIn options.doubles text.now value
         × IsTextFor options mode value written.items) }
 {
@@ -85,27 +81,20 @@ fn stream_text(
 pub fn refuse(alloc: Global, options: Options, text: &str) -> Result<(), Fault>
     ensures { IfErr result (λ fault. IsRefusedIn options fault text.now) }
 {
-    match breaks_grammar(alloc, text) {
-        Ok(false) => {}
-        Ok(true) => return Err(Fault::NotJson),
-        Err(_) => return Err(Fault::OutOfMemory),
-    }
-    match first_fault_in(alloc, options.doubles, text) {
+    match arranged_fault(alloc, options.doubles, text) {
         Ok(None) => Ok(()),
         Ok(Some(place)) => Err(Fault::NotExtendedJson(place)),
-        Err(Unread::Broken) => Err(Fault::NotJson),
+        Err(Unread::Refused) => Err(Fault::NotJson),
         Err(Unread::OutOfMemory) => Err(Fault::OutOfMemory),
     }
 }
 
-// Whether the tokens of the text are no JSON value, or go on behind one.
-fn breaks_grammar(alloc: Global, text: &str) -> Result<bool, AllocError>
-    ensures { IfOk result (λ broken. IsTrue broken → read text.now ≡ None) }
+// The first fault of the text's tree, looked for in the text of the same tree whose keys ascend:
+// there code stands before its scope, so that no tree is made.
+fn arranged_fault(alloc: Global, doubles: Doubles, text: &str) -> Result<Option<Place>, Unread>
+    ensures place { IfOk result (λ found. IsTextPlaceIn doubles text.now found) }
+    ensures broken { IfErr result (IsBroken (read text.now)) }
 {
-    let mut scratch = Scratch::new(alloc);
-    let mut reader = Reader::new(text, &mut scratch)?;
-    match reader.skip_value(MAX_DEPTH) {
-        Ok(()) => Ok(reader.next().is_some()),
-        Err(_) => Ok(true),
-    }
+    let arranged = arrange_text(alloc, Arrangement::Ascending, text)?;
+    first_fault_in(alloc, doubles, arranged.as_str())
 }

@@ -7,7 +7,7 @@ use Rattle.json.specs.Token.{Token}
 use Rattle.json.specs.Tree.{json_tokens}
 use Rattle.serde_json.specs.Written.{comma_if}
 use Rattle.bson_tokens.specs.declared.unread.Unread.{Unread}
-use Rattle.bson_tokens.specs.declared.unread.Unread.TheVariants.{Broken, OutOfMemory}
+use Rattle.bson_tokens.specs.declared.unread.Unread.TheVariants.{Refused, OutOfMemory}
 use Rattle.bson_distinct.specs.Arranged.{IsArrangedText, arranged}
 use Rattle.bson_distinct.specs.Arranging.{Passes, ranged, sound}
 use Rattle.bson_distinct.specs.Double.{json_of}
@@ -37,5 +37,5 @@ text_arranged a text out ts rest old new start end mode first none (j, read, add
       read_again = ap json_of written ∙ arranged_again a text j whole;
     }
 
-pub unlike : (e : Unread) → e ≡ OutOfMemory → e ≡ Broken → ⊥
+pub unlike : (e : Unread) → e ≡ OutOfMemory → e ≡ Refused → ⊥
 unlike e refused broken = cc

@@ -8,7 +8,7 @@ ghost use Rattle.bson_tokens.specs.Parts.{IsBroken};
 ghost use Rattle.bson_distinct.specs.Arranged.{IsArrangedText, arranged};
 ghost use Rattle.bson_distinct.specs.Arranging.{Passes, ValueAdded, elements, in_range, inside, sound};
 ghost use Rattle.bson_distinct.specs.Arranging.{ranged, ranged_items, ranged_members};
-ghost use Rattle.bson_tokens.specs.declared.unread.Unread.TheVariants.{Broken};
+ghost use Rattle.bson_tokens.specs.declared.unread.Unread.TheVariants.{Refused};
 
 use crate::arrangement::Arrangement;
 use crate::arranger::{Arranger, EARLY, into_text};
@@ -24,7 +24,7 @@ const MAX_DEPTH: usize = 127;
 /// The compact text of the text's tree with each key once in its object, with its last value: at
 /// its first place, or by ascending bytes.
 ///
-/// Keys are compared after their escapes are read. `Broken` is answered where the text is no JSON
+/// Keys are compared after their escapes are read. `Refused` is answered where the text is no JSON
 /// text of at most 127 levels, or has a number out of range. No tree is made: memory is that of the
 /// text that is written, and of the members of the objects that are open their keys and places.
 ///
@@ -41,7 +41,7 @@ pub fn arrange_text(alloc: Global, arrangement: Arrangement, text: &str) -> Resu
     let mut out = Arranger::new(alloc, arrangement, text.len())?;
     write_value(&mut reader, MAX_DEPTH, &mut out)?;
     if reader.next().is_some() {
-        return Err(Unread::Broken);
+        return Err(Unread::Refused);
     }
     into_text(out.text)
 }
@@ -52,20 +52,20 @@ fn write_value(reader: &mut Reader<'_>, depth: usize, out: &mut Arranger) -> Res
         reader.new out.old out.new) }
     ensures broken { IfErr result (IsBroken (sound ranged (value depth reader.old))) }
 {
-    let token = reader.next().ok_or(Unread::Broken)?;
+    let token = reader.next().ok_or(Unread::Refused)?;
     match token {
         Token::String(_) | Token::Bool(_) | Token::Null => Ok(out.scalar(token)?),
         Token::Number(text) => write_number(text, out),
-        Token::EndObject | Token::EndArray | Token::Key(_) | Token::Bad => Err(Unread::Broken),
+        Token::EndObject | Token::EndArray | Token::Key(_) | Token::Bad => Err(Unread::Refused),
         Token::BeginArray => {
             if depth == 0 {
-                return Err(Unread::Broken);
+                return Err(Unread::Refused);
             }
             write_items(reader, depth - 1, out)
         }
         Token::BeginObject => {
             if depth == 0 {
-                return Err(Unread::Broken);
+                return Err(Unread::Refused);
             }
             write_members(reader, depth - 1, out)
         }
@@ -75,10 +75,10 @@ fn write_value(reader: &mut Reader<'_>, depth: usize, out: &mut Arranger) -> Res
 fn write_number(text: &str, out: &mut Arranger) -> Result<(), Unread>
     requires { IsNumber text.now }
     ensures ok { OnOk result ((in_range text.now ≡ true) × ValueAdded out.old (json.number text.now) out.new) }
-    ensures broken { IfErr result (λ e. e ≡ Broken → in_range text.now ≡ false) }
+    ensures broken { IfErr result (λ e. e ≡ Refused → in_range text.now ≡ false) }
 {
     if number(text).is_none() {
-        return Err(Unread::Broken);
+        return Err(Unread::Refused);
     }
     Ok(out.scalar(Token::Number(text))?)
 }

@@ -17,7 +17,7 @@ const MAX_DEPTH: usize = 127;
 /// The path to the first key of the text that stands in its object before, from the key outward; or
 /// nothing where no object, at any depth, has a key twice.
 ///
-/// Keys are compared after their escapes are read. `Broken` is answered where the text is no JSON
+/// Keys are compared after their escapes are read. `Refused` is answered where the text is no JSON
 /// text of at most 127 levels. Memory is that of the keys of the objects that are open, and of the
 /// longest text with an escape.
 ///
@@ -34,7 +34,7 @@ pub fn first_double_key(alloc: Global, text: &str) -> Result<Option<KeyPath>, Un
     let mut reader = Reader::new(text, &mut scratch)?;
     let found = walk_value(alloc, &mut reader, MAX_DEPTH)?;
     if reader.next().is_some() {
-        return Err(Unread::Broken);
+        return Err(Unread::Refused);
     }
     Ok(found)
 }
@@ -49,19 +49,19 @@ fn walk_value(
     ensures broken { IfErr result (IsBroken (value depth reader.old)) }
     ensures shorter { OnOk result (length reader.new < length reader.old) }
 {
-    let token = reader.next().ok_or(Unread::Broken)?;
+    let token = reader.next().ok_or(Unread::Refused)?;
     match token {
         Token::String(_) | Token::Number(_) | Token::Bool(_) | Token::Null => Ok(None),
-        Token::EndObject | Token::EndArray | Token::Key(_) | Token::Bad => Err(Unread::Broken),
+        Token::EndObject | Token::EndArray | Token::Key(_) | Token::Bad => Err(Unread::Refused),
         Token::BeginArray => {
             if depth == 0 {
-                return Err(Unread::Broken);
+                return Err(Unread::Refused);
             }
             Ok(walk_items(alloc, reader, depth - 1)?)
         }
         Token::BeginObject => {
             if depth == 0 {
-                return Err(Unread::Broken);
+                return Err(Unread::Refused);
             }
             Ok(walk_members(alloc, reader, depth - 1)?)
         }

@@ -9,6 +9,7 @@ pub mod Once
 pub mod PartTexts
 pub mod PiecesInOrder
 pub mod Sending
+pub mod ShownInOrder
 pub mod ShownMembers
 pub mod ShownTexts
 pub mod SortedMembers

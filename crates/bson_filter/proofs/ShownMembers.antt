@@ -7,16 +7,19 @@ use Rattle.std.specs.List.{All, flat_map}
 use Rattle.std.specs.Cmp.Lexicographic.{slice_cmp}
 use Rattle.std.specs.Ordering.{match_ordering}
 use Rattle.bson_model.specs.Displayed.{display_text, entry, entry_texts}
+use Rattle.bson_distinct.specs.declared.arrangement.Arrangement.TheVariants.{Ascending}
 use Rattle.bson_model.specs.Sorted.{put_pair, sorted, sorted_pairs}
 use Rattle.bson_model.specs.Stable.{pairs_of}
 use Rattle.bson_model.specs.Value.{Value, Pairs, no_pairs, pair, document}
 use Rattle.bson_filter.specs.Pieces.{piece_key, open_text, object_text, Values, value_at, IsPiece}
 use Rattle.bson_filter.specs.ShownWritten.{next_text, member_front, separator_if, IsBegun, ValueAdded, KeyAdded}
+use Rattle.bson_filter.specs.ShownWritten.{value_shown}
 use Rattle.bson_filter.specs.Walked.{PairsWritten, keys_of, once}
 use Rattle.bson_filter.specs.declared.pieces.Piece.{Piece}
 use Rattle.bson_filter.specs.declared.sorted_text.Begun.{Begun}
 use Rattle.bson_filter.specs.declared.shown_text.ShownWriter.{ShownWriter}
 use Rattle.bson_filter.proofs.PiecesInOrder.{HasMembers, closed}
+use Rattle.bson_filter.proofs.ShownTexts.{as_sorted}
 use Rattle.bson_filter.proofs.SortedPairs.{put_in_turn, once_sorted}
 use Rattle.bson_filter.proofs.Standing.{Seen, MemberAdded, MembersAdded, DocumentStands, opened_document, text_before}
 
@@ -27,37 +30,54 @@ IsShownMember k v s = s ≡ codes " " ++ entry k (display_text v)
 abbrev pub seen : ShownWriter → Seen
 seen w = record { text = w.text.items; starts = w.starts.items; behind = w.behind }
 
-one_added : (k : List ℕ) (v : Value) (old named new : ShownWriter) → KeyAdded old k named → ValueAdded named v new
-    → MemberAdded IsShownMember k v (seen old) (seen new)
-one_added k v old named new (off, begins, key) (after, kept, text) =
-    let t = display_text (sorted v) in
-    let front = codes " \"" ++ (k ++ codes "\": ") in
+-- the key and the value behind it are the member's text
+pub member_text : (k : List ℕ) (v : Value) (old named new : ShownWriter) → KeyAdded old k named → ValueAdded named v new
+    → new.text.items ≡ member_front old ++ (codes " " ++ entry k (display_text (value_shown old.arrangement v)))
+member_text k v old named new (off, order, begins, key) (after, same, kept, text) =
+    let t = display_text (value_shown old.arrangement v) in
+    text ∙ ap (λ a. named.text.items ++ (separator_if named.behind ++ display_text (value_shown a v))) order
+    ∙ ap (λ b. named.text.items ++ (separator_if b ++ t)) off ∙ ap (λ l. l ++ t) key
+    ∙ append_assoc (member_front old) (codes " \"" ++ (k ++ codes "\": ")) t
+    ∙ ap (λ l. member_front old ++ (codes " \"" ++ l)) (append_assoc k (codes "\": ") t)
+
+one_added : (k : List ℕ) (v : Value) (old named new : ShownWriter) → old.arrangement ≡ Ascending
+    → KeyAdded old k named → ValueAdded named v new → MemberAdded IsShownMember k v (seen old) (seen new)
+one_added k v old named new ascending keyed wrote =
     record {
-      own = codes " " ++ entry k t;
+      own = codes " " ++ entry k (display_text (sorted v));
       is_text = refl;
       some = omega arith;
-      text = text ∙ ap (λ b. named.text.items ++ (separator_if b ++ t)) off ∙ ap (λ l. l ++ t) key
-          ∙ append_assoc (member_front old) front t
-          ∙ ap (λ l. member_front old ++ (codes " \"" ++ l)) (append_assoc k (codes "\": ") t);
-      starts = kept ∙ begins;
-      behind = after;
+      text = member_text k v old named new keyed wrote
+          ∙ ap (λ a. member_front old ++ (codes " " ++ entry k (display_text (value_shown a v)))) ascending
+          ∙ ap (λ w. member_front old ++ (codes " " ++ entry k (display_text w))) (as_sorted v);
+      starts = wrote.2 ∙ keyed.2;
+      behind = wrote.0;
     }
 
-members_added : (ps : Pairs) (old new : ShownWriter)
+members_added : (ps : Pairs) (old new : ShownWriter) → old.arrangement ≡ Ascending
     → PairsWritten (λ a k v b. ValueAdded a v b) KeyAdded ps old new → MembersAdded IsShownMember ps (seen old) (seen new)
-members_added no_pairs old new is = ap seen is
-members_added (pair k v ps) old new (named, mid, keyed, wrote, more) =
-    (seen mid, one_added k v old named mid keyed wrote, members_added ps mid new more)
+members_added no_pairs old new ascending is = ap seen is
+members_added (pair k v ps) old new ascending (named, mid, keyed, wrote, more) = (
+  seen mid,
+  one_added k v old named mid ascending keyed wrote,
+  members_added ps mid new (wrote.1 ∙ keyed.1 ∙ ascending) more,
+)
+
+-- the keys of all go where those of the first go
+pub same_order : (ps : Pairs) (old new : ShownWriter) → PairsWritten (λ a k v b. ValueAdded a v b) KeyAdded ps old new
+    → new.arrangement ≡ old.arrangement
+same_order no_pairs old new is = ap (λ w. w.arrangement) (sym is)
+same_order (pair k v ps) old new (named, mid, keyed, wrote, more) = same_order ps mid new more ∙ wrote.1 ∙ keyed.1
 
 -- the document that is open
 pub document_stands : (start mid now : ShownWriter) (begun : Begun) (ps : Pairs) (ks : List (Bor (List ℕ)))
     → IsBegun start begun mid → PairsWritten (λ a k v b. ValueAdded a v b) KeyAdded ps mid now
-    → keys_of ps ≡ map (λ k. k.now) ks
+    → keys_of ps ≡ map (λ k. k.now) ks → now.arrangement ≡ Ascending
     → DocumentStands IsShownMember (next_text start) start.starts.items (seen now) begun ks ps
-document_stands start mid now begun ps ks (here, held, (off, kept, text)) written named =
+document_stands start mid now begun ps ks (here, held, (off, order, kept, text)) written named ascending =
     opened_document IsShownMember (next_text start) start.starts.items (seen mid) (seen now) begun ps ks here held
     (text ∙ sym (append_assoc start.text.items (separator_if start.behind) (codes "{"))) kept off
-    (members_added ps mid now written) named
+    (members_added ps mid now (sym (same_order ps mid now written) ∙ ascending) written) named
 
 -- ---- a document of keys has pairs
 

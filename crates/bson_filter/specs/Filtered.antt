@@ -9,6 +9,8 @@ use Rattle.bson_model.specs.Laws.{IsTreeOfIn}
 use Rattle.bson_model.specs.Texts.{ReadsAgainIn}
 use Rattle.bson_model.specs.Value.{Value}
 use Rattle.bson_order.specs.Texts.{HasMeaningInOrder, IsOrderedTextOf, MeansByDefault}
+use Rattle.bson_distinct.specs.declared.arrangement.Arrangement.{Arrangement}
+use Rattle.bson_distinct.specs.declared.arrangement.Arrangement.TheVariants.{FirstPlaces, Ascending}
 
 -- the text means a value in the order of its keys, and the other is the compact text of that value's one tree in the
 -- form, in that order
@@ -29,8 +31,19 @@ pub record IsSortedText (D : Doubles) (f : Form) (text written : List ℕ) : Typ
   pub reads_again : ReadsAgainIn D f value tree
   pub compact : written ≡ tree_text D f tree
 
+-- the text means a value in the order of its keys, and the other is the text that shows that value
+pub record IsShownTextInOrder (D : Doubles) (text written : List ℕ) : Type 0 where
+  pub value : Value
+  pub meaning : HasMeaningInOrder D text value
+  pub shown : written ≡ display_text value
+
 -- the text means a value by default, and the other is the text that shows that value
 pub record IsShownText (D : Doubles) (text written : List ℕ) : Type 0 where
   pub value : Value
   pub meaning : MeansByDefault D text value
   pub shown : written ≡ display_text value
+
+-- the same by where keys go: for private clauses
+abbrev pub IsShownTextBy : Doubles → Arrangement → List ℕ → List ℕ → Type 0
+IsShownTextBy D FirstPlaces = IsShownTextInOrder D
+IsShownTextBy D Ascending = IsShownText D

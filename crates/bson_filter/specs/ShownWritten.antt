@@ -2,14 +2,35 @@
 use Rattle.std.specs.Prelude.{◌≡◌, ◌++◌, ◌∷◌, [], ℕ, List, length, Bool, true, false, codes, if◌then◌else◌}
 use Rattle.serde_json.specs.Written.{comma_if}
 use Rattle.bson_model.specs.Displayed.{display_text}
-use Rattle.bson_model.specs.Sorted.{sorted, sorted_pairs}
-use Rattle.bson_model.specs.Value.{Value, Pairs, document}
+use Rattle.bson_model.specs.Sorted.{sorted_items, sorted_pairs}
+use Rattle.bson_model.specs.Value.{Value, Values, Pairs, scalar, code_scope, array, document}
+use Rattle.bson_distinct.specs.declared.arrangement.Arrangement.{Arrangement}
+use Rattle.bson_distinct.specs.declared.arrangement.Arrangement.TheVariants.{FirstPlaces, Ascending}
 use Rattle.bson_filter.specs.declared.sorted_text.Begun.{Begun}
 use Rattle.bson_filter.specs.declared.shown_text.ShownWriter.{ShownWriter}
+
+-- what is shown of a value and of parts of one: with its keys in their order, or ascending
+abbrev pub items_shown : Arrangement → Values → Values
+items_shown FirstPlaces vs = vs
+items_shown Ascending vs = sorted_items vs
+
+abbrev pub pairs_shown : Arrangement → Pairs → Pairs
+pairs_shown FirstPlaces ps = ps
+pairs_shown Ascending ps = sorted_pairs ps
+
+abbrev pub value_shown : Arrangement → Value → Value
+value_shown a (scalar x) = scalar x
+value_shown a (code_scope s ps) = code_scope s (pairs_shown a ps)
+value_shown a (array vs) = array (items_shown a vs)
+value_shown a (document ps) = document (pairs_shown a ps)
 
 -- what separates an element from one before it
 abbrev pub separator_if : Bool → List ℕ
 separator_if behind = if behind then codes ", " else []
+
+-- the brace that ends a document, behind its members or none
+abbrev pub brace_behind : Bool → List ℕ
+brace_behind behind = if behind then codes " }" else codes "}"
 
 -- the text so far, and the separator that comes before a value that stands next
 abbrev pub next_text : ShownWriter → List ℕ
@@ -18,17 +39,18 @@ next_text w = w.text.items ++ separator_if w.behind
 -- this text comes after the old one, behind which a value stands or not, and nothing else is another
 abbrev pub Added : ShownWriter → List ℕ → Bool → ShownWriter → Type 0
 Added old s behind new =
-    (new.behind ≡ behind) × (new.starts.items ≡ old.starts.items) × (new.text.items ≡ old.text.items ++ s)
+    (new.behind ≡ behind) × (new.arrangement ≡ old.arrangement) × (new.starts.items ≡ old.starts.items)
+    × (new.text.items ≡ old.text.items ++ s)
 
 -- the same with a separator where one is due
 abbrev pub Next : ShownWriter → List ℕ → Bool → ShownWriter → Type 0
 Next old s behind new = Added old (separator_if old.behind ++ s) behind new
 
 abbrev pub ValueAdded : ShownWriter → Value → ShownWriter → Type 0
-ValueAdded old v new = Next old (display_text (sorted v)) true new
+ValueAdded old v new = Next old (display_text (value_shown old.arrangement v)) true new
 
 abbrev pub PairsAdded : ShownWriter → Pairs → ShownWriter → Type 0
-PairsAdded old ps new = Next old (display_text (document (sorted_pairs ps))) true new
+PairsAdded old ps new = Next old (display_text (document (pairs_shown old.arrangement ps))) true new
 
 -- a document was begun, whose text starts here and whose members' starts come behind those before it
 abbrev pub IsBegun : ShownWriter → Begun → ShownWriter → Type 0
@@ -41,7 +63,7 @@ member_front w = w.text.items ++ comma_if w.behind
 
 -- a key was added, whose member starts here, with the blank in front of it
 abbrev pub KeyAdded : ShownWriter → List ℕ → ShownWriter → Type 0
-KeyAdded old k new = (new.behind ≡ false)
+KeyAdded old k new = (new.behind ≡ false) × (new.arrangement ≡ old.arrangement)
     × (new.starts.items ≡ old.starts.items ++ length (member_front old) ∷ [])
     × (new.text.items ≡ member_front old ++ (codes " \"" ++ (k ++ codes "\": ")))
 

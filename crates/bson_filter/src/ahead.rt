@@ -2,8 +2,8 @@
 //! look for, which compares it with the code that it comes to: so it is not promised to be right.
 ghost use Rattle.std.specs.Prelude.{◌≡◌, Some, codes, option_map, IfOk, IfSome};
 
-use crate::unstreamed::Unstreamed;
 use bson_scalar::code::is_scope;
+use bson_tokens::unread::Unread;
 use json::{Reader, Scratch, Token};
 use std::alloc::Global;
 use std::collections::BTreeMap;
@@ -33,7 +33,7 @@ impl<'a> Ahead<'a> {
         &mut self,
         first: Option<&str>,
         place: usize,
-    ) -> Result<Option<String>, Unstreamed>
+    ) -> Result<Option<String>, Unread>
         ensures { IfOk result (λ code. IfSome code (λ _. option_map (λ k. k.now) first.entry ≡ Some (codes "$scope"))) }
     {
         let Some(key) = first else {
@@ -45,7 +45,7 @@ impl<'a> Ahead<'a> {
         self.code_at(place)
     }
 
-    fn code_at(&mut self, place: usize) -> Result<Option<String>, Unstreamed> {
+    fn code_at(&mut self, place: usize) -> Result<Option<String>, Unread> {
         if self.codes.is_none() {
             self.codes = Some(codes_of(self.alloc, self.text)?);
         }
@@ -70,7 +70,7 @@ enum Open {
 }
 
 // The code right behind each scope that comes first in its object, by where the scope begins.
-fn codes_of(alloc: Global, text: &str) -> Result<BTreeMap<usize, String>, Unstreamed> {
+fn codes_of(alloc: Global, text: &str) -> Result<BTreeMap<usize, String>, Unread> {
     let mut scratch = Scratch::new(alloc);
     let mut reader = Reader::new(text, &mut scratch)?;
     let mut codes = BTreeMap::new(alloc);

@@ -4,17 +4,18 @@
 //! once: that text is of the same tree, and what it means is what the text means. So a key that
 //! stands twice needs no value in memory, nor does what a later value takes the place of.
 ghost use Rattle.std.specs.Prelude.{IfOk};
-ghost use Rattle.bson_filter.specs.Filtered.{IsFilteredText, IsShownText, IsSortedText};
+ghost use Rattle.bson_filter.specs.Filtered.{IsFilteredText, IsShownText, IsShownTextBy, IsShownTextInOrder};
+ghost use Rattle.bson_filter.specs.Filtered.{IsSortedText};
 
 use crate::pieces::memory_allowed;
 use crate::shown_text::ShownWriter;
 use crate::sorted_text::SortedWriter;
 use crate::text::TextWriter;
-use crate::unstreamed::Unstreamed;
 use crate::walk::write_text;
 use bson_distinct::arrange::arrange_text;
 use bson_distinct::arrangement::Arrangement;
 use bson_scalar::form::{Doubles, Form};
+use bson_tokens::unread::Unread;
 use json::Writer;
 use std::alloc::Global;
 
@@ -22,33 +23,28 @@ use std::alloc::Global;
 /// in the order of the text, at every depth, and of a key that stands twice the last value at the
 /// first place. It is written as the text is read, with no value in memory.
 ///
-/// `Left` says nothing of the text. It comes where the text is no JSON text of at most 127 levels,
-/// or means nothing.
+/// `Refused` says nothing of the text. It comes where the text is no JSON text of at most 127
+/// levels, or means nothing.
 pub fn filter_text(
     alloc: Global,
     doubles: Doubles,
     form: Form,
     text: &str,
-) -> Result<Vec<u8>, Unstreamed>
+) -> Result<Vec<u8>, Unread>
     ensures ok { IfOk result (λ written. IsFilteredText doubles form text.now written.items) }
 {
     match write_filtered(alloc, doubles, form, text) {
-        Err(Unstreamed::Left) => filter_arranged(alloc, doubles, form, text),
+        Err(Unread::Refused) => filter_arranged(alloc, doubles, form, text),
         written => written,
     }
 }
 
 /// [`filter_text`] with each document's keys in ascending order of bytes.
-pub fn sort_text(
-    alloc: Global,
-    doubles: Doubles,
-    form: Form,
-    text: &str,
-) -> Result<Vec<u8>, Unstreamed>
+pub fn sort_text(alloc: Global, doubles: Doubles, form: Form, text: &str) -> Result<Vec<u8>, Unread>
     ensures ok { IfOk result (λ written. IsSortedText doubles form text.now written.items) }
 {
     match write_sorted(alloc, doubles, form, text) {
-        Err(Unstreamed::Left) => sort_arranged(alloc, doubles, form, text),
+        Err(Unread::Refused) => sort_arranged(alloc, doubles, form, text),
         written => written,
     }
 }
@@ -56,12 +52,30 @@ pub fn sort_text(
 /// The bytes of the text that shows the value that the text means by default, each document's keys
 /// in ascending order of bytes: it is written as the text is read, with no value in memory.
 ///
-/// `Left` says nothing of the text, and comes where it comes from [`sort_text`].
-pub fn show_text(alloc: Global, doubles: Doubles, text: &str) -> Result<Vec<u8>, Unstreamed>
+/// `Refused` says nothing of the text, and comes where it comes from [`sort_text`].
+pub fn show_text(alloc: Global, doubles: Doubles, text: &str) -> Result<Vec<u8>, Unread>
     ensures ok { IfOk result (λ written. IsShownText doubles text.now written.items) }
 {
-    match write_shown(alloc, doubles, text) {
-        Err(Unstreamed::Left) => show_arranged(alloc, doubles, text),
+    show_by(alloc, doubles, Arrangement::Ascending, text)
+}
+
+/// [`show_text`] with each document's keys in the order of the text, as [`filter_text`] has them.
+pub fn show_text_in_order(alloc: Global, doubles: Doubles, text: &str) -> Result<Vec<u8>, Unread>
+    ensures ok { IfOk result (λ written. IsShownTextInOrder doubles text.now written.items) }
+{
+    show_by(alloc, doubles, Arrangement::FirstPlaces, text)
+}
+
+fn show_by(
+    alloc: Global,
+    doubles: Doubles,
+    arrangement: Arrangement,
+    text: &str,
+) -> Result<Vec<u8>, Unread>
+    ensures ok { IfOk result (λ written. IsShownTextBy doubles arrangement text.now written.items) }
+{
+    match write_shown(alloc, doubles, arrangement, text) {
+        Err(Unread::Refused) => show_arranged(alloc, doubles, arrangement, text),
         written => written,
     }
 }
@@ -72,39 +86,39 @@ fn filter_arranged(
     doubles: Doubles,
     form: Form,
     text: &str,
-) -> Result<Vec<u8>, Unstreamed>
+) -> Result<Vec<u8>, Unread>
     ensures ok { IfOk result (λ written. IsFilteredText doubles form text.now written.items) }
 {
     let arranged = arrange_text(alloc, Arrangement::FirstPlaces, text)?;
     write_filtered(alloc, doubles, form, arranged.as_str())
 }
 
-fn sort_arranged(
-    alloc: Global,
-    doubles: Doubles,
-    form: Form,
-    text: &str,
-) -> Result<Vec<u8>, Unstreamed>
+fn sort_arranged(alloc: Global, doubles: Doubles, form: Form, text: &str) -> Result<Vec<u8>, Unread>
     ensures ok { IfOk result (λ written. IsSortedText doubles form text.now written.items) }
 {
     let arranged = arrange_text(alloc, Arrangement::Ascending, text)?;
     write_sorted(alloc, doubles, form, arranged.as_str())
 }
 
-fn show_arranged(alloc: Global, doubles: Doubles, text: &str) -> Result<Vec<u8>, Unstreamed>
-    ensures ok { IfOk result (λ written. IsShownText doubles text.now written.items) }
+fn show_arranged(
+    alloc: Global,
+    doubles: Doubles,
+    arrangement: Arrangement,
+    text: &str,
+) -> Result<Vec<u8>, Unread>
+    ensures ok { IfOk result (λ written. IsShownTextBy doubles arrangement text.now written.items) }
 {
-    let arranged = arrange_text(alloc, Arrangement::Ascending, text)?;
-    write_shown(alloc, doubles, arranged.as_str())
+    let arranged = arrange_text(alloc, arrangement, text)?;
+    write_shown(alloc, doubles, arrangement, arranged.as_str())
 }
 
-// Left is also a text with a key twice in an object.
+// Refused is also a text with a key twice in an object.
 fn write_filtered(
     alloc: Global,
     doubles: Doubles,
     form: Form,
     text: &str,
-) -> Result<Vec<u8>, Unstreamed>
+) -> Result<Vec<u8>, Unread>
     ensures ok { IfOk result (λ written. IsFilteredText doubles form text.now written.items) }
 {
     let mut writer = TextWriter {
@@ -117,14 +131,9 @@ fn write_filtered(
     Ok(writer.out.into_inner())
 }
 
-// Left is also a text that would take more than some ten times its size to be put in order, which
-// one whose keys ascend does not.
-fn write_sorted(
-    alloc: Global,
-    doubles: Doubles,
-    form: Form,
-    text: &str,
-) -> Result<Vec<u8>, Unstreamed>
+// Refused is also a text that would take more than some ten times its size to be put in order,
+// which one whose keys ascend does not.
+fn write_sorted(alloc: Global, doubles: Doubles, form: Form, text: &str) -> Result<Vec<u8>, Unread>
     ensures ok { IfOk result (λ written. IsSortedText doubles form text.now written.items) }
 {
     let mut writer = SortedWriter {
@@ -141,11 +150,17 @@ fn write_sorted(
     Ok(writer.text)
 }
 
-fn write_shown(alloc: Global, doubles: Doubles, text: &str) -> Result<Vec<u8>, Unstreamed>
-    ensures ok { IfOk result (λ written. IsShownText doubles text.now written.items) }
+fn write_shown(
+    alloc: Global,
+    doubles: Doubles,
+    arrangement: Arrangement,
+    text: &str,
+) -> Result<Vec<u8>, Unread>
+    ensures ok { IfOk result (λ written. IsShownTextBy doubles arrangement text.now written.items) }
 {
     let mut writer = ShownWriter {
         alloc,
+        arrangement,
         text: Vec::with_capacity(alloc, text.len())?,
         part: String::new(alloc),
         starts: Vec::new(alloc),

@@ -5,8 +5,7 @@
 //! ascending order, and the text that shows it), `walk` (the way over the tokens), `ahead` (code that
 //! it is told of before it comes to it), `writer` (what is written to), `text` (a text that is),
 //! `distinct` (whether a key stands twice), `sorted_text` (a text whose keys are put in order),
-//! `shown_text` (one that shows values), `pieces` (the texts of an object's members, in order),
-//! `unstreamed` (why a text was not written so).
+//! `shown_text` (one that shows values), `pieces` (the texts of an object's members, in order).
 #![tactic(auto)]
 
 pub mod ahead;
@@ -16,6 +15,5 @@ mod pieces;
 mod shown_text;
 mod sorted_text;
 mod text;
-pub mod unstreamed;
 pub mod walk;
 pub mod writer;

@@ -8,8 +8,8 @@ ghost use Rattle.bson_filter.specs.Pieces.{Follows, InOrder, IsEnded, IsOpen, Is
 ghost use Rattle.bson_model.specs.Stable.{IsStableByKey};
 ghost use Rattle.serde_json.specs.Written.{comma_if};
 
-use crate::unstreamed::Unstreamed;
 use bson_tokens::prefix::prefix_of;
+use bson_tokens::unread::Unread;
 use std::alloc::{AllocError, Global};
 
 // So many members or fewer are sorted with no memory.
@@ -36,7 +36,7 @@ pub(crate) fn end_object(
     start: usize,
     most: usize,
     text: &mut Vec<u8>,
-) -> Result<(), Unstreamed>
+) -> Result<(), Unread>
     requires paired { length keys.now ≡ length starts.now }
     requires within { All (IsWithin text.old.items) (pieces_from keys.now starts.now (length text.old.items)) }
     requires opened { IsOpen (take start text.old.items) text.old.items
@@ -49,10 +49,10 @@ pub(crate) fn end_object(
         return Ok(());
     }
     if memory_for(keys.len(), text.len()) > most {
-        return Err(Unstreamed::Left);
+        return Err(Unread::Refused);
     }
     let pieces = pieces_of(alloc, keys, starts, text.len())?;
-    let written = in_order(alloc, pieces, start, text)?.ok_or(Unstreamed::Left)?;
+    let written = in_order(alloc, pieces, start, text)?.ok_or(Unread::Refused)?;
     text.truncate(start);
     text.extend_from_slice(&written)?;
     Ok(())

@@ -1,15 +1,21 @@
-//! The text that shows values, each document's keys in ascending order.
-ghost use Rattle.std.specs.Prelude.{◌≡◌, ◌∷◌, ◌++◌, [], length, true, false, codes, OnOk};
+//! The text that shows values, each document's keys in ascending order or in the order in which they
+//! came.
+ghost use Rattle.std.specs.Prelude.{◌≡◌, ◌∷◌, ◌++◌, [], length, map, true, false, codes, OnOk};
 ghost use Rattle.bson_scalar.specs.Displayed.{scalar_text};
 ghost use Rattle.bson_scalar.specs.View.{scalar_of, scalar_view};
-ghost use Rattle.bson_filter.specs.ShownWritten.{Added, Next, separator_if};
+ghost use Rattle.bson_model.specs.Value.{Pairs};
+ghost use Rattle.bson_distinct.specs.declared.arrangement.Arrangement.TheVariants as arrangement;
+ghost use Rattle.bson_filter.specs.ShownWritten.{Added, IsBegun, KeyAdded, Next, PairsAdded, ValueAdded, brace_behind, separator_if};
+ghost use Rattle.bson_filter.specs.Walked.{PairsWritten, keys_of, once};
 
+use crate::distinct::are_distinct;
 use crate::pieces::{end_object, put_comma};
 use crate::sorted_text::Begun;
-use crate::unstreamed::Unstreamed;
 use crate::writer::ValueWriter;
+use bson_distinct::arrangement::Arrangement;
 use bson_scalar::scalar::Scalar;
 use bson_scalar::scalar_ref::ScalarRef;
+use bson_tokens::unread::Unread;
 use itoa::Buffer;
 use std::alloc::{AllocError, Global};
 
@@ -18,6 +24,8 @@ use std::alloc::{AllocError, Global};
 #[derive(Drop)]
 pub(crate) struct ShownWriter {
     pub(crate) alloc: Global,
+    // Where the keys of a document go.
+    pub(crate) arrangement: Arrangement,
     pub(crate) text: Vec<u8>,
     // Room for the text of a scalar.
     pub(crate) part: String,
@@ -70,82 +78,17 @@ impl ShownWriter {
             held: self.starts.len(),
         }
     }
-}
 
-// The members begin with a blank, so that a comma alone stands between them.
-impl ValueWriter for ShownWriter {
-    type Open = Begun;
-
-    ghost use Rattle.bson_filter.specs.ShownWritten.{ValueAdded, PairsAdded, IsBegun, KeyAdded, IsCodeBegun};
-
-    ghost name_of = { λ n. [] };
-
-    ghost wrote = { λ old k v new. ValueAdded old v new };
-
-    ghost framed = { λ old ps new. PairsAdded old ps new };
-
-    ghost listed = { λ old k begun new. Next old (codes "[") false new };
-
-    ghost opened = { λ old begun new. IsBegun old begun new };
-
-    ghost keyed = { λ old k new. KeyAdded old k new };
-
-    ghost coded = { λ old k s begun new. IsCodeBegun old s begun new };
-
-    fn string(&mut self, _name: &str, text: &str) -> Result<(), Unstreamed> {
-        self.add_separator()?;
-        self.add(b"\"", false)?;
-        self.add(text.as_bytes(), false)?;
-        Ok(self.add(b"\"", true)?)
-    }
-
-    fn boolean(&mut self, _name: &str, truth: bool) -> Result<(), Unstreamed> {
-        Ok(self.add_scalar(Scalar::Boolean(truth))?)
-    }
-
-    fn null(&mut self, _name: &str) -> Result<(), Unstreamed> {
-        Ok(self.add_scalar(Scalar::Null)?)
-    }
-
-    fn scalar(&mut self, _name: &str, value: Scalar) -> Result<(), Unstreamed> {
-        Ok(self.add_scalar(value)?)
-    }
-
-    fn item_name<'b>(_buffer: &'b mut Buffer, _place: usize) -> &'b str {
-        ""
-    }
-
-    fn begin_array(&mut self, _name: &str) -> Result<Begun, Unstreamed> {
-        self.add_separator()?;
-        let begun = self.position();
-        self.add(b"[", false)?;
-        Ok(begun)
-    }
-
-    fn end_array(&mut self, _begun: Begun) -> Result<(), Unstreamed> {
-        Ok(self.add(b"]", true)?)
-    }
-
-    fn embed(&mut self, _name: &str) -> Result<(), Unstreamed> {
-        Ok(())
-    }
-
-    fn begin(&mut self) -> Result<Begun, Unstreamed> {
-        self.add_separator()?;
-        let begun = self.position();
-        self.add(b"{", false)?;
-        Ok(begun)
-    }
-
-    fn key(&mut self, name: &str) -> Result<(), Unstreamed> {
-        put_comma(self.behind, &mut self.text)?;
-        self.starts.push(self.text.len())?;
-        self.add(b" \"", false)?;
-        self.add(name.as_bytes(), false)?;
-        Ok(self.add(b"\": ", false)?)
-    }
-
-    fn end(&mut self, begun: Begun, keys: &mut [&str]) -> Result<(), Unstreamed> {
+    // Ends a document, whose members are put by ascending key.
+    fn end_sorted(&mut self, begun: Begun, keys: &[&str]) -> Result<(), Unread>
+        requires stands { (start : ShownWriter) × (mid : ShownWriter) × (ps : Pairs) × IsBegun start begun mid
+            × PairsWritten (λ a k v b. ValueAdded a v b) KeyAdded ps mid self.old
+            × (keys_of ps ≡ map (λ k. k.now) keys.now) }
+        requires ascending { self.old.arrangement ≡ arrangement.Ascending }
+        ensures { OnOk result ((start : ShownWriter) (mid : ShownWriter) (ps : Pairs) → IsBegun start begun mid
+            → PairsWritten (λ a k v b. ValueAdded a v b) KeyAdded ps mid self.old
+            → keys_of ps ≡ map (λ k. k.now) keys.now → PairsAdded start (once ps) self.new) }
+    {
         let starts = &self.starts[begun.held..];
         end_object(
             self.alloc,
@@ -164,14 +107,117 @@ impl ValueWriter for ShownWriter {
         Ok(())
     }
 
+    // Ends a document, whose members stay as they came. It is refused where a key came twice.
+    fn end_in_order(&mut self, begun: Begun, keys: &mut [&str]) -> Result<(), Unread>
+        requires first_places { self.old.arrangement ≡ arrangement.FirstPlaces }
+        ensures { OnOk result ((start : ShownWriter) (mid : ShownWriter) (ps : Pairs) → IsBegun start begun mid
+            → PairsWritten (λ a k v b. ValueAdded a v b) KeyAdded ps mid self.old
+            → keys_of ps ≡ map (λ k. k.now) keys.old → PairsAdded start (once ps) self.new) }
+    {
+        let brace = brace_behind(self.behind);
+        if !are_distinct(self.alloc, keys) {
+            return Err(Unread::Refused);
+        }
+        self.starts.truncate(begun.held);
+        Ok(self.add(brace, true)?)
+    }
+}
+
+// The brace that ends a document, with a blank behind its members.
+fn brace_behind(behind: bool) -> &'static [u8]
+    ensures { result.now ≡ brace_behind behind }
+{
+    if behind { b" }" } else { b"}" }
+}
+
+// The members begin with a blank, so that a comma alone stands between them.
+impl ValueWriter for ShownWriter {
+    type Open = Begun;
+
+    ghost use Rattle.bson_filter.specs.ShownWritten.{IsCodeBegun};
+
+    ghost name_of = { λ n. [] };
+
+    ghost wrote = { λ old k v new. ValueAdded old v new };
+
+    ghost framed = { λ old ps new. PairsAdded old ps new };
+
+    ghost listed = { λ old k begun new. Next old (codes "[") false new };
+
+    ghost opened = { λ old begun new. IsBegun old begun new };
+
+    ghost keyed = { λ old k new. KeyAdded old k new };
+
+    ghost coded = { λ old k s begun new. IsCodeBegun old s begun new };
+
+    fn string(&mut self, _name: &str, text: &str) -> Result<(), Unread> {
+        self.add_separator()?;
+        self.add(b"\"", false)?;
+        self.add(text.as_bytes(), false)?;
+        Ok(self.add(b"\"", true)?)
+    }
+
+    fn boolean(&mut self, _name: &str, truth: bool) -> Result<(), Unread> {
+        Ok(self.add_scalar(Scalar::Boolean(truth))?)
+    }
+
+    fn null(&mut self, _name: &str) -> Result<(), Unread> {
+        Ok(self.add_scalar(Scalar::Null)?)
+    }
+
+    fn scalar(&mut self, _name: &str, value: Scalar) -> Result<(), Unread> {
+        Ok(self.add_scalar(value)?)
+    }
+
+    fn item_name<'b>(_buffer: &'b mut Buffer, _place: usize) -> &'b str {
+        ""
+    }
+
+    fn begin_array(&mut self, _name: &str) -> Result<Begun, Unread> {
+        self.add_separator()?;
+        let begun = self.position();
+        self.add(b"[", false)?;
+        Ok(begun)
+    }
+
+    fn end_array(&mut self, _begun: Begun) -> Result<(), Unread> {
+        Ok(self.add(b"]", true)?)
+    }
+
+    fn embed(&mut self, _name: &str) -> Result<(), Unread> {
+        Ok(())
+    }
+
+    fn begin(&mut self) -> Result<Begun, Unread> {
+        self.add_separator()?;
+        let begun = self.position();
+        self.add(b"{", false)?;
+        Ok(begun)
+    }
+
+    fn key(&mut self, name: &str) -> Result<(), Unread> {
+        put_comma(self.behind, &mut self.text)?;
+        self.starts.push(self.text.len())?;
+        self.add(b" \"", false)?;
+        self.add(name.as_bytes(), false)?;
+        Ok(self.add(b"\": ", false)?)
+    }
+
+    fn end(&mut self, begun: Begun, keys: &mut [&str]) -> Result<(), Unread> {
+        match self.arrangement {
+            Arrangement::FirstPlaces => self.end_in_order(begun, keys),
+            Arrangement::Ascending => self.end_sorted(begun, keys),
+        }
+    }
+
     // What is begun is the scope, which is not shown.
-    fn begin_code(&mut self, _name: &str, code: &str) -> Result<Begun, Unstreamed> {
+    fn begin_code(&mut self, _name: &str, code: &str) -> Result<Begun, Unread> {
         self.add_separator()?;
         self.add(code.as_bytes(), false)?;
         Ok(self.position())
     }
 
-    fn end_code(&mut self, scope: Begun) -> Result<(), Unstreamed> {
+    fn end_code(&mut self, scope: Begun) -> Result<(), Unread> {
         self.text.truncate(scope.start);
         self.behind = true;
         Ok(())

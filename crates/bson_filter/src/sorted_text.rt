@@ -5,12 +5,12 @@ ghost use Rattle.serde_json.specs.Written.{comma_if};
 ghost use Rattle.bson_filter.specs.SortedWritten.{Added};
 
 use crate::pieces::{end_object, put_comma};
-use crate::unstreamed::Unstreamed;
 use crate::writer::ValueWriter;
 use bson_scalar::code::put_code;
 use bson_scalar::form::{Doubles, Form};
 use bson_scalar::scalar::Scalar;
 use bson_scalar::write::print_scalar_in;
+use bson_tokens::unread::Unread;
 use itoa::Buffer;
 use json::Writer;
 use std::alloc::{AllocError, Global};
@@ -111,25 +111,25 @@ impl ValueWriter for SortedWriter {
 
     ghost coded = { λ old k s begun new. Next old (print (code_tokens s)) false new };
 
-    fn string(&mut self, _name: &str, text: &str) -> Result<(), Unstreamed> {
+    fn string(&mut self, _name: &str, text: &str) -> Result<(), Unread> {
         let mut part = self.begin_part()?;
         part.string(text)?;
         Ok(self.add_part(part, true)?)
     }
 
-    fn boolean(&mut self, _name: &str, truth: bool) -> Result<(), Unstreamed> {
+    fn boolean(&mut self, _name: &str, truth: bool) -> Result<(), Unread> {
         let mut part = self.begin_part()?;
         part.boolean(truth)?;
         Ok(self.add_part(part, true)?)
     }
 
-    fn null(&mut self, _name: &str) -> Result<(), Unstreamed> {
+    fn null(&mut self, _name: &str) -> Result<(), Unread> {
         let mut part = self.begin_part()?;
         part.null()?;
         Ok(self.add_part(part, true)?)
     }
 
-    fn scalar(&mut self, _name: &str, value: Scalar) -> Result<(), Unstreamed> {
+    fn scalar(&mut self, _name: &str, value: Scalar) -> Result<(), Unread> {
         let mut part = self.begin_part()?;
         print_scalar_in(self.alloc, self.doubles, self.form, value, &mut part)?;
         Ok(self.add_part(part, true)?)
@@ -139,36 +139,36 @@ impl ValueWriter for SortedWriter {
         ""
     }
 
-    fn begin_array(&mut self, _name: &str) -> Result<Begun, Unstreamed> {
+    fn begin_array(&mut self, _name: &str) -> Result<Begun, Unread> {
         self.add_comma()?;
         let begun = self.position();
         self.add_byte(b'[', false)?;
         Ok(begun)
     }
 
-    fn end_array(&mut self, _begun: Begun) -> Result<(), Unstreamed> {
+    fn end_array(&mut self, _begun: Begun) -> Result<(), Unread> {
         Ok(self.add_byte(b']', true)?)
     }
 
-    fn embed(&mut self, _name: &str) -> Result<(), Unstreamed> {
+    fn embed(&mut self, _name: &str) -> Result<(), Unread> {
         Ok(())
     }
 
-    fn begin(&mut self) -> Result<Begun, Unstreamed> {
+    fn begin(&mut self) -> Result<Begun, Unread> {
         self.add_comma()?;
         let begun = self.position();
         self.add_byte(b'{', false)?;
         Ok(begun)
     }
 
-    fn key(&mut self, name: &str) -> Result<(), Unstreamed> {
+    fn key(&mut self, name: &str) -> Result<(), Unread> {
         let mut part = self.begin_part()?;
         self.starts.push(self.text.len())?;
         part.key(name)?;
         Ok(self.add_part(part, false)?)
     }
 
-    fn end(&mut self, begun: Begun, keys: &mut [&str]) -> Result<(), Unstreamed> {
+    fn end(&mut self, begun: Begun, keys: &mut [&str]) -> Result<(), Unread> {
         let starts = &self.starts[begun.held..];
         end_object(
             self.alloc,
@@ -183,7 +183,7 @@ impl ValueWriter for SortedWriter {
         Ok(())
     }
 
-    fn begin_code(&mut self, _name: &str, code: &str) -> Result<Begun, Unstreamed> {
+    fn begin_code(&mut self, _name: &str, code: &str) -> Result<Begun, Unread> {
         let mut part = self.begin_part()?;
         let begun = self.position();
         put_code(code, &mut part)?;
@@ -191,7 +191,7 @@ impl ValueWriter for SortedWriter {
         Ok(begun)
     }
 
-    fn end_code(&mut self, _begun: Begun) -> Result<(), Unstreamed> {
+    fn end_code(&mut self, _begun: Begun) -> Result<(), Unread> {
         Ok(self.add_byte(b'}', true)?)
     }
 }

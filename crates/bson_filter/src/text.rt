@@ -2,12 +2,12 @@
 ghost use Rattle.std.specs.Prelude.{◌≡◌};
 
 use crate::distinct::are_distinct;
-use crate::unstreamed::Unstreamed;
 use crate::writer::ValueWriter;
 use bson_scalar::code::put_code;
 use bson_scalar::form::{Doubles, Form};
 use bson_scalar::scalar::Scalar;
 use bson_scalar::write::print_scalar_in;
+use bson_tokens::unread::Unread;
 use itoa::Buffer;
 use json::Writer;
 use std::alloc::Global;
@@ -43,19 +43,19 @@ impl ValueWriter for TextWriter {
 
     ghost coded = { λ old k s begun new. Sent old (code_tokens s) new };
 
-    fn string(&mut self, _name: &str, text: &str) -> Result<(), Unstreamed> {
+    fn string(&mut self, _name: &str, text: &str) -> Result<(), Unread> {
         Ok(self.out.string(text)?)
     }
 
-    fn boolean(&mut self, _name: &str, truth: bool) -> Result<(), Unstreamed> {
+    fn boolean(&mut self, _name: &str, truth: bool) -> Result<(), Unread> {
         Ok(self.out.boolean(truth)?)
     }
 
-    fn null(&mut self, _name: &str) -> Result<(), Unstreamed> {
+    fn null(&mut self, _name: &str) -> Result<(), Unread> {
         Ok(self.out.null()?)
     }
 
-    fn scalar(&mut self, _name: &str, value: Scalar) -> Result<(), Unstreamed> {
+    fn scalar(&mut self, _name: &str, value: Scalar) -> Result<(), Unread> {
         Ok(print_scalar_in(self.alloc, self.doubles, self.form, value, &mut self.out)?)
     }
 
@@ -63,38 +63,38 @@ impl ValueWriter for TextWriter {
         ""
     }
 
-    fn begin_array(&mut self, _name: &str) -> Result<(), Unstreamed> {
+    fn begin_array(&mut self, _name: &str) -> Result<(), Unread> {
         Ok(self.out.begin_array()?)
     }
 
-    fn end_array(&mut self, _open: ()) -> Result<(), Unstreamed> {
+    fn end_array(&mut self, _open: ()) -> Result<(), Unread> {
         Ok(self.out.end_array()?)
     }
 
-    fn embed(&mut self, _name: &str) -> Result<(), Unstreamed> {
+    fn embed(&mut self, _name: &str) -> Result<(), Unread> {
         Ok(())
     }
 
-    fn begin(&mut self) -> Result<(), Unstreamed> {
+    fn begin(&mut self) -> Result<(), Unread> {
         Ok(self.out.begin_object()?)
     }
 
-    fn key(&mut self, name: &str) -> Result<(), Unstreamed> {
+    fn key(&mut self, name: &str) -> Result<(), Unread> {
         Ok(self.out.key(name)?)
     }
 
-    fn end(&mut self, _open: (), keys: &mut [&str]) -> Result<(), Unstreamed> {
+    fn end(&mut self, _open: (), keys: &mut [&str]) -> Result<(), Unread> {
         if !are_distinct(self.alloc, keys) {
-            return Err(Unstreamed::Left);
+            return Err(Unread::Refused);
         }
         Ok(self.out.end_object()?)
     }
 
-    fn begin_code(&mut self, _name: &str, code: &str) -> Result<(), Unstreamed> {
+    fn begin_code(&mut self, _name: &str, code: &str) -> Result<(), Unread> {
         Ok(put_code(code, &mut self.out)?)
     }
 
-    fn end_code(&mut self, _open: ()) -> Result<(), Unstreamed> {
+    fn end_code(&mut self, _open: ()) -> Result<(), Unread> {
         Ok(self.out.end_object()?)
     }
 }

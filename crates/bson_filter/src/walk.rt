@@ -14,7 +14,6 @@ ghost use Rattle.bson_filter.specs.Walked.{TreeMeans, ItemsMean, ObjectMeans, Me
 ghost use Rattle.bson_filter.specs.Walked.{CodeMeans, CodeEnds, kept_object, inside, from_key};
 
 use crate::ahead::Ahead;
-use crate::unstreamed::Unstreamed;
 use crate::writer::ValueWriter;
 use bson_scalar::code::is_code_with_scope;
 use bson_scalar::doubles::read_number;
@@ -24,6 +23,7 @@ use bson_scalar::scalar::Scalar;
 use bson_scalar::wrapper::{Wrapper, wrapper_named};
 use bson_tokens::held::read_held;
 use bson_tokens::number::number;
+use bson_tokens::unread::Unread;
 use itoa::Buffer;
 use json::{Reader, Scratch, Token};
 use serde_json::Value;
@@ -38,7 +38,7 @@ pub(crate) fn write_text<W: ValueWriter>(
     doubles: Doubles,
     text: &str,
     out: &mut W,
-) -> Result<(), Unstreamed>
+) -> Result<(), Unread>
     ensures { OnOk result ((v : Meaning) × HasMeaningInOrder doubles text.now v × W.wrote out.old [] v out.new) }
 {
     let mut scratch = Scratch::new(alloc);
@@ -56,14 +56,14 @@ pub(crate) fn write_text<W: ValueWriter>(
         out,
     )?;
     if reader.next().is_some() {
-        return Err(Unstreamed::Left);
+        return Err(Unread::Refused);
     }
     Ok(())
 }
 
 /// Writes the value that stands next under the name.
 ///
-/// `Left` says nothing of the text: it is to be read whole. It comes where the text breaks the
+/// `Refused` says nothing of the text: it is to be read whole. It comes where the text breaks the
 /// grammar, nests deeper, means nothing, or has in some object a key twice.
 ///
 /// The keys of the objects that are open are held, each object's behind those around it; of code
@@ -78,28 +78,28 @@ pub fn write_value<'a, W: ValueWriter>(
     keys: &mut Vec<&'a str>,
     ahead: &mut Ahead<'_>,
     out: &mut W,
-) -> Result<(), Unstreamed>
+) -> Result<(), Unread>
     ensures ok { OnOk result (TreeMeans doubles (converted kept (value depth reader.old)) reader.new
         (λ v. W.wrote out.old name.now v out.new)) }
     ensures keys { OnOk result (keys.new.items ≡ keys.old.items) }
     ensures shorter { OnOk result (length reader.new < length reader.old) }
 {
-    let token = reader.next().ok_or(Unstreamed::Left)?;
+    let token = reader.next().ok_or(Unread::Refused)?;
     match token {
         Token::String(text) => out.string(name, text),
         Token::Number(text) => out.scalar(name, read_token(doubles, text)?),
         Token::Bool(truth) => out.boolean(name, truth),
         Token::Null => out.null(name),
-        Token::EndObject | Token::EndArray | Token::Key(_) | Token::Bad => Err(Unstreamed::Left),
+        Token::EndObject | Token::EndArray | Token::Key(_) | Token::Bad => Err(Unread::Refused),
         Token::BeginArray => {
             if depth == 0 {
-                return Err(Unstreamed::Left);
+                return Err(Unread::Refused);
             }
             write_array(alloc, doubles, reader, depth - 1, name, keys, ahead, out)
         }
         Token::BeginObject => {
             if depth == 0 {
-                return Err(Unstreamed::Left);
+                return Err(Unread::Refused);
             }
             write_object(alloc, doubles, reader, depth - 1, name, keys, ahead, out)
         }
@@ -107,11 +107,11 @@ pub fn write_value<'a, W: ValueWriter>(
 }
 
 // The number of a token.
-fn read_token(doubles: Doubles, text: &str) -> Result<Scalar, Unstreamed>
+fn read_token(doubles: Doubles, text: &str) -> Result<Scalar, Unread>
     ensures { IfOk result (λ x. (n : Num) × (number_of text.now ≡ Some n)
         × (number_read_in doubles n ≡ Ok (scalar_view x))) }
 {
-    let n = number(text).ok_or(Unstreamed::Left)?;
+    let n = number(text).ok_or(Unread::Refused)?;
     Ok(read_number(doubles, &n)?)
 }
 
@@ -126,7 +126,7 @@ fn write_array<'a, W: ValueWriter>(
     keys: &mut Vec<&'a str>,
     ahead: &mut Ahead<'_>,
     out: &mut W,
-) -> Result<(), Unstreamed>
+) -> Result<(), Unread>
     ensures ok { OnOk result
         (ItemsMean doubles (converted kept_items (items (value depth) (length reader.old) reader.old)) reader.new
         (λ vs. W.wrote out.old name.now (array vs) out.new)) }
@@ -139,7 +139,7 @@ fn write_array<'a, W: ValueWriter>(
         let mut buffer = Buffer::new();
         let name = W::item_name(&mut buffer, place);
         write_value(alloc, doubles, reader, depth, name, keys, ahead, out)?;
-        place = place.checked_add(1).ok_or(Unstreamed::Left)?;
+        place = place.checked_add(1).ok_or(Unread::Refused)?;
     }
     out.end_array(begun)
 }
@@ -155,7 +155,7 @@ fn write_object<'a, W: ValueWriter>(
     keys: &mut Vec<&'a str>,
     ahead: &mut Ahead<'_>,
     out: &mut W,
-) -> Result<(), Unstreamed>
+) -> Result<(), Unread>
     ensures ok { OnOk result (ObjectMeans doubles (kept_object (inside depth reader.old)) reader.new
         (λ v. W.wrote out.old name.now v out.new)) }
     ensures keys { OnOk result (keys.new.items ≡ keys.old.items) }
@@ -191,7 +191,7 @@ pub fn write_document<'a, W: ValueWriter>(
     keys: &mut Vec<&'a str>,
     ahead: &mut Ahead<'_>,
     out: &mut W,
-) -> Result<(), Unstreamed>
+) -> Result<(), Unread>
     ensures ok { OnOk result (MembersMean doubles is_document
         (kept_object (from_key depth (option_map (λ k. k.now) first.entry) reader.old)) reader.new
         (λ ps. W.framed out.old ps out.new)) }
@@ -203,7 +203,7 @@ pub fn write_document<'a, W: ValueWriter>(
     let mut next = first;
     'members: while let Some(key) = next {
         if is_misplaced(is_document, key) {
-            return Err(Unstreamed::Left);
+            return Err(Unread::Refused);
         }
         keys.push(key)?;
         out.key(key)?;
@@ -236,7 +236,7 @@ fn write_wrapper<'a, W: ValueWriter>(
     keys: &mut Vec<&'a str>,
     ahead: &mut Ahead<'_>,
     out: &mut W,
-) -> Result<(), Unstreamed>
+) -> Result<(), Unread>
     requires { wrapper_of key.now ≡ Some wrapper }
     ensures ok { OnOk result (ObjectMeans doubles (kept_object (from_key depth (Some key.now) reader.old)) reader.new
         (λ v. W.wrote out.old name.now v out.new)) }
@@ -248,10 +248,10 @@ fn write_wrapper<'a, W: ValueWriter>(
         return out.scalar(name, read_wrapper(alloc, doubles, wrapper, held)?);
     };
     if !is_code_with_scope(key, other) {
-        return Err(Unstreamed::Left);
+        return Err(Unread::Refused);
     }
     let Value::String(code) = held else {
-        return Err(Unstreamed::Left);
+        return Err(Unread::Refused);
     };
     write_code(
         alloc, doubles, reader, depth, &code, false, name, keys, ahead, out,
@@ -273,7 +273,7 @@ fn write_code<'a, W: ValueWriter>(
     keys: &mut Vec<&'a str>,
     ahead: &mut Ahead<'_>,
     out: &mut W,
-) -> Result<(), Unstreamed>
+) -> Result<(), Unread>
     ensures ok { OnOk result (CodeMeans doubles depth code.now is_behind reader.old reader.new
         (λ v. W.wrote out.old name.now v out.new)) }
     ensures keys { OnOk result (keys.new.items ≡ keys.old.items) }
@@ -290,7 +290,7 @@ fn write_code<'a, W: ValueWriter>(
             end_object(reader, code, is_behind)?;
             out.end_code(begun)
         }
-        _ => Err(Unstreamed::Left),
+        _ => Err(Unread::Refused),
     }
 }
 
@@ -304,13 +304,13 @@ fn write_scope<'a, W: ValueWriter>(
     keys: &mut Vec<&'a str>,
     ahead: &mut Ahead<'_>,
     out: &mut W,
-) -> Result<(), Unstreamed>
+) -> Result<(), Unread>
     ensures ok { OnOk result (ScopeMeans doubles depth reader.old reader.new (λ ps. W.framed out.old ps out.new)) }
     ensures keys { OnOk result (keys.new.items ≡ keys.old.items) }
     ensures shorter { OnOk result (length reader.new < length reader.old) }
 {
     if depth == 0 {
-        return Err(Unstreamed::Left);
+        return Err(Unread::Refused);
     }
     let first = reader.next_key()?;
     write_document(
@@ -327,7 +327,7 @@ fn write_scope<'a, W: ValueWriter>(
 }
 
 // The end of the object of code and its scope. Where the code is behind, it is to stand there.
-fn end_object(reader: &mut Reader<'_>, code: &str, is_behind: bool) -> Result<(), Unstreamed>
+fn end_object(reader: &mut Reader<'_>, code: &str, is_behind: bool) -> Result<(), Unread>
     ensures ok { OnOk result (CodeEnds code.now is_behind reader.old reader.new) }
     ensures shorter { OnOk result (length reader.new < length reader.old) }
 {
@@ -335,26 +335,26 @@ fn end_object(reader: &mut Reader<'_>, code: &str, is_behind: bool) -> Result<()
         pass_code(reader, code)?;
     }
     if reader.next_key()?.is_some() {
-        return Err(Unstreamed::Left);
+        return Err(Unread::Refused);
     }
     Ok(())
 }
 
 // The key of code, and then this text.
-fn pass_code(reader: &mut Reader<'_>, code: &str) -> Result<(), Unstreamed>
+fn pass_code(reader: &mut Reader<'_>, code: &str) -> Result<(), Unread>
     ensures { OnOk result (read_key reader.old ≡ Some (Some (codes "$code"), token.string code.now ∷ reader.new)) }
 {
     let Some(key) = reader.next_key()? else {
-        return Err(Unstreamed::Left);
+        return Err(Unread::Refused);
     };
     if key != "$code" {
-        return Err(Unstreamed::Left);
+        return Err(Unread::Refused);
     }
     let Some(Token::String(text)) = reader.next() else {
-        return Err(Unstreamed::Left);
+        return Err(Unread::Refused);
     };
     if text != code {
-        return Err(Unstreamed::Left);
+        return Err(Unread::Refused);
     }
     Ok(())
 }

@@ -5,8 +5,8 @@ ghost use Rattle.bson_scalar.specs.View.{scalar_view};
 ghost use Rattle.bson_model.specs.Value.{Value, Values, Pairs, scalar, code_scope, array, document};
 ghost use Rattle.bson_filter.specs.Walked.{ItemsWritten, PairsWritten, keys_of, once};
 
-use crate::unstreamed::Unstreamed;
 use bson_scalar::scalar::Scalar;
+use bson_tokens::unread::Unread;
 use itoa::Buffer;
 
 /// Where values are written to, each part as it comes. A value stands under a name: its key in a
@@ -37,19 +37,19 @@ pub trait ValueWriter {
     ghost coded: { Self → List ℕ → List ℕ → Self.Open → Self → Type 0 };
 
     /// Writes a text.
-    fn string(&mut self, name: &str, text: &str) -> Result<(), Unstreamed>
+    fn string(&mut self, name: &str, text: &str) -> Result<(), Unread>
         ensures { OnOk result (wrote self.old name.now (scalar (kind.text text.now)) self.new) };
 
     /// Writes a boolean.
-    fn boolean(&mut self, name: &str, truth: bool) -> Result<(), Unstreamed>
+    fn boolean(&mut self, name: &str, truth: bool) -> Result<(), Unread>
         ensures { OnOk result (wrote self.old name.now (scalar (kind.boolean truth)) self.new) };
 
     /// Writes `null`.
-    fn null(&mut self, name: &str) -> Result<(), Unstreamed>
+    fn null(&mut self, name: &str) -> Result<(), Unread>
         ensures { OnOk result (wrote self.old name.now (scalar kind.null) self.new) };
 
     /// Writes a scalar.
-    fn scalar(&mut self, name: &str, value: Scalar) -> Result<(), Unstreamed>
+    fn scalar(&mut self, name: &str, value: Scalar) -> Result<(), Unread>
         ensures { OnOk result (wrote self.old name.now (scalar (scalar_view value)) self.new) };
 
     /// The name of the element at the place of an array.
@@ -57,33 +57,33 @@ pub trait ValueWriter {
         ensures { result.now ≡ name_of place };
 
     /// Begins an array.
-    fn begin_array(&mut self, name: &str) -> Result<Self::Open, Unstreamed>
+    fn begin_array(&mut self, name: &str) -> Result<Self::Open, Unread>
         ensures { IfOk result (λ begun. listed self.old name.now begun self.new) };
 
     /// Ends the array that was begun.
-    fn end_array(&mut self, begun: Self::Open) -> Result<(), Unstreamed>
+    fn end_array(&mut self, begun: Self::Open) -> Result<(), Unread>
         requires { (start : Self) × (mid : Self) × (k : List ℕ) × (vs : Values) × listed start k begun mid
             × ItemsWritten wrote name_of 0 vs mid self.old }
         ensures { OnOk result ((start : Self) (mid : Self) (k : List ℕ) (vs : Values) → listed start k begun mid
             → ItemsWritten wrote name_of 0 vs mid self.old → wrote start k (array vs) self.new) };
 
     /// Writes what stands before a document under a name.
-    fn embed(&mut self, name: &str) -> Result<(), Unstreamed>
+    fn embed(&mut self, name: &str) -> Result<(), Unread>
         ensures { OnOk result ((ps : Pairs) (end : Self) → framed self.new ps end
             → wrote self.old name.now (document ps) end) };
 
     /// Begins a document.
-    fn begin(&mut self) -> Result<Self::Open, Unstreamed>
+    fn begin(&mut self) -> Result<Self::Open, Unread>
         ensures { IfOk result (λ begun. opened self.old begun self.new) };
 
     /// Writes the next key of a document.
-    fn key(&mut self, name: &str) -> Result<(), Unstreamed>
+    fn key(&mut self, name: &str) -> Result<(), Unread>
         ensures { OnOk result (keyed self.old name.now self.new) };
 
     /// Ends the document that was begun, whose keys are these, in the order in which they came: of a
     /// key that came twice the last value stands, at the place of the first. They may be put in
     /// another order. A writer may leave such a document.
-    fn end(&mut self, begun: Self::Open, keys: &mut [&str]) -> Result<(), Unstreamed>
+    fn end(&mut self, begun: Self::Open, keys: &mut [&str]) -> Result<(), Unread>
         requires { (start : Self) × (mid : Self) × (ps : Pairs) × opened start begun mid
             × PairsWritten wrote keyed ps mid self.old × (keys_of ps ≡ map (λ k. k.now) keys.old) }
         ensures { OnOk result ((start : Self) (mid : Self) (ps : Pairs) → opened start begun mid
@@ -91,11 +91,11 @@ pub trait ValueWriter {
             → framed start (once ps) self.new) };
 
     /// Begins code with its scope.
-    fn begin_code(&mut self, name: &str, code: &str) -> Result<Self::Open, Unstreamed>
+    fn begin_code(&mut self, name: &str, code: &str) -> Result<Self::Open, Unread>
         ensures { IfOk result (λ begun. coded self.old name.now code.now begun self.new) };
 
     /// Ends the code that was begun.
-    fn end_code(&mut self, begun: Self::Open) -> Result<(), Unstreamed>
+    fn end_code(&mut self, begun: Self::Open) -> Result<(), Unread>
         requires { (start : Self) × (mid : Self) × (k : List ℕ) × (s : List ℕ) × (ps : Pairs) × coded start k s begun mid
             × framed mid ps self.old }
         ensures { OnOk result ((start : Self) (mid : Self) (k : List ℕ) (s : List ℕ) (ps : Pairs) → coded start k s begun mid

@@ -25,7 +25,7 @@ const MAX_DEPTH: usize = 127;
 ///
 /// An object is of an older shape where it has exactly the keys `$binary` and `$type`, or `$regex`
 /// and `$options`, in either order, each with a text; and where it has the key `$date` alone, with a
-/// text that ends in an offset of four digits, as `+0100`, which gets its colon. `Broken` is
+/// text that ends in an offset of four digits, as `+0100`, which gets its colon. `Refused` is
 /// answered where the text is no JSON text of at most 127 levels. A binary and a regular expression
 /// nest one level deeper than they did.
 ///
@@ -45,7 +45,7 @@ pub fn modern_text(alloc: Global, text: &str) -> Result<String, Unread>
     let mut out = Writer::new(Vec::with_capacity(alloc, text.len())?);
     write_value(alloc, &mut reader, MAX_DEPTH, &mut out)?;
     if reader.next().is_some() {
-        return Err(Unread::Broken);
+        return Err(Unread::Refused);
     }
     Ok(into_text(out))
 }
@@ -74,7 +74,7 @@ fn write_value<'a>(
     ensures broken { IfErr result (IsBroken (value depth reader.old)) }
     ensures before { OnOk result (out.new.before ≡ out.old.before) }
 {
-    let first = reader.next().ok_or(Unread::Broken)?;
+    let first = reader.next().ok_or(Unread::Refused)?;
     write_begun(alloc, first, reader, depth, out)
 }
 
@@ -95,17 +95,17 @@ fn write_begun<'a>(
 {
     match first {
         Token::String(_) | Token::Number(_) | Token::Bool(_) | Token::Null => Ok(out.token(first)?),
-        Token::EndObject | Token::EndArray | Token::Key(_) | Token::Bad => Err(Unread::Broken),
+        Token::EndObject | Token::EndArray | Token::Key(_) | Token::Bad => Err(Unread::Refused),
         Token::BeginArray => {
             if depth == 0 {
-                return Err(Unread::Broken);
+                return Err(Unread::Refused);
             }
             out.begin_array()?;
             write_items(alloc, reader, depth - 1, out)
         }
         Token::BeginObject => {
             if depth == 0 {
-                return Err(Unread::Broken);
+                return Err(Unread::Refused);
             }
             write_object(alloc, reader, depth - 1, out)
         }
@@ -149,7 +149,7 @@ fn write_object<'a>(
         out.begin_object()?;
         return Ok(out.end_object()?);
     };
-    let first = reader.next().ok_or(Unread::Broken)?;
+    let first = reader.next().ok_or(Unread::Refused)?;
     let Token::String(text) = first else {
         out.begin_object()?;
         return write_member(alloc, key, first, reader, depth, out);
@@ -177,7 +177,7 @@ fn write_behind_one<'a>(
     let Some(other) = reader.next_key()? else {
         return Ok(write_lone(alloc, key, text, out)?);
     };
-    let first = reader.next().ok_or(Unread::Broken)?;
+    let first = reader.next().ok_or(Unread::Refused)?;
     let Token::String(more) = first else {
         out.begin_object()?;
         write_text(key, text, out)?;
@@ -208,7 +208,7 @@ fn write_behind_two<'a>(
     let Some(third) = reader.next_key()? else {
         return Ok(write_pair(key, text, other, more, out)?);
     };
-    let first = reader.next().ok_or(Unread::Broken)?;
+    let first = reader.next().ok_or(Unread::Refused)?;
     out.begin_object()?;
     write_text(key, text, out)?;
     write_text(other, more, out)?;

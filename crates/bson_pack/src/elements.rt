@@ -8,9 +8,9 @@ use bson_bytes::error::Error;
 use bson_bytes::parts::is_free;
 use bson_bytes::put::{put_end, put_length, put_name, put_room, put_text};
 use bson_filter::distinct::are_distinct;
-use bson_filter::unstreamed::Unstreamed;
 use bson_filter::writer::ValueWriter;
 use bson_scalar::scalar::Scalar;
+use bson_tokens::unread::Unread;
 use bson_types::spec::ElementType;
 use itoa::Buffer;
 
@@ -41,79 +41,79 @@ impl ValueWriter for ElementWriter {
 
     ghost coded = { λ old k s begun new. CodeUnder k s begun old.bytes.items new.bytes.items };
 
-    fn string(&mut self, name: &str, text: &str) -> Result<(), Unstreamed> {
+    fn string(&mut self, name: &str, text: &str) -> Result<(), Unread> {
         put_name(&mut self.bytes, ElementType::String, name)?;
-        put_text(&mut self.bytes, text).map_err(unstreamed)
+        put_text(&mut self.bytes, text).map_err(refused)
     }
 
-    fn boolean(&mut self, name: &str, truth: bool) -> Result<(), Unstreamed> {
+    fn boolean(&mut self, name: &str, truth: bool) -> Result<(), Unread> {
         put_name(&mut self.bytes, ElementType::Boolean, name)?;
         self.bytes.push(u8::from(truth))?;
         Ok(())
     }
 
-    fn null(&mut self, name: &str) -> Result<(), Unstreamed> {
+    fn null(&mut self, name: &str) -> Result<(), Unread> {
         Ok(put_name(&mut self.bytes, ElementType::Null, name)?)
     }
 
-    fn scalar(&mut self, name: &str, value: Scalar) -> Result<(), Unstreamed> {
+    fn scalar(&mut self, name: &str, value: Scalar) -> Result<(), Unread> {
         put_name(&mut self.bytes, type_of(&value), name)?;
-        put_scalar(&mut self.bytes, &value).map_err(unstreamed)
+        put_scalar(&mut self.bytes, &value).map_err(refused)
     }
 
     fn item_name<'b>(buffer: &'b mut Buffer, place: usize) -> &'b str {
         buffer.format(place)
     }
 
-    fn begin_array(&mut self, name: &str) -> Result<usize, Unstreamed> {
+    fn begin_array(&mut self, name: &str) -> Result<usize, Unread> {
         put_name(&mut self.bytes, ElementType::Array, name)?;
         self.begin()
     }
 
-    fn end_array(&mut self, start: usize) -> Result<(), Unstreamed> {
-        put_end(&mut self.bytes, start).map_err(unstreamed)
+    fn end_array(&mut self, start: usize) -> Result<(), Unread> {
+        put_end(&mut self.bytes, start).map_err(refused)
     }
 
-    fn embed(&mut self, name: &str) -> Result<(), Unstreamed> {
+    fn embed(&mut self, name: &str) -> Result<(), Unread> {
         Ok(put_name(&mut self.bytes, ElementType::EmbeddedDocument, name)?)
     }
 
-    fn begin(&mut self) -> Result<usize, Unstreamed> {
+    fn begin(&mut self) -> Result<usize, Unread> {
         let start = self.bytes.len();
         put_room(&mut self.bytes)?;
         Ok(start)
     }
 
-    fn key(&mut self, name: &str) -> Result<(), Unstreamed> {
+    fn key(&mut self, name: &str) -> Result<(), Unread> {
         if !is_free(name.as_bytes()) {
-            return Err(Unstreamed::Left);
+            return Err(Unread::Refused);
         }
         Ok(())
     }
 
-    fn end(&mut self, start: usize, keys: &mut [&str]) -> Result<(), Unstreamed> {
+    fn end(&mut self, start: usize, keys: &mut [&str]) -> Result<(), Unread> {
         if !are_distinct(*self.bytes.allocator(), keys) {
-            return Err(Unstreamed::Left);
+            return Err(Unread::Refused);
         }
-        put_end(&mut self.bytes, start).map_err(unstreamed)
+        put_end(&mut self.bytes, start).map_err(refused)
     }
 
-    fn begin_code(&mut self, name: &str, code: &str) -> Result<usize, Unstreamed> {
+    fn begin_code(&mut self, name: &str, code: &str) -> Result<usize, Unread> {
         put_name(&mut self.bytes, ElementType::JavaScriptCodeWithScope, name)?;
         let start = self.begin()?;
-        put_text(&mut self.bytes, code).map_err(unstreamed)?;
+        put_text(&mut self.bytes, code).map_err(refused)?;
         Ok(start)
     }
 
-    fn end_code(&mut self, start: usize) -> Result<(), Unstreamed> {
-        put_length(&mut self.bytes, start).map_err(unstreamed)
+    fn end_code(&mut self, start: usize) -> Result<(), Unread> {
+        put_length(&mut self.bytes, start).map_err(refused)
     }
 }
 
 // A text whose document has no bytes is read whole.
-fn unstreamed(error: Error) -> Unstreamed {
+fn refused(error: Error) -> Unread {
     match error {
-        Error::OutOfMemory => Unstreamed::OutOfMemory,
-        _ => Unstreamed::Left,
+        Error::OutOfMemory => Unread::OutOfMemory,
+        _ => Unread::Refused,
     }
 }

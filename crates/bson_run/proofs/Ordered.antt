@@ -1,22 +1,24 @@
 -- What is converted in the order of keys: the one output of the value that the bytes mean so.
 use Rattle.std.proofs.Common.{◌≡◌, ◌++◌, ℕ, List, true, Result, Ok, Err, refl, sym}
-use Rattle.std.proofs.Common.{◌∙◌, subst}
+use Rattle.std.proofs.Common.{◌∙◌, ap, subst}
 use Rattle.std.specs.Prelude.{is_ok, IsUtf8}
 use Rattle.serde_json.specs.Data.{Data}
 use Rattle.bson_scalar.specs.Written.{Refusal}
 use Rattle.bson_scalar.specs.declared.form.Form.{Form}
-use Rattle.bson_scalar.specs.declared.form.Form.TheVariants as form
+use Rattle.bson_model.specs.Displayed.{display_text}
 use Rattle.bson_model.specs.Laws.{IsTreeOfIn}
+use Rattle.bson_model.specs.Value.{Value}
 use Rattle.bson_model.specs.Writing.{writes_in}
 use Rattle.bson_model.proofs.Offered.{tree_is_in, writable_is_in}
 use Rattle.bson_order.specs.Kept.{unordered}
+use Rattle.bson_order.specs.Texts.{HasMeaningInOrder}
 use Rattle.bson.specs.Texts.{IsTextInOrder}
 use Rattle.bson.specs.declared.extjson.options.Options.{Options}
-use Rattle.bson_filter.specs.Filtered.{IsFilteredText}
+use Rattle.bson_filter.specs.Filtered.{IsFilteredText, IsShownTextInOrder}
 use Rattle.bson_convert.specs.Convert.{newline}
-use Rattle.bson_run.specs.InOrder.{IsLineInOrder, ConvertsInOrder}
+use Rattle.bson_run.specs.InOrder.{ConvertsInOrder, IsOutputInOrder, IsTextInOrderFor}
 use Rattle.bson_convert.specs.declared.mode.Mode.{Mode}
-use Rattle.bson_convert.specs.declared.mode.Mode.TheVariants.{Canonical, Relaxed}
+use Rattle.bson_convert.specs.declared.mode.Mode.TheVariants.{Canonical, Relaxed, Show}
 
 module _ (o : Options) where
   written_by_default : (r : Result Data Refusal) → is_ok r ≡ true → (u : Data) × (r ≡ Ok u)
@@ -39,31 +41,26 @@ module _ (o : Options) where
         compact = x.compact;
       }
 
-  filtered_line : (f : Form) (text written output : List ℕ) (x : IsFilteredText o.doubles f text written)
-      → output ≡ written ++ newline → IsLineInOrder o.doubles f x.value output
-  filtered_line f text written output x is =
-      record { text = written; is_text = text_in_order f text written x; line = is }
+  pub filtered : (f : Form) (text written : List ℕ) → IsFilteredText o.doubles f text written
+      → (v : Value) × HasMeaningInOrder o.doubles text v × IsTextInOrder o.doubles f v written
+  filtered f text written x = (x.value, x.meaning, text_in_order f text written x)
 
-  pub filtered_canonical : (mode : Mode) (f : Form) (bytes written output : List ℕ) → mode ≡ Canonical
-      → f ≡ form.Canonical → IsUtf8 bytes → IsFilteredText o.doubles f bytes written → output ≡ written ++ newline
-      → ConvertsInOrder o mode bytes output
-  filtered_canonical mode f bytes written output in_mode in_form utf8 given is =
-      let x = subst (λ g. IsFilteredText o.doubles g bytes written) in_form given in
-      subst (λ m. ConvertsInOrder o m bytes output) (sym in_mode) (record {
-        value = x.value;
-        utf8 = utf8;
-        meaning = x.meaning;
-        is_output = filtered_line form.Canonical bytes written output x is;
-      })
+  pub shown : (text written : List ℕ) → IsShownTextInOrder o.doubles text written
+      → (v : Value) × HasMeaningInOrder o.doubles text v × (written ≡ display_text v)
+  shown text written x = (x.value, x.meaning, x.shown)
 
-  pub filtered_relaxed : (mode : Mode) (f : Form) (bytes written output : List ℕ) → mode ≡ Relaxed
-      → f ≡ form.Relaxed → IsUtf8 bytes → IsFilteredText o.doubles f bytes written → output ≡ written ++ newline
+  line_in_order : (mode : Mode) (v : Value) (text output : List ℕ) → IsTextInOrderFor o mode v text
+      → output ≡ text ++ newline → IsOutputInOrder o mode v output
+  line_in_order Canonical v text output is line = record { text = text; is_text = is; line = line }
+  line_in_order Relaxed v text output is line = record { text = text; is_text = is; line = line }
+  line_in_order Show v text output is line = line ∙ ap (λ l. l ++ newline) is
+
+  pub converted : (mode : Mode) (bytes text output : List ℕ) → IsUtf8 bytes
+      → (v : Value) × HasMeaningInOrder o.doubles bytes v × IsTextInOrderFor o mode v text → output ≡ text ++ newline
       → ConvertsInOrder o mode bytes output
-  filtered_relaxed mode f bytes written output in_mode in_form utf8 given is =
-      let x = subst (λ g. IsFilteredText o.doubles g bytes written) in_form given in
-      subst (λ m. ConvertsInOrder o m bytes output) (sym in_mode) (record {
-        value = x.value;
-        utf8 = utf8;
-        meaning = x.meaning;
-        is_output = filtered_line form.Relaxed bytes written output x is;
-      })
+  converted mode bytes text output utf8 (v, meaning, is) line = record {
+    value = v;
+    utf8 = utf8;
+    meaning = meaning;
+    is_output = line_in_order mode v text output is line;
+  }

@@ -30,3 +30,11 @@ pub record ConvertsInOrder (o : Options) (mode : Mode) (bytes output : List ℕ)
   pub utf8 : IsUtf8 bytes
   pub meaning : HasMeaningInOrder o.doubles bytes value
   pub is_output : IsOutputInOrder o mode value output
+
+-- ---- for private clauses
+
+-- the value's text in its own order in the mode's form, or the one that shows it
+abbrev pub IsTextInOrderFor : Options → Mode → Value → List ℕ → Type 0
+IsTextInOrderFor o Canonical value text = IsTextInOrder o.doubles form.Canonical value text
+IsTextInOrderFor o Relaxed value text = IsTextInOrder o.doubles form.Relaxed value text
+IsTextInOrderFor o Show value text = text ≡ display_text value

@@ -19,8 +19,8 @@ use bson_codec::{ser, to_vec};
 use bson_convert::convert::fault_of;
 use bson_convert::fault::Fault;
 use bson_convert::no_bytes::NoBytes;
-use bson_filter::unstreamed::Unstreamed;
 use bson_pack::pack::pack_text;
+use bson_tokens::unread::Unread;
 use std::alloc::Global;
 
 /// The canonical bytes of the document that the text means, its keys in ascending order at every
@@ -84,8 +84,8 @@ fn pack_document(alloc: Global, options: Options, bytes: &[u8]) -> Result<Option
     };
     match pack_text(alloc, options.doubles, text) {
         Ok(document) => Ok(Some(document)),
-        Err(Unstreamed::Left) => Ok(None),
-        Err(Unstreamed::OutOfMemory) => Err(Fault::OutOfMemory),
+        Err(Unread::Refused) => Ok(None),
+        Err(Unread::OutOfMemory) => Err(Fault::OutOfMemory),
     }
 }
 

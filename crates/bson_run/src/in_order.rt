@@ -7,7 +7,8 @@ ghost use Rattle.bson_model.specs.Value as model;
 ghost use Rattle.bson.specs.View.{bson_view};
 ghost use Rattle.bson.specs.TextMeaning.{IsTextOf};
 ghost use Rattle.bson_convert.specs.Convert.{IsRefusedIn};
-ghost use Rattle.bson_run.specs.InOrder.{ConvertsInOrder, IsOutputInOrder};
+ghost use Rattle.bson_order.specs.Texts.{HasMeaningInOrder};
+ghost use Rattle.bson_run.specs.InOrder.{ConvertsInOrder, IsOutputInOrder, IsTextInOrderFor};
 
 use bson::Bson;
 use bson::extjson::{Form, Options, WriteError};
@@ -15,8 +16,8 @@ use bson_convert::convert::{displayed_line, end_line, fault_of, line};
 use bson_convert::converted::refuse;
 use bson_convert::fault::Fault;
 use bson_convert::mode::Mode;
-use bson_filter::filter::filter_text;
-use bson_filter::unstreamed::Unstreamed;
+use bson_filter::filter::{filter_text, show_text_in_order};
+use bson_tokens::unread::Unread;
 use std::alloc::Global;
 
 /// [`convert_with`](bson_convert::convert::convert_with) where each document of the text has its keys in
@@ -60,21 +61,28 @@ fn filter_line(
     ensures ok { IfOk result (λ found. IfSome found (λ output. ConvertsInOrder options mode bytes.now output.items)) }
     ensures fault { IfErr result (λ fault. IsRefusedIn options fault bytes.now) }
 {
-    let form = match mode {
-        Mode::Canonical => Form::Canonical,
-        Mode::Relaxed => Form::Relaxed,
-        Mode::Show => return Ok(None),
-    };
     let Ok(text) = simdutf8::compat::from_utf8(bytes) else {
         return Ok(None);
     };
-    match filter_text(alloc, options.doubles, form, text) {
+    match filter(alloc, options, mode, text) {
         Ok(written) => Ok(Some(end_line(written)?)),
-        Err(Unstreamed::Left) => {
+        Err(Unread::Refused) => {
             refuse(alloc, options, text)?;
             Ok(None)
         }
-        Err(Unstreamed::OutOfMemory) => Err(Fault::OutOfMemory),
+        Err(Unread::OutOfMemory) => Err(Fault::OutOfMemory),
+    }
+}
+
+// The text that the mode asks for of the value that the text means in order.
+fn filter(alloc: Global, options: Options, mode: Mode, text: &str) -> Result<Vec<u8>, Unread>
+    ensures { IfOk result (λ written. (value : model.Value) × HasMeaningInOrder options.doubles text.now value
+        × IsTextInOrderFor options mode value written.items) }
+{
+    match mode {
+        Mode::Canonical => filter_text(alloc, options.doubles, Form::Canonical, text),
+        Mode::Relaxed => filter_text(alloc, options.doubles, Form::Relaxed, text),
+        Mode::Show => show_text_in_order(alloc, options.doubles, text),
     }
 }
 

@@ -54,7 +54,7 @@ fn refuse_double_keys(alloc: Global, bytes: &[u8]) -> Result<(), Fault>
         return Ok(());
     };
     match first_double_key(alloc, text) {
-        Ok(None) | Err(Unread::Broken) => Ok(()),
+        Ok(None) | Err(Unread::Refused) => Ok(()),
         Ok(Some(segments)) => {
             let reason = Reason::WrongShape(DOUBLE_KEY);
             Err(Fault::NotExtendedJson(Place { reason, segments }))
@@ -73,7 +73,7 @@ fn modernize(alloc: Global, bytes: &[u8]) -> Result<Option<String>, Fault>
     };
     match modern_text(alloc, text) {
         Ok(text) => Ok(Some(text)),
-        Err(Unread::Broken) => Ok(None),
+        Err(Unread::Refused) => Ok(None),
         Err(Unread::OutOfMemory) => Err(Fault::OutOfMemory),
     }
 }

@@ -1,12 +1,13 @@
 -- Keys of a map, whether there is one of a kind.
 use Rattle.std.proofs.Common.{◌≡◌, ℕ, List, Bool, true, false, not, ◌&&◌, ◌||◌, codes, cond}
-use Rattle.std.proofs.Common.{Ordering, Less, Equal, Greater, nat_cmp, inl, inr, ◌⊎◌, refl, sym, ap, ◌∙◌}
+use Rattle.std.proofs.Common.{Ordering, Less, Equal, Greater, nat_cmp, inl, inr, ◌⊎◌, refl, sym, ap, ◌∙◌, subst}
+use Rattle.std.proofs.Common.{Option, Some, None, Bor}
 use Rattle.std.proofs.lemmas.Bool.{both_ways, not-true, or_left, or_right, or_cases, and_parts}
 use Rattle.std.proofs.lemmas.Bool.{and_from, and_left, and_right}
 use Rattle.std.proofs.lemmas.Slice.Eq.{bytes_eq-Decides}
 use Rattle.std.specs.Cmp.Lexicographic.{slice_cmp}
 use Rattle.std.specs.Ordering.{match_ordering}
-use Rattle.std.specs.Prelude.{is_some}
+use Rattle.std.specs.Prelude.{is_some, unwrap_or}
 use Rattle.serde_json.specs.Data.{Data, Members, no_members, member, object, put}
 use Rattle.bson_scalar.specs.Table.{wrapper_of, has_wrapper}
 use Rattle.bson_scalar.specs.declared.form.Doubles.{Doubles}
@@ -99,15 +100,77 @@ plain_found D ms h = ap (λ b. cond b (found_wrapper D ms) (found_members D ms))
 
 -- ---- the first key
 
--- no member was read yet, or one whose key is neither a wrapper's nor `$scope`
-abbrev pub IsBegun : Bool → Members → Type 0
-IsBegun true ms = ms ≡ no_members
-IsBegun false ms = IsOdd ms
+neither : (a b : Bool) → (a || b) ≡ false → (a ≡ false) × (b ≡ false)
+neither true b h = cc
+neither false true h = cc
+neither false false h = (refl, refl)
 
-pub begun : (b : Bool) (k : List ℕ) (d : Data) (ms : Members)
-    → (b ≡ true → (is_other k ≡ true) × (is_stray k ≡ true)) → IsBegun b ms → IsOdd (put k d ms)
-begun true k d ms first is = let f = first refl in (any_new is_other k d ms f.0, any_new is_stray k d ms f.1)
-begun false k d ms first is = (any_kept is_other k d ms is.0, any_kept is_stray k d ms is.1)
+-- a key that is no wrapper's stands there; where the first is `$scope` no code does, else one that stands beside no code
+abbrev HoldsBehind : Bool → Members → Type 0
+HoldsBehind true ms = any_key is_code ms ≡ false
+HoldsBehind false ms = any_key is_stray ms ≡ true
+
+-- no member was read yet, or some behind a first key that is no wrapper's
+abbrev pub IsBegun : Option (Bor (List ℕ)) → Members → Type 0
+IsBegun None ms = ms ≡ no_members
+IsBegun (Some k) ms = (any_key is_other ms ≡ true) × HoldsBehind (is_scope k.now) ms
+
+first_holds : (b : Bool) (k : List ℕ) (d : Data) → is_scope k ≡ b → is_wrapper k ≡ false
+    → HoldsBehind b (member k d no_members)
+first_holds true k d is plain = ap (λ c. c || false) (no_code k (is_code k) refl plain)
+first_holds false k d is plain = or_left (is_stray k) false (ordinary k plain is).1
+
+but_true : (b : Bool) → (b && true) ≡ false → b ≡ false
+but_true true h = cc
+but_true false h = refl
+
+still_holds : (b : Bool) (k : List ℕ) (d : Data) (ms : Members) → (is_code k && b) ≡ false → HoldsBehind b ms
+    → HoldsBehind b (put k d ms)
+still_holds true k d ms apart h = any_other is_code k d ms (but_true (is_code k) apart) ∙ h
+still_holds false k d ms apart h = any_kept is_stray k d ms h
+
+pub begun : (first : Option (Bor (List ℕ))) (k b : Bor (List ℕ)) (d : Data) (ms : Members) → b ≡ unwrap_or first k
+    → (not (is_some first) && is_wrapper k.now) ≡ false → (is_code k.now && is_scope b.now) ≡ false
+    → IsBegun first ms → IsBegun (Some b) (put k.now d ms)
+begun None k b d ms same plain apart none = subst (λ x. IsBegun (Some b) (put k.now d x)) (sym none)
+    (subst (λ x. IsBegun (Some x) (put k.now d no_members)) (sym same)
+    (or_left (is_other k.now) false (ap not plain), first_holds (is_scope k.now) k.now d refl plain))
+begun (Some f) k b d ms same plain apart is = (
+  any_kept is_other k.now d ms is.0,
+  still_holds (is_scope b.now) k.now d ms apart (subst (λ x. HoldsBehind (is_scope x.now) ms) (sym same) is.1),
+)
+
+stray_wrapper : (k : List ℕ) → is_wrapper k ≡ true → is_code k ≡ false → is_stray k ≡ true
+stray_wrapper k w coded = and_from (not (is_code k)) (not (is_scope k)) (ap not coded) (ap not (unscoped (is_scope k) refl))
+  where
+    unscoped : (b : Bool) → is_scope k ≡ b → b ≡ false
+    unscoped true is = absurd (both_ways (is_wrapper k) (ap is_wrapper ((bytes_eq-Decides k (codes "$scope")).0 is)) w)
+    unscoped false is = refl
+
+stray_at : (k : List ℕ) (ms : Members) → is_code k ≡ false → (any_key is_wrapper ms ≡ true → any_key is_stray ms ≡ true)
+    → (is_wrapper k ≡ true) ⊎ (any_key is_wrapper ms ≡ true) → (is_stray k || any_key is_stray ms) ≡ true
+stray_at k ms coded more (inl w) = or_left (is_stray k) (any_key is_stray ms) (stray_wrapper k w coded)
+stray_at k ms coded more (inr w) = or_right (is_stray k) (any_key is_stray ms) (more w)
+
+any_stray : (ms : Members) → any_key is_wrapper ms ≡ true → any_key is_code ms ≡ false → any_key is_stray ms ≡ true
+any_stray no_members w coded = w
+any_stray (member k d ms) w coded =
+    let apart = neither (is_code k) (any_key is_code ms) coded in
+    stray_at k ms apart.0 (λ v. any_stray ms v apart.1) (or_cases (is_wrapper k) (any_key is_wrapper ms) w)
+
+stray_behind : (b : Bool) (ms : Members) → any_key is_wrapper ms ≡ true → HoldsBehind b ms → any_key is_stray ms ≡ true
+stray_behind true ms w h = any_stray ms w h
+stray_behind false ms w h = h
+
+pub none_begun : (first : Option (Bor (List ℕ))) (ms : Members) → not (is_some first) ≡ true → IsBegun first ms
+    → ms ≡ no_members
+none_begun None ms h none = none
+none_begun (Some f) ms h is = cc
+
+-- a map with a wrapper's key behind its first
+pub odd_begun : (first : Option (Bor (List ℕ))) (ms : Members) → has_wrapper ms ≡ true → IsBegun first ms → IsOdd ms
+odd_begun None ms some none = let never : has_wrapper ms ≡ false = ap has_wrapper none in cc
+odd_begun (Some f) ms some is = (is.0, stray_behind (is_scope f.now) ms (sym (wrapper_key ms) ∙ some) is.1)
 
 wrapper_at : (b : Bool) (k : List ℕ) (d : Data) (ms : Members) → is_wrapper k ≡ b
     → any_key is_wrapper (put k d ms) ≡ (b || any_key is_wrapper ms)
@@ -118,17 +181,3 @@ pub wrapper_put : (k : List ℕ) (d : Data) (ms : Members)
     → has_wrapper (put k d ms) ≡ (is_some (wrapper_of k) || has_wrapper ms)
 wrapper_put k d ms = wrapper_key (put k d ms) ∙ wrapper_at (is_wrapper k) k d ms refl
     ∙ ap (λ b. is_wrapper k || b) (sym (wrapper_key ms))
-
-neither : (a b : Bool) → (a || b) ≡ false → (a ≡ false) × (b ≡ false)
-neither true b h = cc
-neither false true h = cc
-neither false false h = (refl, refl)
-
--- a first key that may begin no wrapper
-pub ordinary_from : (k : List ℕ) → (is_wrapper k || is_scope k) ≡ false → (is_other k ≡ true) × (is_stray k ≡ true)
-ordinary_from k h = let no = neither (is_wrapper k) (is_scope k) h in ordinary k no.0 no.1
-
--- a map with a wrapper's key behind its first has that first key
-pub not_begun : (b : Bool) (ms : Members) → has_wrapper ms ≡ true → IsBegun b ms → IsOdd ms
-not_begun true ms some none = let never : has_wrapper ms ≡ false = ap has_wrapper none in cc
-not_begun false ms some is = is

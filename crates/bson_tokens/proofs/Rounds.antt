@@ -169,3 +169,7 @@ whole x = option_and_then of_json (option_and_then (λ p. if_last p.0 p.1) x)
 pub whole_read : (x : Option (json.Json × List Token)) (d : Data) → converted of_json x ≡ Some (d, [])
     → whole x ≡ Some d
 whole_read x d e = let j = was_read of_json x d [] e in ap whole j.1 ∙ j.2
+
+pub no_value : (x : Option (json.Json × List Token)) → option_map (λ p. p.1) x ≡ None → whole x ≡ None
+no_value None h = refl
+no_value (Some p) h = cc

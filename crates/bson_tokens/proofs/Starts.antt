@@ -7,7 +7,7 @@ use Rattle.json.specs.Json.{parse_map, items, members, value}
 use Rattle.json.specs.Reads.{token_of}
 use Rattle.json.specs.declared.token.Token as found
 use Rattle.json.specs.declared.token.Token.TheVariants.{EndObject, EndArray, Key, Bad}
-use Rattle.json.proofs.Grammar.{value_is, value-begin_array, value-begin_object}
+use Rattle.json.proofs.Grammar.{value_is}
 use Rattle.serde_json.specs.Data.{number, array, object, no_members}
 use Rattle.serde_json.specs.Read.{of_json, of_items, of_members, converted}
 use Rattle.bson_tokens.specs.Start.{primitive_tree, IsPrimitive, Starts}
@@ -50,19 +50,6 @@ module _ (depth : ℕ) (ts r : List Token) (s : Start) where
       ≡ parse_map object (converted (λ ms. of_members ms no_members) (members (value (depth - 1)) (length r) r))
   object_read is h = ap (converted of_json) (subst (λ x. Starts depth ts x r) is h).1
       ∙ object_converted (members (value (depth - 1)) (length r) r)
-
--- a bracket or a brace was read, and what stands behind it is left
-pub array_opened : (depth : ℕ) (ts r : List Token) → ts ≡ Token.begin_array ∷ r → 0 < depth
-    → converted of_json (value depth ts) ≡ parse_map array (converted of_items (items (value (depth - 1)) (length r) r))
-array_opened depth ts r is left = ap (λ t. converted of_json (value depth t)) is
-    ∙ ap (converted of_json) (value-begin_array depth r left) ∙ array_converted (items (value (depth - 1)) (length r) r)
-
-pub object_opened : (depth : ℕ) (ts r : List Token) → ts ≡ Token.begin_object ∷ r → 0 < depth
-    → converted of_json (value depth ts)
-    ≡ parse_map object (converted (λ ms. of_members ms no_members) (members (value (depth - 1)) (length r) r))
-object_opened depth ts r is left = ap (λ t. converted of_json (value depth t)) is
-    ∙ ap (converted of_json) (value-begin_object depth r left)
-    ∙ object_converted (members (value (depth - 1)) (length r) r)
 
 -- ---- where none does
 

@@ -19,12 +19,11 @@ use Rattle.bson_place.specs.Place.{key}
 use Rattle.bson_place.specs.declared.place.Place.{Place}
 use Rattle.bson_tokens.specs.Found.{Verdict, found, found_wrapper, found_members, found_scope, here, of_code, of_scalar, within}
 use Rattle.bson_tokens.specs.Held.{StandsFor}
-use Rattle.bson_tokens.specs.Parts.{NoMembers, NoObject, ObjectIs}
+use Rattle.bson_tokens.specs.Parts.{ObjectIs}
 use Rattle.bson_tokens.specs.Told.{Tells}
 use Rattle.bson_tokens.proofs.Gathering.{Gathers, none_yet, one_gathered, all_gathered}
 use Rattle.bson_tokens.specs.Keys.{any_key, is_wrapper, is_code, is_scope}
 use Rattle.bson_tokens.proofs.Keys.{any_new, any_kept, one_true, wrapper_key}
-use Rattle.bson_tokens.proofs.Rounds.{no_member}
 use Rattle.bson_tokens.proofs.Verdicts.{told}
 
 -- ---- the members so far, from before the first key
@@ -56,14 +55,6 @@ pub object_is : (depth : ℕ) (k : List ℕ) (start here rest : List Token) (so_
     → ObjectIs depth no_members k start so_far rest
 object_is depth k start here rest so_far f ended =
     λ before first. all_gathered depth no_members before here rest so_far (f.1 before first) ended
-
-pub no_object : (depth : ℕ) (k : List ℕ) (start at : List Token) (so_far : Members)
-    → Follows depth k start at so_far → NoMembers depth at → NoObject depth k start
-no_object depth k start at so_far f none = λ before first. (f.1 before first).none none
-
-pub no_first : (depth : ℕ) (k : List ℕ) (start : List Token) → converted of_json (value depth start) ≡ None
-    → NoObject depth k start
-no_first depth k start none = λ before first. no_member depth k before start first none
 
 -- ---- a key beside it
 

@@ -6,7 +6,7 @@ ghost use Rattle.serde_json.specs.Read.{of_json, of_items, of_members, converted
 ghost use Rattle.serde_json.specs.View.{view, members_view};
 ghost use Rattle.bson_tokens.specs.Held.{IsHeldAs, IsPruned, ArePassed, AreKept, entered, kept_of, or_empty};
 ghost use Rattle.bson_tokens.specs.Parts.{IsBroken, NoMembers};
-ghost use Rattle.bson_tokens.specs.declared.unread.Unread.TheVariants.{Broken};
+ghost use Rattle.bson_tokens.specs.declared.unread.Unread.TheVariants.{Refused};
 
 use crate::start::{Start, primitive_value, read_start};
 use crate::unread::Unread;
@@ -82,7 +82,7 @@ fn held_members(
         (λ m. AreKept levels
         (converted (λ js. of_members js no_members) (members (value depth) (length reader.old) reader.old))
         (members_view m.entries) reader.new) }
-    ensures broken { IfErr result (λ e. e ≡ Broken → NoMembers depth reader.old) }
+    ensures broken { IfErr result (λ e. e ≡ Refused → NoMembers depth reader.old) }
     ensures shorter { OnOk result (length reader.new < length reader.old) }
 {
     let mut found = first_members(alloc, levels);

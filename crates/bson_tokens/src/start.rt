@@ -33,32 +33,32 @@ pub enum Start<'a> {
 }
 
 /// How the value starts that stands next, nested at most `depth` deep: its first token is taken.
-/// `Broken` is answered where no such value starts there.
+/// `Refused` is answered where no such value starts there.
 #[inline(always)]
 pub fn read_start<'a>(reader: &mut Reader<'a>, depth: usize) -> Result<Start<'a>, Unread>
     ensures ok { IfOk result (λ start. Starts depth reader.old start reader.new) }
     ensures broken { IfErr result (IsBroken (converted of_json (value depth reader.old))) }
     ensures shorter { OnOk result (length reader.new < length reader.old) }
 {
-    let token = reader.next().ok_or(Unread::Broken)?;
+    let token = reader.next().ok_or(Unread::Refused)?;
     match token {
         Token::String(text) => Ok(Start::Primitive(Primitive::String(text))),
         Token::Number(text) => match number(text) {
             Some(n) => Ok(Start::Primitive(Primitive::Number(n))),
-            None => Err(Unread::Broken),
+            None => Err(Unread::Refused),
         },
         Token::Bool(b) => Ok(Start::Primitive(Primitive::Bool(b))),
         Token::Null => Ok(Start::Primitive(Primitive::Null)),
-        Token::EndObject | Token::EndArray | Token::Key(_) | Token::Bad => Err(Unread::Broken),
+        Token::EndObject | Token::EndArray | Token::Key(_) | Token::Bad => Err(Unread::Refused),
         Token::BeginArray => {
             if depth == 0 {
-                return Err(Unread::Broken);
+                return Err(Unread::Refused);
             }
             Ok(Start::Array)
         }
         Token::BeginObject => {
             if depth == 0 {
-                return Err(Unread::Broken);
+                return Err(Unread::Refused);
             }
             Ok(Start::Object)
         }

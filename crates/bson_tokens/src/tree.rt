@@ -4,7 +4,7 @@ ghost use Rattle.json.specs.Json.{value, items};
 ghost use Rattle.serde_json.specs.Read.{of_json, of_items, converted};
 ghost use Rattle.serde_json.specs.View.{view, items_view, members_view};
 ghost use Rattle.bson_tokens.specs.Parts.{IsBroken, IsEntered, MembersAre, NoMembers, ObjectIs, NoObject};
-ghost use Rattle.bson_tokens.specs.declared.unread.Unread.TheVariants.{Broken};
+ghost use Rattle.bson_tokens.specs.declared.unread.Unread.TheVariants.{Refused};
 
 use crate::start::{Start, primitive_value, read_start};
 use crate::unread::Unread;
@@ -57,7 +57,7 @@ fn read_members(
 ) -> Result<Map<String, Value>, Unread>
     ensures ok { IfOk result
         (λ m. MembersAre depth (members_view found.entries) reader.old (members_view m.entries) reader.new) }
-    ensures broken { IfErr result (λ e. e ≡ Broken → NoMembers depth reader.old) }
+    ensures broken { IfErr result (λ e. e ≡ Refused → NoMembers depth reader.old) }
     ensures shorter { OnOk result (length reader.new < length reader.old) }
 {
     'members: while let Some(name) = reader.next_key()? {
@@ -98,7 +98,7 @@ pub fn read_from(
 ) -> Result<Map<String, Value>, Unread>
     ensures ok { IfOk result
         (λ m. ObjectIs depth (members_view found.entries) key.now reader.old (members_view m.entries) reader.new) }
-    ensures broken { IfErr result (λ e. e ≡ Broken → NoObject depth key.now reader.old) }
+    ensures broken { IfErr result (λ e. e ≡ Refused → NoObject depth key.now reader.old) }
     ensures shorter { OnOk result (length reader.new < length reader.old) }
 {
     let first = read_member(alloc, reader, depth, key, found)?;

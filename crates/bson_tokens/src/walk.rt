@@ -1,6 +1,5 @@
 //! How the first fault of a text is found.
-ghost use Rattle.std.specs.Prelude.{◌≡◌, ◌<◌, ◌&&◌, ◌||◌, codes, length, IfOk, IfErr, OnOk, is_some};
-ghost use Rattle.std.specs.Str.{bytes_eq};
+ghost use Rattle.std.specs.Prelude.{◌≡◌, ◌<◌, ◌&&◌, ◌||◌, length, IfOk, IfErr, IsTrue, None, OnOk, is_some, not};
 ghost use Rattle.json.specs.Json.{value, items, members};
 ghost use Rattle.serde_json.specs.Data.{no_members, object};
 ghost use Rattle.serde_json.specs.Read.{of_json, of_items, of_members, converted, read};
@@ -8,22 +7,21 @@ ghost use Rattle.serde_json.specs.View.{members_view};
 ghost use Rattle.bson_scalar.specs.Table.{wrapper_of};
 ghost use Rattle.bson_place.specs.Place.{element};
 ghost use Rattle.bson_tokens.specs.Found.{Verdict, found, found_items, or, within};
-ghost use Rattle.bson_tokens.specs.Parts.{IsBroken, NoMembers, NoObject};
+ghost use Rattle.bson_tokens.specs.Parts.{IsBroken};
 ghost use Rattle.bson_tokens.specs.Start.{primitive_tree};
-ghost use Rattle.bson_tokens.specs.Told.{Tells, Finds, ObjectFinds, IsPlaceIn, IsTextPlaceIn};
-ghost use Rattle.bson_tokens.specs.declared.unread.Unread.TheVariants.{OutOfMemory, Broken};
+ghost use Rattle.bson_tokens.specs.Told.{Tells, Finds, IsPlaceIn, IsTextPlaceIn};
+ghost use Rattle.bson_tokens.specs.declared.unread.Unread.TheVariants.{OutOfMemory};
 
 mod wrapped;
 
 use crate::faults::{enter, least_fault, place_here, with_segment};
 use crate::start::{Primitive, Start, read_start};
-use crate::tree::read_from;
 use crate::unread::Unread;
 use crate::walk::wrapped::walk_wrapper;
 use bson_place::place::{Place, Segment};
 use bson_place::shape::beside_others;
 use bson_place::walk::first_place;
-use bson_scalar::code::is_scope;
+use bson_scalar::code::is_code_with_scope;
 use bson_scalar::form::Doubles;
 use bson_scalar::wrapper::{Wrapper, wrapper_named};
 use json::{Reader, Scratch};
@@ -39,8 +37,8 @@ const MAX_DEPTH: usize = 127;
 ///
 /// It is the place that `place_of_fault` finds in the tree, and no tree of the whole is made: of an
 /// array the first fault is kept, of an object the faults by key, since a later value of a key
-/// takes the place of an earlier one. Only an object that begins with `$scope` is read as a tree.
-/// `Broken` is answered where the text as a whole has no tree.
+/// takes the place of an earlier one. Only a text in which `$code` stands behind a `$scope` that
+/// its object begins with is read as a tree. `Refused` is answered where the text has no tree.
 pub fn first_fault(alloc: Global, text: &str) -> Result<Option<Place>, Unread>
     ensures place { IfOk result (λ found. IsPlaceIn text.now found) }
     ensures broken { IfErr result (IsBroken (read text.now)) }
@@ -53,13 +51,51 @@ pub fn first_fault_in(alloc: Global, doubles: Doubles, text: &str) -> Result<Opt
     ensures place { IfOk result (λ found. IsTextPlaceIn doubles text.now found) }
     ensures broken { IfErr result (IsBroken (read text.now)) }
 {
+    match walk_text(alloc, doubles, text) {
+        Err(Unread::Refused) => tree_fault(alloc, doubles, text),
+        found => found,
+    }
+}
+
+// The first fault of a text that the walk does not refuse. It refuses one that has no tree, and
+// one in which code stands behind its scope, since what a scope holds is told by the code.
+fn walk_text(alloc: Global, doubles: Doubles, text: &str) -> Result<Option<Place>, Unread>
+    ensures { IfOk result (λ found. IsTextPlaceIn doubles text.now found) }
+{
     let mut scratch = Scratch::new(alloc);
     let mut reader = Reader::new(text, &mut scratch)?;
     let found = walk_value(alloc, doubles, &mut reader, MAX_DEPTH)?;
     if reader.next().is_some() {
-        return Err(Unread::Broken);
+        return Err(Unread::Refused);
     }
     Ok(found)
+}
+
+// The first fault of the text's tree, which is read unless the text breaks the grammar of JSON.
+fn tree_fault(alloc: Global, doubles: Doubles, text: &str) -> Result<Option<Place>, Unread>
+    ensures place { IfOk result (λ found. IsTextPlaceIn doubles text.now found) }
+    ensures broken { IfErr result (IsBroken (read text.now)) }
+{
+    if breaks_grammar(alloc, text)? {
+        return Err(Unread::Refused);
+    }
+    match Value::from_str(alloc, text) {
+        Ok(tree) => Ok(first_place(alloc, doubles, tree)?),
+        Err(error) if error.is_memory() => Err(Unread::OutOfMemory),
+        Err(_) => Err(Unread::Refused),
+    }
+}
+
+// Whether the tokens of the text are no JSON value, or go on behind one.
+fn breaks_grammar(alloc: Global, text: &str) -> Result<bool, AllocError>
+    ensures { IfOk result (λ broken. IsTrue broken → read text.now ≡ None) }
+{
+    let mut scratch = Scratch::new(alloc);
+    let mut reader = Reader::new(text, &mut scratch)?;
+    match reader.skip_value(MAX_DEPTH) {
+        Ok(()) => Ok(reader.next().is_some()),
+        Err(_) => Ok(true),
+    }
 }
 
 // Of values of one token numbers alone may be at fault.
@@ -85,7 +121,6 @@ fn walk_value(
 ) -> Result<Option<Place>, Unread>
     ensures ok { IfOk result
         (λ p. Finds (found doubles) (converted of_json (value depth reader.old)) p reader.new) }
-    ensures broken { IfErr result (IsBroken (converted of_json (value depth reader.old))) }
     ensures shorter { OnOk result (length reader.new < length reader.old) }
 {
     let start = read_start(reader, depth)?;
@@ -107,8 +142,6 @@ fn walk_items(
     ensures ok { IfOk result
         (λ p. Finds (found_items doubles 0) (converted of_items (items (value depth) (length reader.old) reader.old))
         p reader.new) }
-    ensures broken { IfErr result
-        (IsBroken (converted of_items (items (value depth) (length reader.old) reader.old))) }
     ensures shorter { OnOk result (length reader.new < length reader.old) }
 {
     let mut at = 0usize;
@@ -148,17 +181,20 @@ fn walk_members(
         (λ p. Finds (λ ms. found doubles (object ms))
         (converted (λ js. of_members js no_members) (members (value depth) (length reader.old) reader.old))
         p reader.new) }
-    ensures broken { IfErr result (λ e. e ≡ Broken → NoMembers depth reader.old) }
     ensures shorter { OnOk result (length reader.new < length reader.old) }
 {
     let mut faults = BTreeMap::new(alloc);
-    let mut is_first = true;
+    let mut first: Option<&str> = None;
     let mut wrapper: Option<(&str, Wrapper)> = None;
     'members: while let Some(name) = reader.next_key()? {
-        if may_be_wrapper(is_first, name) {
-            return walk_first(alloc, doubles, reader, depth, name);
+        if begins_wrapper(first, name) {
+            return walk_wrapper(alloc, doubles, reader, depth, name);
         }
-        is_first = false;
+        let begins = first.unwrap_or(name);
+        if is_code_with_scope(name, begins) {
+            return Err(Unread::Refused);
+        }
+        first = Some(begins);
         wrapper = lesser_wrapper(wrapper, name);
         let member = walk_value(alloc, doubles, reader, depth)?;
         enter(alloc, &mut faults, name, member)?;
@@ -169,12 +205,11 @@ fn walk_members(
     }
 }
 
-// Whether the key is the first of an object that may be a wrapper. Any other object that has a
-// wrapper's key is none, whatever it holds.
-fn may_be_wrapper(is_first: bool, key: &str) -> bool
-    ensures { result ≡ (is_first && (is_some (wrapper_of key.now) || bytes_eq key.now (codes "$scope"))) }
+// Whether the key is the first of its object, and a wrapper's.
+fn begins_wrapper(first: Option<&str>, key: &str) -> bool
+    ensures { result ≡ (not (is_some first.entry) && is_some (wrapper_of key.now)) }
 {
-    is_first && (wrapper_named(key).is_some() || is_scope(key))
+    first.is_none() && wrapper_named(key).is_some()
 }
 
 // The lesser of the keys of wrappers so far.
@@ -188,42 +223,6 @@ fn lesser_wrapper<'a>(first: Option<(&'a str, Wrapper)>, key: &'a str) -> Option
         Some((least, known)) if least < key => Some((least, known)),
         _ => Some((key, wrapper)),
     }
-}
-
-// An object whose first key was read, a wrapper's or `$scope`.
-#[cycle(walk)]
-fn walk_first(
-    alloc: Global,
-    doubles: Doubles,
-    reader: &mut Reader<'_>,
-    depth: usize,
-    key: &str,
-) -> Result<Option<Place>, Unread>
-    ensures ok { IfOk result (λ p. ObjectFinds doubles depth key.now reader.old p reader.new) }
-    ensures broken { IfErr result (λ e. e ≡ Broken → NoObject depth key.now reader.old) }
-    ensures shorter { OnOk result (length reader.new < length reader.old) }
-{
-    if wrapper_named(key).is_some() {
-        return walk_wrapper(alloc, doubles, reader, depth, key);
-    }
-    walk_tree(alloc, doubles, reader, depth, key)
-}
-
-// The same by a tree of its own.
-#[inline(never)]
-fn walk_tree(
-    alloc: Global,
-    doubles: Doubles,
-    reader: &mut Reader<'_>,
-    depth: usize,
-    key: &str,
-) -> Result<Option<Place>, Unread>
-    ensures ok { IfOk result (λ p. ObjectFinds doubles depth key.now reader.old p reader.new) }
-    ensures broken { IfErr result (λ e. e ≡ Broken → NoObject depth key.now reader.old) }
-    ensures shorter { OnOk result (length reader.new < length reader.old) }
-{
-    let members = read_from(alloc, reader, depth, key, Map::new(alloc))?;
-    Ok(place_in(alloc, doubles, members)?)
 }
 
 // The first fault of an object.

@@ -187,7 +187,7 @@ fn or_fault(
     match read {
         Ok(Some(value)) => Ok(value),
         Ok(None) => Err(fault_of(alloc, doubles, bytes)),
-        Err(Unread::Broken) => Err(TextError::NotJson),
+        Err(Unread::Refused) => Err(TextError::NotJson),
         Err(Unread::OutOfMemory) => Err(TextError::OutOfMemory),
     }
 }
@@ -217,7 +217,7 @@ fn find_fault(alloc: Global, doubles: Doubles, bytes: &[u8]) -> Result<(), TextE
         Ok(None) => Ok(()),
         Ok(Some(place)) => Err(TextError::NotExtendedJson(place)),
         Err(Unread::OutOfMemory) => Err(TextError::OutOfMemory),
-        Err(Unread::Broken) => Err(TextError::NotJson),
+        Err(Unread::Refused) => Err(TextError::NotJson),
     }
 }
 
@@ -235,7 +235,7 @@ fn read_text(
     let mut reader = Reader::new(text, scratch)?;
     let read = read_value(alloc, doubles, order, &mut reader, MAX_DEPTH)?;
     if reader.next().is_some() {
-        return Err(Unread::Broken);
+        return Err(Unread::Refused);
     }
     Ok(read)
 }

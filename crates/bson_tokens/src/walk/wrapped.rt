@@ -1,5 +1,5 @@
 //! Objects that begin with a wrapper's key.
-ghost use Rattle.std.specs.Prelude.{◌≡◌, ◌<◌, codes, length, IfOk, IfErr, OnOk, is_some, true};
+ghost use Rattle.std.specs.Prelude.{◌≡◌, ◌<◌, codes, length, IfOk, OnOk, is_some, true};
 ghost use Rattle.json.specs.Json.{value, members};
 ghost use Rattle.serde_json.specs.Data.{no_members, member, object};
 ghost use Rattle.serde_json.specs.Read.{of_json, of_members, converted};
@@ -8,10 +8,8 @@ ghost use Rattle.bson_scalar.specs.Table.{wrapper_of};
 ghost use Rattle.bson_scalar.specs.declared.form.Doubles.{Doubles};
 ghost use Rattle.bson_place.specs.Place.{key as key_segment};
 ghost use Rattle.bson_tokens.specs.Found.{Verdict, found, found_members, found_scope, of_code, within};
-ghost use Rattle.bson_tokens.specs.Parts.{IsBroken, NoMembers, NoObject};
 ghost use Rattle.bson_tokens.specs.Start.{primitive_tree};
 ghost use Rattle.bson_tokens.specs.Told.{Tells, Finds, ObjectFinds};
-ghost use Rattle.bson_tokens.specs.declared.unread.Unread.TheVariants.{Broken};
 
 use crate::faults::{enter, least_fault, place_here, with_segment};
 use crate::held::{pass_items, read_held};
@@ -40,7 +38,6 @@ pub(super) fn walk_wrapper(
 ) -> Result<Option<Place>, Unread>
     requires wrapper { is_some (wrapper_of key.now) ≡ true }
     ensures ok { IfOk result (λ p. ObjectFinds doubles depth key.now reader.old p reader.new) }
-    ensures broken { IfErr result (λ e. e ≡ Broken → NoObject depth key.now reader.old) }
     ensures shorter { OnOk result (length reader.new < length reader.old) }
 {
     let mut held = read_held(alloc, reader, depth)?;
@@ -104,7 +101,6 @@ fn walk_scope(
 ) -> Result<Option<Place>, Unread>
     ensures ok { IfOk result
         (λ p. Finds (found_scope doubles) (converted of_json (value depth reader.old)) p reader.new) }
-    ensures broken { IfErr result (IsBroken (converted of_json (value depth reader.old))) }
     ensures shorter { OnOk result (length reader.new < length reader.old) }
 {
     let start = read_start(reader, depth)?;
@@ -158,7 +154,6 @@ fn walk_pairs(
         (λ p. Finds (found_members doubles)
         (converted (λ js. of_members js no_members) (members (value depth) (length reader.old) reader.old))
         p reader.new) }
-    ensures broken { IfErr result (λ e. e ≡ Broken → NoMembers depth reader.old) }
     ensures shorter { OnOk result (length reader.new < length reader.old) }
 {
     let mut faults = BTreeMap::new(alloc);

@@ -16,7 +16,7 @@ ghost use Rattle.bson.specs.View.{bson_view, document_view};
 ghost use Rattle.bson.specs.Gathered.{gathered, FewAscend, IsInOrder};
 ghost use Rattle.bson.specs.Straight.{ObjectReads, IsHeld, HasTree, code_given, given, marked, unless_nothing};
 ghost use Rattle.bson.specs.declared.extjson.key_order.KeyOrder.TheVariants.{Ascending, AsGiven};
-ghost use Rattle.bson_tokens.specs.declared.unread.Unread.TheVariants.{Broken};
+ghost use Rattle.bson_tokens.specs.declared.unread.Unread.TheVariants.{Refused};
 
 use crate::bson::Bson;
 use crate::document::Document;
@@ -109,7 +109,7 @@ pub(crate) fn read_sorted(
 ) -> Result<Option<Bson>, Unread>
     ensures ok { IfOk result
         (λ v. ObjectReads Ascending doubles depth key.now reader.old (option_map bson_view v) reader.new) }
-    ensures broken { IfErr result (λ e. e ≡ Broken → NoObject depth key.now reader.old) }
+    ensures broken { IfErr result (λ e. e ≡ Refused → NoObject depth key.now reader.old) }
     ensures shorter { OnOk result (length reader.new < length reader.old) }
 {
     let members = read_from(alloc, reader, depth, key, Map::new(alloc))?;
@@ -147,7 +147,7 @@ pub(crate) fn text_held(
     let held = match json::Value::read(alloc, reader, depth) {
         Ok(held) => held,
         Err(json::Error::OutOfMemory) => return Err(Unread::OutOfMemory),
-        Err(_) => return Err(Unread::Broken),
+        Err(_) => return Err(Unread::Refused),
     };
     let mut out = Writer::new(Vec::new(alloc));
     out.value(&held)?;

@@ -14,7 +14,7 @@ ghost use Rattle.bson.specs.View.{bson_view, document_view};
 ghost use Rattle.bson.specs.ByOrder.{tree_by, items_by, reads_by, reads_members_by, reads_scope_by};
 ghost use Rattle.bson.specs.Gathered.{gathered, IsInOrder};
 ghost use Rattle.bson.specs.Straight.{Reads, IsJoined, MembersRead, RestReads, ObjectReads, IsFound, IsCode};
-ghost use Rattle.bson_tokens.specs.declared.unread.Unread.TheVariants.{Broken};
+ghost use Rattle.bson_tokens.specs.declared.unread.Unread.TheVariants.{Refused};
 
 mod scope_first;
 
@@ -107,7 +107,7 @@ fn read_object(
     ensures ok { IfOk result
         (λ v. MembersRead order (λ ms. reads_by order doubles (object ms)) depth reader.old (option_map bson_view v)
         reader.new) }
-    ensures broken { IfErr result (λ e. e ≡ Broken → NoMembers depth reader.old) }
+    ensures broken { IfErr result (λ e. e ≡ Refused → NoMembers depth reader.old) }
     ensures shorter { OnOk result (length reader.new < length reader.old) }
 {
     let Some(name) = reader.next_key()? else {
@@ -172,7 +172,7 @@ fn read_document(
     requires order { IsInOrder order first }
     ensures ok { (old : Members) → IsFound order doubles old is_plain (gathered first) → IfOk result
         (λ v. RestReads order doubles depth old reader.old (option_map bson_view v) reader.new) }
-    ensures broken { IfErr result (λ e. e ≡ Broken → NoMembers depth reader.old) }
+    ensures broken { IfErr result (λ e. e ≡ Refused → NoMembers depth reader.old) }
     ensures shorter { OnOk result (length reader.new < length reader.old) }
 {
     let mut found = first;
@@ -202,7 +202,7 @@ fn read_wrapped(
     requires wrapper { is_some (wrapper_of key.now) ≡ true }
     ensures ok { IfOk result
         (λ v. ObjectReads order doubles depth key.now reader.old (option_map bson_view v) reader.new) }
-    ensures broken { IfErr result (λ e. e ≡ Broken → NoObject depth key.now reader.old) }
+    ensures broken { IfErr result (λ e. e ≡ Refused → NoObject depth key.now reader.old) }
     ensures shorter { OnOk result (length reader.new < length reader.old) }
 {
     let mut held = read_held(alloc, reader, depth)?;
@@ -235,7 +235,7 @@ fn read_code(
     ensures ok { (old : Members) → IsCode order doubles true (view first)
         (option_map (λ d. option_map document_view d) first_scope) old
         → IfOk result (λ v. RestReads order doubles depth old reader.old (option_map bson_view v) reader.new) }
-    ensures broken { IfErr result (λ e. e ≡ Broken → NoMembers depth reader.old) }
+    ensures broken { IfErr result (λ e. e ≡ Refused → NoMembers depth reader.old) }
     ensures shorter { OnOk result (length reader.new < length reader.old) }
 {
     let mut code = first;
@@ -295,7 +295,7 @@ fn read_pairs(
     ensures ok { IfOk result
         (λ d. MembersRead order (reads_members_by order doubles) depth reader.old (option_map document_view d)
         reader.new) }
-    ensures broken { IfErr result (λ e. e ≡ Broken → NoMembers depth reader.old) }
+    ensures broken { IfErr result (λ e. e ≡ Refused → NoMembers depth reader.old) }
     ensures shorter { OnOk result (length reader.new < length reader.old) }
 {
     let mut found = empty_members(alloc, order);

@@ -1,16 +1,14 @@
 -- The answers of the cycle; those by subject stand in files of their own.
 mod Wrapped
-use Rattle.std.proofs.Common.{length, ap, ◌∙◌, ◌≡◌, ◌+◌, ◌&&◌, ◌||◌, Some, None, sym, refl, true, false, is_some, arith}
+use Rattle.std.proofs.Common.{length, ap, ◌∙◌, ◌≡◌, ◌+◌, ◌&&◌, ◌||◌, Some, None, sym, refl, true, false, is_some, arith, not}
 use Rattle.std.proofs.Common.{subst, codes}
 use Rattle.json.specs.Json.{parse_map, after_end_array, read_key, value}
 use Rattle.serde_json.specs.Data.{array, object, no_members, item, no_items, put}
 use Rattle.bson_tokens.specs.Start.{primitive_tree}
-use Rattle.bson_tokens.proofs.Rounds.{if_ok, if_err, no_item, no_key, no_member}
+use Rattle.bson_tokens.proofs.Rounds.{if_ok}
 use Rattle.bson_tokens.proofs.Starts.{primitive_read, array_read, object_read}
 use Rattle.std.proofs.lemmas.Bool.{and_parts}
-use Rattle.std.proofs.lemmas.Result.{err_from_is_err_and}
 use Rattle.std.specs.Str.{bytes_eq}
-use Rattle.serde_json.specs.Read.{of_json, converted}
 use Rattle.bson_model.proofs.Offered.{ascends_put}
 use Rattle.bson_scalar.specs.Table.{wrapper_of, has_wrapper}
 use Rattle.bson_place.specs.Place.{element}
@@ -19,7 +17,7 @@ use Rattle.bson_tokens.specs.Told.{Tells, AreTold}
 use Rattle.bson_tokens.proofs.Elements.{none_listed, one_listed, all_listed}
 use Rattle.bson_tokens.proofs.Faulty.{faults_put, least_is}
 use Rattle.bson_tokens.proofs.Gathering.{none_yet, one_gathered, all_gathered, from_first}
-use Rattle.bson_tokens.proofs.Keys.{begun, ordinary_from, wrapper_put, odd_here, plain_found, not_begun, IsBegun}
+use Rattle.bson_tokens.proofs.Keys.{begun, none_begun, odd_begun, odd_here, plain_found, wrapper_put}
 use Rattle.bson_tokens.proofs.Verdicts.{told, or_or, or_none, at_here, none_told}
 use Rattle.bson_tokens.proofs.walk.+walk.Answers.Wrapped as in_wrapper
 use Rattle.bson_tokens.proofs.walk.+walk.Goals as goal
@@ -40,22 +38,11 @@ walk_value-returns-in-Array-clause-ok t c =
     let opened = array_read c.args.depth c.args.reader.now c.read_start.new.reader _ c.in-Array.is c.in_ok-start.ensures.ok in
     if_ok c.walk_items.result c.walk_items.ensures.ok (λ p ds. (array ds.0, opened ∙ ap (parse_map array) ds.1, ds.2))
 
-pub walk_value-returns-in-Array-clause-broken : goal.walk_value-returns-in-Array-clause-broken
-walk_value-returns-in-Array-clause-broken t c =
-    let opened = array_read c.args.depth c.args.reader.now c.read_start.new.reader _ c.in-Array.is c.in_ok-start.ensures.ok in
-    if_err c.walk_items.result c.walk_items.ensures.broken (λ e none broken. opened ∙ ap (parse_map array) (none broken))
-
 pub walk_value-returns-in-Object-clause-ok : goal.walk_value-returns-in-Object-clause-ok
 walk_value-returns-in-Object-clause-ok t c =
     let opened = object_read c.args.depth c.args.reader.now c.read_start.new.reader _ c.in-Object.is c.in_ok-start.ensures.ok in
     if_ok c.walk_members.result c.walk_members.ensures.ok
     (λ p ms. (object ms.0, opened ∙ ap (parse_map object) ms.1, ms.2))
-
-pub walk_value-returns-in-Object-clause-broken : goal.walk_value-returns-in-Object-clause-broken
-walk_value-returns-in-Object-clause-broken t c =
-    let opened = object_read c.args.depth c.args.reader.now c.read_start.new.reader _ c.in-Object.is c.in_ok-start.ensures.ok in
-    if_err c.walk_members.result c.walk_members.ensures.broken
-    (λ e none broken. opened ∙ ap (parse_map object) (none broken no_members (length c.read_start.new.reader)))
 
 -- ---- arrays and objects
 
@@ -109,7 +96,9 @@ walk_members-members-preserved t c =
     let so_far = l.invariant.0 in
     let d = c.in_ok-member.ensures.ok in
     let named : read_key l.reader ≡ Some (Some k, s) = grind arith in
-    let no : (l.is_first && (is_some (wrapper_of k) || bytes_eq k (codes "$scope"))) ≡ false = grind arith in (
+    let plain : (not (is_some l.first) && is_some (wrapper_of k)) ≡ false = grind arith in
+    let begins = c.unwrap_or-begins.result in
+    let apart : (bytes_eq k (codes "$code") && bytes_eq begins.now (codes "$scope")) ≡ false = grind arith in (
       put k d.0 so_far,
       one_gathered c.args.depth no_members k c.args.reader.now l.reader s c.walk_value.new.reader so_far d.0
           l.invariant.1 named d.1 c.in_ok-member.ensures.shorter,
@@ -117,31 +106,19 @@ walk_members-members-preserved t c =
       subst (λ fs. AreTold fs c.enter.new.faults.entries) (sym (faults_put c.args.doubles k d.0 so_far l.invariant.2))
           (c.in_ok-enter.ensures (faults c.args.doubles so_far) (found c.args.doubles d.0) l.invariant.3 d.2),
       c.lesser_wrapper-wrapper.ensures ∙ ap (λ b. is_some (wrapper_of k) || b) l.invariant.4 ∙ sym (wrapper_put k d.0 so_far),
-      begun l.is_first k d.0 so_far
-          (λ first. ordinary_from k (ap (λ b. b && (is_some (wrapper_of k) || bytes_eq k (codes "$scope"))) (sym first)
-          ∙ no)) l.invariant.5,
+      begun l.first c.in-Some.name begins d.0 so_far c.unwrap_or-begins.ensures plain apart l.invariant.5,
     )
 
-pub walk_members-returns-then-may_be_wrapper-clause-ok : goal.walk_members-returns-then-may_be_wrapper-clause-ok
-walk_members-returns-then-may_be_wrapper-clause-ok t c =
+pub walk_members-returns-then-begins_wrapper-clause-ok : goal.walk_members-returns-then-begins_wrapper-clause-ok
+walk_members-returns-then-begins_wrapper-clause-ok t c =
     let l = c.members in
     let k = c.in-Some.name.now in
     let s = c.next_key.new.self in
     let named : read_key l.reader ≡ Some (Some k, s) = grind arith in
-    let yes : (l.is_first && (is_some (wrapper_of k) || bytes_eq k (codes "$scope"))) ≡ true = grind arith in
-    let none : l.invariant.0 ≡ no_members =
-    subst (λ b. IsBegun b l.invariant.0) (and_parts l.is_first _ yes).0 l.invariant.5 in
-    if_ok c.walk_first.result c.walk_first.ensures.ok (λ p m.
-    from_first c.args.doubles c.args.depth k c.args.reader.now l.reader s c.walk_first.new.reader l.invariant.0 p
-    l.invariant.1 none
-    named m)
-
-pub walk_members-returns-then-may_be_wrapper-clause-broken : goal.walk_members-returns-then-may_be_wrapper-clause-broken
-walk_members-returns-then-may_be_wrapper-clause-broken t c =
-    let l = c.members in
-    let named : read_key l.reader ≡ Some (Some c.in-Some.name.now, c.next_key.new.self) = grind arith in
-    if_err c.walk_first.result c.walk_first.ensures.broken
-    (λ e none broken. l.invariant.1.none (none broken l.reader named))
+    let yes : (not (is_some l.first) && is_some (wrapper_of k)) ≡ true = grind arith in
+    if_ok c.walk_wrapper.result c.walk_wrapper.ensures.ok (λ p m.
+    from_first c.args.doubles c.args.depth k c.args.reader.now l.reader s c.walk_wrapper.new.reader l.invariant.0 p
+    l.invariant.1 (none_begun l.first l.invariant.0 (and_parts (not (is_some l.first)) _ yes).0 l.invariant.5) named m)
 
 pub walk_members-returns-in-Some-wrapper-clause-ok : goal.walk_members-returns-in-Some-wrapper-clause-ok
 walk_members-returns-in-Some-wrapper-clause-ok t c =
@@ -153,7 +130,7 @@ walk_members-returns-in-Some-wrapper-clause-ok t c =
       all_gathered c.args.depth no_members c.args.reader.now l.reader c.next_key.new.self so_far l.invariant.1 ended
           (length c.args.reader.now) (omega arith),
       subst (λ v. Tells v (Some c.place_here.result))
-          (sym (odd_here c.args.doubles so_far some (not_begun l.is_first so_far some l.invariant.5)))
+          (sym (odd_here c.args.doubles so_far some (odd_begun l.first so_far some l.invariant.5)))
           (at_here c.place_here.result c.place_here.ensures.reason c.place_here.ensures.path),
     )
 
@@ -171,33 +148,6 @@ walk_members-returns-in_ok-least_fault-in-None-clause-ok t c =
           (c.in_ok-least_fault-in-None.ensures (faults c.args.doubles so_far) l.invariant.3),
     )
 
--- ---- where the text breaks
-
-pub walk_items-returns-in_err-item-clause-broken : goal.walk_items-returns-in_err-item-clause-broken
-walk_items-returns-in_err-item-clause-broken t c =
-    let l = c.items in
-    let going : (after_end_array l.reader ≡ None) × (c.take_end_array.new.self ≡ l.reader) = grind arith in
-    let p = err_from_is_err_and c.from_residual.result c.from_residual.ensures.1 in
-    rw (p.1, p.2) (λ broken. l.invariant.1.none (no_item c.args.depth l.reader going.0
-    (ap (λ ts. converted of_json (value c.args.depth ts)) (sym going.1) ∙ c.in_err-item.ensures.broken broken))
-    (length c.args.reader.now))
-
-pub walk_members-returns-in_err-name-clause-broken : goal.walk_members-returns-in_err-name-clause-broken
-walk_members-returns-in_err-name-clause-broken t c =
-    let l = c.members in
-    let p = err_from_is_err_and c.from_residual.result c.from_residual.ensures.1 in
-    rw p.1 (λ broken. l.invariant.1.none (no_key c.args.depth l.reader (grind arith)))
-
-pub walk_members-returns-in_err-member-clause-broken : goal.walk_members-returns-in_err-member-clause-broken
-walk_members-returns-in_err-member-clause-broken t c =
-    let l = c.members in
-    let k = c.in-Some.name.now in
-    let s = c.next_key.new.self in
-    let named : read_key l.reader ≡ Some (Some k, s) = grind arith in
-    let p = err_from_is_err_and c.from_residual-in_err-member.result c.from_residual-in_err-member.ensures.1 in
-    rw (p.1, p.2) (λ broken. l.invariant.1.none
-    (no_member c.args.depth k l.reader s named (c.in_err-member.ensures.broken broken)))
-
 -- ---- the others, by subject
 
 pub wrapped::walk_pairs-members-init : goal.wrapped::walk_pairs-members-init
@@ -208,14 +158,6 @@ wrapped::walk_pairs-members-preserved = in_wrapper.wrapped::walk_pairs-members-p
 
 pub wrapped::walk_pairs-returns-clause-ok : goal.wrapped::walk_pairs-returns-clause-ok
 wrapped::walk_pairs-returns-clause-ok = in_wrapper.wrapped::walk_pairs-returns-clause-ok
-
-pub wrapped::walk_pairs-returns-in_err-name-clause-broken : goal.wrapped::walk_pairs-returns-in_err-name-clause-broken
-wrapped::walk_pairs-returns-in_err-name-clause-broken = in_wrapper.wrapped::walk_pairs-returns-in_err-name-clause-broken
-
-pub wrapped::walk_pairs-returns-in_err-member-clause-broken :
-    goal.wrapped::walk_pairs-returns-in_err-member-clause-broken
-wrapped::walk_pairs-returns-in_err-member-clause-broken =
-    in_wrapper.wrapped::walk_pairs-returns-in_err-member-clause-broken
 
 pub wrapped::walk_scope-returns-in-Primitive-clause-ok : goal.wrapped::walk_scope-returns-in-Primitive-clause-ok
 wrapped::walk_scope-returns-in-Primitive-clause-ok = in_wrapper.wrapped::walk_scope-returns-in-Primitive-clause-ok
@@ -230,43 +172,8 @@ pub wrapped::walk_scope-returns-in_ok-in_scope-in-Object-clause-ok :
 wrapped::walk_scope-returns-in_ok-in_scope-in-Object-clause-ok =
     in_wrapper.wrapped::walk_scope-returns-in_ok-in_scope-in-Object-clause-ok
 
-pub wrapped::walk_scope-returns-in_err-pass_items-in-Array-clause-broken :
-    goal.wrapped::walk_scope-returns-in_err-pass_items-in-Array-clause-broken
-wrapped::walk_scope-returns-in_err-pass_items-in-Array-clause-broken =
-    in_wrapper.wrapped::walk_scope-returns-in_err-pass_items-in-Array-clause-broken
-
-pub wrapped::walk_scope-returns-in_err-place-in-Object-clause-broken :
-    goal.wrapped::walk_scope-returns-in_err-place-in-Object-clause-broken
-wrapped::walk_scope-returns-in_err-place-in-Object-clause-broken =
-    in_wrapper.wrapped::walk_scope-returns-in_err-place-in-Object-clause-broken
-
-pub wrapped::walk_wrapper-returns-in_err-held-clause-broken :
-    goal.wrapped::walk_wrapper-returns-in_err-held-clause-broken
-wrapped::walk_wrapper-returns-in_err-held-clause-broken =
-    in_wrapper.wrapped::walk_wrapper-returns-in_err-held-clause-broken
-
 pub wrapped::walk_wrapper-members-init : goal.wrapped::walk_wrapper-members-init
 wrapped::walk_wrapper-members-init = in_wrapper.wrapped::walk_wrapper-members-init
-
-pub wrapped::walk_wrapper-returns-in_err-name-clause-broken :
-    goal.wrapped::walk_wrapper-returns-in_err-name-clause-broken
-wrapped::walk_wrapper-returns-in_err-name-clause-broken =
-    in_wrapper.wrapped::walk_wrapper-returns-in_err-name-clause-broken
-
-pub wrapped::walk_wrapper-returns-in_err-held-2-clause-broken :
-    goal.wrapped::walk_wrapper-returns-in_err-held-2-clause-broken
-wrapped::walk_wrapper-returns-in_err-held-2-clause-broken =
-    in_wrapper.wrapped::walk_wrapper-returns-in_err-held-2-clause-broken
-
-pub wrapped::walk_wrapper-returns-in_err-walk_scope-clause-broken :
-    goal.wrapped::walk_wrapper-returns-in_err-walk_scope-clause-broken
-wrapped::walk_wrapper-returns-in_err-walk_scope-clause-broken =
-    in_wrapper.wrapped::walk_wrapper-returns-in_err-walk_scope-clause-broken
-
-pub wrapped::walk_wrapper-returns-in_err-read_held-clause-broken :
-    goal.wrapped::walk_wrapper-returns-in_err-read_held-clause-broken
-wrapped::walk_wrapper-returns-in_err-read_held-clause-broken =
-    in_wrapper.wrapped::walk_wrapper-returns-in_err-read_held-clause-broken
 
 pub wrapped::walk_wrapper-members-preserved-then-eq : goal.wrapped::walk_wrapper-members-preserved-then-eq
 wrapped::walk_wrapper-members-preserved-then-eq = in_wrapper.wrapped::walk_wrapper-members-preserved-then-eq

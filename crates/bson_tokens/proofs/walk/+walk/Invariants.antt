@@ -18,10 +18,7 @@ abbrev pub decreases-walk_items : goal.decreases-walk_items
 decreases-walk_items l = 4 * l.depth + 1
 
 abbrev pub decreases-walk_members : goal.decreases-walk_members
-decreases-walk_members l = 4 * l.depth + 3
-
-abbrev pub decreases-walk_first : goal.decreases-walk_first
-decreases-walk_first l = 4 * l.depth + 2
+decreases-walk_members l = 4 * l.depth + 2
 
 abbrev pub decreases-wrapped::walk_pairs : goal.decreases-wrapped::walk_pairs
 decreases-wrapped::walk_pairs l = 4 * l.depth + 1
@@ -46,7 +43,7 @@ abbrev pub invariant-walk_members-members : goal.invariant-walk_members-members
 invariant-walk_members-members l = (so_far : Members)
     × Gathers l.depth no_members l.initial.reader l.reader so_far × Ascends so_far
     × AreTold (faults l.doubles so_far) l.faults.entries × (is_some l.wrapper ≡ has_wrapper so_far)
-    × IsBegun l.is_first so_far
+    × IsBegun l.first so_far
 
 abbrev pub decreases-walk_members-members : goal.decreases-walk_members-members
 decreases-walk_members-members l = length l.reader

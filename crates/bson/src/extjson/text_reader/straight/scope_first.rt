@@ -8,7 +8,7 @@ ghost use Rattle.bson.specs.View.{bson_view, document_view};
 ghost use Rattle.bson.specs.ByOrder.{reads_by, reads_scope_by};
 ghost use Rattle.bson.specs.Straight.{ObjectReads, ReadsHeld};
 ghost use Rattle.bson.specs.declared.extjson.key_order.KeyOrder.TheVariants.{AsGiven};
-ghost use Rattle.bson_tokens.specs.declared.unread.Unread.TheVariants.{Broken};
+ghost use Rattle.bson_tokens.specs.declared.unread.Unread.TheVariants.{Refused};
 
 use crate::bson::Bson;
 use crate::document::Document;
@@ -39,7 +39,7 @@ pub(crate) fn read_scoped(
     requires scope { key.now ≡ codes "$scope" }
     ensures ok { IfOk result
         (λ v. ObjectReads order doubles depth key.now reader.old (option_map bson_view v) reader.new) }
-    ensures broken { IfErr result (λ e. e ≡ Broken → NoObject depth key.now reader.old) }
+    ensures broken { IfErr result (λ e. e ≡ Refused → NoObject depth key.now reader.old) }
     ensures shorter { OnOk result (length reader.new < length reader.old) }
 {
     match order {
@@ -62,7 +62,7 @@ fn read_scope_first(
     requires scope { key.now ≡ codes "$scope" }
     ensures ok { IfOk result
         (λ v. ObjectReads AsGiven doubles depth key.now reader.old (option_map bson_view v) reader.new) }
-    ensures broken { IfErr result (λ e. e ≡ Broken → NoObject depth key.now reader.old) }
+    ensures broken { IfErr result (λ e. e ≡ Refused → NoObject depth key.now reader.old) }
     ensures shorter { OnOk result (length reader.new < length reader.old) }
 {
     let order = KeyOrder::AsGiven;

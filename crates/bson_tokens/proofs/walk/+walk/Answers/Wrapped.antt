@@ -2,7 +2,6 @@
 use Rattle.std.proofs.Common.{◌≡◌, length, Some, None, sym, ap, ◌∙◌, refl}
 use Rattle.std.proofs.Common.{true, false, is_some, arith, subst}
 use Rattle.std.proofs.lemmas.Bool.{or_right}
-use Rattle.std.proofs.lemmas.Result.{err_from_is_err_and}
 use Rattle.std.proofs.lemmas.Slice.Eq.{bytes_eq-Decides}
 use Rattle.json.specs.Json.{parse_map, read_key}
 use Rattle.json.proofs.Grammar.{read_key-shorter}
@@ -14,11 +13,10 @@ use Rattle.bson_tokens.specs.Found.{found, found_members, faults, least}
 use Rattle.bson_tokens.specs.Told.{Tells, AreTold}
 use Rattle.bson_tokens.proofs.Faulty.{faults_put, least_is}
 use Rattle.bson_tokens.proofs.Gathering.{none_yet, one_gathered, all_gathered}
-use Rattle.bson_tokens.proofs.Rounds.{no_key, no_member}
 use Rattle.bson_tokens.proofs.Starts.{primitive_read, array_read, object_read}
 use Rattle.bson_tokens.specs.Start.{primitive_tree}
 use Rattle.bson_tokens.proofs.Verdicts.{told, at_here, none_told}
-use Rattle.bson_tokens.proofs.Wrapped.{first_follows, more_follows, object_is, no_object, no_first, strange_found}
+use Rattle.bson_tokens.proofs.Wrapped.{first_follows, more_follows, object_is, strange_found}
 use Rattle.bson_tokens.proofs.Wrapped.{again, with_scope, with_other, lone_found, code_found, IsWrapped, IsStrange}
 use Rattle.bson_tokens.proofs.walk.+walk.Goals as goal
 
@@ -61,23 +59,6 @@ wrapped::walk_pairs-returns-clause-ok t c =
           (c.in_ok-least_fault.ensures (faults c.args.doubles so_far) l.invariant.3),
     )
 
-pub wrapped::walk_pairs-returns-in_err-name-clause-broken : goal.wrapped::walk_pairs-returns-in_err-name-clause-broken
-wrapped::walk_pairs-returns-in_err-name-clause-broken t c =
-    let l = c.members in
-    let p = err_from_is_err_and c.from_residual.result c.from_residual.ensures.1 in
-    rw p.1 (λ broken. l.invariant.1.none (no_key c.args.depth l.reader (grind arith)))
-
-pub wrapped::walk_pairs-returns-in_err-member-clause-broken :
-    goal.wrapped::walk_pairs-returns-in_err-member-clause-broken
-wrapped::walk_pairs-returns-in_err-member-clause-broken t c =
-    let l = c.members in
-    let k = c.in-Some.name.now in
-    let s = c.next_key.new.self in
-    let named : read_key l.reader ≡ Some (Some k, s) = grind arith in
-    let p = err_from_is_err_and c.from_residual-in_err-member.result c.from_residual-in_err-member.ensures.1 in
-    rw (p.1, p.2) (λ broken. l.invariant.1.none
-    (no_member c.args.depth k l.reader s named (c.in_err-member.ensures.broken broken)))
-
 -- ---- what stands as a scope
 
 pub wrapped::walk_scope-returns-in-Primitive-clause-ok : goal.wrapped::walk_scope-returns-in-Primitive-clause-ok
@@ -108,32 +89,7 @@ wrapped::walk_scope-returns-in_ok-in_scope-in-Object-clause-ok t c =
       c.in_ok-in_scope-in-Object.ensures (found_members c.args.doubles ms.0) ms.2,
     )
 
-pub wrapped::walk_scope-returns-in_err-pass_items-in-Array-clause-broken :
-    goal.wrapped::walk_scope-returns-in_err-pass_items-in-Array-clause-broken
-wrapped::walk_scope-returns-in_err-pass_items-in-Array-clause-broken t c =
-    let returned = c.from_residual-in_err-pass_items-in-Array in
-    let p = err_from_is_err_and returned.result returned.ensures.1 in
-    rw (p.1, p.2) (λ broken.
-    array_read c.args.depth c.args.reader.now c.read_start.new.reader _ c.in-Array.is c.in_ok-start.ensures.ok
-    ∙ ap (parse_map array) (c.in_err-pass_items-in-Array.ensures.broken broken))
-
-pub wrapped::walk_scope-returns-in_err-place-in-Object-clause-broken :
-    goal.wrapped::walk_scope-returns-in_err-place-in-Object-clause-broken
-wrapped::walk_scope-returns-in_err-place-in-Object-clause-broken t c =
-    let returned = c.from_residual-in_err-place-in-Object in
-    let p = err_from_is_err_and returned.result returned.ensures.1 in
-    rw (p.1, p.2) (λ broken.
-    object_read c.args.depth c.args.reader.now c.read_start.new.reader _ c.in-Object.is c.in_ok-start.ensures.ok
-    ∙ ap (parse_map object)
-    (c.in_err-place-in-Object.ensures.broken broken no_members (length c.read_start.new.reader)))
-
 -- ---- the object
-
-pub wrapped::walk_wrapper-returns-in_err-held-clause-broken : goal.wrapped::walk_wrapper-returns-in_err-held-clause-broken
-wrapped::walk_wrapper-returns-in_err-held-clause-broken t c =
-    let p = err_from_is_err_and c.from_residual.result c.from_residual.ensures.1 in
-    rw (p.1, p.2) (λ broken. no_first c.args.depth c.args.key.now c.args.reader.now
-    (c.in_err-held.ensures.broken broken))
 
 pub wrapped::walk_wrapper-members-init : goal.wrapped::walk_wrapper-members-init
 wrapped::walk_wrapper-members-init t c =
@@ -144,46 +100,6 @@ wrapped::walk_wrapper-members-init t c =
       (d.0, refl, d.2),
       grind arith,
     )
-
-pub wrapped::walk_wrapper-returns-in_err-name-clause-broken : goal.wrapped::walk_wrapper-returns-in_err-name-clause-broken
-wrapped::walk_wrapper-returns-in_err-name-clause-broken t c =
-    let l = c.members in
-    let p = err_from_is_err_and c.from_residual-in_err-name.result c.from_residual-in_err-name.ensures.1 in
-    rw p.1 (λ broken. no_object c.args.depth c.args.key.now c.args.reader.now l.reader l.invariant.0 l.invariant.1
-    (no_key c.args.depth l.reader (grind arith)))
-
-pub wrapped::walk_wrapper-returns-in_err-held-2-clause-broken :
-    goal.wrapped::walk_wrapper-returns-in_err-held-2-clause-broken
-wrapped::walk_wrapper-returns-in_err-held-2-clause-broken t c =
-    let l = c.members in
-    let k = c.in-Some.name.now in
-    let s = c.next_key.new.self in
-    let named : read_key l.reader ≡ Some (Some k, s) = grind arith in
-    let p = err_from_is_err_and c.from_residual-in_err-held-2.result c.from_residual-in_err-held-2.ensures.1 in
-    rw (p.1, p.2) (λ broken. no_object c.args.depth c.args.key.now c.args.reader.now l.reader l.invariant.0
-    l.invariant.1 (no_member c.args.depth k l.reader s named (c.in_err-held-2.ensures.broken broken)))
-
-pub wrapped::walk_wrapper-returns-in_err-walk_scope-clause-broken :
-    goal.wrapped::walk_wrapper-returns-in_err-walk_scope-clause-broken
-wrapped::walk_wrapper-returns-in_err-walk_scope-clause-broken t c =
-    let l = c.members in
-    let k = c.in-Some.name.now in
-    let s = c.next_key.new.self in
-    let named : read_key l.reader ≡ Some (Some k, s) = grind arith in
-    let p = err_from_is_err_and c.from_residual-in_err-walk_scope.result c.from_residual-in_err-walk_scope.ensures.1 in
-    rw (p.1, p.2) (λ broken. no_object c.args.depth c.args.key.now c.args.reader.now l.reader l.invariant.0
-    l.invariant.1 (no_member c.args.depth k l.reader s named (c.in_err-walk_scope.ensures.broken broken)))
-
-pub wrapped::walk_wrapper-returns-in_err-read_held-clause-broken :
-    goal.wrapped::walk_wrapper-returns-in_err-read_held-clause-broken
-wrapped::walk_wrapper-returns-in_err-read_held-clause-broken t c =
-    let l = c.members in
-    let k = c.in-Some.name.now in
-    let s = c.next_key.new.self in
-    let named : read_key l.reader ≡ Some (Some k, s) = grind arith in
-    let p = err_from_is_err_and c.from_residual-in_err-read_held.result c.from_residual-in_err-read_held.ensures.1 in
-    rw (p.1, p.2) (λ broken. no_object c.args.depth c.args.key.now c.args.reader.now l.reader l.invariant.0
-    l.invariant.1 (no_member c.args.depth k l.reader s named (c.in_err-read_held.ensures.broken broken)))
 
 pub wrapped::walk_wrapper-members-preserved-then-eq : goal.wrapped::walk_wrapper-members-preserved-then-eq
 wrapped::walk_wrapper-members-preserved-then-eq t c =

@@ -1,8 +1,8 @@
 use Rattle.std.proofs.Common.{◌≡◌, None, arith}
 use Rattle.json.specs.Json.{value, skip_value}
 use Rattle.json.specs.Lex.{tokens}
-use Rattle.bson_convert.proofs.Broken.{no_value}
-use Rattle.bson_convert.proofs.converted.breaks_grammar.Goals as goal
+use Rattle.bson_tokens.proofs.Rounds.{no_value}
+use Rattle.bson_tokens.proofs.walk.breaks_grammar.Goals as goal
 
 pub returns : goal.returns
 returns c = λ broken.

@@ -1,63 +1,64 @@
 use Rattle.std.proofs.Common.{◌≡◌, ◌-◌, ◌<◌, ◌++◌, codes, length, take, refl, sym, ap, ◌∙◌, subst, arith, append_assoc, vec_len}
 use Rattle.std.proofs.lemmas.List.{length-map}
 use Rattle.std.specs.List.{All}
+use Rattle.bson_distinct.specs.declared.arrangement.Arrangement.TheVariants.{Ascending}
 use Rattle.bson_model.specs.Displayed.{display_text}
 use Rattle.bson_model.specs.Sorted.{sorted_pairs}
 use Rattle.bson_model.specs.Value.{document}
 use Rattle.bson_filter.specs.Pieces.{pieces_from, IsEnded, IsOpen, IsWithin}
-use Rattle.bson_filter.specs.ShownWritten.{next_text, separator_if}
+use Rattle.bson_filter.specs.ShownWritten.{next_text, pairs_shown, separator_if}
 use Rattle.bson_filter.specs.Walked.{keys_of, once}
 use Rattle.bson_filter.specs.declared.shown_text.ShownWriter.{ShownWriter}
-use Rattle.bson_filter.proofs.ShownMembers.{document_shown, document_stands, empty_shown, none_sorted, some_sorted}
+use Rattle.bson_filter.proofs.ShownMembers.{document_shown, document_stands, empty_shown, none_sorted, same_order, some_sorted}
 use Rattle.bson_filter.proofs.Standing.{own_starts, are_held, others_held, all_within, stands_open, has_members}
-use Rattle.bson_filter.proofs.shown_text.ShownWriterValueWriter.end.Goals as goal
-use Rattle.bson_filter.proofs.shown_text.ShownWriterValueWriter.end.Goals.{then-not-is_empty+in_ok-extend_from_slice}
-use Rattle.bson_filter.proofs.shown_text.ShownWriterValueWriter.end.Goals.{else-not-is_empty}
+use Rattle.bson_filter.proofs.shown_text.ShownWriter.end_sorted.Goals as goal
+use Rattle.bson_filter.proofs.shown_text.ShownWriter.end_sorted.Goals.{then-not-is_empty+in_ok-extend_from_slice}
+use Rattle.bson_filter.proofs.shown_text.ShownWriter.end_sorted.Goals.{else-not-is_empty}
 
 pub slice_bounds-starts-count : goal.slice_bounds-starts-count
 slice_bounds-starts-count c =
-    let (start, mid, ps, begun, written, named) = c.requires in
-    let d = document_stands start mid c.args.self.now c.args.begun ps c.args.keys.now begun written named in
+    let (start, mid, ps, begun, written, named) = c.requires.stands in
+    let d = document_stands start mid c.args.self.now c.args.begun ps c.args.keys.now begun written named c.requires.ascending in
     are_held d c.deref.result.now c.deref.ensures.value
 
 pub slice_bounds-starts-start : goal.slice_bounds-starts-start
 slice_bounds-starts-start c =
-    let (start, mid, ps, begun, written, named) = c.requires in
-    let d = document_stands start mid c.args.self.now c.args.begun ps c.args.keys.now begun written named in
+    let (start, mid, ps, begun, written, named) = c.requires.stands in
+    let d = document_stands start mid c.args.self.now c.args.begun ps c.args.keys.now begun written named c.requires.ascending in
     are_held d c.deref.result.now c.deref.ensures.value
 
 pub offset_bounds-deref-begun : goal.offset_bounds-deref-begun
 offset_bounds-deref-begun c =
-    let (start, mid, ps, begun, written, named) = c.requires in
-    let d = document_stands start mid c.args.self.now c.args.begun ps c.args.keys.now begun written named in
+    let (start, mid, ps, begun, written, named) = c.requires.stands in
+    let d = document_stands start mid c.args.self.now c.args.begun ps c.args.keys.now begun written named c.requires.ascending in
     let inside = are_held d c.deref.result.now c.deref.ensures.value in
     grind arith
 
 pub end_object-requires-clause-paired : goal.end_object-requires-clause-paired
 end_object-requires-clause-paired c =
-    let (start, mid, ps, begun, written, named) = c.requires in
-    let d = document_stands start mid c.args.self.now c.args.begun ps c.args.keys.now begun written named in
+    let (start, mid, ps, begun, written, named) = c.requires.stands in
+    let d = document_stands start mid c.args.self.now c.args.begun ps c.args.keys.now begun written named c.requires.ascending in
     d.paired ∙ ap length (sym (own_starts d c.deref.result.now c.deref.ensures.value))
 
 pub end_object-requires-clause-within : goal.end_object-requires-clause-within
 end_object-requires-clause-within c =
-    let (start, mid, ps, begun, written, named) = c.requires in
-    let d = document_stands start mid c.args.self.now c.args.begun ps c.args.keys.now begun written named in
+    let (start, mid, ps, begun, written, named) = c.requires.stands in
+    let d = document_stands start mid c.args.self.now c.args.begun ps c.args.keys.now begun written named c.requires.ascending in
     let texts = c.args.self.now.text.items in
     subst (λ starts. All (IsWithin texts) (pieces_from c.args.keys.now starts (length texts)))
     (sym (own_starts d c.deref.result.now c.deref.ensures.value)) (all_within d)
 
 pub end_object-requires-clause-opened : goal.end_object-requires-clause-opened
 end_object-requires-clause-opened c =
-    let (start, mid, ps, begun, written, named) = c.requires in
-    let d = document_stands start mid c.args.self.now c.args.begun ps c.args.keys.now begun written named in
+    let (start, mid, ps, begun, written, named) = c.requires.stands in
+    let d = document_stands start mid c.args.self.now c.args.begun ps c.args.keys.now begun written named c.requires.ascending in
     let texts = c.args.self.now.text.items in
     subst (λ starts. IsOpen (take c.args.begun.start texts) texts (pieces_from c.args.keys.now starts (length texts)))
     (sym (own_starts d c.deref.result.now c.deref.ensures.value)) (stands_open d)
 
 pub returns : goal.returns
 returns c = λ start mid ps begun written named.
-    let d = document_stands start mid c.args.self.now c.args.begun ps c.args.keys.now begun written named in
+    let d = document_stands start mid c.args.self.now c.args.begun ps c.args.keys.now begun written named c.requires.ascending in
     let ks = c.args.keys.now in
     let texts = c.args.self.now.text.items in
     let new = c.end_object.new.text.items in
@@ -66,13 +67,17 @@ returns c = λ start mid ps begun written named.
     (subst (λ starts. IsEnded (pieces_from ks starts (length texts)) (take c.args.begun.start texts) texts new)
     (own_starts d c.deref.result.now c.deref.ensures.value) c.in_ok-end_object.ensures) in
     let kept = λ (w : ShownWriter). take c.args.begun.held w.starts.items in
-    let whole = append_assoc start.text.items (separator_if start.behind) (display_text (document qs)) in
+    let ordered = same_order ps mid c.args.self.now written ∙ begun.2.1 in
+    let ascending : Ascending ≡ start.arrangement = sym c.requires.ascending ∙ ordered in
+    let whole = append_assoc start.text.items (separator_if start.behind) (display_text (document qs))
+    ∙ ap (λ a. start.text.items ++ (separator_if start.behind ++ display_text (document (pairs_shown a (once ps))))) ascending in
     let many : length (keys_of ps) ≡ length ks = ap length named ∙ length-map ks (λ k. k.now) in
     elim c.if-not-is_empty.branch [
       | then-not-is_empty+in_ok-extend_from_slice w ↦
           let some : 0 < length (keys_of ps) = grind (arith, many) in
           let long : vec_len c.end_object.new.text ≡ length new = grind arith in (
             refl,
+            ap (λ s. s.arrangement) w.self-is ∙ ordered,
             c.truncate.ensures.items ∙ ap kept w.self-is ∙ others_held d,
             ap (λ s. s.text.items) w.self-is ∙ w.in_ok-extend_from_slice.ensures.items
                 ∙ ap (λ l. l ++ codes " }") (w.pop.ensures.rest ∙ ap (λ n. take (n - 1) new) long)
@@ -81,6 +86,7 @@ returns c = λ start mid ps begun written named.
       | else-not-is_empty w ↦
           let none : length (keys_of ps) ≡ 0 = grind (arith, many) in (
             refl,
+            ap (λ s. s.arrangement) w.self-is ∙ ordered,
             c.truncate.ensures.items ∙ ap kept w.self-is ∙ others_held d,
             ap (λ s. s.text.items) w.self-is ∙ empty_shown (next_text start) texts new qs h (none_sorted ps none) ∙ whole,
           )

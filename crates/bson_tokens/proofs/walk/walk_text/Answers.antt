@@ -4,10 +4,10 @@ use Rattle.json.specs.Json.{value}
 use Rattle.serde_json.specs.Read.{of_json, converted}
 use Rattle.bson_tokens.proofs.Verdicts.{place_told}
 use Rattle.bson_tokens.proofs.Rounds.{whole_read}
-use Rattle.bson_tokens.proofs.walk.first_fault_in.Goals as goal
+use Rattle.bson_tokens.proofs.walk.walk_text.Goals as goal
 
-pub returns-clause-place : goal.returns-clause-place
-returns-clause-place c =
+pub returns : goal.returns
+returns c =
     let d = c.in_ok-found.ensures.ok in
     let done : c.walk_value.new.reader ≡ [] = grind arith in
     let start : c.in_ok-reader.reader ≡ tokens c.args.text.now = grind arith in (
