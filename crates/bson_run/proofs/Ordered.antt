@@ -5,7 +5,6 @@ use Rattle.std.specs.Prelude.{is_ok, IsUtf8}
 use Rattle.serde_json.specs.Data.{Data}
 use Rattle.bson_scalar.specs.Written.{Refusal}
 use Rattle.bson_scalar.specs.declared.form.Form.{Form}
-use Rattle.bson_model.specs.Displayed.{display_text}
 use Rattle.bson_model.specs.Laws.{IsTreeOfIn}
 use Rattle.bson_model.specs.Value.{Value}
 use Rattle.bson_model.specs.Writing.{writes_in}
@@ -14,7 +13,7 @@ use Rattle.bson_order.specs.Kept.{unordered}
 use Rattle.bson_order.specs.Texts.{HasMeaningInOrder}
 use Rattle.bson.specs.Texts.{IsTextInOrder}
 use Rattle.bson.specs.declared.extjson.options.Options.{Options}
-use Rattle.bson_filter.specs.Filtered.{IsFilteredText, IsShownTextInOrder}
+use Rattle.bson_filter.specs.Filtered.{IsFilteredText}
 use Rattle.bson_convert.specs.Convert.{newline}
 use Rattle.bson_run.specs.InOrder.{ConvertsInOrder, IsOutputInOrder, IsTextInOrderFor}
 use Rattle.bson_convert.specs.declared.mode.Mode.{Mode}
@@ -44,10 +43,6 @@ module _ (o : Options) where
   pub filtered : (f : Form) (text written : List ℕ) → IsFilteredText o.doubles f text written
       → (v : Value) × HasMeaningInOrder o.doubles text v × IsTextInOrder o.doubles f v written
   filtered f text written x = (x.value, x.meaning, text_in_order f text written x)
-
-  pub shown : (text written : List ℕ) → IsShownTextInOrder o.doubles text written
-      → (v : Value) × HasMeaningInOrder o.doubles text v × (written ≡ display_text v)
-  shown text written x = (x.value, x.meaning, x.shown)
 
   line_in_order : (mode : Mode) (v : Value) (text output : List ℕ) → IsTextInOrderFor o mode v text
       → output ≡ text ++ newline → IsOutputInOrder o mode v output
