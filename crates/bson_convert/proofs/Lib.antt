@@ -1,4 +1,5 @@
 mod Again
+mod Arranged
 mod Converting
 pub mod Offered
 mod Rows

@@ -1,5 +1,5 @@
 -- What converting makes of bytes: the output of the one value that they mean as a text, or why they mean none.
-use Rattle.std.specs.Prelude.{◌≡◌, ◌≤◌, ℕ, List, [], ◌∷◌, ◌++◌, Some}
+use Rattle.std.specs.Prelude.{◌≡◌, ◌≤◌, ℕ, List, [], ◌∷◌, ◌++◌, Some, IsUtf8, string_bytes}
 use Rattle.serde_json.specs.Data.{Data, depth}
 use Rattle.serde_json.specs.Read.{read, max_depth}
 use Rattle.bson.specs.declared.extjson.options.Options.{Options}
@@ -14,12 +14,14 @@ use Rattle.bson_model.specs.Normal.{normal_form}
 use Rattle.bson_model.specs.Written.{WrittenIn}
 use Rattle.bson_model.specs.Laws.{HasMeaningIn, IsTreeOfIn, IsReadFormIn}
 use Rattle.bson_place.specs.Place.{IsFirstFaultIn}
-use Rattle.bson.specs.TextMeaning.{IsTextOf, IsNoText}
+use Rattle.bson.specs.TextMeaning.{IsTextOf, IsNoText, HasTextMeaningIn}
 use Rattle.bson.specs.Texts.{IsTextUnder}
 use Rattle.bson.specs.View.{bson_view}
 use Rattle.bson_convert.specs.declared.converted.Converted.{Converted}
 use Rattle.bson_convert.specs.declared.converted.Converted.TheVariants.{Text}
 use Rattle.bson_convert.specs.declared.converted.Converted.TheVariants as converted
+use Rattle.bson_convert.specs.declared.converted.Tried.{Tried}
+use Rattle.bson_convert.specs.declared.converted.Tried.TheVariants.{Written, Arranged}
 use Rattle.bson_convert.specs.declared.mode.Mode.{Mode}
 use Rattle.bson_convert.specs.declared.mode.Mode.TheVariants.{Canonical, Relaxed, Show}
 use Rattle.bson_convert.specs.declared.fault.Fault.{Fault}
@@ -96,6 +98,12 @@ IsConverted o mode value (Text text) = IsTextFor o mode value text.items
 IsConverted o mode value (converted.Value read) = bson_view read ≡ value
 
 -- ---- for private clauses
+
+-- a text for the mode of the value that the bytes mean, or a text of the same tree as theirs
+abbrev pub IsTried : Options → Mode → List ℕ → Tried → Type 0
+IsTried o mode bytes (Written text) =
+    (value : Value) × HasTextMeaningIn o.doubles bytes value × IsTextFor o mode value text.items
+IsTried o mode bytes (Arranged text) = IsUtf8 bytes × (read (string_bytes text) ≡ read bytes)
 
 -- a value can be written
 abbrev pub IsWritable : Options → Converted → Type 0

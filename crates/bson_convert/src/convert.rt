@@ -8,11 +8,11 @@ ghost use Rattle.bson_model.specs.Laws.{IsReadFormIn};
 ghost use Rattle.bson.specs.View.{bson_view};
 ghost use Rattle.bson_convert.specs.Convert.{Converts, ConvertsIn, IsOutputIn, IsRefused, IsRefusedIn};
 ghost use Rattle.bson.specs.declared.extjson.options.Options.{Options};
-ghost use Rattle.bson_convert.specs.Convert.{default_options, IsConverted, IsWritable, newline};
+ghost use Rattle.bson_convert.specs.Convert.{default_options, IsConverted, IsTried, IsWritable, newline};
 ghost use Rattle.bson.specs.TextMeaning.{IsTextOf, HasTextMeaningIn, IsTextFaultIn};
 ghost use Rattle.bson.specs.declared.extjson.text_error.TextError.{TextError};
 
-use crate::converted::{Converted, sorted_text};
+use crate::converted::{Converted, Tried, read_arranged, try_text};
 use crate::fault::Fault;
 use crate::mode::Mode;
 use bson::Bson;
@@ -68,8 +68,8 @@ pub fn convert_with(
     output(alloc, options, mode, read)
 }
 
-/// The same of bytes that are let go once they are read, so that they take no memory beside the
-/// output of a value.
+/// The same of bytes that are let go once they are read or arranged, so that they take no memory
+/// beside the output of a value or of the arranged text.
 pub(crate) fn convert_whole(
     alloc: Global,
     options: Options,
@@ -79,8 +79,9 @@ pub(crate) fn convert_whole(
     ensures ok { IfOk result (λ output. ConvertsIn options mode bytes.items output.items) }
     ensures fault { IfErr result (λ fault. IsRefusedIn options fault bytes.items) }
 {
-    let read = text_or_value(alloc, options, mode, &bytes)?;
+    let tried = try_text(alloc, options, mode, &bytes)?;
     drop(bytes);
+    let read = again(alloc, options, mode, tried)?;
     output(alloc, options, mode, read)
 }
 
@@ -98,9 +99,21 @@ pub fn text_or_value(
         → MeansIn options.doubles tree value → IfErr result (λ fault. fault ≡ Fault.OutOfMemory) }
     ensures fault { IfErr result (λ fault. IsRefusedIn options fault bytes.now) }
 {
-    match sorted_text(alloc, options, mode, bytes)? {
-        Some(text) => Ok(Converted::Text(text)),
-        None => Ok(Converted::Value(meaning(alloc, options, bytes)?)),
+    let tried = try_text(alloc, options, mode, bytes)?;
+    again(alloc, options, mode, tried)
+}
+
+// What was written at once, or what the arranged text gives.
+fn again(alloc: Global, options: Options, mode: Mode, tried: Tried) -> Result<Converted, Fault>
+    ensures ok { (bytes : List ℕ) → IsTried options mode bytes tried
+        → IfOk result (λ read. (value : model.Value) × HasTextMeaningIn options.doubles bytes value
+        × IsConverted options mode value read) }
+    ensures fault { (bytes : List ℕ) → IsTried options mode bytes tried
+        → IfErr result (λ fault. IsRefusedIn options fault bytes) }
+{
+    match tried {
+        Tried::Written(text) => Ok(Converted::Text(text)),
+        Tried::Arranged(arranged) => read_arranged(alloc, options, mode, arranged.as_str()),
     }
 }
 

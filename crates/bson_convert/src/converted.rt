@@ -1,12 +1,18 @@
 //! A text that is written as another is read, and why one means nothing.
-ghost use Rattle.std.specs.Prelude.{IfOk, IfErr, IfSome};
+//!
+//! A text that can't be written as it is read is arranged, so that each object has each key once:
+//! that text is of the same tree. So a key that stands twice needs no value in memory, nor does what
+//! a later value takes the place of; and where the text means nothing, its fault is the same.
+ghost use Rattle.std.specs.Prelude.{◌≡◌, IfOk, IfErr, ℕ, List, string_bytes};
 ghost use Rattle.serde_json.specs.Read.{read};
 ghost use Rattle.bson_model.specs.Value as model;
 ghost use Rattle.bson.specs.TextMeaning.{HasTextMeaningIn};
+ghost use Rattle.bson_distinct.specs.Arranged.{IsArrangedText};
 ghost use Rattle.bson_tokens.specs.Parts.{IsBroken};
-ghost use Rattle.bson_tokens.specs.Told.{IsTextPlaceIn};
-ghost use Rattle.bson_convert.specs.Convert.{IsRefusedIn, IsTextFor};
+ghost use Rattle.bson_convert.specs.Convert.{IsConverted, IsRefusedIn, IsTextFor, IsTried};
+ghost use Rattle.bson.specs.declared.extjson.options.Options.{Options};
 
+use crate::convert::meaning;
 use crate::fault::Fault;
 use crate::mode::Mode;
 use bson::Bson;
@@ -14,8 +20,6 @@ use bson::extjson::{Form, Options};
 use bson_distinct::arrange::arrange_text;
 use bson_distinct::arrangement::Arrangement;
 use bson_filter::filter::{show_text, sort_text};
-use bson_place::place::Place;
-use bson_scalar::form::Doubles;
 use bson_tokens::unread::Unread;
 use bson_tokens::walk::first_fault_in;
 use std::alloc::Global;
@@ -38,27 +42,52 @@ pub enum Converted {
     Value(Bson),
 }
 
-// The text that the mode asks for of the value that the bytes mean, written as they are read; none
-// where they are to be read whole.
-pub(crate) fn sorted_text(
+/// What a first reading gives.
+#[derive(Drop)]
+pub(crate) enum Tried {
+    /// The text that the mode asks for.
+    Written(Vec<u8>),
+    /// The text of the same tree that is to be read in its place.
+    Arranged(String),
+}
+
+/// The text that the mode asks for of the value that the bytes mean, written as they are read, or
+/// the arranged text of the bytes where they can't be.
+pub(crate) fn try_text(
     alloc: Global,
     options: Options,
     mode: Mode,
     bytes: &[u8],
-) -> Result<Option<Vec<u8>>, Fault>
-    ensures ok { IfOk result (λ found. IfSome found
-        (λ text. (value : model.Value) × HasTextMeaningIn options.doubles bytes.now value
-        × IsTextFor options mode value text.items)) }
+) -> Result<Tried, Fault>
+    ensures ok { IfOk result (λ tried. IsTried options mode bytes.now tried) }
     ensures fault { IfErr result (λ fault. IsRefusedIn options fault bytes.now) }
 {
     let Ok(text) = simdutf8::compat::from_utf8(bytes) else {
         return Err(Fault::NotJson);
     };
     match stream_text(alloc, options, mode, text) {
-        Ok(written) => Ok(Some(written)),
+        Ok(written) => Ok(Tried::Written(written)),
+        Err(Unread::Refused) => Ok(Tried::Arranged(arrange(alloc, Arrangement::Ascending, text)?)),
+        Err(Unread::OutOfMemory) => Err(Fault::OutOfMemory),
+    }
+}
+
+/// The text or the value of an arranged text.
+pub(crate) fn read_arranged(
+    alloc: Global,
+    options: Options,
+    mode: Mode,
+    arranged: &str,
+) -> Result<Converted, Fault>
+    ensures ok { IfOk result (λ read. (value : model.Value) × HasTextMeaningIn options.doubles arranged.now value
+        × IsConverted options mode value read) }
+    ensures fault { IfErr result (λ fault. IsRefusedIn options fault arranged.now) }
+{
+    match stream_text(alloc, options, mode, arranged) {
+        Ok(written) => Ok(Converted::Text(written)),
         Err(Unread::Refused) => {
-            refuse(alloc, options, text)?;
-            Ok(None)
+            refuse_arranged(alloc, options, arranged)?;
+            Ok(Converted::Value(meaning(alloc, options, arranged.as_bytes())?))
         }
         Err(Unread::OutOfMemory) => Err(Fault::OutOfMemory),
     }
@@ -76,25 +105,46 @@ fn stream_text(alloc: Global, options: Options, mode: Mode, text: &str) -> Resul
     }
 }
 
+/// The JSON text of the text's tree with each key once in its object; a text that is no JSON text
+/// is refused as `NotJson`.
+pub fn arrange(alloc: Global, arrangement: Arrangement, text: &str) -> Result<String, Fault>
+    ensures ok { IfOk result (λ arranged. IsArrangedText arrangement text.now (string_bytes arranged)) }
+    ensures same { IfOk result (λ arranged. read (string_bytes arranged) ≡ read text.now) }
+    ensures fault { (options : Options) → IfErr result (λ fault. IsRefusedIn options fault text.now) }
+{
+    match arrange_text(alloc, arrangement, text) {
+        Ok(arranged) => Ok(arranged),
+        Err(unread) => Err(no_tree(unread)),
+    }
+}
+
 /// Refuses a text that is not JSON or means nothing, with the first fault of its tree, of which no
 /// value is made.
 pub fn refuse(alloc: Global, options: Options, text: &str) -> Result<(), Fault>
     ensures { IfErr result (λ fault. IsRefusedIn options fault text.now) }
 {
-    match arranged_fault(alloc, options.doubles, text) {
+    let arranged = arrange(alloc, Arrangement::Ascending, text)?;
+    refuse_arranged(alloc, options, arranged.as_str())
+}
+
+// The same of a text whose keys ascend: there code stands before its scope, so that no tree is
+// made.
+fn refuse_arranged(alloc: Global, options: Options, arranged: &str) -> Result<(), Fault>
+    ensures { IfErr result (λ fault. IsRefusedIn options fault arranged.now) }
+{
+    match first_fault_in(alloc, options.doubles, arranged) {
         Ok(None) => Ok(()),
         Ok(Some(place)) => Err(Fault::NotExtendedJson(place)),
-        Err(Unread::Refused) => Err(Fault::NotJson),
-        Err(Unread::OutOfMemory) => Err(Fault::OutOfMemory),
+        Err(unread) => Err(no_tree(unread)),
     }
 }
 
-// The first fault of the text's tree, looked for in the text of the same tree whose keys ascend:
-// there code stands before its scope, so that no tree is made.
-fn arranged_fault(alloc: Global, doubles: Doubles, text: &str) -> Result<Option<Place>, Unread>
-    ensures place { IfOk result (λ found. IsTextPlaceIn doubles text.now found) }
-    ensures broken { IfErr result (IsBroken (read text.now)) }
+// The fault of a text of which no tree was read.
+fn no_tree(unread: Unread) -> Fault
+    ensures { (options : Options) (bytes : List ℕ) → IsBroken (read bytes) unread → IsRefusedIn options result bytes }
 {
-    let arranged = arrange_text(alloc, Arrangement::Ascending, text)?;
-    first_fault_in(alloc, doubles, arranged.as_str())
+    match unread {
+        Unread::Refused => Fault::NotJson,
+        Unread::OutOfMemory => Fault::OutOfMemory,
+    }
 }

@@ -1,4 +1,3 @@
-pub mod Arranged
 pub mod Differ
 pub mod Digests
 pub mod Keys

@@ -61,7 +61,7 @@ pub(crate) fn end_object(
 /// How many bytes may be taken to put the members of a text of this length in order: so many that
 /// with all else it keeps to twelve times the text.
 pub(crate) fn memory_allowed(length: usize) -> usize {
-    length.saturating_mul(10).saturating_add(8 << 20)
+    length.saturating_mul(9).saturating_add(8 << 20)
 }
 
 // So many members of a text of this length take, which is held twice.

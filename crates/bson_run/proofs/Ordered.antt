@@ -13,6 +13,9 @@ use Rattle.bson_order.specs.Kept.{unordered}
 use Rattle.bson_order.specs.Texts.{HasMeaningInOrder}
 use Rattle.bson.specs.Texts.{IsTextInOrder}
 use Rattle.bson.specs.declared.extjson.options.Options.{Options}
+use Rattle.bson_distinct.proofs.Offered.{meant_in_order}
+use Rattle.bson_distinct.specs.Arranged.{IsArrangedText}
+use Rattle.bson_distinct.specs.declared.arrangement.Arrangement.TheVariants.{FirstPlaces}
 use Rattle.bson_filter.specs.Filtered.{IsFilteredText}
 use Rattle.bson_convert.specs.Convert.{newline}
 use Rattle.bson_run.specs.InOrder.{ConvertsInOrder, IsOutputInOrder, IsTextInOrderFor}
@@ -58,4 +61,15 @@ module _ (o : Options) where
     utf8 = utf8;
     meaning = meaning;
     is_output = line_in_order mode v text output is line;
+  }
+
+  -- what the arranged text is converted to is what the text is
+  pub converted_alike : (mode : Mode) (text arranged output : List ℕ) → IsUtf8 text
+      → IsArrangedText FirstPlaces text arranged → ConvertsInOrder o mode arranged output
+      → ConvertsInOrder o mode text output
+  converted_alike mode text arranged output utf8 is x = record {
+    value = x.value;
+    utf8 = utf8;
+    meaning = (meant_in_order o.doubles text arranged x.value is).0 x.meaning;
+    is_output = x.is_output;
   }

@@ -123,6 +123,7 @@ fn bytes_of(alloc: Global, value: Bson) -> Result<Vec<u8>, Fault>
 fn write_fault(error: ser::Error) -> Fault
     ensures cause { (ps : Pairs) → IsRefusal error ps → FailsAlone result ps }
     ensures memory { error ≡ errors.OutOfMemory → result ≡ Fault.OutOfMemory }
+    ensures only { result ≡ Fault.OutOfMemory → error ≡ errors.OutOfMemory }
 {
     match error {
         ser::Error::Key => Fault::NoBytes(NoBytes::ZeroInKey),

@@ -13,9 +13,10 @@ ghost use Rattle.bson_run.specs.InOrder.{ConvertsInOrder, IsOutputInOrder, IsTex
 use bson::Bson;
 use bson::extjson::{Form, Options, WriteError};
 use bson_convert::convert::{displayed_line, end_line, fault_of, line};
-use bson_convert::converted::refuse;
+use bson_convert::converted::{arrange, refuse};
 use bson_convert::fault::Fault;
 use bson_convert::mode::Mode;
+use bson_distinct::arrangement::Arrangement;
 use bson_filter::filter::{filter_text, show_text_in_order};
 use bson_tokens::unread::Unread;
 use std::alloc::Global;
@@ -44,32 +45,58 @@ pub fn convert_in_order(
         → MeansIn options.doubles tree value → IfErr result (λ fault. fault ≡ Fault.OutOfMemory) }
     ensures fault { IfErr result (λ fault. IsRefusedIn options fault bytes.now) }
 {
-    match filter_line(alloc, options, mode, bytes)? {
+    let Ok(text) = simdutf8::compat::from_utf8(bytes) else {
+        return Err(Fault::NotJson);
+    };
+    match filter_line(alloc, options, mode, text)? {
         Some(line) => Ok(line),
-        None => convert_whole(alloc, options, mode, bytes),
+        None => convert_arranged(alloc, options, mode, text),
     }
 }
 
-// The text that is written as the bytes are read, and a newline; none where they are to be read
-// whole. Where they mean nothing their first fault is told, and no value is made.
+// The output of a text that can't be written as it is read: that of the text in which each object
+// has each key once.
+fn convert_arranged(
+    alloc: Global,
+    options: Options,
+    mode: Mode,
+    text: &str,
+) -> Result<Vec<u8>, Fault>
+    ensures ok { IfOk result (λ output. ConvertsInOrder options mode text.now output.items) }
+    ensures fault { IfErr result (λ fault. IsRefusedIn options fault text.now) }
+{
+    let arranged = arrange(alloc, Arrangement::FirstPlaces, text)?;
+    convert_once(alloc, options, mode, arranged.as_str())
+}
+
+// The output of a text in which each object has each key once. Where it means nothing its first
+// fault is told, and no value is made.
+fn convert_once(alloc: Global, options: Options, mode: Mode, text: &str) -> Result<Vec<u8>, Fault>
+    ensures ok { IfOk result (λ output. ConvertsInOrder options mode text.now output.items) }
+    ensures fault { IfErr result (λ fault. IsRefusedIn options fault text.now) }
+{
+    match filter_line(alloc, options, mode, text)? {
+        Some(line) => Ok(line),
+        None => {
+            refuse(alloc, options, text)?;
+            convert_whole(alloc, options, mode, text.as_bytes())
+        }
+    }
+}
+
+// The text that is written as the text is read, and a newline; none where it can't be.
 fn filter_line(
     alloc: Global,
     options: Options,
     mode: Mode,
-    bytes: &[u8],
+    text: &str,
 ) -> Result<Option<Vec<u8>>, Fault>
-    ensures ok { IfOk result (λ found. IfSome found (λ output. ConvertsInOrder options mode bytes.now output.items)) }
-    ensures fault { IfErr result (λ fault. IsRefusedIn options fault bytes.now) }
+    ensures ok { IfOk result (λ found. IfSome found (λ output. ConvertsInOrder options mode text.now output.items)) }
+    ensures fault { IfErr result (λ fault. fault ≡ Fault.OutOfMemory) }
 {
-    let Ok(text) = simdutf8::compat::from_utf8(bytes) else {
-        return Ok(None);
-    };
     match filter(alloc, options, mode, text) {
         Ok(written) => Ok(Some(end_line(written)?)),
-        Err(Unread::Refused) => {
-            refuse(alloc, options, text)?;
-            Ok(None)
-        }
+        Err(Unread::Refused) => Ok(None),
         Err(Unread::OutOfMemory) => Err(Fault::OutOfMemory),
     }
 }
@@ -94,8 +121,6 @@ fn convert_whole(
     bytes: &[u8],
 ) -> Result<Vec<u8>, Fault>
     ensures ok { IfOk result (λ output. ConvertsInOrder options mode bytes.now output.items) }
-    ensures accepts { (tree : Data) (value : model.Value) → IsTextOf bytes.now tree
-        → MeansIn options.doubles tree value → IfErr result (λ fault. fault ≡ Fault.OutOfMemory) }
     ensures fault { IfErr result (λ fault. IsRefusedIn options fault bytes.now) }
 {
     match Bson::try_from_text_in_order(alloc, options, bytes) {

@@ -2,7 +2,7 @@ use Rattle.std.proofs.Common.{◌≡◌, [], refl, ◌∙◌, arith}
 use Rattle.json.specs.Print.{print}
 use Rattle.bson_filter.specs.declared.text.TextWriter.{TextWriter}
 use Rattle.bson_filter.proofs.Sending.{text_sent}
-use Rattle.bson_filter.proofs.filter.write_filtered.Goals as goal
+use Rattle.bson_filter.proofs.filter.filter_text.Goals as goal
 
 pub returns : goal.returns
 returns c =

@@ -1,7 +1,7 @@
 use Rattle.std.proofs.Common.{false, refl}
 use Rattle.bson_filter.specs.declared.sorted_text.SortedWriter.{SortedWriter}
 use Rattle.bson_filter.proofs.Sorting.{text_sorted}
-use Rattle.bson_filter.proofs.filter.write_sorted.Goals as goal
+use Rattle.bson_filter.proofs.filter.sort_text.Goals as goal
 
 pub returns : goal.returns
 returns c =

@@ -1,7 +1,7 @@
 use Rattle.std.proofs.Common.{false, refl}
 use Rattle.bson_filter.specs.declared.shown_text.ShownWriter.{ShownWriter}
 use Rattle.bson_filter.proofs.ShownTexts.{text_shown}
-use Rattle.bson_filter.proofs.filter.write_shown.Goals as goal
+use Rattle.bson_filter.proofs.filter.show_by.Goals as goal
 
 pub returns : goal.returns
 returns c =

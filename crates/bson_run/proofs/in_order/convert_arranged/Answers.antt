@@ -1,0 +1,26 @@
+use Rattle.std.proofs.Common.{◌≡◌, sym, subst, arith}
+use Rattle.std.specs.Prelude.{IsUtf8, string_bytes}
+use Rattle.serde_json.specs.Read.{read}
+use Rattle.bson_convert.proofs.Offered.{refused_alike}
+use Rattle.bson_distinct.specs.Arranged.{IsArrangedText}
+use Rattle.bson_distinct.specs.declared.arrangement.Arrangement.TheVariants.{FirstPlaces}
+use Rattle.bson_tokens.proofs.Offered.{if_err, if_ok}
+use Rattle.bson_run.proofs.Ordered.{converted_alike}
+use Rattle.bson_run.proofs.in_order.convert_arranged.Goals as goal
+
+pub returns : goal.returns
+returns c =
+    let o = c.args.options in
+    let text = c.args.text.now in
+    let arranged = c.as_str.result.now in
+    let whole : arranged ≡ string_bytes c.in_ok-arranged.arranged = grind arith in
+    let is = subst (λ s. IsArrangedText FirstPlaces text s) (sym whole) c.in_ok-arranged.ensures.ok in
+    let same = subst (λ s. read s ≡ read text) (sym whole) c.in_ok-arranged.ensures.same in
+    let utf8 : IsUtf8 text = grind arith in
+    let valid : IsUtf8 arranged = grind arith in
+    record {
+      ok = if_ok c.convert_once.result c.convert_once.ensures.ok
+          (λ out x. converted_alike o c.args.mode text arranged out.items utf8 is x);
+      fault = if_err c.convert_once.result c.convert_once.ensures.fault
+          (λ f x. refused_alike o text arranged utf8 same f valid x);
+    }
