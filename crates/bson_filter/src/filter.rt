@@ -103,8 +103,8 @@ fn show_by(
     Ok(writer.text)
 }
 
-// As much as the text takes, up to a mebibyte: what is longer grows with what is written, so that
-// large blocks are not held beside the larger ones that take their place.
+// As much as the text takes; none at first for a long one, so that the reader's scratch comes first
+// to the block that the one before it let go.
 fn first_room(text: &str) -> usize {
-    text.len().min(1 << 20)
+    if text.len() < 1 << 20 { text.len() } else { 0 }
 }
