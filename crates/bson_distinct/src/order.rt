@@ -198,7 +198,9 @@ fn join_pieces(
     requires { All (IsWithin body.now) pieces.old.items }
     ensures { IfOk result (λ text. IsJoined body.now pieces.old.items pieces.new.items text.items) }
 {
-    let mut text = Vec::with_capacity(alloc, body.len())?;
+    // Twice the room, half of which is never touched: glibc maps a block that is larger than all
+    // that were let go before it, and so gives it back at once (mallopt(3), M_MMAP_THRESHOLD).
+    let mut text = Vec::with_capacity(alloc, body.len().saturating_mul(2))?;
     'pieces: for at in 0..pieces.len() {
         let Piece {
             key,
