@@ -12,14 +12,10 @@ use Rattle.bson_model.specs.Displayed.{display_text}
 use Rattle.bson_model.specs.Value.{Value}
 use Rattle.bson_model.specs.Normal.{normal_form}
 use Rattle.bson_model.specs.Written.{WrittenIn}
-use Rattle.bson_model.specs.Laws.{HasMeaningIn, IsTreeOfIn, IsReadFormIn}
+use Rattle.bson_model.specs.Laws.{HasMeaningIn, IsTreeOfIn}
 use Rattle.bson_place.specs.Place.{IsFirstFaultIn}
 use Rattle.bson.specs.TextMeaning.{IsTextOf, IsNoText, HasTextMeaningIn}
 use Rattle.bson.specs.Texts.{IsTextUnder}
-use Rattle.bson.specs.View.{bson_view}
-use Rattle.bson_convert.specs.declared.converted.Converted.{Converted}
-use Rattle.bson_convert.specs.declared.converted.Converted.TheVariants.{Text}
-use Rattle.bson_convert.specs.declared.converted.Converted.TheVariants as converted
 use Rattle.bson_convert.specs.declared.converted.Tried.{Tried}
 use Rattle.bson_convert.specs.declared.converted.Tried.TheVariants.{Written, Arranged}
 use Rattle.bson_convert.specs.declared.mode.Mode.{Mode}
@@ -84,7 +80,7 @@ Converts = ConvertsIn default_options
 abbrev pub IsRefused : Fault → List ℕ → Type 0
 IsRefused = IsRefusedIn default_options
 
--- ---- the text or the value
+-- ---- the text
 
 -- a text of the value in the mode's form, or the one that shows it
 abbrev pub IsTextFor : Options → Mode → Value → List ℕ → Type 0
@@ -92,20 +88,14 @@ IsTextFor o Canonical value text = IsTextUnder o.doubles form.Canonical value te
 IsTextFor o Relaxed value text = IsTextUnder o.doubles form.Relaxed value text
 IsTextFor o Show value text = text ≡ display_text value
 
--- such a text, or the value
-abbrev pub IsConverted : Options → Mode → Value → Converted → Type 0
-IsConverted o mode value (Text text) = IsTextFor o mode value text.items
-IsConverted o mode value (converted.Value read) = bson_view read ≡ value
+-- such a text of the value that the bytes mean
+abbrev pub IsConvertedText : Options → Mode → List ℕ → List ℕ → Type 0
+IsConvertedText o mode bytes text =
+    (value : Value) × HasTextMeaningIn o.doubles bytes value × IsTextFor o mode value text
 
 -- ---- for private clauses
 
--- a text for the mode of the value that the bytes mean, or a text of the same tree as theirs
+-- that text, or a text of the same tree as the bytes'
 abbrev pub IsTried : Options → Mode → List ℕ → Tried → Type 0
-IsTried o mode bytes (Written text) =
-    (value : Value) × HasTextMeaningIn o.doubles bytes value × IsTextFor o mode value text.items
+IsTried o mode bytes (Written text) = IsConvertedText o mode bytes text.items
 IsTried o mode bytes (Arranged text) = IsUtf8 bytes × (read (string_bytes text) ≡ read bytes)
-
--- a value can be written
-abbrev pub IsWritable : Options → Converted → Type 0
-IsWritable o (Text text) = Unit {0}
-IsWritable o (converted.Value read) = IsReadFormIn o.doubles (bson_view read)

@@ -1,18 +1,18 @@
 //! One text to another: from bytes to bytes.
-ghost use Rattle.std.specs.Prelude.{◌≡◌, ◌++◌, IfOk, IfErr, ℕ, List, string_bytes};
+ghost use Rattle.std.specs.Prelude.{◌≡◌, ◌++◌, IfOk, IfErr, ℕ, List};
 ghost use Rattle.serde_json.specs.Data.{Data};
 ghost use Rattle.bson_model.specs.Means.{Means, MeansIn};
 ghost use Rattle.bson_model.specs.Displayed.{display_text};
 ghost use Rattle.bson_model.specs.Value as model;
 ghost use Rattle.bson_model.specs.Laws.{IsReadFormIn};
 ghost use Rattle.bson.specs.View.{bson_view};
-ghost use Rattle.bson_convert.specs.Convert.{Converts, ConvertsIn, IsOutputIn, IsRefused, IsRefusedIn};
+ghost use Rattle.bson_convert.specs.Convert.{Converts, ConvertsIn, IsRefused, IsRefusedIn};
 ghost use Rattle.bson.specs.declared.extjson.options.Options.{Options};
-ghost use Rattle.bson_convert.specs.Convert.{default_options, IsConverted, IsTried, IsWritable, newline};
+ghost use Rattle.bson_convert.specs.Convert.{default_options, IsConvertedText, IsTextFor, IsTried, newline};
 ghost use Rattle.bson.specs.TextMeaning.{IsTextOf, HasTextMeaningIn, IsTextFaultIn};
 ghost use Rattle.bson.specs.declared.extjson.text_error.TextError.{TextError};
 
-use crate::converted::{Converted, Tried, read_arranged, try_text};
+use crate::converted::{Tried, read_arranged, try_text};
 use crate::fault::Fault;
 use crate::mode::Mode;
 use bson::Bson;
@@ -64,8 +64,8 @@ pub fn convert_with(
         → MeansIn options.doubles tree value → IfErr result (λ fault. fault ≡ Fault.OutOfMemory) }
     ensures fault { IfErr result (λ fault. IsRefusedIn options fault bytes.now) }
 {
-    let read = text_or_value(alloc, options, mode, bytes)?;
-    output(alloc, options, mode, read)
+    let text = text_with(alloc, options, mode, bytes)?;
+    end_line(text)
 }
 
 /// The same of bytes that are let go once they are read or arranged, so that they take no memory
@@ -81,38 +81,42 @@ pub(crate) fn convert_whole(
 {
     let tried = try_text(alloc, options, mode, &bytes)?;
     drop(bytes);
-    let read = again(alloc, options, mode, tried)?;
-    output(alloc, options, mode, read)
+    let text = finish(alloc, options, mode, tried)?;
+    end_line(text)
 }
 
-/// The text that the mode asks for of the value that the bytes mean, or that value.
-pub fn text_or_value(
+/// What [`convert_with`] gives, without the newline.
+///
+/// ```
+/// let bytes = br#"[{"$numberLong": "5"}]"#;
+/// if let Ok(text) = text_with(alloc, Options::default(), Mode::Relaxed, bytes) {
+///     println!(rt; "{}", str::from_utf8(&text)?)?; // [5]
+/// }
+/// ```
+pub fn text_with(
     alloc: Global,
     options: Options,
     mode: Mode,
     bytes: &[u8],
-) -> Result<Converted, Fault>
-    ensures ok { IfOk result
-        (λ read. (value : model.Value) × HasTextMeaningIn options.doubles bytes.now value
-        × IsConverted options mode value read) }
+) -> Result<Vec<u8>, Fault>
+    ensures ok { IfOk result (λ text. IsConvertedText options mode bytes.now text.items) }
     ensures accepts { (tree : Data) (value : model.Value) → IsTextOf bytes.now tree
         → MeansIn options.doubles tree value → IfErr result (λ fault. fault ≡ Fault.OutOfMemory) }
     ensures fault { IfErr result (λ fault. IsRefusedIn options fault bytes.now) }
 {
     let tried = try_text(alloc, options, mode, bytes)?;
-    again(alloc, options, mode, tried)
+    finish(alloc, options, mode, tried)
 }
 
-// What was written at once, or what the arranged text gives.
-fn again(alloc: Global, options: Options, mode: Mode, tried: Tried) -> Result<Converted, Fault>
+// What was written at once, or the text of the arranged one.
+fn finish(alloc: Global, options: Options, mode: Mode, tried: Tried) -> Result<Vec<u8>, Fault>
     ensures ok { (bytes : List ℕ) → IsTried options mode bytes tried
-        → IfOk result (λ read. (value : model.Value) × HasTextMeaningIn options.doubles bytes value
-        × IsConverted options mode value read) }
+        → IfOk result (λ text. IsConvertedText options mode bytes text.items) }
     ensures fault { (bytes : List ℕ) → IsTried options mode bytes tried
         → IfErr result (λ fault. IsRefusedIn options fault bytes) }
 {
     match tried {
-        Tried::Written(text) => Ok(Converted::Text(text)),
+        Tried::Written(text) => Ok(text),
         Tried::Arranged(arranged) => read_arranged(alloc, options, mode, arranged.as_str()),
     }
 }
@@ -142,55 +146,39 @@ pub fn fault_of(error: TextError) -> Fault
     }
 }
 
-// The text or the value's output in the mode, and a newline.
-fn output(alloc: Global, options: Options, mode: Mode, read: Converted) -> Result<Vec<u8>, Fault>
-    requires { IsWritable options read }
-    ensures ok { (value : model.Value) → IsReadFormIn options.doubles value → IsConverted options mode value read
-        → IfOk result (λ output. IsOutputIn options mode value output.items) }
-    ensures fault { IfErr result (λ fault. fault ≡ Fault.OutOfMemory) }
-{
-    match read {
-        Converted::Text(text) => end_line(text),
-        Converted::Value(value) => value_output(alloc, options, mode, value),
-    }
-}
-
-// The value's text in the mode, and a newline.
-fn value_output(alloc: Global, options: Options, mode: Mode, value: Bson) -> Result<Vec<u8>, Fault>
+/// The text that the mode asks for of a value that was read.
+pub(crate) fn value_text(
+    alloc: Global,
+    options: Options,
+    mode: Mode,
+    value: Bson,
+) -> Result<Vec<u8>, Fault>
     requires { IsReadFormIn options.doubles (bson_view value) }
-    ensures ok { IfOk result (λ output. IsOutputIn options mode (bson_view value) output.items) }
+    ensures ok { IfOk result (λ text. IsTextFor options mode (bson_view value) text.items) }
     ensures fault { IfErr result (λ fault. fault ≡ Fault.OutOfMemory) }
 {
     let text = match mode {
         Mode::Canonical => value.into_text_with(alloc, options, Form::Canonical),
         Mode::Relaxed => value.into_text_with(alloc, options, Form::Relaxed),
-        Mode::Show => return displayed_line(alloc, &value),
+        Mode::Show => return displayed_text(alloc, &value),
     };
     match text {
-        Ok(text) => line(text),
+        Ok(text) => Ok(text.into_bytes()),
         // What was read can be written.
         Err(WriteError::FiniteDouble) => unreachable!(),
         Err(WriteError::OutOfMemory) => Err(Fault::OutOfMemory),
     }
 }
 
-/// The text that shows the value, and a newline.
-pub fn displayed_line(alloc: Global, value: &Bson) -> Result<Vec<u8>, Fault>
-    ensures ok { IfOk result (λ line. line.items ≡ display_text (bson_view value.now) ++ newline) }
+/// The text that shows the value.
+pub fn displayed_text(alloc: Global, value: &Bson) -> Result<Vec<u8>, Fault>
+    ensures ok { IfOk result (λ text. text.items ≡ display_text (bson_view value.now)) }
     ensures fault { IfErr result (λ fault. fault ≡ Fault.OutOfMemory) }
 {
-    match format!(in alloc; "{value}\n") {
-        Ok(line) => Ok(line.into_bytes()),
+    match format!(in alloc; "{value}") {
+        Ok(text) => Ok(text.into_bytes()),
         Err(_) => Err(Fault::OutOfMemory),
     }
-}
-
-/// The text, and a newline.
-pub fn line(text: String) -> Result<Vec<u8>, Fault>
-    ensures ok { IfOk result (λ line. line.items ≡ string_bytes text ++ newline) }
-    ensures fault { IfErr result (λ fault. fault ≡ Fault.OutOfMemory) }
-{
-    end_line(text.into_bytes())
 }
 
 /// The bytes, and a newline.

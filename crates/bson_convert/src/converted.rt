@@ -5,17 +5,14 @@
 //! a later value takes the place of; and where the text means nothing, its fault is the same.
 ghost use Rattle.std.specs.Prelude.{◌≡◌, IfOk, IfErr, ℕ, List, string_bytes};
 ghost use Rattle.serde_json.specs.Read.{read};
-ghost use Rattle.bson_model.specs.Value as model;
-ghost use Rattle.bson.specs.TextMeaning.{HasTextMeaningIn};
 ghost use Rattle.bson_distinct.specs.Arranged.{IsArrangedText};
 ghost use Rattle.bson_tokens.specs.Parts.{IsBroken};
-ghost use Rattle.bson_convert.specs.Convert.{IsConverted, IsRefusedIn, IsTextFor, IsTried};
+ghost use Rattle.bson_convert.specs.Convert.{IsConvertedText, IsRefusedIn, IsTried};
 ghost use Rattle.bson.specs.declared.extjson.options.Options.{Options};
 
-use crate::convert::meaning;
+use crate::convert::{meaning, value_text};
 use crate::fault::Fault;
 use crate::mode::Mode;
-use bson::Bson;
 use bson::extjson::{Form, Options};
 use bson_distinct::arrange::arrange_text;
 use bson_distinct::arrangement::Arrangement;
@@ -23,24 +20,6 @@ use bson_filter::filter::{show_text, sort_text};
 use bson_tokens::unread::Unread;
 use bson_tokens::walk::first_fault_in;
 use std::alloc::Global;
-
-/// What `text_or_value` gives.
-///
-/// ```
-/// let bytes = br#"[{"$numberLong": "5"}]"#;
-/// match text_or_value(alloc, Options::default(), Mode::Relaxed, bytes) {
-///     Ok(Converted::Text(text)) => println!(rt; "{}", str::from_utf8(&text)?)?, // [5]
-///     Ok(Converted::Value(value)) => println!(rt; "{}", value.into_relaxed_text(alloc)?)?,
-///     Err(fault) => println!(rt; "{}", fault.line())?,
-/// }
-/// ```
-#[derive(Drop)]
-pub enum Converted {
-    /// The text of the value that the mode asks for.
-    Text(Vec<u8>),
-    /// The value, which was read whole.
-    Value(Bson),
-}
 
 /// What a first reading gives.
 #[derive(Drop)]
@@ -72,22 +51,22 @@ pub(crate) fn try_text(
     }
 }
 
-/// The text or the value of an arranged text.
+/// The text of an arranged text: that of its value where it can't be written as it is read either.
 pub(crate) fn read_arranged(
     alloc: Global,
     options: Options,
     mode: Mode,
     arranged: &str,
-) -> Result<Converted, Fault>
-    ensures ok { IfOk result (λ read. (value : model.Value) × HasTextMeaningIn options.doubles arranged.now value
-        × IsConverted options mode value read) }
+) -> Result<Vec<u8>, Fault>
+    ensures ok { IfOk result (λ text. IsConvertedText options mode arranged.now text.items) }
     ensures fault { IfErr result (λ fault. IsRefusedIn options fault arranged.now) }
 {
     match stream_text(alloc, options, mode, arranged) {
-        Ok(written) => Ok(Converted::Text(written)),
+        Ok(written) => Ok(written),
         Err(Unread::Refused) => {
             refuse_arranged(alloc, options, arranged)?;
-            Ok(Converted::Value(meaning(alloc, options, arranged.as_bytes())?))
+            let value = meaning(alloc, options, arranged.as_bytes())?;
+            value_text(alloc, options, mode, value)
         }
         Err(Unread::OutOfMemory) => Err(Fault::OutOfMemory),
     }
@@ -95,8 +74,7 @@ pub(crate) fn read_arranged(
 
 // The text that the mode asks for of the value that the text means.
 fn stream_text(alloc: Global, options: Options, mode: Mode, text: &str) -> Result<Vec<u8>, Unread>
-    ensures { IfOk result (λ written. (value : model.Value) × HasTextMeaningIn options.doubles text.now value
-        × IsTextFor options mode value written.items) }
+    ensures { IfOk result (λ written. IsConvertedText options mode text.now written.items) }
 {
     match mode {
         Mode::Canonical => sort_text(alloc, options.doubles, Form::Canonical, text),

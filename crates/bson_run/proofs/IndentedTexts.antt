@@ -1,29 +1,20 @@
--- The text in a form is what converting gives in its mode.
-use Rattle.std.proofs.Common.{ℕ, List, ◌++◌, refl}
+-- The text in a form is what the mode of the form asks for.
+use Rattle.std.proofs.Common.{ℕ, List}
 use Rattle.bson_scalar.specs.declared.form.Form.{Form}
 use Rattle.bson_scalar.specs.declared.form.Form.TheVariants as form
 use Rattle.bson_model.specs.Value.{Value}
 use Rattle.bson.specs.declared.extjson.options.Options.{Options}
-use Rattle.bson.specs.TextMeaning.{HasTextMeaningIn}
-use Rattle.bson.specs.Texts.{IsTextUnder}
-use Rattle.bson_convert.specs.Convert.{ConvertsIn, newline}
+use Rattle.bson.specs.Texts.{IsTextInOrder, IsTextUnder}
+use Rattle.bson_convert.specs.Convert.{IsTextFor}
 use Rattle.bson_run.specs.Indent.{mode_of}
-use Rattle.bson_convert.proofs.Offered.{is_written}
+use Rattle.bson_run.specs.InOrder.{IsTextInOrderFor}
 
-pub form_converts : (o : Options) (f : Form) (bytes : List ℕ) (v : Value) (text : List ℕ)
-    → HasTextMeaningIn o.doubles bytes v → IsTextUnder o.doubles f v text
-    → ConvertsIn o (mode_of f) bytes (text ++ newline)
-form_converts o form.Canonical bytes v text m i = record {
-  tree = m.tree;
-  value = v;
-  text = m.text;
-  meaning = m.meaning;
-  is_output = is_written o form.Canonical v text (text ++ newline) m.meaning.read_form i refl;
-}
-form_converts o form.Relaxed bytes v text m i = record {
-  tree = m.tree;
-  value = v;
-  text = m.text;
-  meaning = m.meaning;
-  is_output = is_written o form.Relaxed v text (text ++ newline) m.meaning.read_form i refl;
-}
+module _ (o : Options) where
+  pub text_for : (f : Form) (v : Value) (text : List ℕ) → IsTextUnder o.doubles f v text → IsTextFor o (mode_of f) v text
+  text_for form.Canonical v text is = is
+  text_for form.Relaxed v text is = is
+
+  pub text_in_order_for : (f : Form) (v : Value) (text : List ℕ) → IsTextInOrder o.doubles f v text
+      → IsTextInOrderFor o (mode_of f) v text
+  text_in_order_for form.Canonical v text is = is
+  text_in_order_for form.Relaxed v text is = is

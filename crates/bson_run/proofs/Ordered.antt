@@ -18,7 +18,7 @@ use Rattle.bson_distinct.specs.Arranged.{IsArrangedText}
 use Rattle.bson_distinct.specs.declared.arrangement.Arrangement.TheVariants.{FirstPlaces}
 use Rattle.bson_filter.specs.Filtered.{IsFilteredText}
 use Rattle.bson_convert.specs.Convert.{newline}
-use Rattle.bson_run.specs.InOrder.{ConvertsInOrder, IsOutputInOrder, IsTextInOrderFor}
+use Rattle.bson_run.specs.InOrder.{ConvertsInOrder, IsConvertedTextInOrder, IsOutputInOrder, IsTextInOrderFor}
 use Rattle.bson_convert.specs.declared.mode.Mode.{Mode}
 use Rattle.bson_convert.specs.declared.mode.Mode.TheVariants.{Canonical, Relaxed, Show}
 
@@ -43,9 +43,9 @@ module _ (o : Options) where
         compact = x.compact;
       }
 
-  pub filtered : (f : Form) (text written : List ℕ) → IsFilteredText o.doubles f text written
-      → (v : Value) × HasMeaningInOrder o.doubles text v × IsTextInOrder o.doubles f v written
-  filtered f text written x = (x.value, x.meaning, text_in_order f text written x)
+  pub filtered : (f : Form) (text written : List ℕ) → IsUtf8 text → IsFilteredText o.doubles f text written
+      → (v : Value) × IsUtf8 text × HasMeaningInOrder o.doubles text v × IsTextInOrder o.doubles f v written
+  filtered f text written utf8 x = (x.value, utf8, x.meaning, text_in_order f text written x)
 
   line_in_order : (mode : Mode) (v : Value) (text output : List ℕ) → IsTextInOrderFor o mode v text
       → output ≡ text ++ newline → IsOutputInOrder o mode v output
@@ -53,23 +53,18 @@ module _ (o : Options) where
   line_in_order Relaxed v text output is line = record { text = text; is_text = is; line = line }
   line_in_order Show v text output is line = line ∙ ap (λ l. l ++ newline) is
 
-  pub converted : (mode : Mode) (bytes text output : List ℕ) → IsUtf8 bytes
-      → (v : Value) × HasMeaningInOrder o.doubles bytes v × IsTextInOrderFor o mode v text → output ≡ text ++ newline
-      → ConvertsInOrder o mode bytes output
-  converted mode bytes text output utf8 (v, meaning, is) line = record {
+  pub text_converts : (mode : Mode) (bytes text output : List ℕ) → IsConvertedTextInOrder o mode bytes text
+      → output ≡ text ++ newline → ConvertsInOrder o mode bytes output
+  text_converts mode bytes text output (v, utf8, meaning, is) line = record {
     value = v;
     utf8 = utf8;
     meaning = meaning;
     is_output = line_in_order mode v text output is line;
   }
 
-  -- what the arranged text is converted to is what the text is
-  pub converted_alike : (mode : Mode) (text arranged output : List ℕ) → IsUtf8 text
-      → IsArrangedText FirstPlaces text arranged → ConvertsInOrder o mode arranged output
-      → ConvertsInOrder o mode text output
-  converted_alike mode text arranged output utf8 is x = record {
-    value = x.value;
-    utf8 = utf8;
-    meaning = (meant_in_order o.doubles text arranged x.value is).0 x.meaning;
-    is_output = x.is_output;
-  }
+  -- the text of the arranged text is that of the text
+  pub converted_alike : (mode : Mode) (text arranged written : List ℕ) → IsUtf8 text
+      → IsArrangedText FirstPlaces text arranged → IsConvertedTextInOrder o mode arranged written
+      → IsConvertedTextInOrder o mode text written
+  converted_alike mode text arranged written utf8 is (v, valid, meaning, of) =
+      (v, utf8, (meant_in_order o.doubles text arranged v is).0 meaning, of)

@@ -38,3 +38,8 @@ abbrev pub IsTextInOrderFor : Options → Mode → Value → List ℕ → Type 0
 IsTextInOrderFor o Canonical value text = IsTextInOrder o.doubles form.Canonical value text
 IsTextInOrderFor o Relaxed value text = IsTextInOrder o.doubles form.Relaxed value text
 IsTextInOrderFor o Show value text = text ≡ display_text value
+
+-- such a text of the value that the bytes mean in the order of their keys
+abbrev pub IsConvertedTextInOrder : Options → Mode → List ℕ → List ℕ → Type 0
+IsConvertedTextInOrder o mode bytes text =
+    (value : Value) × IsUtf8 bytes × HasMeaningInOrder o.doubles bytes value × IsTextInOrderFor o mode value text

@@ -7,12 +7,11 @@ ghost use Rattle.bson_model.specs.Value as model;
 ghost use Rattle.bson.specs.View.{bson_view};
 ghost use Rattle.bson.specs.TextMeaning.{IsTextOf};
 ghost use Rattle.bson_convert.specs.Convert.{IsRefusedIn};
-ghost use Rattle.bson_order.specs.Texts.{HasMeaningInOrder};
-ghost use Rattle.bson_run.specs.InOrder.{ConvertsInOrder, IsOutputInOrder, IsTextInOrderFor};
+ghost use Rattle.bson_run.specs.InOrder.{ConvertsInOrder, IsConvertedTextInOrder, IsTextInOrderFor};
 
 use bson::Bson;
 use bson::extjson::{Form, Options, WriteError};
-use bson_convert::convert::{displayed_line, end_line, fault_of, line};
+use bson_convert::convert::{displayed_text, end_line, fault_of};
 use bson_convert::converted::{arrange, refuse};
 use bson_convert::fault::Fault;
 use bson_convert::mode::Mode;
@@ -45,57 +44,74 @@ pub fn convert_in_order(
         → MeansIn options.doubles tree value → IfErr result (λ fault. fault ≡ Fault.OutOfMemory) }
     ensures fault { IfErr result (λ fault. IsRefusedIn options fault bytes.now) }
 {
+    let text = text_in_order(alloc, options, mode, bytes)?;
+    end_line(text)
+}
+
+/// What [`convert_in_order`] gives, without the newline.
+pub(crate) fn text_in_order(
+    alloc: Global,
+    options: Options,
+    mode: Mode,
+    bytes: &[u8],
+) -> Result<Vec<u8>, Fault>
+    ensures ok { IfOk result (λ text. IsConvertedTextInOrder options mode bytes.now text.items) }
+    ensures accepts { (tree : Data) (value : model.Value) → IsTextOf bytes.now tree
+        → MeansIn options.doubles tree value → IfErr result (λ fault. fault ≡ Fault.OutOfMemory) }
+    ensures fault { IfErr result (λ fault. IsRefusedIn options fault bytes.now) }
+{
     let Ok(text) = simdutf8::compat::from_utf8(bytes) else {
         return Err(Fault::NotJson);
     };
-    match filter_line(alloc, options, mode, text)? {
-        Some(line) => Ok(line),
-        None => convert_arranged(alloc, options, mode, text),
+    match filter_once(alloc, options, mode, text)? {
+        Some(written) => Ok(written),
+        None => arranged_text(alloc, options, mode, text),
     }
 }
 
-// The output of a text that can't be written as it is read: that of the text in which each object
-// has each key once.
-fn convert_arranged(
+// The text of one that can't be written as it is read: that of the text in which each object has
+// each key once.
+fn arranged_text(alloc: Global, options: Options, mode: Mode, text: &str) -> Result<Vec<u8>, Fault>
+    ensures ok { IfOk result (λ written. IsConvertedTextInOrder options mode text.now written.items) }
+    ensures fault { IfErr result (λ fault. IsRefusedIn options fault text.now) }
+{
+    let arranged = arrange(alloc, Arrangement::FirstPlaces, text)?;
+    text_of_distinct(alloc, options, mode, arranged.as_str())
+}
+
+// The text of one in which each object has each key once. Where it means nothing its first fault is
+// told, and no value is made.
+fn text_of_distinct(
     alloc: Global,
     options: Options,
     mode: Mode,
     text: &str,
 ) -> Result<Vec<u8>, Fault>
-    ensures ok { IfOk result (λ output. ConvertsInOrder options mode text.now output.items) }
+    ensures ok { IfOk result (λ written. IsConvertedTextInOrder options mode text.now written.items) }
     ensures fault { IfErr result (λ fault. IsRefusedIn options fault text.now) }
 {
-    let arranged = arrange(alloc, Arrangement::FirstPlaces, text)?;
-    convert_once(alloc, options, mode, arranged.as_str())
-}
-
-// The output of a text in which each object has each key once. Where it means nothing its first
-// fault is told, and no value is made.
-fn convert_once(alloc: Global, options: Options, mode: Mode, text: &str) -> Result<Vec<u8>, Fault>
-    ensures ok { IfOk result (λ output. ConvertsInOrder options mode text.now output.items) }
-    ensures fault { IfErr result (λ fault. IsRefusedIn options fault text.now) }
-{
-    match filter_line(alloc, options, mode, text)? {
-        Some(line) => Ok(line),
+    match filter_once(alloc, options, mode, text)? {
+        Some(written) => Ok(written),
         None => {
             refuse(alloc, options, text)?;
-            convert_whole(alloc, options, mode, text.as_bytes())
+            whole_text(alloc, options, mode, text.as_bytes())
         }
     }
 }
 
-// The text that is written as the text is read, and a newline; none where it can't be.
-fn filter_line(
+// The text that is written as the text is read; none where it can't be.
+fn filter_once(
     alloc: Global,
     options: Options,
     mode: Mode,
     text: &str,
 ) -> Result<Option<Vec<u8>>, Fault>
-    ensures ok { IfOk result (λ found. IfSome found (λ output. ConvertsInOrder options mode text.now output.items)) }
+    ensures ok { IfOk result
+        (λ found. IfSome found (λ written. IsConvertedTextInOrder options mode text.now written.items)) }
     ensures fault { IfErr result (λ fault. fault ≡ Fault.OutOfMemory) }
 {
     match filter(alloc, options, mode, text) {
-        Ok(written) => Ok(Some(end_line(written)?)),
+        Ok(written) => Ok(Some(written)),
         Err(Unread::Refused) => Ok(None),
         Err(Unread::OutOfMemory) => Err(Fault::OutOfMemory),
     }
@@ -103,8 +119,7 @@ fn filter_line(
 
 // The text that the mode asks for of the value that the text means in order.
 fn filter(alloc: Global, options: Options, mode: Mode, text: &str) -> Result<Vec<u8>, Unread>
-    ensures { IfOk result (λ written. (value : model.Value) × HasMeaningInOrder options.doubles text.now value
-        × IsTextInOrderFor options mode value written.items) }
+    ensures { IfOk result (λ written. IsConvertedTextInOrder options mode text.now written.items) }
 {
     match mode {
         Mode::Canonical => filter_text(alloc, options.doubles, Form::Canonical, text),
@@ -113,35 +128,30 @@ fn filter(alloc: Global, options: Options, mode: Mode, text: &str) -> Result<Vec
     }
 }
 
-// The output of the value, which is read whole.
-fn convert_whole(
-    alloc: Global,
-    options: Options,
-    mode: Mode,
-    bytes: &[u8],
-) -> Result<Vec<u8>, Fault>
-    ensures ok { IfOk result (λ output. ConvertsInOrder options mode bytes.now output.items) }
+// The text of the value, which is read whole.
+fn whole_text(alloc: Global, options: Options, mode: Mode, bytes: &[u8]) -> Result<Vec<u8>, Fault>
+    ensures ok { IfOk result (λ text. IsConvertedTextInOrder options mode bytes.now text.items) }
     ensures fault { IfErr result (λ fault. IsRefusedIn options fault bytes.now) }
 {
     match Bson::try_from_text_in_order(alloc, options, bytes) {
-        Ok(value) => value_output(alloc, options, mode, value),
+        Ok(value) => value_text(alloc, options, mode, value),
         Err(error) => Err(fault_of(error)),
     }
 }
 
-// The value's text in the mode, in its own order, and a newline.
-fn value_output(alloc: Global, options: Options, mode: Mode, value: Bson) -> Result<Vec<u8>, Fault>
+// The value's text in the mode, in its own order.
+fn value_text(alloc: Global, options: Options, mode: Mode, value: Bson) -> Result<Vec<u8>, Fault>
     requires { writable_in options.doubles (bson_view value) ≡ true }
-    ensures ok { IfOk result (λ output. IsOutputInOrder options mode (bson_view value) output.items) }
+    ensures ok { IfOk result (λ text. IsTextInOrderFor options mode (bson_view value) text.items) }
     ensures fault { IfErr result (λ fault. fault ≡ Fault.OutOfMemory) }
 {
     let text = match mode {
         Mode::Canonical => value.into_text_in_order(alloc, options, Form::Canonical),
         Mode::Relaxed => value.into_text_in_order(alloc, options, Form::Relaxed),
-        Mode::Show => return displayed_line(alloc, &value),
+        Mode::Show => return displayed_text(alloc, &value),
     };
     match text {
-        Ok(text) => line(text),
+        Ok(text) => Ok(text.into_bytes()),
         // What was read can be written.
         Err(WriteError::FiniteDouble) => unreachable!(),
         Err(WriteError::OutOfMemory) => Err(Fault::OutOfMemory),

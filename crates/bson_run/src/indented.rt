@@ -1,19 +1,18 @@
 //! One text to another over several lines: from bytes to bytes.
-ghost use Rattle.std.specs.Prelude.{◌≡◌, IfOk, IfErr, IsUtf8, string_bytes};
+ghost use Rattle.std.specs.Prelude.{◌≡◌, IfOk, IfErr, string_bytes};
 ghost use Rattle.serde_json.specs.Data.{Data};
 ghost use Rattle.bson_model.specs.Means.{MeansIn};
 ghost use Rattle.bson_model.specs.Value as model;
-ghost use Rattle.bson_order.specs.Texts.{HasMeaningInOrder};
-ghost use Rattle.bson.specs.TextMeaning.{HasTextMeaningIn, IsTextOf};
-ghost use Rattle.bson.specs.Texts.{IsTextInOrder, IsTextUnder};
-ghost use Rattle.bson_convert.specs.Convert.{IsRefusedIn};
+ghost use Rattle.bson.specs.TextMeaning.{IsTextOf};
+ghost use Rattle.bson_convert.specs.Convert.{IsConvertedText, IsRefusedIn};
+ghost use Rattle.bson_run.specs.InOrder.{IsConvertedTextInOrder};
 ghost use Rattle.bson_run.specs.Indent.{mode_of, ConvertsIndented, ConvertsInOrderIndented, IsLaidOut};
 
+use crate::in_order::text_in_order;
 use crate::indent::indent_text;
 use bson::Bson;
 use bson::extjson::{Form, Options, WriteError};
-use bson_convert::convert::{end_line, fault_of, text_or_value};
-use bson_convert::converted::Converted;
+use bson_convert::convert::{end_line, fault_of, text_with};
 use bson_convert::fault::Fault;
 use bson_convert::mode::Mode;
 use std::alloc::Global;
@@ -76,7 +75,7 @@ pub fn convert_in_order_indented(
         → MeansIn options.doubles tree value → IfErr result (λ fault. fault ≡ Fault.OutOfMemory) }
     ensures fault { IfErr result (λ fault. IsRefusedIn options fault bytes.now) }
 {
-    let text = text_in_order(alloc, options, form, bytes)?;
+    let text = text_of_ordered(alloc, options, form, bytes)?;
     lay_out(alloc, spaces, &text)
 }
 
@@ -92,26 +91,20 @@ fn mode_of(form: Form) -> Mode
 
 // The text in the form of the value that the bytes mean.
 fn text_of(alloc: Global, options: Options, form: Form, bytes: &[u8]) -> Result<String, Fault>
-    ensures ok { IfOk result
-        (λ text. (value : model.Value) × HasTextMeaningIn options.doubles bytes.now value
-        × IsTextUnder options.doubles form value (string_bytes text)) }
+    ensures ok { IfOk result (λ text. IsConvertedText options (mode_of form) bytes.now (string_bytes text)) }
     ensures fault { IfErr result (λ fault. IsRefusedIn options fault bytes.now) }
 {
-    match text_or_value(alloc, options, mode_of(form), bytes)? {
-        Converted::Text(text) => match String::from_utf8(text) {
-            Ok(text) => Ok(text),
-            // (that what is written is UTF-8 no contract says)
-            Err(_) => whole_text(alloc, options, form, bytes),
-        },
-        Converted::Value(value) => written_text(value.into_text_with(alloc, options, form)),
+    let text = text_with(alloc, options, mode_of(form), bytes)?;
+    match String::from_utf8(text) {
+        Ok(text) => Ok(text),
+        // (that what is written is UTF-8 no contract says)
+        Err(_) => whole_text(alloc, options, form, bytes),
     }
 }
 
 // The same of the value that is read whole.
 fn whole_text(alloc: Global, options: Options, form: Form, bytes: &[u8]) -> Result<String, Fault>
-    ensures ok { IfOk result
-        (λ text. (value : model.Value) × HasTextMeaningIn options.doubles bytes.now value
-        × IsTextUnder options.doubles form value (string_bytes text)) }
+    ensures ok { IfOk result (λ text. IsConvertedText options (mode_of form) bytes.now (string_bytes text)) }
     ensures fault { IfErr result (λ fault. IsRefusedIn options fault bytes.now) }
 {
     match Bson::try_from_text_with(alloc, options, bytes) {
@@ -121,10 +114,32 @@ fn whole_text(alloc: Global, options: Options, form: Form, bytes: &[u8]) -> Resu
 }
 
 // The text in the form of the value that the bytes mean in the order of their keys, in that order.
-fn text_in_order(alloc: Global, options: Options, form: Form, bytes: &[u8]) -> Result<String, Fault>
-    ensures ok { IfOk result
-        (λ text. (value : model.Value) × IsUtf8 bytes.now × HasMeaningInOrder options.doubles bytes.now value
-        × IsTextInOrder options.doubles form value (string_bytes text)) }
+fn text_of_ordered(
+    alloc: Global,
+    options: Options,
+    form: Form,
+    bytes: &[u8],
+) -> Result<String, Fault>
+    ensures ok { IfOk result (λ text. IsConvertedTextInOrder options (mode_of form) bytes.now (string_bytes text)) }
+    ensures accepts { (tree : Data) (value : model.Value) → IsTextOf bytes.now tree
+        → MeansIn options.doubles tree value → IfErr result (λ fault. fault ≡ Fault.OutOfMemory) }
+    ensures fault { IfErr result (λ fault. IsRefusedIn options fault bytes.now) }
+{
+    let text = text_in_order(alloc, options, mode_of(form), bytes)?;
+    match String::from_utf8(text) {
+        Ok(text) => Ok(text),
+        Err(_) => whole_text_in_order(alloc, options, form, bytes),
+    }
+}
+
+// The same of the value that is read whole.
+fn whole_text_in_order(
+    alloc: Global,
+    options: Options,
+    form: Form,
+    bytes: &[u8],
+) -> Result<String, Fault>
+    ensures ok { IfOk result (λ text. IsConvertedTextInOrder options (mode_of form) bytes.now (string_bytes text)) }
     ensures accepts { (tree : Data) (value : model.Value) → IsTextOf bytes.now tree
         → MeansIn options.doubles tree value → IfErr result (λ fault. fault ≡ Fault.OutOfMemory) }
     ensures fault { IfErr result (λ fault. IsRefusedIn options fault bytes.now) }

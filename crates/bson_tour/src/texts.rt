@@ -1,8 +1,7 @@
 //! Extended JSON, from trees and texts, and why they mean nothing.
 use bson::extjson::{Doubles, Form, Options};
 use bson::{Bson, Document};
-use bson_convert::convert::text_or_value;
-use bson_convert::converted::Converted;
+use bson_convert::convert::text_with;
 use bson_convert::mode::Mode;
 use bson_place::builder::Nothing;
 use bson_place::walk::{place_of_fault, read_tree};
@@ -19,7 +18,7 @@ pub(crate) fn print(rt: &impl Print, alloc: Global) -> anyhow::Result<()> {
     try_from_text_with_call(rt, alloc)?;
     try_from_text_in_order_call(rt, alloc)?;
     text_error(rt, alloc)?;
-    converted_call(rt, alloc)?;
+    text_with_call(rt, alloc)?;
     place(rt, alloc)?;
     segment(rt, alloc)?;
     reason(rt, alloc)?;
@@ -107,12 +106,10 @@ fn text_error(rt: &impl Print, alloc: Global) -> anyhow::Result<()> {
     Ok(())
 }
 
-fn converted_call(rt: &impl Print, alloc: Global) -> anyhow::Result<()> {
+fn text_with_call(rt: &impl Print, alloc: Global) -> anyhow::Result<()> {
     let bytes = br#"[{"$numberLong": "5"}]"#;
-    match text_or_value(alloc, Options::default(), Mode::Relaxed, bytes) {
-        Ok(Converted::Text(text)) => println!(rt; "{}", str::from_utf8(&text)?)?, // [5]
-        Ok(Converted::Value(value)) => println!(rt; "{}", value.into_relaxed_text(alloc)?)?,
-        Err(fault) => println!(rt; "{}", fault.line())?,
+    if let Ok(text) = text_with(alloc, Options::default(), Mode::Relaxed, bytes) {
+        println!(rt; "{}", str::from_utf8(&text)?)?; // [5]
     }
     Ok(())
 }

@@ -1,16 +1,15 @@
 use Rattle.std.proofs.Common.{subst}
-use Rattle.bson.specs.TextMeaning.{HasTextMeaningIn}
-use Rattle.bson_convert.proofs.Converting.{converts, writable}
+use Rattle.bson_tokens.proofs.Offered.{if_ok}
+use Rattle.bson_convert.specs.Convert.{IsConvertedText}
+use Rattle.bson_convert.proofs.Converting.{text_converts}
 use Rattle.bson_convert.proofs.convert.convert_whole.Goals as goal
-
-pub output-requires : goal.output-requires
-output-requires c =
-    let m = c.in_ok-read.ensures.ok c.deref.result.now c.in_ok-tried.ensures.ok in
-    writable c.args.options c.args.mode m.0 c.in_ok-read.read m.1.meaning.read_form m.2
 
 pub returns-clause-ok : goal.returns-clause-ok
 returns-clause-ok c =
-    let m = c.in_ok-read.ensures.ok c.deref.result.now c.in_ok-tried.ensures.ok in
-    converts c.args.options c.args.mode c.args.bytes.items m.0 c.output.result
-    (subst (λ bytes. HasTextMeaningIn c.args.options.doubles bytes m.0) c.deref.ensures.value m.1)
-    (c.output.ensures.ok m.0 m.1.meaning.read_form m.2)
+    let o = c.args.options in
+    let mode = c.args.mode in
+    let bytes = c.args.bytes.items in
+    let text = c.in_ok-text.text.items in
+    let is = subst (λ b. IsConvertedText o mode b text) c.deref.ensures.value
+    (c.in_ok-text.ensures.ok c.deref.result.now c.in_ok-tried.ensures.ok) in
+    if_ok c.end_line.result c.end_line.ensures.ok (λ output line. text_converts o mode bytes text output.items is line)

@@ -1,19 +1,18 @@
-use Rattle.bson_convert.proofs.Converting.{only_one, converts, writable}
+use Rattle.bson_tokens.proofs.Offered.{if_ok}
+use Rattle.bson_convert.proofs.Converting.{converts_one, text_converts}
 use Rattle.bson_convert.proofs.convert.convert_with.Goals as goal
-
-pub output-requires : goal.output-requires
-output-requires c =
-    let m = c.in_ok-read.ensures.ok in
-    writable c.args.options c.args.mode m.0 c.in_ok-read.read m.1.meaning.read_form m.2
 
 pub returns-clause-ok : goal.returns-clause-ok
 returns-clause-ok c =
-    let m = c.in_ok-read.ensures.ok in
-    converts c.args.options c.args.mode c.args.bytes.now m.0 c.output.result m.1
-    (c.output.ensures.ok m.0 m.1.meaning.read_form m.2)
+    let text = c.in_ok-text.text.items in
+    if_ok c.end_line.result c.end_line.ensures.ok
+    (λ output line. text_converts c.args.options c.args.mode c.args.bytes.now text output.items c.in_ok-text.ensures.ok line)
 
 pub returns-clause-one : goal.returns-clause-one
 returns-clause-one c =
-    let m = c.in_ok-read.ensures.ok in
-    only_one c.args.options c.args.mode c.args.bytes.now m.1.tree m.0 c.output.result m.1.text m.1.meaning
-    (c.output.ensures.ok m.0 m.1.meaning.read_form m.2)
+    let o = c.args.options in
+    let mode = c.args.mode in
+    let bytes = c.args.bytes.now in
+    let text = c.in_ok-text.text.items in
+    if_ok c.end_line.result c.end_line.ensures.ok (λ output line other x.
+    converts_one o mode bytes output.items other (text_converts o mode bytes text output.items c.in_ok-text.ensures.ok line) x)

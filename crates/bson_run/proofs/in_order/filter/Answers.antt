@@ -1,9 +1,8 @@
-use Rattle.std.proofs.Common.{IfOk, subst, sym}
-use Rattle.bson_model.specs.Value.{Value}
-use Rattle.bson_order.specs.Texts.{HasMeaningInOrder}
+use Rattle.std.proofs.Common.{IfOk, arith, subst, sym}
+use Rattle.std.specs.Prelude.{IsUtf8}
 use Rattle.bson_scalar.specs.declared.form.Form.TheVariants as form
 use Rattle.bson_tokens.proofs.Offered.{if_ok}
-use Rattle.bson_run.specs.InOrder.{IsTextInOrderFor}
+use Rattle.bson_run.specs.InOrder.{IsConvertedTextInOrder}
 use Rattle.bson_run.proofs.Ordered.{filtered}
 use Rattle.bson_run.proofs.in_order.filter.Goals as goal
 
@@ -11,15 +10,15 @@ pub returns-in-Canonical : goal.returns-in-Canonical
 returns-in-Canonical c =
     let o = c.args.options in
     let text = c.args.text.now in
-    subst (λ m. IfOk c.filter_text.result
-    (λ w. (v : Value) × HasMeaningInOrder o.doubles text v × IsTextInOrderFor o m v w.items)) (sym c.in-Canonical.is)
-    (if_ok c.filter_text.result c.filter_text.ensures.ok (λ w x. filtered o form.Canonical text w.items x))
+    let utf8 : IsUtf8 text = grind arith in
+    subst (λ m. IfOk c.filter_text.result (λ w. IsConvertedTextInOrder o m text w.items)) (sym c.in-Canonical.is)
+    (if_ok c.filter_text.result c.filter_text.ensures.ok (λ w x. filtered o form.Canonical text w.items utf8 x))
 
 pub returns-in-Relaxed : goal.returns-in-Relaxed
 returns-in-Relaxed c =
     let o = c.args.options in
     let text = c.args.text.now in
-    subst (λ m. IfOk c.filter_text-in-Relaxed.result
-    (λ w. (v : Value) × HasMeaningInOrder o.doubles text v × IsTextInOrderFor o m v w.items)) (sym c.in-Relaxed.is)
+    let utf8 : IsUtf8 text = grind arith in
+    subst (λ m. IfOk c.filter_text-in-Relaxed.result (λ w. IsConvertedTextInOrder o m text w.items)) (sym c.in-Relaxed.is)
     (if_ok c.filter_text-in-Relaxed.result c.filter_text-in-Relaxed.ensures.ok
-    (λ w x. filtered o form.Relaxed text w.items x))
+    (λ w x. filtered o form.Relaxed text w.items utf8 x))

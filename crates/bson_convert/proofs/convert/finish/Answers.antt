@@ -4,7 +4,7 @@ use Rattle.serde_json.specs.Read.{read}
 use Rattle.bson_tokens.proofs.Offered.{if_err, if_ok}
 use Rattle.bson_convert.specs.Convert.{IsTried}
 use Rattle.bson_convert.proofs.Arranged.{meant_alike, refused_alike}
-use Rattle.bson_convert.proofs.convert.again.Goals as goal
+use Rattle.bson_convert.proofs.convert.finish.Goals as goal
 
 pub returns-in-Written-clause-ok : goal.returns-in-Written-clause-ok
 returns-in-Written-clause-ok c = λ bytes is. subst (IsTried c.args.options c.args.mode bytes) c.in-Written.is is
@@ -21,7 +21,7 @@ returns-in-Arranged c =
     (it.0, subst (λ s. read s ≡ read bytes) (sym whole) it.1) in
     record {
       ok = λ bytes is. if_ok c.read_arranged.result c.read_arranged.ensures.ok
-          (λ r x. (x.0, meant_alike o bytes arranged (tried bytes is).0 (tried bytes is).1 x.0 x.1, x.2));
+          (λ text x. (x.0, meant_alike o bytes arranged (tried bytes is).0 (tried bytes is).1 x.0 x.1, x.2));
       fault = λ bytes is. if_err c.read_arranged.result c.read_arranged.ensures.fault
           (λ f x. refused_alike o bytes arranged (tried bytes is).0 (tried bytes is).1 f valid x);
     }

@@ -6,7 +6,7 @@ use Rattle.bson_distinct.specs.Arranged.{IsArrangedText}
 use Rattle.bson_distinct.specs.declared.arrangement.Arrangement.TheVariants.{FirstPlaces}
 use Rattle.bson_tokens.proofs.Offered.{if_err, if_ok}
 use Rattle.bson_run.proofs.Ordered.{converted_alike}
-use Rattle.bson_run.proofs.in_order.convert_arranged.Goals as goal
+use Rattle.bson_run.proofs.in_order.arranged_text.Goals as goal
 
 pub returns : goal.returns
 returns c =
@@ -19,8 +19,8 @@ returns c =
     let utf8 : IsUtf8 text = grind arith in
     let valid : IsUtf8 arranged = grind arith in
     record {
-      ok = if_ok c.convert_once.result c.convert_once.ensures.ok
-          (λ out x. converted_alike o c.args.mode text arranged out.items utf8 is x);
-      fault = if_err c.convert_once.result c.convert_once.ensures.fault
+      ok = if_ok c.text_of_distinct.result c.text_of_distinct.ensures.ok
+          (λ written x. converted_alike o c.args.mode text arranged written.items utf8 is x);
+      fault = if_err c.text_of_distinct.result c.text_of_distinct.ensures.fault
           (λ f x. refused_alike o text arranged utf8 same f valid x);
     }

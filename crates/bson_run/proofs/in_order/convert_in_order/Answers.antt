@@ -1,0 +1,9 @@
+use Rattle.bson_tokens.proofs.Offered.{if_ok}
+use Rattle.bson_run.proofs.Ordered.{text_converts}
+use Rattle.bson_run.proofs.in_order.convert_in_order.Goals as goal
+
+pub returns-clause-ok : goal.returns-clause-ok
+returns-clause-ok c =
+    let text = c.in_ok-text.text.items in
+    if_ok c.end_line.result c.end_line.ensures.ok
+    (λ output line. text_converts c.args.options c.args.mode c.args.bytes.now text output.items c.in_ok-text.ensures.ok line)
