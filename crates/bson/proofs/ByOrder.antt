@@ -19,8 +19,8 @@ use Rattle.bson_order.specs.Kept.{kept, kept_items, kept_members, unordered}
 use Rattle.bson_order.proofs.Offered.{forgotten, put_forgotten}
 use Rattle.bson_scalar.specs.Faults.{Fault}
 use Rattle.bson_tokens.specs.Parts.{IsBroken, NoMembers, NoObject}
-use Rattle.bson_tokens.specs.declared.unread.Unread.{Unread}
-use Rattle.bson_tokens.specs.declared.unread.Unread.TheVariants.{Refused}
+use Rattle.json.specs.declared.error.Error.{Error}
+use Rattle.json.specs.declared.error.Error.TheVariants.{Invalid}
 use Rattle.bson_tokens.specs.Start.{primitive_tree, IsPrimitive, Starts}
 use Rattle.bson_tokens.specs.declared.start.Primitive.{Primitive}
 use Rattle.bson_tokens.specs.declared.start.Primitive.TheVariants.{Null, Bool as Truth, Number, String as Text}
@@ -30,7 +30,7 @@ use Rattle.bson_tokens.proofs.Offered.{was_read, no_members_behind, primitive_js
 use Rattle.bson_tokens.proofs.Offered.{Gathers, none_yet, one_gathered}
 use Rattle.bson.specs.ByOrder.{tree_by, items_by, members_by, insert_by, default_tree, default_members}
 use Rattle.bson.specs.ByOrder.{ItemsAreBy, MembersAreBy, ObjectIsBy}
-use Rattle.bson.specs.Straight.{HasTree, IsHeld, ReadsHeld, given}
+use Rattle.bson.specs.FromTokens.{HasTree, IsHeld, ReadsHeld, given}
 use Rattle.bson.specs.declared.extjson.key_order.KeyOrder.{KeyOrder}
 use Rattle.bson.specs.declared.extjson.key_order.KeyOrder.TheVariants.{Ascending, AsGiven}
 
@@ -313,9 +313,9 @@ held_read f depth text e v is read =
     ap (λ p. given (f p.0)) same ∙ r.2
 
 -- it does not break
-pub held_whole : (depth : ℕ) (text : List ℕ) (e : Data) (x : Unread)
+pub held_whole : (depth : ℕ) (text : List ℕ) (e : Data) (x : Error)
     → converted kept (value depth (tokens text)) ≡ Some (e, [])
-    → IsBroken (converted of_json (value depth (tokens text))) x → x ≡ Refused → ⊥
+    → IsBroken (converted of_json (value depth (tokens text))) x → x ≡ Invalid → ⊥
 held_whole depth text e x is broken was =
     let some = by_default AsGiven (value depth (tokens text)) e [] is in
     let none = broken was in

@@ -7,7 +7,7 @@ use Rattle.serde_json.specs.Read.{converted}
 use Rattle.bson_scalar.specs.declared.form.Doubles.{Doubles}
 use Rattle.bson_model.specs.Value.{Value}
 use Rattle.bson.specs.ByOrder.{tree_by, insert_by, reads_by}
-use Rattle.bson.specs.Straight.{MembersRead, RestReads, ObjectReads}
+use Rattle.bson.specs.FromTokens.{MembersRead, RestReads, ObjectReads}
 use Rattle.bson.specs.declared.extjson.key_order.KeyOrder.{KeyOrder}
 use Rattle.bson.proofs.ByOrder.{FollowsBy, more_members_by}
 

@@ -15,10 +15,10 @@ use Rattle.bson_scalar.specs.Table.{has_wrapper}
 use Rattle.bson_scalar.specs.declared.form.Doubles.{Doubles}
 use Rattle.bson_model.specs.Reading.{reads_in, reads_members_in, reads_scope_in}
 use Rattle.bson_model.specs.Value.{Value, Pairs, no_pairs, pair, document}
-use Rattle.bson.specs.Straight.{given, marked, marked_by, nothing, unless_nothing}
+use Rattle.bson.specs.FromTokens.{given, marked, marked_by, nothing, unless_nothing}
 use Rattle.bson_tokens.specs.Keys.{is_other}
 use Rattle.bson_tokens.specs.Keys.{any_key, is_wrapper, is_code, is_scope}
-use Rattle.bson.specs.Straight.{IsFound}
+use Rattle.bson.specs.FromTokens.{IsFound}
 use Rattle.bson_tokens.specs.Keys.{is_stray}
 use Rattle.bson.specs.View.{bson_view}
 use Rattle.bson.specs.declared.bson.Bson.{Bson, the_lemmas}

@@ -6,7 +6,7 @@ use Rattle.serde_json.specs.Data.{Members, object}
 use Rattle.bson_scalar.specs.Table.{wrapper_of, has_wrapper}
 use Rattle.bson_scalar.specs.declared.form.Doubles.{Doubles}
 use Rattle.bson_model.specs.Reading.{reads_in}
-use Rattle.bson.specs.Straight.{given}
+use Rattle.bson.specs.FromTokens.{given}
 use Rattle.bson_tokens.specs.Keys.{any_key, is_code, is_stray, IsOdd}
 use Rattle.bson_tokens.proofs.Offered.{here_read, odd_here, strange_found, IsStrange}
 

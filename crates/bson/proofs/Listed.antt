@@ -11,7 +11,7 @@ use Rattle.bson.specs.ByOrder.{reads_by, reads_items_by}
 use Rattle.bson_order.specs.Reading.{reads_in_order, items_in_order}
 use Rattle.bson.specs.declared.extjson.key_order.KeyOrder.{KeyOrder}
 use Rattle.bson.specs.declared.extjson.key_order.KeyOrder.TheVariants.{Ascending, AsGiven}
-use Rattle.bson.specs.Straight.{given}
+use Rattle.bson.specs.FromTokens.{given}
 use Rattle.bson.specs.View.{values_of}
 
 -- those that were read, before what is read of the others

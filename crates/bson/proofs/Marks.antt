@@ -23,7 +23,7 @@ use Rattle.bson_order.specs.Kept.{put_kept}
 use Rattle.bson_order.specs.Reading.{reads_in_order, members_in_order}
 use Rattle.bson_order.proofs.Offered.{forgets, means_from}
 use Rattle.bson.specs.ByOrder.{insert_by, insert_pair_by, set_pair, reads_by, reads_members_by}
-use Rattle.bson.specs.Straight.{given, is_nothing, marked, marked_by, holds_nothing, unless_nothing}
+use Rattle.bson.specs.FromTokens.{given, is_nothing, marked, marked_by, holds_nothing, unless_nothing}
 use Rattle.bson.specs.declared.extjson.key_order.KeyOrder.{KeyOrder}
 use Rattle.bson.specs.declared.extjson.key_order.KeyOrder.TheVariants.{Ascending, AsGiven}
 use Rattle.bson.specs.View.{bson_view, pairs_view}

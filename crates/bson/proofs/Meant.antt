@@ -18,7 +18,7 @@ use Rattle.bson_order.specs.Reading.{reads_in_order}
 use Rattle.bson_order.specs.Texts.{HasMeaningInOrder, ComesBackInOrder}
 use Rattle.bson_order.proofs.Offered.{forgets, means_from, means_in, read_forgotten, read_is_kept, text_means}
 use Rattle.bson_order.proofs.Offered.{meant_by_text, comes_back}
-use Rattle.bson.specs.Straight.{TextReads}
+use Rattle.bson.specs.FromTokens.{TextReads}
 use Rattle.bson.specs.TextMeaning.{IsTextOf, HasTextMeaningBy, HasNoMeaningIn, IsTextFaultIn}
 use Rattle.bson.specs.declared.extjson.key_order.KeyOrder.{KeyOrder}
 use Rattle.bson.specs.declared.extjson.key_order.KeyOrder.TheVariants.{Ascending, AsGiven}

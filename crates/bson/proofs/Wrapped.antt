@@ -27,10 +27,10 @@ use Rattle.bson_tokens.specs.Held.{StandsFor, IsHeldAs}
 use Rattle.bson_tokens.specs.Parts.{NoObject}
 use Rattle.bson_tokens.proofs.Offered.{no_member}
 use Rattle.bson.specs.ByOrder.{insert_by, tree_by, default_tree, default_members, reads_by, reads_scope_by}
-use Rattle.bson.specs.Straight.{given, code_given}
+use Rattle.bson.specs.FromTokens.{given, code_given}
 use Rattle.bson_tokens.specs.Keys.{is_other, is_stray, IsOdd}
 use Rattle.bson_tokens.specs.Keys.{any_key, is_wrapper, is_code, is_scope}
-use Rattle.bson.specs.Straight.{AreTwo, IsCode}
+use Rattle.bson.specs.FromTokens.{AreTwo, IsCode}
 use Rattle.bson.specs.declared.extjson.key_order.KeyOrder.{KeyOrder}
 use Rattle.bson.specs.declared.extjson.key_order.KeyOrder.TheVariants.{Ascending, AsGiven}
 use Rattle.bson.proofs.ByOrder.{by_order, default_insert}

@@ -10,9 +10,9 @@ use Rattle.bson_codec.specs.Documents.{IsUngiven, IsUntold, Running}
 use Rattle.bson_codec.specs.Streams.{WritesBeginning}
 use Rattle.bson_codec.specs.Told.{told_of}
 use Rattle.bson_codec.specs.declared.documents.Run.{Run}
-use Rattle.bson_codec.specs.declared.told.RunFault.{RunFault}
-use Rattle.bson_codec.specs.declared.told.RunFault.TheVariants.{Malformed, FiniteDouble, CannotRead, CannotWrite}
-use Rattle.bson_codec.specs.declared.told.RunFault.TheVariants.{OutOfMemory}
+use Rattle.bson_codec.specs.declared.run_end.RunFault.{RunFault}
+use Rattle.bson_codec.specs.declared.run_end.RunFault.TheVariants.{Malformed, FiniteDouble, CannotRead, CannotWrite}
+use Rattle.bson_codec.specs.declared.run_end.RunFault.TheVariants.{OutOfMemory}
 
 pub run_begins : (run : Run) (before had told : Option (List ℕ)) → Running run before before had had told told 0 0 0
 run_begins run before had told = record {

@@ -15,9 +15,9 @@ use Rattle.bson_codec.specs.Told.{newline, told_of}
 use Rattle.bson_codec.specs.declared.documents.Line.{Line}
 use Rattle.bson_codec.specs.declared.documents.Line.TheVariants.{Text, TextInOrder, Shown, Nothing}
 use Rattle.bson_codec.specs.declared.documents.Run.{Run}
-use Rattle.bson_codec.specs.declared.told.RunFault.{RunFault}
-use Rattle.bson_codec.specs.declared.told.RunFault.TheVariants.{Malformed, FiniteDouble, CannotRead, CannotWrite}
-use Rattle.bson_codec.specs.declared.told.RunFault.TheVariants.{OutOfMemory}
+use Rattle.bson_codec.specs.declared.run_end.RunFault.{RunFault}
+use Rattle.bson_codec.specs.declared.run_end.RunFault.TheVariants.{Malformed, FiniteDouble, CannotRead, CannotWrite}
+use Rattle.bson_codec.specs.declared.run_end.RunFault.TheVariants.{OutOfMemory}
 
 -- ---- a document
 

@@ -3,9 +3,9 @@ use Rattle.std.specs.Prelude.{ℕ, List, [], ◌∷◌, ◌++◌, codes}
 use Rattle.std.specs.Fmt.{decimal}
 use Rattle.bson_bytes.specs.declared.fault.FaultKind.{FaultKind}
 use Rattle.bson_bytes.specs.declared.fault.FaultKind.TheVariants as kind
-use Rattle.bson_codec.specs.declared.told.RunFault.{RunFault}
-use Rattle.bson_codec.specs.declared.told.RunFault.TheVariants.{Malformed, FiniteDouble, CannotRead, CannotWrite}
-use Rattle.bson_codec.specs.declared.told.RunFault.TheVariants.{OutOfMemory}
+use Rattle.bson_codec.specs.declared.run_end.RunFault.{RunFault}
+use Rattle.bson_codec.specs.declared.run_end.RunFault.TheVariants.{Malformed, FiniteDouble, CannotRead, CannotWrite}
+use Rattle.bson_codec.specs.declared.run_end.RunFault.TheVariants.{OutOfMemory}
 
 abbrev pub newline : List ℕ
 newline = 10 ∷ []

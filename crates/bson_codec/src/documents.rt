@@ -10,11 +10,11 @@ ghost use Rattle.bson_codec.specs.Documents.{IsJudged, IsLine, IsUngiven, IsUnto
 ghost use Rattle.bson_codec.specs.Told.{newline, told_of};
 ghost use Rattle.bson_codec.specs.declared.documents.Line.TheVariants.{Text, TextInOrder};
 ghost use Rattle.bson_codec.specs.declared.documents.Run.{Run};
-ghost use Rattle.bson_codec.specs.declared.told.RunFault.TheVariants.{OutOfMemory};
+ghost use Rattle.bson_codec.specs.declared.run_end.RunFault.TheVariants.{OutOfMemory};
 
 use crate::de::{DEPTH, Error, from_slice, is_document};
+use crate::run_end::{RunEnd, RunFault};
 use crate::stream::{ReaderError, take_document, write_whole};
-use crate::told::{RunEnd, RunFault};
 use bson::extjson::{Form, Options, WriteError};
 use bson::{Bson, Document};
 use bson_bytes::parts::size_at;

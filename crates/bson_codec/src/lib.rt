@@ -5,11 +5,11 @@
 pub mod de;
 pub mod documents;
 mod read;
+pub mod run_end;
 mod scalars;
 pub mod ser;
 mod stopped;
 pub mod stream;
-pub mod told;
 mod write;
 
 pub use de::{

@@ -17,8 +17,8 @@ use bson::extjson::{Form, Options};
 use bson_distinct::arrange::arrange_text;
 use bson_distinct::arrangement::Arrangement;
 use bson_filter::filter::{show_text, sort_text};
-use bson_tokens::unread::Unread;
 use bson_tokens::walk::first_fault_in;
+use json::Error;
 use std::alloc::Global;
 
 /// What a first reading gives.
@@ -46,8 +46,8 @@ pub(crate) fn try_text(
     };
     match stream_text(alloc, options, mode, text) {
         Ok(written) => Ok(Tried::Written(written)),
-        Err(Unread::Refused) => Ok(Tried::Arranged(arrange(alloc, Arrangement::Ascending, text)?)),
-        Err(Unread::OutOfMemory) => Err(Fault::OutOfMemory),
+        Err(Error::Invalid) => Ok(Tried::Arranged(arrange(alloc, Arrangement::Ascending, text)?)),
+        Err(_) => Err(Fault::OutOfMemory),
     }
 }
 
@@ -63,17 +63,17 @@ pub(crate) fn read_arranged(
 {
     match stream_text(alloc, options, mode, arranged) {
         Ok(written) => Ok(written),
-        Err(Unread::Refused) => {
+        Err(Error::Invalid) => {
             refuse_arranged(alloc, options, arranged)?;
             let value = meaning(alloc, options, arranged.as_bytes())?;
             value_text(alloc, options, mode, value)
         }
-        Err(Unread::OutOfMemory) => Err(Fault::OutOfMemory),
+        Err(_) => Err(Fault::OutOfMemory),
     }
 }
 
 // The text that the mode asks for of the value that the text means.
-fn stream_text(alloc: Global, options: Options, mode: Mode, text: &str) -> Result<Vec<u8>, Unread>
+fn stream_text(alloc: Global, options: Options, mode: Mode, text: &str) -> Result<Vec<u8>, Error>
     ensures { IfOk result (λ written. IsConvertedText options mode text.now written.items) }
 {
     match mode {
@@ -92,7 +92,7 @@ pub fn arrange(alloc: Global, arrangement: Arrangement, text: &str) -> Result<St
 {
     match arrange_text(alloc, arrangement, text) {
         Ok(arranged) => Ok(arranged),
-        Err(unread) => Err(no_tree(unread)),
+        Err(error) => Err(no_tree(error)),
     }
 }
 
@@ -113,16 +113,16 @@ fn refuse_arranged(alloc: Global, options: Options, arranged: &str) -> Result<()
     match first_fault_in(alloc, options.doubles, arranged) {
         Ok(None) => Ok(()),
         Ok(Some(place)) => Err(Fault::NotExtendedJson(place)),
-        Err(unread) => Err(no_tree(unread)),
+        Err(error) => Err(no_tree(error)),
     }
 }
 
 // The fault of a text of which no tree was read.
-fn no_tree(unread: Unread) -> Fault
-    ensures { (options : Options) (bytes : List ℕ) → IsBroken (read bytes) unread → IsRefusedIn options result bytes }
+fn no_tree(error: Error) -> Fault
+    ensures { (options : Options) (bytes : List ℕ) → IsBroken (read bytes) error → IsRefusedIn options result bytes }
 {
-    match unread {
-        Unread::Refused => Fault::NotJson,
-        Unread::OutOfMemory => Fault::OutOfMemory,
+    match error {
+        Error::Invalid => Fault::NotJson,
+        _ => Fault::OutOfMemory,
     }
 }

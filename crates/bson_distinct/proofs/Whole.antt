@@ -6,8 +6,8 @@ use Rattle.json.specs.Print.{print}
 use Rattle.json.specs.Token.{Token}
 use Rattle.json.specs.Tree.{json_tokens}
 use Rattle.serde_json.specs.Written.{comma_if}
-use Rattle.bson_tokens.specs.declared.unread.Unread.{Unread}
-use Rattle.bson_tokens.specs.declared.unread.Unread.TheVariants.{Refused, OutOfMemory}
+use Rattle.json.specs.declared.error.Error.{Error}
+use Rattle.json.specs.declared.error.Error.TheVariants.{Invalid, OutOfMemory}
 use Rattle.bson_distinct.specs.Arranged.{IsArrangedText, arranged}
 use Rattle.bson_distinct.specs.Arranging.{Passes, ranged, sound}
 use Rattle.bson_distinct.specs.Double.{json_of}
@@ -37,5 +37,5 @@ text_arranged a text out ts rest old new start end mode first none (j, read, add
       read_again = ap json_of written ∙ arranged_again a text j whole;
     }
 
-pub unlike : (e : Unread) → e ≡ OutOfMemory → e ≡ Refused → ⊥
+pub unlike : (e : Error) → e ≡ OutOfMemory → e ≡ Invalid → ⊥
 unlike e refused broken = cc

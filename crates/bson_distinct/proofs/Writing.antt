@@ -11,7 +11,7 @@ use Rattle.json.specs.Tree.{json_tokens}
 use Rattle.json.proofs.Grammar.{left, skip_value-shorter}
 use Rattle.serde_json.specs.Written.{comma_if}
 use Rattle.bson_tokens.specs.Parts.{IsBroken}
-use Rattle.bson_tokens.specs.declared.unread.Unread.{Unread}
+use Rattle.json.specs.declared.error.Error.{Error}
 use Rattle.bson_distinct.specs.Arranged.{arranged, arranged_items, arranged_members, put_by}
 use Rattle.bson_distinct.specs.Arranging.{Added, Closed, Entry, Passes, elements, inside, sound}
 use Rattle.bson_distinct.specs.Arranging.{entry_key, entry_members, entry_value, put_entries, spelled}
@@ -30,7 +30,7 @@ all_breaks f g None left e none = refl
 all_breaks f g (Some p) left e none = let never = e ∙ ap (option_map g) none in cc
 
 -- an answer tells that the one breaks, and so the other does
-pub breaks : {A B X : Type 0} (r : Result X Unread) (a : Option A) (b : Option B) → (a ≡ None → b ≡ None)
+pub breaks : {A B X : Type 0} (r : Result X Error) (a : Option A) (b : Option B) → (a ≡ None → b ≡ None)
     → IfErr r (IsBroken a) → IfErr r (IsBroken b)
 breaks r a b so h = IfErr-weaker r (IsBroken a) (IsBroken b) (λ e none broken. so (none broken)) h
 

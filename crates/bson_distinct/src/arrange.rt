@@ -8,14 +8,13 @@ ghost use Rattle.bson_tokens.specs.Parts.{IsBroken};
 ghost use Rattle.bson_distinct.specs.Arranged.{IsArrangedText, arranged};
 ghost use Rattle.bson_distinct.specs.Arranging.{Passes, ValueAdded, elements, in_range, inside, sound};
 ghost use Rattle.bson_distinct.specs.Arranging.{ranged, ranged_items, ranged_members};
-ghost use Rattle.bson_tokens.specs.declared.unread.Unread.TheVariants.{Refused};
+ghost use Rattle.json.specs.declared.error.Error.TheVariants.{Invalid};
 
 use crate::arrangement::Arrangement;
 use crate::arranger::{Arranger, EARLY, into_text};
 use crate::order::{Piece, hold};
 use bson_tokens::number::number;
-use bson_tokens::unread::Unread;
-use json::{Reader, Scratch, Token};
+use json::{Error, Reader, Scratch, Token};
 use std::alloc::Global;
 
 /// How deep arrays and objects may nest.
@@ -24,7 +23,7 @@ const MAX_DEPTH: usize = 127;
 /// The compact text of the text's tree with each key once in its object, with its last value: at
 /// its first place, or by ascending bytes.
 ///
-/// Keys are compared after their escapes are read. `Refused` is answered where the text is no JSON
+/// Keys are compared after their escapes are read. `Invalid` is answered where the text is no JSON
 /// text of at most 127 levels, or has a number out of range. No tree is made: memory is that of the
 /// text that is written, and of the members of the objects that are open their keys and places.
 ///
@@ -32,7 +31,7 @@ const MAX_DEPTH: usize = 127;
 /// let text = arrange_text(alloc, Arrangement::FirstPlaces, r#"{"b": 1, "a": 2, "b": 3}"#)?;
 /// println!(rt; "{text}")?; // {"b":3,"a":2}
 /// ```
-pub fn arrange_text(alloc: Global, arrangement: Arrangement, text: &str) -> Result<String, Unread>
+pub fn arrange_text(alloc: Global, arrangement: Arrangement, text: &str) -> Result<String, Error>
     ensures ok { IfOk result (λ written. IsArrangedText arrangement text.now (string_bytes written)) }
     ensures broken { IfErr result (IsBroken (read text.now)) }
 {
@@ -41,51 +40,51 @@ pub fn arrange_text(alloc: Global, arrangement: Arrangement, text: &str) -> Resu
     let mut out = Arranger::new(alloc, arrangement, text.len())?;
     write_value(&mut reader, MAX_DEPTH, &mut out)?;
     if reader.next().is_some() {
-        return Err(Unread::Refused);
+        return Err(Error::Invalid);
     }
     into_text(out.text)
 }
 
 #[cycle(write)]
-fn write_value(reader: &mut Reader<'_>, depth: usize, out: &mut Arranger) -> Result<(), Unread>
+fn write_value(reader: &mut Reader<'_>, depth: usize, out: &mut Arranger) -> Result<(), Error>
     ensures ok { OnOk result (Passes (sound ranged (value depth reader.old)) (arranged out.old.arrangement)
         reader.new out.old out.new) }
     ensures broken { IfErr result (IsBroken (sound ranged (value depth reader.old))) }
 {
-    let token = reader.next().ok_or(Unread::Refused)?;
+    let token = reader.next().ok_or(Error::Invalid)?;
     match token {
         Token::String(_) | Token::Bool(_) | Token::Null => Ok(out.scalar(token)?),
         Token::Number(text) => write_number(text, out),
-        Token::EndObject | Token::EndArray | Token::Key(_) | Token::Bad => Err(Unread::Refused),
+        Token::EndObject | Token::EndArray | Token::Key(_) | Token::Bad => Err(Error::Invalid),
         Token::BeginArray => {
             if depth == 0 {
-                return Err(Unread::Refused);
+                return Err(Error::Invalid);
             }
             write_items(reader, depth - 1, out)
         }
         Token::BeginObject => {
             if depth == 0 {
-                return Err(Unread::Refused);
+                return Err(Error::Invalid);
             }
             write_members(reader, depth - 1, out)
         }
     }
 }
 
-fn write_number(text: &str, out: &mut Arranger) -> Result<(), Unread>
+fn write_number(text: &str, out: &mut Arranger) -> Result<(), Error>
     requires { IsNumber text.now }
     ensures ok { OnOk result ((in_range text.now ≡ true) × ValueAdded out.old (json.number text.now) out.new) }
-    ensures broken { IfErr result (λ e. e ≡ Refused → in_range text.now ≡ false) }
+    ensures broken { IfErr result (λ e. e ≡ Invalid → in_range text.now ≡ false) }
 {
     if number(text).is_none() {
-        return Err(Unread::Refused);
+        return Err(Error::Invalid);
     }
     Ok(out.scalar(Token::Number(text))?)
 }
 
 // The elements of an array whose bracket was read.
 #[cycle(write)]
-fn write_items(reader: &mut Reader<'_>, depth: usize, out: &mut Arranger) -> Result<(), Unread>
+fn write_items(reader: &mut Reader<'_>, depth: usize, out: &mut Arranger) -> Result<(), Error>
     ensures ok { OnOk result (Passes (sound ranged_items (elements depth reader.old))
         (λ js. arranged out.old.arrangement (array js)) reader.new out.old out.new) }
     ensures broken { IfErr result (IsBroken (sound ranged_items (elements depth reader.old))) }
@@ -99,7 +98,7 @@ fn write_items(reader: &mut Reader<'_>, depth: usize, out: &mut Arranger) -> Res
 
 // The members of an object whose brace was read.
 #[cycle(write)]
-fn write_members(reader: &mut Reader<'_>, depth: usize, out: &mut Arranger) -> Result<(), Unread>
+fn write_members(reader: &mut Reader<'_>, depth: usize, out: &mut Arranger) -> Result<(), Error>
     ensures ok { OnOk result (Passes (sound ranged_members (inside depth reader.old))
         (λ ms. arranged out.old.arrangement (object ms)) reader.new out.old out.new) }
     ensures broken { IfErr result (IsBroken (sound ranged_members (inside depth reader.old))) }

@@ -5,13 +5,12 @@ ghost use Rattle.std.specs.List.{All};
 ghost use Rattle.json.specs.Print.{print, IsPrintable};
 ghost use Rattle.json.specs.Reads.{token_of};
 ghost use Rattle.serde_json.specs.Written.{comma_if};
-ghost use Rattle.bson_tokens.specs.declared.unread.Unread.TheVariants.{OutOfMemory};
+ghost use Rattle.json.specs.declared.error.Error.TheVariants.{OutOfMemory};
 ghost use Rattle.bson_distinct.specs.Arranging.{Added, Closed, IsBegun, IsSettled, IsSettledEarly, IsWithin, MemberBegun};
 
 use crate::arrangement::Arrangement;
 use crate::order::{Piece, arrange_pieces};
-use bson_tokens::unread::Unread;
-use json::{Token, Writer};
+use json::{Error, Token, Writer};
 use std::alloc::{AllocError, Global};
 use std::mem::replace;
 
@@ -32,13 +31,13 @@ pub(crate) struct Arranger {
 }
 
 // The text as a string.
-pub(crate) fn into_text(text: Vec<u8>) -> Result<String, Unread>
+pub(crate) fn into_text(text: Vec<u8>) -> Result<String, Error>
     ensures bytes { IfOk result (λ written. string_bytes written ≡ text.items) }
     ensures refused { IfErr result (λ e. e ≡ OutOfMemory) }
 {
     match String::from_utf8(text) {
         Ok(text) => Ok(text),
-        Err(_) => Err(Unread::OutOfMemory),
+        Err(_) => Err(Error::OutOfMemory),
     }
 }
 

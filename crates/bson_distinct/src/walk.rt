@@ -6,8 +6,7 @@ ghost use Rattle.bson_distinct.specs.Double.{json_of, IsFirstDouble};
 ghost use Rattle.bson_distinct.specs.Found.{Finds, double, double_items, double_members};
 
 use crate::path::{KeyPath, or_at, or_member};
-use bson_tokens::unread::Unread;
-use json::{Reader, Scratch, Token};
+use json::{Error, Reader, Scratch, Token};
 use std::alloc::Global;
 use std::collections::BTreeSet;
 
@@ -17,7 +16,7 @@ const MAX_DEPTH: usize = 127;
 /// The path to the first key of the text that stands in its object before, from the key outward; or
 /// nothing where no object, at any depth, has a key twice.
 ///
-/// Keys are compared after their escapes are read. `Refused` is answered where the text is no JSON
+/// Keys are compared after their escapes are read. `Invalid` is answered where the text is no JSON
 /// text of at most 127 levels. Memory is that of the keys of the objects that are open, and of the
 /// longest text with an escape.
 ///
@@ -26,7 +25,7 @@ const MAX_DEPTH: usize = 127;
 ///     println!(rt; "{path:?}")?; // [Key("b"), Element(0), Key("a")]
 /// }
 /// ```
-pub fn first_double_key(alloc: Global, text: &str) -> Result<Option<KeyPath>, Unread>
+pub fn first_double_key(alloc: Global, text: &str) -> Result<Option<KeyPath>, Error>
     ensures ok { IfOk result (λ path. IsFirstDouble text.now path) }
     ensures broken { IfErr result (IsBroken (json_of text.now)) }
 {
@@ -34,7 +33,7 @@ pub fn first_double_key(alloc: Global, text: &str) -> Result<Option<KeyPath>, Un
     let mut reader = Reader::new(text, &mut scratch)?;
     let found = walk_value(alloc, &mut reader, MAX_DEPTH)?;
     if reader.next().is_some() {
-        return Err(Unread::Refused);
+        return Err(Error::Invalid);
     }
     Ok(found)
 }
@@ -44,24 +43,24 @@ fn walk_value(
     alloc: Global,
     reader: &mut Reader<'_>,
     depth: usize,
-) -> Result<Option<KeyPath>, Unread>
+) -> Result<Option<KeyPath>, Error>
     ensures ok { IfOk result (λ path. Finds double (value depth reader.old) path reader.new) }
     ensures broken { IfErr result (IsBroken (value depth reader.old)) }
     ensures shorter { OnOk result (length reader.new < length reader.old) }
 {
-    let token = reader.next().ok_or(Unread::Refused)?;
+    let token = reader.next().ok_or(Error::Invalid)?;
     match token {
         Token::String(_) | Token::Number(_) | Token::Bool(_) | Token::Null => Ok(None),
-        Token::EndObject | Token::EndArray | Token::Key(_) | Token::Bad => Err(Unread::Refused),
+        Token::EndObject | Token::EndArray | Token::Key(_) | Token::Bad => Err(Error::Invalid),
         Token::BeginArray => {
             if depth == 0 {
-                return Err(Unread::Refused);
+                return Err(Error::Invalid);
             }
             Ok(walk_items(alloc, reader, depth - 1)?)
         }
         Token::BeginObject => {
             if depth == 0 {
-                return Err(Unread::Refused);
+                return Err(Error::Invalid);
             }
             Ok(walk_members(alloc, reader, depth - 1)?)
         }
@@ -74,7 +73,7 @@ fn walk_items(
     alloc: Global,
     reader: &mut Reader<'_>,
     depth: usize,
-) -> Result<Option<KeyPath>, Unread>
+) -> Result<Option<KeyPath>, Error>
     ensures ok { IfOk result
         (λ path. Finds (double_items 0) (items (value depth) (length reader.old) reader.old) path reader.new) }
     ensures broken { IfErr result (IsBroken (items (value depth) (length reader.old) reader.old)) }
@@ -85,7 +84,7 @@ fn walk_items(
     'items: while !reader.take_end_array() {
         let item = walk_value(alloc, reader, depth)?;
         first = or_at(first, item, at)?;
-        at = at.checked_add(1).ok_or(Unread::OutOfMemory)?;
+        at = at.checked_add(1).ok_or(Error::OutOfMemory)?;
     }
     Ok(first)
 }
@@ -96,7 +95,7 @@ fn walk_members(
     alloc: Global,
     reader: &mut Reader<'_>,
     depth: usize,
-) -> Result<Option<KeyPath>, Unread>
+) -> Result<Option<KeyPath>, Error>
     ensures ok { IfOk result
         (λ path. Finds (double_members []) (members (value depth) (length reader.old) reader.old) path reader.new) }
     ensures broken { IfErr result (IsBroken (members (value depth) (length reader.old) reader.old)) }
@@ -105,7 +104,9 @@ fn walk_members(
     let mut keys = BTreeSet::new(alloc);
     let mut first: Option<KeyPath> = None;
     'members: while let Some(name) = reader.next_key()? {
-        let is_new = keys.insert(name)?;
+        let Ok(is_new) = keys.insert(name) else {
+            return Err(Error::OutOfMemory);
+        };
         let member = walk_value(alloc, reader, depth)?;
         first = or_member(alloc, first, is_new, name, member)?;
     }

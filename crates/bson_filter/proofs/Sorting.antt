@@ -1,6 +1,7 @@
 -- Texts that a writer of a text with ascending keys puts one after another.
 use Rattle.std.proofs.Common.{◌≡◌, ℕ, ◌+◌, Bool, true, false, List, [], ◌∷◌, ◌++◌, Result, Ok, Err, refl, sym, ap, ◌∙◌}
-use Rattle.std.proofs.Common.{subst, append_assoc}
+use Rattle.std.proofs.Common.{subst, append_assoc, MatchResult}
+use Rattle.std.specs.Result.{IsErrAnd}
 use Rattle.json.specs.Print.{print}
 use Rattle.json.specs.Token.{Token}
 use Rattle.serde_json.specs.Data.{Data, Items, no_items, item, array, object}
@@ -52,6 +53,12 @@ pub printed : (r : Result Data Refusal) (old new : List Token) → Puts (Ok tt) 
     → (t : Data) × (r ≡ Ok t) × (new ≡ old ++ tokens_of t)
 printed (Ok t) old new h = (t, refl, h)
 printed (Err e) old new h = absurd h
+
+-- where an error is turned into another
+pub was_ok : {X F G : Type 0} (Q : F → G → Type 0) (r : Result X F) (q : Result X G) (x : X)
+    → MatchResult r (λ y. q ≡ Ok y) (λ e. IsErrAnd q (Q e)) → q ≡ Ok x → r ≡ Ok x
+was_ok Q (Ok y) q x is now = cc
+was_ok Q (Err e) q x is now = absurd (subst (λ s. IsErrAnd s (Q e)) now is)
 
 -- ---- arrays
 

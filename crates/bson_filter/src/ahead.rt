@@ -3,9 +3,8 @@
 ghost use Rattle.std.specs.Prelude.{◌≡◌, Some, codes, option_map, IfOk, IfSome};
 
 use bson_scalar::code::is_scope;
-use bson_tokens::unread::Unread;
-use json::{Reader, Scratch, Token};
-use std::alloc::Global;
+use json::{Error, Reader, Scratch, Token};
+use std::alloc::{AllocError, Global};
 use std::collections::BTreeMap;
 
 /// The codes of a text that stand behind their scopes. For them the text is read once more, when
@@ -33,7 +32,7 @@ impl<'a> Ahead<'a> {
         &mut self,
         first: Option<&str>,
         place: usize,
-    ) -> Result<Option<String>, Unread>
+    ) -> Result<Option<String>, Error>
         ensures { IfOk result (λ code. IfSome code (λ _. option_map (λ k. k.now) first.entry ≡ Some (codes "$scope"))) }
     {
         let Some(key) = first else {
@@ -45,7 +44,7 @@ impl<'a> Ahead<'a> {
         self.code_at(place)
     }
 
-    fn code_at(&mut self, place: usize) -> Result<Option<String>, Unread> {
+    fn code_at(&mut self, place: usize) -> Result<Option<String>, Error> {
         if self.codes.is_none() {
             self.codes = Some(codes_of(self.alloc, self.text)?);
         }
@@ -70,7 +69,7 @@ enum Open {
 }
 
 // The code right behind each scope that comes first in its object, by where the scope begins.
-fn codes_of(alloc: Global, text: &str) -> Result<BTreeMap<usize, String>, Unread> {
+fn codes_of(alloc: Global, text: &str) -> Result<BTreeMap<usize, String>, AllocError> {
     let mut scratch = Scratch::new(alloc);
     let mut reader = Reader::new(text, &mut scratch)?;
     let mut codes = BTreeMap::new(alloc);

@@ -10,15 +10,14 @@ use crate::text::TextWriter;
 use crate::walk::write_text;
 use bson_distinct::arrangement::Arrangement;
 use bson_scalar::form::{Doubles, Form};
-use bson_tokens::unread::Unread;
-use json::Writer;
+use json::{Error, Writer};
 use std::alloc::Global;
 
 /// The bytes of the compact text in the form of the value that the text means, each document's keys
 /// in the order of the text, at every depth. It is written as the text is read, with no value in
 /// memory.
 ///
-/// `Refused` says nothing of the text. It comes where the text is no JSON text of at most 127
+/// `Invalid` says nothing of the text. It comes where the text is no JSON text of at most 127
 /// levels, means nothing, or has a key twice in an object or a value that a later one takes the
 /// place of; not for the last two in the text that
 /// [`arrange_text`](bson_distinct::arrange::arrange_text) gives by first places, which means the
@@ -28,7 +27,7 @@ pub fn filter_text(
     doubles: Doubles,
     form: Form,
     text: &str,
-) -> Result<Vec<u8>, Unread>
+) -> Result<Vec<u8>, Error>
     ensures ok { IfOk result (λ written. IsFilteredText doubles form text.now written.items) }
 {
     let mut writer = TextWriter {
@@ -44,10 +43,10 @@ pub fn filter_text(
 /// [`filter_text`] with each document's keys in ascending order of bytes, and of a key that stands
 /// twice the last value.
 ///
-/// `Refused` comes too where a value means nothing that a later one takes the place of, or where it
+/// `Invalid` comes too where a value means nothing that a later one takes the place of, or where it
 /// would take more than some nine times the text to put members in order: not in the text that
 /// [`arrange_text`](bson_distinct::arrange::arrange_text) gives by ascending keys.
-pub fn sort_text(alloc: Global, doubles: Doubles, form: Form, text: &str) -> Result<Vec<u8>, Unread>
+pub fn sort_text(alloc: Global, doubles: Doubles, form: Form, text: &str) -> Result<Vec<u8>, Error>
     ensures ok { IfOk result (λ written. IsSortedText doubles form text.now written.items) }
 {
     let mut writer = SortedWriter {
@@ -67,16 +66,16 @@ pub fn sort_text(alloc: Global, doubles: Doubles, form: Form, text: &str) -> Res
 /// The bytes of the text that shows the value that the text means by default, each document's keys
 /// in ascending order of bytes: it is written as the text is read, with no value in memory.
 ///
-/// `Refused` says nothing of the text, and comes where it comes from [`sort_text`].
-pub fn show_text(alloc: Global, doubles: Doubles, text: &str) -> Result<Vec<u8>, Unread>
+/// `Invalid` says nothing of the text, and comes where it comes from [`sort_text`].
+pub fn show_text(alloc: Global, doubles: Doubles, text: &str) -> Result<Vec<u8>, Error>
     ensures ok { IfOk result (λ written. IsShownText doubles text.now written.items) }
 {
     show_by(alloc, doubles, Arrangement::Ascending, text)
 }
 
-/// [`show_text`] with each document's keys in the order of the text. `Refused` comes where it comes
+/// [`show_text`] with each document's keys in the order of the text. `Invalid` comes where it comes
 /// from [`filter_text`].
-pub fn show_text_in_order(alloc: Global, doubles: Doubles, text: &str) -> Result<Vec<u8>, Unread>
+pub fn show_text_in_order(alloc: Global, doubles: Doubles, text: &str) -> Result<Vec<u8>, Error>
     ensures ok { IfOk result (λ written. IsShownTextInOrder doubles text.now written.items) }
 {
     show_by(alloc, doubles, Arrangement::FirstPlaces, text)
@@ -87,7 +86,7 @@ fn show_by(
     doubles: Doubles,
     arrangement: Arrangement,
     text: &str,
-) -> Result<Vec<u8>, Unread>
+) -> Result<Vec<u8>, Error>
     ensures ok { IfOk result (λ written. IsShownTextBy doubles arrangement text.now written.items) }
 {
     let mut writer = ShownWriter {

@@ -9,7 +9,7 @@ ghost use Rattle.bson_model.specs.Stable.{IsStableByKey};
 ghost use Rattle.serde_json.specs.Written.{comma_if};
 
 use bson_tokens::prefix::prefix_of;
-use bson_tokens::unread::Unread;
+use json::Error;
 use std::alloc::{AllocError, Global};
 
 // So many members or fewer are sorted with no memory.
@@ -36,7 +36,7 @@ pub(crate) fn end_object(
     start: usize,
     most: usize,
     text: &mut Vec<u8>,
-) -> Result<(), Unread>
+) -> Result<(), Error>
     requires paired { length keys.now ≡ length starts.now }
     requires within { All (IsWithin text.old.items) (pieces_from keys.now starts.now (length text.old.items)) }
     requires opened { IsOpen (take start text.old.items) text.old.items
@@ -45,14 +45,14 @@ pub(crate) fn end_object(
         (take start text.old.items) text.old.items text.new.items) }
 {
     if ascend(keys) {
-        text.push(b'}')?;
+        text.extend_from_slice(b"}")?;
         return Ok(());
     }
     if memory_for(keys.len(), text.len()) > most {
-        return Err(Unread::Refused);
+        return Err(Error::Invalid);
     }
     let pieces = pieces_of(alloc, keys, starts, text.len())?;
-    let written = in_order(alloc, pieces, start, text)?.ok_or(Unread::Refused)?;
+    let written = in_order(alloc, pieces, start, text)?.ok_or(Error::Invalid)?;
     text.truncate(start);
     text.extend_from_slice(&written)?;
     Ok(())

@@ -15,8 +15,8 @@ use crate::writer::ValueWriter;
 use bson_distinct::arrangement::Arrangement;
 use bson_scalar::scalar::Scalar;
 use bson_scalar::scalar_ref::ScalarRef;
-use bson_tokens::unread::Unread;
 use itoa::Buffer;
+use json::Error;
 use std::alloc::{AllocError, Global};
 
 /// The text of values on one line, as people read it. The members of an open document stand in it
@@ -80,7 +80,7 @@ impl ShownWriter {
     }
 
     // Ends a document, whose members are put by ascending key.
-    fn end_sorted(&mut self, begun: Begun, keys: &[&str]) -> Result<(), Unread>
+    fn end_sorted(&mut self, begun: Begun, keys: &[&str]) -> Result<(), Error>
         requires stands { (start : ShownWriter) × (mid : ShownWriter) × (ps : Pairs) × IsBegun start begun mid
             × PairsWritten (λ a k v b. ValueAdded a v b) KeyAdded ps mid self.old
             × (keys_of ps ≡ map (λ k. k.now) keys.now) }
@@ -108,7 +108,7 @@ impl ShownWriter {
     }
 
     // Ends a document, whose members stay as they came. It is refused where a key came twice.
-    fn end_in_order(&mut self, begun: Begun, keys: &mut [&str]) -> Result<(), Unread>
+    fn end_in_order(&mut self, begun: Begun, keys: &mut [&str]) -> Result<(), Error>
         requires first_places { self.old.arrangement ≡ arrangement.FirstPlaces }
         ensures { OnOk result ((start : ShownWriter) (mid : ShownWriter) (ps : Pairs) → IsBegun start begun mid
             → PairsWritten (λ a k v b. ValueAdded a v b) KeyAdded ps mid self.old
@@ -116,7 +116,7 @@ impl ShownWriter {
     {
         let brace = brace_behind(self.behind);
         if !are_distinct(self.alloc, keys) {
-            return Err(Unread::Refused);
+            return Err(Error::Invalid);
         }
         self.starts.truncate(begun.held);
         Ok(self.add(brace, true)?)
@@ -150,22 +150,22 @@ impl ValueWriter for ShownWriter {
 
     ghost coded = { λ old k s begun new. IsCodeBegun old s begun new };
 
-    fn string(&mut self, _name: &str, text: &str) -> Result<(), Unread> {
+    fn string(&mut self, _name: &str, text: &str) -> Result<(), Error> {
         self.add_separator()?;
         self.add(b"\"", false)?;
         self.add(text.as_bytes(), false)?;
         Ok(self.add(b"\"", true)?)
     }
 
-    fn boolean(&mut self, _name: &str, truth: bool) -> Result<(), Unread> {
+    fn boolean(&mut self, _name: &str, truth: bool) -> Result<(), Error> {
         Ok(self.add_scalar(Scalar::Boolean(truth))?)
     }
 
-    fn null(&mut self, _name: &str) -> Result<(), Unread> {
+    fn null(&mut self, _name: &str) -> Result<(), Error> {
         Ok(self.add_scalar(Scalar::Null)?)
     }
 
-    fn scalar(&mut self, _name: &str, value: Scalar) -> Result<(), Unread> {
+    fn scalar(&mut self, _name: &str, value: Scalar) -> Result<(), Error> {
         Ok(self.add_scalar(value)?)
     }
 
@@ -173,37 +173,39 @@ impl ValueWriter for ShownWriter {
         ""
     }
 
-    fn begin_array(&mut self, _name: &str) -> Result<Begun, Unread> {
+    fn begin_array(&mut self, _name: &str) -> Result<Begun, Error> {
         self.add_separator()?;
         let begun = self.position();
         self.add(b"[", false)?;
         Ok(begun)
     }
 
-    fn end_array(&mut self, _begun: Begun) -> Result<(), Unread> {
+    fn end_array(&mut self, _begun: Begun) -> Result<(), Error> {
         Ok(self.add(b"]", true)?)
     }
 
-    fn embed(&mut self, _name: &str) -> Result<(), Unread> {
+    fn embed(&mut self, _name: &str) -> Result<(), Error> {
         Ok(())
     }
 
-    fn begin(&mut self) -> Result<Begun, Unread> {
+    fn begin(&mut self) -> Result<Begun, Error> {
         self.add_separator()?;
         let begun = self.position();
         self.add(b"{", false)?;
         Ok(begun)
     }
 
-    fn key(&mut self, name: &str) -> Result<(), Unread> {
+    fn key(&mut self, name: &str) -> Result<(), Error> {
         put_comma(self.behind, &mut self.text)?;
-        self.starts.push(self.text.len())?;
+        let Ok(()) = self.starts.push(self.text.len()) else {
+            return Err(Error::OutOfMemory);
+        };
         self.add(b" \"", false)?;
         self.add(name.as_bytes(), false)?;
         Ok(self.add(b"\": ", false)?)
     }
 
-    fn end(&mut self, begun: Begun, keys: &mut [&str]) -> Result<(), Unread> {
+    fn end(&mut self, begun: Begun, keys: &mut [&str]) -> Result<(), Error> {
         match self.arrangement {
             Arrangement::FirstPlaces => self.end_in_order(begun, keys),
             Arrangement::Ascending => self.end_sorted(begun, keys),
@@ -211,13 +213,13 @@ impl ValueWriter for ShownWriter {
     }
 
     // What is begun is the scope, which is not shown.
-    fn begin_code(&mut self, _name: &str, code: &str) -> Result<Begun, Unread> {
+    fn begin_code(&mut self, _name: &str, code: &str) -> Result<Begun, Error> {
         self.add_separator()?;
         self.add(code.as_bytes(), false)?;
         Ok(self.position())
     }
 
-    fn end_code(&mut self, scope: Begun) -> Result<(), Unread> {
+    fn end_code(&mut self, scope: Begun) -> Result<(), Error> {
         self.text.truncate(scope.start);
         self.behind = true;
         Ok(())

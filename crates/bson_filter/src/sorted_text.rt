@@ -5,14 +5,13 @@ ghost use Rattle.serde_json.specs.Written.{comma_if};
 ghost use Rattle.bson_filter.specs.SortedWritten.{Added};
 
 use crate::pieces::{end_object, put_comma};
-use crate::writer::ValueWriter;
+use crate::writer::{ValueWriter, write_error};
 use bson_scalar::code::put_code;
 use bson_scalar::form::{Doubles, Form};
 use bson_scalar::scalar::Scalar;
 use bson_scalar::write::print_scalar_in;
-use bson_tokens::unread::Unread;
 use itoa::Buffer;
-use json::Writer;
+use json::{Error, Writer};
 use std::alloc::{AllocError, Global};
 use std::mem::replace;
 
@@ -111,27 +110,29 @@ impl ValueWriter for SortedWriter {
 
     ghost coded = { λ old k s begun new. Next old (print (code_tokens s)) false new };
 
-    fn string(&mut self, _name: &str, text: &str) -> Result<(), Unread> {
+    fn string(&mut self, _name: &str, text: &str) -> Result<(), Error> {
         let mut part = self.begin_part()?;
         part.string(text)?;
         Ok(self.add_part(part, true)?)
     }
 
-    fn boolean(&mut self, _name: &str, truth: bool) -> Result<(), Unread> {
+    fn boolean(&mut self, _name: &str, truth: bool) -> Result<(), Error> {
         let mut part = self.begin_part()?;
         part.boolean(truth)?;
         Ok(self.add_part(part, true)?)
     }
 
-    fn null(&mut self, _name: &str) -> Result<(), Unread> {
+    fn null(&mut self, _name: &str) -> Result<(), Error> {
         let mut part = self.begin_part()?;
         part.null()?;
         Ok(self.add_part(part, true)?)
     }
 
-    fn scalar(&mut self, _name: &str, value: Scalar) -> Result<(), Unread> {
+    fn scalar(&mut self, _name: &str, value: Scalar) -> Result<(), Error> {
         let mut part = self.begin_part()?;
-        print_scalar_in(self.alloc, self.doubles, self.form, value, &mut part)?;
+        print_scalar_in(self.alloc, self.doubles, self.form, value, &mut part).map_err(
+            write_error,
+        )?;
         Ok(self.add_part(part, true)?)
     }
 
@@ -139,36 +140,38 @@ impl ValueWriter for SortedWriter {
         ""
     }
 
-    fn begin_array(&mut self, _name: &str) -> Result<Begun, Unread> {
+    fn begin_array(&mut self, _name: &str) -> Result<Begun, Error> {
         self.add_comma()?;
         let begun = self.position();
         self.add_byte(b'[', false)?;
         Ok(begun)
     }
 
-    fn end_array(&mut self, _begun: Begun) -> Result<(), Unread> {
+    fn end_array(&mut self, _begun: Begun) -> Result<(), Error> {
         Ok(self.add_byte(b']', true)?)
     }
 
-    fn embed(&mut self, _name: &str) -> Result<(), Unread> {
+    fn embed(&mut self, _name: &str) -> Result<(), Error> {
         Ok(())
     }
 
-    fn begin(&mut self) -> Result<Begun, Unread> {
+    fn begin(&mut self) -> Result<Begun, Error> {
         self.add_comma()?;
         let begun = self.position();
         self.add_byte(b'{', false)?;
         Ok(begun)
     }
 
-    fn key(&mut self, name: &str) -> Result<(), Unread> {
+    fn key(&mut self, name: &str) -> Result<(), Error> {
         let mut part = self.begin_part()?;
-        self.starts.push(self.text.len())?;
+        let Ok(()) = self.starts.push(self.text.len()) else {
+            return Err(Error::OutOfMemory);
+        };
         part.key(name)?;
         Ok(self.add_part(part, false)?)
     }
 
-    fn end(&mut self, begun: Begun, keys: &mut [&str]) -> Result<(), Unread> {
+    fn end(&mut self, begun: Begun, keys: &mut [&str]) -> Result<(), Error> {
         let starts = &self.starts[begun.held..];
         end_object(
             self.alloc,
@@ -183,7 +186,7 @@ impl ValueWriter for SortedWriter {
         Ok(())
     }
 
-    fn begin_code(&mut self, _name: &str, code: &str) -> Result<Begun, Unread> {
+    fn begin_code(&mut self, _name: &str, code: &str) -> Result<Begun, Error> {
         let mut part = self.begin_part()?;
         let begun = self.position();
         put_code(code, &mut part)?;
@@ -191,7 +194,7 @@ impl ValueWriter for SortedWriter {
         Ok(begun)
     }
 
-    fn end_code(&mut self, _begun: Begun) -> Result<(), Unread> {
+    fn end_code(&mut self, _begun: Begun) -> Result<(), Error> {
         Ok(self.add_byte(b'}', true)?)
     }
 }

@@ -2,14 +2,13 @@
 ghost use Rattle.std.specs.Prelude.{◌≡◌};
 
 use crate::distinct::are_distinct;
-use crate::writer::ValueWriter;
+use crate::writer::{ValueWriter, write_error};
 use bson_scalar::code::put_code;
 use bson_scalar::form::{Doubles, Form};
 use bson_scalar::scalar::Scalar;
 use bson_scalar::write::print_scalar_in;
-use bson_tokens::unread::Unread;
 use itoa::Buffer;
-use json::Writer;
+use json::{Error, Writer};
 use std::alloc::Global;
 
 /// The compact text of values in a form.
@@ -43,58 +42,60 @@ impl ValueWriter for TextWriter {
 
     ghost coded = { λ old k s begun new. Sent old (code_tokens s) new };
 
-    fn string(&mut self, _name: &str, text: &str) -> Result<(), Unread> {
+    fn string(&mut self, _name: &str, text: &str) -> Result<(), Error> {
         Ok(self.out.string(text)?)
     }
 
-    fn boolean(&mut self, _name: &str, truth: bool) -> Result<(), Unread> {
+    fn boolean(&mut self, _name: &str, truth: bool) -> Result<(), Error> {
         Ok(self.out.boolean(truth)?)
     }
 
-    fn null(&mut self, _name: &str) -> Result<(), Unread> {
+    fn null(&mut self, _name: &str) -> Result<(), Error> {
         Ok(self.out.null()?)
     }
 
-    fn scalar(&mut self, _name: &str, value: Scalar) -> Result<(), Unread> {
-        Ok(print_scalar_in(self.alloc, self.doubles, self.form, value, &mut self.out)?)
+    fn scalar(&mut self, _name: &str, value: Scalar) -> Result<(), Error> {
+        print_scalar_in(self.alloc, self.doubles, self.form, value, &mut self.out).map_err(
+            write_error,
+        )
     }
 
     fn item_name<'b>(_buffer: &'b mut Buffer, _place: usize) -> &'b str {
         ""
     }
 
-    fn begin_array(&mut self, _name: &str) -> Result<(), Unread> {
+    fn begin_array(&mut self, _name: &str) -> Result<(), Error> {
         Ok(self.out.begin_array()?)
     }
 
-    fn end_array(&mut self, _open: ()) -> Result<(), Unread> {
+    fn end_array(&mut self, _open: ()) -> Result<(), Error> {
         Ok(self.out.end_array()?)
     }
 
-    fn embed(&mut self, _name: &str) -> Result<(), Unread> {
+    fn embed(&mut self, _name: &str) -> Result<(), Error> {
         Ok(())
     }
 
-    fn begin(&mut self) -> Result<(), Unread> {
+    fn begin(&mut self) -> Result<(), Error> {
         Ok(self.out.begin_object()?)
     }
 
-    fn key(&mut self, name: &str) -> Result<(), Unread> {
+    fn key(&mut self, name: &str) -> Result<(), Error> {
         Ok(self.out.key(name)?)
     }
 
-    fn end(&mut self, _open: (), keys: &mut [&str]) -> Result<(), Unread> {
+    fn end(&mut self, _open: (), keys: &mut [&str]) -> Result<(), Error> {
         if !are_distinct(self.alloc, keys) {
-            return Err(Unread::Refused);
+            return Err(Error::Invalid);
         }
         Ok(self.out.end_object()?)
     }
 
-    fn begin_code(&mut self, _name: &str, code: &str) -> Result<(), Unread> {
+    fn begin_code(&mut self, _name: &str, code: &str) -> Result<(), Error> {
         Ok(put_code(code, &mut self.out)?)
     }
 
-    fn end_code(&mut self, _open: ()) -> Result<(), Unread> {
+    fn end_code(&mut self, _open: ()) -> Result<(), Error> {
         Ok(self.out.end_object()?)
     }
 }

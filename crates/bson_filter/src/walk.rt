@@ -1,7 +1,9 @@
 //! The walk over the tokens of a text, which writes each value as it is read.
-ghost use Rattle.std.specs.Prelude.{◌≡◌, ◌<◌, ◌≤◌, ◌&&◌, [], length, ◌∷◌, Some, codes, is_some, option_map, OnOk, IfOk, Ok};
+ghost use Rattle.std.specs.Prelude.{◌≡◌, ◌↔◌, ◌<◌, ◌≤◌, ◌&&◌, [], length, ◌∷◌, Some, codes, is_some, option_map, OnOk, IfOk, Ok};
 ghost use Rattle.json.specs.Json.{value, items, read_key};
 ghost use Rattle.json.specs.Token as token;
+ghost use Rattle.json.specs.declared.error.Error.TheVariants as json_error;
+ghost use Rattle.bson_scalar.specs.declared.error.Error.TheVariants as read_errors;
 ghost use Rattle.serde_json.specs.Read.{converted, number_of};
 ghost use Rattle.bson_scalar.specs.Reading.{number_read_in};
 ghost use Rattle.serde_json.specs.Data.{Num};
@@ -17,15 +19,15 @@ use crate::ahead::Ahead;
 use crate::writer::ValueWriter;
 use bson_scalar::code::is_code_with_scope;
 use bson_scalar::doubles::read_number;
+use bson_scalar::error;
 use bson_scalar::form::Doubles;
 use bson_scalar::read::read_wrapper;
 use bson_scalar::scalar::Scalar;
 use bson_scalar::wrapper::{Wrapper, wrapper_named};
 use bson_tokens::held::read_held;
 use bson_tokens::number::number;
-use bson_tokens::unread::Unread;
 use itoa::Buffer;
-use json::{Reader, Scratch, Token};
+use json::{Error, Reader, Scratch, Token};
 use serde_json::Value;
 use std::alloc::Global;
 
@@ -38,7 +40,7 @@ pub(crate) fn write_text<W: ValueWriter>(
     doubles: Doubles,
     text: &str,
     out: &mut W,
-) -> Result<(), Unread>
+) -> Result<(), Error>
     ensures { OnOk result ((v : Meaning) × HasMeaningInOrder doubles text.now v × W.wrote out.old [] v out.new) }
 {
     let mut scratch = Scratch::new(alloc);
@@ -56,14 +58,14 @@ pub(crate) fn write_text<W: ValueWriter>(
         out,
     )?;
     if reader.next().is_some() {
-        return Err(Unread::Refused);
+        return Err(Error::Invalid);
     }
     Ok(())
 }
 
 /// Writes the value that stands next under the name.
 ///
-/// `Refused` says nothing of the text: it is to be read whole. It comes where the text breaks the
+/// `Invalid` says nothing of the text: it is to be read whole. It comes where the text breaks the
 /// grammar, nests deeper, means nothing, or has in some object a key twice.
 ///
 /// The keys of the objects that are open are held, each object's behind those around it; of code
@@ -78,28 +80,28 @@ pub fn write_value<'a, W: ValueWriter>(
     keys: &mut Vec<&'a str>,
     ahead: &mut Ahead<'_>,
     out: &mut W,
-) -> Result<(), Unread>
+) -> Result<(), Error>
     ensures ok { OnOk result (TreeMeans doubles (converted kept (value depth reader.old)) reader.new
         (λ v. W.wrote out.old name.now v out.new)) }
     ensures keys { OnOk result (keys.new.items ≡ keys.old.items) }
     ensures shorter { OnOk result (length reader.new < length reader.old) }
 {
-    let token = reader.next().ok_or(Unread::Refused)?;
+    let token = reader.next().ok_or(Error::Invalid)?;
     match token {
         Token::String(text) => out.string(name, text),
         Token::Number(text) => out.scalar(name, read_token(doubles, text)?),
         Token::Bool(truth) => out.boolean(name, truth),
         Token::Null => out.null(name),
-        Token::EndObject | Token::EndArray | Token::Key(_) | Token::Bad => Err(Unread::Refused),
+        Token::EndObject | Token::EndArray | Token::Key(_) | Token::Bad => Err(Error::Invalid),
         Token::BeginArray => {
             if depth == 0 {
-                return Err(Unread::Refused);
+                return Err(Error::Invalid);
             }
             write_array(alloc, doubles, reader, depth - 1, name, keys, ahead, out)
         }
         Token::BeginObject => {
             if depth == 0 {
-                return Err(Unread::Refused);
+                return Err(Error::Invalid);
             }
             write_object(alloc, doubles, reader, depth - 1, name, keys, ahead, out)
         }
@@ -107,12 +109,12 @@ pub fn write_value<'a, W: ValueWriter>(
 }
 
 // The number of a token.
-fn read_token(doubles: Doubles, text: &str) -> Result<Scalar, Unread>
+fn read_token(doubles: Doubles, text: &str) -> Result<Scalar, Error>
     ensures { IfOk result (λ x. (n : Num) × (number_of text.now ≡ Some n)
         × (number_read_in doubles n ≡ Ok (scalar_view x))) }
 {
-    let n = number(text).ok_or(Unread::Refused)?;
-    Ok(read_number(doubles, &n)?)
+    let n = number(text).ok_or(Error::Invalid)?;
+    read_number(doubles, &n).map_err(read_error)
 }
 
 // An array whose bracket was read.
@@ -126,7 +128,7 @@ fn write_array<'a, W: ValueWriter>(
     keys: &mut Vec<&'a str>,
     ahead: &mut Ahead<'_>,
     out: &mut W,
-) -> Result<(), Unread>
+) -> Result<(), Error>
     ensures ok { OnOk result
         (ItemsMean doubles (converted kept_items (items (value depth) (length reader.old) reader.old)) reader.new
         (λ vs. W.wrote out.old name.now (array vs) out.new)) }
@@ -139,7 +141,7 @@ fn write_array<'a, W: ValueWriter>(
         let mut buffer = Buffer::new();
         let name = W::item_name(&mut buffer, place);
         write_value(alloc, doubles, reader, depth, name, keys, ahead, out)?;
-        place = place.checked_add(1).ok_or(Unread::Refused)?;
+        place = place.checked_add(1).ok_or(Error::Invalid)?;
     }
     out.end_array(begun)
 }
@@ -155,7 +157,7 @@ fn write_object<'a, W: ValueWriter>(
     keys: &mut Vec<&'a str>,
     ahead: &mut Ahead<'_>,
     out: &mut W,
-) -> Result<(), Unread>
+) -> Result<(), Error>
     ensures ok { OnOk result (ObjectMeans doubles (kept_object (inside depth reader.old)) reader.new
         (λ v. W.wrote out.old name.now v out.new)) }
     ensures keys { OnOk result (keys.new.items ≡ keys.old.items) }
@@ -191,7 +193,7 @@ pub fn write_document<'a, W: ValueWriter>(
     keys: &mut Vec<&'a str>,
     ahead: &mut Ahead<'_>,
     out: &mut W,
-) -> Result<(), Unread>
+) -> Result<(), Error>
     ensures ok { OnOk result (MembersMean doubles is_document
         (kept_object (from_key depth (option_map (λ k. k.now) first.entry) reader.old)) reader.new
         (λ ps. W.framed out.old ps out.new)) }
@@ -203,9 +205,11 @@ pub fn write_document<'a, W: ValueWriter>(
     let mut next = first;
     'members: while let Some(key) = next {
         if is_misplaced(is_document, key) {
-            return Err(Unread::Refused);
+            return Err(Error::Invalid);
         }
-        keys.push(key)?;
+        let Ok(()) = keys.push(key) else {
+            return Err(Error::OutOfMemory);
+        };
         out.key(key)?;
         write_value(alloc, doubles, reader, depth, key, keys, ahead, out)?;
         next = reader.next_key()?;
@@ -236,7 +240,7 @@ fn write_wrapper<'a, W: ValueWriter>(
     keys: &mut Vec<&'a str>,
     ahead: &mut Ahead<'_>,
     out: &mut W,
-) -> Result<(), Unread>
+) -> Result<(), Error>
     requires { wrapper_of key.now ≡ Some wrapper }
     ensures ok { OnOk result (ObjectMeans doubles (kept_object (from_key depth (Some key.now) reader.old)) reader.new
         (λ v. W.wrote out.old name.now v out.new)) }
@@ -245,17 +249,28 @@ fn write_wrapper<'a, W: ValueWriter>(
 {
     let held = read_held(alloc, reader, depth)?;
     let Some(other) = reader.next_key()? else {
-        return out.scalar(name, read_wrapper(alloc, doubles, wrapper, held)?);
+        let value = read_wrapper(alloc, doubles, wrapper, held).map_err(read_error)?;
+        return out.scalar(name, value);
     };
     if !is_code_with_scope(key, other) {
-        return Err(Unread::Refused);
+        return Err(Error::Invalid);
     }
     let Value::String(code) = held else {
-        return Err(Unread::Refused);
+        return Err(Error::Invalid);
     };
     write_code(
         alloc, doubles, reader, depth, &code, false, name, keys, ahead, out,
     )
+}
+
+// What stands in a wrapper means nothing, or memory is wanting to read it.
+fn read_error(cause: error::Error) -> Error
+    ensures { (result ≡ json_error.OutOfMemory) ↔ (cause ≡ read_errors.OutOfMemory) }
+{
+    match cause {
+        error::Error::OutOfMemory => Error::OutOfMemory,
+        _ => Error::Invalid,
+    }
 }
 
 // Code from the value of its scope on, to the end of their object. Where it stands behind the scope
@@ -273,7 +288,7 @@ fn write_code<'a, W: ValueWriter>(
     keys: &mut Vec<&'a str>,
     ahead: &mut Ahead<'_>,
     out: &mut W,
-) -> Result<(), Unread>
+) -> Result<(), Error>
     ensures ok { OnOk result (CodeMeans doubles depth code.now is_behind reader.old reader.new
         (λ v. W.wrote out.old name.now v out.new)) }
     ensures keys { OnOk result (keys.new.items ≡ keys.old.items) }
@@ -290,7 +305,7 @@ fn write_code<'a, W: ValueWriter>(
             end_object(reader, code, is_behind)?;
             out.end_code(begun)
         }
-        _ => Err(Unread::Refused),
+        _ => Err(Error::Invalid),
     }
 }
 
@@ -304,13 +319,13 @@ fn write_scope<'a, W: ValueWriter>(
     keys: &mut Vec<&'a str>,
     ahead: &mut Ahead<'_>,
     out: &mut W,
-) -> Result<(), Unread>
+) -> Result<(), Error>
     ensures ok { OnOk result (ScopeMeans doubles depth reader.old reader.new (λ ps. W.framed out.old ps out.new)) }
     ensures keys { OnOk result (keys.new.items ≡ keys.old.items) }
     ensures shorter { OnOk result (length reader.new < length reader.old) }
 {
     if depth == 0 {
-        return Err(Unread::Refused);
+        return Err(Error::Invalid);
     }
     let first = reader.next_key()?;
     write_document(
@@ -327,7 +342,7 @@ fn write_scope<'a, W: ValueWriter>(
 }
 
 // The end of the object of code and its scope. Where the code is behind, it is to stand there.
-fn end_object(reader: &mut Reader<'_>, code: &str, is_behind: bool) -> Result<(), Unread>
+fn end_object(reader: &mut Reader<'_>, code: &str, is_behind: bool) -> Result<(), Error>
     ensures ok { OnOk result (CodeEnds code.now is_behind reader.old reader.new) }
     ensures shorter { OnOk result (length reader.new < length reader.old) }
 {
@@ -335,26 +350,26 @@ fn end_object(reader: &mut Reader<'_>, code: &str, is_behind: bool) -> Result<()
         pass_code(reader, code)?;
     }
     if reader.next_key()?.is_some() {
-        return Err(Unread::Refused);
+        return Err(Error::Invalid);
     }
     Ok(())
 }
 
 // The key of code, and then this text.
-fn pass_code(reader: &mut Reader<'_>, code: &str) -> Result<(), Unread>
+fn pass_code(reader: &mut Reader<'_>, code: &str) -> Result<(), Error>
     ensures { OnOk result (read_key reader.old ≡ Some (Some (codes "$code"), token.string code.now ∷ reader.new)) }
 {
     let Some(key) = reader.next_key()? else {
-        return Err(Unread::Refused);
+        return Err(Error::Invalid);
     };
     if key != "$code" {
-        return Err(Unread::Refused);
+        return Err(Error::Invalid);
     }
     let Some(Token::String(text)) = reader.next() else {
-        return Err(Unread::Refused);
+        return Err(Error::Invalid);
     };
     if text != code {
-        return Err(Unread::Refused);
+        return Err(Error::Invalid);
     }
     Ok(())
 }

@@ -13,7 +13,7 @@ use Rattle.json.specs.Tree.{json_tokens}
 use Rattle.json.specs.declared.token.Token as found
 use Rattle.json.proofs.Grammar.{value_is}
 use Rattle.bson_tokens.specs.Parts.{IsBroken}
-use Rattle.bson_tokens.specs.declared.unread.Unread.{Unread}
+use Rattle.json.specs.declared.error.Error.{Error}
 use Rattle.bson_legacy.specs.Modern.{older, other, renewed, modern_members, of_one, of_texts}
 use Rattle.bson_distinct.specs.Arranging.{elements, inside}
 use Rattle.bson_legacy.specs.Passed.{MemberPasses, Passes, of_items, of_members, of_object, of_value}
@@ -39,7 +39,7 @@ all_breaks written old now None left e none = refl
 all_breaks written old now (Some p) left e none = let never = e ∙ ap (whole written now) none in cc
 
 -- an answer tells that the one breaks, and so the other does
-pub breaks : {A B X : Type 0} (r : Result X Unread) (a : Option A) (b : Option B) → (a ≡ None → b ≡ None)
+pub breaks : {A B X : Type 0} (r : Result X Error) (a : Option A) (b : Option B) → (a ≡ None → b ≡ None)
     → IfErr r (IsBroken a) → IfErr r (IsBroken b)
 breaks r a b so h = IfErr-weaker r (IsBroken a) (IsBroken b) (λ e none broken. so (none broken)) h
 

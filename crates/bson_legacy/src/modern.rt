@@ -13,8 +13,7 @@ ghost use Rattle.bson_legacy.specs.Passed.{of_items, of_members, of_object, of_v
 ghost use Rattle.bson_legacy.specs.Text.{IsModernText};
 
 use crate::older::{write_lone, write_pair, write_text};
-use bson_tokens::unread::Unread;
-use json::{Reader, Scratch, Token, Writer};
+use json::{Error, Reader, Scratch, Token, Writer};
 use std::alloc::Global;
 
 /// How deep arrays and objects may nest.
@@ -25,7 +24,7 @@ const MAX_DEPTH: usize = 127;
 ///
 /// An object is of an older shape where it has exactly the keys `$binary` and `$type`, or `$regex`
 /// and `$options`, in either order, each with a text; and where it has the key `$date` alone, with a
-/// text that ends in an offset of four digits, as `+0100`, which gets its colon. `Refused` is
+/// text that ends in an offset of four digits, as `+0100`, which gets its colon. `Invalid` is
 /// answered where the text is no JSON text of at most 127 levels. A binary and a regular expression
 /// nest one level deeper than they did.
 ///
@@ -36,7 +35,7 @@ const MAX_DEPTH: usize = 127;
 /// let text = modern_text(alloc, r#"{"$binary": "AQI=", "$type": "00"}"#)?;
 /// println!(rt; "{text}")?; // {"$binary":{"base64":"AQI=","subType":"00"}}
 /// ```
-pub fn modern_text(alloc: Global, text: &str) -> Result<String, Unread>
+pub fn modern_text(alloc: Global, text: &str) -> Result<String, Error>
     ensures ok { IfOk result (λ written. IsModernText text.now (string_bytes written)) }
     ensures broken { IfErr result (IsBroken (json_of text.now)) }
 {
@@ -45,7 +44,7 @@ pub fn modern_text(alloc: Global, text: &str) -> Result<String, Unread>
     let mut out = Writer::new(Vec::with_capacity(alloc, text.len())?);
     write_value(alloc, &mut reader, MAX_DEPTH, &mut out)?;
     if reader.next().is_some() {
-        return Err(Unread::Refused);
+        return Err(Error::Invalid);
     }
     Ok(into_text(out))
 }
@@ -68,13 +67,13 @@ fn write_value<'a>(
     reader: &mut Reader<'a>,
     depth: usize,
     out: &mut Writer,
-) -> Result<(), Unread>
+) -> Result<(), Error>
     ensures ok { OnOk result
         (Passes of_value (value depth reader.old) reader.new out.old.tokens out.new.tokens) }
     ensures broken { IfErr result (IsBroken (value depth reader.old)) }
     ensures before { OnOk result (out.new.before ≡ out.old.before) }
 {
-    let first = reader.next().ok_or(Unread::Refused)?;
+    let first = reader.next().ok_or(Error::Invalid)?;
     write_begun(alloc, first, reader, depth, out)
 }
 
@@ -86,7 +85,7 @@ fn write_begun<'a>(
     reader: &mut Reader<'a>,
     depth: usize,
     out: &mut Writer,
-) -> Result<(), Unread>
+) -> Result<(), Error>
     requires { first ≢ Token.Bad → IsPrintable (token_of first) }
     ensures ok { OnOk result (Passes of_value (value depth (token_of first.entry ∷ reader.old)) reader.new
         out.old.tokens out.new.tokens) }
@@ -95,17 +94,17 @@ fn write_begun<'a>(
 {
     match first {
         Token::String(_) | Token::Number(_) | Token::Bool(_) | Token::Null => Ok(out.token(first)?),
-        Token::EndObject | Token::EndArray | Token::Key(_) | Token::Bad => Err(Unread::Refused),
+        Token::EndObject | Token::EndArray | Token::Key(_) | Token::Bad => Err(Error::Invalid),
         Token::BeginArray => {
             if depth == 0 {
-                return Err(Unread::Refused);
+                return Err(Error::Invalid);
             }
             out.begin_array()?;
             write_items(alloc, reader, depth - 1, out)
         }
         Token::BeginObject => {
             if depth == 0 {
-                return Err(Unread::Refused);
+                return Err(Error::Invalid);
             }
             write_object(alloc, reader, depth - 1, out)
         }
@@ -119,7 +118,7 @@ fn write_items<'a>(
     reader: &mut Reader<'a>,
     depth: usize,
     out: &mut Writer,
-) -> Result<(), Unread>
+) -> Result<(), Error>
     ensures ok { OnOk result
         (Passes of_items (elements depth reader.old) reader.new out.old.tokens out.new.tokens) }
     ensures broken { IfErr result (IsBroken (elements depth reader.old)) }
@@ -139,7 +138,7 @@ fn write_object<'a>(
     reader: &mut Reader<'a>,
     depth: usize,
     out: &mut Writer,
-) -> Result<(), Unread>
+) -> Result<(), Error>
     ensures ok { OnOk result
         (Passes of_object (inside depth reader.old) reader.new out.old.tokens out.new.tokens) }
     ensures broken { IfErr result (IsBroken (inside depth reader.old)) }
@@ -149,7 +148,7 @@ fn write_object<'a>(
         out.begin_object()?;
         return Ok(out.end_object()?);
     };
-    let first = reader.next().ok_or(Unread::Refused)?;
+    let first = reader.next().ok_or(Error::Invalid)?;
     let Token::String(text) = first else {
         out.begin_object()?;
         return write_member(alloc, key, first, reader, depth, out);
@@ -166,7 +165,7 @@ fn write_behind_one<'a>(
     reader: &mut Reader<'a>,
     depth: usize,
     out: &mut Writer,
-) -> Result<(), Unread>
+) -> Result<(), Error>
     ensures ok { OnOk result
         (Passes of_object (inside depth (token.key key.now ∷ token.string text.now ∷ reader.old)) reader.new
         out.old.tokens out.new.tokens) }
@@ -177,7 +176,7 @@ fn write_behind_one<'a>(
     let Some(other) = reader.next_key()? else {
         return Ok(write_lone(alloc, key, text, out)?);
     };
-    let first = reader.next().ok_or(Unread::Refused)?;
+    let first = reader.next().ok_or(Error::Invalid)?;
     let Token::String(more) = first else {
         out.begin_object()?;
         write_text(key, text, out)?;
@@ -197,7 +196,7 @@ fn write_behind_two<'a>(
     reader: &mut Reader<'a>,
     depth: usize,
     out: &mut Writer,
-) -> Result<(), Unread>
+) -> Result<(), Error>
     ensures ok { OnOk result
         (Passes of_object (inside depth (token.key key.now ∷ token.string text.now ∷ token.key other.now
         ∷ token.string more.now ∷ reader.old)) reader.new out.old.tokens out.new.tokens) }
@@ -208,7 +207,7 @@ fn write_behind_two<'a>(
     let Some(third) = reader.next_key()? else {
         return Ok(write_pair(key, text, other, more, out)?);
     };
-    let first = reader.next().ok_or(Unread::Refused)?;
+    let first = reader.next().ok_or(Error::Invalid)?;
     out.begin_object()?;
     write_text(key, text, out)?;
     write_text(other, more, out)?;
@@ -224,7 +223,7 @@ fn write_member<'a>(
     reader: &mut Reader<'a>,
     depth: usize,
     out: &mut Writer,
-) -> Result<(), Unread>
+) -> Result<(), Error>
     requires { first ≢ Token.Bad → IsPrintable (token_of first) }
     ensures ok { OnOk result (MemberPasses depth key.now (token_of first.entry ∷ reader.old) reader.new
         out.old.tokens out.new.tokens) }
@@ -244,7 +243,7 @@ fn write_members<'a>(
     reader: &mut Reader<'a>,
     depth: usize,
     out: &mut Writer,
-) -> Result<(), Unread>
+) -> Result<(), Error>
     ensures ok { OnOk result
         (Passes of_members (inside depth reader.old) reader.new out.old.tokens out.new.tokens) }
     ensures broken { IfErr result (IsBroken (inside depth reader.old)) }

@@ -16,8 +16,3 @@ pub when_not : {E : Type 0} (r : Result (String Global) E) (b : Bool) (x y : Lis
     → IfOk r (λ s. string_bytes s ≡ y) → IfOk r (λ s. string_bytes s ≡ cond b x y)
 when_not r true x y e h = absurd cc
 when_not r false x y e h = h
-
-pub when_so : {E : Type 0} (r : Result (String Global) E) (b : Bool) (x y : List ℕ) → b ≡ true
-    → IfOk r (λ s. string_bytes s ≡ x) → IfOk r (λ s. string_bytes s ≡ cond b x y)
-when_so r true x y e h = h
-when_so r false x y e h = absurd cc

@@ -9,13 +9,12 @@ use Rattle.std.specs.Str.{chars, encode_utf8_all, trim_end}
 use Rattle.std.specs.declared.io.Error.{Error}
 use Rattle.bson_codec.specs.Told.{told_of}
 use Rattle.bson_codec.specs.Told as documents
-use Rattle.bson_codec.specs.declared.told.RunEnd.{RunEnd}
-use Rattle.bson_codec.specs.declared.told.RunFault.{RunFault}
-use Rattle.bson_codec.specs.declared.told.RunFault.TheVariants as run_fault
+use Rattle.bson_codec.specs.declared.run_end.RunEnd.{RunEnd}
+use Rattle.bson_codec.specs.declared.run_end.RunFault.{RunFault}
+use Rattle.bson_codec.specs.declared.run_end.RunFault.TheVariants as run_fault
 use Rattle.bson_run.specs.Lines.{onto_first}
 use Rattle.bson_convert.specs.Words.{words_of}
 use Rattle.bson_convert.specs.declared.fault.Fault.{Fault}
-use Rattle.bson_convert.specs.declared.fault.Fault.TheVariants.{CannotRead, CannotWrite}
 use Rattle.bson_lines.specs.declared.order.Input as order
 use Rattle.bson_lines.specs.declared.order.Input.TheVariants.{Documents}
 use Rattle.bson_lines.specs.declared.run.Stop.{Stop}
@@ -68,21 +67,13 @@ abbrev pub line_head : List ℕ → ℕ → List ℕ
 line_head name number =
     if is_standard name then codes "bson_lines: line " ++ decimal number else escaped_name name ++ codes ":" ++ decimal number
 
--- a reader or a writer failed
-abbrev pub is_of_stream : Fault → Bool
-is_of_stream CannotRead = true
-is_of_stream CannotWrite = true
-is_of_stream fault = false
+-- the head of a text on the line of this number, or of the one text of a file (0)
+abbrev pub text_head : List ℕ → ℕ → List ℕ
+text_head name number = if number == 0 then head_of name else line_head name number
 
--- what is told of the line of this number
+-- what is told of a text that is refused
 abbrev pub told_at : List ℕ → ℕ → Fault → (place : List ℕ) → List ℕ
-told_at name number fault place = if is_of_stream fault then codes "bson_lines: " ++ words_of fault
-    else line_head name number ++ codes ": " ++ words_of fault ++ place
-
--- of the one text of a file, or of its line where that is known
-abbrev pub told_in : List ℕ → ℕ → Fault → (place : List ℕ) → List ℕ
-told_in name number fault place =
-    if number == 0 then head_of name ++ codes ": " ++ words_of fault ++ place else told_at name number fault place
+told_at name number fault place = text_head name number ++ codes ": " ++ words_of fault ++ place
 
 -- a fault with its document, or that of a stream alone
 abbrev pub document_words : ℕ → ℕ → RunFault → List ℕ
@@ -106,8 +97,7 @@ IsLineFor (stop.Both name) line =
     line ≡ codes "bson_lines: " ++ shown_name name.now (codes "input") ++ codes " is read and written"
 IsLineFor stop.Terminal line =
     line ≡ codes "bson_lines: BSON bytes are not written to a terminal; give -o FILE, or a pipe"
-IsLineFor (stop.Line name refusal) line = line ≡ told_at name.now refusal.line refusal.fault (string_bytes refusal.place)
-IsLineFor (stop.Text name refusal) line = line ≡ told_in name.now refusal.line refusal.fault (string_bytes refusal.place)
+IsLineFor (stop.Text name number fault place) line = line ≡ told_at name.now number fault (string_bytes place)
 IsLineFor (stop.Document name end) line = line ≡ told_of_document name.now end
 
 -- ---- verdicts

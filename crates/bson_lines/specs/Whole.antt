@@ -1,5 +1,5 @@
 -- What a run over one text does: all bytes of the input, behind a mark, are the text.
-use Rattle.std.specs.Prelude.{◌≡◌, ◌⊎◌, ℕ, List, [], Option, None, Some, drop, length, nat_eq, if◌then◌else◌}
+use Rattle.std.specs.Prelude.{◌≡◌, ◌⊎◌, ℕ, List, [], Option, None, Some, drop, length, nat_eq, if◌then◌else◌, string_bytes}
 use Rattle.std.specs.List.{starts_with}
 use Rattle.std.specs.Io.KnownBytes.{Appends, Keeps}
 use Rattle.bson.specs.declared.extjson.options.Options.{Options}
@@ -8,9 +8,10 @@ use Rattle.bson_run.specs.Encode.{EncodesIn, EncodesInOrder, IsUnencodedIn, IsUn
 use Rattle.bson_run.specs.InOrder.{ConvertsInOrder}
 use Rattle.bson_run.specs.Indent.{mode_of, ConvertsIndented, ConvertsInOrderIndented}
 use Rattle.bson_convert.specs.Run.{ReadsAll}
+use Rattle.bson_run.specs.Place.{IsWhere}
 use Rattle.bson_run.specs.Taken.{IsTakenAs, IsUntaken}
 use Rattle.bson_convert.specs.declared.fault.Fault.{Fault}
-use Rattle.bson_convert.specs.declared.fault.Fault.TheVariants.{CannotRead, OutOfMemory, CannotWrite}
+use Rattle.bson_convert.specs.declared.fault.Fault.TheVariants.{NotJson, OutOfMemory}
 use Rattle.bson_convert.specs.declared.mode.Mode.{Mode}
 use Rattle.bson_convert.specs.declared.mode.Mode.TheVariants.{Canonical, Show}
 use Rattle.bson_run.specs.declared.order.Task.{Task}
@@ -19,6 +20,8 @@ use Rattle.bson_run.specs.declared.order.Task.TheVariants.{Taken}
 use Rattle.bson_run.specs.declared.order.Work.{Work}
 use Rattle.bson_run.specs.declared.order.Work.TheVariants as work
 use Rattle.bson_lines.specs.declared.order.Order.{Order}
+use Rattle.bson_lines.specs.declared.run.Stop.{Stop}
+use Rattle.bson_lines.specs.declared.run.Stop.TheVariants.{Input, Output, Text}
 
 -- ---- what a text gives
 
@@ -95,9 +98,17 @@ pub record WholeUnwritten (order : Order) (mark : List ℕ) (before after : Opti
   pub all : ReadsAll before after bytes
   pub gives : Gives order order.task (behind mark bytes) output
 
--- what each fault says of the bytes
+-- what each fault of a text says of the bytes
 abbrev pub WholeFails : Order → Fault → (mark : List ℕ) → (before after had holds : Option (List ℕ)) → Type 0
-WholeFails order CannotRead mark before after had holds = Keeps had holds
 WholeFails order OutOfMemory mark before after had holds = Keeps had holds
-WholeFails order CannotWrite mark before after had holds = WholeUnwritten order mark before after
 WholeFails order fault mark before after had holds = WholeRefused order fault mark before after had holds
+
+-- what each stop says of the bytes; only what is no JSON has a line
+abbrev pub WholeStops : Order → Stop → (name mark : List ℕ) → (before after had holds : Option (List ℕ)) → Type 0
+WholeStops order (Input it error) name mark before after had holds = (it.now ≡ name) × Keeps had holds
+WholeStops order (Output it error) name mark before after had holds =
+    (it.now ≡ string_bytes order.output) × WholeUnwritten order mark before after
+WholeStops order (Text it number fault place) name mark before after had holds =
+    (it.now ≡ name) × WholeFails order fault mark before after had holds × IsWhere fault (string_bytes place)
+    × ((fault ≡ NotJson) ⊎ (number ≡ 0))
+WholeStops order other name mark before after had holds = ⊥

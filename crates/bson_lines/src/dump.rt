@@ -9,7 +9,7 @@ use crate::streams::{Sink, Source};
 use bson::extjson::Form;
 use bson_codec::de::DEPTH;
 use bson_codec::documents::{DocumentCounts, Line, Run, run_documents};
-use bson_codec::told::{RunEnd, RunFault};
+use bson_codec::run_end::{RunEnd, RunFault};
 use bson_convert::mode::Mode;
 use bson_run::lines::Counts;
 use bson_run::order::{OnRefusal, Task};

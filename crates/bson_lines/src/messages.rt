@@ -1,15 +1,14 @@
 //! The lines on standard error.
 ghost use Rattle.std.specs.Prelude.{◌≡◌, ◌==◌, ◌++◌, IfOk, OnOk, position, string_bytes};
-ghost use Rattle.bson_lines.specs.Messages.{all_under, document_words, escaped_name, head_of, is_of_stream};
+ghost use Rattle.bson_lines.specs.Messages.{all_under, document_words, escaped_name, head_of};
 ghost use Rattle.bson_lines.specs.Messages.{kind_of, line_head, line_len, printable, shown_name, summary_of};
-ghost use Rattle.bson_lines.specs.Messages.{told_at, told_in, told_of_document, under, IsCause, IsLineFor};
+ghost use Rattle.bson_lines.specs.Messages.{text_head, told_at, told_of_document, under, IsCause, IsLineFor};
 
 use crate::order::{Input, STANDARD};
 use crate::run::Stop;
-use bson_codec::told::{RunEnd, RunFault};
+use bson_codec::run_end::{RunEnd, RunFault};
 use bson_convert::fault::Fault;
 use bson_run::lines::Counts;
-use bson_run::refusal::Refusal;
 use std::alloc::{AllocError, Global};
 use std::io::Error;
 
@@ -59,8 +58,7 @@ pub fn line_of(alloc: Global, stop: Stop<'_>) -> Result<String, AllocError>
             format!(in alloc; "bson_lines: {name} is read and written")
         }
         Stop::Terminal => String::from_str(alloc, TERMINAL),
-        Stop::Line(name, refusal) => at_line(alloc, name, refusal),
-        Stop::Text(name, refusal) => at_text(alloc, name, refusal),
+        Stop::Text(name, number, fault, place) => at_text(alloc, name, number, &fault, &place),
         Stop::Document(name, end) => at_document(alloc, name, end),
     }
 }
@@ -88,39 +86,30 @@ fn document_words(alloc: Global, end: RunEnd) -> Result<String, AllocError>
     }
 }
 
-// What stopped the run, at which line and where in it.
-fn at_line(alloc: Global, name: &str, refusal: Refusal) -> Result<String, AllocError>
-    ensures { IfOk result (λ line. string_bytes line
-        ≡ told_at name.now refusal.line refusal.fault (string_bytes refusal.place)) }
+// Why a text was refused, and where in it.
+fn at_text(
+    alloc: Global,
+    name: &str,
+    number: u64,
+    fault: &Fault,
+    place: &str,
+) -> Result<String, AllocError>
+    ensures { IfOk result (λ line. string_bytes line ≡ told_at name.now number fault.now place.now) }
 {
-    let words = refusal.fault.message();
-    if is_of_stream(&refusal.fault) {
-        return format!(in alloc; "bson_lines: {words}");
-    }
-    let head = line_head(alloc, name, refusal.line)?;
-    let place = refusal.place.as_str();
+    let words = fault.message();
+    let head = text_head(alloc, name, number)?;
     format!(in alloc; "{head}: {words}{place}")
 }
 
-// Whether a reader or a writer failed.
-fn is_of_stream(fault: &Fault) -> bool
-    ensures { result ≡ is_of_stream fault.now }
+// What a message begins with: where the text is on a line, with its number.
+fn text_head(alloc: Global, name: &str, number: u64) -> Result<String, AllocError>
+    ensures { IfOk result (λ head. string_bytes head ≡ text_head name.now number) }
 {
-    matches!(fault, Fault::CannotRead | Fault::CannotWrite)
-}
-
-// Why a text on any number of lines was refused, and where; at which line for what is no JSON.
-fn at_text(alloc: Global, name: &str, refusal: Refusal) -> Result<String, AllocError>
-    ensures { IfOk result (λ line. string_bytes line
-        ≡ told_in name.now refusal.line refusal.fault (string_bytes refusal.place)) }
-{
-    if refusal.line > 0 {
-        return at_line(alloc, name, refusal);
+    if number == 0 {
+        head_of(alloc, name)
+    } else {
+        line_head(alloc, name, number)
     }
-    let words = refusal.fault.message();
-    let head = head_of(alloc, name)?;
-    let place = refusal.place.as_str();
-    format!(in alloc; "{head}: {words}{place}")
 }
 
 /// What a message begins with: the file's name, or that of the program.

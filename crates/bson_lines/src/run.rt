@@ -1,5 +1,6 @@
 //! A run over files: what is opened, and what is told where that can't be done.
-ghost use Rattle.std.specs.Prelude.{IfErr, IfOk};
+ghost use Rattle.std.specs.Prelude.{◌≡◌, ◌⊎◌, [], IfErr, IfOk, string_bytes};
+ghost use Rattle.bson_run.specs.Place.{IsWhere};
 ghost use Rattle.bson_lines.specs.Stops.{IsTitle, IsUnread, IsUnwritten};
 
 use crate::dump::run_dump;
@@ -9,10 +10,10 @@ use crate::output::Output;
 use crate::progress::{Counted, Progress, Verdicts};
 use crate::streams::{Sink, Source};
 use crate::whole::convert_whole;
-use bson_codec::told::RunEnd;
+use bson_codec::run_end::RunEnd;
 use bson_convert::fault::Fault;
-use bson_run::lines::{Counts, run_lines_with};
-use bson_run::refusal::Refusal;
+use bson_run::lines::{Counts, LineRun};
+use std::alloc::Global;
 use std::fs;
 use std::fs::{File, Metadata};
 use std::io::{Error, IsTerminal};
@@ -34,16 +35,15 @@ pub enum Stop<'a> {
     Both(&'a str),
     /// Bytes would go to a terminal.
     Terminal,
-    /// At a line of the file.
-    Line(&'a str, Refusal),
-    /// At the one text of the file.
-    Text(&'a str, Refusal),
+    /// At a text of the file that is refused: at the line of this number, or at no line (0), why,
+    /// and where in the text, in words.
+    Text(&'a str, u64, Fault, String),
     /// At a document of the file.
     Document(&'a str, RunEnd),
 }
 
 /// Converts the lines of all files in their order. It stops where a file can't be read or written,
-/// or as `run_lines` does. Nothing is read or written before each file was found to be one that
+/// or as a run over lines does. Nothing is read or written before each file was found to be one that
 /// opens, and none that is written, and no bytes of BSON go to a terminal.
 pub fn run<'a>(rt: &HostRuntime, order: &'a Order) -> Result<Counts, Stop<'a>> {
     if order.writes_bytes() && order.output.as_str() == STANDARD && rt.stdout().is_terminal() {
@@ -126,21 +126,27 @@ fn run_each<'a>(
     sink: &mut Sink,
     report: &mut Verdicts<'_, Stderr>,
 ) -> Result<Counts, Stop<'a>> {
-    match run_lines_with(
-        rt.alloc(),
-        order.options,
-        order.task,
-        order.on_refusal,
-        reader,
-        sink,
-        report,
-    ) {
+    let mut run = LineRun::new(rt.alloc(), order.task, order.on_refusal);
+    run.options = order.options;
+    match run.run(rt.alloc(), reader, sink, report) {
         Ok(counts) => Ok(counts),
-        Err(refusal) => Err(match refusal.fault {
-            Fault::CannotRead => Stop::Input(name, reader.error),
-            Fault::CannotWrite => write_stop(order, sink, report),
-            _ => Stop::Line(name, refusal),
-        }),
+        Err(Fault::CannotRead) => Err(Stop::Input(name, reader.error)),
+        Err(Fault::CannotWrite) => Err(write_stop(order, sink, report)),
+        Err(fault) => {
+            let place = place_in(rt.alloc(), &run, &fault);
+            Err(Stop::Text(name, run.number(), fault, place))
+        }
+    }
+}
+
+// Where the fault lies in the line at which the run stopped; nothing where memory is wanting for
+// the words.
+fn place_in(alloc: Global, run: &LineRun, fault: &Fault) -> String
+    ensures { IsWhere fault.now (string_bytes result) ⊎ (string_bytes result ≡ []) }
+{
+    match run.place(alloc, fault) {
+        Ok(place) => place,
+        Err(_) => String::new(alloc),
     }
 }
 
@@ -167,16 +173,14 @@ fn run_text<'a>(
     } else {
         BYTE_ORDER_MARK
     };
-    match convert_whole(rt.alloc(), order, mark, reader, sink) {
+    match convert_whole(rt.alloc(), order, name, mark, reader, sink) {
         Ok(()) => Ok(Counts {
             lines: 1,
             refused: 0,
         }),
-        Err(refusal) => match refusal.fault {
-            Fault::CannotRead => Err(Stop::Input(name, reader.error)),
-            Fault::CannotWrite => Err(Stop::Output(order.output.as_str(), sink.error)),
-            _ => Err(Stop::Text(name, refusal)),
-        },
+        Err(Stop::Input(name, _)) => Err(Stop::Input(name, reader.error)),
+        Err(Stop::Output(name, _)) => Err(Stop::Output(name, sink.error)),
+        Err(stop) => Err(stop),
     }
 }
 

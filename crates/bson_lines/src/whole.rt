@@ -1,12 +1,13 @@
 //! A run over one text, on any number of lines.
-ghost use Rattle.std.specs.Prelude.{◌≡◌, ◌≢◌, ◌⊎◌, [], IfOk, IfErr, IfSome, None, OnOk, string_bytes};
+ghost use Rattle.std.specs.Prelude.{◌≡◌, ◌≢◌, ◌⊎◌, IfOk, IfErr, IfSome, None, OnOk, string_bytes};
 ghost use Rattle.bson_convert.specs.Convert.{IsRefusedIn};
 ghost use Rattle.bson_run.specs.Indent.{mode_of};
 ghost use Rattle.bson_run.specs.Place.{IsWhere};
 ghost use Rattle.bson_lines.specs.Whole.{behind, Checks, Gives, IsUngiven, Lays, LaysInOrder, WholeDone};
-ghost use Rattle.bson_lines.specs.Whole.{WholeFails, Works};
+ghost use Rattle.bson_lines.specs.Whole.{WholeStops, Works};
 
 use crate::order::Order;
+use crate::run::Stop;
 use bson::extjson::Form;
 use bson_convert::convert::convert_with;
 use bson_convert::fault::Fault;
@@ -17,39 +18,42 @@ use bson_run::explain::explain;
 use bson_run::in_order::convert_in_order;
 use bson_run::indented::{convert_in_order_indented, convert_indented};
 use bson_run::order::{Task, Work};
-use bson_run::refusal::Refusal;
-use bson_run::stop::Stop;
+use bson_run::stop;
 use bson_run::taken::take_as;
 use std::alloc::{AllocError, Global};
 use std::io::{Read, Write};
 
-/// Converts the one text that the reader has behind this mark, or without it. A refusal has the
-/// line of what is no JSON, and no line (0) for any other fault.
-pub fn convert_whole<R: Read, W: Write>(
+/// Converts the one text of the file of this name, which the reader has behind this mark, or
+/// without it. Where it is refused, the stop has the line of what is no JSON, and no line (0) for
+/// any other fault; the cause of a failed reader or writer is its own to tell.
+pub fn convert_whole<'a, R: Read, W: Write>(
     alloc: Global,
-    order: &Order,
+    order: &'a Order,
+    name: &'a str,
     mark: &[u8],
     reader: &mut R,
     writer: &mut W,
-) -> Result<(), Refusal>
+) -> Result<(), Stop<'a>>
     ensures done { OnOk result (WholeDone order.now mark.now (R.remaining reader.old) (R.remaining reader.new)
         (W.contents writer.old) (W.contents writer.new)) }
-    ensures fails { IfErr result (λ e. WholeFails order.now e.fault mark.now (R.remaining reader.old)
+    ensures stops { IfErr result (λ stop. WholeStops order.now stop name.now mark.now (R.remaining reader.old)
         (R.remaining reader.new) (W.contents writer.old) (W.contents writer.new)) }
-    ensures place { IfErr result (λ e. IsWhere e.fault (string_bytes e.place)) }
-    ensures line { IfErr result (λ e. (e.fault ≡ Fault.NotJson) ⊎ (e.line ≡ 0)) }
 {
     let bytes = match read_whole(alloc, reader) {
         Ok(bytes) => bytes,
-        Err(fault) => return Err(bare_refusal(alloc, fault)),
+        Err(Fault::CannotRead) => return Err(Stop::Input(name, None)),
+        Err(_) => return Err(Stop::Text(name, 0, Fault::OutOfMemory, String::new(alloc))),
     };
     let text = strip_mark(mark, &bytes);
     match run_task(alloc, order, text) {
         Ok(output) => match writer.write_all(&output) {
             Ok(()) => Ok(()),
-            Err(_) => Err(bare_refusal(alloc, Fault::CannotWrite)),
+            Err(_) => Err(Stop::Output(order.output.as_str(), None)),
         },
-        Err(fault) => Err(refusal_of(alloc, fault, text)),
+        Err(fault) => {
+            let (line, fault, place) = refusal_of(alloc, fault, text);
+            Err(Stop::Text(name, line, fault, place))
+        }
     }
 }
 
@@ -141,38 +145,25 @@ fn layout(order: &Order, mode: Mode) -> Option<(Form, usize)>
     }
 }
 
-// Why the text was refused, and where.
-fn refusal_of(alloc: Global, fault: Fault, bytes: &[u8]) -> Refusal
-    ensures fault { (result.fault ≡ fault) ⊎ (result.fault ≡ Fault.OutOfMemory) }
-    ensures place { IsWhere result.fault (string_bytes result.place) }
-    ensures line { (result.fault ≡ Fault.NotJson) ⊎ (result.line ≡ 0) }
+// At which line the text was refused, why, and where.
+fn refusal_of(alloc: Global, fault: Fault, text: &[u8]) -> (u64, Fault, String)
+    ensures fault { (result.1 ≡ fault) ⊎ (result.1 ≡ Fault.OutOfMemory) }
+    ensures place { IsWhere result.1 (string_bytes result.2) }
+    ensures line { (result.1 ≡ Fault.NotJson) ⊎ (result.0 ≡ 0) }
 {
-    match place_of(alloc, &fault, bytes) {
-        Ok((line, place)) => Refusal { line, fault, place },
-        Err(_) => bare_refusal(alloc, Fault::OutOfMemory),
+    match place_of(alloc, &fault, text) {
+        Ok((line, place)) => (line, fault, place),
+        Err(_) => (0, Fault::OutOfMemory, String::new(alloc)),
     }
 }
 
-// A fault that no text has.
-fn bare_refusal(alloc: Global, fault: Fault) -> Refusal
-    ensures fault { result.fault ≡ fault }
-    ensures line { result.line ≡ 0 }
-    ensures place { string_bytes result.place ≡ [] }
-{
-    Refusal {
-        line: 0,
-        fault,
-        place: String::new(alloc),
-    }
-}
-
-fn place_of(alloc: Global, fault: &Fault, bytes: &[u8]) -> Result<(u64, String), AllocError>
+fn place_of(alloc: Global, fault: &Fault, text: &[u8]) -> Result<(u64, String), AllocError>
     ensures line { IfOk result (λ at. (fault.now ≡ Fault.NotJson) ⊎ (at.0 ≡ 0)) }
     ensures place { IfOk result (λ at. IsWhere fault.now (string_bytes at.1)) }
 {
     let line = match fault {
-        Fault::NotJson => Stop::of(alloc, bytes)?.line(bytes) as u64,
+        Fault::NotJson => stop::Stop::of(alloc, text)?.line(text) as u64,
         _ => 0,
     };
-    Ok((line, explain(alloc, fault, bytes)?))
+    Ok((line, explain(alloc, fault, text)?))
 }

@@ -10,7 +10,6 @@ use bson_bytes::put::{put_end, put_length, put_name, put_room, put_text};
 use bson_filter::distinct::are_distinct;
 use bson_filter::writer::ValueWriter;
 use bson_scalar::scalar::Scalar;
-use bson_tokens::unread::Unread;
 use bson_types::spec::ElementType;
 use itoa::Buffer;
 
@@ -41,22 +40,21 @@ impl ValueWriter for ElementWriter {
 
     ghost coded = { λ old k s begun new. CodeUnder k s begun old.bytes.items new.bytes.items };
 
-    fn string(&mut self, name: &str, text: &str) -> Result<(), Unread> {
+    fn string(&mut self, name: &str, text: &str) -> Result<(), json::Error> {
         put_name(&mut self.bytes, ElementType::String, name)?;
         put_text(&mut self.bytes, text).map_err(refused)
     }
 
-    fn boolean(&mut self, name: &str, truth: bool) -> Result<(), Unread> {
+    fn boolean(&mut self, name: &str, truth: bool) -> Result<(), json::Error> {
         put_name(&mut self.bytes, ElementType::Boolean, name)?;
-        self.bytes.push(u8::from(truth))?;
-        Ok(())
+        Ok(self.bytes.extend_from_slice(&[u8::from(truth)])?)
     }
 
-    fn null(&mut self, name: &str) -> Result<(), Unread> {
+    fn null(&mut self, name: &str) -> Result<(), json::Error> {
         Ok(put_name(&mut self.bytes, ElementType::Null, name)?)
     }
 
-    fn scalar(&mut self, name: &str, value: Scalar) -> Result<(), Unread> {
+    fn scalar(&mut self, name: &str, value: Scalar) -> Result<(), json::Error> {
         put_name(&mut self.bytes, type_of(&value), name)?;
         put_scalar(&mut self.bytes, &value).map_err(refused)
     }
@@ -65,55 +63,55 @@ impl ValueWriter for ElementWriter {
         buffer.format(place)
     }
 
-    fn begin_array(&mut self, name: &str) -> Result<usize, Unread> {
+    fn begin_array(&mut self, name: &str) -> Result<usize, json::Error> {
         put_name(&mut self.bytes, ElementType::Array, name)?;
         self.begin()
     }
 
-    fn end_array(&mut self, start: usize) -> Result<(), Unread> {
+    fn end_array(&mut self, start: usize) -> Result<(), json::Error> {
         put_end(&mut self.bytes, start).map_err(refused)
     }
 
-    fn embed(&mut self, name: &str) -> Result<(), Unread> {
+    fn embed(&mut self, name: &str) -> Result<(), json::Error> {
         Ok(put_name(&mut self.bytes, ElementType::EmbeddedDocument, name)?)
     }
 
-    fn begin(&mut self) -> Result<usize, Unread> {
+    fn begin(&mut self) -> Result<usize, json::Error> {
         let start = self.bytes.len();
         put_room(&mut self.bytes)?;
         Ok(start)
     }
 
-    fn key(&mut self, name: &str) -> Result<(), Unread> {
+    fn key(&mut self, name: &str) -> Result<(), json::Error> {
         if !is_free(name.as_bytes()) {
-            return Err(Unread::Refused);
+            return Err(json::Error::Invalid);
         }
         Ok(())
     }
 
-    fn end(&mut self, start: usize, keys: &mut [&str]) -> Result<(), Unread> {
+    fn end(&mut self, start: usize, keys: &mut [&str]) -> Result<(), json::Error> {
         if !are_distinct(*self.bytes.allocator(), keys) {
-            return Err(Unread::Refused);
+            return Err(json::Error::Invalid);
         }
         put_end(&mut self.bytes, start).map_err(refused)
     }
 
-    fn begin_code(&mut self, name: &str, code: &str) -> Result<usize, Unread> {
+    fn begin_code(&mut self, name: &str, code: &str) -> Result<usize, json::Error> {
         put_name(&mut self.bytes, ElementType::JavaScriptCodeWithScope, name)?;
         let start = self.begin()?;
         put_text(&mut self.bytes, code).map_err(refused)?;
         Ok(start)
     }
 
-    fn end_code(&mut self, start: usize) -> Result<(), Unread> {
+    fn end_code(&mut self, start: usize) -> Result<(), json::Error> {
         put_length(&mut self.bytes, start).map_err(refused)
     }
 }
 
 // A text whose document has no bytes is read whole.
-fn refused(error: Error) -> Unread {
+fn refused(error: Error) -> json::Error {
     match error {
-        Error::OutOfMemory => Unread::OutOfMemory,
-        _ => Unread::Refused,
+        Error::OutOfMemory => json::Error::OutOfMemory,
+        _ => json::Error::Invalid,
     }
 }

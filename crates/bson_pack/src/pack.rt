@@ -8,8 +8,7 @@ use bson_distinct::arrangement::Arrangement;
 use bson_filter::ahead::Ahead;
 use bson_filter::walk::write_document;
 use bson_scalar::form::Doubles;
-use bson_tokens::unread::Unread;
-use json::{Reader, Scratch, Token};
+use json::{Error, Reader, Scratch, Token};
 use std::alloc::Global;
 
 // How deep arrays and objects may nest inside the document.
@@ -19,33 +18,33 @@ const MAX_DEPTH: usize = 126;
 /// every depth, and of a key that stands twice the last value at the first place: they are written
 /// as the text is read, with no value in memory.
 ///
-/// `Refused` says nothing of the text: it is to be read whole. It comes where the text is no JSON
+/// `Invalid` says nothing of the text: it is to be read whole. It comes where the text is no JSON
 /// text of at most 127 levels, means no document, or has a part that has no bytes.
-pub fn pack_text(alloc: Global, doubles: Doubles, text: &str) -> Result<Vec<u8>, Unread>
+pub fn pack_text(alloc: Global, doubles: Doubles, text: &str) -> Result<Vec<u8>, Error>
     ensures ok { IfOk result (λ out. IsPackedText doubles text.now out.items) }
 {
     match write_packed(alloc, doubles, text) {
-        Err(Unread::Refused) => pack_arranged(alloc, doubles, text),
+        Err(Error::Invalid) => pack_arranged(alloc, doubles, text),
         packed => packed,
     }
 }
 
 // A text that was left, packed from the text in which each object has each key once.
-fn pack_arranged(alloc: Global, doubles: Doubles, text: &str) -> Result<Vec<u8>, Unread>
+fn pack_arranged(alloc: Global, doubles: Doubles, text: &str) -> Result<Vec<u8>, Error>
     ensures ok { IfOk result (λ out. IsPackedText doubles text.now out.items) }
 {
     let arranged = arrange_text(alloc, Arrangement::FirstPlaces, text)?;
     write_packed(alloc, doubles, arranged.as_str())
 }
 
-// Refused is also a text with a key twice in an object.
-fn write_packed(alloc: Global, doubles: Doubles, text: &str) -> Result<Vec<u8>, Unread>
+// Invalid is also a text with a key twice in an object.
+fn write_packed(alloc: Global, doubles: Doubles, text: &str) -> Result<Vec<u8>, Error>
     ensures ok { IfOk result (λ out. IsPackedText doubles text.now out.items) }
 {
     let mut scratch = Scratch::new(alloc);
     let mut reader = Reader::new(text, &mut scratch)?;
     let Some(Token::BeginObject) = reader.next() else {
-        return Err(Unread::Refused);
+        return Err(Error::Invalid);
     };
     let first = reader.next_key()?;
     let mut writer = ElementWriter {
@@ -64,7 +63,7 @@ fn write_packed(alloc: Global, doubles: Doubles, text: &str) -> Result<Vec<u8>, 
         &mut writer,
     )?;
     if reader.next().is_some() {
-        return Err(Unread::Refused);
+        return Err(Error::Invalid);
     }
     Ok(writer.bytes)
 }

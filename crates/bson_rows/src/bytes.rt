@@ -9,9 +9,9 @@ use bson_codec::de::{
     DEPTH, DuplicateKeys, ReadOptions, Result as Read, is_canonical, is_document,
 };
 use bson_codec::documents::{Line, Run, run_documents};
+use bson_codec::run_end::RunFault;
 use bson_codec::ser::Result as Written;
 use bson_codec::stream::{from_reader, to_writer};
-use bson_codec::told::RunFault;
 use bson_codec::{from_slice, from_slice_with, front, front_with, to_vec};
 use std::alloc::Global;
 

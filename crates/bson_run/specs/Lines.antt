@@ -1,6 +1,6 @@
 -- What a run over lines does: each line of the input is a text of its own.
 use Rattle.std.specs.Prelude.{◌≡◌, ◌≢◌, ◌⊎◌, ◌+◌, ◌==◌, ◌&&◌, ℕ, List, [], ◌∷◌, ◌++◌, Option, None, Some, length, drop}
-use Rattle.std.specs.Prelude.{codes, All, if◌then◌else◌}
+use Rattle.std.specs.Prelude.{codes, All, if◌then◌else◌, min, ◌-◌, ◌^◌}
 use Rattle.std.specs.Fmt.{decimal}
 use Rattle.std.specs.List.{starts_with}
 use Rattle.std.specs.Io.KnownBytes.{Appends, Consumes}
@@ -17,6 +17,7 @@ use Rattle.bson_convert.specs.declared.fault.Fault.TheVariants.{CannotRead, NotJ
 use Rattle.bson_convert.specs.declared.fault.Fault.TheVariants.{CannotWrite}
 use Rattle.bson_convert.specs.declared.mode.Mode.TheVariants.{Canonical}
 use Rattle.bson_convert.specs.declared.no_bytes.NoBytes as without
+use Rattle.bson_run.specs.declared.lines.LineRun.{LineRun}
 use Rattle.bson_run.specs.declared.order.OnRefusal.{OnRefusal}
 use Rattle.bson_run.specs.declared.order.OnRefusal.TheVariants.{Stop}
 use Rattle.bson_run.specs.declared.order.Task.{Task}
@@ -222,19 +223,11 @@ FailsAtIn o CannotWrite task on_refusal before after had holds told tells number
 FailsAtIn o fault task on_refusal before after had holds told tells number =
     StopsAtIn o (IsStoppedAtIn o task on_refusal fault) task on_refusal before after had holds told tells number
 
--- ---- where no options are given
+-- the number of the line at which a run is: the first that was not done
+abbrev pub number_of : LineRun → ℕ
+number_of run = min (run.gathered.lines + 1) (2 ^ 64 - 1)
 
-abbrev pub Writes : Task → List ℕ → List ℕ → Type 0
-Writes = WritesIn default_options
+-- ---- where no options are given
 
 abbrev pub IsBadText : Fault → List ℕ → Type 0
 IsBadText = IsBadTextIn default_options
-
-abbrev pub Outcomes : Task → OnRefusal → List (List ℕ) → List ℕ → List ℕ → ℕ → Type 0
-Outcomes = OutcomesIn default_options
-
-abbrev pub DoneLines : Task → OnRefusal → (before after had holds told tells : Option (List ℕ)) → ℕ → ℕ → Type 0
-DoneLines = DoneLinesIn default_options
-
-abbrev pub FailsAt : Fault → Task → OnRefusal → (before after had holds told tells : Option (List ℕ)) → ℕ → Type 0
-FailsAt = FailsAtIn default_options

@@ -20,7 +20,6 @@ use bson_convert::convert::fault_of;
 use bson_convert::fault::Fault;
 use bson_convert::no_bytes::NoBytes;
 use bson_pack::pack::pack_text;
-use bson_tokens::unread::Unread;
 use std::alloc::Global;
 
 /// The canonical bytes of the document that the text means, its keys in ascending order at every
@@ -84,8 +83,8 @@ fn pack_document(alloc: Global, options: Options, bytes: &[u8]) -> Result<Option
     };
     match pack_text(alloc, options.doubles, text) {
         Ok(document) => Ok(Some(document)),
-        Err(Unread::Refused) => Ok(None),
-        Err(Unread::OutOfMemory) => Err(Fault::OutOfMemory),
+        Err(json::Error::Invalid) => Ok(None),
+        Err(_) => Err(Fault::OutOfMemory),
     }
 }
 

@@ -7,9 +7,9 @@ ghost use Rattle.bson_run.specs.Place.{IsPlaced, IsPlacedIn, IsQuote, IsReasonIn
 ghost use Rattle.bson_convert.specs.declared.fault.Fault.TheVariants.{NotExtendedJson, NotJson};
 
 use crate::quoted::quote;
+use crate::shorten::shorten;
 use crate::stop::Stop;
 use crate::taken::DOUBLE_KEY;
-use crate::told::shorten;
 use bson_convert::fault::Fault;
 use bson_place::place::{Place, Reason, Segment};
 use std::alloc::{AllocError, Global};

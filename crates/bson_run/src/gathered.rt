@@ -18,7 +18,6 @@ use crate::encode::{encode_in_order, encode_with};
 use crate::explain::explain;
 use crate::in_order::convert_in_order;
 use crate::order::{OnRefusal, Taking, Task, Work};
-use crate::refusal::Refusal;
 use crate::taken::take_as;
 use bson::extjson::Options;
 use bson_convert::convert::convert_with;
@@ -133,17 +132,8 @@ fn work_on(alloc: Global, options: Options, work: Work, text: &[u8]) -> Result<V
     }
 }
 
-// What is told of a line that is refused.
-fn verdict(alloc: Global, number: u64, fault: &Fault, text: &[u8]) -> Result<String, AllocError>
-    ensures { (options : Options) (task : Task) → IfOk result (λ told. IsBadLineIn options task fault.now text.now
-        → Tells number fault.now (string_bytes told)) }
-{
-    let place = explain(alloc, fault, text)?;
-    at_place(alloc, number, fault, &place)
-}
-
-// The number of the line, the words for the fault, and its place.
-fn at_place(alloc: Global, number: u64, fault: &Fault, place: &str) -> Result<String, AllocError>
+// What is told of a line that is refused: its number, the words for the fault, and its place.
+fn verdict(alloc: Global, number: u64, fault: &Fault, place: &str) -> Result<String, AllocError>
     ensures { IfOk result (λ told. string_bytes told ≡ told_at number fault.now place.now) }
 {
     let words = fault.message();
@@ -177,22 +167,11 @@ impl Gathered {
         }
     }
 
-    /// The refusal of the line that is being gathered.
-    pub fn refusal(&self, alloc: Global, fault: Fault) -> Refusal
-        requires { HasRoom self.now }
-        ensures line { result.line ≡ self.now.lines + 1 }
-        ensures fault { result.fault ≡ fault }
-        ensures place { IsWhere fault (string_bytes result.place) ⊎ (string_bytes result.place ≡ []) }
+    /// Where the fault of the line that is being gathered lies, in the words of `explain`.
+    pub fn place(&self, alloc: Global, fault: &Fault) -> Result<String, AllocError>
+        ensures { IfOk result (λ place. IsWhere fault.now (string_bytes place)) }
     {
-        let place = match explain(alloc, &fault, text(self.lines, &self.line)) {
-            Ok(place) => place,
-            Err(_) => String::new(alloc),
-        };
-        Refusal {
-            line: self.lines + 1,
-            fault,
-            place,
-        }
+        explain(alloc, fault, text(self.lines, &self.line))
     }
 
     // Adds a piece of the line.
@@ -276,8 +255,8 @@ impl Gathered {
         ensures same { (self.new.line ≡ self.old.line) × (self.new.output ≡ self.old.output)
             × (self.new.lines ≡ self.old.lines) × (self.new.refused ≡ self.old.refused) }
     {
-        let number = self.lines + 1;
-        let verdict = verdict(alloc, number, fault, text(self.lines, &self.line))?;
+        let place = self.place(alloc, fault)?;
+        let verdict = verdict(alloc, self.lines + 1, fault, &place)?;
         self.told.extend_from_slice(verdict.as_bytes())
     }
 

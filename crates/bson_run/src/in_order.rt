@@ -17,7 +17,7 @@ use bson_convert::fault::Fault;
 use bson_convert::mode::Mode;
 use bson_distinct::arrangement::Arrangement;
 use bson_filter::filter::{filter_text, show_text_in_order};
-use bson_tokens::unread::Unread;
+use json::Error;
 use std::alloc::Global;
 
 /// [`convert_with`](bson_convert::convert::convert_with) where each document of the text has its keys in
@@ -112,13 +112,13 @@ fn filter_once(
 {
     match filter(alloc, options, mode, text) {
         Ok(written) => Ok(Some(written)),
-        Err(Unread::Refused) => Ok(None),
-        Err(Unread::OutOfMemory) => Err(Fault::OutOfMemory),
+        Err(Error::Invalid) => Ok(None),
+        Err(_) => Err(Fault::OutOfMemory),
     }
 }
 
 // The text that the mode asks for of the value that the text means in order.
-fn filter(alloc: Global, options: Options, mode: Mode, text: &str) -> Result<Vec<u8>, Unread>
+fn filter(alloc: Global, options: Options, mode: Mode, text: &str) -> Result<Vec<u8>, Error>
     ensures { IfOk result (λ written. IsConvertedTextInOrder options mode text.now written.items) }
 {
     match mode {

@@ -5,11 +5,10 @@
 //! In reading order: `in_order` (bytes to bytes in the order of their keys), `encode` (bytes to the
 //! bytes of their document), `indent` (a text over several lines) and `indented` (bytes to bytes
 //! over several lines), `taken` (what is looked for in a text before it is read). Over lines:
-//! `order` and `refusal` (what is asked, and what is refused), `gathered` (the line that is read,
-//! and what those before it gave) and `lines` (the whole way). Why a text is refused, in words:
-//! `stop` (where bytes stop to be JSON) with `rule` (which of its rules they break, which `broken`
-//! finds), and `explain` with `quoted` (the value that stands at a place) and `told` (words, cut and
-//! escaped).
+//! `order` (what is asked), `gathered` (the line that is read, and what those before it gave) and
+//! `lines` (the whole way). Why a text is refused, in words: `stop` (where bytes stop to be JSON)
+//! with `rule` (which of its rules they break, which `broken` finds), and `explain` with `quoted`
+//! (the value that stands at a place) and `shorten` (words, cut and escaped).
 #![tactic(auto)]
 
 mod broken;
@@ -22,8 +21,7 @@ pub mod indented;
 pub mod lines;
 pub mod order;
 mod quoted;
-pub mod refusal;
 pub mod rule;
+mod shorten;
 pub mod stop;
 pub mod taken;
-mod told;

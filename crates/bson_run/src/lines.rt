@@ -1,20 +1,20 @@
 //! One run over lines: each line of a reader is a text of its own.
-ghost use Rattle.std.specs.Prelude.{◌≡◌, ◌⊎◌, ◌+◌, [], ℕ, List, Option, IfOk, IfErr, OnOk, OnErr};
+ghost use Rattle.std.specs.Prelude.{◌≡◌, ◌+◌, ℕ, List, Option, IfOk, IfErr, OnOk, OnErr};
 ghost use Rattle.std.specs.Prelude.{string_bytes};
 ghost use Rattle.std.specs.Io.KnownBytes.{Appends, Consumes, IsAtEnd};
-ghost use Rattle.bson_run.specs.Lines.{DoneLines, DoneLinesIn, FailsAt, FailsAtIn};
+ghost use Rattle.bson_convert.specs.Convert.{default_options};
+ghost use Rattle.bson_run.specs.Lines.{DoneLinesIn, FailsAtIn, number_of};
 ghost use Rattle.bson_run.specs.LinesSteps.{CannotWriteBoth, HasRoom, HasWritten, IsCountedOut};
 ghost use Rattle.bson_run.specs.LinesSteps.{IsStart, Running};
 ghost use Rattle.bson_run.specs.Place.{IsWhere};
 
 use crate::gathered::{Asked, Gathered};
 use crate::order::{OnRefusal, Task};
-use crate::refusal::Refusal;
 use bson::extjson::Options;
 use bson_convert::convert::default_options;
 use bson_convert::fault::Fault;
 use bson_convert::stream::write_whole;
-use std::alloc::Global;
+use std::alloc::{AllocError, Global};
 use std::io::{Read, Write};
 
 /// As much as a pipe holds.
@@ -25,8 +25,8 @@ const BLOCK: usize = 65536;
 /// ```
 /// let mut lines: &[u8] = b"1\n[\n";
 /// let (mut output, mut told) = (Vec::new(alloc), Vec::new(alloc));
-/// let (task, go_on) = (Task::Check, OnRefusal::KeepGoing);
-/// let counts = run_lines(alloc, task, go_on, &mut lines, &mut output, &mut told);
+/// let mut run = LineRun::new(alloc, Task::Check, OnRefusal::KeepGoing);
+/// let counts = run.run(alloc, &mut lines, &mut output, &mut told);
 /// println!(rt; "{counts:?}")?; // Ok(Counts { lines: 2, refused: 1 })
 /// ```
 #[derive(Clone, Copy, PartialEq, Eq, Debug)]
@@ -37,76 +37,94 @@ pub struct Counts {
     pub refused: u64,
 }
 
-/// Reads lines until the reader has nothing left, each as one JSON text, and writes the output of
-/// each in the order of the lines. A newline ends a line; what stands behind the last newline is a
-/// line too, unless it is empty. Lines of spaces, tabs and carriage returns give nothing, and
-/// count. A byte order mark at the start of the input is passed over.
+/// A run over lines: what is asked of it, and how far it came.
 ///
-/// A line that is refused ends the run, or is told to `report` and left out, as `on_refusal` says.
-/// Where the run stops, the number of the first line that was not done stands beside the fault, and
-/// the words of `explain` for the place of the fault in it, unless memory was wanting for them; all
-/// that the lines before it gave was written, and nothing of the line itself. At `CannotWrite` not
-/// all of it was written: either verdicts are missing, or they were all told and output is. A fault
-/// of the reader or of a writer, Interrupted too, is `CannotRead` or `CannotWrite`, and so is a
-/// write that takes no byte.
-///
-/// Memory is that of the longest line and of a block of 64 KiB with its output. The output of a
-/// block is written before the next is read.
-pub fn run_lines<R: Read, W: Write, T: Write>(
-    alloc: Global,
-    task: Task,
-    on_refusal: OnRefusal,
-    reader: &mut R,
-    writer: &mut W,
-    report: &mut T,
-) -> Result<Counts, Refusal>
-    ensures done { IfOk result
-        (λ counts. DoneLines task on_refusal (R.remaining reader.old) (R.remaining reader.new) (W.contents writer.old)
-        (W.contents writer.new) (T.contents report.old) (T.contents report.new) counts.lines counts.refused) }
-    ensures fails { IfErr result
-        (λ e. FailsAt e.fault task on_refusal (R.remaining reader.old) (R.remaining reader.new) (W.contents writer.old)
-        (W.contents writer.new) (T.contents report.old) (T.contents report.new) e.line) }
-    ensures place { IfErr result (λ e. IsWhere e.fault (string_bytes e.place) ⊎ (string_bytes e.place ≡ [])) }
-{
-    run_lines_with(
-        alloc,
-        default_options(),
-        task,
-        on_refusal,
-        reader,
-        writer,
-        report,
-    )
+/// ```
+/// let mut lines: &[u8] = br#"{"n": 1.5}"#;
+/// let (mut output, mut told) = (Vec::new(alloc), Vec::new(alloc));
+/// let mut run = LineRun::new(alloc, Task::Check, OnRefusal::Stop);
+/// if let Err(fault) = run.run(alloc, &mut lines, &mut output, &mut told) {
+///     let place = run.place(alloc, &fault)?;
+///     println!(rt; "line {}: {}{place}", run.number(), fault.message())?;
+/// }
+/// // line 1: not Extended JSON at n (a number is no whole number of 64 bits; found 1.5)
+/// ```
+#[derive(Drop)]
+pub struct LineRun {
+    /// What a line means, and which values have a text.
+    pub options: Options,
+    /// What is done with each line.
+    pub task: Task,
+    /// What becomes of the run at a line that is refused.
+    pub on_refusal: OnRefusal,
+    pub(crate) gathered: Gathered,
 }
 
-/// [`run_lines`] with options: what a line means, and which values have a text, is as they say.
-pub fn run_lines_with<R: Read, W: Write, T: Write>(
-    alloc: Global,
-    options: Options,
-    task: Task,
-    on_refusal: OnRefusal,
-    reader: &mut R,
-    writer: &mut W,
-    report: &mut T,
-) -> Result<Counts, Refusal>
-    ensures done { IfOk result
-        (λ counts. DoneLinesIn options task on_refusal (R.remaining reader.old) (R.remaining reader.new)
-        (W.contents writer.old) (W.contents writer.new) (T.contents report.old) (T.contents report.new) counts.lines
-        counts.refused) }
-    ensures fails { IfErr result
-        (λ e. FailsAtIn options e.fault task on_refusal (R.remaining reader.old) (R.remaining reader.new)
-        (W.contents writer.old) (W.contents writer.new) (T.contents report.old) (T.contents report.new) e.line) }
-    ensures place { IfErr result (λ e. IsWhere e.fault (string_bytes e.place) ⊎ (string_bytes e.place ≡ [])) }
-{
-    let mut gathered = Gathered::new(alloc);
-    let asked = Asked {
-        options,
-        task,
-        on_refusal,
-    };
-    match run_on(alloc, asked, &mut gathered, reader, writer, report) {
-        Ok(counts) => Ok(counts),
-        Err(fault) => Err(gathered.refusal(alloc, fault)),
+impl LineRun {
+    /// A run that did not begin, with the options by default.
+    pub fn new(alloc: Global, task: Task, on_refusal: OnRefusal) -> LineRun
+        ensures asked { (result.options ≡ default_options) × (result.task ≡ task) × (result.on_refusal ≡ on_refusal) }
+    {
+        LineRun {
+            options: default_options(),
+            task,
+            on_refusal,
+            gathered: Gathered::new(alloc),
+        }
+    }
+
+    /// Reads lines until the reader has nothing left, each as one JSON text, and writes the output
+    /// of each in the order of the lines. A newline ends a line; what stands behind the last
+    /// newline is a line too, unless it is empty. Lines of spaces, tabs and carriage returns give
+    /// nothing, and count. A byte order mark at the start of the input is passed over.
+    ///
+    /// A line that is refused ends the run, or is told to `report` and left out, as `on_refusal`
+    /// says. Where the run stops, `number` is that of the first line that was not done; all that
+    /// the lines before it gave was written, and nothing of the line itself. At `CannotWrite` not
+    /// all of it was written: either verdicts are missing, or they were all told and output is. A
+    /// fault of the reader or of a writer, Interrupted too, is `CannotRead` or `CannotWrite`, and
+    /// so is a write that takes no byte.
+    ///
+    /// Memory is that of the longest line and of a block of 64 KiB with its output. The output of a
+    /// block is written before the next is read.
+    pub fn run<R: Read, W: Write, T: Write>(
+        &mut self,
+        alloc: Global,
+        reader: &mut R,
+        writer: &mut W,
+        report: &mut T,
+    ) -> Result<Counts, Fault>
+        ensures done { IfOk result (λ counts. DoneLinesIn self.old.options self.old.task self.old.on_refusal
+            (R.remaining reader.old) (R.remaining reader.new) (W.contents writer.old) (W.contents writer.new)
+            (T.contents report.old) (T.contents report.new) counts.lines counts.refused) }
+        ensures fails { IfErr result (λ e. FailsAtIn self.old.options e self.old.task self.old.on_refusal
+            (R.remaining reader.old) (R.remaining reader.new) (W.contents writer.old) (W.contents writer.new)
+            (T.contents report.old) (T.contents report.new) (number_of self.new)) }
+        ensures same { (self.new.options ≡ self.old.options) × (self.new.task ≡ self.old.task)
+            × (self.new.on_refusal ≡ self.old.on_refusal) }
+    {
+        let asked = Asked {
+            options: self.options,
+            task: self.task,
+            on_refusal: self.on_refusal,
+        };
+        self.gathered = Gathered::new(alloc);
+        run_on(alloc, asked, &mut self.gathered, reader, writer, report)
+    }
+
+    /// The number of the line at which the run is: the first that was not done. Lines are counted
+    /// from 1, and blank ones count.
+    pub fn number(&self) -> u64
+        ensures { result ≡ number_of self.now }
+    {
+        self.gathered.lines.saturating_add(1)
+    }
+
+    /// Where the fault lies in the line at which the run stopped, in the words of `explain`.
+    pub fn place(&self, alloc: Global, fault: &Fault) -> Result<String, AllocError>
+        ensures { IfOk result (λ place. IsWhere fault.now (string_bytes place)) }
+    {
+        self.gathered.place(alloc, fault)
     }
 }
 

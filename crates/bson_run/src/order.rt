@@ -10,8 +10,8 @@ use bson_convert::mode::Mode;
 /// ```
 /// let mut lines: &[u8] = b"1\n2";
 /// let (mut output, mut told) = (Vec::new(alloc), Vec::new(alloc));
-/// let (task, stop) = (Task::Write(Mode::Canonical), OnRefusal::Stop);
-/// drop(run_lines(alloc, task, stop, &mut lines, &mut output, &mut told));
+/// let mut run = LineRun::new(alloc, Task::Write(Mode::Canonical), OnRefusal::Stop);
+/// drop(run.run(alloc, &mut lines, &mut output, &mut told));
 /// rt.print(str::from_utf8(&output)?)?;
 /// // {"$numberInt":"1"}
 /// // {"$numberInt":"2"}
@@ -38,8 +38,8 @@ pub enum Task {
 /// let mut lines: &[u8] = br#"{"a": 1, "a": 2}"#;
 /// let (mut output, mut told) = (Vec::new(alloc), Vec::new(alloc));
 /// let task = Task::Taken(Taking::Distinct, Work::Check);
-/// let go_on = OnRefusal::KeepGoing;
-/// drop(run_lines(alloc, task, go_on, &mut lines, &mut output, &mut told));
+/// let mut run = LineRun::new(alloc, task, OnRefusal::KeepGoing);
+/// drop(run.run(alloc, &mut lines, &mut output, &mut told));
 /// rt.print(str::from_utf8(&told)?)?;
 /// // bson_lines: line 1: not Extended JSON at a (a key that stands twice in its object)
 /// ```
@@ -58,9 +58,9 @@ pub enum Taking {
 /// ```
 /// let mut lines: &[u8] = br#"{"$type": "00", "$binary": "AQI="}"#;
 /// let (mut output, mut told) = (Vec::new(alloc), Vec::new(alloc));
-/// let work = Work::Write(Mode::Relaxed);
-/// let (task, stop) = (Task::Taken(Taking::Legacy, work), OnRefusal::Stop);
-/// drop(run_lines(alloc, task, stop, &mut lines, &mut output, &mut told));
+/// let task = Task::Taken(Taking::Legacy, Work::Write(Mode::Relaxed));
+/// let mut run = LineRun::new(alloc, task, OnRefusal::Stop);
+/// drop(run.run(alloc, &mut lines, &mut output, &mut told));
 /// rt.print(str::from_utf8(&output)?)?; // {"$binary":{"base64":"AQI=","subType":"00"}}
 /// ```
 #[derive(Clone, Copy, PartialEq, Eq, Debug)]
@@ -94,8 +94,8 @@ impl Task {
 /// ```
 /// let mut lines: &[u8] = b"[\n2";
 /// let (mut output, mut told) = (Vec::new(alloc), Vec::new(alloc));
-/// let (task, go_on) = (Task::Write(Mode::Relaxed), OnRefusal::KeepGoing);
-/// drop(run_lines(alloc, task, go_on, &mut lines, &mut output, &mut told));
+/// let mut run = LineRun::new(alloc, Task::Write(Mode::Relaxed), OnRefusal::KeepGoing);
+/// drop(run.run(alloc, &mut lines, &mut output, &mut told));
 /// rt.print(str::from_utf8(&told)?)?; // bson_lines: line 1: not JSON at column 1 (the text ends before its value is whole)
 /// rt.print(str::from_utf8(&output)?)?; // 2
 /// ```

@@ -3,7 +3,7 @@ ghost use Rattle.std.specs.Prelude.{◌≡◌, IfOk, IfSome, string_bytes};
 ghost use Rattle.bson_run.specs.Place.{IsPart, IsQuote, found_as};
 
 use crate::broken::MAX_DEPTH;
-use crate::told::shorten;
+use crate::shorten::shorten;
 use bson_place::place::Segment;
 use json::{Invalid, Reader, Scratch, Token};
 use std::alloc::{AllocError, Global};

@@ -8,7 +8,7 @@ use bson_convert::fault::Fault;
 use bson_distinct::walk::first_double_key;
 use bson_legacy::modern::modern_text;
 use bson_place::place::{Place, Reason};
-use bson_tokens::unread::Unread;
+use json::Error;
 use std::alloc::Global;
 
 /// What is told of a key that stands twice.
@@ -54,12 +54,12 @@ fn refuse_double_keys(alloc: Global, bytes: &[u8]) -> Result<(), Fault>
         return Ok(());
     };
     match first_double_key(alloc, text) {
-        Ok(None) | Err(Unread::Refused) => Ok(()),
+        Ok(None) | Err(Error::Invalid) => Ok(()),
         Ok(Some(segments)) => {
             let reason = Reason::WrongShape(DOUBLE_KEY);
             Err(Fault::NotExtendedJson(Place { reason, segments }))
         }
-        Err(Unread::OutOfMemory) => Err(Fault::OutOfMemory),
+        Err(_) => Err(Fault::OutOfMemory),
     }
 }
 
@@ -73,7 +73,7 @@ fn modernize(alloc: Global, bytes: &[u8]) -> Result<Option<String>, Fault>
     };
     match modern_text(alloc, text) {
         Ok(text) => Ok(Some(text)),
-        Err(Unread::Refused) => Ok(None),
-        Err(Unread::OutOfMemory) => Err(Fault::OutOfMemory),
+        Err(Error::Invalid) => Ok(None),
+        Err(_) => Err(Fault::OutOfMemory),
     }
 }

@@ -8,7 +8,7 @@ use bson_convert::fault::Fault;
 use bson_convert::mode::Mode;
 use bson_convert::run::run;
 use bson_run::in_order::convert_in_order;
-use bson_run::lines::run_lines;
+use bson_run::lines::LineRun;
 use bson_run::order::{OnRefusal, Task};
 use std::alloc::{AllocError, Global};
 
@@ -99,7 +99,7 @@ fn converted(
     }
 }
 
-/// The answer of `run_lines`: `LINES REFUSED`, or the line where it stopped and the words for its
+/// The answer of a run over lines: `LINES REFUSED`, or the line where it stopped and the words for its
 /// fault.
 fn by_lines(
     alloc: Global,
@@ -108,9 +108,10 @@ fn by_lines(
     ends: &mut Ends<'_>,
 ) -> Result<String, AllocError> {
     let (reader, writer, report) = (&mut ends.reader, &mut ends.writer, &mut ends.report);
-    match run_lines(alloc, task, on_refusal, reader, writer, report) {
+    let mut run = LineRun::new(alloc, task, on_refusal);
+    match run.run(alloc, reader, writer, report) {
         Ok(counts) => format!(in alloc; "{} {}", counts.lines, counts.refused),
-        Err(stopped) => format!(in alloc; "line {}: {}", stopped.line, stopped.fault.message()),
+        Err(fault) => format!(in alloc; "line {}: {}", run.number(), fault.message()),
     }
 }
 

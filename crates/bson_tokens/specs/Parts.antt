@@ -4,12 +4,12 @@ use Rattle.json.specs.Token.{Token}
 use Rattle.json.specs.Json.{read_key, members, value}
 use Rattle.serde_json.specs.Data.{Data, Members, put}
 use Rattle.serde_json.specs.Read.{of_members, converted}
-use Rattle.bson_tokens.specs.declared.unread.Unread.{Unread}
-use Rattle.bson_tokens.specs.declared.unread.Unread.TheVariants.{Refused}
+use Rattle.json.specs.declared.error.Error.{Error}
+use Rattle.json.specs.declared.error.Error.TheVariants.{Invalid}
 
 -- no tree was read, unless memory ran out
-abbrev pub IsBroken : {X : Type 0} → Option X → Unread → Type 0
-IsBroken tree e = e ≡ Refused → tree ≡ None
+abbrev pub IsBroken : {X : Type 0} → Option X → Error → Type 0
+IsBroken tree e = e ≡ Invalid → tree ≡ None
 
 -- a tree was read, and put at the key among the members
 abbrev pub IsEntered : Option (Data × List Token) → List ℕ → Members → Members → List Token → Type 0

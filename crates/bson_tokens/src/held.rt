@@ -6,11 +6,10 @@ ghost use Rattle.serde_json.specs.Read.{of_json, of_items, of_members, converted
 ghost use Rattle.serde_json.specs.View.{view, members_view};
 ghost use Rattle.bson_tokens.specs.Held.{IsHeldAs, IsPruned, ArePassed, AreKept, entered, kept_of, or_empty};
 ghost use Rattle.bson_tokens.specs.Parts.{IsBroken, NoMembers};
-ghost use Rattle.bson_tokens.specs.declared.unread.Unread.TheVariants.{Refused};
+ghost use Rattle.json.specs.declared.error.Error.TheVariants.{Invalid};
 
 use crate::start::{Start, primitive_value, read_start};
-use crate::unread::Unread;
-use json::Reader;
+use json::{Error, Reader};
 use serde_json::{Map, Value};
 use std::alloc::{AllocError, Global};
 
@@ -23,7 +22,7 @@ const MAX_KEYS: usize = 2;
 /// A tree that each wrapper reads as it would read the value that stands next, nested at most
 /// `depth` deep. Elements of arrays, members of objects that have more keys than any wrapper reads,
 /// and those of objects that lie deeper, are passed over.
-pub fn read_held(alloc: Global, reader: &mut Reader<'_>, depth: usize) -> Result<Value, Unread>
+pub fn read_held(alloc: Global, reader: &mut Reader<'_>, depth: usize) -> Result<Value, Error>
     ensures ok { IfOk result
         (λ held. IsHeldAs (converted of_json (value depth reader.old)) (view held) reader.new) }
     ensures broken { IfErr result (IsBroken (converted of_json (value depth reader.old))) }
@@ -38,7 +37,7 @@ fn held_value(
     reader: &mut Reader<'_>,
     depth: usize,
     levels: usize,
-) -> Result<Value, Unread>
+) -> Result<Value, Error>
     ensures ok { IfOk result
         (λ held. IsPruned levels (converted of_json (value depth reader.old)) (view held) reader.new) }
     ensures broken { IfErr result (IsBroken (converted of_json (value depth reader.old))) }
@@ -57,7 +56,7 @@ fn held_value(
 
 /// Passes over the elements of an array whose bracket was read, each nested at most `depth` deep.
 #[cycle(held)]
-pub fn pass_items(alloc: Global, reader: &mut Reader<'_>, depth: usize) -> Result<(), Unread>
+pub fn pass_items(alloc: Global, reader: &mut Reader<'_>, depth: usize) -> Result<(), Error>
     ensures ok { OnOk result
         (ArePassed (converted of_items (items (value depth) (length reader.old) reader.old)) reader.new) }
     ensures broken { IfErr result
@@ -77,12 +76,12 @@ fn held_members(
     reader: &mut Reader<'_>,
     depth: usize,
     levels: usize,
-) -> Result<Map<String, Value>, Unread>
+) -> Result<Map<String, Value>, Error>
     ensures ok { IfOk result
         (λ m. AreKept levels
         (converted (λ js. of_members js no_members) (members (value depth) (length reader.old) reader.old))
         (members_view m.entries) reader.new) }
-    ensures broken { IfErr result (λ e. e ≡ Refused → NoMembers depth reader.old) }
+    ensures broken { IfErr result (λ e. e ≡ Invalid → NoMembers depth reader.old) }
     ensures shorter { OnOk result (length reader.new < length reader.old) }
 {
     let mut found = first_members(alloc, levels);

@@ -3,8 +3,7 @@
 //!
 //! In reading order: `walk` (how it is found), `faults` (the faulty members of an object), `held`
 //! (what stands in a wrapper, as far as wrappers read it), `tree` (trees of parts of a text),
-//! `start` (how a value starts), `number` (the number of a token), `prefix` (the first bytes of keys),
-//! `unread` (why a text has no tree).
+//! `start` (how a value starts), `number` (the number of a token), `prefix` (the first bytes of keys).
 #![tactic(auto)]
 
 mod faults;
@@ -13,5 +12,4 @@ pub mod number;
 pub mod prefix;
 pub mod start;
 pub mod tree;
-pub mod unread;
 pub mod walk;

@@ -7,8 +7,7 @@ ghost use Rattle.bson_tokens.specs.Parts.{IsBroken};
 ghost use Rattle.bson_tokens.specs.Start.{Starts, primitive_tree};
 
 use crate::number::number;
-use crate::unread::Unread;
-use json::{Reader, Token};
+use json::{Error, Reader, Token};
 use serde_json::{Number, Value};
 use std::alloc::{AllocError, Global};
 
@@ -33,32 +32,32 @@ pub enum Start<'a> {
 }
 
 /// How the value starts that stands next, nested at most `depth` deep: its first token is taken.
-/// `Refused` is answered where no such value starts there.
+/// `Invalid` is answered where no such value starts there.
 #[inline(always)]
-pub fn read_start<'a>(reader: &mut Reader<'a>, depth: usize) -> Result<Start<'a>, Unread>
+pub fn read_start<'a>(reader: &mut Reader<'a>, depth: usize) -> Result<Start<'a>, Error>
     ensures ok { IfOk result (λ start. Starts depth reader.old start reader.new) }
     ensures broken { IfErr result (IsBroken (converted of_json (value depth reader.old))) }
     ensures shorter { OnOk result (length reader.new < length reader.old) }
 {
-    let token = reader.next().ok_or(Unread::Refused)?;
+    let token = reader.next().ok_or(Error::Invalid)?;
     match token {
         Token::String(text) => Ok(Start::Primitive(Primitive::String(text))),
         Token::Number(text) => match number(text) {
             Some(n) => Ok(Start::Primitive(Primitive::Number(n))),
-            None => Err(Unread::Refused),
+            None => Err(Error::Invalid),
         },
         Token::Bool(b) => Ok(Start::Primitive(Primitive::Bool(b))),
         Token::Null => Ok(Start::Primitive(Primitive::Null)),
-        Token::EndObject | Token::EndArray | Token::Key(_) | Token::Bad => Err(Unread::Refused),
+        Token::EndObject | Token::EndArray | Token::Key(_) | Token::Bad => Err(Error::Invalid),
         Token::BeginArray => {
             if depth == 0 {
-                return Err(Unread::Refused);
+                return Err(Error::Invalid);
             }
             Ok(Start::Array)
         }
         Token::BeginObject => {
             if depth == 0 {
-                return Err(Unread::Refused);
+                return Err(Error::Invalid);
             }
             Ok(Start::Object)
         }

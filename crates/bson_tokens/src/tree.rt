@@ -4,17 +4,16 @@ ghost use Rattle.json.specs.Json.{value, items};
 ghost use Rattle.serde_json.specs.Read.{of_json, of_items, converted};
 ghost use Rattle.serde_json.specs.View.{view, items_view, members_view};
 ghost use Rattle.bson_tokens.specs.Parts.{IsBroken, IsEntered, MembersAre, NoMembers, ObjectIs, NoObject};
-ghost use Rattle.bson_tokens.specs.declared.unread.Unread.TheVariants.{Refused};
+ghost use Rattle.json.specs.declared.error.Error.TheVariants.{Invalid};
 
 use crate::start::{Start, primitive_value, read_start};
-use crate::unread::Unread;
-use json::Reader;
+use json::{Error, Reader};
 use serde_json::{Map, Value};
 use std::alloc::Global;
 
 /// The tree of the value that stands next, nested at most `depth` deep.
 #[cycle(tree)]
-pub fn read_tree(alloc: Global, reader: &mut Reader<'_>, depth: usize) -> Result<Value, Unread>
+pub fn read_tree(alloc: Global, reader: &mut Reader<'_>, depth: usize) -> Result<Value, Error>
     ensures ok { IfOk result (λ t. converted of_json (value depth reader.old) ≡ Some (view t, reader.new)) }
     ensures broken { IfErr result (IsBroken (converted of_json (value depth reader.old))) }
     ensures shorter { OnOk result (length reader.new < length reader.old) }
@@ -31,7 +30,7 @@ pub fn read_tree(alloc: Global, reader: &mut Reader<'_>, depth: usize) -> Result
 }
 
 #[cycle(tree)]
-fn read_items(alloc: Global, reader: &mut Reader<'_>, depth: usize) -> Result<Vec<Value>, Unread>
+fn read_items(alloc: Global, reader: &mut Reader<'_>, depth: usize) -> Result<Vec<Value>, Error>
     ensures ok { IfOk result
         (λ v. converted of_items (items (value depth) (length reader.old) reader.old)
         ≡ Some (items_view v.items, reader.new)) }
@@ -42,7 +41,9 @@ fn read_items(alloc: Global, reader: &mut Reader<'_>, depth: usize) -> Result<Ve
     let mut found = Vec::new(alloc);
     'items: while !reader.take_end_array() {
         let item = read_tree(alloc, reader, depth)?;
-        found.push(item)?;
+        let Ok(()) = found.push(item) else {
+            return Err(Error::OutOfMemory);
+        };
     }
     Ok(found)
 }
@@ -54,10 +55,10 @@ fn read_members(
     reader: &mut Reader<'_>,
     depth: usize,
     mut found: Map<String, Value>,
-) -> Result<Map<String, Value>, Unread>
+) -> Result<Map<String, Value>, Error>
     ensures ok { IfOk result
         (λ m. MembersAre depth (members_view found.entries) reader.old (members_view m.entries) reader.new) }
-    ensures broken { IfErr result (λ e. e ≡ Refused → NoMembers depth reader.old) }
+    ensures broken { IfErr result (λ e. e ≡ Invalid → NoMembers depth reader.old) }
     ensures shorter { OnOk result (length reader.new < length reader.old) }
 {
     'members: while let Some(name) = reader.next_key()? {
@@ -75,7 +76,7 @@ fn read_member(
     depth: usize,
     key: &str,
     mut found: Map<String, Value>,
-) -> Result<Map<String, Value>, Unread>
+) -> Result<Map<String, Value>, Error>
     ensures ok { IfOk result
         (λ now. IsEntered (converted of_json (value depth reader.old)) key.now (members_view found.entries)
         (members_view now.entries) reader.new) }
@@ -84,7 +85,10 @@ fn read_member(
 {
     let key = String::from_str(alloc, key)?;
     let member = read_tree(alloc, reader, depth)?;
-    drop(found.insert(key, member)?);
+    let Ok(replaced) = found.insert(key, member) else {
+        return Err(Error::OutOfMemory);
+    };
+    drop(replaced);
     Ok(found)
 }
 
@@ -95,10 +99,10 @@ pub fn read_from(
     depth: usize,
     key: &str,
     found: Map<String, Value>,
-) -> Result<Map<String, Value>, Unread>
+) -> Result<Map<String, Value>, Error>
     ensures ok { IfOk result
         (λ m. ObjectIs depth (members_view found.entries) key.now reader.old (members_view m.entries) reader.new) }
-    ensures broken { IfErr result (λ e. e ≡ Refused → NoObject depth key.now reader.old) }
+    ensures broken { IfErr result (λ e. e ≡ Invalid → NoObject depth key.now reader.old) }
     ensures shorter { OnOk result (length reader.new < length reader.old) }
 {
     let first = read_member(alloc, reader, depth, key, found)?;

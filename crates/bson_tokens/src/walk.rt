@@ -10,13 +10,12 @@ ghost use Rattle.bson_tokens.specs.Found.{Verdict, found, found_items, or, withi
 ghost use Rattle.bson_tokens.specs.Parts.{IsBroken};
 ghost use Rattle.bson_tokens.specs.Start.{primitive_tree};
 ghost use Rattle.bson_tokens.specs.Told.{Tells, Finds, IsPlaceIn, IsTextPlaceIn};
-ghost use Rattle.bson_tokens.specs.declared.unread.Unread.TheVariants.{OutOfMemory};
+ghost use Rattle.json.specs.declared.error.Error.TheVariants.{OutOfMemory};
 
 mod wrapped;
 
 use crate::faults::{enter, least_fault, place_here, with_segment};
 use crate::start::{Primitive, Start, read_start};
-use crate::unread::Unread;
 use crate::walk::wrapped::walk_wrapper;
 use bson_place::place::{Place, Segment};
 use bson_place::shape::beside_others;
@@ -24,7 +23,7 @@ use bson_place::walk::first_place;
 use bson_scalar::code::is_code_with_scope;
 use bson_scalar::form::Doubles;
 use bson_scalar::wrapper::{Wrapper, wrapper_named};
-use json::{Reader, Scratch};
+use json::{Error, Reader, Scratch};
 use serde_json::{Map, Value};
 use std::alloc::{AllocError, Global};
 use std::collections::BTreeMap;
@@ -38,8 +37,9 @@ const MAX_DEPTH: usize = 127;
 /// It is the place that `place_of_fault` finds in the tree, and no tree of the whole is made: of an
 /// array the first fault is kept, of an object the faults by key, since a later value of a key
 /// takes the place of an earlier one. Only a text in which `$code` stands behind a `$scope` that
-/// its object begins with is read as a tree. `Refused` is answered where the text has no tree.
-pub fn first_fault(alloc: Global, text: &str) -> Result<Option<Place>, Unread>
+/// its object begins with is read as a tree. `Invalid` is answered where the text has no tree: it is
+/// no JSON text of at most 127 levels, or has a number whose nearest double is not finite.
+pub fn first_fault(alloc: Global, text: &str) -> Result<Option<Place>, Error>
     ensures place { IfOk result (λ found. IsPlaceIn text.now found) }
     ensures broken { IfErr result (IsBroken (read text.now)) }
 {
@@ -47,42 +47,42 @@ pub fn first_fault(alloc: Global, text: &str) -> Result<Option<Place>, Unread>
 }
 
 /// The first fault of the text's tree, as `first_fault` finds it, in either mode of doubles.
-pub fn first_fault_in(alloc: Global, doubles: Doubles, text: &str) -> Result<Option<Place>, Unread>
+pub fn first_fault_in(alloc: Global, doubles: Doubles, text: &str) -> Result<Option<Place>, Error>
     ensures place { IfOk result (λ found. IsTextPlaceIn doubles text.now found) }
     ensures broken { IfErr result (IsBroken (read text.now)) }
 {
     match walk_text(alloc, doubles, text) {
-        Err(Unread::Refused) => tree_fault(alloc, doubles, text),
+        Err(Error::Invalid) => tree_fault(alloc, doubles, text),
         found => found,
     }
 }
 
 // The first fault of a text that the walk does not refuse. It refuses one that has no tree, and
 // one in which code stands behind its scope, since what a scope holds is told by the code.
-fn walk_text(alloc: Global, doubles: Doubles, text: &str) -> Result<Option<Place>, Unread>
+fn walk_text(alloc: Global, doubles: Doubles, text: &str) -> Result<Option<Place>, Error>
     ensures { IfOk result (λ found. IsTextPlaceIn doubles text.now found) }
 {
     let mut scratch = Scratch::new(alloc);
     let mut reader = Reader::new(text, &mut scratch)?;
     let found = walk_value(alloc, doubles, &mut reader, MAX_DEPTH)?;
     if reader.next().is_some() {
-        return Err(Unread::Refused);
+        return Err(Error::Invalid);
     }
     Ok(found)
 }
 
 // The first fault of the text's tree, which is read unless the text breaks the grammar of JSON.
-fn tree_fault(alloc: Global, doubles: Doubles, text: &str) -> Result<Option<Place>, Unread>
+fn tree_fault(alloc: Global, doubles: Doubles, text: &str) -> Result<Option<Place>, Error>
     ensures place { IfOk result (λ found. IsTextPlaceIn doubles text.now found) }
     ensures broken { IfErr result (IsBroken (read text.now)) }
 {
     if breaks_grammar(alloc, text)? {
-        return Err(Unread::Refused);
+        return Err(Error::Invalid);
     }
     match Value::from_str(alloc, text) {
         Ok(tree) => Ok(first_place(alloc, doubles, tree)?),
-        Err(error) if error.is_memory() => Err(Unread::OutOfMemory),
-        Err(_) => Err(Unread::Refused),
+        Err(error) if error.is_memory() => Err(Error::OutOfMemory),
+        Err(_) => Err(Error::Invalid),
     }
 }
 
@@ -118,7 +118,7 @@ fn walk_value(
     doubles: Doubles,
     reader: &mut Reader<'_>,
     depth: usize,
-) -> Result<Option<Place>, Unread>
+) -> Result<Option<Place>, Error>
     ensures ok { IfOk result
         (λ p. Finds (found doubles) (converted of_json (value depth reader.old)) p reader.new) }
     ensures shorter { OnOk result (length reader.new < length reader.old) }
@@ -138,7 +138,7 @@ fn walk_items(
     doubles: Doubles,
     reader: &mut Reader<'_>,
     depth: usize,
-) -> Result<Option<Place>, Unread>
+) -> Result<Option<Place>, Error>
     ensures ok { IfOk result
         (λ p. Finds (found_items doubles 0) (converted of_items (items (value depth) (length reader.old) reader.old))
         p reader.new) }
@@ -149,13 +149,13 @@ fn walk_items(
     'items: while !reader.take_end_array() {
         let item = walk_value(alloc, doubles, reader, depth)?;
         first = or_at(first, item, at)?;
-        at = at.checked_add(1).ok_or(Unread::OutOfMemory)?;
+        at = at.checked_add(1).ok_or(Error::OutOfMemory)?;
     }
     Ok(first)
 }
 
 // The first fault so far, or that of the element.
-fn or_at(first: Option<Place>, item: Option<Place>, at: usize) -> Result<Option<Place>, Unread>
+fn or_at(first: Option<Place>, item: Option<Place>, at: usize) -> Result<Option<Place>, Error>
     ensures ok { IfOk result (λ p. (v w : Verdict) → Tells v first → Tells w item
         → Tells (or v (within (element at) w)) p) }
     ensures broken { IfErr result (λ e. e ≡ OutOfMemory) }
@@ -176,7 +176,7 @@ fn walk_members(
     doubles: Doubles,
     reader: &mut Reader<'_>,
     depth: usize,
-) -> Result<Option<Place>, Unread>
+) -> Result<Option<Place>, Error>
     ensures ok { IfOk result
         (λ p. Finds (λ ms. found doubles (object ms))
         (converted (λ js. of_members js no_members) (members (value depth) (length reader.old) reader.old))
@@ -192,7 +192,7 @@ fn walk_members(
         }
         let begins = first.unwrap_or(name);
         if is_code_with_scope(name, begins) {
-            return Err(Unread::Refused);
+            return Err(Error::Invalid);
         }
         first = Some(begins);
         wrapper = lesser_wrapper(wrapper, name);

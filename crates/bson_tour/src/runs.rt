@@ -10,7 +10,7 @@ use bson_run::encode::{encode_in_order, encode_with};
 use bson_run::in_order::convert_in_order;
 use bson_run::indent::indent_text;
 use bson_run::indented::{convert_in_order_indented, convert_indented};
-use bson_run::lines::run_lines;
+use bson_run::lines::LineRun;
 use bson_run::order::{OnRefusal, Taking, Task, Work};
 use bson_run::stop::Stop;
 use bson_run::taken::take_as;
@@ -28,7 +28,7 @@ pub(crate) fn print(rt: &impl Print, alloc: Global) -> anyhow::Result<()> {
     mode(rt, alloc)?;
     fault(rt, alloc)?;
     counts(rt, alloc)?;
-    refusal(rt, alloc)?;
+    line_run(rt, alloc)?;
     task(rt, alloc)?;
     on_refusal(rt, alloc)?;
     stop(rt, alloc)?;
@@ -131,18 +131,19 @@ fn fault(rt: &impl Print, alloc: Global) -> anyhow::Result<()> {
 fn counts(rt: &impl Print, alloc: Global) -> anyhow::Result<()> {
     let mut lines: &[u8] = b"1\n[\n";
     let (mut output, mut told) = (Vec::new(alloc), Vec::new(alloc));
-    let (task, go_on) = (Task::Check, OnRefusal::KeepGoing);
-    let counts = run_lines(alloc, task, go_on, &mut lines, &mut output, &mut told);
+    let mut run = LineRun::new(alloc, Task::Check, OnRefusal::KeepGoing);
+    let counts = run.run(alloc, &mut lines, &mut output, &mut told);
     println!(rt; "{counts:?}")?; // Ok(Counts { lines: 2, refused: 1 })
     Ok(())
 }
 
-fn refusal(rt: &impl Print, alloc: Global) -> anyhow::Result<()> {
+fn line_run(rt: &impl Print, alloc: Global) -> anyhow::Result<()> {
     let mut lines: &[u8] = br#"{"n": 1.5}"#;
     let (mut output, mut told) = (Vec::new(alloc), Vec::new(alloc));
-    let (task, stop) = (Task::Check, OnRefusal::Stop);
-    if let Err(at) = run_lines(alloc, task, stop, &mut lines, &mut output, &mut told) {
-        println!(rt; "line {}: {}{}", at.line, at.fault.message(), at.place)?;
+    let mut run = LineRun::new(alloc, Task::Check, OnRefusal::Stop);
+    if let Err(fault) = run.run(alloc, &mut lines, &mut output, &mut told) {
+        let place = run.place(alloc, &fault)?;
+        println!(rt; "line {}: {}{place}", run.number(), fault.message())?;
     }
     // line 1: not Extended JSON at n (a number is no whole number of 64 bits; found 1.5)
     Ok(())
@@ -151,8 +152,8 @@ fn refusal(rt: &impl Print, alloc: Global) -> anyhow::Result<()> {
 fn task(rt: &impl Print, alloc: Global) -> anyhow::Result<()> {
     let mut lines: &[u8] = b"1\n2";
     let (mut output, mut told) = (Vec::new(alloc), Vec::new(alloc));
-    let (task, stop) = (Task::Write(Mode::Canonical), OnRefusal::Stop);
-    drop(run_lines(alloc, task, stop, &mut lines, &mut output, &mut told));
+    let mut run = LineRun::new(alloc, Task::Write(Mode::Canonical), OnRefusal::Stop);
+    drop(run.run(alloc, &mut lines, &mut output, &mut told));
     rt.print(str::from_utf8(&output)?)?;
     // {"$numberInt":"1"}
     // {"$numberInt":"2"}
@@ -162,8 +163,8 @@ fn task(rt: &impl Print, alloc: Global) -> anyhow::Result<()> {
 fn on_refusal(rt: &impl Print, alloc: Global) -> anyhow::Result<()> {
     let mut lines: &[u8] = b"[\n2";
     let (mut output, mut told) = (Vec::new(alloc), Vec::new(alloc));
-    let (task, go_on) = (Task::Write(Mode::Relaxed), OnRefusal::KeepGoing);
-    drop(run_lines(alloc, task, go_on, &mut lines, &mut output, &mut told));
+    let mut run = LineRun::new(alloc, Task::Write(Mode::Relaxed), OnRefusal::KeepGoing);
+    drop(run.run(alloc, &mut lines, &mut output, &mut told));
     rt.print(str::from_utf8(&told)?)?; // bson_lines: line 1: not JSON at column 1 (the text ends before its value is whole)
     rt.print(str::from_utf8(&output)?)?; // 2
     Ok(())
@@ -195,8 +196,8 @@ fn taking(rt: &impl Print, alloc: Global) -> anyhow::Result<()> {
     let mut lines: &[u8] = br#"{"a": 1, "a": 2}"#;
     let (mut output, mut told) = (Vec::new(alloc), Vec::new(alloc));
     let task = Task::Taken(Taking::Distinct, Work::Check);
-    let go_on = OnRefusal::KeepGoing;
-    drop(run_lines(alloc, task, go_on, &mut lines, &mut output, &mut told));
+    let mut run = LineRun::new(alloc, task, OnRefusal::KeepGoing);
+    drop(run.run(alloc, &mut lines, &mut output, &mut told));
     rt.print(str::from_utf8(&told)?)?;
     // bson_lines: line 1: not Extended JSON at a (a key that stands twice in its object)
     Ok(())
@@ -205,9 +206,9 @@ fn taking(rt: &impl Print, alloc: Global) -> anyhow::Result<()> {
 fn work(rt: &impl Print, alloc: Global) -> anyhow::Result<()> {
     let mut lines: &[u8] = br#"{"$type": "00", "$binary": "AQI="}"#;
     let (mut output, mut told) = (Vec::new(alloc), Vec::new(alloc));
-    let work = Work::Write(Mode::Relaxed);
-    let (task, stop) = (Task::Taken(Taking::Legacy, work), OnRefusal::Stop);
-    drop(run_lines(alloc, task, stop, &mut lines, &mut output, &mut told));
+    let task = Task::Taken(Taking::Legacy, Work::Write(Mode::Relaxed));
+    let mut run = LineRun::new(alloc, task, OnRefusal::Stop);
+    drop(run.run(alloc, &mut lines, &mut output, &mut told));
     rt.print(str::from_utf8(&output)?)?; // {"$binary":{"base64":"AQI=","subType":"00"}}
     Ok(())
 }

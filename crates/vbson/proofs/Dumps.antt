@@ -4,9 +4,9 @@ use Rattle.std.proofs.lemmas.List.{append-nil}
 use Rattle.bson_codec.specs.Documents.{Dump, EndsAt, EndsFor, HasNoLine}
 use Rattle.bson_codec.specs.Told.{told_of}
 use Rattle.bson_codec.specs.declared.documents.Run.{Run}
-use Rattle.bson_codec.specs.declared.told.RunFault.{RunFault}
-use Rattle.bson_codec.specs.declared.told.RunFault.TheVariants.{Malformed, FiniteDouble, CannotRead, CannotWrite}
-use Rattle.bson_codec.specs.declared.told.RunFault.TheVariants.{OutOfMemory}
+use Rattle.bson_codec.specs.declared.run_end.RunFault.{RunFault}
+use Rattle.bson_codec.specs.declared.run_end.RunFault.TheVariants.{Malformed, FiniteDouble, CannotRead, CannotWrite}
+use Rattle.bson_codec.specs.declared.run_end.RunFault.TheVariants.{OutOfMemory}
 use Rattle.vbson.specs.Dumps.{GivesDocuments, IsOfBytes}
 
 dump_as : (run : Run) (a c d e f : List ℕ) (count refused : ℕ) → c ≡ d → e ≡ f → Dump run a c e count refused

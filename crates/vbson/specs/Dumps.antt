@@ -6,10 +6,10 @@ use Rattle.bson_codec.specs.Told.{told_of}
 use Rattle.bson_codec.specs.declared.documents.Line.{Line}
 use Rattle.bson_codec.specs.declared.documents.Line.TheVariants.{Text, TextInOrder, Shown}
 use Rattle.bson_codec.specs.declared.documents.Run.{Run}
-use Rattle.bson_codec.specs.declared.told.RunEnd.{RunEnd}
-use Rattle.bson_codec.specs.declared.told.RunFault.{RunFault}
-use Rattle.bson_codec.specs.declared.told.RunFault.TheVariants.{Malformed, FiniteDouble, CannotRead, CannotWrite}
-use Rattle.bson_codec.specs.declared.told.RunFault.TheVariants.{OutOfMemory}
+use Rattle.bson_codec.specs.declared.run_end.RunEnd.{RunEnd}
+use Rattle.bson_codec.specs.declared.run_end.RunFault.{RunFault}
+use Rattle.bson_codec.specs.declared.run_end.RunFault.TheVariants.{Malformed, FiniteDouble, CannotRead, CannotWrite}
+use Rattle.bson_codec.specs.declared.run_end.RunFault.TheVariants.{OutOfMemory}
 use Rattle.bson_convert.specs.declared.mode.Mode.{Mode}
 use Rattle.bson_convert.specs.declared.mode.Mode.TheVariants.{Canonical, Relaxed, Show}
 use Rattle.bson.specs.Form.TheVariants as form

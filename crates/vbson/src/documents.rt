@@ -6,7 +6,7 @@ ghost use Rattle.vbson.specs.Documents.{ExplainsDocument, IsOneDocument, IsDocum
 use crate::status;
 use crate::text::{Text, text_of_line};
 use bson_codec::de::{DEPTH, Error, is_document};
-use bson_codec::told::RunFault;
+use bson_codec::run_end::RunFault;
 use std::alloc::{AllocError, Global};
 
 /// Whether the bytes are one document, all of them, in which documents, arrays and scopes stand at

@@ -13,7 +13,7 @@ use crate::text::{Text, as_line, text_of_line};
 use bson::extjson::{Form, Options};
 use bson_codec::de::DEPTH;
 use bson_codec::documents::{Line, Run, run_documents};
-use bson_codec::told::{RunEnd, RunFault};
+use bson_codec::run_end::{RunEnd, RunFault};
 use bson_convert::mode::Mode;
 use std::alloc::Global;
 

@@ -10,7 +10,7 @@ use crate::status;
 use crate::text::{Text, as_line, text_of_line};
 use bson::extjson::Options;
 use bson_convert::mode::Mode;
-use bson_run::lines::run_lines_with;
+use bson_run::lines::LineRun;
 use bson_run::order::{OnRefusal, Task};
 use std::alloc::Global;
 
@@ -136,16 +136,9 @@ fn run_block(alloc: Global, options: Options, task: Task, block: &[u8]) -> Optio
 {
     let mut reader = block;
     let (mut text, mut told) = (Vec::new(alloc), Vec::new(alloc));
-    let ran = run_lines_with(
-        alloc,
-        options,
-        task,
-        OnRefusal::KeepGoing,
-        &mut reader,
-        &mut text,
-        &mut told,
-    );
-    let Ok(counts) = ran else {
+    let mut run = LineRun::new(alloc, task, OnRefusal::KeepGoing);
+    run.options = options;
+    let Ok(counts) = run.run(alloc, &mut reader, &mut text, &mut told) else {
         return None;
     };
     let (Ok(text), Ok(told)) = (as_line(text), as_line(told)) else {

@@ -1,6 +1,6 @@
 //! Values from texts, with no tree of the whole.
 //!
-//! In reading order: `straight` (values from the tokens of a text), `parts` (what it needs beside)
+//! In reading order: `values` (values from the tokens of a text), `parts` (what it needs beside)
 //! and `gathered` (the members of an object as they come, by ascending key or in their order).
 //! Trees of what a wrapper's key holds, and why a text means nothing, are from `bson_tokens`.
 ghost use Rattle.std.specs.Prelude.{◌≡◌, Some, Ok, option_map, IfOk, IfErr, OnOk, IsUtf8};
@@ -19,22 +19,21 @@ ghost use Rattle.bson.specs.View.{bson_view};
 ghost use Rattle.bson.specs.TextMeaning.{IsTextOf, HasTextMeaning, IsTextFault};
 ghost use Rattle.bson.specs.TextMeaning.{HasTextMeaningIn, HasTextMeaningBy, HasNoMeaningIn, IsTextFaultIn};
 ghost use Rattle.bson_tokens.specs.Parts.{IsBroken};
-ghost use Rattle.bson.specs.Straight.{TextReads};
+ghost use Rattle.bson.specs.FromTokens.{TextReads};
 ghost use Rattle.bson.specs.declared.extjson.text_error.TextError.TheVariants.{OutOfMemory};
 
 mod gathered;
 mod parts;
-mod straight;
+mod values;
 
 use crate::bson::Bson;
 use crate::extjson::key_order::KeyOrder;
 use crate::extjson::options::Options;
 use crate::extjson::text_error::TextError;
-use crate::extjson::text_reader::straight::read_value;
+use crate::extjson::text_reader::values::read_value;
 use bson_scalar::form::Doubles;
-use bson_tokens::unread::Unread;
 use bson_tokens::walk::first_fault_in;
-use json::{Reader, Scratch};
+use json::{Error, Reader, Scratch};
 use std::alloc::Global;
 
 // How deep arrays and objects may nest.
@@ -175,7 +174,7 @@ fn or_fault(
     order: KeyOrder,
     bytes: &[u8],
     text: &str,
-    read: Result<Option<Bson>, Unread>,
+    read: Result<Option<Bson>, Error>,
 ) -> Result<Bson, TextError>
     requires same { bytes.now ≡ text.now }
     requires utf8 { IsUtf8 bytes.now }
@@ -187,8 +186,8 @@ fn or_fault(
     match read {
         Ok(Some(value)) => Ok(value),
         Ok(None) => Err(fault_of(alloc, doubles, bytes)),
-        Err(Unread::Refused) => Err(TextError::NotJson),
-        Err(Unread::OutOfMemory) => Err(TextError::OutOfMemory),
+        Err(Error::Invalid) => Err(TextError::NotJson),
+        Err(_) => Err(TextError::OutOfMemory),
     }
 }
 
@@ -216,8 +215,8 @@ fn find_fault(alloc: Global, doubles: Doubles, bytes: &[u8]) -> Result<(), TextE
     match first_fault_in(alloc, doubles, text) {
         Ok(None) => Ok(()),
         Ok(Some(place)) => Err(TextError::NotExtendedJson(place)),
-        Err(Unread::OutOfMemory) => Err(TextError::OutOfMemory),
-        Err(Unread::Refused) => Err(TextError::NotJson),
+        Err(Error::Invalid) => Err(TextError::NotJson),
+        Err(_) => Err(TextError::OutOfMemory),
     }
 }
 
@@ -228,14 +227,14 @@ fn read_text(
     order: KeyOrder,
     text: &str,
     scratch: &mut Scratch,
-) -> Result<Option<Bson>, Unread>
+) -> Result<Option<Bson>, Error>
     ensures ok { IfOk result (λ v. TextReads order doubles text.now (option_map bson_view v)) }
     ensures broken { IfErr result (IsBroken (tree_of text.now)) }
 {
     let mut reader = Reader::new(text, scratch)?;
     let read = read_value(alloc, doubles, order, &mut reader, MAX_DEPTH)?;
     if reader.next().is_some() {
-        return Err(Unread::Refused);
+        return Err(Error::Invalid);
     }
     Ok(read)
 }

@@ -14,13 +14,12 @@ ghost use Rattle.bson_tokens.specs.Told.{Tells, Finds, ObjectFinds};
 use crate::faults::{enter, least_fault, place_here, with_segment};
 use crate::held::{pass_items, read_held};
 use crate::start::{Primitive, Start, read_start};
-use crate::unread::Unread;
 use crate::walk::{lesser_wrapper, place_in, walk_value};
 use bson_place::place::{Place, Segment};
 use bson_place::shape::{CODE, SCOPE, beside_others};
 use bson_scalar::code::is_code_with_scope;
 use bson_scalar::form::Doubles;
-use json::Reader;
+use json::{Error, Reader};
 use serde_json::{Map, Value};
 use std::alloc::{AllocError, Global};
 use std::collections::BTreeMap;
@@ -35,7 +34,7 @@ pub(super) fn walk_wrapper(
     reader: &mut Reader<'_>,
     depth: usize,
     key: &str,
-) -> Result<Option<Place>, Unread>
+) -> Result<Option<Place>, Error>
     requires wrapper { is_some (wrapper_of key.now) ≡ true }
     ensures ok { IfOk result (λ p. ObjectFinds doubles depth key.now reader.old p reader.new) }
     ensures shorter { OnOk result (length reader.new < length reader.old) }
@@ -98,7 +97,7 @@ fn walk_scope(
     doubles: Doubles,
     reader: &mut Reader<'_>,
     depth: usize,
-) -> Result<Option<Place>, Unread>
+) -> Result<Option<Place>, Error>
     ensures ok { IfOk result
         (λ p. Finds (found_scope doubles) (converted of_json (value depth reader.old)) p reader.new) }
     ensures shorter { OnOk result (length reader.new < length reader.old) }
@@ -149,7 +148,7 @@ fn walk_pairs(
     doubles: Doubles,
     reader: &mut Reader<'_>,
     depth: usize,
-) -> Result<Option<Place>, Unread>
+) -> Result<Option<Place>, Error>
     ensures ok { IfOk result
         (λ p. Finds (found_members doubles)
         (converted (λ js. of_members js no_members) (members (value depth) (length reader.old) reader.old))

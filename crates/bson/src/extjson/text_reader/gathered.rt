@@ -8,7 +8,7 @@ ghost use Rattle.bson.specs.Gathered.{gathered_pairs, gathered, put_all, StandsA
 ghost use Rattle.bson.specs.Gathered.{order_of, FewAscend, IsInOrder, IsPut, SortsStably};
 ghost use Rattle.bson.specs.Put.{put_entries};
 ghost use Rattle.bson.specs.declared.extjson.key_order.KeyOrder.TheVariants.{Ascending, AsGiven};
-ghost use Rattle.bson.specs.Straight.{is_nothing, holds_nothing, unless_nothing};
+ghost use Rattle.bson.specs.FromTokens.{is_nothing, holds_nothing, unless_nothing};
 
 use crate::bson::Bson;
 use crate::document::Document;

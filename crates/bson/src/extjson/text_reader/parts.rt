@@ -14,9 +14,9 @@ ghost use Rattle.bson_scalar.specs.declared.form.Doubles.{Doubles};
 ghost use Rattle.bson_tokens.specs.Parts.{IsBroken, NoObject};
 ghost use Rattle.bson.specs.View.{bson_view, document_view};
 ghost use Rattle.bson.specs.Gathered.{gathered, FewAscend, IsInOrder};
-ghost use Rattle.bson.specs.Straight.{ObjectReads, IsHeld, HasTree, code_given, given, marked, unless_nothing};
+ghost use Rattle.bson.specs.FromTokens.{ObjectReads, IsHeld, HasTree, code_given, given, marked, unless_nothing};
 ghost use Rattle.bson.specs.declared.extjson.key_order.KeyOrder.TheVariants.{Ascending, AsGiven};
-ghost use Rattle.bson_tokens.specs.declared.unread.Unread.TheVariants.{Refused};
+ghost use Rattle.json.specs.declared.error.Error.TheVariants.{Invalid};
 
 use crate::bson::Bson;
 use crate::document::Document;
@@ -30,7 +30,6 @@ use bson_scalar::form::Doubles;
 use bson_tokens::held::read_held;
 use bson_tokens::start::Primitive;
 use bson_tokens::tree::read_from;
-use bson_tokens::unread::Unread;
 use json::{Reader, Scratch, Writer};
 use serde_json::{Map, Value};
 use std::alloc::{AllocError, Global};
@@ -106,10 +105,10 @@ pub(crate) fn read_sorted(
     reader: &mut Reader<'_>,
     depth: usize,
     key: &str,
-) -> Result<Option<Bson>, Unread>
+) -> Result<Option<Bson>, json::Error>
     ensures ok { IfOk result
         (λ v. ObjectReads Ascending doubles depth key.now reader.old (option_map bson_view v) reader.new) }
-    ensures broken { IfErr result (λ e. e ≡ Refused → NoObject depth key.now reader.old) }
+    ensures broken { IfErr result (λ e. e ≡ Invalid → NoObject depth key.now reader.old) }
     ensures shorter { OnOk result (length reader.new < length reader.old) }
 {
     let members = read_from(alloc, reader, depth, key, Map::new(alloc))?;
@@ -139,16 +138,12 @@ pub(crate) fn text_held(
     alloc: Global,
     reader: &mut Reader<'_>,
     depth: usize,
-) -> Result<String, Unread>
+) -> Result<String, json::Error>
     ensures ok { IfOk result (λ text. IsHeld depth reader.old (string_bytes text) reader.new) }
     ensures broken { IfErr result (IsBroken (converted of_json (value depth reader.old))) }
     ensures shorter { OnOk result (length reader.new < length reader.old) }
 {
-    let held = match json::Value::read(alloc, reader, depth) {
-        Ok(held) => held,
-        Err(json::Error::OutOfMemory) => return Err(Unread::OutOfMemory),
-        Err(_) => return Err(Unread::Refused),
-    };
+    let held = json::Value::read(alloc, reader, depth)?;
     let mut out = Writer::new(Vec::new(alloc));
     out.value(&held)?;
     let text = into_text(out);
@@ -157,7 +152,7 @@ pub(crate) fn text_held(
 }
 
 // Refuses a text with a number that is out of range.
-fn find_tree(alloc: Global, text: &str, depth: usize) -> Result<(), Unread>
+fn find_tree(alloc: Global, text: &str, depth: usize) -> Result<(), json::Error>
     ensures ok { OnOk result (HasTree (converted of_json (value depth (tokens text.now)))) }
     ensures broken { IfErr result (IsBroken (converted of_json (value depth (tokens text.now)))) }
 {

@@ -1,7 +1,7 @@
 use Rattle.std.proofs.Common.{ℕ, Result, IfErr, refl, subst, sym}
 use Rattle.bson_codec.specs.Documents.{IsUngiven}
 use Rattle.bson_codec.specs.Streams.{WritesBeginning}
-use Rattle.bson_codec.specs.declared.told.RunFault.{RunFault}
+use Rattle.bson_codec.specs.declared.run_end.RunFault.{RunFault}
 use Rattle.bson_codec.proofs.Runs.{cut_line, judged_ends, untold}
 use Rattle.bson_codec.proofs.documents.give.Goals as goal
 use Rattle.bson_codec.proofs.documents.give.Goals.{in-Ok-tell, in-Err-tell}

@@ -3,7 +3,7 @@ use Rattle.std.proofs.lemmas.Result.{IfErr-weaker, IfOk-weaker, err_from_is_err_
 use Rattle.json.specs.Lex.{tokens}
 use Rattle.serde_json.specs.Read.{read}
 use Rattle.bson_tokens.specs.Parts.{IsBroken}
-use Rattle.bson_tokens.specs.declared.unread.Unread.TheVariants.{OutOfMemory}
+use Rattle.json.specs.declared.error.Error.TheVariants.{OutOfMemory}
 use Rattle.bson_distinct.specs.Arranged.{IsArrangedText}
 use Rattle.bson_distinct.proofs.Ranged.{text_none}
 use Rattle.bson_distinct.proofs.Whole.{text_arranged, unlike}

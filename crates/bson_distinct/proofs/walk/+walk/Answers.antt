@@ -94,15 +94,15 @@ walk_members-members-preserved t c =
     let v = told l.first in
     let w = at_key (not (stands_among before k)) k (double j.0) in
     let named : read_key l.reader ≡ Some (Some k, s) = grind arith in
-    let new = is_new l.keys key before c.in_ok-is_new.is_new l.invariant.3 c.in_ok-is_new.ensures.added in
+    let new = is_new l.keys key before c.in-Ok.is_new l.invariant.3 c.in-Ok.ensures.added in
     let now : told c.in_ok-first.first ≡ or v w =
-    c.in_ok-first.ensures ∙ ap (λ x. or v (at_key c.in_ok-is_new.is_new k x)) j.2
+    c.in_ok-first.ensures ∙ ap (λ x. or v (at_key c.in-Ok.is_new k x)) j.2
     ∙ ap (λ b. or v (at_key b k (double j.0))) new in (
       λ ms. front (member k j.0 ms),
       member_passed (value c.args.depth) c.args.reader.now front l.reader l.invariant.1 k s r j.0 named j.1
           c.in_ok-member.ensures.shorter,
       k ∷ before,
-      holds_more l.keys c.insert.new.self key before l.invariant.3 c.in_ok-is_new.ensures.updates,
+      holds_more l.keys c.insert.new.self key before l.invariant.3 c.in-Ok.ensures.updates,
       λ ms. l.invariant.4 (member k j.0 ms) ∙ sym (or_or v w (double_members (k ∷ before) ms))
           ∙ ap (λ x. or x (double_members (k ∷ before) ms)) (sym now),
     )

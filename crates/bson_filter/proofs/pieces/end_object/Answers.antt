@@ -9,10 +9,10 @@ pub returns-then-ascend : goal.returns-then-ascend
 returns-then-ascend c =
     let texts = c.args.text.now.items in
     let end = length texts in
-    ended_in_place (take c.args.start texts) texts c.push.new.self.items
+    ended_in_place (take c.args.start texts) texts c.extend_from_slice.new.self.items
     (pieces_from c.args.keys.now c.args.starts.now end) c.requires.opened
     (pieces_ascend None c.args.keys.now c.args.starts.now end (c.ascend.ensures c.if-ascend.true))
-    c.in_ok-push.ensures.items
+    c.in_ok-extend_from_slice.ensures.items
 
 pub in_order-requires : goal.in_order-requires
 in_order-requires c =
@@ -32,6 +32,6 @@ returns c =
       subst (λ ps. InOrder ps texts written) whole
           (subst (λ s. IfSome s (λ t. InOrder c.in_ok-pieces.pieces.items texts t.items)) c.in_ok-written.ensures.ok_part
           c.in_ok-in_order.ensures),
-      c.in_ok-extend_from_slice.ensures.items ∙ ap (λ l. l ++ c.deref.result.now) c.truncate.ensures.items
+      c.in_ok-extend_from_slice-2.ensures.items ∙ ap (λ l. l ++ c.deref.result.now) c.truncate.ensures.items
           ∙ ap (λ l. take c.args.start texts ++ l) c.deref.ensures.value,
     )

@@ -11,10 +11,14 @@ use Rattle.serde_json.specs.Read.{converted}
 use Rattle.serde_json.specs.View.{view}
 use Rattle.serde_json.specs.declared.value.Value.{String, the_lemmas}
 use Rattle.bson_scalar.specs.Table.{wrapper_of}
+use Rattle.bson_scalar.specs.Faults.{Gives}
+use Rattle.bson_scalar.specs.Reading.{single_in}
 use Rattle.bson_scalar.specs.Scalar.{code}
+use Rattle.bson_scalar.specs.View.{scalar_view}
 use Rattle.bson_model.specs.Value.{Value, scalar}
 use Rattle.bson_order.specs.Kept.{kept}
 use Rattle.bson_filter.specs.Walked.{TreeMeans, ItemsWritten}
+use Rattle.bson_filter.proofs.Sorting.{was_ok}
 use Rattle.bson_filter.proofs.Walking.{items_begun, item_passed, items_passed, members_begun}
 use Rattle.bson_filter.proofs.Walking.{member_passed, members_written, members_passed, array_means, object_means}
 use Rattle.bson_filter.proofs.Walking.{document_means}
@@ -99,7 +103,7 @@ write_document-members-preserved g t c =
     let is : l.next ≡ Some k = grind arith in (
       omega (arith, shorter, fewer, l.invariant.0),
       ks ++ k ∷ [],
-      c.in_ok-write_value.ensures.keys ∙ c.in_ok-push.ensures.items ∙ ap (λ x. x ++ k ∷ []) l.invariant.2
+      c.in_ok-write_value.ensures.keys ∙ c.in-Ok.ensures.items ∙ ap (λ x. x ++ k ∷ []) l.invariant.2
           ∙ append_assoc c.args.keys.now.items ks (k ∷ []),
       n - 1,
       omega (arith, shorter, fewer, l.invariant.4),
@@ -231,9 +235,12 @@ pub write_wrapper-returns-in_default-clause-ok : goal.write_wrapper-returns-in_d
 write_wrapper-returns-in_default-clause-ok g t c =
     let ended : read_key c.read_held.new.reader ≡ Some (None, c.next_key.new.self) = grind arith in
     let named : wrapper_of c.args.key.now ≡ Some c.args.wrapper = grind arith in
+    let read = subst (λ r. Gives scalar_view r (single_in c.args.doubles c.args.wrapper (view c.in_ok-held.held)))
+    (was_ok _ c.read_wrapper.result c.map_err.result c.in_ok-value.value c.map_err.ensures.cases c.in_ok-value.was)
+    c.read_wrapper.ensures in
     on_ok_weaker c.scalar.result
-    (single_means _ _ _ _ _ _ _ _ _ _ named c.in_ok-held.ensures.ok c.in_ok-held.ensures.shorter ended
-    c.in_ok-read_wrapper.ensures) c.scalar.ensures
+    (single_means _ _ _ _ _ _ _ _ _ _ named c.in_ok-held.ensures.ok c.in_ok-held.ensures.shorter ended read)
+    c.scalar.ensures
 
 pub write_wrapper-returns-clause-ok : goal.write_wrapper-returns-clause-ok
 write_wrapper-returns-clause-ok g t c =

@@ -1,14 +1,10 @@
-use Rattle.std.proofs.Common.{◌≡◌, ◌∙◌, ap, string_bytes}
-use Rattle.std.proofs.lemmas.Result.{IfOk-weaker}
-use Rattle.bson_run.specs.Lines.{IsBadLineIn, Tells, told_at}
+use Rattle.std.proofs.Common.{◌≡◌, ◌++◌, IfOk, string_bytes, append_assoc, codes, subst}
+use Rattle.std.specs.Fmt.{decimal}
+use Rattle.bson_convert.specs.Convert.{newline}
 use Rattle.bson_run.proofs.gathered.verdict.Goals as goal
 
 pub returns : goal.returns
-returns c = λ options task.
-    let fault = c.args.fault.now in
-    let text = c.args.text.now in
-    let place = string_bytes c.in_ok-place.place in
-    IfOk-weaker c.at_place.result (λ told. string_bytes told ≡ told_at c.args.number fault c.deref.result.now)
-    (λ told. IsBadLineIn options task fault text → Tells c.args.number fault (string_bytes told))
-    (λ told is bad.
-    (place, c.in_ok-place.ensures.always, is ∙ ap (told_at c.args.number fault) c.deref.ensures)) c.at_place.ensures
+returns c =
+    subst (λ words. IfOk c.format.result (λ told. string_bytes told ≡ codes "bson_lines: line " ++ decimal c.args.number
+    ++ codes ": " ++ words ++ c.args.place.now ++ newline)) c.message-words.ensures.words
+    (simp append_assoc c.format.ensures.ok)

@@ -59,7 +59,7 @@ read_items-items-preserved t c =
       one_listed c.args.depth c.args.reader.now l.reader c.take_end_array.new.self r front
           (view v) l.invariant.1 going.0 going.1 c.in_ok-item.ensures.ok c.in_ok-item.ensures.shorter,
       λ ds. l.invariant.2 (item (view v) ds) ∙ items_onto-last l.found.items v ds
-          ∙ ap (λ vs. items_onto vs ds) (sym c.in_ok-push.ensures.items),
+          ∙ ap (λ vs. items_onto vs ds) (sym c.in-Ok.ensures.items),
     )
 
 pub read_items-returns-clause-ok : goal.read_items-returns-clause-ok
@@ -76,7 +76,7 @@ read_member-returns-clause-ok t c =
     let copied : string_bytes c.in_ok-key.key ≡ c.args.key.now = search rules in (
       view v,
       c.in_ok-member.ensures.ok,
-      ap members_view c.in_ok-insert.ensures.entries ∙ members_view-insert_entry c.args.found.entries c.in_ok-key.key v
+      ap members_view c.in-Ok.ensures.entries ∙ members_view-insert_entry c.args.found.entries c.in_ok-key.key v
           ∙ ap (λ k. put k (view v) old) copied,
     )
 

@@ -1,5 +1,5 @@
 use Rattle.std.proofs.Common.{Ok, IfOk, option_map, ap, ◌∙◌, subst}
-use Rattle.bson.specs.Straight.{TextReads}
+use Rattle.bson.specs.FromTokens.{TextReads}
 use Rattle.bson.specs.View.{bson_view}
 use Rattle.bson.proofs.Meant.{meant_by, no_meaning_by}
 use Rattle.bson.proofs.extjson.text_reader.or_fault.Goals as goal

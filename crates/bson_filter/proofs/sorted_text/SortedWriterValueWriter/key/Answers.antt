@@ -17,7 +17,7 @@ returns c =
       later_mode ∙ mode,
       later_form ∙ form,
       off,
-      starts ∙ c.in_ok-push.ensures.items ∙ ap (λ l. l ++ c.len.result ∷ []) kept
+      starts ∙ c.in-Ok.ensures.items ∙ ap (λ l. l ++ c.len.result ∷ []) kept
           ∙ ap (λ n. c.args.self.now.starts.items ++ n ∷ []) start,
       text ∙ ap (λ l. l ++ print c.key.new.self.tokens) comma
           ∙ ap (λ ts. next_text c.args.self.now ++ print ts) tokens

@@ -9,8 +9,8 @@ pub returns : goal.returns
 returns c =
     let b = c.args.truth in
     let named = c.put_name.new.out.items in
-    let put : c.push.new.self.items ≡ named ++ bool_byte b ∷ [] = grind arith in
+    let put : c.extend_from_slice.new.self.items ≡ named ++ bool_byte b ∷ [] = grind arith in
     let longer = length-append named (bool_byte b ∷ []) in
     let is = ap length put in
-    scalar_put (boolean b) tag.Boolean c.args.name.now c.args.self.now.bytes.items named c.push.new.self.items refl
+    scalar_put (boolean b) tag.Boolean c.args.name.now c.args.self.now.bytes.items named c.extend_from_slice.new.self.items refl
     c.in_ok-put_name.ensures.put tt (ap Ok (sym put)) (omega (arith, longer, is))

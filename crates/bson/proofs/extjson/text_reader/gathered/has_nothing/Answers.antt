@@ -1,7 +1,7 @@
 use Rattle.std.proofs.Common.{suc, ◌||◌, drop, ap, sym, ◌∙◌, add-one, arith}
 use Rattle.std.proofs.lemmas.List.{drop_all}
 use Rattle.bson.specs.View.{pairs_view}
-use Rattle.bson.specs.Straight.{holds_nothing}
+use Rattle.bson.specs.FromTokens.{holds_nothing}
 use Rattle.bson.proofs.Seen.{document_view-pairs}
 use Rattle.bson.proofs.Marks.{from_here}
 use Rattle.bson.proofs.extjson.text_reader.gathered.has_nothing.Goals as goal

@@ -1,5 +1,5 @@
 use Rattle.std.proofs.Common.{◌≡◌, drop}
-use Rattle.bson.specs.Straight.{holds_nothing}
+use Rattle.bson.specs.FromTokens.{holds_nothing}
 use Rattle.bson.specs.View.{pairs_view}
 use Rattle.bson.proofs.extjson.text_reader.gathered.has_nothing.Given as goal
 

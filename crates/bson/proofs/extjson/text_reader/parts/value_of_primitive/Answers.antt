@@ -6,7 +6,7 @@ use Rattle.bson_scalar.specs.Reading.{number_read_in}
 use Rattle.bson_scalar.specs.Scalar as scalars
 use Rattle.bson_tokens.specs.Start.{primitive_tree}
 use Rattle.bson_tokens.proofs.Offered.{if_ok}
-use Rattle.bson.specs.Straight.{given}
+use Rattle.bson.specs.FromTokens.{given}
 use Rattle.bson.specs.View.{bson_view}
 use Rattle.bson.specs.declared.bson.Bson.{the_lemmas}
 use Rattle.bson.specs.declared.bson.Bson.TheVariants as bson

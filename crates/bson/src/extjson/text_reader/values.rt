@@ -13,8 +13,8 @@ ghost use Rattle.bson_tokens.specs.Parts.{IsBroken, NoMembers, NoObject};
 ghost use Rattle.bson.specs.View.{bson_view, document_view};
 ghost use Rattle.bson.specs.ByOrder.{tree_by, items_by, reads_by, reads_members_by, reads_scope_by};
 ghost use Rattle.bson.specs.Gathered.{gathered, IsInOrder};
-ghost use Rattle.bson.specs.Straight.{Reads, IsJoined, MembersRead, RestReads, ObjectReads, IsFound, IsCode};
-ghost use Rattle.bson_tokens.specs.declared.unread.Unread.TheVariants.{Refused};
+ghost use Rattle.bson.specs.FromTokens.{Reads, IsJoined, MembersRead, RestReads, ObjectReads, IsFound, IsCode};
+ghost use Rattle.json.specs.declared.error.Error.TheVariants.{Invalid};
 
 mod scope_first;
 
@@ -26,18 +26,17 @@ use crate::extjson::text_reader::gathered::{Gathered, NOTHING, document_of, empt
 use crate::extjson::text_reader::parts::{
     code_value, document_value, scope_of_primitive, value_of_primitive, value_of_result,
 };
-use crate::extjson::text_reader::straight::scope_first::read_scoped;
+use crate::extjson::text_reader::values::scope_first::read_scoped;
 use bson_scalar::code::{is_code_with_scope, is_scope};
 use bson_scalar::form::Doubles;
 use bson_scalar::wrapper::wrapper_named;
 use bson_tokens::held::{pass_items, read_held};
 use bson_tokens::start::{Start, read_start};
-use bson_tokens::unread::Unread;
-use json::Reader;
+use json::{Error, Reader};
 use serde_json::Value;
 use std::alloc::Global;
 
-#[cycle(straight)]
+#[cycle(values)]
 #[inline(always)]
 pub(crate) fn read_value(
     alloc: Global,
@@ -45,7 +44,7 @@ pub(crate) fn read_value(
     order: KeyOrder,
     reader: &mut Reader<'_>,
     depth: usize,
-) -> Result<Option<Bson>, Unread>
+) -> Result<Option<Bson>, Error>
     ensures ok { IfOk result
         (λ v. Reads (reads_by order doubles) (converted (tree_by order) (value depth reader.old))
         (option_map bson_view v) reader.new) }
@@ -61,7 +60,7 @@ pub(crate) fn read_value(
 }
 
 // An array whose bracket was read.
-#[cycle(straight)]
+#[cycle(values)]
 #[inline(never)]
 fn read_array(
     alloc: Global,
@@ -69,7 +68,7 @@ fn read_array(
     order: KeyOrder,
     reader: &mut Reader<'_>,
     depth: usize,
-) -> Result<Option<Bson>, Unread>
+) -> Result<Option<Bson>, Error>
     ensures ok { IfOk result
         (λ v. Reads (λ ds. reads_by order doubles (array ds))
         (converted (items_by order) (items (value depth) (length reader.old) reader.old))
@@ -85,7 +84,9 @@ fn read_array(
             has_meaning = false;
             continue;
         };
-        found.push(item)?;
+        let Ok(()) = found.push(item) else {
+            return Err(Error::OutOfMemory);
+        };
     }
     if !has_meaning {
         return Ok(None);
@@ -95,7 +96,7 @@ fn read_array(
 }
 
 // A document, or a wrapper, whose brace was read.
-#[cycle(straight)]
+#[cycle(values)]
 #[inline(never)]
 fn read_object(
     alloc: Global,
@@ -103,11 +104,11 @@ fn read_object(
     order: KeyOrder,
     reader: &mut Reader<'_>,
     depth: usize,
-) -> Result<Option<Bson>, Unread>
+) -> Result<Option<Bson>, Error>
     ensures ok { IfOk result
         (λ v. MembersRead order (λ ms. reads_by order doubles (object ms)) depth reader.old (option_map bson_view v)
         reader.new) }
-    ensures broken { IfErr result (λ e. e ≡ Refused → NoMembers depth reader.old) }
+    ensures broken { IfErr result (λ e. e ≡ Invalid → NoMembers depth reader.old) }
     ensures shorter { OnOk result (length reader.new < length reader.old) }
 {
     let Some(name) = reader.next_key()? else {
@@ -132,7 +133,7 @@ fn read_object(
 }
 
 // The members, and the one whose key was read.
-#[cycle(straight)]
+#[cycle(values)]
 #[inline(always)]
 fn read_member(
     alloc: Global,
@@ -142,7 +143,7 @@ fn read_member(
     depth: usize,
     name: &str,
     found: Gathered,
-) -> Result<Gathered, Unread>
+) -> Result<Gathered, Error>
     requires order { IsInOrder order found }
     ensures ok { IfOk result
         (λ now. IsJoined order doubles (converted (tree_by order) (value depth reader.old)) name.now (gathered found)
@@ -158,7 +159,7 @@ fn read_member(
 
 // The document of the members that were found and those behind them, of which the first is no
 // wrapper's. `is_document` is false where one of another key is.
-#[cycle(straight)]
+#[cycle(values)]
 #[inline(always)]
 fn read_document(
     alloc: Global,
@@ -168,11 +169,11 @@ fn read_document(
     depth: usize,
     first: Gathered,
     is_plain: bool,
-) -> Result<Option<Bson>, Unread>
+) -> Result<Option<Bson>, Error>
     requires order { IsInOrder order first }
     ensures ok { (old : Members) → IsFound order doubles old is_plain (gathered first) → IfOk result
         (λ v. RestReads order doubles depth old reader.old (option_map bson_view v) reader.new) }
-    ensures broken { IfErr result (λ e. e ≡ Refused → NoMembers depth reader.old) }
+    ensures broken { IfErr result (λ e. e ≡ Invalid → NoMembers depth reader.old) }
     ensures shorter { OnOk result (length reader.new < length reader.old) }
 {
     let mut found = first;
@@ -189,7 +190,7 @@ fn read_document(
 
 // What the wrapper means whose key was read: one of that key alone, or code with its scope. Of a key
 // that stands again the last value counts.
-#[cycle(straight)]
+#[cycle(values)]
 #[inline(never)]
 fn read_wrapped(
     alloc: Global,
@@ -198,11 +199,11 @@ fn read_wrapped(
     reader: &mut Reader<'_>,
     depth: usize,
     key: &str,
-) -> Result<Option<Bson>, Unread>
+) -> Result<Option<Bson>, Error>
     requires wrapper { is_some (wrapper_of key.now) ≡ true }
     ensures ok { IfOk result
         (λ v. ObjectReads order doubles depth key.now reader.old (option_map bson_view v) reader.new) }
-    ensures broken { IfErr result (λ e. e ≡ Refused → NoObject depth key.now reader.old) }
+    ensures broken { IfErr result (λ e. e ≡ Invalid → NoObject depth key.now reader.old) }
     ensures shorter { OnOk result (length reader.new < length reader.old) }
 {
     let mut held = read_held(alloc, reader, depth)?;
@@ -222,7 +223,7 @@ fn read_wrapped(
 }
 
 // Code and a scope, both of which were read. Of a key that stands again the last value counts.
-#[cycle(straight)]
+#[cycle(values)]
 fn read_code(
     alloc: Global,
     doubles: Doubles,
@@ -231,11 +232,11 @@ fn read_code(
     depth: usize,
     first: Value,
     first_scope: Option<Option<Document>>,
-) -> Result<Option<Bson>, Unread>
+) -> Result<Option<Bson>, Error>
     ensures ok { (old : Members) → IsCode order doubles true (view first)
         (option_map (λ d. option_map document_view d) first_scope) old
         → IfOk result (λ v. RestReads order doubles depth old reader.old (option_map bson_view v) reader.new) }
-    ensures broken { IfErr result (λ e. e ≡ Refused → NoMembers depth reader.old) }
+    ensures broken { IfErr result (λ e. e ≡ Invalid → NoMembers depth reader.old) }
     ensures shorter { OnOk result (length reader.new < length reader.old) }
 {
     let mut code = first;
@@ -256,14 +257,14 @@ fn read_code(
 }
 
 // The scope of code: null, or a document whose keys are not tested.
-#[cycle(straight)]
+#[cycle(values)]
 fn read_scope(
     alloc: Global,
     doubles: Doubles,
     order: KeyOrder,
     reader: &mut Reader<'_>,
     depth: usize,
-) -> Result<Option<Option<Document>>, Unread>
+) -> Result<Option<Option<Document>>, Error>
     ensures ok { IfOk result
         (λ scope. Reads (reads_scope_by order doubles) (converted (tree_by order) (value depth reader.old))
         (option_map (λ d. option_map document_view d) scope) reader.new) }
@@ -284,18 +285,18 @@ fn read_scope(
     }
 }
 
-#[cycle(straight)]
+#[cycle(values)]
 fn read_pairs(
     alloc: Global,
     doubles: Doubles,
     order: KeyOrder,
     reader: &mut Reader<'_>,
     depth: usize,
-) -> Result<Option<Document>, Unread>
+) -> Result<Option<Document>, Error>
     ensures ok { IfOk result
         (λ d. MembersRead order (reads_members_by order doubles) depth reader.old (option_map document_view d)
         reader.new) }
-    ensures broken { IfErr result (λ e. e ≡ Refused → NoMembers depth reader.old) }
+    ensures broken { IfErr result (λ e. e ≡ Invalid → NoMembers depth reader.old) }
     ensures shorter { OnOk result (length reader.new < length reader.old) }
 {
     let mut found = empty_members(alloc, order);

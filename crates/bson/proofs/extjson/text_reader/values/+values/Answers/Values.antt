@@ -21,12 +21,12 @@ use Rattle.bson.specs.declared.bson.Bson.TheVariants as bson
 use Rattle.bson_tokens.proofs.Offered.{none_listed, one_listed}
 use Rattle.bson.proofs.ByOrder.{by_default, primitive_by, array_by, object_by, one_listed_by, all_listed_by}
 use Rattle.bson.proofs.Held.{primitive_reads}
-use Rattle.bson.specs.Straight.{given}
+use Rattle.bson.specs.FromTokens.{given}
 use Rattle.bson.proofs.Seen.{bson_view-Array}
 use Rattle.bson.proofs.Listed.{Listed, one_more, none_more, list_given, list_not_given}
 use Rattle.bson_tokens.proofs.Offered.{array_read, object_read, if_ok, if_err, no_item}
 use Rattle.bson_tokens.specs.Start.{primitive_tree}
-use Rattle.bson.proofs.extjson.text_reader.straight.+straight.Goals as goal
+use Rattle.bson.proofs.extjson.text_reader.values.+values.Goals as goal
 
 -- ---- values
 
@@ -100,7 +100,7 @@ read_array-items-preserved t c =
       one_listed_by c.args.order c.args.depth c.args.reader.now l.reader s c.read_value.new.reader front d l.invariant.1
           ended.0 ended.1 done.ok.1 done.shorter,
       subst (λ vs. Listed c.args.order c.args.doubles l.has_meaning (λ ds. front (item d ds)) vs)
-          (sym (map-append bson_view l.found.items (v ∷ [])) ∙ ap (map bson_view) (sym c.in_ok-push.ensures.items))
+          (sym (map-append bson_view l.found.items (v ∷ [])) ∙ ap (map bson_view) (sym c.in-Ok.ensures.items))
           (one_more c.args.order c.args.doubles l.has_meaning front (map bson_view l.found.items) d (bson_view v)
           (done.ok.2 ∙ ap (option_map bson_view) c.in-Some.is) l.invariant.2),
       λ ds. l.invariant.3 (item (default_tree c.args.order d) ds),

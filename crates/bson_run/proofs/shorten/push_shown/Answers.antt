@@ -1,7 +1,7 @@
 use Rattle.std.proofs.Common.{◌≡◌, ◌<◌, string_bytes, sym, ◌∙◌, rules, ne_eqb}
 use Rattle.bson_run.specs.Place.{shown}
 use Rattle.bson_run.proofs.Explaining.{added, hole, shown_control}
-use Rattle.bson_run.proofs.told.push_shown.Goals as goal
+use Rattle.bson_run.proofs.shorten.push_shown.Goals as goal
 
 pub returns-then-is_control : goal.returns-then-is_control
 returns-then-is_control c =

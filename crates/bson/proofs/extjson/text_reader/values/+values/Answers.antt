@@ -3,11 +3,11 @@ mod Values
 mod Objects
 mod Wrappers
 mod Scopes
-use Rattle.bson.proofs.extjson.text_reader.straight.+straight.Answers.Values as values
-use Rattle.bson.proofs.extjson.text_reader.straight.+straight.Answers.Objects as objects
-use Rattle.bson.proofs.extjson.text_reader.straight.+straight.Answers.Wrappers as wrappers
-use Rattle.bson.proofs.extjson.text_reader.straight.+straight.Answers.Scopes as scopes
-use Rattle.bson.proofs.extjson.text_reader.straight.+straight.Goals as goal
+use Rattle.bson.proofs.extjson.text_reader.values.+values.Answers.Values as values
+use Rattle.bson.proofs.extjson.text_reader.values.+values.Answers.Objects as objects
+use Rattle.bson.proofs.extjson.text_reader.values.+values.Answers.Wrappers as wrappers
+use Rattle.bson.proofs.extjson.text_reader.values.+values.Answers.Scopes as scopes
+use Rattle.bson.proofs.extjson.text_reader.values.+values.Goals as goal
 
 pub read_value-returns-in_ok-value_of_primitive-in-Primitive-clause-ok :
     goal.read_value-returns-in_ok-value_of_primitive-in-Primitive-clause-ok

@@ -1,7 +1,7 @@
 use Rattle.std.proofs.Common.{◌≡◌, ◌++◌, IfOk, string_bytes, append_assoc, codes, subst}
 use Rattle.std.specs.Fmt.{decimal}
 use Rattle.bson_codec.specs.Told.{newline}
-use Rattle.bson_codec.proofs.told.at_place.Goals as goal
+use Rattle.bson_codec.proofs.run_end.at_place.Goals as goal
 
 pub returns : goal.returns
 returns c =

@@ -5,8 +5,8 @@ use Rattle.std.proofs.lemmas.Iterator.{YieldsList-from_chars, YieldsList-from_ta
 use Rattle.std.proofs.lemmas.Iterator.Consumers.{YieldsList-end, nth_from_yields_List}
 use Rattle.bson_run.specs.Place.{letter}
 use Rattle.bson_run.proofs.Explaining.{cut_there}
-use Rattle.bson_run.proofs.told.shorten.Goals as goal
-use Rattle.bson_run.proofs.told.shorten.Goals.{then-is_some+in_ok-push_str, else-is_some}
+use Rattle.bson_run.proofs.shorten.shorten.Goals as goal
+use Rattle.bson_run.proofs.shorten.shorten.Goals.{then-is_some+in_ok-push_str, else-is_some}
 
 pub returns : goal.returns
 returns c =

@@ -15,7 +15,7 @@ use Rattle.bson_scalar.proofs.Offered.{on_ok}
 use Rattle.bson_model.specs.Reading.{scalar_value}
 use Rattle.bson.specs.ByOrder.{insert_by}
 use Rattle.bson.specs.View.{bson_view, document_view}
-use Rattle.bson.specs.Straight.{IsCode}
+use Rattle.bson.specs.FromTokens.{IsCode}
 use Rattle.bson_tokens.specs.Keys.{is_code, is_scope}
 use Rattle.bson_tokens.proofs.Offered.{if_ok, if_err, no_key, no_member}
 use Rattle.bson.proofs.ByOrder.{by_default, first_insert}
@@ -25,9 +25,9 @@ use Rattle.bson.proofs.Gathering.{with_rest}
 use Rattle.bson.proofs.Wrapped.{held_by, no_first, IsAlone, alone_again, alone_given, not_alone, code_then_scope}
 use Rattle.bson.proofs.Wrapped.{scope_again, code_again, code_read, code_refused}
 use Rattle.bson.proofs.Held.{code_keys}
-use Rattle.bson.proofs.extjson.text_reader.straight.+straight.Goals.{read_wrapped-else-is_alone-via-then-is_alone+else-is_code_with_scope}
-use Rattle.bson.proofs.extjson.text_reader.straight.+straight.Goals.{read_wrapped-else-is_alone-via-else-is_alone}
-use Rattle.bson.proofs.extjson.text_reader.straight.+straight.Goals as goal
+use Rattle.bson.proofs.extjson.text_reader.values.+values.Goals.{read_wrapped-else-is_alone-via-then-is_alone+else-is_code_with_scope}
+use Rattle.bson.proofs.extjson.text_reader.values.+values.Goals.{read_wrapped-else-is_alone-via-else-is_alone}
+use Rattle.bson.proofs.extjson.text_reader.values.+values.Goals as goal
 
 -- ---- code with its scope
 

@@ -16,7 +16,7 @@ use Rattle.bson_order.specs.Reading.{reads_in_order, scope_in_order}
 use Rattle.bson.specs.ByOrder.{insert_by}
 use Rattle.bson.specs.View.{bson_view, document_view}
 use Rattle.bson.specs.Gathered.{gathered}
-use Rattle.bson.specs.Straight.{IsCode, ReadsHeld, given, unless_nothing}
+use Rattle.bson.specs.FromTokens.{IsCode, ReadsHeld, given, unless_nothing}
 use Rattle.bson_tokens.specs.Keys.{is_code, is_scope}
 use Rattle.bson_tokens.specs.Parts.{IsBroken}
 use Rattle.bson.specs.declared.extjson.key_order.KeyOrder.TheVariants.{AsGiven}
@@ -30,9 +30,9 @@ use Rattle.bson.proofs.Wrapped.{held_by, no_first, tied}
 use Rattle.bson.proofs.Wrapped.{scope_then_code}
 use Rattle.bson.proofs.Held.{code_keys, list_scope, primitive_scope, object_scope, second_false, not_twice, stray_from}
 use Rattle.bson.proofs.Held.{scope_found, lone_document}
-use Rattle.bson.proofs.extjson.text_reader.straight.+straight.Goals.{read_wrapped-else-is_alone-via-then-is_alone+else-is_code_with_scope}
-use Rattle.bson.proofs.extjson.text_reader.straight.+straight.Goals.{read_wrapped-else-is_alone-via-else-is_alone}
-use Rattle.bson.proofs.extjson.text_reader.straight.+straight.Goals as goal
+use Rattle.bson.proofs.extjson.text_reader.values.+values.Goals.{read_wrapped-else-is_alone-via-then-is_alone+else-is_code_with_scope}
+use Rattle.bson.proofs.extjson.text_reader.values.+values.Goals.{read_wrapped-else-is_alone-via-else-is_alone}
+use Rattle.bson.proofs.extjson.text_reader.values.+values.Goals as goal
 
 -- ---- scopes
 

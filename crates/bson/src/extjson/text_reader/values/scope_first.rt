@@ -6,28 +6,27 @@ ghost use Rattle.serde_json.specs.Read.{of_json, converted};
 ghost use Rattle.bson_tokens.specs.Parts.{IsBroken, NoObject};
 ghost use Rattle.bson.specs.View.{bson_view, document_view};
 ghost use Rattle.bson.specs.ByOrder.{reads_by, reads_scope_by};
-ghost use Rattle.bson.specs.Straight.{ObjectReads, ReadsHeld};
+ghost use Rattle.bson.specs.FromTokens.{ObjectReads, ReadsHeld};
 ghost use Rattle.bson.specs.declared.extjson.key_order.KeyOrder.TheVariants.{AsGiven};
-ghost use Rattle.bson_tokens.specs.declared.unread.Unread.TheVariants.{Refused};
+ghost use Rattle.json.specs.declared.error.Error.TheVariants.{Invalid};
 
 use crate::bson::Bson;
 use crate::document::Document;
 use crate::extjson::key_order::KeyOrder;
 use crate::extjson::text_reader::parts::{document_value, one_member, read_sorted, text_held};
-use crate::extjson::text_reader::straight::{
+use crate::extjson::text_reader::values::{
     read_code, read_document, read_member, read_scope, read_value,
 };
 use bson_scalar::code::{is_code_with_scope, is_scope};
 use bson_scalar::form::Doubles;
 use bson_scalar::wrapper::wrapper_named;
 use bson_tokens::held::read_held;
-use bson_tokens::unread::Unread;
-use json::{Reader, Scratch};
+use json::{Error, Reader, Scratch};
 use std::alloc::Global;
 
 // What the object means that begins with `$scope`, whose key was read. Only what follows tells
 // whether a scope stands there, whose keys are not tested, or a value like any other.
-#[cycle(straight)]
+#[cycle(values)]
 pub(crate) fn read_scoped(
     alloc: Global,
     doubles: Doubles,
@@ -35,11 +34,11 @@ pub(crate) fn read_scoped(
     reader: &mut Reader<'_>,
     depth: usize,
     key: &str,
-) -> Result<Option<Bson>, Unread>
+) -> Result<Option<Bson>, Error>
     requires scope { key.now ≡ codes "$scope" }
     ensures ok { IfOk result
         (λ v. ObjectReads order doubles depth key.now reader.old (option_map bson_view v) reader.new) }
-    ensures broken { IfErr result (λ e. e ≡ Refused → NoObject depth key.now reader.old) }
+    ensures broken { IfErr result (λ e. e ≡ Invalid → NoObject depth key.now reader.old) }
     ensures shorter { OnOk result (length reader.new < length reader.old) }
 {
     match order {
@@ -50,7 +49,7 @@ pub(crate) fn read_scoped(
 
 // The same where keys are as given. The text of what the key holds is kept until another key, or the
 // end, tells how it is read.
-#[cycle(straight)]
+#[cycle(values)]
 #[inline(never)]
 fn read_scope_first(
     alloc: Global,
@@ -58,11 +57,11 @@ fn read_scope_first(
     reader: &mut Reader<'_>,
     depth: usize,
     key: &str,
-) -> Result<Option<Bson>, Unread>
+) -> Result<Option<Bson>, Error>
     requires scope { key.now ≡ codes "$scope" }
     ensures ok { IfOk result
         (λ v. ObjectReads AsGiven doubles depth key.now reader.old (option_map bson_view v) reader.new) }
-    ensures broken { IfErr result (λ e. e ≡ Refused → NoObject depth key.now reader.old) }
+    ensures broken { IfErr result (λ e. e ≡ Invalid → NoObject depth key.now reader.old) }
     ensures shorter { OnOk result (length reader.new < length reader.old) }
 {
     let order = KeyOrder::AsGiven;
@@ -87,13 +86,13 @@ fn read_scope_first(
 }
 
 // What the text means, which stood at a key.
-#[cycle(straight)]
+#[cycle(values)]
 fn value_held(
     alloc: Global,
     doubles: Doubles,
     text: &str,
     depth: usize,
-) -> Result<Option<Bson>, Unread>
+) -> Result<Option<Bson>, Error>
     ensures ok { IfOk result
         (λ v. ReadsHeld (reads_by AsGiven doubles) depth text.now (option_map bson_view v)) }
     ensures broken { IfErr result (IsBroken (converted of_json (value depth (tokens text.now)))) }
@@ -104,13 +103,13 @@ fn value_held(
 }
 
 // The scope that the text is.
-#[cycle(straight)]
+#[cycle(values)]
 fn scope_held(
     alloc: Global,
     doubles: Doubles,
     text: &str,
     depth: usize,
-) -> Result<Option<Option<Document>>, Unread>
+) -> Result<Option<Option<Document>>, Error>
     ensures ok { IfOk result (λ scope. ReadsHeld (reads_scope_by AsGiven doubles) depth text.now
         (option_map (λ d. option_map document_view d) scope)) }
     ensures broken { IfErr result (IsBroken (converted of_json (value depth (tokens text.now)))) }

@@ -12,7 +12,7 @@ use Rattle.bson_model.specs.Value.{no_pairs}
 use Rattle.bson.specs.View.{bson_view}
 use Rattle.bson.specs.ByOrder.{default_members, insert_by, insert_pair_by, reads_by}
 use Rattle.bson.specs.Gathered.{gathered, order_of}
-use Rattle.bson.specs.Straight.{marked, unless_nothing}
+use Rattle.bson.specs.FromTokens.{marked, unless_nothing}
 use Rattle.bson_tokens.specs.Keys.{is_wrapper, is_scope}
 use Rattle.bson.specs.declared.bson.Bson.{the_lemmas}
 use Rattle.bson.proofs.ByOrder.{by_default, none_passed, member_passed, one_gathered_by, all_gathered_by}
@@ -24,7 +24,7 @@ use Rattle.bson.proofs.Seen.{bson_view-Document}
 use Rattle.bson_tokens.proofs.Offered.{if_ok, if_err, no_key, no_member, no_members_behind}
 use Rattle.bson.proofs.Wrapped.{none_by}
 use Rattle.bson.proofs.Held.{held_value, document_given, empty_given, first_found, found_more}
-use Rattle.bson.proofs.extjson.text_reader.straight.+straight.Goals as goal
+use Rattle.bson.proofs.extjson.text_reader.values.+values.Goals as goal
 
 -- ---- members
 

@@ -4,13 +4,13 @@ use Rattle.serde_json.specs.View.{view}
 use Rattle.bson_tokens.proofs.Offered.{Lists}
 use Rattle.bson.specs.View.{bson_view, document_view}
 use Rattle.bson.specs.Gathered.{gathered, IsInOrder}
-use Rattle.bson.specs.Straight.{marked_by, IsFound, IsCode}
+use Rattle.bson.specs.FromTokens.{marked_by, IsFound, IsCode}
 use Rattle.bson.specs.declared.extjson.key_order.KeyOrder.TheVariants.{AsGiven}
 use Rattle.bson.proofs.ByOrder.{ListsBy, GathersBy, FollowsBy, Passes, PassesKey}
 use Rattle.bson.proofs.Held.{IsText}
 use Rattle.bson.proofs.Listed.{Listed}
 use Rattle.bson.proofs.Wrapped.{IsAlone}
-use Rattle.bson.proofs.extjson.text_reader.straight.+straight.Given as goal
+use Rattle.bson.proofs.extjson.text_reader.values.+values.Given as goal
 
 abbrev pub decreases-read_value : goal.decreases-read_value
 decreases-read_value l = 8 * l.depth
