@@ -12,12 +12,12 @@ use Rattle.bson_store.specs.Small.{stored_pairs}
 use Rattle.bson_store.specs.declared.small.Pair.{Pair}
 use Rattle.bson.specs.View.{bson_view, pairs_view}
 use Rattle.bson.specs.declared.bson.Bson.{Bson}
-use Rattle.bson.specs.declared.extjson.text_reader.gathered.Gathered.{Gathered}
+use Rattle.bson.specs.declared.extjson.text_reader.members.Gathered.{Gathered}
 use Rattle.bson.specs.ByOrder.{insert_pair_by}
 use Rattle.bson.specs.Put.{put_entries}
 use Rattle.bson.specs.declared.extjson.key_order.KeyOrder.{KeyOrder}
 use Rattle.bson.specs.declared.extjson.key_order.KeyOrder.TheVariants.{Ascending, AsGiven}
-use Rattle.bson.specs.declared.extjson.text_reader.gathered.Gathered.TheVariants.{Few, Many, InTurn}
+use Rattle.bson.specs.declared.extjson.text_reader.members.Gathered.TheVariants.{Few, Many, InTurn}
 
 abbrev pub Member : Type 0
 Member = Pair Bson

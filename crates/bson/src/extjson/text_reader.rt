@@ -1,8 +1,9 @@
 //! Values from texts, with no tree of the whole.
 //!
-//! In reading order: `values` (values from the tokens of a text), `parts` (what it needs beside)
-//! and `gathered` (the members of an object as they come, by ascending key or in their order).
-//! Trees of what a wrapper's key holds, and why a text means nothing, are from `bson_tokens`.
+//! In reading order: `values` (values from the tokens of a text), `meaning` (the values of what was
+//! read), `held` (text that is held until it is known how to read it) and `members` (the members of
+//! an object as they come, by ascending key or in their order). Trees of what a wrapper's key holds,
+//! and why a text means nothing, are from `bson_tokens`.
 ghost use Rattle.std.specs.Prelude.{◌≡◌, Some, Ok, option_map, IfOk, IfErr, OnOk, IsUtf8};
 ghost use Rattle.serde_json.specs.Data.{Data};
 ghost use Rattle.serde_json.specs.Read.{read as tree_of};
@@ -22,8 +23,9 @@ ghost use Rattle.bson_tokens.specs.Parts.{IsBroken};
 ghost use Rattle.bson.specs.FromTokens.{TextReads};
 ghost use Rattle.bson.specs.declared.extjson.text_error.TextError.TheVariants.{OutOfMemory};
 
-mod gathered;
-mod parts;
+mod held;
+mod meaning;
+mod members;
 mod values;
 
 use crate::bson::Bson;

@@ -22,10 +22,10 @@ use crate::bson::Bson;
 use crate::document::Document;
 use crate::extjson::key_order::KeyOrder;
 use crate::extjson::read::single_value;
-use crate::extjson::text_reader::gathered::{Gathered, NOTHING, document_of, empty_members, put};
-use crate::extjson::text_reader::parts::{
+use crate::extjson::text_reader::meaning::{
     code_value, document_value, scope_of_primitive, value_of_primitive, value_of_result,
 };
+use crate::extjson::text_reader::members::{Gathered, NOTHING, document_of, empty_members, put};
 use crate::extjson::text_reader::values::scope_first::read_scoped;
 use bson_scalar::code::{is_code_with_scope, is_scope};
 use bson_scalar::form::Doubles;

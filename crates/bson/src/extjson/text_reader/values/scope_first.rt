@@ -13,7 +13,9 @@ ghost use Rattle.json.specs.declared.error.Error.TheVariants.{Invalid};
 use crate::bson::Bson;
 use crate::document::Document;
 use crate::extjson::key_order::KeyOrder;
-use crate::extjson::text_reader::parts::{document_value, one_member, read_sorted, text_held};
+use crate::extjson::text_reader::held::text_held;
+use crate::extjson::text_reader::meaning::{document_value, read_sorted};
+use crate::extjson::text_reader::members::one_member;
 use crate::extjson::text_reader::values::{
     read_code, read_document, read_member, read_scope, read_value,
 };
