@@ -8,7 +8,7 @@ use Rattle.bson_model.specs.Value.{Value}
 use Rattle.bson.proofs.Offered.{tree_one}
 use Rattle.bson.specs.TextMeaning.{HasTextMeaningIn, IsTextOf}
 use Rattle.bson.specs.declared.extjson.options.Options.{Options}
-use Rattle.bson_convert.specs.Convert.{IsRefusedIn}
+use Rattle.bson_convert.specs.Convert.{IsAccepted, IsRefusedIn}
 use Rattle.bson_convert.specs.declared.fault.Fault.{Fault}
 use Rattle.bson_convert.specs.declared.fault.Fault.TheVariants.{CannotRead, CannotWrite, NotJson, NotExtendedJson}
 use Rattle.bson_convert.specs.declared.fault.Fault.TheVariants.{NoBytes, OutOfMemory}
@@ -31,11 +31,14 @@ module _ (o : Options) (bytes : List ℕ) (t : Data) (v : Value) (is : IsTextOf 
   accepted (Err f) h = memory_alone f h
 
 module _ (o : Options) (text arranged : List ℕ) (utf8 : IsUtf8 text) (same : read arranged ≡ read text) where
-  text_alike : (t : Data) → IsTextOf arranged t → IsTextOf text t
+  pub text_alike : (t : Data) → IsTextOf arranged t → IsTextOf text t
   text_alike t is = record { utf8 = utf8; tree_read = sym same ∙ is.tree_read }
 
   pub meant_alike : (v : Value) → HasTextMeaningIn o.doubles arranged v → HasTextMeaningIn o.doubles text v
   meant_alike v has = record { tree = has.tree; text = text_alike has.tree has.text; meaning = has.meaning }
+
+  pub accepted_alike : IsAccepted o arranged → IsAccepted o text
+  accepted_alike (t, v, is, means) = (t, v, text_alike t is, means)
 
   pub refused_alike : (f : Fault) → IsUtf8 arranged → IsRefusedIn o f arranged → IsRefusedIn o f text
   refused_alike NotJson valid none = λ _. sym same ∙ none valid

@@ -68,6 +68,10 @@ IsRefusedIn o (NotExtendedJson place) bytes = (tree : Data) × IsTextOf bytes tr
 IsRefusedIn o OutOfMemory bytes = Unit {0}
 IsRefusedIn o other bytes = ⊥
 
+-- the bytes are the text of a tree that means something
+abbrev pub IsAccepted : Options → List ℕ → Type 0
+IsAccepted o bytes = (tree : Data) × (value : Value) × IsTextOf bytes tree × MeansIn o.doubles tree value
+
 abbrev pub IsWritten : Form → Value → List ℕ → Type 0
 IsWritten = IsWrittenIn default_options
 
@@ -92,8 +96,6 @@ IsTextFor o Show value text = text ≡ display_text value
 abbrev pub IsConvertedText : Options → Mode → List ℕ → List ℕ → Type 0
 IsConvertedText o mode bytes text =
     (value : Value) × HasTextMeaningIn o.doubles bytes value × IsTextFor o mode value text
-
--- ---- for private clauses
 
 -- that text, or a text of the same tree as the bytes'
 abbrev pub IsTried : Options → Mode → List ℕ → Tried → Type 0

@@ -68,15 +68,17 @@ pub fn convert_with(
     end_line(text)
 }
 
-/// The same of bytes that are let go once they are read or arranged, so that they take no memory
-/// beside the output of a value or of the arranged text.
-pub(crate) fn convert_whole(
+/// [`convert_with`] of bytes that are let go once they are read or arranged, so that they take no
+/// memory beside the output of the arranged text.
+pub fn convert_whole(
     alloc: Global,
     options: Options,
     mode: Mode,
     bytes: Vec<u8>,
 ) -> Result<Vec<u8>, Fault>
     ensures ok { IfOk result (λ output. ConvertsIn options mode bytes.items output.items) }
+    ensures accepts { (tree : Data) (value : model.Value) → IsTextOf bytes.items tree
+        → MeansIn options.doubles tree value → IfErr result (λ fault. fault ≡ Fault.OutOfMemory) }
     ensures fault { IfErr result (λ fault. IsRefusedIn options fault bytes.items) }
 {
     let tried = try_text(alloc, options, mode, &bytes)?;

@@ -3,11 +3,11 @@
 //! A text that can't be written as it is read is arranged, so that each object has each key once:
 //! that text is of the same tree. So a key that stands twice needs no value in memory, nor does what
 //! a later value takes the place of; and where the text means nothing, its fault is the same.
-ghost use Rattle.std.specs.Prelude.{◌≡◌, IfOk, IfErr, ℕ, List, string_bytes};
+ghost use Rattle.std.specs.Prelude.{◌≡◌, IfOk, IfErr, OnOk, ℕ, List, string_bytes};
 ghost use Rattle.serde_json.specs.Read.{read};
 ghost use Rattle.bson_distinct.specs.Arranged.{IsArrangedText};
 ghost use Rattle.bson_tokens.specs.Parts.{IsBroken};
-ghost use Rattle.bson_convert.specs.Convert.{IsConvertedText, IsRefusedIn, IsTried};
+ghost use Rattle.bson_convert.specs.Convert.{IsAccepted, IsConvertedText, IsRefusedIn, IsTried};
 ghost use Rattle.bson.specs.declared.extjson.options.Options.{Options};
 
 use crate::convert::{meaning, value_text};
@@ -22,8 +22,15 @@ use json::Error;
 use std::alloc::Global;
 
 /// What a first reading gives.
+///
+/// ```
+/// let options = Options::default();
+/// if let Ok(Tried::Arranged(text)) = try_text(alloc, options, Mode::Relaxed, b"[7, 1.5]") {
+///     println!(rt; "{text}")?; // [7,1.5]
+/// }
+/// ```
 #[derive(Drop)]
-pub(crate) enum Tried {
+pub enum Tried {
     /// The text that the mode asks for.
     Written(Vec<u8>),
     /// The text of the same tree that is to be read in its place.
@@ -32,12 +39,7 @@ pub(crate) enum Tried {
 
 /// The text that the mode asks for of the value that the bytes mean, written as they are read, or
 /// the arranged text of the bytes where they can't be.
-pub(crate) fn try_text(
-    alloc: Global,
-    options: Options,
-    mode: Mode,
-    bytes: &[u8],
-) -> Result<Tried, Fault>
+pub fn try_text(alloc: Global, options: Options, mode: Mode, bytes: &[u8]) -> Result<Tried, Fault>
     ensures ok { IfOk result (λ tried. IsTried options mode bytes.now tried) }
     ensures fault { IfErr result (λ fault. IsRefusedIn options fault bytes.now) }
 {
@@ -99,16 +101,18 @@ pub fn arrange(alloc: Global, arrangement: Arrangement, text: &str) -> Result<St
 /// Refuses a text that is not JSON or means nothing, with the first fault of its tree, of which no
 /// value is made.
 pub fn refuse(alloc: Global, options: Options, text: &str) -> Result<(), Fault>
-    ensures { IfErr result (λ fault. IsRefusedIn options fault text.now) }
+    ensures ok { OnOk result (IsAccepted options text.now) }
+    ensures fault { IfErr result (λ fault. IsRefusedIn options fault text.now) }
 {
     let arranged = arrange(alloc, Arrangement::Ascending, text)?;
     refuse_arranged(alloc, options, arranged.as_str())
 }
 
-// The same of a text whose keys ascend: there code stands before its scope, so that no tree is
-// made.
-fn refuse_arranged(alloc: Global, options: Options, arranged: &str) -> Result<(), Fault>
-    ensures { IfErr result (λ fault. IsRefusedIn options fault arranged.now) }
+/// The same of a text whose keys ascend: there code stands before its scope, so that no tree is
+/// made.
+pub fn refuse_arranged(alloc: Global, options: Options, arranged: &str) -> Result<(), Fault>
+    ensures ok { OnOk result (IsAccepted options arranged.now) }
+    ensures fault { IfErr result (λ fault. IsRefusedIn options fault arranged.now) }
 {
     match first_fault_in(alloc, options.doubles, arranged) {
         Ok(None) => Ok(()),

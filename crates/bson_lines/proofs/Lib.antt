@@ -2,3 +2,4 @@ mod Asking
 mod Spaces
 mod Telling
 mod Verdicts
+mod Wholes

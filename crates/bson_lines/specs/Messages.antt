@@ -1,5 +1,5 @@
 -- The lines on standard error.
-use Rattle.std.specs.Prelude.{◌≡◌, ◌==◌, ◌||◌, ℕ, suc, Bool, true, false, List, [], ◌∷◌, ◌++◌, Option, None, Some, codes, string_bytes}
+use Rattle.std.specs.Prelude.{◌≡◌, ◌==◌, ◌||◌, ℕ, suc, Bool, List, [], ◌∷◌, ◌++◌, Option, None, Some, codes, string_bytes}
 use Rattle.std.specs.Prelude.{if◌then◌else◌, nat_eq, length, drop, bytes_eq, encode_utf8}
 use Rattle.std.specs.Char.{is_control}
 use Rattle.std.specs.Char.Escape.{escape_default}

@@ -83,12 +83,13 @@ pub record WholeDone (order : Order) (mark : List ℕ) (before after had holds :
   pub gives : Gives order order.task (behind mark bytes) output
   pub written : Appends had holds output
 
--- all was read, the text is refused, and nothing was written
-pub record WholeRefused (order : Order) (fault : Fault) (mark : List ℕ) (before after had holds : Option (List ℕ))
+-- all was read, the text is refused, and nothing was written; this is where the fault lies, in words
+pub record WholeRefused (order : Order) (fault : Fault) (place mark : List ℕ) (before after had holds : Option (List ℕ))
     : Type 0 where
   pub bytes : List ℕ
   pub all : ReadsAll before after bytes
   pub refused : IsUngiven order.options order.task fault (behind mark bytes)
+  pub lies : IsWhere (behind mark bytes) fault place
   pub nothing : Keeps had holds
 
 -- all was read, and the text gives an output, which was not written whole
@@ -99,9 +100,9 @@ pub record WholeUnwritten (order : Order) (mark : List ℕ) (before after : Opti
   pub gives : Gives order order.task (behind mark bytes) output
 
 -- what each fault of a text says of the bytes
-abbrev pub WholeFails : Order → Fault → (mark : List ℕ) → (before after had holds : Option (List ℕ)) → Type 0
-WholeFails order OutOfMemory mark before after had holds = Keeps had holds
-WholeFails order fault mark before after had holds = WholeRefused order fault mark before after had holds
+abbrev pub WholeFails : Order → Fault → (place mark : List ℕ) → (before after had holds : Option (List ℕ)) → Type 0
+WholeFails order OutOfMemory place mark before after had holds = Keeps had holds × (place ≡ [])
+WholeFails order fault place mark before after had holds = WholeRefused order fault place mark before after had holds
 
 -- what each stop says of the bytes; only what is no JSON has a line
 abbrev pub WholeStops : Order → Stop → (name mark : List ℕ) → (before after had holds : Option (List ℕ)) → Type 0
@@ -109,6 +110,6 @@ WholeStops order (Input it error) name mark before after had holds = (it.now ≡
 WholeStops order (Output it error) name mark before after had holds =
     (it.now ≡ string_bytes order.output) × WholeUnwritten order mark before after
 WholeStops order (Text it number fault place) name mark before after had holds =
-    (it.now ≡ name) × WholeFails order fault mark before after had holds × IsWhere fault (string_bytes place)
+    (it.now ≡ name) × WholeFails order fault (string_bytes place) mark before after had holds
     × ((fault ≡ NotJson) ⊎ (number ≡ 0))
 WholeStops order other name mark before after had holds = ⊥

@@ -1,5 +1,6 @@
 //! A run over files: what is opened, and what is told where that can't be done.
 ghost use Rattle.std.specs.Prelude.{◌≡◌, ◌⊎◌, [], IfErr, IfOk, string_bytes};
+ghost use Rattle.bson_run.specs.Lines.{text_held};
 ghost use Rattle.bson_run.specs.Place.{IsWhere};
 ghost use Rattle.bson_lines.specs.Stops.{IsTitle, IsUnread, IsUnwritten};
 
@@ -142,7 +143,7 @@ fn run_each<'a>(
 // Where the fault lies in the line at which the run stopped; nothing where memory is wanting for
 // the words.
 fn place_in(alloc: Global, run: &LineRun, fault: &Fault) -> String
-    ensures { IsWhere fault.now (string_bytes result) ⊎ (string_bytes result ≡ []) }
+    ensures { IsWhere (text_held run.now.gathered) fault.now (string_bytes result) ⊎ (string_bytes result ≡ []) }
 {
     match run.place(alloc, fault) {
         Ok(place) => place,

@@ -1,6 +1,7 @@
 //! A run over one text, on any number of lines.
 ghost use Rattle.std.specs.Prelude.{◌≡◌, ◌≢◌, ◌⊎◌, IfOk, IfErr, IfSome, None, OnOk, string_bytes};
 ghost use Rattle.bson_convert.specs.Convert.{IsRefusedIn};
+ghost use Rattle.bson_run.specs.Accepted.{HasOutput};
 ghost use Rattle.bson_run.specs.Indent.{mode_of};
 ghost use Rattle.bson_run.specs.Place.{IsWhere};
 ghost use Rattle.bson_lines.specs.Whole.{behind, Checks, Gives, IsUngiven, Lays, LaysInOrder, WholeDone};
@@ -10,18 +11,22 @@ use crate::order::Order;
 use crate::run::Stop;
 use bson::extjson::Form;
 use bson_convert::convert::convert_with;
+use bson_convert::converted::refuse;
 use bson_convert::fault::Fault;
 use bson_convert::mode::Mode;
 use bson_convert::stream::read_whole;
+use bson_run::accepted::Accepted;
 use bson_run::encode::{encode_in_order, encode_with};
 use bson_run::explain::explain;
-use bson_run::in_order::convert_in_order;
 use bson_run::indented::{convert_in_order_indented, convert_indented};
 use bson_run::order::{Task, Work};
 use bson_run::stop;
 use bson_run::taken::take_as;
 use std::alloc::{AllocError, Global};
 use std::io::{Read, Write};
+
+/// From so many bytes on the memory of a text counts for more than a walk over it.
+const LONG: usize = 1 << 24;
 
 /// Converts the one text of the file of this name, which the reader has behind this mark, or
 /// without it. Where it is refused, the stop has the line of what is no JSON, and no line (0) for
@@ -45,15 +50,20 @@ pub fn convert_whole<'a, R: Read, W: Write>(
         Err(_) => return Err(Stop::Text(name, 0, Fault::OutOfMemory, String::new(alloc))),
     };
     let text = strip_mark(mark, &bytes);
-    match run_task(alloc, order, text) {
+    let accepted = match accept(alloc, order, text) {
+        Ok(accepted) => accepted,
+        Err(fault) => {
+            let (line, fault, place) = refusal_of(alloc, fault, text);
+            return Err(Stop::Text(name, line, fault, place));
+        }
+    };
+    drop(bytes);
+    match accepted.output(alloc, order.options) {
         Ok(output) => match writer.write_all(&output) {
             Ok(()) => Ok(()),
             Err(_) => Err(Stop::Output(order.output.as_str(), None)),
         },
-        Err(fault) => {
-            let (line, fault, place) = refusal_of(alloc, fault, text);
-            Err(Stop::Text(name, line, fault, place))
-        }
+        Err(fault) => Err(Stop::Text(name, 0, fault, String::new(alloc))),
     }
 }
 
@@ -68,67 +78,100 @@ fn strip_mark<'a>(mark: &[u8], bytes: &'a [u8]) -> &'a [u8]
     }
 }
 
-// What is written of the text.
-fn run_task(alloc: Global, order: &Order, bytes: &[u8]) -> Result<Vec<u8>, Fault>
-    ensures ok { IfOk result (λ output. Gives order.now order.now.task bytes.now output.items) }
+// What the text gives.
+fn accept(alloc: Global, order: &Order, bytes: &[u8]) -> Result<Accepted, Fault>
+    ensures ok { IfOk result (HasOutput order.now.options (Gives order.now order.now.task bytes.now)) }
     ensures fault { IfErr result (λ fault. IsUngiven order.now.options order.now.task fault bytes.now) }
 {
     match order.task {
-        Task::Write(mode) => write_text(alloc, order, mode, bytes),
-        Task::WriteInOrder(mode) => write_in_order(alloc, order, mode, bytes),
+        Task::Write(mode) => accept_text(alloc, order, mode, bytes),
+        Task::WriteInOrder(mode) => accept_in_order(alloc, order, mode, bytes),
         Task::Check => check(alloc, order, bytes),
-        Task::Encode => encode_with(alloc, order.options, bytes),
-        Task::EncodeInOrder => encode_in_order(alloc, order.options, bytes),
+        Task::Encode => Ok(Accepted::Output(encode_with(alloc, order.options, bytes)?)),
+        Task::EncodeInOrder => {
+            Ok(Accepted::Output(encode_in_order(alloc, order.options, bytes)?))
+        }
         Task::Taken(taking, work) => match take_as(alloc, taking, bytes)? {
-            Some(modern) => work_on(alloc, order, work, modern.as_bytes()),
-            None => work_on(alloc, order, work, bytes),
+            Some(modern) => accept_modern(alloc, order, work, modern),
+            None => accept_taken(alloc, order, work, bytes),
         },
     }
 }
 
-// What is written of a text that was taken.
-fn work_on(alloc: Global, order: &Order, work: Work, bytes: &[u8]) -> Result<Vec<u8>, Fault>
-    ensures ok { IfOk result (λ output. Works order.now work bytes.now output.items) }
+// What a newer text gives. A long one is looked at for its fault before it is written, so that of
+// the two texts it alone is held beside the output.
+fn accept_modern(
+    alloc: Global,
+    order: &Order,
+    work: Work,
+    modern: String,
+) -> Result<Accepted, Fault>
+    ensures ok { IfOk result (HasOutput order.now.options (Works order.now work (string_bytes modern))) }
+    ensures fault { IfErr result (λ fault. IsRefusedIn order.now.options fault (string_bytes modern)) }
+{
+    if modern.len() < LONG || order.indent.is_some() {
+        return accept_taken(alloc, order, work, modern.as_bytes());
+    }
+    refuse(alloc, order.options, modern.as_str())?;
+    match work {
+        Work::Write(mode) => Ok(Accepted::Arranged(mode, modern)),
+        Work::WriteInOrder(mode) => Ok(Accepted::ArrangedInOrder(mode, modern)),
+        Work::Check => check(alloc, order, modern.as_bytes()),
+    }
+}
+
+// What a text gives that was taken.
+fn accept_taken(alloc: Global, order: &Order, work: Work, bytes: &[u8]) -> Result<Accepted, Fault>
+    ensures ok { IfOk result (HasOutput order.now.options (Works order.now work bytes.now)) }
     ensures fault { IfErr result (λ fault. IsRefusedIn order.now.options fault bytes.now) }
 {
     match work {
-        Work::Write(mode) => write_text(alloc, order, mode, bytes),
-        Work::WriteInOrder(mode) => write_in_order(alloc, order, mode, bytes),
+        Work::Write(mode) => accept_text(alloc, order, mode, bytes),
+        Work::WriteInOrder(mode) => accept_in_order(alloc, order, mode, bytes),
         Work::Check => check(alloc, order, bytes),
     }
 }
 
 // The output in the mode, over several lines where that is asked for.
-fn write_text(alloc: Global, order: &Order, mode: Mode, bytes: &[u8]) -> Result<Vec<u8>, Fault>
-    ensures ok { IfOk result (λ output. Lays order.now.options order.now.indent mode bytes.now output.items) }
+fn accept_text(alloc: Global, order: &Order, mode: Mode, bytes: &[u8]) -> Result<Accepted, Fault>
+    ensures ok { IfOk result (HasOutput order.now.options (Lays order.now.options order.now.indent mode bytes.now)) }
     ensures fault { IfErr result (λ fault. IsRefusedIn order.now.options fault bytes.now) }
 {
     let options = order.options;
     match layout(order, mode) {
-        Some((form, spaces)) => convert_indented(alloc, options, form, spaces, bytes),
-        None => convert_with(alloc, options, mode, bytes),
+        Some((form, spaces)) => {
+            Ok(Accepted::Output(convert_indented(alloc, options, form, spaces, bytes)?))
+        }
+        None => Accepted::of(alloc, options, mode, bytes),
     }
 }
 
 // The same in the order of the text's keys.
-fn write_in_order(alloc: Global, order: &Order, mode: Mode, bytes: &[u8]) -> Result<Vec<u8>, Fault>
-    ensures ok { IfOk result (λ output. LaysInOrder order.now.options order.now.indent mode bytes.now output.items) }
+fn accept_in_order(
+    alloc: Global,
+    order: &Order,
+    mode: Mode,
+    bytes: &[u8],
+) -> Result<Accepted, Fault>
+    ensures ok { IfOk result (HasOutput order.now.options (LaysInOrder order.now.options order.now.indent mode bytes.now)) }
     ensures fault { IfErr result (λ fault. IsRefusedIn order.now.options fault bytes.now) }
 {
     let options = order.options;
     match layout(order, mode) {
-        Some((form, spaces)) => convert_in_order_indented(alloc, options, form, spaces, bytes),
-        None => convert_in_order(alloc, options, mode, bytes),
+        Some((form, spaces)) => {
+            Ok(Accepted::Output(convert_in_order_indented(alloc, options, form, spaces, bytes)?))
+        }
+        None => Accepted::in_order_of(alloc, options, mode, bytes),
     }
 }
 
 // Nothing, of a text that means a value.
-fn check(alloc: Global, order: &Order, bytes: &[u8]) -> Result<Vec<u8>, Fault>
-    ensures ok { IfOk result (λ output. Checks order.now.options bytes.now output.items) }
+fn check(alloc: Global, order: &Order, bytes: &[u8]) -> Result<Accepted, Fault>
+    ensures ok { IfOk result (HasOutput order.now.options (Checks order.now.options bytes.now)) }
     ensures fault { IfErr result (λ fault. IsRefusedIn order.now.options fault bytes.now) }
 {
     convert_with(alloc, order.options, Mode::Canonical, bytes)?;
-    Ok(Vec::new(alloc))
+    Ok(Accepted::Output(Vec::new(alloc)))
 }
 
 // The form that is laid out over several lines, and by how many spaces.
@@ -148,7 +191,7 @@ fn layout(order: &Order, mode: Mode) -> Option<(Form, usize)>
 // At which line the text was refused, why, and where.
 fn refusal_of(alloc: Global, fault: Fault, text: &[u8]) -> (u64, Fault, String)
     ensures fault { (result.1 ≡ fault) ⊎ (result.1 ≡ Fault.OutOfMemory) }
-    ensures place { IsWhere result.1 (string_bytes result.2) }
+    ensures place { IsWhere text.now result.1 (string_bytes result.2) }
     ensures line { (result.1 ≡ Fault.NotJson) ⊎ (result.0 ≡ 0) }
 {
     match place_of(alloc, &fault, text) {
@@ -159,7 +202,7 @@ fn refusal_of(alloc: Global, fault: Fault, text: &[u8]) -> (u64, Fault, String)
 
 fn place_of(alloc: Global, fault: &Fault, text: &[u8]) -> Result<(u64, String), AllocError>
     ensures line { IfOk result (λ at. (fault.now ≡ Fault.NotJson) ⊎ (at.0 ≡ 0)) }
-    ensures place { IfOk result (λ at. IsWhere fault.now (string_bytes at.1)) }
+    ensures place { IfOk result (λ at. IsWhere text.now fault.now (string_bytes at.1)) }
 {
     let line = match fault {
         Fault::NotJson => stop::Stop::of(alloc, text)?.line(text) as u64,

@@ -12,7 +12,7 @@ use Rattle.std.proofs.lemmas.Fmt.{hex_byte}
 use Rattle.std.proofs.lemmas.Option.{slice_get_cases, slice_get_within}
 use Rattle.bson_place.specs.Place.{dotted, path_of}
 use Rattle.bson_place.specs.declared.place.Place.{Place}
-use Rattle.bson_run.specs.Place.{IsPlaced, IsPlacedIn, IsReasonIn, at_path, cut_at, shown, told_as}
+use Rattle.bson_run.specs.Place.{IsPlaced, IsReasonIn, at_path, cut_at, shown, told_as}
 
 at_none : (path : List ℕ) → length path ≡ 0 → at_path path ≡ []
 at_none [] h = refl
@@ -23,7 +23,7 @@ at_some [] h = absurd (omega arith)
 at_some (x ∷ xs) h = refl
 
 pub placed_bare : (text : List ℕ) (place : Place) (path reason message words : List ℕ) → IsReasonIn text place.reason reason → path ≡ told_as (dotted (path_of place))
-    → message ≡ told_as reason → length path ≡ 0 → words ≡ codes " (" ++ message ++ codes ")" → IsPlacedIn text place words
+    → message ≡ told_as reason → length path ≡ 0 → words ≡ codes " (" ++ message ++ codes ")" → IsPlaced text place words
 placed_bare text place path reason message words why e m none is = (
   reason,
   why,
@@ -33,16 +33,13 @@ placed_bare text place path reason message words why e m none is = (
 
 pub placed_at : (text : List ℕ) (place : Place) (path reason message words : List ℕ) → IsReasonIn text place.reason reason → path ≡ told_as (dotted (path_of place))
     → message ≡ told_as reason → 0 < length path
-    → words ≡ codes " at " ++ path ++ codes " (" ++ message ++ codes ")" → IsPlacedIn text place words
+    → words ≡ codes " at " ++ path ++ codes " (" ++ message ++ codes ")" → IsPlaced text place words
 placed_at text place path reason message words why e m some is = (
   reason,
   why,
   is ∙ ap (λ p. p ++ codes " (" ++ message ++ codes ")") (sym (at_some path some) ∙ ap at_path e)
       ∙ ap (λ t. at_path (told_as (dotted (path_of place))) ++ codes " (" ++ t ++ codes ")") m,
 )
-
-pub placed : (text : List ℕ) (place : Place) (words : List ℕ) → IsPlacedIn text place words → IsPlaced place words
-placed text place words p = (p.0, p.2)
 
 -- ---- words as they are told
 

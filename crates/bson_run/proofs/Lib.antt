@@ -1,3 +1,4 @@
+pub mod AcceptedTexts
 pub mod EncodeLaws
 mod Explaining
 mod IndentedTexts

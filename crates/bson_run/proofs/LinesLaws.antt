@@ -1,11 +1,11 @@
 -- How the lines of bytes grow with the bytes, and how far a run has come.
 use Rattle.std.proofs.Common.{◌≡◌, ◌≢◌, ◌⊎◌, inl, inr, ◌<◌, ◌+◌, ℕ, List, [], ◌∷◌, ◌++◌, cond, length, drop, take, refl, ap, sym}
 use Rattle.std.proofs.Common.{subst, ◌∙◌, append_assoc, append-nil, length-append, arith, ne_eqb, ◌-◌, suc, get_or}
-use Rattle.std.proofs.Common.{add-one, take-append-drop, Result, Ok, Err, IfOk, IfErr, OnOk, OnErr}
+use Rattle.std.proofs.Common.{add-one, take-append-drop, Result, Ok, Err, IfOk, IfErr, OnOk, OnErr, Vec, Global}
 use Rattle.std.proofs.Math.Seq.{drop-cons}
 use Rattle.std.proofs.lemmas.List.{take_rest}
 use Rattle.std.proofs.lemmas.List.Elements.{All-append, All-head, All-tail}
-use Rattle.bson_run.specs.Lines.{lines, onto_first, text_of, Tells, IsBlank, IsBadLineIn, WritesIn, OutcomesIn}
+use Rattle.bson_run.specs.Lines.{lines, onto_first, text_held, text_of, Tells, IsBlank, IsBadLineIn, WritesIn, OutcomesIn}
 use Rattle.bson_run.specs.Lines.{blank, written, passed_over, IsStoppedIn, IsStoppedAtIn}
 use Rattle.bson_run.specs.LinesSteps.{Options, IsOpen, IsJudged, IsTold, HaveSameOutcomes, TakesLine}
 use Rattle.bson_run.specs.LinesSteps.{Progress, Takes, Ends, Reached, Stopped, StopsWithin, StopsLast}
@@ -42,14 +42,15 @@ judged_bad o task (NoBytes why) text h other = h
 judged_bad o task OutOfMemory text h other = absurd (other refl)
 judged_bad o task CannotWrite text h other = h
 
-stopped_at : (o : Options) (task : Task) (on_refusal : OnRefusal) (fault : Fault) (n : ℕ) (line : List ℕ) (others : List (List ℕ))
-    → IsStoppedIn o task on_refusal fault (text_of n line) → IsStoppedAtIn o task on_refusal fault n (line ∷ others)
-stopped_at o task on_refusal CannotRead n line others h = h
-stopped_at o task on_refusal NotJson n line others h = h
-stopped_at o task on_refusal (NotExtendedJson place) n line others h = h
-stopped_at o task on_refusal (NoBytes why) n line others h = h
-stopped_at o task on_refusal OutOfMemory n line others h = h
-stopped_at o task on_refusal CannotWrite n line others h = h
+stopped_at : (o : Options) (task : Task) (on_refusal : OnRefusal) (fault : Fault) (held : List ℕ) (n : ℕ) (line : List ℕ)
+    (others : List (List ℕ)) → held ≡ text_of n line → IsStoppedIn o task on_refusal fault held
+    → IsStoppedAtIn o task on_refusal fault held n (line ∷ others)
+stopped_at o task on_refusal CannotRead held n line others is h = h
+stopped_at o task on_refusal NotJson held n line others is h = (is, h)
+stopped_at o task on_refusal (NotExtendedJson place) held n line others is h = (is, h)
+stopped_at o task on_refusal (NoBytes why) held n line others is h = (is, h)
+stopped_at o task on_refusal OutOfMemory held n line others is h = h
+stopped_at o task on_refusal CannotWrite held n line others is h = h
 
 -- a refused text stops the run, where refusals do
 pub refused_stops : (o : Options) (task : Task) (on_refusal : OnRefusal) (fault e : Fault) (text : List ℕ) → IsJudged o task fault text
@@ -70,9 +71,14 @@ lines_none : (line : List ℕ) → length line ≡ 0 → lines line ≡ []
 lines_none [] none = refl
 lines_none (x ∷ xs) none = absurd (omega arith)
 
-by_memory : (o : Options) (task : Task) (on_refusal : OnRefusal) (fault : Fault) (n : ℕ) (others : List (List ℕ))
-    → fault ≡ OutOfMemory → IsStoppedAtIn o task on_refusal fault n others
-by_memory o task on_refusal fault n others e = subst (λ f. IsStoppedAtIn o task on_refusal f n others) (sym e) tt
+by_memory : (o : Options) (task : Task) (on_refusal : OnRefusal) (fault : Fault) (held : List ℕ) (n : ℕ)
+    (others : List (List ℕ)) → fault ≡ OutOfMemory → IsStoppedAtIn o task on_refusal fault held n others
+by_memory o task on_refusal fault held n others e =
+    subst (λ f. IsStoppedAtIn o task on_refusal f held n others) (sym e) tt
+
+-- the text of a line that is held still
+same_text : (s t : Gathered) → HaveSameOutcomes s t → t.line ≡ s.line → text_held t ≡ text_held s
+same_text s t same held = ap (λ n. text_of n t.line.items) same.lines ∙ ap (λ (v : Vec ℕ Global). text_of s.lines v.items) held
 
 -- a newline among bytes
 at_newline : (rest : List ℕ) (n : ℕ) → n < length rest → get_or rest n 0 ≡ 10
@@ -93,10 +99,10 @@ regrouped taken rest n h is =
 
 -- ---- results
 
-pub errs : {X E : Type 0} {P Q : E → Type 0} {A : Type 0} (r : Result X E) → OnErr r A → IfErr r P
-    → ((e : E) → A → P e → Q e) → IfErr r Q
-errs (Ok x) a p f = tt
-errs (Err e) a p f = f e a p
+pub errs_with : {X E : Type 0} {P Q : E → Type 0} {A B : Type 0} (r : Result X E) → OnErr r A → OnErr r B → IfErr r P
+    → ((e : E) → A → B → P e → Q e) → IfErr r Q
+errs_with (Ok x) a b p f = tt
+errs_with (Err e) a b p f = f e a b p
 
 pub errs_alone : {X E : Type 0} {P Q : E → Type 0} (r : Result X E) → IfErr r P → ((e : E) → P e → Q e) → IfErr r Q
 errs_alone (Ok x) p f = tt
@@ -146,7 +152,7 @@ module _ {o : Options} {task : Task} {on_refusal : OnRefusal} where
     outcomes = λ before written verdicts e p.
         rw (output, told.2, refused, ← append_assoc verdicts s.told.items told.0)
         (passed_over s.line.items fault told.0 p goes (subst (λ n. IsBadLineIn o task fault (text_of n s.line.items)) e h)
-        (subst (λ n. Tells (n + 1) fault told.0) e (told.1 h)));
+        (subst (λ n. Tells (n + 1) fault (text_of n s.line.items) told.0) e (told.1 h)));
   }
 
   -- ---- taking bytes
@@ -217,13 +223,13 @@ module _ {o : Options} {task : Task} {on_refusal : OnRefusal} where
       counted = same.lines ∙ p.counted;
       outcomes = rw (same.output, same.told, same.refused) p.outcomes;
     };
-    reason = by_memory o task on_refusal fault (length p.done) (lines (s.line.items ++ (bytes ++ more))) e;
+    reason = by_memory o task on_refusal fault (text_held t) (length p.done) (lines (s.line.items ++ (bytes ++ more))) e;
   }
 
   pub line_stops : (bytes : List ℕ) (fault : Fault) (s t : Gathered)
-      → IsStoppedIn o task on_refusal fault (text_of s.lines s.line.items) → HaveSameOutcomes s t
+      → IsStoppedIn o task on_refusal fault (text_held s) → HaveSameOutcomes s t → t.line ≡ s.line
       → StopsWithin o task on_refusal (10 ∷ bytes) fault s t
-  line_stops bytes fault s t h same before output told more p = record {
+  line_stops bytes fault s t h same held before output told more p = record {
     reached = record {
       done = p.done;
       others = s.line.items ∷ lines (bytes ++ more);
@@ -233,8 +239,9 @@ module _ {o : Options} {task : Task} {on_refusal : OnRefusal} where
       outcomes = rw (same.output, same.told, same.refused) p.outcomes;
     };
     reason =
-        stopped_at o task on_refusal fault (length p.done) s.line.items (lines (bytes ++ more))
-        (subst (λ k. IsStoppedIn o task on_refusal fault (text_of k s.line.items)) p.counted h);
+        stopped_at o task on_refusal fault (text_held t) (length p.done) s.line.items (lines (bytes ++ more))
+        (same_text s t same held ∙ ap (λ k. text_of k s.line.items) p.counted)
+        (subst (IsStoppedIn o task on_refusal fault) (sym (same_text s t same held)) h);
   }
 
   -- ---- the last line
@@ -269,9 +276,9 @@ module _ {o : Options} {task : Task} {on_refusal : OnRefusal} where
       }
 
   pub last_stops : (fault : Fault) (s t : Gathered) → 0 < length s.line.items
-      → IsStoppedIn o task on_refusal fault (text_of s.lines s.line.items) → HaveSameOutcomes s t
+      → IsStoppedIn o task on_refusal fault (text_held s) → HaveSameOutcomes s t → t.line ≡ s.line
       → StopsLast o task on_refusal fault s t
-  last_stops fault s t some h same before output told p = record {
+  last_stops fault s t some h same held before output told p = record {
     reached = record {
       done = p.done;
       others = s.line.items ∷ [];
@@ -280,8 +287,9 @@ module _ {o : Options} {task : Task} {on_refusal : OnRefusal} where
       outcomes = rw (same.output, same.told, same.refused) p.outcomes;
     };
     reason =
-        stopped_at o task on_refusal fault (length p.done) s.line.items []
-        (subst (λ k. IsStoppedIn o task on_refusal fault (text_of k s.line.items)) p.counted h);
+        stopped_at o task on_refusal fault (text_held t) (length p.done) s.line.items []
+        (same_text s t same held ∙ ap (λ k. text_of k s.line.items) p.counted)
+        (subst (IsStoppedIn o task on_refusal fault) (sym (same_text s t same held)) h);
   }
 
   -- ---- a line that ends among bytes
@@ -294,12 +302,12 @@ module _ {o : Options} {task : Task} {on_refusal : OnRefusal} where
   pub line_stops_in : (rest : List ℕ) (n : ℕ) (fault : Fault) (s t u : Gathered) → n < length rest
       → IsOpen (take n rest) → get_or rest n 0 ≡ 10
       → t.line.items ≡ s.line.items ++ take n rest → HaveSameOutcomes s t
-      → IsStoppedIn o task on_refusal fault (text_of t.lines t.line.items) → HaveSameOutcomes t u
+      → IsStoppedIn o task on_refusal fault (text_held t) → HaveSameOutcomes t u → u.line ≡ t.line
       → StopsWithin o task on_refusal rest fault s u
-  line_stops_in rest n fault s t u within h is e same stops kept =
+  line_stops_in rest n fault s t u within h is e same stops kept held =
       subst (λ l. StopsWithin o task on_refusal l fault s u) (sym (at_newline rest n within is))
       (stops_after (take n rest) (10 ∷ drop (n + 1) rest) fault s t u (piece_taken (take n rest) s t h e same)
-      (line_stops (drop (n + 1) rest) fault t u stops kept))
+      (line_stops (drop (n + 1) rest) fault t u stops kept held))
 
   pub whole_stops : (bytes taken rest : List ℕ) (fault : Fault) (s t u : Gathered) → bytes ≡ taken ++ rest
       → Takes o task on_refusal taken s t → StopsWithin o task on_refusal rest fault t u

@@ -4,7 +4,7 @@ use Rattle.std.proofs.Common.{IfErr, OnOk, refl, ap, sym, subst, ◌∙◌, appe
 use Rattle.std.specs.Io.{StartsWith}
 use Rattle.std.specs.Io.KnownBytes.{Keeps, Appends, Consumes, IsAtEnd}
 use Rattle.std.proofs.KnownBytes.{Appends-kept, Appends-nil, Appends-trans, Consumes-nil, Consumes-trans, Consumes-kept}
-use Rattle.bson_run.specs.Lines.{lines, left_of, none, DoneLinesIn, FailsAtIn, IsStoppedAtIn, StopsAtIn}
+use Rattle.bson_run.specs.Lines.{lines, left_of, none, text_held, text_of, DoneLinesIn, FailsAtIn, IsStoppedAtIn, StopsAtIn}
 use Rattle.bson_run.specs.Lines.{CutShortAtIn, CutsShort}
 use Rattle.bson_run.specs.LinesSteps.{Options, CannotWriteBoth, IsOpen, IsStart, HasWritten, HaveSameOutcomes}
 use Rattle.bson_run.specs.LinesSteps.{Progress, Takes, Ends, Reached, Stopped, StopsWithin, StopsLast, Running, Complete}
@@ -51,6 +51,9 @@ cut_later had mid holds told said tells output more verdicts others a b (inl p) 
 cut_later had mid holds told said tells output more verdicts others a b (inr p) =
     inr (Appends-trans told said tells verdicts others b p.0, parted had mid holds output more a p.1)
 
+still_held : (t u : Gathered) → HasWritten t u → text_held u ≡ text_held t
+still_held t u w = ap (λ n. text_of n u.line.items) w.lines ∙ ap (text_of t.lines) w.line
+
 kept : (s : Gathered) → HaveSameOutcomes s s
 kept s = record { output = refl; told = refl; lines = refl; refused = refl }
 
@@ -72,11 +75,12 @@ module _ {o : Options} {task : Task} {on_refusal : OnRefusal} where
   }
 
   stops : (fault : Fault) (before after had holds told tells : Option (List ℕ)) (bytes output verdicts : List ℕ)
-      (s u : Gathered) → u.lines ≡ s.lines → Consumes before after bytes
+      (s u : Gathered) → u.lines ≡ s.lines → text_held u ≡ text_held s → Consumes before after bytes
       → Stopped o task on_refusal (bytes ++ left_of after) output verdicts fault s
       → Appends had holds (output ++ s.output.items) → Appends told tells (verdicts ++ s.told.items)
-      → StopsAtIn o (IsStoppedAtIn o task on_refusal fault) task on_refusal before after had holds told tells (u.lines + 1)
-  stops fault before after had holds told tells bytes output verdicts s u count given stopped written reported =
+      → StopsAtIn o (IsStoppedAtIn o task on_refusal fault (text_held u)) task on_refusal before after had holds told tells
+      (u.lines + 1)
+  stops fault before after had holds told tells bytes output verdicts s u count held given stopped written reported =
       record {
         done = stopped.reached.done;
         others = stopped.reached.others;
@@ -91,22 +95,24 @@ module _ {o : Options} {task : Task} {on_refusal : OnRefusal} where
               outcomes = stopped.reached.outcomes;
             };
         counted = ap (λ n. n + 1) (count ∙ stopped.reached.counted);
-        reason = stopped.reason;
+        reason =
+            subst (λ text. IsStoppedAtIn o task on_refusal fault text (length stopped.reached.done) stopped.reached.others)
+            (sym held) stopped.reason;
         written = (written, reported);
       }
 
   fails : (fault : Fault) (before after had holds told tells : Option (List ℕ)) (bytes output verdicts : List ℕ)
-      (s u : Gathered) → u.lines ≡ s.lines → Consumes before after bytes
+      (s u : Gathered) → u.lines ≡ s.lines → text_held u ≡ text_held s → Consumes before after bytes
       → Stopped o task on_refusal (bytes ++ left_of after) output verdicts fault s
       → Appends had holds (output ++ s.output.items) → Appends told tells (verdicts ++ s.told.items)
-      → FailsAtIn o fault task on_refusal before after had holds told tells (u.lines + 1)
+      → FailsAtIn o fault task on_refusal before after had holds told tells (u.lines + 1) (text_held u)
   fails CannotRead = stops CannotRead
   fails NotJson = stops NotJson
   fails (NotExtendedJson place) = stops (NotExtendedJson place)
   fails (NoBytes why) = stops (NoBytes why)
   fails OutOfMemory = stops OutOfMemory
   fails CannotWrite =
-      λ before after had holds told tells bytes output verdicts s u count given stopped written reported.
+      λ before after had holds told tells bytes output verdicts s u count held given stopped written reported.
       absurd stopped.reason
 
   cuts : (fault : Fault) (before after had mid holds told said tells : Option (List ℕ))
@@ -114,7 +120,7 @@ module _ {o : Options} {task : Task} {on_refusal : OnRefusal} where
       → Consumes before after bytes → Reached o task on_refusal (bytes ++ left_of after) output verdicts s
       → Appends had mid output → Appends told said verdicts
       → CannotWriteBoth mid holds said tells s.output.items s.told.items
-      → FailsAtIn o fault task on_refusal before after had holds told tells (u.lines + 1)
+      → FailsAtIn o fault task on_refusal before after had holds told tells (u.lines + 1) (text_held u)
   cuts fault before after had mid holds told said tells bytes output verdicts s u e count given r written reported
       cut =
       let short : CutShortAtIn o task on_refusal before after had holds told tells (u.lines + 1) = record {
@@ -128,7 +134,7 @@ module _ {o : Options} {task : Task} {on_refusal : OnRefusal} where
         written =
             cut_later had mid holds told said tells output s.output.items verdicts s.told.items written reported cut;
       } in
-      subst (λ f. FailsAtIn o f task on_refusal before after had holds told tells (u.lines + 1)) (sym e) short
+      subst (λ f. FailsAtIn o f task on_refusal before after had holds told tells (u.lines + 1) (text_held u)) (sym e) short
 
   -- ---- a run
 
@@ -181,9 +187,9 @@ module _ {o : Options} {task : Task} {on_refusal : OnRefusal} where
   -- a reader that failed
   pub unread : (before given after had holds told tells : Option (List ℕ)) (s : Gathered) → Keeps given after
       → Running o task on_refusal before given had holds told tells s
-      → FailsAtIn o CannotRead task on_refusal before after had holds told tells (s.lines + 1)
+      → FailsAtIn o CannotRead task on_refusal before after had holds told tells (s.lines + 1) (text_held s)
   unread before given after had holds told tells s same p =
-      stops CannotRead before after had holds told tells p.bytes p.output p.verdicts s s refl
+      stops CannotRead before after had holds told tells p.bytes p.output p.verdicts s s refl refl
       (Consumes-kept before given after p.bytes p.given same)
       (record { reached = reached s (left_of after) (kept s) p.progress; reason = tt })
       (subst (Appends had holds) (sym (append-nil p.output) ∙ ap (λ l. p.output ++ l) (sym p.nothing_held)) p.written)
@@ -227,9 +233,9 @@ module _ {o : Options} {task : Task} {on_refusal : OnRefusal} where
       → StopsWithin o task on_refusal block fault s t
       → HasWritten t u → Appends mid holds t.output.items → Appends said tells t.told.items
       → Running o task on_refusal before given had mid told said s → Consumes given after block
-      → FailsAtIn o fault task on_refusal before after had holds told tells (u.lines + 1)
+      → FailsAtIn o fault task on_refusal before after had holds told tells (u.lines + 1) (text_held u)
   block_fails fault block s t u before given after had mid holds told said tells stop w written reported p c =
-      fails fault before after had holds told tells (p.bytes ++ block) p.output p.verdicts t u w.lines
+      fails fault before after had holds told tells (p.bytes ++ block) p.output p.verdicts t u w.lines (still_held t u w)
       (Consumes-trans before given after p.bytes block p.given c)
       (stop p.bytes p.output p.verdicts (left_of after) p.progress)
       (Appends-trans had mid holds p.output t.output.items p.written written)
@@ -241,7 +247,7 @@ module _ {o : Options} {task : Task} {on_refusal : OnRefusal} where
       → (before given after had mid holds told said tells : Option (List ℕ))
       → CannotWriteBoth mid holds said tells t.output.items t.told.items
       → Running o task on_refusal before given had mid told said s → Consumes given after block
-      → FailsAtIn o e task on_refusal before after had holds told tells (u.lines + 1)
+      → FailsAtIn o e task on_refusal before after had holds told tells (u.lines + 1) (text_held u)
   block_cut r e block s t u ok err is count before given after had mid holds told said tells cut p c =
       cuts e before after had mid holds told said tells (p.bytes ++ block) p.output p.verdicts t u is count
       (Consumes-trans before given after p.bytes block p.given c)
@@ -271,9 +277,9 @@ module _ {o : Options} {task : Task} {on_refusal : OnRefusal} where
       (before after had mid holds told said tells : Option (List ℕ)) → StopsLast o task on_refusal fault s t
       → HasWritten t u → Appends mid holds t.output.items → Appends said tells t.told.items
       → Running o task on_refusal before after had mid told said s → IsAtEnd after
-      → FailsAtIn o fault task on_refusal before after had holds told tells (u.lines + 1)
+      → FailsAtIn o fault task on_refusal before after had holds told tells (u.lines + 1) (text_held u)
   end_fails fault s t u before after had mid holds told said tells stop w written reported p at_end =
-      fails fault before after had holds told tells p.bytes p.output p.verdicts t u w.lines p.given
+      fails fault before after had holds told tells p.bytes p.output p.verdicts t u w.lines (still_held t u w) p.given
       (subst (λ l. Stopped o task on_refusal l p.output p.verdicts fault t) (whole after p.bytes at_end)
       (stop p.bytes p.output p.verdicts p.progress))
       (Appends-trans had mid holds p.output t.output.items p.written written)
@@ -285,7 +291,7 @@ module _ {o : Options} {task : Task} {on_refusal : OnRefusal} where
       → (before after had mid holds told said tells : Option (List ℕ))
       → CannotWriteBoth mid holds said tells t.output.items t.told.items
       → Running o task on_refusal before after had mid told said s → IsAtEnd after
-      → FailsAtIn o e task on_refusal before after had holds told tells (u.lines + 1)
+      → FailsAtIn o e task on_refusal before after had holds told tells (u.lines + 1) (text_held u)
   end_cut r e s t u ok err is count before after had mid holds told said tells cut p at_end =
       cuts e before after had mid holds told said tells p.bytes p.output p.verdicts t u is count p.given
       (subst (λ l. Reached o task on_refusal l p.output p.verdicts t) (whole after p.bytes at_end)

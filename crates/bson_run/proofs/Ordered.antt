@@ -62,6 +62,17 @@ module _ (o : Options) where
     is_output = line_in_order mode v text output is line;
   }
 
+  -- the output of the arranged text is that of the text
+  pub outputs_alike : (mode : Mode) (text arranged output : List ℕ) → IsUtf8 text
+      → IsArrangedText FirstPlaces text arranged → ConvertsInOrder o mode arranged output
+      → ConvertsInOrder o mode text output
+  outputs_alike mode text arranged output utf8 is x = record {
+    value = x.value;
+    utf8 = utf8;
+    meaning = (meant_in_order o.doubles text arranged x.value is).0 x.meaning;
+    is_output = x.is_output;
+  }
+
   -- the text of the arranged text is that of the text
   pub converted_alike : (mode : Mode) (text arranged written : List ℕ) → IsUtf8 text
       → IsArrangedText FirstPlaces text arranged → IsConvertedTextInOrder o mode arranged written

@@ -1,3 +1,4 @@
+pub mod Accepted
 pub mod Encode
 pub mod InOrder
 pub mod Indent

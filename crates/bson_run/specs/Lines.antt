@@ -5,7 +5,7 @@ use Rattle.std.specs.Fmt.{decimal}
 use Rattle.std.specs.List.{starts_with}
 use Rattle.std.specs.Io.KnownBytes.{Appends, Consumes}
 use Rattle.bson.specs.declared.extjson.options.Options.{Options}
-use Rattle.bson_convert.specs.Convert.{default_options, ConvertsIn, IsRefusedIn, newline}
+use Rattle.bson_convert.specs.Convert.{ConvertsIn, IsRefusedIn, newline}
 use Rattle.bson_run.specs.Encode.{EncodesIn, EncodesInOrder, HasNoBytesIn, HasNoBytesInOrder}
 use Rattle.bson_run.specs.InOrder.{ConvertsInOrder}
 use Rattle.bson_run.specs.Place.{IsWhere}
@@ -17,6 +17,7 @@ use Rattle.bson_convert.specs.declared.fault.Fault.TheVariants.{CannotRead, NotJ
 use Rattle.bson_convert.specs.declared.fault.Fault.TheVariants.{CannotWrite}
 use Rattle.bson_convert.specs.declared.mode.Mode.TheVariants.{Canonical}
 use Rattle.bson_convert.specs.declared.no_bytes.NoBytes as without
+use Rattle.bson_run.specs.declared.gathered.Gathered.{Gathered}
 use Rattle.bson_run.specs.declared.lines.LineRun.{LineRun}
 use Rattle.bson_run.specs.declared.order.OnRefusal.{OnRefusal}
 use Rattle.bson_run.specs.declared.order.OnRefusal.TheVariants.{Stop}
@@ -108,8 +109,8 @@ abbrev pub told_at : ℕ → Fault → List ℕ → List ℕ
 told_at number fault place =
     codes "bson_lines: line " ++ decimal number ++ codes ": " ++ words_of fault ++ place ++ newline
 
-abbrev pub Tells : ℕ → Fault → List ℕ → Type 0
-Tells number fault told = (place : List ℕ) × IsWhere fault place × (told ≡ told_at number fault place)
+abbrev pub Tells : ℕ → Fault → (text told : List ℕ) → Type 0
+Tells number fault text told = (place : List ℕ) × IsWhere text fault place × (told ≡ told_at number fault place)
 
 -- ---- what lines give, one after the other
 
@@ -125,7 +126,7 @@ pub data OutcomesIn (o : Options) (task : Task) (on_refusal : OnRefusal)
       → OutcomesIn o task on_refusal (before ++ line ∷ []) (output ++ more) told refused
   passed_over : {before : List (List ℕ)} {output told : List ℕ} {refused : ℕ} (line : List ℕ) (fault : Fault)
       (more : List ℕ) → OutcomesIn o task on_refusal before output told refused → on_refusal ≢ Stop
-      → IsBadLineIn o task fault (text_of (length before) line) → Tells (length before + 1) fault more
+      → IsBadLineIn o task fault (text_of (length before) line) → Tells (length before + 1) fault (text_of (length before) line) more
       → OutcomesIn o task on_refusal (before ++ line ∷ []) output (told ++ more) (refused + 1)
 
 -- ---- a run
@@ -206,28 +207,28 @@ IsStoppedIn o task on_refusal (NoBytes why) text = (on_refusal ≡ Stop) × IsWi
 IsStoppedIn o task on_refusal OutOfMemory text = Unit {0}
 IsStoppedIn o task on_refusal CannotWrite text = ⊥
 
--- the same of the first of the lines that stand after so many others
-abbrev pub IsStoppedAtIn : Options → Task → OnRefusal → Fault → ℕ → List (List ℕ) → Type 0
-IsStoppedAtIn o task on_refusal CannotRead before others = Unit {0}
-IsStoppedAtIn o task on_refusal OutOfMemory before others = Unit {0}
-IsStoppedAtIn o task on_refusal CannotWrite before others = ⊥
-IsStoppedAtIn o task on_refusal fault before [] = ⊥
-IsStoppedAtIn o task on_refusal fault before (line ∷ others) = IsStoppedIn o task on_refusal fault (text_of before line)
+-- the same of the first of the lines that stand after so many others; where it is refused, its text is held
+abbrev pub IsStoppedAtIn : Options → Task → OnRefusal → Fault → (held : List ℕ) → ℕ → List (List ℕ) → Type 0
+IsStoppedAtIn o task on_refusal CannotRead held before others = Unit {0}
+IsStoppedAtIn o task on_refusal OutOfMemory held before others = Unit {0}
+IsStoppedAtIn o task on_refusal CannotWrite held before others = ⊥
+IsStoppedAtIn o task on_refusal fault held before [] = ⊥
+IsStoppedAtIn o task on_refusal fault held before (line ∷ others) =
+    (held ≡ text_of before line) × IsStoppedIn o task on_refusal fault held
 
--- what each fault says of the bytes, and of the line whose number stands beside it: that it came for this reason, but
--- for a fault of a writer
+-- what each fault says of the bytes, and of the line whose number and text stand beside it: that it came for this
+-- reason, but for a fault of a writer
 abbrev pub FailsAtIn : Options → Fault → Task → OnRefusal
-    → (before after had holds told tells : Option (List ℕ)) → ℕ → Type 0
-FailsAtIn o CannotWrite task on_refusal before after had holds told tells number =
+    → (before after had holds told tells : Option (List ℕ)) → (number : ℕ) → (held : List ℕ) → Type 0
+FailsAtIn o CannotWrite task on_refusal before after had holds told tells number held =
     CutShortAtIn o task on_refusal before after had holds told tells number
-FailsAtIn o fault task on_refusal before after had holds told tells number =
-    StopsAtIn o (IsStoppedAtIn o task on_refusal fault) task on_refusal before after had holds told tells number
+FailsAtIn o fault task on_refusal before after had holds told tells number held =
+    StopsAtIn o (IsStoppedAtIn o task on_refusal fault held) task on_refusal before after had holds told tells number
 
 -- the number of the line at which a run is: the first that was not done
 abbrev pub number_of : LineRun → ℕ
 number_of run = min (run.gathered.lines + 1) (2 ^ 64 - 1)
 
--- ---- where no options are given
-
-abbrev pub IsBadText : Fault → List ℕ → Type 0
-IsBadText = IsBadTextIn default_options
+-- the text of what is gathered of a line
+abbrev pub text_held : Gathered → List ℕ
+text_held gathered = text_of gathered.lines gathered.line.items

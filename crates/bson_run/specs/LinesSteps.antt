@@ -1,7 +1,7 @@
 -- For private clauses: how far a run over lines has come.
 use Rattle.std.specs.Prelude.{◌≡◌, ◌≢◌, ◌⊎◌, ◌<◌, ◌≤◌, ◌+◌, ◌-◌, ◌^◌, ℕ, List, [], ◌∷◌, ◌++◌, Option, length, All}
 use Rattle.std.specs.Io.KnownBytes.{Appends, Consumes, Keeps}
-use Rattle.bson_run.specs.Lines.{lines, OutcomesIn, IsBadLineIn, IsStoppedAtIn, Tells}
+use Rattle.bson_run.specs.Lines.{lines, text_held, OutcomesIn, IsBadLineIn, IsStoppedAtIn, Tells}
 use Rattle.bson_convert.specs.Run.{WritesPart}
 -- the types that the steps speak of, for the proofs too
 pub use Rattle.bson.specs.declared.extjson.options.Options.{Options}
@@ -33,7 +33,7 @@ IsJudged o task fault text = IsBadLineIn o task fault text
 -- the verdict on a text was added to what was told
 abbrev pub IsTold : Options → Task → ℕ → Fault → List ℕ → List ℕ → List ℕ → Type 0
 IsTold o task number fault text before after =
-    (more : List ℕ) × (IsBadLineIn o task fault text → Tells number fault more) × (after ≡ before ++ more)
+    (more : List ℕ) × (IsBadLineIn o task fault text → Tells number fault text more) × (after ≡ before ++ more)
 
 -- nothing was gathered
 pub record IsStart (s : Gathered) : Type 0 where
@@ -97,7 +97,7 @@ pub record Reached (o : Options) (task : Task) (on_refusal : OnRefusal) (input o
 pub record Stopped (o : Options) (task : Task) (on_refusal : OnRefusal) (input output told : List ℕ) (fault : Fault)
     (s : Gathered) : Type 0 where
   pub reached : Reached o task on_refusal input output told s
-  pub reason : IsStoppedAtIn o task on_refusal fault (length reached.done) reached.others
+  pub reason : IsStoppedAtIn o task on_refusal fault (text_held s) (length reached.done) reached.others
 
 -- a line that ends among the bytes stops the run, whatever follows them
 abbrev pub StopsWithin : Options → Task → OnRefusal → List ℕ → Fault → Gathered → Gathered → Type 0

@@ -47,11 +47,6 @@ cut_at most tell words =
 abbrev pub told_as : List ℕ → List ℕ
 told_as words = cut_at 300 shown words
 
--- the path to the place, and a message
-abbrev pub IsPlaced : Place → List ℕ → Type 0
-IsPlaced place words =
-    (message : List ℕ) × (words ≡ at_path (told_as (dotted (path_of place))) ++ codes " (" ++ told_as message ++ codes ")")
-
 -- what is told of a value: 60 characters
 abbrev pub found_as : List ℕ → List ℕ
 found_as value = codes "; found " ++ cut_at 60 encode_utf8 value
@@ -71,8 +66,8 @@ IsReasonIn text (WrongShape expected) words =
 IsReasonIn text (BadObjectId why) words = Unit {0}
 
 -- the path to the place, and such a message
-abbrev pub IsPlacedIn : List ℕ → Place → List ℕ → Type 0
-IsPlacedIn text place words =
+abbrev pub IsPlaced : List ℕ → Place → List ℕ → Type 0
+IsPlaced text place words =
     (message : List ℕ) × IsReasonIn text place.reason message
     × (words ≡ at_path (told_as (dotted (path_of place))) ++ codes " (" ++ told_as message ++ codes ")")
 
@@ -140,18 +135,15 @@ column_at offset bytes = suc (length (take_while (λ x. not (x == 10)) (reverse 
 abbrev pub at_column : ℕ → Rule → List ℕ
 at_column n rule = codes " at column " ++ decimal n ++ codes " (" ++ words_broken rule ++ codes ")"
 
-abbrev pub IsColumn : List ℕ → Type 0
-IsColumn words = (n : ℕ) × (rule : Rule) × (words ≡ at_column n rule)
-
 -- where bytes that are no text stop to be one, and which rule they break
 abbrev pub IsStop : List ℕ → List ℕ → Type 0
 IsStop bytes words = (n : ℕ) × (rule : Rule) × Breaks bytes rule × (words ≡ at_column n rule)
 
--- nothing for a fault that no text has
-abbrev pub IsWhere : Fault → List ℕ → Type 0
-IsWhere NotJson words = IsColumn words
-IsWhere (NotExtendedJson place) words = IsPlaced place words
-IsWhere other words = words ≡ []
+-- where the fault of a text lies in it; nothing for a fault that no text has
+abbrev pub IsWhere : List ℕ → Fault → List ℕ → Type 0
+IsWhere text NotJson words = IsStop text words
+IsWhere text (NotExtendedJson place) words = IsPlaced text place words
+IsWhere text other words = words ≡ []
 
 -- ---- for private clauses
 

@@ -1,10 +1,6 @@
 //! Where the fault of a refused text lies, in words.
-ghost use Rattle.std.specs.Prelude.{◌≡◌, ◌⊎◌, [], IfOk, string_bytes};
-ghost use Rattle.bson_run.specs.Lines.{IsBadText, IsBadTextIn};
-ghost use Rattle.bson.specs.declared.extjson.options.Options.{Options};
-ghost use Rattle.bson_place.specs.declared.place.Place.{Place as SpecPlace};
-ghost use Rattle.bson_run.specs.Place.{IsPlaced, IsPlacedIn, IsQuote, IsReasonIn, IsStop, IsWhere};
-ghost use Rattle.bson_convert.specs.declared.fault.Fault.TheVariants.{NotExtendedJson, NotJson};
+ghost use Rattle.std.specs.Prelude.{IfOk, string_bytes};
+ghost use Rattle.bson_run.specs.Place.{IsPlaced, IsQuote, IsReasonIn, IsStop, IsWhere};
 
 use crate::quoted::quote;
 use crate::shorten::shorten;
@@ -33,14 +29,7 @@ const MOST: usize = 300;
 /// break a line or steer a terminal, is told by its escape in JSON, and every other character as it
 /// is. Of a path or a message of more than 300 characters these are told, and `..` for the others.
 pub fn explain(alloc: Global, fault: &Fault, text: &[u8]) -> Result<String, AllocError>
-    ensures place { IfOk result (λ words. IsBadText fault.now text.now → IsWhere fault.now (string_bytes words)) }
-    ensures other { IfOk result (λ words. IsWhere fault.now (string_bytes words) ⊎ (string_bytes words ≡ [])) }
-    ensures stop { IfOk result (λ words. fault.now ≡ NotJson → IsStop text.now (string_bytes words)) }
-    ensures place_with { (options : Options) → IfOk result (λ words. IsBadTextIn options fault.now text.now
-        → IsWhere fault.now (string_bytes words)) }
-    ensures always { IfOk result (λ words. IsWhere fault.now (string_bytes words)) }
-    ensures found { IfOk result (λ words. (place : SpecPlace) → fault.now ≡ NotExtendedJson place
-        → IsPlacedIn text.now place (string_bytes words)) }
+    ensures place { IfOk result (λ words. IsWhere text.now fault.now (string_bytes words)) }
 {
     match fault {
         Fault::NotJson => column(alloc, text),
@@ -61,8 +50,7 @@ fn column(alloc: Global, text: &[u8]) -> Result<String, AllocError>
 
 // The words for a place in a text.
 fn place_text(alloc: Global, place: &Place, text: &[u8]) -> Result<String, AllocError>
-    ensures place { IfOk result (λ words. IsPlaced place.now (string_bytes words)) }
-    ensures found { IfOk result (λ words. IsPlacedIn text.now place.now (string_bytes words)) }
+    ensures { IfOk result (λ words. IsPlaced text.now place.now (string_bytes words)) }
 {
     let whole = place.path(alloc)?;
     let path = shorten(alloc, whole.as_str(), MOST, true)?;

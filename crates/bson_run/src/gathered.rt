@@ -4,7 +4,7 @@ ghost use Rattle.std.specs.Prelude.{OnOk, OnErr, None, Ok, IsTrue, ◌↔◌, st
 ghost use Rattle.std.specs.Prelude.{MatchOption, IfSome, ◌≢◌, slice_index};
 ghost use Rattle.bson_run.specs.Lines.{IsBlank, IsBadLineIn, IsStoppedIn, Tells, WritesIn};
 ghost use Rattle.bson_convert.specs.Convert.{IsRefusedIn};
-ghost use Rattle.bson_run.specs.Lines.{told_at, text_of, WorksIn};
+ghost use Rattle.bson_run.specs.Lines.{told_at, text_held, text_of, WorksIn};
 ghost use Rattle.bson_run.specs.LinesSteps.{Ends, HasRoom, HaveSameOutcomes, IsCountedOut};
 ghost use Rattle.bson_run.specs.LinesSteps.{IsJudged, IsOpen, IsStart, IsTold, StopsLast, StopsWithin};
 ghost use Rattle.bson_run.specs.LinesSteps.{Takes, TakesLine};
@@ -169,7 +169,7 @@ impl Gathered {
 
     /// Where the fault of the line that is being gathered lies, in the words of `explain`.
     pub fn place(&self, alloc: Global, fault: &Fault) -> Result<String, AllocError>
-        ensures { IfOk result (λ place. IsWhere fault.now (string_bytes place)) }
+        ensures { IfOk result (λ place. IsWhere (text_held self.now) fault.now (string_bytes place)) }
     {
         explain(alloc, fault, text(self.lines, &self.line))
     }
@@ -189,6 +189,7 @@ impl Gathered {
         ensures room { HasRoom self.new }
         ensures ok { OnOk result (TakesLine asked.options asked.task asked.on_refusal self.old self.new) }
         ensures same { OnErr result (HaveSameOutcomes self.old self.new) }
+        ensures held { OnErr result (self.new.line ≡ self.old.line) }
         ensures fault { IfErr result
             (λ e. IsStoppedIn asked.options asked.task asked.on_refusal e (text_of self.old.lines self.old.line.items)) }
         ensures count { IfErr result (λ e. IsCountedOut e self.old.lines) }

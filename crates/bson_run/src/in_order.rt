@@ -1,5 +1,5 @@
 //! One text to another in the order of its keys: from bytes to bytes.
-ghost use Rattle.std.specs.Prelude.{◌≡◌, IfOk, IfErr, IfSome, ℕ, List, true};
+ghost use Rattle.std.specs.Prelude.{◌≡◌, IfOk, IfErr, IfSome, ℕ, List, true, string_bytes};
 ghost use Rattle.serde_json.specs.Data.{Data};
 ghost use Rattle.bson_model.specs.Means.{MeansIn};
 ghost use Rattle.bson_model.specs.Normal.{writable_in};
@@ -46,6 +46,25 @@ pub fn convert_in_order(
 {
     let text = text_in_order(alloc, options, mode, bytes)?;
     end_line(text)
+}
+
+/// [`convert_in_order`] of a text that is let go once it is read or arranged.
+pub(crate) fn convert_whole_in_order(
+    alloc: Global,
+    options: Options,
+    mode: Mode,
+    text: String,
+) -> Result<Vec<u8>, Fault>
+    ensures ok { IfOk result (λ output. ConvertsInOrder options mode (string_bytes text) output.items) }
+    ensures accepts { (tree : Data) (value : model.Value) → IsTextOf (string_bytes text) tree
+        → MeansIn options.doubles tree value → IfErr result (λ fault. fault ≡ Fault.OutOfMemory) }
+{
+    if let Some(written) = filter_once(alloc, options, mode, text.as_str())? {
+        return end_line(written);
+    }
+    let arranged = arrange(alloc, Arrangement::FirstPlaces, text.as_str())?;
+    drop(text);
+    convert_in_order(alloc, options, mode, arranged.as_bytes())
 }
 
 /// What [`convert_in_order`] gives, without the newline.
@@ -99,8 +118,8 @@ fn text_of_distinct(
     }
 }
 
-// The text that is written as the text is read; none where it can't be.
-fn filter_once(
+/// The text that is written as the text is read; none where it can't be.
+pub(crate) fn filter_once(
     alloc: Global,
     options: Options,
     mode: Mode,

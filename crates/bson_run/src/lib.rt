@@ -4,13 +4,15 @@
 //!
 //! In reading order: `in_order` (bytes to bytes in the order of their keys), `encode` (bytes to the
 //! bytes of their document), `indent` (a text over several lines) and `indented` (bytes to bytes
-//! over several lines), `taken` (what is looked for in a text before it is read). Over lines:
+//! over several lines), `taken` (what is looked for in a text before it is read), `accepted` (bytes
+//! that are let go before their output is made). Over lines:
 //! `order` (what is asked), `gathered` (the line that is read, and what those before it gave) and
 //! `lines` (the whole way). Why a text is refused, in words: `stop` (where bytes stop to be JSON)
 //! with `rule` (which of its rules they break, which `broken` finds), and `explain` with `quoted`
 //! (the value that stands at a place) and `shorten` (words, cut and escaped).
 #![tactic(auto)]
 
+pub mod accepted;
 mod broken;
 pub mod encode;
 pub mod explain;

@@ -3,7 +3,7 @@ ghost use Rattle.std.specs.Prelude.{◌≡◌, ◌+◌, ℕ, List, Option, IfOk,
 ghost use Rattle.std.specs.Prelude.{string_bytes};
 ghost use Rattle.std.specs.Io.KnownBytes.{Appends, Consumes, IsAtEnd};
 ghost use Rattle.bson_convert.specs.Convert.{default_options};
-ghost use Rattle.bson_run.specs.Lines.{DoneLinesIn, FailsAtIn, number_of};
+ghost use Rattle.bson_run.specs.Lines.{DoneLinesIn, FailsAtIn, number_of, text_held};
 ghost use Rattle.bson_run.specs.LinesSteps.{CannotWriteBoth, HasRoom, HasWritten, IsCountedOut};
 ghost use Rattle.bson_run.specs.LinesSteps.{IsStart, Running};
 ghost use Rattle.bson_run.specs.Place.{IsWhere};
@@ -99,7 +99,7 @@ impl LineRun {
             (T.contents report.old) (T.contents report.new) counts.lines counts.refused) }
         ensures fails { IfErr result (λ e. FailsAtIn self.old.options e self.old.task self.old.on_refusal
             (R.remaining reader.old) (R.remaining reader.new) (W.contents writer.old) (W.contents writer.new)
-            (T.contents report.old) (T.contents report.new) (number_of self.new)) }
+            (T.contents report.old) (T.contents report.new) (number_of self.new) (text_held self.new.gathered)) }
         ensures same { (self.new.options ≡ self.old.options) × (self.new.task ≡ self.old.task)
             × (self.new.on_refusal ≡ self.old.on_refusal) }
     {
@@ -122,7 +122,7 @@ impl LineRun {
 
     /// Where the fault lies in the line at which the run stopped, in the words of `explain`.
     pub fn place(&self, alloc: Global, fault: &Fault) -> Result<String, AllocError>
-        ensures { IfOk result (λ place. IsWhere fault.now (string_bytes place)) }
+        ensures { IfOk result (λ place. IsWhere (text_held self.now.gathered) fault.now (string_bytes place)) }
     {
         self.gathered.place(alloc, fault)
     }
@@ -146,7 +146,7 @@ fn run_on<R: Read, W: Write, T: Write>(
         counts.refused) }
     ensures fails { IfErr result
         (λ e. FailsAtIn asked.options e asked.task asked.on_refusal (R.remaining reader.old) (R.remaining reader.new)
-        (W.contents writer.old) (W.contents writer.new) (T.contents report.old) (T.contents report.new) (gathered.new.lines + 1)) }
+        (W.contents writer.old) (W.contents writer.new) (T.contents report.old) (T.contents report.new) (gathered.new.lines + 1) (text_held gathered.new)) }
 {
     let mut block = [0u8; BLOCK];
     for _ in 0..u64::MAX {
@@ -184,7 +184,7 @@ fn pass_on<W: Write, T: Write>(
         gathered.old
         → Consumes given after block.now
         → FailsAtIn asked.options e asked.task asked.on_refusal before after had (W.contents writer.new) told
-        (T.contents report.new) (gathered.new.lines + 1)) }
+        (T.contents report.new) (gathered.new.lines + 1) (text_held gathered.new)) }
     ensures count { IfErr result (λ e. IsCountedOut e gathered.new.lines) }
 {
     let step = gathered.take(alloc, asked, block);
@@ -213,7 +213,7 @@ fn end<W: Write, T: Write>(
         gathered.old
         → IsAtEnd after
         → FailsAtIn asked.options e asked.task asked.on_refusal before after had (W.contents writer.new) told
-        (T.contents report.new) (gathered.new.lines + 1)) }
+        (T.contents report.new) (gathered.new.lines + 1) (text_held gathered.new)) }
     ensures count { IfErr result (λ e. IsCountedOut e gathered.new.lines) }
 {
     let step = gathered.take_last(alloc, asked);

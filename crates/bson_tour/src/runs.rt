@@ -3,9 +3,11 @@ use bson::extjson::{Form, Options};
 use bson_codec::de::DEPTH;
 use bson_codec::from_slice;
 use bson_convert::convert::convert;
+use bson_convert::converted::{Tried, try_text};
 use bson_convert::fault::Fault;
 use bson_convert::mode::{Mode, mode_of};
 use bson_convert::value::value_of;
+use bson_run::accepted::Accepted;
 use bson_run::encode::{encode_in_order, encode_with};
 use bson_run::in_order::convert_in_order;
 use bson_run::indent::indent_text;
@@ -19,6 +21,9 @@ use std::alloc::Global;
 pub(crate) fn print(rt: &impl Print, alloc: Global) -> anyhow::Result<()> {
     convert_call(rt, alloc)?;
     convert_in_order_call(rt, alloc)?;
+    tried(rt, alloc)?;
+    accepted_of(rt, alloc)?;
+    accepted_in_order_of(rt, alloc)?;
     encode_call(rt, alloc)?;
     encode_in_order_call(rt, alloc)?;
     no_bytes(rt, alloc)?;
@@ -49,6 +54,36 @@ fn convert_in_order_call(rt: &impl Print, alloc: Global) -> anyhow::Result<()> {
     let text = br#"{"find": "orders", "batchSize": {"$numberInt": "10"}}"#;
     if let Ok(line) = convert_in_order(alloc, Options::default(), Mode::Relaxed, text) {
         rt.print(str::from_utf8(&line)?)?; // {"find":"orders","batchSize":10}
+    }
+    Ok(())
+}
+
+fn tried(rt: &impl Print, alloc: Global) -> anyhow::Result<()> {
+    let options = Options::default();
+    if let Ok(Tried::Arranged(text)) = try_text(alloc, options, Mode::Relaxed, b"[7, 1.5]") {
+        println!(rt; "{text}")?; // [7,1.5]
+    }
+    Ok(())
+}
+
+fn accepted_of(rt: &impl Print, alloc: Global) -> anyhow::Result<()> {
+    let options = Options::default();
+    let bytes = br#"{"a": 7, "b": 8, "a": 9}"#.as_slice();
+    if let Ok(accepted) = Accepted::of(alloc, options, Mode::Relaxed, bytes) {
+        if let Ok(output) = accepted.output(alloc, options) {
+            rt.print(str::from_utf8(&output)?)?; // {"a":9,"b":8}
+        }
+    }
+    Ok(())
+}
+
+fn accepted_in_order_of(rt: &impl Print, alloc: Global) -> anyhow::Result<()> {
+    let options = Options::default();
+    let bytes = br#"{"b": 7, "a": 8, "b": 9}"#.as_slice();
+    if let Ok(accepted) = Accepted::in_order_of(alloc, options, Mode::Relaxed, bytes) {
+        if let Ok(output) = accepted.output(alloc, options) {
+            rt.print(str::from_utf8(&output)?)?; // {"b":9,"a":8}
+        }
     }
     Ok(())
 }

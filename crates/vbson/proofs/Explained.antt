@@ -1,8 +1,7 @@
 -- The line that tells why a text is refused.
-use Rattle.std.proofs.Common.{◌≡◌, ◌≢◌, ◌⊎◌, inl, inr, ℕ, List, [], ◌++◌, refl}
+use Rattle.std.proofs.Common.{◌≡◌, ◌≢◌, inl, inr, ℕ, List, [], ◌++◌, refl}
 use Rattle.bson.specs.declared.extjson.options.Options.{Options}
 use Rattle.bson_convert.specs.Convert.{ConvertsIn, IsRefusedIn, newline}
-use Rattle.bson_run.specs.Lines.{IsBadTextIn}
 use Rattle.bson_run.specs.Place.{IsWhere}
 use Rattle.bson_convert.specs.Words.{words_of}
 use Rattle.bson_convert.specs.declared.fault.Fault.{Fault}
@@ -20,9 +19,8 @@ accepted o mode text output line h is =
     ([], inl ((h.value, record { tree = h.tree; text = h.text; meaning = h.meaning }), refl), is)
 
 pub refused : (o : Options) (fault : Fault) (text place line : List ℕ) → IsRefusedIn o fault text → fault ≢ OutOfMemory
-    → (IsBadTextIn o fault text → IsWhere fault place) → IsWhere fault place ⊎ (place ≡ [])
-    → line ≡ (words_of fault ++ place) ++ newline → IsLine o text line
-refused o fault text place line h told lies other is = (
+    → IsWhere text fault place → line ≡ (words_of fault ++ place) ++ newline → IsLine o text line
+refused o fault text place line h told lies is = (
   words_of fault ++ place,
   inr (record {
     fault = fault;
@@ -30,7 +28,6 @@ refused o fault text place line h told lies other is = (
     told = told;
     place = place;
     lies = lies;
-    other = other;
     said = refl;
   }),
   is,

@@ -4,7 +4,6 @@ use Rattle.bson.specs.TextMeaning.{HasTextMeaningIn}
 use Rattle.bson.specs.Value.{Value}
 use Rattle.bson.specs.declared.extjson.options.Options.{Options}
 use Rattle.bson_convert.specs.Convert.{IsRefusedIn}
-use Rattle.bson_run.specs.Lines.{IsBadTextIn}
 use Rattle.bson_run.specs.Place.{IsWhere}
 use Rattle.bson_convert.specs.Words.{words_of}
 use Rattle.bson_convert.specs.declared.fault.Fault.{Fault}
@@ -12,15 +11,13 @@ use Rattle.bson_convert.specs.declared.fault.Fault.TheVariants.{OutOfMemory}
 use Rattle.vbson.specs.Text.{IsText}
 use Rattle.vbson.specs.declared.text.Text.{Text}
 
--- the text is refused for the fault, for which there are words, and behind them where it lies; of a text of blanks alone
--- the column may be left out
+-- the text is refused for the fault, for which there are words, and behind them where it lies
 pub record Refuses (o : Options) (text words : List ℕ) : Type 0 where
   pub fault : Fault
   pub refused : IsRefusedIn o fault text
   pub told : fault ≢ OutOfMemory
   pub place : List ℕ
-  pub lies : IsBadTextIn o fault text → IsWhere fault place
-  pub other : IsWhere fault place ⊎ (place ≡ [])
+  pub lies : IsWhere text fault place
   pub said : words ≡ words_of fault ++ place
 
 -- no words for a text that means a value, and else those for its fault

@@ -1,7 +1,10 @@
-use Rattle.std.proofs.Common.{subst}
+use Rattle.std.proofs.Common.{subst, Result, Err}
+use Rattle.std.proofs.lemmas.Result.{err_from_is_err_and}
 use Rattle.bson_tokens.proofs.Offered.{if_ok}
-use Rattle.bson_convert.specs.Convert.{IsConvertedText}
+use Rattle.bson_convert.proofs.Arranged.{accepted}
+use Rattle.bson_convert.specs.Convert.{IsConvertedText, IsRefusedIn}
 use Rattle.bson_convert.proofs.Converting.{text_converts}
+use Rattle.bson_convert.specs.declared.fault.Fault.{Fault}
 use Rattle.bson_convert.proofs.convert.convert_whole.Goals as goal
 
 pub returns-clause-ok : goal.returns-clause-ok
@@ -13,3 +16,14 @@ returns-clause-ok c =
     let is = subst (λ b. IsConvertedText o mode b text) c.deref.ensures.value
     (c.in_ok-text.ensures.ok c.deref.result.now c.in_ok-tried.ensures.ok) in
     if_ok c.end_line.result c.end_line.ensures.ok (λ output line. text_converts o mode bytes text output.items is line)
+
+pub returns-in_err-text-clause-accepts : goal.returns-in_err-text-clause-accepts
+returns-in_err-text-clause-accepts c = λ t v is means.
+    let p = err_from_is_err_and c.from_residual-in_err-text.result c.from_residual-in_err-text.ensures.1 in
+    let o = c.args.options in
+    let bytes = c.args.bytes.items in
+    let fault = c.in_err-text.field-0.0 in
+    let refused = subst (IsRefusedIn o fault) c.deref.ensures.value
+    (c.in_err-text.ensures.fault c.deref.result.now c.in_ok-tried.ensures.ok) in
+    let result : Result (Unit {0}) Fault = Err fault in
+    rw (p.1, p.2) (accepted o bytes t v is means result refused)

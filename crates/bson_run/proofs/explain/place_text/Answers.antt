@@ -2,12 +2,12 @@ use Rattle.std.proofs.Common.{◌≡◌, ◌<◌, ◌++◌, IfOk, length, codes,
 use Rattle.std.proofs.lemmas.Grind.{common_steps}
 use Rattle.bson_place.specs.Place.{dotted, path_of}
 use Rattle.bson_run.specs.Place.{told_as}
-use Rattle.bson_run.proofs.Explaining.{placed, placed_at, placed_bare}
+use Rattle.bson_run.proofs.Explaining.{placed_at, placed_bare}
 use Rattle.bson_run.proofs.LinesLaws.{oks_with}
 use Rattle.bson_run.proofs.explain.place_text.Goals as goal
 
-pub returns-then-is_empty-clause-found : goal.returns-then-is_empty-clause-found
-returns-then-is_empty-clause-found c =
+pub returns-then-is_empty : goal.returns-then-is_empty
+returns-then-is_empty c =
     let path = string_bytes c.in_ok-path.path in
     let reason = string_bytes c.in_ok-reason.reason in
     let message = string_bytes c.in_ok-message.message in
@@ -20,13 +20,8 @@ returns-then-is_empty-clause-found c =
     oks_with c.format.result said (λ s e.
     placed_bare c.args.text.now c.args.place.now path reason message (string_bytes s) c.in_ok-reason.ensures told why none e)
 
-pub returns-then-is_empty-clause-place : goal.returns-then-is_empty-clause-place
-returns-then-is_empty-clause-place c =
-    oks_with c.format.result (returns-then-is_empty-clause-found c) (λ s p.
-    placed c.args.text.now c.args.place.now (string_bytes s) p)
-
-pub returns-clause-found : goal.returns-clause-found
-returns-clause-found c =
+pub returns : goal.returns
+returns c =
     let path = string_bytes c.in_ok-path.path in
     let reason = string_bytes c.in_ok-reason.reason in
     let message = string_bytes c.in_ok-message.message in
@@ -38,8 +33,3 @@ returns-clause-found c =
     ++ codes ")") = simp append_assoc c.format-2.ensures.ok in
     oks_with c.format-2.result said (λ s e.
     placed_at c.args.text.now c.args.place.now path reason message (string_bytes s) c.in_ok-reason.ensures told why some e)
-
-pub returns-clause-place : goal.returns-clause-place
-returns-clause-place c =
-    oks_with c.format-2.result (returns-clause-found c) (λ s p.
-    placed c.args.text.now c.args.place.now (string_bytes s) p)

@@ -27,6 +27,6 @@ returns c =
     IfOk-weaker c.line_at.result (λ line. line.items ≡ (words_of fault ++ c.deref.result.now) ++ newline)
     (λ line. IsLine c.args.options text line.items)
     (λ line is. refused c.args.options fault text place line.items c.in-Err.ensures.fault (told c)
-    (c.in_ok-place-in-Err.ensures.place_with c.args.options) c.in_ok-place-in-Err.ensures.other
+    c.in_ok-place-in-Err.ensures.place
     (subst (λ p. line.items ≡ (words_of fault ++ p) ++ newline) c.deref.ensures is))
     c.line_at.ensures

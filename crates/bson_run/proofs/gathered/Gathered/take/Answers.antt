@@ -26,7 +26,7 @@ returns-in_err-end_line-clause-fault c =
     inv.2
     (line_stops_in c.loop-at.rest.now c.in-Some.at e c.loop-at.self c.extend_line.new.self c.end_line.new.self found.0
     found.1 found.2 c.in_ok-extend_line.ensures.ok c.extend_line.ensures.same c.in_err-end_line.ensures.fault
-    c.in_err-end_line.ensures.same))
+    c.in_err-end_line.ensures.same c.in_err-end_line.ensures.held))
 
 pub returns-clause-fault : goal.returns-clause-fault
 returns-clause-fault c =

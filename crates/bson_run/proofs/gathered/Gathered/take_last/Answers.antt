@@ -1,6 +1,6 @@
 use Rattle.std.proofs.Common.{◌<◌, length, arith}
 use Rattle.std.proofs.lemmas.Grind.{common_steps}
-use Rattle.bson_run.proofs.LinesLaws.{no_last, last_taken, last_stops, errs, oks}
+use Rattle.bson_run.proofs.LinesLaws.{no_last, last_taken, last_stops, errs_with, oks}
 use Rattle.bson_run.proofs.gathered.Gathered.take_last.Goals as goal
 
 pub returns-then-is_empty-clause-ok : goal.returns-then-is_empty-clause-ok
@@ -14,5 +14,5 @@ returns-clause-ok c =
 pub returns-clause-fault : goal.returns-clause-fault
 returns-clause-fault c =
     let some : 0 < length c.args.self.now.line.items = grind (arith, common_steps) in
-    errs c.end_line.result c.end_line.ensures.same c.end_line.ensures.fault
-    (λ e same p. last_stops e c.args.self.now c.end_line.new.self some p same)
+    errs_with c.end_line.result c.end_line.ensures.same c.end_line.ensures.held c.end_line.ensures.fault
+    (λ e same held p. last_stops e c.args.self.now c.end_line.new.self some p same held)

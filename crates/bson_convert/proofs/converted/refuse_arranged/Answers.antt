@@ -1,0 +1,14 @@
+use Rattle.std.proofs.Common.{arith, subst}
+use Rattle.std.specs.Prelude.{IsUtf8}
+use Rattle.bson_model.proofs.Offered.{means_from_in}
+use Rattle.bson_tokens.specs.Told.{IsTextPlaceIn}
+use Rattle.bson_convert.proofs.converted.refuse_arranged.Goals as goal
+
+pub returns-in-Ok-None-clause-ok : goal.returns-in-Ok-None-clause-ok
+returns-in-Ok-None-clause-ok c =
+    let D = c.args.options.doubles in
+    let arranged = c.args.arranged.now in
+    let utf8 : IsUtf8 arranged = grind arith in
+    let found = subst (IsTextPlaceIn D arranged) c.in-Ok-None.field-0-is c.in-Ok-None.ensures.place in
+    let read = means_from_in D found.0 found.2.0 found.2.1 in
+    (found.0, found.2.0, record { utf8 = utf8; tree_read = found.1 }, read)

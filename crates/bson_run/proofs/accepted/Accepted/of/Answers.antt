@@ -1,0 +1,15 @@
+use Rattle.std.proofs.Common.{subst}
+use Rattle.bson_convert.proofs.Offered.{text_converts}
+use Rattle.bson_convert.specs.Convert.{ConvertsIn, IsTried}
+use Rattle.bson_run.proofs.AcceptedTexts.{at_once}
+use Rattle.bson_run.proofs.accepted.Accepted.of.Goals as goal
+
+pub returns-in_ok-end_line-in-Written-clause-ok : goal.returns-in_ok-end_line-in-Written-clause-ok
+returns-in_ok-end_line-in-Written-clause-ok c =
+    let o = c.args.options in
+    let mode = c.args.mode in
+    let bytes = c.args.bytes.now in
+    let output = c.in_ok-end_line-in-Written.field-0 in
+    let written = subst (IsTried o mode bytes) c.in-Written.is c.in_ok-text.ensures.ok in
+    at_once o (ConvertsIn o mode bytes) output
+    (text_converts o mode bytes c.in-Written.text.items output.items written c.in_ok-end_line-in-Written.ensures.ok)

@@ -1,0 +1,24 @@
+-- What a text gives that was accepted.
+use Rattle.std.specs.Prelude.{◌≡◌, ℕ, List, string_bytes}
+use Rattle.bson.specs.declared.extjson.options.Options.{Options}
+use Rattle.bson_convert.specs.Convert.{ConvertsIn, IsAccepted}
+use Rattle.bson_run.specs.InOrder.{ConvertsInOrder}
+use Rattle.bson_run.specs.declared.accepted.Accepted.{Accepted}
+use Rattle.bson_run.specs.declared.accepted.Accepted.TheVariants.{Output, Arranged, ArrangedInOrder}
+
+-- the output of it
+abbrev pub Outputs : Options → Accepted → List ℕ → Type 0
+Outputs o (Output bytes) output = output ≡ bytes.items
+Outputs o (Arranged mode text) output = ConvertsIn o mode (string_bytes text) output
+Outputs o (ArrangedInOrder mode text) output = ConvertsInOrder o mode (string_bytes text) output
+
+-- the text that it has means something
+abbrev pub IsSure : Options → Accepted → Type 0
+IsSure o (Output bytes) = Unit {0}
+IsSure o (Arranged mode text) = IsAccepted o (string_bytes text)
+IsSure o (ArrangedInOrder mode text) = IsAccepted o (string_bytes text)
+
+-- it has an output, and each that it has is one of these
+pub record HasOutput (o : Options) (gives : List ℕ → Type 0) (accepted : Accepted) : Type 0 where
+  pub sure : IsSure o accepted
+  pub given : (output : List ℕ) → Outputs o accepted output → gives output

@@ -1,0 +1,105 @@
+//! A text that is let go once it was accepted, before its output is made.
+ghost use Rattle.std.specs.Prelude.{◌≡◌, IfOk, IfErr};
+ghost use Rattle.bson_convert.specs.Convert.{ConvertsIn, IsRefusedIn};
+ghost use Rattle.bson_run.specs.Accepted.{IsSure, Outputs, HasOutput};
+ghost use Rattle.bson_run.specs.InOrder.{ConvertsInOrder};
+
+use crate::in_order::{convert_whole_in_order, filter_once};
+use bson::extjson::Options;
+use bson_convert::convert::{convert_whole, end_line};
+use bson_convert::converted::{Tried, arrange, refuse, refuse_arranged, try_text};
+use bson_convert::fault::Fault;
+use bson_convert::mode::Mode;
+use bson_distinct::arrangement::Arrangement;
+use std::alloc::Global;
+
+/// What a text gives that was accepted: the text itself is no longer needed for it.
+///
+/// ```
+/// let options = Options::default();
+/// let bytes = br#"{"a": 7, "b": 8, "a": 9}"#.as_slice();
+/// if let Ok(accepted) = Accepted::of(alloc, options, Mode::Relaxed, bytes) {
+///     if let Ok(output) = accepted.output(alloc, options) {
+///         rt.print(str::from_utf8(&output)?)?; // {"a":9,"b":8}
+///     }
+/// }
+/// ```
+#[derive(Drop)]
+pub enum Accepted {
+    /// The output.
+    Output(Vec<u8>),
+    /// A text to be written in the place of the one that was accepted: its output in the mode is that
+    /// of the text.
+    Arranged(Mode, String),
+    /// The same in the order of its keys.
+    ArrangedInOrder(Mode, String),
+}
+
+impl Accepted {
+    /// What bytes give in the mode, or why they are refused, as
+    /// [`convert_with`](bson_convert::convert::convert_with) says. A caller who needs the bytes where
+    /// they are refused need not hold them beside the output. Those that can't be written as they are
+    /// read are looked at for a fault at once, which takes one more walk over their tokens.
+    pub fn of(alloc: Global, options: Options, mode: Mode, bytes: &[u8]) -> Result<Accepted, Fault>
+        ensures ok { IfOk result (HasOutput options (ConvertsIn options mode bytes.now)) }
+        ensures fault { IfErr result (λ fault. IsRefusedIn options fault bytes.now) }
+    {
+        match try_text(alloc, options, mode, bytes)? {
+            Tried::Written(text) => Ok(Accepted::Output(end_line(text)?)),
+            Tried::Arranged(text) => {
+                refuse_arranged(alloc, options, text.as_str())?;
+                Ok(Accepted::Arranged(mode, text))
+            }
+        }
+    }
+
+    /// [`Accepted::of`] in the order of the keys, as
+    /// [`convert_in_order`](crate::in_order::convert_in_order) gives it.
+    ///
+    /// ```
+    /// let options = Options::default();
+    /// let bytes = br#"{"b": 7, "a": 8, "b": 9}"#.as_slice();
+    /// if let Ok(accepted) = Accepted::in_order_of(alloc, options, Mode::Relaxed, bytes) {
+    ///     if let Ok(output) = accepted.output(alloc, options) {
+    ///         rt.print(str::from_utf8(&output)?)?; // {"b":9,"a":8}
+    ///     }
+    /// }
+    /// ```
+    pub fn in_order_of(
+        alloc: Global,
+        options: Options,
+        mode: Mode,
+        bytes: &[u8],
+    ) -> Result<Accepted, Fault>
+        ensures ok { IfOk result (HasOutput options (ConvertsInOrder options mode bytes.now)) }
+        ensures fault { IfErr result (λ fault. IsRefusedIn options fault bytes.now) }
+    {
+        let Ok(text) = simdutf8::compat::from_utf8(bytes) else {
+            return Err(Fault::NotJson);
+        };
+        match filter_once(alloc, options, mode, text)? {
+            Some(written) => Ok(Accepted::Output(end_line(written)?)),
+            None => {
+                refuse(alloc, options, text)?;
+                let arranged = arrange(alloc, Arrangement::FirstPlaces, text)?;
+                Ok(Accepted::ArrangedInOrder(mode, arranged))
+            }
+        }
+    }
+
+    /// The output. Of what was accepted with the same options only memory can be wanting for it.
+    pub fn output(self, alloc: Global, options: Options) -> Result<Vec<u8>, Fault>
+        ensures ok { IfOk result (λ output. Outputs options self output.items) }
+        ensures fault { IsSure options self → IfErr result (λ fault. fault ≡ Fault.OutOfMemory) }
+    {
+        match self {
+            Accepted::Output(output) => Ok(output),
+            Accepted::Arranged(mode, text) => {
+                convert_whole(alloc, options, mode, text.into_bytes())
+            }
+            Accepted::ArrangedInOrder(mode, text) => {
+                convert_whole_in_order(alloc, options, mode, text)
+            }
+        }
+    }
+}
