@@ -6,6 +6,8 @@
 By a small program on bson_codec (bytes.source): bytes to values, values to bytes, a look that keeps nothing, bytes to
 canonical text; beside it libbson's bson_validate with UTF-8, its way from bytes to canonical text (bytes.c), and
 decode_iter of PyMongo's bson.
+A second table has whole runs of the program over dumps, as `./bson decode canonical` and `./bson decode check` start it,
+beside libbson's on the same file: processor seconds, reading and writing too. The program is that of the last ./bson.
 Documents stand one behind the other on standard input. A time is the user time of one pass over them, without the
 reading, the least of five runs in turns; a peak of memory, over the megabytes of the input, is that of values that are
 read one document at a time. Needs Debian's libbson-dev, a C compiler and pkg-config; python3-bson if it is there. The
@@ -25,6 +27,7 @@ sys.dont_write_bytecode = True
 from run import HERE, TOP
 
 PYTHON = "/usr/bin/python3"
+PROGRAM = f"{TOP}/crates/bson_lines/out/bson_lines"
 PYMONGO = """
 import sys, bson
 data = sys.stdin.buffer.read()
@@ -150,17 +153,18 @@ def libbson(room):
     return f"{room}/libbson"
 
 
-def spent(command, path):
-    """User seconds of one run and its greatest memory in megabytes; nothing where it ends with a fault."""
+def spent(command, path, whole=False):
+    """User seconds of one run, of a whole run also the system's, and its greatest memory in megabytes; nothing where it
+    ends with a fault."""
     with open(path, "rb") as given, open(os.devnull, "wb") as taken:
         run = subprocess.Popen(command, stdin=given, stdout=taken, stderr=taken)
         _, status, usage = os.wait4(run.pid, 0)
-    return (usage.ru_utime, usage.ru_maxrss / 1024) if status == 0 else None
+    return (usage.ru_utime + whole * usage.ru_stime, usage.ru_maxrss / 1024) if status == 0 else None
 
 
-def best_of(rounds, commands, path):
+def best_of(rounds, commands, path, whole=False):
     """The least seconds and the greatest memory of each command, all run in turns; nothing of one that fails."""
-    runs = [[spent(command, path) for command in commands] for _ in range(rounds)]
+    runs = [[spent(command, path, whole) for command in commands] for _ in range(rounds)]
     return [None if None in own else (min(it for it, _ in own), max(it for _, it in own)) for own in zip(*runs)]
 
 
@@ -178,6 +182,15 @@ def measured(program, theirs, path, times):
     return decode, encode - decode, *rest, found[1][1]
 
 
+def whole_runs(theirs, path):
+    """Seconds of whole runs: decode canonical, libbson's text, decode check, bson_validate."""
+    # (as the script starts it)
+    ours = ["env", "MALLOC_MMAP_THRESHOLD_=131072", PROGRAM]
+    commands = [[*ours, "canonical", "--bson", "--doubles"], [theirs, "text", "1"], [*ours, "check", "--bson", "--doubles"],
+                [theirs, "validate", "1"]]
+    return [it and it[0] for it in best_of(5, commands, path, whole=True)]
+
+
 def cell(seconds):
     return "" if seconds is None else f"{seconds:.3f}"
 
@@ -188,6 +201,9 @@ def ratio(one, other):
 
 def main():
     sizes = [int(word) for word in sys.argv[1:]] or [10, 50]
+    if not os.path.exists(PROGRAM):
+        raise SystemExit("bench/bytes.py: there is no program: run ./bson decode --help once")
+    whole = []
     with tempfile.TemporaryDirectory() as room:
         program, theirs = ours(room), libbson(room)
         print("| Input | MB | Decode, s | Encode, s | Check, s | `bson_validate`, s | Times its speed: decode | encode "
@@ -206,6 +222,13 @@ def main():
                          ratio(canonical, text_of_theirs), cell(python),
                          f"{peak / megabytes:.1f}"]
                 print(f"| {name} | {size} | {' | '.join(cells)} |", flush=True)
+                text_run, text_of_theirs, check_run, validate_run = whole_runs(theirs, path)
+                cells = [cell(text_run), cell(text_of_theirs), ratio(text_run, text_of_theirs), cell(check_run),
+                         cell(validate_run), ratio(check_run, validate_run)]
+                whole.append(f"| {name} | {size} | {' | '.join(cells)} |")
+    print("\n| Input | MB | `decode canonical`, s | libbson text, s | Ratio | `decode check`, s | `bson_validate`, s | Ratio |\n"
+          + "|---" * 8 + "|")
+    print("\n".join(whole))
 
 
 if __name__ == "__main__":

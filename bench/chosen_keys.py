@@ -1,5 +1,5 @@
 #!/usr/bin/env python3
-"""Times documents of keys that were chosen to have one hash beside documents of other keys.
+"""Times documents of keys that were chosen to have one hash beside documents of other keys, and texts whose keys occur twice.
 
     bench/chosen_keys.py [--keys N ..] [--longest SECONDS] [PROGRAM ..]
 
@@ -9,7 +9,10 @@ peak memory of `bson_cli canonical` on one object of N chosen keys, and of N key
 A time is the least of five runs; the programs run in turns. A run past the longest, 60 s, is cut off and shown as >.
 
 Where `crates/bson_rows` is built it also times the rows of `tests/rows/many_keys.py` (100000 keys put, found, taken
-out, hashed, compared, written) in both kinds; reading the row and writing its answer are counted.
+out, hashed, compared, written, read twice) in both kinds; reading the row and writing its answer are counted.
+
+Where `crates/bson_lines` is built it also times each command on the inputs of `tests/rows/growth.py` at 1 and 8 MB, and
+prints for each command the greatest times at both, and how many times longer the larger input needs at most.
 """
 import argparse
 import os
@@ -22,9 +25,11 @@ sys.dont_write_bytecode = True
 TOP = os.path.dirname(os.path.dirname(os.path.abspath(__file__)))
 sys.path.insert(0, os.path.join(TOP, "tests", "rows"))
 
+import growth
 import many_keys
 
 OWN = os.path.join(TOP, "crates", "bson_cli", "out", "bson_cli")
+LINES = os.path.join(TOP, "crates", "bson_lines", "out", "bson_lines")
 ROWS = os.path.join(TOP, "crates", "bson_rows", "out", "bson_rows")
 SIZES = [10_000, 100_000, 400_000]
 
@@ -35,7 +40,7 @@ def generate(path, count, chosen):
         out.write(b"{" + b",".join(b'"%s":%d' % pair for pair in zip(made, range(count))) + b"}")
 
 
-def timed(command, path, longest):
+def timed(command, path, longest, statuses):
     """Processor seconds of one run and its peak memory in megabytes; None where it is cut off."""
     def limited():
         resource.setrlimit(resource.RLIMIT_CPU, (longest, longest))
@@ -44,18 +49,18 @@ def timed(command, path, longest):
         _, status, usage = os.wait4(run.pid, 0)
     if os.WIFSIGNALED(status):
         return None
-    if status != 0:
+    if os.waitstatus_to_exitcode(status) not in statuses:
         raise SystemExit(f"{command} ended with {status}")
     return usage.ru_utime + usage.ru_stime, usage.ru_maxrss // 1024
 
 
-def best(commands, path, longest):
+def best(commands, path, longest, statuses=(0,)):
     """The least time and memory of each command in five rounds; one that was cut off runs no more."""
     runs = [[] for _ in commands]
     for _ in range(5):
         for command, own in zip(commands, runs):
             if None not in own:
-                own.append(timed(command, path, longest))
+                own.append(timed(command, path, longest, statuses))
     return [None if None in own else (min(run[0] for run in own), max(run[1] for run in own)) for own in runs]
 
 
@@ -87,6 +92,28 @@ def calls(room, longest):
         print(f"| {row.name} | " + ("> %d s" % longest if result is None else "%.2f s" % result[0]) + " |", flush=True)
 
 
+def growths(room, longest):
+    """A line for each command: its greatest times, and its greatest growth."""
+    print("\n| bson_lines | 1 MB | 8 MB | at most | of |")
+    print("|---|---|---|---|---|")
+    for make, commands in ((growth.texts, growth.COMMANDS), (growth.documents, growth.COMMANDS_OF_BSON)):
+        inputs = []
+        for size in (growth.LARGE, growth.PARTS * growth.LARGE):
+            for name, data in make(size).items():
+                inputs.append((name, os.path.join(room, f"{size} {name}")))
+                with open(inputs[-1][1], "wb") as out:
+                    out.write(data)
+        for words in commands:
+            command = [[LINES, *words.split()]]
+            found = {}
+            for name, path in inputs:
+                result, = best(command, path, longest, (0, 1))
+                found.setdefault(name, []).append(result[0] if result else float("inf"))
+            name = max(found, key=lambda it: found[it][1] / found[it][0])
+            small, large = (max(it[at] for it in found.values()) for at in (0, 1))
+            print(f"| {words} | {small:.3f} s | {large:.3f} s | {found[name][1] / found[name][0]:.2f} | {name} |", flush=True)
+
+
 def main():
     parser = argparse.ArgumentParser()
     parser.add_argument("--keys", type=int, nargs="+", default=SIZES)
@@ -97,6 +124,8 @@ def main():
         texts(room, given.keys, given.programs or [OWN], given.longest)
         if os.path.exists(ROWS):
             calls(room, given.longest)
+        if os.path.exists(LINES):
+            growths(room, given.longest)
 
 
 if __name__ == "__main__":

@@ -4,11 +4,12 @@ _bson() {
     local modes='canonical relaxed show'
     for it in "${COMP_WORDS[@]:1:COMP_CWORD-1}"; do
         case $it in
-            lines) modes='canonical relaxed show check' options='--doubles --keep-order --legacy --no-double-keys --keep-going --jobs --output --help --version' ;;
-            decode) modes='canonical relaxed show check' options='--sort-keys --keep-going --jobs --output --help --version' ;;
+            lines) modes+=' check' options=${options/--indent/--keep-going --jobs} ;;
+            decode) modes+=' check' options='--sort-keys --keep-going --jobs --output --help --version' ;;
             encode) modes='' mode=$it options='--sort-keys --keep-going --jobs --output --help --version' ;;
-            show) mode=$it options=${options/ --indent/} ;;
-            canonical | relaxed | check) mode=$it ;;
+            show) mode=$it options=${options/ --indent/} options=${options/--sort-keys /} ;;
+            check) mode=$it options=${options/ --keep-order/} options=${options/--sort-keys /} options=${options/ --output/} ;;
+            canonical | relaxed) mode=$it ;;
         esac
     done
     [[ $options == *--keep-going* || -n $mode ]] || modes+=' lines decode encode'

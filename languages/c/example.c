@@ -18,7 +18,7 @@ int main(void) {
         return 1;
     }
     printf("%s\n", vbson_chars(&canonical));
-    status = vbson_same(vbson_bytes(text), strlen(text), canonical.bytes, canonical.len);
+    status = vbson_same(0, vbson_bytes(text), strlen(text), canonical.bytes, canonical.len);
     printf("%s\n", status == VBSON_DONE ? "the same" : vbson_status_text(status));
     vbson_text_free(&canonical);
     return 0;

@@ -52,7 +52,7 @@ enum vbson_status {
     VBSON_NO_SUCH_TEXT = 6,      /* the bytes are no text of the kind that was asked for */
     VBSON_NO_TEXT = 7,           /* the value has no text of the kind that was asked for */
     VBSON_NO_ROOM = 8,           /* the room is smaller than the text; *len is what the text needs */
-    VBSON_DIFFERENT = 9,         /* the two texts mean different values */
+    VBSON_DIFFERENT = 9,         /* the two values are not the same */
     VBSON_NO_DOCUMENT = 10,      /* the bytes are no document of BSON, or the text means another value than a document */
     VBSON_ZERO_IN_KEY = 11,      /* a key of the document has a 0 byte in it, which would end it */
     VBSON_ZERO_IN_REGEX = 12,    /* the pattern or the options of a regular expression have a 0 byte in them */
@@ -88,10 +88,13 @@ enum vbson_mode {
     VBSON_SHOW = 2       /* the value for people to read; no JSON */
 };
 
-/* What flags are made of, which are joined by |; 0 is none of them. */
+/* What flags are made of, which are joined by |; 0 is none of them. The last two are those of vbson_same, vbson_hash,
+ * vbson_same_documents, vbson_hash_document and vbson_explain alone. */
 enum vbson_flag {
-    VBSON_DOUBLES = 1,   /* finite doubles are read and written */
-    VBSON_KEEP_ORDER = 2 /* documents keep the order of their keys, in the place of an ascending one */
+    VBSON_DOUBLES = 1,               /* finite doubles are read and written */
+    VBSON_KEEP_ORDER = 2,            /* documents keep the order of their keys, in the place of an ascending one */
+    VBSON_REJECT_DUPLICATE_KEYS = 4, /* input in which an object or a document has a duplicate key is rejected */
+    VBSON_LEGACY = 8                 /* texts of Extended JSON v1 are read too */
 };
 
 /* A text in a block of its own: len bytes, and a NUL behind them, so that it is a C string too (which ends earlier
@@ -142,9 +145,9 @@ uint32_t vbson_convert(uint32_t mode, const uint8_t *text, size_t len, vbson_tex
  * VBSON_NO_MODE, VBSON_NOT_JSON, VBSON_BAD_OBJECT_ID, VBSON_NOT_EXTENDED_JSON, VBSON_OUT_OF_MEMORY. */
 uint32_t vbson_convert_with(uint32_t mode, uint32_t flags, const uint8_t *text, size_t len, vbson_text *out);
 
-/* Why vbson_convert_with refuses the text under these flags, in every mode, as a line of words (with no newline), and
- * where; an empty text where it accepts it. VBSON_KEEP_ORDER changes nothing here. The words are those of the status, and
- * behind them
+/* Why vbson_convert_with, vbson_same and vbson_hash refuse the text under these flags, in every mode, as a line of words
+ * (with no newline), and where; an empty text where they accept it. VBSON_KEEP_ORDER changes nothing here. The words are
+ * those of the status, and behind them
  *     " at column N (RULE)"     of what is not JSON: the column of the byte at which it stops to be, counted from 1, and
  *                               the rule of JSON that it breaks, as "a comma or a bracket is missing", or "a number is
  *                               out of range" where it has the grammar of JSON, and a number that is no double
@@ -176,15 +179,21 @@ typedef struct vbson_lines {
  * VBSON_NO_MODE, VBSON_OUT_OF_MEMORY. */
 uint32_t vbson_convert_lines(uint32_t mode, uint32_t flags, const uint8_t *block, size_t len, vbson_lines *out);
 
-/* Whether two texts mean the same value: the same kind, arrays place by place, documents with the same keys and the
- * same values under each, in any order. VBSON_DONE where they do, VBSON_DIFFERENT where they mean two values; the fault
- * of a, else that of b: VBSON_NOT_JSON, VBSON_BAD_OBJECT_ID, VBSON_NOT_EXTENDED_JSON, VBSON_OUT_OF_MEMORY. */
-uint32_t vbson_same(const uint8_t *a, size_t a_len, const uint8_t *b, size_t b_len);
+/* Whether two texts mean the same value: the same kind, arrays element by element, documents with the same keys and the
+ * same values under each, in any order. VBSON_DONE if they do, VBSON_DIFFERENT if they mean two values; otherwise the
+ * fault of a, or that of b if a has none. With VBSON_DOUBLES finite doubles are read, as by vbson_convert_with. With
+ * VBSON_REJECT_DUPLICATE_KEYS a text is rejected as VBSON_NOT_EXTENDED_JSON if one of its objects has a duplicate key, at
+ * any depth. With VBSON_LEGACY the objects {"$binary": .., "$type": ..} and {"$regex": .., "$options": ..} and a $date
+ * with an offset such as +0100 mean what they mean in Extended JSON v1. The order of keys does not change whether values
+ * are the same: VBSON_NO_MODE if the flags have VBSON_KEEP_ORDER, or a bit that is not a flag.
+ * VBSON_NO_MODE, VBSON_NOT_JSON, VBSON_BAD_OBJECT_ID, VBSON_NOT_EXTENDED_JSON, VBSON_OUT_OF_MEMORY. */
+uint32_t vbson_same(uint32_t flags, const uint8_t *a, size_t a_len, const uint8_t *b, size_t b_len);
 
-/* The hash of the value that the text means: one number for all texts that vbson_same finds the same, on every run and
- * machine. It is SipHash-1-3 under the key 0, so whoever chooses the texts can choose many of one hash.
- * VBSON_NOT_JSON, VBSON_BAD_OBJECT_ID, VBSON_NOT_EXTENDED_JSON, VBSON_OUT_OF_MEMORY. */
-uint32_t vbson_hash(const uint8_t *text, size_t len, uint64_t *out);
+/* The hash of the value that the text means, with the flags of vbson_same: one number for all texts that vbson_same finds
+ * the same, on every run and machine. It is SipHash-1-3 under the key 0, so whoever chooses the texts can choose many of
+ * one hash.
+ * VBSON_NO_MODE, VBSON_NOT_JSON, VBSON_BAD_OBJECT_ID, VBSON_NOT_EXTENDED_JSON, VBSON_OUT_OF_MEMORY. */
+uint32_t vbson_hash(uint32_t flags, const uint8_t *text, size_t len, uint64_t *out);
 
 /* ---- documents by their bytes (BSON 1.1, bsonspec.org)
  *
@@ -200,6 +209,16 @@ uint32_t vbson_is_document(const uint8_t *bytes, size_t len);
  * is neither 0 nor 1", "bytes behind the document". *out is written over: what it held is not freed.
  * VBSON_OUT_OF_MEMORY. */
 uint32_t vbson_explain_document(const uint8_t *bytes, size_t len, vbson_text *out);
+
+/* Whether two documents are the same, as vbson_same compares the values of texts. The flags are those of vbson_same. Bytes
+ * have their doubles and no v1, so VBSON_DOUBLES and VBSON_LEGACY change nothing here. With VBSON_REJECT_DUPLICATE_KEYS
+ * bytes in which a document has a duplicate key, at any depth, are VBSON_NO_DOCUMENT; otherwise the last value of such a
+ * key wins. VBSON_DIFFERENT if they are not the same. VBSON_NO_MODE, VBSON_NO_DOCUMENT, VBSON_OUT_OF_MEMORY. */
+uint32_t vbson_same_documents(uint32_t flags, const uint8_t *a, size_t a_len, const uint8_t *b, size_t b_len);
+
+/* The hash of a document, with the flags of vbson_same_documents: the number that vbson_hash returns for a text that means
+ * the same value. VBSON_NO_MODE, VBSON_NO_DOCUMENT, VBSON_OUT_OF_MEMORY. */
+uint32_t vbson_hash_document(uint32_t flags, const uint8_t *bytes, size_t len, uint64_t *out);
 
 /* Reads the bytes as one document, and writes its text in the mode, with flags as of vbson_convert_with. In the two forms
  * keys come out in ascending order, at every depth, and with VBSON_KEEP_ORDER in the document's own, which VBSON_SHOW has

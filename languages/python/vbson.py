@@ -7,8 +7,9 @@
 
 The library is looked for in the variable VBSON_LIBRARY (its path), beside this file, in ../out/lib (where ./vbson build
 puts it), in ../.. (where it is installed beside this file) and where the system keeps libraries. It runs on x86-64 Linux
-with glibc and a processor with SSE4.2. The module _vbson, which is built where there is a Python.h, answers the same sooner;
-the variable VBSON_EXTENSION has its path, or is empty for none.
+with glibc and a processor with SSE4.2 and POPCNT, which is checked if the machine has /proc/cpuinfo. The module _vbson,
+which is built where there is a Python.h, answers the same sooner; the variable VBSON_EXTENSION has its path, or is empty
+for none.
 Texts are `str`, or `bytes` (any other that lends its bytes) in UTF-8; anything else is a TypeError. Any number of threads
 may call at once.
 """
@@ -25,7 +26,7 @@ from typing import Any, List, Optional, Tuple, Union
 
 __all__ = ["CANONICAL", "RELAXED", "SHOW", "Error", "NotJson", "BadObjectId", "NotExtendedJson", "NoSuchText", "NoText",
            "NoDocument", "NoBytes", "NoValue", "loads", "loads_lines", "dumps", "convert", "convert_lines", "explain", "same", "hash_of",
-           "is_document", "explain_document", "decode", "decode_documents", "encode", "encode_lines", "decimal128",
+           "same_documents", "hash_of_document", "is_document", "explain_document", "decode", "decode_documents", "encode", "encode_lines", "decimal128",
            "decimal128_text", "decimal_of", "object_id", "object_id_text", "date_time", "date_time_text", "datetime_of", "version"]
 
 _Bytes = Union[bytes, bytearray, memoryview]
@@ -34,7 +35,7 @@ _Given = Union[str, bytes, bytearray, memoryview]
 # What `convert` writes: the canonical form, the relaxed form, or the value for people to read.
 CANONICAL, RELAXED, SHOW = 0, 1, 2
 _MODES = {"canonical": CANONICAL, "relaxed": RELAXED, "show": SHOW}
-DOUBLES, KEEP_ORDER = 1, 2
+DOUBLES, KEEP_ORDER, REJECT_DUPLICATE_KEYS, LEGACY = 1, 2, 4, 8
 
 _EPOCH = datetime.datetime(1970, 1, 1, tzinfo=datetime.timezone.utc)
 _MILLISECOND = datetime.timedelta(milliseconds=1)
@@ -123,9 +124,13 @@ def _path():
     return found
 
 
-def _has_needed_instructions():
-    with open("/proc/cpuinfo", encoding="ascii", errors="replace") as lines:
-        flags = next((line.split() for line in lines if line.startswith("flags")), [])
+def _has_needed_instructions(path="/proc/cpuinfo"):
+    """Whether the processor has SSE4.2 and POPCNT. Without /proc that is not known, and the processor is trusted."""
+    try:
+        with open(path, encoding="ascii", errors="replace") as lines:
+            flags = next((line.split() for line in lines if line.startswith("flags")), [])
+    except OSError:
+        return True
     return {"sse4_2", "popcnt"} <= {*flags}
 
 
@@ -140,8 +145,10 @@ def _loaded():
         "convert_lines": [number, number, text, size, ctypes.POINTER(_Lines)],
         "encode_lines": [number, text, size, ctypes.POINTER(_Lines)],
         "decode_documents": [number, number, text, size, ctypes.POINTER(_Documents)],
-        "explain": [number, text, size, ctypes.POINTER(_Text)], "same": [text, size, text, size],
-        "hash": [text, size, ctypes.POINTER(ctypes.c_uint64)],
+        "explain": [number, text, size, ctypes.POINTER(_Text)], "same": [number, text, size, text, size],
+        "hash": [number, text, size, ctypes.POINTER(ctypes.c_uint64)],
+        "same_documents": [number, text, size, text, size],
+        "hash_document": [number, text, size, ctypes.POINTER(ctypes.c_uint64)],
         "is_document": [text, size], "explain_document": [text, size, ctypes.POINTER(_Text)],
         "decode": [number, number, text, size, ctypes.POINTER(_Text)], "encode": [number, text, size, ctypes.POINTER(_Text)],
         "decimal128_parse": [text, size, text], "object_id_parse": [text, size, text],
@@ -219,6 +226,18 @@ def _flags(doubles, keep_order=False):
         name, it = ("keep_order", keep_order) if type(doubles) is bool else ("doubles", doubles)
         raise TypeError(f"{name} is True or False, and not {type(it).__name__}")
     return DOUBLES * doubles | KEEP_ORDER * keep_order
+
+
+def _flag(name, value, flag):
+    if type(value) is not bool:
+        raise TypeError(f"{name} is True or False, and not {type(value).__name__}")
+    return flag * value
+
+
+def _read_flags(doubles, reject_duplicate_keys, legacy):
+    """The flags of the calls that only read."""
+    return (_flag("doubles", doubles, DOUBLES) | _flag("legacy", legacy, LEGACY)
+            | _flag("reject_duplicate_keys", reject_duplicate_keys, REJECT_DUPLICATE_KEYS))
 
 
 def _wants_done(status):
@@ -352,31 +371,79 @@ def _refusals(told):
     return [_refusal(it) for it in _taken(told).decode().split("\n")[:-1]]
 
 
-def explain(text: _Given, doubles: bool = False) -> str:
-    """Why convert refuses a text, and where, as a line of words; empty where it accepts it. Raises MemoryError."""
-    flags, given = _flags(doubles), _bytes(text)
+def explain(text: _Given, doubles: bool = False, reject_duplicate_keys: bool = False, legacy: bool = False) -> str:
+    """Why `convert` or `same` rejects a text, and where, as a line of words; empty if they accept it.
+
+    Raises MemoryError.
+    """
+    flags, given = _read_flags(doubles, reject_duplicate_keys, legacy), _bytes(text)
     status, words = _text_of(_library.vbson_explain, flags, given, len(given))
     _wants_done(status)
     return words
 
 
-def same(a: _Given, b: _Given) -> bool:
-    """Whether two texts of Extended JSON mean the same value. Raises as convert does, for the first text first."""
-    a, b = _bytes(a), _bytes(b)
-    status = _library.vbson_same(a, len(a), b, len(b))
+def same(a: _Given, b: _Given, doubles: bool = False, reject_duplicate_keys: bool = False, legacy: bool = False) -> bool:
+    """Compares the values of two texts of Extended JSON: documents are the same in any order of their keys.
+
+    With doubles finite ones are read, as by `convert`. With reject_duplicate_keys a text is rejected if one of its objects
+    has a duplicate key, at any depth; otherwise the last value of such a key wins. With legacy texts of Extended JSON v1
+    are read too: {"$binary": .., "$type": ..}, {"$regex": .., "$options": ..}, and a $date with an offset such as +0100.
+    Raises as `convert` does, for the first text first.
+    """
+    flags, a, b = _read_flags(doubles, reject_duplicate_keys, legacy), _bytes(a), _bytes(b)
+    status = _library.vbson_same(flags, a, len(a), b, len(b))
     if status != DIFFERENT:
-        _wants_accepted(status, 0, a, b)
+        _wants_accepted(status, flags, a, b)
     return status == DONE
 
 
-def hash_of(text: _Given) -> int:
-    """The hash of the value that a text means: one number for all texts that `same` finds the same.
+def hash_of(text: _Given, doubles: bool = False, reject_duplicate_keys: bool = False, legacy: bool = False) -> int:
+    """Computes the hash of the value of a text: one number for all texts that `same` finds the same.
 
-    Raises as convert does.
+    The options are those of `same`. Raises as `convert` does.
     """
-    given, out = _bytes(text), ctypes.c_uint64()
-    _wants_accepted(_library.vbson_hash(given, len(given), ctypes.byref(out)), 0, given)
+    flags, given, out = _read_flags(doubles, reject_duplicate_keys, legacy), _bytes(text), ctypes.c_uint64()
+    _wants_accepted(_library.vbson_hash(flags, given, len(given), ctypes.byref(out)), flags, given)
     return out.value
+
+
+def same_documents(a: _Bytes, b: _Bytes, reject_duplicate_keys: bool = False) -> bool:
+    """Compares two documents by their bytes: they are the same in any order of their keys.
+
+    With reject_duplicate_keys bytes are rejected if one of their documents has a duplicate key, at any depth; otherwise the
+    last value of such a key wins. Raises NoDocument with its place, for the first document first, and MemoryError.
+    """
+    flags, a, b = _flag("reject_duplicate_keys", reject_duplicate_keys, REJECT_DUPLICATE_KEYS), _document(a), _document(b)
+    status = _library.vbson_same_documents(flags, a, len(a), b, len(b))
+    if status != DIFFERENT:
+        _wants_documents(status, flags, a, b)
+    return status == DONE
+
+
+def hash_of_document(document: _Bytes, reject_duplicate_keys: bool = False) -> int:
+    """Computes the hash of a document by its bytes: the number that `hash_of` returns for a text of the same value.
+
+    The option is that of `same_documents`. Raises NoDocument with its place, and MemoryError.
+    """
+    flags, given = _flag("reject_duplicate_keys", reject_duplicate_keys, REJECT_DUPLICATE_KEYS), _document(document)
+    status, number = _hash_of_document(flags, given)
+    _wants_documents(status, flags, given)
+    return number
+
+
+def _hash_of_document(flags, given):
+    out = ctypes.c_uint64()
+    return _library.vbson_hash_document(flags, given, len(given), ctypes.byref(out)), out.value
+
+
+def _wants_documents(status, flags, *documents):
+    """Raises if a call rejected the first of the documents that is rejected."""
+    if status == NO_DOCUMENT:
+        first = next((it for it in documents if _hash_of_document(flags, it)[0] == NO_DOCUMENT), b"")
+        told, words = _text_of(_library.vbson_explain_document, first, len(first))
+        # (only bytes with a duplicate key have no words; without memory for the words, the error has no place)
+        raise _explained(status, words or "no document" + " (a duplicate key)" * (told == DONE))
+    _wants_done(status)
 
 
 def _document(value):

@@ -2,8 +2,8 @@
 others.
 
 Each is a call of bson_rows: the keys put in descending or ascending order and found, taken out from both ends, compared
-and hashed in another order, written, and read from bytes where none may stand twice, with each once or one of them once
-more. A step that takes time in proportion to the number of keys would take minutes.
+and hashed in another order, written, read from a text that has them all twice, and read from bytes where none may stand
+twice, with each once or one of them once more. A step that takes time in proportion to the number of keys would take minutes.
 """
 from dataclasses import dataclass
 
@@ -106,6 +106,11 @@ def written(pairs):
     return b"relaxed " + made(pairs[::-1]), wanted
 
 
+def read_twice(pairs):
+    before = [(key, 0) for key, _ in pairs]
+    return b"show {" + b",".join(b'"%s":%d' % pair for pair in before + pairs) + b"}", shown(pairs)
+
+
 def compared(pairs):
     return b"same " + made(pairs) + b" and " + made(pairs[::-1]), b"equal, equal hashes"
 
@@ -139,7 +144,7 @@ def rows():
     made_rows = []
     for chosen in (True, False):
         pairs = [(key, number) for number, key in enumerate(keys(COUNT, chosen))]
-        for make in (found, taken_out, written, compared, told_apart, each_once, one_twice):
+        for make in (found, taken_out, written, read_twice, compared, told_apart, each_once, one_twice):
             kind = "chosen" if chosen else "ordinary"
             made_rows.append(ManyKeys(f"{COUNT} {kind} keys, {make.__name__}", *make(pairs)))
     return made_rows

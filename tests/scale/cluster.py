@@ -5,6 +5,7 @@ import csv
 import os
 import re
 import signal
+import struct
 import subprocess
 import sys
 import threading
@@ -12,10 +13,13 @@ import time
 
 from distributed import Client, LocalCluster
 
+import vbson
 import vbson_dask
 
 LINES = [b'{"n":5}', b'{"k":[1,2,{"$numberLong":"6"}],"a":"' + b"x" * 200 + b'"}', b"!", b"", b" \t\r", b"[7]\r",
-         b"\xef\xbb\xbf8", b'{"$oid":"53e3"}', b"1.5e"]
+         b"\xef\xbb\xbf8", b'{"$oid":"53e3"}', b"1.5e", b'{"z":1,"price":0.5,"a":2}']
+# The options of a run, as words of the program and as those of the call.
+OPTIONS = [((), {}), (("--doubles",), {"doubles": True}), (("--doubles", "--keep-order"), {"doubles": True, "keep_order": True})]
 
 
 def want(found, wanted, what):
@@ -34,15 +38,42 @@ def files(folder):
     return paths
 
 
-def by_program(program, paths):
+def document(*elements):
+    """The bytes of a document of BSON 1.1 (bsonspec.org)."""
+    inside = b"".join(elements) + b"\0"
+    return struct.pack("<I", len(inside) + 4) + inside
+
+
+PRICE = b"\x01price\0" + struct.pack("<d", 12.5)
+NUMBER = b"\x10n\0\5\0\0\0"
+# (of the rejected ones, the first is passed over by its length)
+DOCUMENTS = [document(), document(PRICE, NUMBER), document(b"\x02s\0" + struct.pack("<I", 301) + b"x" * 300 + b"\0"),
+             document(b"\x08a\0\2"), document(b"\x0az\0", b"\x0aa\0")]
+
+
+def dumps(folder):
+    """Dumps of many documents, among them an empty one, one with a large document, and one whose end is cut off."""
+    large = document(b"\x02s\0" + struct.pack("<I", 300_001) + b"x" * 300_000 + b"\0")
+    paths = [f"{folder}/{name}.bson" for name in "abcd"]
+    many = [DOCUMENTS[1 if at % 20 else at // 20 % len(DOCUMENTS)] for at in range(30_000)]
+    for path, documents in zip(paths, (many, [], [NUMBER_ALONE, large, *many[:40]], [*many[:9_000], DOCUMENTS[2][:40]])):
+        with open(path, "wb") as it:
+            it.write(b"".join(documents))
+    return paths
+
+
+NUMBER_ALONE = document(NUMBER)
+
+
+def by_program(program, paths, words=()):
     """The output of the program, its counts, and the file and line of each refused one."""
-    ran = subprocess.run([program, "relaxed", "--keep-going", *paths], capture_output=True, timeout=120)
+    ran = subprocess.run([program, "relaxed", *words, "--keep-going", *paths], capture_output=True, timeout=120)
     counts = re.search(rb"bson_lines: (\d+) lines, (\d+) refused\n$", ran.stderr)
     places = re.findall(rb"(?m)^(/[^:]*):(\d+): ", ran.stderr)
     return ran.stdout, tuple(map(int, counts.groups())), [(path.decode(), line.decode()) for path, line in places]
 
 
-def is_there(folder, paths, wanted):
+def is_there(folder, wanted, head=("file", "line", "fault")):
     """The parts are the output, in their order, and the table has the refused lines; nothing else is there."""
     output, _, places = wanted
     names = sorted(os.listdir(folder))
@@ -51,15 +82,68 @@ def is_there(folder, paths, wanted):
     want(parts == output, True, "the parts are the output of the program")
     with open(f"{folder}/refused.csv", newline="") as it:
         rows = list(csv.reader(it))
-    want(rows[0], ["file", "line", "fault"], "the head of the table")
-    want([(path, line) for path, line, _ in rows[1:]], places, "the refused lines")
+    want(rows[0], [*head], "the head of the table")
+    want([tuple(row[:-1]) for row in rows[1:]], places, "the refused lines")
+    return rows[1:]
 
 
 def test_parts_are_the_output_of_the_program(client, room, paths, wanted):
     for size in (100_000, 1 << 25):
-        folder = f"{room}/whole-{size}"
-        want(vbson_dask.convert_files(client, paths, folder, "relaxed", size), wanted[1], "the counts")
-        is_there(folder, paths, wanted)
+        for at, (words, options) in enumerate(OPTIONS):
+            folder, by_words = f"{room}/whole-{size}-{at}", by_program(room.program, paths, words)
+            want(vbson_dask.convert_files(client, paths, folder, "relaxed", size, **options), by_words[1], "the counts")
+            is_there(folder, by_words)
+
+
+def test_a_price_is_converted(client, room, paths, wanted):
+    with open(f"{room}/price.jsonl", "wb") as it:
+        it.write(b'{"price":12.5}\n')
+    for doubles, counts, places in ((True, (1, 0), []), (False, (1, 1), [(f"{room}/price.jsonl", "1")])):
+        folder = f"{room}/price-{doubles}"
+        want(vbson_dask.convert_files(client, f"{room}/price.jsonl", folder, "relaxed", doubles=doubles), counts, "the counts")
+        rows = is_there(folder, (b'{"price":12.5}\n' if doubles else b"", counts, places))
+        want([row[-1] for row in rows],
+             ["not Extended JSON at price (a number is no whole number of 64 bits; found 12.5)"] * (not doubles), "the fault")
+
+
+def test_a_block_that_begins_with_a_mark(client, room, paths, wanted):
+    """A byte order mark is passed over at the start of a file, and not at the start of another block."""
+    path, folder = f"{room}/mark.jsonl", f"{room}/mark"
+    with open(path, "wb") as it:
+        it.write(b"\xef\xbb\xbf[1]\n\xef\xbb\xbf[2]\n[3]\n")
+    by_words = by_program(room.program, [path])
+    want(by_words, (b"[1]\n[3]\n", (3, 1), [(path, "2")]), "the program")
+    want(vbson_dask.convert_files(client, path, folder, "relaxed", 7), by_words[1], "the counts")
+    is_there(folder, by_words)
+
+
+def dump_by_parts(paths, options):
+    """The lines of dumps by one call for each file, the counts, and the file, number and place of each rejected document."""
+    texts, places, count = [], [], 0
+    for path in paths:
+        with open(path, "rb") as it:
+            block = it.read()
+        text, refused = vbson.decode_documents(block, "relaxed", **options)
+        texts.append(text)
+        places += [(path, str(number), str(start)) for number, start, _ in refused]
+        count += text.count(b"\n") + len(refused)
+    return b"".join(texts), (count, len(places)), places
+
+
+def test_dumps_are_decoded(client, room, paths, wanted):
+    names = dumps(room)
+    for size in (70_000, 1 << 25):
+        for at, (words, options) in enumerate(OPTIONS):
+            folder, at_once = f"{room}/dumps-{size}-{at}", dump_by_parts(names, options)
+            want(vbson_dask.decode_files(client, names, folder, "relaxed", size, **options), at_once[1], "the counts")
+            is_there(folder, at_once, ("file", "document", "byte", "fault"))
+            sort = () if "keep_order" in options else ("--sort-keys",)
+            words = [it for it in words if it != "--keep-order"]
+            for name in names[:3]:
+                ran = subprocess.run([room.program, "relaxed", "--bson", "--keep-going", *words, *sort, name],
+                                     capture_output=True, timeout=120)
+                want(ran.stdout, dump_by_parts([name], options)[0], f"bson_lines of {name}")
+    want(len(os.listdir(f"{room}/dumps-70000-1")) > 10, True, "several parts")
 
 
 def test_a_worker_that_is_killed(client, room, paths, wanted):
@@ -75,21 +159,29 @@ def test_a_worker_that_is_killed(client, room, paths, wanted):
     want(len(os.listdir(folder)) < parts, True, "it was killed before the end")
     run.join(120)
     want(answer, [wanted[1]], "the counts")
-    is_there(folder, paths, wanted)
+    is_there(folder, wanted)
     want(pids[busy] in client.run(os.getpid).values(), False, "the worker that was killed is gone")
 
 
 def test_what_is_refused(client, room, paths, wanted):
-    for error, folder, mode in ((FileExistsError, f"{room}/killed", "relaxed"), (ValueError, f"{room}/none", "x")):
-        try:
-            vbson_dask.convert_files(client, paths[:1], folder, mode)
-            raise AssertionError(f"no {error.__name__}")
-        except error:
-            pass
+    for error, folder, mode, doubles in ((FileExistsError, f"{room}/killed", "relaxed", True), (ValueError, f"{room}/none", "x", True),
+                                         (TypeError, f"{room}/none", "relaxed", 1)):
+        for call in (vbson_dask.convert_files, vbson_dask.decode_files):
+            try:
+                call(client, paths[:1], folder, mode, doubles=doubles)
+                raise AssertionError(f"no {error.__name__}")
+            except error:
+                pass
+    want(os.path.exists(f"{room}/none"), False, "a folder for what is refused")
+
+
+class Room(str):
+    """The folder, which knows the program."""
 
 
 def main():
-    program, room = sys.argv[1:]
+    room = Room(sys.argv[2])
+    program = room.program = sys.argv[1]
     paths = files(room)
     wanted = by_program(program, paths)
     tests = [it for name, it in globals().items() if name.startswith("test_")]

@@ -136,7 +136,15 @@ static void explain(void) {
     CHECK(explains(0, "{\"a\":1}", ""));
     CHECK(explains(VBSON_KEEP_ORDER, "{\"b\":{\"$oid\":\"5\"},\"a\":[1.5]}", "not Extended JSON at a.0 (a number is no whole number of 64 bits; found 1.5)"));
     CHECK(explains(VBSON_DOUBLES | VBSON_KEEP_ORDER, "[1.5]", ""));
-    CHECK(vbson_explain(4, TEXT("{}"), &out) == VBSON_NO_MODE && out.bytes == before && out.size == 7 && out.len == 6);
+    CHECK(vbson_explain(16, TEXT("{}"), &out) == VBSON_NO_MODE && out.bytes == before && out.size == 7 && out.len == 6);
+    CHECK(explains(VBSON_REJECT_DUPLICATE_KEYS, "{\"a\":[{\"b\":1,\"b\":2}]}", "not Extended JSON at a.0.b (a key that stands twice in its object)"));
+    CHECK(explains(0, "{\"a\":[{\"b\":1,\"b\":2}]}", "") && explains(VBSON_REJECT_DUPLICATE_KEYS, "{\"a\":[{\"b\":1},{\"b\":2}]}", ""));
+    CHECK(explains(VBSON_REJECT_DUPLICATE_KEYS | VBSON_LEGACY, "[1.5,", "not JSON at column 5 (the text ends before its value is whole)"));
+    CHECK(explains(VBSON_LEGACY, "{\"$binary\":\"AQI=\",\"$type\":\"00\"}", ""));
+    CHECK(explains(0, "{\"$binary\":\"AQI=\",\"$type\":\"00\"}",
+        "not Extended JSON (`$binary` stands alone in its object; found {\"$binary\":\"AQI=\",\"$type\":\"00\"})"));
+    CHECK(explains(VBSON_LEGACY, "{\"a\":{\"$binary\":\"AQI=\",\"$type\":\"0\"}}",
+        "not Extended JSON at a.$binary (`subType` holds two hexadecimal digits; found {\"base64\":\"AQI=\",\"subType\":\"0\"})"));
     CHECK(vbson_explain(UINT32_MAX, TEXT("!"), &out) == VBSON_NO_MODE && out.bytes == before && out.len == 6);
 }
 
@@ -144,22 +152,50 @@ static void explain(void) {
 
 static void same(void) {
     const char *one = "{\"a\":1,\"b\":[2,3]}";
-    CHECK(vbson_same(TEXT(one), TEXT("{ \"b\": [2, {\"$numberInt\":\"3\"}], \"a\": 1 }")) == VBSON_DONE);
-    CHECK(vbson_same(TEXT(one), TEXT(one)) == VBSON_DONE);
-    CHECK(vbson_same(TEXT("[1,2]"), TEXT("[2,1]")) == VBSON_DIFFERENT);
-    CHECK(vbson_same(TEXT("1"), TEXT("{\"$numberLong\":\"1\"}")) == VBSON_DIFFERENT);
-    CHECK(vbson_same(TEXT("{\"a\":1}"), TEXT("{\"a\":1,\"b\":1}")) == VBSON_DIFFERENT);
-    CHECK(vbson_same(TEXT("{\"a\":1,\"b\":1}"), TEXT("{\"a\":1}")) == VBSON_DIFFERENT);
-    CHECK(vbson_same(TEXT(""), TEXT("1.5")) == VBSON_NOT_JSON);
-    CHECK(vbson_same(TEXT("1.5"), TEXT("")) == VBSON_NOT_EXTENDED_JSON);
-    CHECK(vbson_same(TEXT("1"), TEXT("{\"$oid\":\"\"}")) == VBSON_BAD_OBJECT_ID);
+    CHECK(vbson_same(0, TEXT(one), TEXT("{ \"b\": [2, {\"$numberInt\":\"3\"}], \"a\": 1 }")) == VBSON_DONE);
+    CHECK(vbson_same(0, TEXT(one), TEXT(one)) == VBSON_DONE);
+    CHECK(vbson_same(0, TEXT("[1,2]"), TEXT("[2,1]")) == VBSON_DIFFERENT);
+    CHECK(vbson_same(0, TEXT("1"), TEXT("{\"$numberLong\":\"1\"}")) == VBSON_DIFFERENT);
+    CHECK(vbson_same(0, TEXT("{\"a\":1}"), TEXT("{\"a\":1,\"b\":1}")) == VBSON_DIFFERENT);
+    CHECK(vbson_same(0, TEXT("{\"a\":1,\"b\":1}"), TEXT("{\"a\":1}")) == VBSON_DIFFERENT);
+    CHECK(vbson_same(0, TEXT(""), TEXT("1.5")) == VBSON_NOT_JSON);
+    CHECK(vbson_same(0, TEXT("1.5"), TEXT("")) == VBSON_NOT_EXTENDED_JSON);
+    CHECK(vbson_same(0, TEXT("1"), TEXT("{\"$oid\":\"\"}")) == VBSON_BAD_OBJECT_ID);
 }
 
-static uint64_t hash_of(const char *text) {
+static void same_by_flags(void) {
+    const char *price = "{\"a\":1,\"price\":12.5}", *other = "{\"price\":{\"$numberDouble\":\"12.50\"},\"a\":1}";
+    const char *twice = "{\"a\":1,\"a\":2}", *within = "[{\"b\":{\"\\u0061\":1,\"a\":2}}]";
+    const char *v1 = "{\"$type\":\"00\",\"$binary\":\"AQI=\"}", *v2 = "{\"$binary\":{\"base64\":\"AQI=\",\"subType\":\"00\"}}";
+    uint32_t strict = VBSON_REJECT_DUPLICATE_KEYS, all = VBSON_DOUBLES | VBSON_REJECT_DUPLICATE_KEYS | VBSON_LEGACY;
+    CHECK(vbson_same(0, TEXT(price), TEXT(other)) == VBSON_NOT_EXTENDED_JSON);
+    CHECK(vbson_same(VBSON_DOUBLES, TEXT(price), TEXT(other)) == VBSON_DONE && vbson_same(all, TEXT(price), TEXT(other)) == VBSON_DONE);
+    CHECK(vbson_same(VBSON_DOUBLES, TEXT("0.0"), TEXT("-0.0")) == VBSON_DIFFERENT);
+    CHECK(vbson_same(VBSON_DOUBLES, TEXT("1.0"), TEXT("1")) == VBSON_DIFFERENT);
+    CHECK(vbson_same(0, TEXT(twice), TEXT("{\"a\":2}")) == VBSON_DONE && vbson_same(0, TEXT(within), TEXT(within)) == VBSON_DONE);
+    CHECK(vbson_same(strict, TEXT(twice), TEXT("{\"a\":2}")) == VBSON_NOT_EXTENDED_JSON);
+    CHECK(vbson_same(strict, TEXT("1"), TEXT(within)) == VBSON_NOT_EXTENDED_JSON);
+    CHECK(vbson_same(strict, TEXT("{\"a\":1,\"b\":{\"a\":2}}"), TEXT("{\"b\":{\"a\":2},\"a\":1}")) == VBSON_DONE);
+    CHECK(vbson_same(strict, TEXT("!"), TEXT(twice)) == VBSON_NOT_JSON);
+    CHECK(vbson_same(VBSON_LEGACY, TEXT(v1), TEXT(v2)) == VBSON_DONE && vbson_same(0, TEXT(v1), TEXT(v2)) == VBSON_NOT_EXTENDED_JSON);
+    CHECK(vbson_same(VBSON_LEGACY, TEXT("{\"$regex\":\"a\",\"$options\":\"i\"}"),
+        TEXT("{\"$regularExpression\":{\"pattern\":\"a\",\"options\":\"i\"}}")) == VBSON_DONE);
+    CHECK(vbson_same(all, TEXT(v1), TEXT(v2)) == VBSON_DONE && vbson_same(all, TEXT(v1), TEXT(twice)) == VBSON_NOT_EXTENDED_JSON);
+    static const uint32_t none[] = {VBSON_KEEP_ORDER, VBSON_DOUBLES | VBSON_KEEP_ORDER, 16, 15, UINT32_MAX};
+    for (size_t i = 0; i < sizeof none / sizeof *none; i++) {
+        uint64_t number = 7;
+        CHECK(vbson_same(none[i], TEXT("1"), TEXT("1")) == VBSON_NO_MODE && vbson_same(none[i], TEXT("!"), TEXT("!")) == VBSON_NO_MODE);
+        CHECK(vbson_hash(none[i], TEXT("1"), &number) == VBSON_NO_MODE && number == 7);
+    }
+}
+
+static uint64_t hash_by(uint32_t flags, const char *text) {
     uint64_t number = 0;
-    CHECK(vbson_hash(TEXT(text), &number) == VBSON_DONE);
+    CHECK(vbson_hash(flags, TEXT(text), &number) == VBSON_DONE);
     return number;
 }
+
+static uint64_t hash_of(const char *text) { return hash_by(0, text); }
 
 static void hash(void) {
     uint64_t number = 7;
@@ -168,10 +204,18 @@ static void hash(void) {
     CHECK(hash_of("{\"a\":1}") != hash_of("{\"a\":2}"));
     /* SipHash-1-3 under the key 0 of no bytes; python_calls.py has more */
     CHECK(hash_of("null") == UINT64_C(0xd1fba762150c532c));
-    CHECK(vbson_hash(TEXT("]"), &number) == VBSON_NOT_JSON && number == 7);
-    CHECK(vbson_hash(TEXT("{\"$oid\":\"x\"}"), &number) == VBSON_BAD_OBJECT_ID && number == 7);
-    CHECK(vbson_hash(TEXT("1e400"), &number) == VBSON_NOT_JSON && number == 7);
-    CHECK(vbson_hash(TEXT("{\"$date\":\"x\"}"), &number) == VBSON_NOT_EXTENDED_JSON && number == 7);
+    CHECK(vbson_hash(0, TEXT("]"), &number) == VBSON_NOT_JSON && number == 7);
+    CHECK(vbson_hash(0, TEXT("{\"$oid\":\"x\"}"), &number) == VBSON_BAD_OBJECT_ID && number == 7);
+    CHECK(vbson_hash(0, TEXT("1e400"), &number) == VBSON_NOT_JSON && number == 7);
+    CHECK(vbson_hash(0, TEXT("{\"$date\":\"x\"}"), &number) == VBSON_NOT_EXTENDED_JSON && number == 7);
+    CHECK(vbson_hash(0, TEXT("[12.5]"), &number) == VBSON_NOT_EXTENDED_JSON && number == 7);
+    CHECK(hash_by(VBSON_DOUBLES, "[12.5]") == hash_by(VBSON_DOUBLES, "[{\"$numberDouble\":\"1.25e1\"}]"));
+    CHECK(hash_by(VBSON_DOUBLES, "[12.5]") != hash_by(VBSON_DOUBLES, "[-12.5]"));
+    CHECK(hash_by(VBSON_DOUBLES | VBSON_REJECT_DUPLICATE_KEYS | VBSON_LEGACY, "null") == UINT64_C(0xd1fba762150c532c));
+    CHECK(hash_of("{\"a\":1,\"a\":2}") == hash_of("{\"a\":2}"));
+    CHECK(vbson_hash(VBSON_REJECT_DUPLICATE_KEYS, TEXT("{\"a\":1,\"a\":2}"), &number) == VBSON_NOT_EXTENDED_JSON && number == 7);
+    CHECK(hash_by(VBSON_LEGACY, "{\"$date\":\"1970-01-01T01:00:00+0100\"}") == hash_of("{\"$date\":{\"$numberLong\":\"0\"}}"));
+    CHECK(vbson_hash(0, TEXT("{\"$date\":\"1970-01-01T01:00:00+0100\"}"), &number) == VBSON_NOT_EXTENDED_JSON && number == 7);
 }
 
 /* ---- documents */
@@ -397,6 +441,33 @@ static void moments(void) {
     }
 }
 
+static void same_documents(void) {
+    /* {"a": 1.5, "b": 5}, {"b": 5, "b": 5} */
+    static const uint8_t sorted[] = {0x17, 0, 0, 0, 1, 'a', 0, 0, 0, 0, 0, 0, 0, 0xf8, 0x3f, 0x10, 'b', 0, 5, 0, 0, 0, 0};
+    static const uint8_t twice[] = {0x13, 0, 0, 0, 0x10, 'b', 0, 5, 0, 0, 0, 0x10, 'b', 0, 5, 0, 0, 0, 0};
+    static const uint8_t empty[] = {5, 0, 0, 0, 0};
+    uint32_t all = VBSON_DOUBLES | VBSON_REJECT_DUPLICATE_KEYS | VBSON_LEGACY, strict = VBSON_REJECT_DUPLICATE_KEYS;
+    uint64_t number = 0;
+    for (uint32_t flags = 0; flags < 17; flags++) {
+        int is_none = flags > 15 || (flags & VBSON_KEEP_ORDER) != 0;
+        CHECK(vbson_same_documents(flags, BYTES(pair), BYTES(sorted)) == (is_none ? VBSON_NO_MODE : VBSON_DONE));
+        CHECK(vbson_same_documents(flags, BYTES(pair), BYTES(empty)) == (is_none ? VBSON_NO_MODE : VBSON_DIFFERENT));
+        number = 7;
+        CHECK(vbson_hash_document(flags, BYTES(sorted), &number) == (is_none ? VBSON_NO_MODE : VBSON_DONE));
+        CHECK(number == (is_none ? 7 : hash_by(VBSON_DOUBLES, "{\"b\":5,\"a\":1.5}")));
+    }
+    CHECK(vbson_same_documents(0, BYTES(twice), BYTES(twice)) == VBSON_DONE);
+    CHECK(vbson_same_documents(strict, BYTES(twice), BYTES(empty)) == VBSON_NO_DOCUMENT);
+    CHECK(vbson_same_documents(all, BYTES(empty), BYTES(twice)) == VBSON_NO_DOCUMENT);
+    CHECK(vbson_same_documents(0, pair, 4, BYTES(pair)) == VBSON_NO_DOCUMENT && vbson_same_documents(0, BYTES(pair), pair, 4) == VBSON_NO_DOCUMENT);
+    CHECK(vbson_same_documents(0, TEXT("{}"), TEXT("{}")) == VBSON_NO_DOCUMENT);
+    CHECK(vbson_hash_document(0, BYTES(twice), &number) == VBSON_DONE && number == hash_of("{\"b\":5}"));
+    number = 7;
+    CHECK(vbson_hash_document(strict, BYTES(twice), &number) == VBSON_NO_DOCUMENT && number == 7);
+    CHECK(vbson_hash_document(0, TEXT("{}"), &number) == VBSON_NO_DOCUMENT && number == 7);
+    CHECK(vbson_hash_document(0, BYTES(empty), &number) == VBSON_DONE && number == hash_of("{}"));
+}
+
 int main(void) {
     CHECK(vbson_version() == VBSON_VERSION);
     convert();
@@ -405,7 +476,9 @@ int main(void) {
     keep_order();
     explain();
     same();
+    same_by_flags();
     hash();
+    same_documents();
     decode();
     explain_document();
     encode();

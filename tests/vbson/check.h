@@ -17,6 +17,7 @@ static int passed, failed;
 
 /* The two arguments that stand for a text. */
 #define TEXT(it) (const uint8_t *)(it), strlen(it)
+#define BYTES(it) (it), sizeof(it)
 
 static inline int end(void) {
     printf("%d passed, %d failed\n", passed, failed);

@@ -112,6 +112,19 @@ def round_trips():
             yield f"{name}, and back", None if vbson.is_document(written) and again == written else f"{written.hex()} and {again.hex()}"
 
 
+def hashes():
+    """Of each text of the rows that has bytes, what is wrong with the hashes and the sameness of both, or None."""
+    for name, line, answer in cases():
+        if line.startswith("encode ") and answer.startswith("0 "):
+            text = bytes.fromhex(line[7:])
+            ascending, in_order = (vbson.encode(text, True, keep_order) for keep_order in (False, True))
+            number = vbson.hash_of(text, doubles=True)
+            found = vbson.hash_of_document(ascending), vbson.hash_of_document(in_order)
+            yield f"{name}, hashed", None if found == (number, number) else f"{found} and not {number}"
+            are_same = vbson.same_documents(ascending, in_order), vbson.same_documents(in_order, b"\5\0\0\0\0")
+            yield f"{name}, compared", None if are_same == (True, len(in_order) == 5) else f"{are_same}"
+
+
 def alone(call, given, *how):
     """What a call gives of one text or document, or its error."""
     try:

@@ -4,6 +4,7 @@ import decimal
 import pickle
 import struct
 import sys
+import tempfile
 import threading
 import typing
 
@@ -218,6 +219,56 @@ def try_hashes():
     raises("a hash of nothing", vbson.NotJson, vbson.hash_of, "")
 
 
+def try_reading():
+    """The options of what only reads, on texts and on documents."""
+    price, other = '{"a":1,"price":12.5}', '{"price":{"$numberDouble":"12.50"},"a":1}'
+    twice, v1 = '{"a":[{"b":1,"b":2}]}', '{"$binary":"AQI=","$type":"00"}'
+    v2 = '{"$binary":{"base64":"AQI=","subType":"00"}}'
+    want("prices", (vbson.same(price, other, True), vbson.same(price, "{}", doubles=True)), (True, False))
+    want("the hash of a price", vbson.hash_of("12.5", doubles=True), sip13(struct.pack("<d", 12.5)))
+    raises("a price without doubles", vbson.NotExtendedJson, vbson.same, price, other)
+    raises("the hash of a price without doubles", vbson.NotExtendedJson, vbson.hash_of, price)
+    words = "not Extended JSON at a.0.b (a key that stands twice in its object)"
+    wanted = words, "a.0.b", "a key that stands twice in its object", vbson.NotExtendedJson
+    strict = {"reject_duplicate_keys": True}
+    want("a duplicate key", refusal(lambda it: vbson.same("1", it, **strict), twice), wanted)
+    want("the hash of a duplicate key", refusal(lambda it: vbson.hash_of(it, **strict), twice), wanted)
+    want("a duplicate key explained", (vbson.explain(twice), vbson.explain(twice, **strict)), ("", words))
+    want("the last value", vbson.same(twice, '{"a":[{"b":2}]}'), True)
+    want("v1", (vbson.same(v1, v2, legacy=True), vbson.hash_of(v1, legacy=True) == vbson.hash_of(v2)), (True, True))
+    raises("v1 without legacy", vbson.NotExtendedJson, vbson.same, v2, v1)
+    want("v1 explained", (vbson.explain(v1, legacy=True), vbson.explain(v1) != ""), ("", True))
+    for call in (vbson.hash_of, vbson.explain, lambda it, **options: vbson.same(it, it, **options)):
+        for name in ("doubles", "reject_duplicate_keys", "legacy"):
+            raises(f"{name} that is no bool", TypeError, lambda it: call("1", **{it: 1}), name)
+    document, turned = vbson.encode(price, True), vbson.encode(other, True, True)
+    want("documents", (document != turned, vbson.same_documents(document, turned)), (True, True))
+    want("other documents", vbson.same_documents(document, vbson.encode("{}")), False)
+    want("the hash of a document", vbson.hash_of_document(memoryview(turned)), vbson.hash_of(price, doubles=True))
+    doubled = b"\x13\0\0\0\x10b\0\5\0\0\0\x10b\0\6\0\0\0\0"
+    want("the last value of a document", vbson.same_documents(doubled, vbson.encode('{"b":6}')), True)
+    wanted = "no document (a duplicate key)", "", "a duplicate key", vbson.NoDocument
+    want("a duplicate key of a document", refusal(lambda it: vbson.hash_of_document(it, **strict), doubled), wanted)
+    want("the first of two documents", refusal(lambda it: vbson.same_documents(it, b"", **strict), doubled), wanted)
+    want("the second of two", refusal(lambda it: vbson.same_documents(document, it, **strict), doubled), wanted)
+    damaged, wanted = document[:8], refusal(vbson.decode, document[:8])
+    want("a damaged document", refusal(lambda it: vbson.same_documents(doubled, it), damaged), wanted)
+    want("the hash of a damaged document", refusal(lambda it: vbson.hash_of_document(it, **strict), damaged), wanted)
+    raises("a text for a document", TypeError, vbson.same_documents, document, "{}")
+
+
+def try_machine():
+    """Without /proc the processor is not known, and is trusted; with it the instructions are looked for."""
+    want("no /proc", vbson._has_needed_instructions("/proc/none"), True)
+    with tempfile.NamedTemporaryFile("w") as file:
+        for flags, has_both in (("sse4_2 popcnt", True), ("sse4_2", False), ("popcnt", False), ("", False)):
+            file.seek(0)
+            file.truncate()
+            file.write(f"processor : 0\nflags : fpu {flags}\n")
+            file.flush()
+            want(f"a processor with {flags}", vbson._has_needed_instructions(file.name), has_both)
+
+
 def try_lines():
     want("lines", vbson.convert_lines("[ 1 ]\n\n{}", "relaxed"), (b"[1]\n{}\n", []))
     want("no lines", vbson.convert_lines(b""), (b"", []))
@@ -378,6 +429,8 @@ try_order()
 try_places()
 try_reads()
 try_hashes()
+try_reading()
+try_machine()
 try_lines()
 try_blocks()
 try_documents()

@@ -36,8 +36,9 @@ static const char *const texts[] = {
     "\"g\":{\"$regularExpression\":{\"pattern\":\"a\",\"options\":\"xi\"}},\"h\":{\"$symbol\":\"s\"},"
     "\"i\":{\"$dbPointer\":{\"$ref\":\"n\",\"$id\":{\"$oid\":\"53e37d08776f724e42000000\"}}},\"j\":{\"$minKey\":1},"
     "\"k\":{\"$uuid\":\"c8edabc3-f738-4ca3-b68d-ab92a91478a3\"},\"l\":{\"$numberDouble\":\"-Infinity\"}}",
-    "[1,{\"$oid\":\"53e3\"}]", "[{\"a\":[1.5]}]", "{\"a\":[\"b\"", "[]", "\"a\\u0000b\""};
-enum { TEXTS = sizeof texts / sizeof *texts, KINDS = 24 };
+    "[1,{\"$oid\":\"53e3\"}]", "[{\"a\":[1.5]}]", "{\"a\":[\"b\"", "[]", "\"a\\u0000b\"",
+    "{\"a\":{\"b\":1,\"b\":{\"$binary\":\"AQI=\",\"$type\":\"0\"}}}"};
+enum { TEXTS = sizeof texts / sizeof *texts, KINDS = 30 };
 
 /* What a call of each kind answers, and all that it can write. */
 struct answer {
@@ -104,8 +105,8 @@ static struct answer call(int kind, const char *text, long number) {
     requests = live = 0;
     refused = number;
     if (kind < 3) it.status = vbson_convert((uint32_t)kind, TEXT(text), &it.text);
-    else if (kind == 3) it.status = vbson_same(TEXT(text), TEXT(texts[0]));
-    else if (kind == 4) it.status = vbson_hash(TEXT(text), &it.number);
+    else if (kind == 3) it.status = vbson_same(0, TEXT(text), TEXT(texts[0]));
+    else if (kind == 4) it.status = vbson_hash(0, TEXT(text), &it.number);
     else if (kind == 5) it.status = vbson_decimal128_print(decimal, it.room, sizeof it.room, &it.len);
     else if (kind == 6) it.status = vbson_date_time_print(-1, it.room, sizeof it.room, &it.len);
     else if (kind == 7) it.status = vbson_convert_with(VBSON_RELAXED, VBSON_DOUBLES, TEXT(text), &it.text);
@@ -118,7 +119,12 @@ static struct answer call(int kind, const char *text, long number) {
     else if (kind == 18) it.status = vbson_encode(VBSON_DOUBLES | VBSON_KEEP_ORDER, TEXT(text), &it.text);
     else if (kind == 19) it.status = vbson_decode(VBSON_RELAXED, VBSON_DOUBLES | VBSON_KEEP_ORDER, document.bytes, document.len, &it.text);
     else if (kind < 22) it.status = encode_lines(kind == 20 ? 0 : VBSON_DOUBLES | VBSON_KEEP_ORDER, text, &it);
-    else it.status = decode_documents(kind == 22 ? 0 : VBSON_DOUBLES | VBSON_KEEP_ORDER, &it);
+    else if (kind < 24) it.status = decode_documents(kind == 22 ? 0 : VBSON_DOUBLES | VBSON_KEEP_ORDER, &it);
+    else if (kind == 24) it.status = vbson_same(VBSON_DOUBLES | VBSON_REJECT_DUPLICATE_KEYS, TEXT(text), TEXT(texts[0]));
+    else if (kind == 25) it.status = vbson_hash(VBSON_REJECT_DUPLICATE_KEYS | VBSON_LEGACY, TEXT(text), &it.number);
+    else if (kind < 28) it.status = vbson_explain(kind == 26 ? VBSON_LEGACY : VBSON_REJECT_DUPLICATE_KEYS, TEXT(text), &it.text);
+    else if (kind == 28) it.status = vbson_same_documents(VBSON_REJECT_DUPLICATE_KEYS, document.bytes, document.len, document.bytes, document.len);
+    else it.status = vbson_hash_document(0, document.bytes, document.len, &it.number);
     refused = 0;
     return it;
 }

@@ -4,6 +4,9 @@
 #include <pthread.h>
 #include <sys/mman.h>
 
+/* Every flag of the calls that only read. */
+enum { ALL_READ = VBSON_DOUBLES | VBSON_REJECT_DUPLICATE_KEYS | VBSON_LEGACY };
+
 enum { STACK = 512 * 1024, NEEDS = 448 * 1024, LARGE_STACK = 6144 * 1024, NEEDS_IN_ORDER = 5120 * 1024 };
 
 static char text[1 << 16];
@@ -53,8 +56,8 @@ static void *calls(void *kind) {
     uint64_t number;
     int it = *(int *)kind;
     if (it < 3) status = vbson_convert((uint32_t)it, TEXT(text), &out);
-    else if (it == 3) status = vbson_same(TEXT(text), TEXT(text));
-    else if (it == 4) status = vbson_hash(TEXT(text), &number);
+    else if (it == 3) status = vbson_same(ALL_READ, TEXT(text), TEXT(text));
+    else if (it == 4) status = vbson_hash(ALL_READ, TEXT(text), &number);
     else if (it == 5) status = vbson_convert_with(VBSON_CANONICAL, VBSON_DOUBLES, TEXT(text), &out);
     else if (it == 6) status = vbson_explain(0, TEXT(text), &out);
     else if (it == 13) status = lines_status(VBSON_DOUBLES);
@@ -62,6 +65,8 @@ static void *calls(void *kind) {
     else if (it == 15) status = vbson_convert_with(VBSON_CANONICAL, VBSON_KEEP_ORDER, TEXT(text), &out);
     else if (it == 16) status = vbson_encode(VBSON_KEEP_ORDER, TEXT(text), &out);
     else if (it == 17) status = vbson_decode(VBSON_CANONICAL, VBSON_KEEP_ORDER, document, document_len, &out);
+    else if (it == 18) status = vbson_same_documents(0, document, document_len, document, document_len);
+    else if (it == 19) status = vbson_hash_document(VBSON_REJECT_DUPLICATE_KEYS, document, document_len, &number);
     else if (it == 7) status = vbson_encode(0, TEXT(text), &out);
     else if (it == 8) status = vbson_is_document(document, document_len);
     else if (it == 9) status = vbson_explain_document(document, document_len, &out);
@@ -115,8 +120,10 @@ static void all_of_documents(uint32_t wanted) {
         count(kind);
         CHECK(status == (kind == 9 ? VBSON_DONE : wanted));
     }
-    count(17);
-    CHECK(status == wanted);
+    for (int kind = 17; kind < 20; kind++) {
+        count(kind);
+        CHECK(status == wanted);
+    }
 }
 
 int main(void) {

@@ -16,13 +16,13 @@ static int round_of(int thread, int round) {
     vbson_text out = VBSON_TEXT_NONE;
     if (vbson_convert(VBSON_RELAXED, TEXT(text), &out) != VBSON_DONE) return 0;
     int is_right = strcmp((const char *)out.bytes, wanted) == 0
-        && vbson_same(TEXT(text), out.bytes, out.len) == VBSON_DONE && vbson_hash(TEXT(text), &one) == VBSON_DONE
-        && vbson_hash(out.bytes, out.len, &other) == VBSON_DONE && one == other;
+        && vbson_same(0, TEXT(text), out.bytes, out.len) == VBSON_DONE && vbson_hash(0, TEXT(text), &one) == VBSON_DONE
+        && vbson_hash(0, out.bytes, out.len, &other) == VBSON_DONE && one == other;
     vbson_text_free(&out);
     snprintf(printed, sizeof printed, "2020-06-01T00:42:%02d.%03dZ", round % 60, thread + 1);
     return is_right && vbson_date_time_parse(TEXT(printed), &millis) == VBSON_DONE
         && vbson_date_time_print(millis, room, sizeof room, &len) == VBSON_DONE && memcmp(room, printed, len) == 0
-        && vbson_same(TEXT(shared), TEXT(shared)) == VBSON_DONE;
+        && vbson_same(0, TEXT(shared), TEXT(shared)) == VBSON_DONE;
 }
 
 static void *work(void *number) {

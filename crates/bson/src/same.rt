@@ -4,6 +4,8 @@ ghost use Rattle.bson_model.specs.Value.{document};
 ghost use Rattle.bson.specs.View.{bson_view, contents, pairs_view, scoped_view, values_view};
 ghost use Rattle.bson_model.specs.Same.{same, same_items};
 
+mod in_order;
+
 use crate::bson::{Bson, JavaScriptCodeWithScope};
 use crate::document::Document;
 use crate::scalar::same_scalars;

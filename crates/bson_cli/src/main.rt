@@ -2,8 +2,8 @@
 //! it means to standard output, in the form of MongoDB Extended JSON v2 that MODE names, or as it
 //! is shown, and a newline.
 //!
-//! The library `bson_run` goes the whole way; here stand the arguments, the lines on standard error
-//! and the statuses.
+//! The library `bson_convert` does the whole conversion. This program has the arguments, the lines on
+//! standard error and the statuses.
 #![tactic(auto)]
 
 use bson_convert::fault::Fault;

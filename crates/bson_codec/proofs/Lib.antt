@@ -6,3 +6,8 @@ pub mod Elements
 pub mod Typed
 pub mod Streams
 pub mod Runs
+pub mod Justified
+pub mod Lengths
+pub mod OneDump
+pub mod Inside
+pub mod Offered

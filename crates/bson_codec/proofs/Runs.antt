@@ -1,13 +1,14 @@
 -- How a run over documents goes on and ends.
-use Rattle.std.proofs.Common.{◌≡◌, inl, inr, ℕ, ◌+◌, ◌≤◌, List, [], ◌++◌, length, Option, None, Some, refl}
-use Rattle.std.proofs.Common.{sym, subst, ◌∙◌, arith}
+use Rattle.std.proofs.Common.{◌≡◌, ◌≢◌, ◌⊎◌, inl, inr, ℕ, ◌+◌, ◌≤◌, List, [], ◌∷◌, ◌++◌, length, Option, None, Some, refl}
+use Rattle.std.proofs.Common.{ap, false, sym, subst, ◌∙◌, arith}
+use Rattle.std.specs.Prelude.{◌==◌}
 use Rattle.std.specs.Io.KnownBytes.{Appends, Consumes, IsAtEnd, Keeps}
 use Rattle.std.proofs.KnownBytes.{Appends-nil, Appends-trans, Consumes-nil, Consumes-trans}
 use Rattle.std.proofs.lemmas.List.{append-nil, length-append}
 use Rattle.bson_codec.specs.Documents.{Dump, none, written, passed_over}
-use Rattle.bson_codec.specs.Documents.{DoneDocuments, EndsFor, EndsAt, HasNoLine, IsGiven, IsJudged, IsLine}
-use Rattle.bson_codec.specs.Documents.{IsUngiven, IsUntold, Running}
-use Rattle.bson_codec.specs.Streams.{WritesBeginning}
+use Rattle.bson_codec.specs.Documents.{DoneDocuments, EndsFor, EndsAt, HasNoLine, IsGiven, IsJudged, IsLine, IsOfBytes}
+use Rattle.bson_codec.specs.Documents.{IsPassedOver, IsUngiven, IsUntold, Running, TakesFront}
+use Rattle.bson_codec.specs.Streams.{WritesBeginning, front_of}
 use Rattle.bson_codec.specs.Told.{told_of}
 use Rattle.bson_codec.specs.declared.documents.Run.{Run}
 use Rattle.bson_codec.specs.declared.run_end.RunFault.{RunFault}
@@ -61,9 +62,9 @@ run_goes_on run before mid after had holds after_holds told tells after_tells nu
       verdicts = r.verdicts ++ said;
       given = Consumes-trans before mid after r.done bytes r.given taken;
       documents = subst (λ (k : ℕ). Dump run (r.done ++ bytes) r.output (r.verdicts ++ said) (number + 1) k) (sym one)
-          (passed_over bytes fault r.documents g.1.0 g.1.1.0.1 g.1.1.1.0);
+          (passed_over bytes fault r.documents g.1.0 g.1.1.0.1);
       place = omega (arith, place, r.place, length-append r.done bytes);
-      written = appends_kept had holds after_holds r.output r.written g.1.1.1.1;
+      written = appends_kept had holds after_holds r.output r.written g.1.1.1;
       reported = Appends-trans told tells after_tells r.verdicts said r.reported
           (subst (λ (s : ℕ). Appends tells after_tells (told_of (number + 1) s fault)) r.place g.1.1.0.2);
     }
@@ -77,25 +78,33 @@ cut_line run number start bytes line had holds tells is cut =
     (cut.beginning, [], inl ((line, is, cut.starts), refl), (cut.written, Appends-nil tells))
 
 pub untold : (e : RunFault) (run : Run) (number start : ℕ) (bytes : List ℕ) (fault : RunFault)
-    (had told tells : Option (List ℕ)) → HasNoLine fault run bytes → IsUntold e number start fault told tells
-    → IsUngiven e run number start bytes had had told tells
-untold e run number start bytes fault had told tells bad (inl p) =
+    (had told tells : Option (List ℕ)) → HasNoLine fault run bytes → IsPassedOver run bytes
+    → IsUntold e number start fault told tells → IsUngiven e run number start bytes had had told tells
+untold e run number start bytes fault had told tells bad over (inl p) =
     subst (λ (it : RunFault). IsUngiven it run number start bytes had had told tells) (sym p.0)
     ([], [], (refl, refl), (Appends-nil had, appends_kept told told tells [] (Appends-nil told) p.1))
-untold e run number start bytes fault had told tells bad (inr p) =
+untold e run number start bytes fault had told tells bad over (inr p) =
     subst (λ (it : RunFault). IsUngiven it run number start bytes had had told tells) (sym p.0)
-    ([], p.1.0, inr ((fault, bad, p.1.1), refl), (Appends-nil had, p.1.2))
+    ([], p.1.0, inr ((fault, bad, over, p.1.1), refl), (Appends-nil had, p.1.2))
 
 pub judged_ends : (e : RunFault) (run : Run) (number start : ℕ) (bytes : List ℕ) (had told : Option (List ℕ))
-    → IsJudged e run bytes → IsUngiven e run number start bytes had had told told
-judged_ends (Malformed k n) run number start bytes had told p =
-    ([], [], (p, refl, refl), (Appends-nil had, Appends-nil told))
-judged_ends FiniteDouble run number start bytes had told p =
-    ([], [], (p, refl, refl), (Appends-nil had, Appends-nil told))
-judged_ends CannotRead run number start bytes had told p = absurd p
-judged_ends CannotWrite run number start bytes had told p = absurd p
-judged_ends OutOfMemory run number start bytes had told p =
+    → IsJudged e run bytes → (IsOfBytes e → IsPassedOver run bytes → ⊥) → IsUngiven e run number start bytes had had told told
+judged_ends (Malformed k n) run number start bytes had told p last =
+    ([], [], (p, last tt, refl, refl), (Appends-nil had, Appends-nil told))
+judged_ends FiniteDouble run number start bytes had told p last =
+    ([], [], (p, last tt, refl, refl), (Appends-nil had, Appends-nil told))
+judged_ends CannotRead run number start bytes had told p last = absurd p
+judged_ends CannotWrite run number start bytes had told p last = absurd p
+judged_ends OutOfMemory run number start bytes had told p last =
     ([], [], (refl, refl), (Appends-nil had, Appends-nil told))
+
+-- what is passed over has no line
+pub bad_bytes : (e : RunFault) (run : Run) (bytes : List ℕ) → IsOfBytes e → IsJudged e run bytes → HasNoLine e run bytes
+bad_bytes (Malformed k n) run bytes is p = p
+bad_bytes FiniteDouble run bytes is p = p
+bad_bytes CannotRead run bytes is p = p
+bad_bytes CannotWrite run bytes is p = p
+bad_bytes OutOfMemory run bytes is p = absurd is
 
 pub one_at_most : (n : ℕ) (run : Run) (number start : ℕ) (bytes : List ℕ) (had holds told tells : Option (List ℕ))
     → IsGiven n run number start bytes had holds told tells → n ≤ 1
@@ -119,10 +128,11 @@ run_is_done run before mid after had holds told tells number refused start bytes
 
 pub run_ends : (run : Run) (before mid after had holds after_holds told tells after_tells : Option (List ℕ))
     (count refused start number : ℕ) (fault : RunFault) (taken : List ℕ)
-    → Running run before mid had holds told tells count refused start → Consumes mid after taken → number ≡ count + 1
+    → (r : Running run before mid had holds told tells count refused start) → Consumes mid after taken
+    → number ≡ count + 1 → TakesFront fault before r.done taken
     → IsUngiven fault run number start taken holds after_holds tells after_tells
-    → EndsAt run before after had after_holds told after_tells fault number start
-run_ends run before mid after had holds after_holds told tells after_tells count refused start number fault taken r given next (more, said, why, (w, t)) = record {
+    → EndsAt run before after had after_holds told after_tells fault number refused start
+run_ends run before mid after had holds after_holds told tells after_tells count refused start number fault taken r given next front (more, said, why, (w, t)) = record {
   done = r.done;
   taken = taken;
   output = r.output;
@@ -130,8 +140,8 @@ run_ends run before mid after had holds after_holds told tells after_tells count
   verdicts = r.verdicts;
   said = said;
   count = count;
-  refused = refused;
   given = Consumes-trans before mid after r.done taken r.given given;
+  front = front;
   documents = r.documents;
   counted = next;
   place = r.place;
@@ -140,16 +150,73 @@ run_ends run before mid after had holds after_holds told tells after_tells count
   reported = Appends-trans told tells after_tells r.verdicts said r.reported t;
 }
 
-pub run_ends_unwritten : (run : Run) (before mid after had holds told tells : Option (List ℕ))
+-- ---- what was taken
+
+pub some_taken : (bytes : List ℕ) (n : ℕ) → n ≡ length bytes → false ≡ (n == 0) → bytes ≢ []
+some_taken bytes n e tested = λ none.
+    let zero : n ≡ 0 = e ∙ ap length none in
+    let yes = ap (λ (k : ℕ). k == 0) zero in absurd cc
+
+unread_front : (fault : RunFault) (before : Option (List ℕ)) (done taken : List ℕ)
+    → (fault ≡ CannotRead) ⊎ (fault ≡ OutOfMemory) → TakesFront fault before done taken
+unread_front fault before done taken (inl e) = subst (λ (f : RunFault). TakesFront f before done taken) (sym e) tt
+unread_front fault before done taken (inr e) = subst (λ (f : RunFault). TakesFront f before done taken) (sym e) tt
+
+unread_ends : (fault : RunFault) (run : Run) (number start : ℕ) (taken : List ℕ)
+    → (fault ≡ CannotRead) ⊎ (fault ≡ OutOfMemory) → EndsFor fault run number start taken [] []
+unread_ends fault run number start taken (inl e) =
+    subst (λ (f : RunFault). EndsFor f run number start taken [] []) (sym e) (refl, refl)
+unread_ends fault run number start taken (inr e) =
+    subst (λ (f : RunFault). EndsFor f run number start taken [] []) (sym e) (refl, refl)
+
+pub same_rest : (a b c d : List ℕ) → a ++ b ≡ c ++ d → length a ≡ length c → b ≡ d
+same_rest [] b [] d e l = e
+same_rest [] b (y ∷ c) d e l = absurd (omega (arith, l))
+same_rest (x ∷ a) b [] d e l = absurd (omega (arith, l))
+same_rest (x ∷ a) b (y ∷ c) d e l =
+    let f : a ++ b ≡ c ++ d = cc in
+    same_rest a b c d f (omega (arith, l))
+
+-- what a reader has left behind the bytes that were consumed
+pub left : (before mid : Option (List ℕ)) (done rest : List ℕ) → before ≡ Some (done ++ rest)
+    → Consumes before mid done → mid ≡ Some rest
+left None mid done rest e c = absurd cc
+left (Some xs) None done rest e c = absurd c
+left (Some xs) (Some ys) done rest e c =
+    let f : done ++ rest ≡ done ++ ys = cc in
+    let g : rest ≡ ys = same_rest done rest done ys f refl in cc
+
+given_front : (fault : RunFault) (before mid : Option (List ℕ)) (done taken : List ℕ) → Consumes before mid done → taken ≢ []
+    → ((all : List ℕ) → mid ≡ Some all → taken ≡ front_of all) → TakesFront fault before done taken
+given_front (Malformed k n) before mid done taken c some h = (some, λ rest e. h rest (left before mid done rest e c))
+given_front FiniteDouble before mid done taken c some h = (some, λ rest e. h rest (left before mid done rest e c))
+given_front CannotRead before mid done taken c some h = tt
+given_front CannotWrite before mid done taken c some h = (some, λ rest e. h rest (left before mid done rest e c))
+given_front OutOfMemory before mid done taken c some h = tt
+
+pub run_ends_unread : (run : Run) (before mid after had holds told tells : Option (List ℕ))
     (count refused start number : ℕ) (fault : RunFault) (taken : List ℕ)
     → Running run before mid had holds told tells count refused start → Consumes mid after taken → number ≡ count + 1
-    → EndsFor fault run number start taken [] [] → EndsAt run before after had holds told tells fault number start
-run_ends_unwritten run before mid after had holds told tells count refused start number fault taken r given next why =
+    → (fault ≡ CannotRead) ⊎ (fault ≡ OutOfMemory)
+    → EndsAt run before after had holds told tells fault number refused start
+run_ends_unread run before mid after had holds told tells count refused start number fault taken r given next why =
     run_ends run before mid after had holds holds told tells tells count refused start number fault taken r given next
-    ([], [], why, (Appends-nil holds, Appends-nil tells))
+    (unread_front fault before r.done taken why)
+    ([], [], unread_ends fault run number start taken why, (Appends-nil holds, Appends-nil tells))
+
+pub run_ends_at : (run : Run) (before mid after had holds after_holds told tells after_tells : Option (List ℕ))
+    (count refused start number : ℕ) (fault : RunFault) (taken : List ℕ)
+    → Running run before mid had holds told tells count refused start → Consumes mid after taken → number ≡ count + 1
+    → taken ≢ [] → ((all : List ℕ) → mid ≡ Some all → taken ≡ front_of all)
+    → IsUngiven fault run number start taken holds after_holds tells after_tells
+    → EndsAt run before after had after_holds told after_tells fault number refused start
+run_ends_at run before mid after had holds after_holds told tells after_tells count refused start number fault taken r given next some front why =
+    run_ends run before mid after had holds after_holds told tells after_tells count refused start number fault taken r
+    given next (given_front fault before mid r.done taken r.given some front) why
 
 pub run_stops_between : (run : Run) (before mid had holds told tells : Option (List ℕ))
-    (count refused start number : ℕ) (fault : RunFault) → Running run before mid had holds told tells count refused start
-    → number ≡ count + 1 → EndsFor fault run number start [] [] [] → EndsAt run before mid had holds told tells fault number start
-run_stops_between run before mid had holds told tells count refused start number fault r next why =
-    run_ends_unwritten run before mid mid had holds told tells count refused start number fault [] r (Consumes-nil mid) next why
+    (count refused start number : ℕ) → Running run before mid had holds told tells count refused start
+    → number ≡ count + 1 → EndsAt run before mid had holds told tells CannotRead number refused start
+run_stops_between run before mid had holds told tells count refused start number r next =
+    run_ends_unread run before mid mid had holds told tells count refused start number CannotRead [] r (Consumes-nil mid) next
+    (inl refl)

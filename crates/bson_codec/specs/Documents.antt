@@ -1,5 +1,5 @@
 -- What a run over documents does: its input is documents one behind the other.
-use Rattle.std.specs.Prelude.{◌≡◌, ◌⊎◌, ◌+◌, ℕ, List, [], ◌++◌, true, false, Option, Ok, length}
+use Rattle.std.specs.Prelude.{◌≡◌, ◌≢◌, ◌⊎◌, ◌+◌, ℕ, List, [], ◌++◌, true, false, Option, Some, Ok, length}
 use Rattle.std.specs.Io.{StartsWith}
 use Rattle.std.specs.Io.KnownBytes.{Appends, Consumes, IsAtEnd, Keeps}
 use Rattle.bson.specs.declared.extjson.options.Options.{Options}
@@ -8,9 +8,10 @@ use Rattle.bson_scalar.specs.declared.form.Form.{Form}
 use Rattle.bson_model.specs.Displayed.{display_text}
 use Rattle.bson_model.specs.Normal.{writable_in}
 use Rattle.bson_model.specs.Value.{Pairs, document}
-use Rattle.bson_bytes.specs.Laws.{IsRead}
+use Rattle.bson_bytes.specs.Laws.{IsRead, IsFront}
 use Rattle.bson_bytes.specs.Reading.{reads, size_at}
 use Rattle.bson_codec.specs.Errors.{IsPlacedFault}
+use Rattle.bson_codec.specs.Streams.{front_of}
 use Rattle.bson_codec.specs.Told.{newline, told_of}
 use Rattle.bson_codec.specs.declared.documents.Line.{Line}
 use Rattle.bson_codec.specs.declared.documents.Line.TheVariants.{Text, TextInOrder, Shown, Nothing}
@@ -21,12 +22,12 @@ use Rattle.bson_codec.specs.declared.run_end.RunFault.TheVariants.{OutOfMemory}
 
 -- ---- a document
 
--- what is written of the document: a text and a newline, or nothing
+-- what is written of the document: the text of one that has a text, and a newline; or nothing
 abbrev pub WritesLine : Options → Line → Pairs → List ℕ → Type 0
-WritesLine o (Text f) ps line =
-    (text : List ℕ) × IsTextUnder o.doubles f (document ps) text × (line ≡ text ++ newline)
-WritesLine o (TextInOrder f) ps line =
-    (text : List ℕ) × IsTextInOrder o.doubles f (document ps) text × (line ≡ text ++ newline)
+WritesLine o (Text f) ps line = (writable_in o.doubles (document ps) ≡ true)
+    × ((text : List ℕ) × IsTextUnder o.doubles f (document ps) text × (line ≡ text ++ newline))
+WritesLine o (TextInOrder f) ps line = (writable_in o.doubles (document ps) ≡ true)
+    × ((text : List ℕ) × IsTextInOrder o.doubles f (document ps) text × (line ≡ text ++ newline))
 WritesLine o Shown ps line = line ≡ display_text (document ps) ++ newline
 WritesLine o Nothing ps line = line ≡ []
 
@@ -52,6 +53,18 @@ HasNoLine other run bytes = ⊥
 abbrev pub BeginsWithLength : List ℕ → Type 0
 BeginsWithLength bytes = (rest : List ℕ) × (size_at bytes ≡ Ok (length bytes, rest))
 
+-- a rejected document is passed over: the run keeps going, and the next document begins behind the length of this one
+abbrev pub IsPassedOver : Run → List ℕ → Type 0
+IsPassedOver run bytes = (run.keep_going ≡ true) × BeginsWithLength bytes
+
+-- the fault is one of the bytes
+abbrev pub IsOfBytes : RunFault → Type 0
+IsOfBytes (Malformed k n) = Unit {0}
+IsOfBytes FiniteDouble = Unit {0}
+IsOfBytes CannotRead = ⊥
+IsOfBytes CannotWrite = ⊥
+IsOfBytes OutOfMemory = ⊥
+
 -- ---- documents one behind the other
 
 -- these bytes are so many documents that give this output, of which so many were refused, passed over and told so
@@ -61,8 +74,7 @@ pub data Dump (run : Run) : List ℕ → List ℕ → List ℕ → ℕ → ℕ �
       → Dump run before output told number refused → IsLine run bytes line
       → Dump run (before ++ bytes) (output ++ line) told (number + 1) refused
   passed_over : {before output told : List ℕ} {number refused : ℕ} (bytes : List ℕ) (fault : RunFault)
-      → Dump run before output told number refused → run.keep_going ≡ true → HasNoLine fault run bytes
-      → BeginsWithLength bytes
+      → Dump run before output told number refused → IsPassedOver run bytes → HasNoLine fault run bytes
       → Dump run (before ++ bytes) output (told ++ told_of (number + 1) (length before) fault) (number + 1) (refused + 1)
 
 -- ---- a run
@@ -86,7 +98,8 @@ pub record DoneDocuments (run : Run) (before after had holds told tells : Option
 abbrev pub IsCutShort : Run → (number start : ℕ) → (taken more said : List ℕ) → Type 0
 IsCutShort run number start taken more said =
     (((line : List ℕ) × IsLine run taken line × StartsWith line more) × (said ≡ []))
-    ⊎ (((fault : RunFault) × HasNoLine fault run taken × StartsWith (told_of number start fault) said) × (more ≡ []))
+    ⊎ (((fault : RunFault) × HasNoLine fault run taken × IsPassedOver run taken
+    × StartsWith (told_of number start fault) said) × (more ≡ []))
 
 -- why a run ends at the bytes that were taken of the document of this number, which begins behind so many bytes, what
 -- was written of its line, and what was told
@@ -94,12 +107,21 @@ abbrev pub EndsFor : RunFault → Run → (number start : ℕ) → (taken more s
 EndsFor CannotRead run number start taken more said = (more ≡ []) × (said ≡ [])
 EndsFor CannotWrite run number start taken more said = IsCutShort run number start taken more said
 EndsFor OutOfMemory run number start taken more said = (more ≡ []) × (said ≡ [])
-EndsFor fault run number start taken more said = HasNoLine fault run taken × (more ≡ []) × (said ≡ [])
+EndsFor fault run number start taken more said =
+    HasNoLine fault run taken × (IsPassedOver run taken → ⊥) × (more ≡ []) × (said ≡ [])
 
--- the documents before the one of this number, which begins behind so many bytes, were done, and what they give was
--- written and told; at that one the run ended for the fault
+-- unless the reader failed or memory ran out, bytes were taken, and they are the front of those behind the documents that
+-- were done
+abbrev pub TakesFront : RunFault → (before : Option (List ℕ)) → (done taken : List ℕ) → Type 0
+TakesFront CannotRead before done taken = Unit {0}
+TakesFront OutOfMemory before done taken = Unit {0}
+TakesFront fault before done taken =
+    (taken ≢ []) × ((rest : List ℕ) → before ≡ Some (done ++ rest) → taken ≡ front_of rest)
+
+-- the documents before the one of this number, which begins behind so many bytes, were done, so many of them passed over,
+-- and what they give was written and told; at that one the run ended for the fault
 pub record EndsAt (run : Run) (before after had holds told tells : Option (List ℕ)) (fault : RunFault)
-    (number start : ℕ) : Type 0 where
+    (number refused start : ℕ) : Type 0 where
   pub done : List ℕ
   pub taken : List ℕ
   pub output : List ℕ
@@ -107,14 +129,39 @@ pub record EndsAt (run : Run) (before after had holds told tells : Option (List 
   pub verdicts : List ℕ
   pub said : List ℕ
   pub count : ℕ
-  pub refused : ℕ
   pub given : Consumes before after (done ++ taken)
+  pub front : TakesFront fault before done taken
   pub documents : Dump run done output verdicts count refused
   pub counted : number ≡ count + 1
   pub place : start ≡ length done
   pub reason : EndsFor fault run number start taken more said
   pub written : Appends had holds (output ++ more)
   pub reported : Appends told tells (verdicts ++ said)
+
+-- the bytes begin with no document that is written
+abbrev pub BeginsWithNone : Run → List ℕ → Type 0
+BeginsWithNone run bytes = (ps : Pairs) (rest : List ℕ) → IsFront run.depth bytes ps rest
+    → IsUnwritable run.options run.line ps
+
+-- if the fault is one of the bytes, those behind so many that the reader had are some, begin with no document that is
+-- written, and with none that the run passes over
+abbrev pub IsJustified : Run → (before : Option (List ℕ)) → RunFault → (start : ℕ) → Type 0
+IsJustified run before fault start = (done rest : List ℕ) → before ≡ Some (done ++ rest) → length done ≡ start
+    → IsOfBytes fault → (rest ≢ []) × BeginsWithNone run rest × (IsPassedOver run (front_of rest) → ⊥)
+
+-- a run over these bytes does the documents before the one of this number, and ends at that one for a fault of the bytes
+pub record EndsInside (run : Run) (all output verdicts : List ℕ) (fault : RunFault) (number refused start : ℕ)
+    : Type 0 where
+  pub done : List ℕ
+  pub rest : List ℕ
+  pub count : ℕ
+  pub parts : all ≡ done ++ rest
+  pub documents : Dump run done output verdicts count refused
+  pub counted : number ≡ count + 1
+  pub place : start ≡ length done
+  pub some : rest ≢ []
+  pub reason : HasNoLine fault run (front_of rest)
+  pub last : IsPassedOver run (front_of rest) → ⊥
 
 -- ---- for private clauses
 
@@ -133,9 +180,9 @@ IsUnwritten other o l ps = ⊥
 abbrev pub IsGiven : ℕ → Run → (number start : ℕ) → List ℕ → (had holds told tells : Option (List ℕ)) → Type 0
 IsGiven n run number start bytes had holds told tells =
     ((n ≡ 0) × (((line : List ℕ) × IsLine run bytes line × Appends had holds line) × Keeps told tells))
-    ⊎ ((n ≡ 1) × ((run.keep_going ≡ true)
+    ⊎ ((n ≡ 1) × (IsPassedOver run bytes
     × (((fault : RunFault) × HasNoLine fault run bytes × Appends told tells (told_of number start fault))
-    × (BeginsWithLength bytes × Keeps had holds))))
+    × Keeps had holds)))
 
 -- the run ends for the fault, and this was written of the line and told
 abbrev pub IsUngiven : RunFault → Run → (number start : ℕ) → List ℕ → (had holds told tells : Option (List ℕ)) → Type 0

@@ -1,5 +1,5 @@
 -- What reading a document from a reader takes, and writing one to a writer does.
-use Rattle.std.specs.Prelude.{◌≡◌, ℕ, List, ◌++◌, Option, Result, Ok, Err, length, cond, nat_lt}
+use Rattle.std.specs.Prelude.{◌≡◌, ℕ, List, ◌++◌, Option, Result, Ok, Err, length, take, cond, nat_lt}
 use Rattle.std.specs.Io.{StartsWith}
 use Rattle.std.specs.Io.KnownBytes.{Appends, Consumes, Keeps}
 use Rattle.bson_model.specs.Value.{Pairs}
@@ -47,13 +47,9 @@ abbrev pub IsUnwritten : WriterError → Pairs → (had holds : Option (List ℕ
 IsUnwritten (write_errors.NoBytes e) ps had holds = IsRefusal e ps × Keeps had holds
 IsUnwritten write_errors.CannotWrite ps had holds = FitsDocument ps × WritesBeginning had holds (document_bytes ps)
 
--- ---- for private clauses
+-- ---- the front of bytes
 
--- the bytes that were taken from the reader were added
-abbrev pub IsTaken : (before after : Option (List ℕ)) (old new : List ℕ) → Type 0
-IsTaken before after old new = (more : List ℕ) × (new ≡ old ++ more) × Consumes before after more
-
--- the length, where it is more than the bytes have
+-- the length, if it is more than the bytes have
 abbrev pub most : ℕ → Result (ℕ × List ℕ) Fault → ℕ
 most n (Ok x) = cond (nat_lt x.0 n) n x.0
 most n (Err f) = n
@@ -61,3 +57,13 @@ most n (Err f) = n
 -- how many bytes the document has that begins with these, no fewer than they are
 abbrev pub promised : List ℕ → ℕ
 promised bytes = most (length bytes) (size_at bytes)
+
+-- the bytes at the front that the first four of them, a length, promise; all bytes if there are fewer
+abbrev pub front_of : List ℕ → List ℕ
+front_of bytes = take (promised (take 4 bytes)) bytes
+
+-- ---- for private clauses
+
+-- the bytes that were taken from the reader were added
+abbrev pub IsTaken : (before after : Option (List ℕ)) (old new : List ℕ) → Type 0
+IsTaken before after old new = (more : List ℕ) × (new ≡ old ++ more) × Consumes before after more

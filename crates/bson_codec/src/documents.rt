@@ -1,19 +1,22 @@
 //! Documents one behind the other, as dumps have them.
-ghost use Rattle.std.specs.Prelude.{◌≡◌, ℕ, List, [], ◌++◌, IfOk, IfErr, OnOk, IsTrue, string_bytes};
+ghost use Rattle.std.specs.Prelude.{◌≡◌, ◌⊎◌, ◌↔◌, ℕ, List, ◌++◌, IfOk, IfErr, OnOk, IsTrue, false, string_bytes};
 ghost use Rattle.std.specs.Io.KnownBytes.{Appends};
 ghost use Rattle.bson_model.specs.Displayed.{display_text};
 ghost use Rattle.bson_model.specs.Value as model;
 ghost use Rattle.bson_bytes.specs.Laws.{IsRead};
 ghost use Rattle.bson.specs.View.{document_view};
-ghost use Rattle.bson_codec.specs.Documents.{BeginsWithLength, DoneDocuments, EndsAt, EndsFor, HasNoLine, IsGiven};
-ghost use Rattle.bson_codec.specs.Documents.{IsJudged, IsLine, IsUngiven, IsUntold, IsUnwritten, WritesLine};
+ghost use Rattle.bson.specs.Doubles.TheVariants.{Special};
+ghost use Rattle.bson.specs.Form.TheVariants.{Canonical};
+ghost use Rattle.bson_codec.specs.Documents.{BeginsWithLength, DoneDocuments, EndsAt, IsGiven, IsJudged};
+ghost use Rattle.bson_codec.specs.Documents.{IsJustified, IsLine, IsOfBytes, IsUngiven, IsUntold, IsUnwritten};
+ghost use Rattle.bson_codec.specs.Documents.{WritesLine};
 ghost use Rattle.bson_codec.specs.Told.{newline, told_of};
 ghost use Rattle.bson_codec.specs.declared.documents.Line.TheVariants.{Text, TextInOrder};
 ghost use Rattle.bson_codec.specs.declared.documents.Run.{Run};
-ghost use Rattle.bson_codec.specs.declared.run_end.RunFault.TheVariants.{OutOfMemory};
+ghost use Rattle.bson_codec.specs.declared.run_end.RunFault.TheVariants.{CannotRead, OutOfMemory};
 
 use crate::de::{DEPTH, Error, from_slice, is_document};
-use crate::run_end::{RunEnd, RunFault};
+use crate::run_end::{RunEnd, RunFault, verdict};
 use crate::stream::{ReaderError, take_document, write_whole};
 use bson::extjson::{Form, Options, WriteError};
 use bson::{Bson, Document};
@@ -65,13 +68,18 @@ pub struct Run {
     pub options: Options,
     /// What is written of each document.
     pub line: Line,
-    /// Whether a document that is refused is told and passed over, and the run goes on.
+    /// Whether a rejected document is reported and passed over, and the run goes on.
     pub keep_going: bool,
 }
 
-/// Canonical lines of documents that nest at most [`DEPTH`] deep, up to the first that is refused.
+/// Canonical lines of documents that nest at most [`DEPTH`] deep, up to the first that is rejected.
 impl Default for Run {
-    fn default() -> Run {
+    fn default() -> Run
+        ensures depth { result.depth ≡ DEPTH }
+        ensures options { result.options.doubles ≡ Special }
+        ensures line { result.line ≡ Text Canonical }
+        ensures keep_going { result.keep_going ≡ false }
+    {
         Run {
             depth: DEPTH,
             options: Options::default(),
@@ -100,10 +108,11 @@ pub struct DocumentCounts {
 /// Reads documents one behind the other until the reader has nothing left, and writes a line of
 /// each, in their order.
 ///
-/// A document that is refused ends the run; with `keep_going` it is told and passed over where the
-/// bytes that came are as many as its length says, since the next one begins behind them. All that
-/// the documents before gave was written and told, and nothing of the one at which the run ended,
-/// but at `CannotWrite` a beginning. Memory is that of the largest document and its text.
+/// A rejected document ends the run. With `keep_going` it is reported and passed over if all bytes
+/// of its length came, since the next document begins behind them. A document that can be written
+/// is never rejected. What the documents before the end gave was written and reported. Nothing of
+/// the document at the end was, but at `CannotWrite` a beginning. Memory is that of the largest
+/// document and its text.
 pub fn run_documents<R: Read, W: Write, T: Write>(
     alloc: Global,
     run: Run,
@@ -116,7 +125,9 @@ pub fn run_documents<R: Read, W: Write, T: Write>(
         counts.documents counts.refused) }
     ensures fails { IfErr result (λ e. EndsAt run (R.remaining reader.old) (R.remaining reader.new)
         (W.contents writer.old) (W.contents writer.new) (T.contents report.old) (T.contents report.new)
-        e.fault e.number e.start) }
+        e.fault e.number e.refused e.start) }
+    // The run ends at a document only if that one can't be written, nor is passed over.
+    ensures justified { IfErr result (λ e. IsJustified run (R.remaining reader.old) e.fault e.start) }
 {
     let mut bytes = Vec::new(alloc);
     let mut refused: u64 = 0;
@@ -128,6 +139,7 @@ pub fn run_documents<R: Read, W: Write, T: Write>(
             return Err(RunEnd {
                 fault,
                 number,
+                refused,
                 start,
             });
         }
@@ -138,6 +150,7 @@ pub fn run_documents<R: Read, W: Write, T: Write>(
             return Err(RunEnd {
                 fault: RunFault::CannotRead,
                 number,
+                refused,
                 start,
             });
         };
@@ -148,6 +161,7 @@ pub fn run_documents<R: Read, W: Write, T: Write>(
                 return Err(RunEnd {
                     fault,
                     number,
+                    refused,
                     start,
                 });
             }
@@ -159,6 +173,7 @@ pub fn run_documents<R: Read, W: Write, T: Write>(
     Err(RunEnd {
         fault: RunFault::CannotRead,
         number: u64::MAX,
+        refused,
         start,
     })
 }
@@ -289,12 +304,7 @@ fn tell<T: Write>(
     ensures ok { OnOk result (Appends (T.contents report.old) (T.contents report.new) (told_of number start fault)) }
     ensures fault { IfErr result (λ e. IsUntold e number start fault (T.contents report.old) (T.contents report.new)) }
 {
-    let end = RunEnd {
-        fault,
-        number,
-        start,
-    };
-    let Ok(told) = end.to_line(alloc) else {
+    let Ok(told) = verdict(alloc, number, start, fault) else {
         return Err(RunFault::OutOfMemory);
     };
     match write_whole(report, told.as_bytes()) {
@@ -303,10 +313,9 @@ fn tell<T: Write>(
     }
 }
 
-// Whether a document that was refused may be passed over.
+// Whether a run that keeps going passes over a rejected document.
 fn may_pass(fault: RunFault, bytes: &[u8]) -> bool
-    ensures { IsTrue result → (run : Run) → IsJudged fault run bytes.now → HasNoLine fault run bytes.now
-        × BeginsWithLength bytes.now }
+    ensures { IsTrue result ↔ IsOfBytes fault × BeginsWithLength bytes.now }
 {
     match fault {
         RunFault::Malformed { .. } => has_length(bytes),
@@ -319,7 +328,7 @@ fn may_pass(fault: RunFault, bytes: &[u8]) -> bool
 
 // Whether the bytes are as many as the length that they begin with.
 fn has_length(bytes: &[u8]) -> bool
-    ensures { IsTrue result → BeginsWithLength bytes.now }
+    ensures { IsTrue result ↔ BeginsWithLength bytes.now }
 {
     match size_at(bytes) {
         Ok((size, _)) => size == bytes.len(),
@@ -329,7 +338,7 @@ fn has_length(bytes: &[u8]) -> bool
 
 // Why no bytes of a document came.
 fn fault_of_reader(error: ReaderError) -> RunFault
-    ensures { (run : Run) (number start : ℕ) (taken : List ℕ) → EndsFor result run number start taken [] [] }
+    ensures { (result ≡ CannotRead) ⊎ (result ≡ OutOfMemory) }
 {
     match error {
         ReaderError::OutOfMemory => RunFault::OutOfMemory,

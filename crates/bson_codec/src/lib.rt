@@ -4,6 +4,7 @@
 
 pub mod de;
 pub mod documents;
+pub mod laws;
 mod read;
 pub mod run_end;
 mod scalars;

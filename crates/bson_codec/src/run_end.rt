@@ -50,6 +50,8 @@ pub struct RunEnd {
     pub fault: RunFault,
     /// The number of the document, from 1.
     pub number: u64,
+    /// The number of documents before it that were passed over.
+    pub refused: u64,
     /// The number of bytes before the document.
     pub start: u64,
 }
@@ -59,9 +61,21 @@ impl RunEnd {
     pub fn to_line(&self, alloc: Global) -> Result<String, AllocError>
         ensures { IfOk result (λ told. string_bytes told ≡ told_of self.now.number self.now.start self.now.fault) }
     {
-        let place = self.fault.place(alloc)?;
-        at_place(alloc, self.number, self.start, self.fault, place.as_str())
+        verdict(alloc, self.number, self.start, self.fault)
     }
+}
+
+/// The document and its fault, in words for people, and a newline.
+pub(crate) fn verdict(
+    alloc: Global,
+    number: u64,
+    start: u64,
+    fault: RunFault,
+) -> Result<String, AllocError>
+    ensures { IfOk result (λ told. string_bytes told ≡ told_of number start fault) }
+{
+    let place = fault.place(alloc)?;
+    at_place(alloc, number, start, fault, place.as_str())
 }
 
 // The document, the words for the fault, and its place.

@@ -6,7 +6,7 @@ ghost use Rattle.bson_bytes.specs.Laws.{IsRead, IsFront};
 ghost use Rattle.bson_bytes.specs.Writing.{document_bytes, FitsDocument};
 ghost use Rattle.bson.specs.View.{document_view};
 ghost use Rattle.bson_codec.specs.Streams.{IsRefusedInput, IsHindrance, IsUnwritten, IsKept, IsTaken, WritesBeginning};
-ghost use Rattle.bson_codec.specs.Streams.{promised};
+ghost use Rattle.bson_codec.specs.Streams.{front_of, promised};
 ghost use Rattle.bson_codec.specs.declared.stream.ReaderError.TheVariants as read_errors;
 ghost use Rattle.bson_codec.specs.declared.stream.WriterError.TheVariants as write_errors;
 
@@ -20,7 +20,7 @@ use std::alloc::Global;
 use std::io::{Read, Write};
 
 /// As much as is asked of a reader at once.
-const BLOCK: usize = 65536;
+const BLOCK: usize = 4096;
 
 /// The length that begins a document.
 const LENGTH: usize = 4;
@@ -132,8 +132,7 @@ pub fn to_writer<W: Write>(
 /// Takes a document, as long as its length says, or what came of it.
 pub(crate) fn take_document<R: Read>(reader: &mut R, bytes: &mut Vec<u8>) -> Result<(), ReaderError>
     ensures taken { OnOk result (Consumes (R.remaining reader.old) (R.remaining reader.new) bytes.new.items) }
-    ensures front { (d : ℕ) (all : List ℕ) (ps : Pairs) (rest : List ℕ) → R.remaining reader.old ≡ Some all
-        → IsFront d all ps rest → OnOk result (IsRead d bytes.new.items ps) }
+    ensures front { (all : List ℕ) → R.remaining reader.old ≡ Some all → OnOk result (bytes.new.items ≡ front_of all) }
     ensures end { OnOk result (bytes.new.items ≡ [] → IsAtEnd (R.remaining reader.new)) }
     ensures some { (more : List ℕ) × Consumes (R.remaining reader.old) (R.remaining reader.new) more }
     ensures fault { IfErr result (λ e. (e ≡ read_errors.CannotRead) ⊎ (e ≡ read_errors.OutOfMemory)) }

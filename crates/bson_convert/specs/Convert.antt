@@ -20,8 +20,8 @@ use Rattle.bson_convert.specs.declared.converted.Tried.{Tried}
 use Rattle.bson_convert.specs.declared.converted.Tried.TheVariants.{Written, Arranged}
 use Rattle.bson_convert.specs.declared.mode.Mode.{Mode}
 use Rattle.bson_convert.specs.declared.mode.Mode.TheVariants.{Canonical, Relaxed, Show}
-use Rattle.bson_convert.specs.declared.fault.Fault.{Fault}
-use Rattle.bson_convert.specs.declared.fault.Fault.TheVariants.{NotJson, NotExtendedJson, OutOfMemory}
+use Rattle.bson_convert.specs.declared.error.Error.{Error}
+use Rattle.bson_convert.specs.declared.error.Error.TheVariants.{NotJson, NotExtendedJson, OutOfMemory}
 
 -- what is done where no options are given
 abbrev pub default_options : Options
@@ -62,7 +62,7 @@ pub record ConvertsIn (o : Options) (mode : Mode) (bytes output : List ℕ) : Ty
   pub is_output : IsOutputIn o mode value output
 
 -- what each fault says of the bytes
-abbrev pub IsRefusedIn : Options → Fault → List ℕ → Type 0
+abbrev pub IsRefusedIn : Options → Error → List ℕ → Type 0
 IsRefusedIn o NotJson bytes = IsNoText bytes
 IsRefusedIn o (NotExtendedJson place) bytes = (tree : Data) × IsTextOf bytes tree × IsFirstFaultIn o.doubles tree place
 IsRefusedIn o OutOfMemory bytes = Unit {0}
@@ -81,7 +81,7 @@ IsOutput = IsOutputIn default_options
 abbrev pub Converts : Mode → List ℕ → List ℕ → Type 0
 Converts = ConvertsIn default_options
 
-abbrev pub IsRefused : Fault → List ℕ → Type 0
+abbrev pub IsRefused : Error → List ℕ → Type 0
 IsRefused = IsRefusedIn default_options
 
 -- ---- the text

@@ -1,12 +1,14 @@
 -- What a run does to the bytes that a reader has left and to those that a writer holds, where these are known.
-use Rattle.std.specs.Prelude.{ℕ, ◌<◌, List, length, Option}
+use Rattle.std.specs.Prelude.{◌≡◌, ℕ, ◌<◌, List, length, Option, Some}
 use Rattle.std.specs.Io.{StartsWith}
 use Rattle.std.specs.Io.KnownBytes.{Keeps, Appends, Consumes, IsAtEnd}
 use Rattle.bson.specs.declared.extjson.options.Options.{Options}
 use Rattle.bson_convert.specs.Convert.{default_options, ConvertsIn, IsRefusedIn}
+use Rattle.bson_convert.specs.Words.{fault_of}
+use Rattle.bson_convert.specs.declared.error.Error.{Error}
 use Rattle.bson_convert.specs.declared.mode.Mode.{Mode}
 use Rattle.bson_convert.specs.declared.fault.Fault.{Fault}
-use Rattle.bson_convert.specs.declared.fault.Fault.TheVariants.{CannotRead, NoBytes, OutOfMemory, CannotWrite}
+use Rattle.bson_convert.specs.declared.fault.Fault.TheVariants.{CannotRead, OutOfMemory, CannotWrite}
 
 -- the reader gave these bytes, and has none left
 pub record ReadsAll (before after : Option (List ℕ)) (bytes : List ℕ) : Type 0 where
@@ -44,16 +46,19 @@ pub record CutShortIn (o : Options) (mode : Mode) (before after had holds : Opti
   pub accepted : AcceptsIn o mode before after output
   pub written : WritesPart had holds output
 
--- all that the reader had is refused for the fault
+-- the bytes are rejected for an error of this kind
+abbrev pub IsRefusedAs : Options → Fault → List ℕ → Type 0
+IsRefusedAs o fault bytes = (error : Error) × IsRefusedIn o error bytes × (fault_of error ≡ Some fault)
+
+-- all that the reader had is rejected for an error of this kind
 pub record RefusesIn (o : Options) (fault : Fault) (before after : Option (List ℕ)) : Type 0 where
   pub bytes : List ℕ
   pub all : ReadsAll before after bytes
-  pub refused : IsRefusedIn o fault bytes
+  pub refused : IsRefusedAs o fault bytes
 
--- what each fault says of the bytes
+-- what each kind says of the bytes
 abbrev pub FailsIn : Options → Fault → Mode → (before after had holds : Option (List ℕ)) → Type 0
 FailsIn o CannotRead mode before after had holds = Keeps had holds
-FailsIn o (NoBytes why) mode before after had holds = ⊥
 FailsIn o OutOfMemory mode before after had holds = Keeps had holds
 FailsIn o CannotWrite mode before after had holds = CutShortIn o mode before after had holds
 FailsIn o fault mode before after had holds = RefusesIn o fault before after × Keeps had holds

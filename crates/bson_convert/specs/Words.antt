@@ -1,11 +1,13 @@
--- The names of the modes, and the words of faults.
-use Rattle.std.specs.Prelude.{ℕ, List, ◌++◌, codes}
+-- The names of the modes, the messages of errors and their kinds.
+use Rattle.std.specs.Prelude.{ℕ, List, ◌++◌, Option, None, Some, codes}
 use Rattle.bson_place.specs.declared.place.Reason.{Reason}
 use Rattle.bson_place.specs.declared.place.Reason.TheVariants as reason
 use Rattle.bson_convert.specs.declared.mode.Mode.{Mode}
 use Rattle.bson_convert.specs.declared.mode.Mode.TheVariants as mode
 use Rattle.bson_convert.specs.declared.no_bytes.NoBytes.{NoBytes}
 use Rattle.bson_convert.specs.declared.no_bytes.NoBytes.TheVariants.{NoDocument, ZeroInKey, ZeroInRegex, TooLong}
+use Rattle.bson_convert.specs.declared.error.Error.{Error}
+use Rattle.bson_convert.specs.declared.error.Error.TheVariants as error
 use Rattle.bson_convert.specs.declared.fault.Fault.{Fault}
 use Rattle.bson_convert.specs.declared.fault.Fault.TheVariants as fault
 
@@ -24,13 +26,32 @@ words_without ZeroInKey = codes "a key has a 0 byte in it"
 words_without ZeroInRegex = codes "a regular expression has a 0 byte in it"
 words_without TooLong = codes "a part is too long for BSON"
 
-abbrev pub words_of : Fault → List ℕ
-words_of fault.CannotRead = codes "cannot read"
-words_of fault.NotJson = codes "not JSON"
-words_of (fault.NotExtendedJson place) = words_for place.reason
-words_of (fault.NoBytes why) = words_without why
-words_of fault.OutOfMemory = codes "out of memory"
-words_of fault.CannotWrite = codes "cannot write"
+abbrev pub words_of : Error → List ℕ
+words_of error.CannotRead = codes "cannot read"
+words_of error.NotJson = codes "not JSON"
+words_of (error.NotExtendedJson place) = words_for place.reason
+words_of (error.NoBytes why) = words_without why
+words_of error.OutOfMemory = codes "out of memory"
+words_of error.CannotWrite = codes "cannot write"
+
+-- the kind of a text's first error
+abbrev pub fault_for : Reason → Fault
+fault_for (reason.BadObjectId e) = fault.BadObjectId
+fault_for (reason.WrongShape message) = fault.NotExtendedJson
+
+-- the kind of an error; missing bytes are not an error of a run
+abbrev pub fault_of : Error → Option Fault
+fault_of error.CannotRead = Some fault.CannotRead
+fault_of error.NotJson = Some fault.NotJson
+fault_of (error.NotExtendedJson place) = Some (fault_for place.reason)
+fault_of (error.NoBytes why) = None
+fault_of error.OutOfMemory = Some fault.OutOfMemory
+fault_of error.CannotWrite = Some fault.CannotWrite
 
 abbrev pub line_of : Fault → List ℕ
-line_of it = codes "bson_cli: " ++ words_of it
+line_of fault.CannotRead = codes "bson_cli: cannot read"
+line_of fault.NotJson = codes "bson_cli: not JSON"
+line_of fault.BadObjectId = codes "bson_cli: bad object id"
+line_of fault.NotExtendedJson = codes "bson_cli: not Extended JSON"
+line_of fault.OutOfMemory = codes "bson_cli: out of memory"
+line_of fault.CannotWrite = codes "bson_cli: cannot write"

@@ -13,7 +13,7 @@ ghost use Rattle.bson.specs.TextMeaning.{IsTextOf, HasTextMeaningIn, IsTextFault
 ghost use Rattle.bson.specs.declared.extjson.text_error.TextError.{TextError};
 
 use crate::converted::{Tried, read_arranged, try_text};
-use crate::fault::Fault;
+use crate::error::Error;
 use crate::mode::Mode;
 use bson::Bson;
 use bson::extjson::de::TextError;
@@ -33,11 +33,11 @@ use std::alloc::Global;
 ///     rt.print(str::from_utf8(&line)?)?; // 5
 /// }
 /// ```
-pub fn convert(alloc: Global, mode: Mode, bytes: &[u8]) -> Result<Vec<u8>, Fault>
+pub fn convert(alloc: Global, mode: Mode, bytes: &[u8]) -> Result<Vec<u8>, Error>
     ensures ok { IfOk result (λ output. Converts mode bytes.now output.items) }
     ensures one { IfOk result (λ output. (other : List ℕ) → Converts mode bytes.now other → other ≡ output.items) }
     ensures accepts { (tree : Data) (value : model.Value) → IsTextOf bytes.now tree → Means tree value
-        → IfErr result (λ fault. fault ≡ Fault.OutOfMemory) }
+        → IfErr result (λ fault. fault ≡ Error.OutOfMemory) }
     ensures fault { IfErr result (λ fault. IsRefused fault bytes.now) }
 {
     convert_with(alloc, default_options(), mode, bytes)
@@ -56,12 +56,12 @@ pub fn convert_with(
     options: Options,
     mode: Mode,
     bytes: &[u8],
-) -> Result<Vec<u8>, Fault>
+) -> Result<Vec<u8>, Error>
     ensures ok { IfOk result (λ output. ConvertsIn options mode bytes.now output.items) }
     ensures one { IfOk result (λ output. (other : List ℕ) → ConvertsIn options mode bytes.now other
         → other ≡ output.items) }
     ensures accepts { (tree : Data) (value : model.Value) → IsTextOf bytes.now tree
-        → MeansIn options.doubles tree value → IfErr result (λ fault. fault ≡ Fault.OutOfMemory) }
+        → MeansIn options.doubles tree value → IfErr result (λ fault. fault ≡ Error.OutOfMemory) }
     ensures fault { IfErr result (λ fault. IsRefusedIn options fault bytes.now) }
 {
     let text = text_with(alloc, options, mode, bytes)?;
@@ -75,10 +75,10 @@ pub fn convert_whole(
     options: Options,
     mode: Mode,
     bytes: Vec<u8>,
-) -> Result<Vec<u8>, Fault>
+) -> Result<Vec<u8>, Error>
     ensures ok { IfOk result (λ output. ConvertsIn options mode bytes.items output.items) }
     ensures accepts { (tree : Data) (value : model.Value) → IsTextOf bytes.items tree
-        → MeansIn options.doubles tree value → IfErr result (λ fault. fault ≡ Fault.OutOfMemory) }
+        → MeansIn options.doubles tree value → IfErr result (λ fault. fault ≡ Error.OutOfMemory) }
     ensures fault { IfErr result (λ fault. IsRefusedIn options fault bytes.items) }
 {
     let tried = try_text(alloc, options, mode, &bytes)?;
@@ -100,10 +100,10 @@ pub fn text_with(
     options: Options,
     mode: Mode,
     bytes: &[u8],
-) -> Result<Vec<u8>, Fault>
+) -> Result<Vec<u8>, Error>
     ensures ok { IfOk result (λ text. IsConvertedText options mode bytes.now text.items) }
     ensures accepts { (tree : Data) (value : model.Value) → IsTextOf bytes.now tree
-        → MeansIn options.doubles tree value → IfErr result (λ fault. fault ≡ Fault.OutOfMemory) }
+        → MeansIn options.doubles tree value → IfErr result (λ fault. fault ≡ Error.OutOfMemory) }
     ensures fault { IfErr result (λ fault. IsRefusedIn options fault bytes.now) }
 {
     let tried = try_text(alloc, options, mode, bytes)?;
@@ -111,7 +111,7 @@ pub fn text_with(
 }
 
 // What was written at once, or the text of the arranged one.
-fn finish(alloc: Global, options: Options, mode: Mode, tried: Tried) -> Result<Vec<u8>, Fault>
+fn finish(alloc: Global, options: Options, mode: Mode, tried: Tried) -> Result<Vec<u8>, Error>
     ensures ok { (bytes : List ℕ) → IsTried options mode bytes tried
         → IfOk result (λ text. IsConvertedText options mode bytes text.items) }
     ensures fault { (bytes : List ℕ) → IsTried options mode bytes tried
@@ -124,27 +124,27 @@ fn finish(alloc: Global, options: Options, mode: Mode, tried: Tried) -> Result<V
 }
 
 /// The value that the bytes mean as a text.
-pub(crate) fn meaning(alloc: Global, options: Options, bytes: &[u8]) -> Result<Bson, Fault>
+pub(crate) fn meaning(alloc: Global, options: Options, bytes: &[u8]) -> Result<Bson, Error>
     ensures ok { IfOk result (λ value. HasTextMeaningIn options.doubles bytes.now (bson_view value)) }
     ensures read_form { IfOk result (λ value. IsReadFormIn options.doubles (bson_view value)) }
     ensures fault { IfErr result (λ fault. IsRefusedIn options fault bytes.now) }
 {
     match Bson::try_from_text_with(alloc, options, bytes) {
         Ok(value) => Ok(value),
-        Err(error) => Err(fault_of(error)),
+        Err(error) => Err(error_of(error)),
     }
 }
 
-/// The fault of bytes that are refused so.
-pub fn fault_of(error: TextError) -> Fault
+/// Returns the error of a conversion whose text was not read.
+pub fn error_of(error: TextError) -> Error
     ensures cause { (options : Options) (bytes : List ℕ) → IsTextFaultIn options.doubles bytes error
         → IsRefusedIn options result bytes }
-    ensures memory { error ≡ TextError.OutOfMemory → result ≡ Fault.OutOfMemory }
+    ensures memory { error ≡ TextError.OutOfMemory → result ≡ Error.OutOfMemory }
 {
     match error {
-        TextError::NotJson => Fault::NotJson,
-        TextError::NotExtendedJson(place) => Fault::NotExtendedJson(place),
-        TextError::OutOfMemory => Fault::OutOfMemory,
+        TextError::NotJson => Error::NotJson,
+        TextError::NotExtendedJson(place) => Error::NotExtendedJson(place),
+        TextError::OutOfMemory => Error::OutOfMemory,
     }
 }
 
@@ -154,10 +154,10 @@ pub(crate) fn value_text(
     options: Options,
     mode: Mode,
     value: Bson,
-) -> Result<Vec<u8>, Fault>
+) -> Result<Vec<u8>, Error>
     requires { IsReadFormIn options.doubles (bson_view value) }
     ensures ok { IfOk result (λ text. IsTextFor options mode (bson_view value) text.items) }
-    ensures fault { IfErr result (λ fault. fault ≡ Fault.OutOfMemory) }
+    ensures fault { IfErr result (λ fault. fault ≡ Error.OutOfMemory) }
 {
     let text = match mode {
         Mode::Canonical => value.into_text_with(alloc, options, Form::Canonical),
@@ -168,28 +168,28 @@ pub(crate) fn value_text(
         Ok(text) => Ok(text.into_bytes()),
         // What was read can be written.
         Err(WriteError::FiniteDouble) => unreachable!(),
-        Err(WriteError::OutOfMemory) => Err(Fault::OutOfMemory),
+        Err(WriteError::OutOfMemory) => Err(Error::OutOfMemory),
     }
 }
 
 /// The text that shows the value.
-pub fn displayed_text(alloc: Global, value: &Bson) -> Result<Vec<u8>, Fault>
+pub fn displayed_text(alloc: Global, value: &Bson) -> Result<Vec<u8>, Error>
     ensures ok { IfOk result (λ text. text.items ≡ display_text (bson_view value.now)) }
-    ensures fault { IfErr result (λ fault. fault ≡ Fault.OutOfMemory) }
+    ensures fault { IfErr result (λ fault. fault ≡ Error.OutOfMemory) }
 {
     match format!(in alloc; "{value}") {
         Ok(text) => Ok(text.into_bytes()),
-        Err(_) => Err(Fault::OutOfMemory),
+        Err(_) => Err(Error::OutOfMemory),
     }
 }
 
 /// The bytes, and a newline.
-pub fn end_line(mut line: Vec<u8>) -> Result<Vec<u8>, Fault>
+pub fn end_line(mut line: Vec<u8>) -> Result<Vec<u8>, Error>
     ensures ok { IfOk result (λ ended. ended.items ≡ line.items ++ newline) }
-    ensures fault { IfErr result (λ fault. fault ≡ Fault.OutOfMemory) }
+    ensures fault { IfErr result (λ fault. fault ≡ Error.OutOfMemory) }
 {
     match line.push(b'\n') {
         Ok(()) => Ok(line),
-        Err(_) => Err(Fault::OutOfMemory),
+        Err(_) => Err(Error::OutOfMemory),
     }
 }

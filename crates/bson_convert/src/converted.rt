@@ -11,14 +11,13 @@ ghost use Rattle.bson_convert.specs.Convert.{IsAccepted, IsConvertedText, IsRefu
 ghost use Rattle.bson.specs.declared.extjson.options.Options.{Options};
 
 use crate::convert::{meaning, value_text};
-use crate::fault::Fault;
+use crate::error::Error;
 use crate::mode::Mode;
 use bson::extjson::{Form, Options};
 use bson_distinct::arrange::arrange_text;
 use bson_distinct::arrangement::Arrangement;
 use bson_filter::filter::{show_text, sort_text};
 use bson_tokens::walk::first_fault_in;
-use json::Error;
 use std::alloc::Global;
 
 /// What a first reading gives.
@@ -39,17 +38,19 @@ pub enum Tried {
 
 /// The text that the mode asks for of the value that the bytes mean, written as they are read, or
 /// the arranged text of the bytes where they can't be.
-pub fn try_text(alloc: Global, options: Options, mode: Mode, bytes: &[u8]) -> Result<Tried, Fault>
+pub fn try_text(alloc: Global, options: Options, mode: Mode, bytes: &[u8]) -> Result<Tried, Error>
     ensures ok { IfOk result (λ tried. IsTried options mode bytes.now tried) }
     ensures fault { IfErr result (λ fault. IsRefusedIn options fault bytes.now) }
 {
     let Ok(text) = simdutf8::compat::from_utf8(bytes) else {
-        return Err(Fault::NotJson);
+        return Err(Error::NotJson);
     };
     match stream_text(alloc, options, mode, text) {
         Ok(written) => Ok(Tried::Written(written)),
-        Err(Error::Invalid) => Ok(Tried::Arranged(arrange(alloc, Arrangement::Ascending, text)?)),
-        Err(_) => Err(Fault::OutOfMemory),
+        Err(json::Error::Invalid) => {
+            Ok(Tried::Arranged(arrange(alloc, Arrangement::Ascending, text)?))
+        }
+        Err(_) => Err(Error::OutOfMemory),
     }
 }
 
@@ -59,23 +60,28 @@ pub(crate) fn read_arranged(
     options: Options,
     mode: Mode,
     arranged: &str,
-) -> Result<Vec<u8>, Fault>
+) -> Result<Vec<u8>, Error>
     ensures ok { IfOk result (λ text. IsConvertedText options mode arranged.now text.items) }
     ensures fault { IfErr result (λ fault. IsRefusedIn options fault arranged.now) }
 {
     match stream_text(alloc, options, mode, arranged) {
         Ok(written) => Ok(written),
-        Err(Error::Invalid) => {
+        Err(json::Error::Invalid) => {
             refuse_arranged(alloc, options, arranged)?;
             let value = meaning(alloc, options, arranged.as_bytes())?;
             value_text(alloc, options, mode, value)
         }
-        Err(_) => Err(Fault::OutOfMemory),
+        Err(_) => Err(Error::OutOfMemory),
     }
 }
 
 // The text that the mode asks for of the value that the text means.
-fn stream_text(alloc: Global, options: Options, mode: Mode, text: &str) -> Result<Vec<u8>, Error>
+fn stream_text(
+    alloc: Global,
+    options: Options,
+    mode: Mode,
+    text: &str,
+) -> Result<Vec<u8>, json::Error>
     ensures { IfOk result (λ written. IsConvertedText options mode text.now written.items) }
 {
     match mode {
@@ -87,7 +93,7 @@ fn stream_text(alloc: Global, options: Options, mode: Mode, text: &str) -> Resul
 
 /// The JSON text of the text's tree with each key once in its object; a text that is no JSON text
 /// is refused as `NotJson`.
-pub fn arrange(alloc: Global, arrangement: Arrangement, text: &str) -> Result<String, Fault>
+pub fn arrange(alloc: Global, arrangement: Arrangement, text: &str) -> Result<String, Error>
     ensures ok { IfOk result (λ arranged. IsArrangedText arrangement text.now (string_bytes arranged)) }
     ensures same { IfOk result (λ arranged. read (string_bytes arranged) ≡ read text.now) }
     ensures fault { (options : Options) → IfErr result (λ fault. IsRefusedIn options fault text.now) }
@@ -100,7 +106,7 @@ pub fn arrange(alloc: Global, arrangement: Arrangement, text: &str) -> Result<St
 
 /// Refuses a text that is not JSON or means nothing, with the first fault of its tree, of which no
 /// value is made.
-pub fn refuse(alloc: Global, options: Options, text: &str) -> Result<(), Fault>
+pub fn refuse(alloc: Global, options: Options, text: &str) -> Result<(), Error>
     ensures ok { OnOk result (IsAccepted options text.now) }
     ensures fault { IfErr result (λ fault. IsRefusedIn options fault text.now) }
 {
@@ -110,23 +116,23 @@ pub fn refuse(alloc: Global, options: Options, text: &str) -> Result<(), Fault>
 
 /// The same of a text whose keys ascend: there code stands before its scope, so that no tree is
 /// made.
-pub fn refuse_arranged(alloc: Global, options: Options, arranged: &str) -> Result<(), Fault>
+pub fn refuse_arranged(alloc: Global, options: Options, arranged: &str) -> Result<(), Error>
     ensures ok { OnOk result (IsAccepted options arranged.now) }
     ensures fault { IfErr result (λ fault. IsRefusedIn options fault arranged.now) }
 {
     match first_fault_in(alloc, options.doubles, arranged) {
         Ok(None) => Ok(()),
-        Ok(Some(place)) => Err(Fault::NotExtendedJson(place)),
+        Ok(Some(place)) => Err(Error::NotExtendedJson(place)),
         Err(error) => Err(no_tree(error)),
     }
 }
 
 // The fault of a text of which no tree was read.
-fn no_tree(error: Error) -> Fault
+fn no_tree(error: json::Error) -> Error
     ensures { (options : Options) (bytes : List ℕ) → IsBroken (read bytes) error → IsRefusedIn options result bytes }
 {
     match error {
-        Error::Invalid => Fault::NotJson,
-        _ => Fault::OutOfMemory,
+        json::Error::Invalid => Error::NotJson,
+        _ => Error::OutOfMemory,
     }
 }

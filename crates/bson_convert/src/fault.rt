@@ -1,79 +1,53 @@
-//! Why a run was refused.
-ghost use Rattle.std.specs.Prelude.{◌≡◌, ◌≢◌, MatchBool};
-ghost use Rattle.bson_convert.specs.Words.{line_of, words_of};
+//! The kinds of errors of a run.
+ghost use Rattle.std.specs.Prelude.{◌≡◌};
+ghost use Rattle.bson_convert.specs.Words.{line_of};
 
-use crate::no_bytes::NoBytes;
-use bson_place::place::{Place, Reason};
-
-/// Why a run was refused.
+/// Why a run failed: the kind of its error.
+///
+/// Where the error of a rejected text lies is in [`Error`](crate::error::Error), which the
+/// conversions return.
 ///
 /// ```
-/// if let Err(fault) = value_of(alloc, b"[1, 2") {
-///     println!(rt; "{}", fault.line())?; // bson_cli: not JSON
+/// let mut input: &[u8] = b"[1, 2";
+/// let mut output = Vec::new(alloc);
+/// if let Err(fault) = run(alloc, Mode::Relaxed, &mut input, &mut output) {
+///     let is_of_input = match fault {
+///         Fault::NotJson | Fault::BadObjectId | Fault::NotExtendedJson => true,
+///         Fault::CannotRead | Fault::OutOfMemory | Fault::CannotWrite => false,
+///     };
+///     println!(rt; "{is_of_input} {}", fault.line())?; // true bson_cli: not JSON
 /// }
 /// ```
-#[derive(Debug, Drop)]
+#[derive(Clone, Copy, PartialEq, Eq, Debug)]
 pub enum Fault {
-    /// The reader answered an error, whichever it was.
+    /// The reader failed.
     CannotRead,
-    /// The input is not one JSON text: its bytes are no UTF-8, it nests deeper than 127, or it
+    /// The input is not one JSON text: its bytes are not UTF-8, it nests deeper than 127, or it
     /// breaks the grammar.
     NotJson,
-    /// The JSON text has no meaning in MongoDB Extended JSON v2: its first fault, and where that
-    /// lies.
-    NotExtendedJson(Place),
-    /// The text has a meaning, but no bytes of BSON.
-    NoBytes(NoBytes),
-    /// A request for memory was refused.
+    /// The JSON text is not valid Extended JSON: its first error is an object id that is not 24
+    /// hexadecimal digits.
+    BadObjectId,
+    /// The JSON text is not valid Extended JSON: its first error is any other.
+    NotExtendedJson,
+    /// An allocation failed.
     OutOfMemory,
-    /// The writer answered an error, whichever it was, or took no byte.
+    /// The writer failed, or accepted no byte.
     CannotWrite,
 }
 
 impl Fault {
-    /// The line that the program writes on standard error.
+    /// Returns the line that the program writes on standard error.
     pub fn line(&self) -> &'static str
         ensures line { result.now ≡ line_of self.now }
     {
         match self {
             Fault::CannotRead => "bson_cli: cannot read",
             Fault::NotJson => "bson_cli: not JSON",
-            Fault::NotExtendedJson(place) => match &place.reason {
-                Reason::BadObjectId(_) => "bson_cli: bad object id",
-                Reason::WrongShape(_) => "bson_cli: not Extended JSON",
-            },
-            Fault::NoBytes(NoBytes::NoDocument) => "bson_cli: no document",
-            Fault::NoBytes(NoBytes::ZeroInKey) => "bson_cli: a key has a 0 byte in it",
-            Fault::NoBytes(NoBytes::ZeroInRegex) => {
-                "bson_cli: a regular expression has a 0 byte in it"
-            }
-            Fault::NoBytes(NoBytes::TooLong) => "bson_cli: a part is too long for BSON",
+            Fault::BadObjectId => "bson_cli: bad object id",
+            Fault::NotExtendedJson => "bson_cli: not Extended JSON",
             Fault::OutOfMemory => "bson_cli: out of memory",
             Fault::CannotWrite => "bson_cli: cannot write",
         }
-    }
-
-    /// The words of that line, without the program's name.
-    pub fn message(&self) -> &'static str
-        ensures words { result.now ≡ words_of self.now }
-    {
-        match self {
-            Fault::CannotRead => "cannot read",
-            Fault::NotJson => "not JSON",
-            Fault::NotExtendedJson(place) => match &place.reason {
-                Reason::BadObjectId(_) => "bad object id",
-                Reason::WrongShape(_) => "not Extended JSON",
-            },
-            Fault::NoBytes(why) => why.message(),
-            Fault::OutOfMemory => "out of memory",
-            Fault::CannotWrite => "cannot write",
-        }
-    }
-
-    /// Whether memory was wanting.
-    pub fn is_memory(&self) -> bool
-        ensures { MatchBool result (self.now ≡ Fault.OutOfMemory) (self.now ≢ Fault.OutOfMemory) }
-    {
-        matches!(self, Fault::OutOfMemory)
     }
 }

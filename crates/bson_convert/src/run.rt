@@ -13,11 +13,15 @@ use std::io::{Read, Write};
 /// Reads all that the reader has, as one JSON text, and writes the value that it means in the mode,
 /// and a newline. Nothing is written before all of the input was accepted.
 ///
-/// A fault of the reader or the writer, Interrupted too, is `CannotRead` or `CannotWrite`, and so
-/// is a write that takes no byte; the output was then not written whole, and what was written is a
-/// beginning of it. `NotJson` and `NotExtendedJson` come after all input was read: the first where
-/// it is no UTF-8 or `serde_json` reads no tree from it, the other where the tree has no meaning in
-/// MongoDB Extended JSON v2. `OutOfMemory` may come at any time before the output.
+/// # Errors
+///
+/// - `CannotRead`: the reader failed, `Interrupted` too.
+/// - `NotJson`: all input was read, and it is not UTF-8 or `serde_json` reads no tree from it.
+/// - `BadObjectId`: all input was read, and the first error of its tree is a bad object id.
+/// - `NotExtendedJson`: all input was read, and the first error of its tree is any other.
+/// - `OutOfMemory`: an allocation failed. Nothing was written.
+/// - `CannotWrite`: the writer failed, `Interrupted` too, or accepted no byte. The output was not
+///   written whole, and what was written is a beginning of it.
 pub fn run<R: Read, W: Write>(
     alloc: Global,
     mode: Mode,
@@ -49,6 +53,12 @@ pub fn run_with<R: Read, W: Write>(
         (W.contents writer.new)) }
 {
     let bytes = read_whole(alloc, reader)?;
-    let output = convert_whole(alloc, options, mode, bytes)?;
-    write_whole(writer, &output)
+    match convert_whole(alloc, options, mode, bytes) {
+        Ok(output) => write_whole(writer, &output),
+        Err(error) => match error.fault() {
+            Some(fault) => Err(fault),
+            // No conversion to text fails for its bytes.
+            None => unreachable!(),
+        },
+    }
 }

@@ -13,12 +13,10 @@ ghost use Rattle.json.specs.declared.error.Error.TheVariants.{Invalid};
 use crate::arrangement::Arrangement;
 use crate::arranger::{Arranger, EARLY, into_text};
 use crate::order::{Piece, hold};
+use bson_tokens::MAX_DEPTH;
 use bson_tokens::number::number;
 use json::{Error, Reader, Scratch, Token};
 use std::alloc::Global;
-
-/// How deep arrays and objects may nest.
-const MAX_DEPTH: usize = 127;
 
 /// The compact text of the text's tree with each key once in its object, with its last value: at
 /// its first place, or by ascending bytes.

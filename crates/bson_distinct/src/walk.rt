@@ -6,12 +6,10 @@ ghost use Rattle.bson_distinct.specs.Double.{json_of, IsFirstDouble};
 ghost use Rattle.bson_distinct.specs.Found.{Finds, double, double_items, double_members};
 
 use crate::path::{KeyPath, or_at, or_member};
+use bson_tokens::MAX_DEPTH;
 use json::{Error, Reader, Scratch, Token};
 use std::alloc::Global;
 use std::collections::BTreeSet;
-
-/// How deep arrays and objects may nest.
-const MAX_DEPTH: usize = 127;
 
 /// The path to the first key of the text that stands in its object before, from the key outward; or
 /// nothing where no object, at any depth, has a key twice.

@@ -13,6 +13,12 @@ use bson_scalar::form::{Doubles, Form};
 use json::{Error, Writer};
 use std::alloc::Global;
 
+// The room of a part, which most values fit, and that of the starts of members: a short text needs
+// no more.
+const FIRST_PART: usize = 64;
+
+const FIRST_STARTS: usize = 16;
+
 /// The bytes of the compact text in the form of the value that the text means, each document's keys
 /// in the order of the text, at every depth. It is written as the text is read, with no value in
 /// memory.
@@ -54,8 +60,8 @@ pub fn sort_text(alloc: Global, doubles: Doubles, form: Form, text: &str) -> Res
         doubles,
         form,
         text: Vec::with_capacity(alloc, first_room(text))?,
-        part: Vec::new(alloc),
-        starts: Vec::new(alloc),
+        part: Vec::with_capacity(alloc, FIRST_PART)?,
+        starts: Vec::with_capacity(alloc, FIRST_STARTS)?,
         behind: false,
         most: memory_allowed(text.len()),
     };

@@ -1,4 +1,7 @@
+pub mod Beginnings
 pub mod Values
 pub mod Shapes
 pub mod Passing
 pub mod Whole
+pub mod Objects
+pub mod Version1Laws

@@ -9,16 +9,13 @@ use Rattle.json.specs.Json as json
 use Rattle.json.specs.Reads.{token_of}
 use Rattle.json.specs.Token.{Token}
 use Rattle.json.specs.Token as token
-use Rattle.json.specs.Tree.{json_tokens}
 use Rattle.json.specs.declared.token.Token as found
 use Rattle.json.proofs.Grammar.{value_is}
 use Rattle.bson_tokens.specs.Parts.{IsBroken}
 use Rattle.json.specs.declared.error.Error.{Error}
-use Rattle.bson_legacy.specs.Modern.{older, other, renewed, modern_members, of_one, of_texts}
 use Rattle.bson_distinct.specs.Arranging.{elements, inside}
-use Rattle.bson_legacy.specs.Passed.{MemberPasses, Passes, of_items, of_members, of_object, of_value}
+use Rattle.bson_legacy.specs.Passed.{MemberPasses, Passes, of_items, of_members, of_value}
 use Rattle.bson_distinct.proofs.Offered.{one_item, last_item, one_member, last_member}
-use Rattle.bson_legacy.proofs.Shapes.{IsOther, no_text_begins, other_first, other_second}
 
 -- the tokens of what is read behind those that stand, beside the tokens that are left
 abbrev pub whole : {A : Type 0} → (A → List Token) → List Token → Option (A × List Token)
@@ -101,101 +98,3 @@ pub first_member : (depth : ℕ) (k : List ℕ) (ts r rest old named later new :
     → Passes of_members (inside depth r) rest later new → MemberPasses depth k ts rest old new
 first_member depth k ts r rest old named later new begun (j, read, held) (ms, more, is) =
     (j, ms, r, read, more, key_first k j ms old named later new begun held is)
-
--- ---- members that were held
-
-pub text_held : (depth : ℕ) (k s : List ℕ) (ts : List Token)
-    → inside depth (token.key k ∷ token.string s ∷ ts) ≡ parse_map (member k (json.string s)) (inside depth ts)
-text_held depth k s ts =
-    one_member depth k (token.key k ∷ token.string s ∷ ts) (token.string s ∷ ts) ts (json.string s) refl
-    (value_is depth (token.string s ∷ ts))
-
-pub no_text_held : (depth : ℕ) (k s : List ℕ) (ts : List Token) → inside depth ts ≡ None
-    → inside depth (token.key k ∷ token.string s ∷ ts) ≡ None
-no_text_held depth k s ts none = text_held depth k s ts ∙ ap (parse_map (member k (json.string s))) none
-
-pub no_texts_held : (depth : ℕ) (k s l t : List ℕ) (ts : List Token) → inside depth ts ≡ None
-    → inside depth (token.key k ∷ token.string s ∷ token.key l ∷ token.string t ∷ ts) ≡ None
-no_texts_held depth k s l t ts none =
-    no_text_held depth k s (token.key l ∷ token.string t ∷ ts) (no_text_held depth l t ts none)
-
-pub lone_passes : (depth : ℕ) (k s : List ℕ) (ts r old new : List Token) → read_key ts ≡ Some (None, r)
-    → new ≡ old ++ of_value (of_one k (json.string s))
-    → Passes of_object (inside depth (token.key k ∷ token.string s ∷ ts)) r old new
-lone_passes depth k s ts r old new ended is = (
-  member k (json.string s) no_members,
-  text_held depth k s ts ∙ ap (parse_map (member k (json.string s))) (last_member depth ts r ended),
-  is,
-)
-
-pub pair_passes : (depth : ℕ) (k s l t : List ℕ) (ts r old new : List Token) → read_key ts ≡ Some (None, r)
-    → new ≡ old ++ of_value (of_texts k s l t)
-    → Passes of_object (inside depth (token.key k ∷ token.string s ∷ token.key l ∷ token.string t ∷ ts)) r old new
-pair_passes depth k s l t ts r old new ended is = (
-  member k (json.string s) (member l (json.string t) no_members),
-  text_held depth k s (token.key l ∷ token.string t ∷ ts) ∙ ap (parse_map (member k (json.string s)))
-      (text_held depth l t ts ∙ ap (parse_map (member l (json.string t))) (last_member depth ts r ended)),
-  is,
-)
-
--- ---- objects of no older shape
-
-ordinary : (depth : ℕ) (ts rest old begun new : List Token) (ms : Members) → inside depth ts ≡ Some (ms, rest)
-    → older ms ≡ other → begun ≡ old ++ token.begin_object ∷ [] → new ≡ begun ++ of_members ms
-    → Passes of_object (inside depth ts) rest old new
-ordinary depth ts rest old begun new ms read plain begin is = (
-  ms,
-  read,
-  is ∙ ap (λ o. o ++ of_members ms) begin ∙ append_assoc old (token.begin_object ∷ []) (of_members ms)
-      ∙ ap (λ x. old ++ json_tokens (renewed x (modern_members ms))) (sym plain),
-)
-
-pub none_passes : (depth : ℕ) (ts r old begun new : List Token) → read_key ts ≡ Some (None, r)
-    → begun ≡ old ++ token.begin_object ∷ [] → new ≡ begun ++ token.end_object ∷ []
-    → Passes of_object (inside depth ts) r old new
-none_passes depth ts r old begun new ended begin is =
-    ordinary depth ts r old begun new no_members (last_member depth ts r ended) refl begin is
-
--- the first member is no text
-pub first_passes : (depth : ℕ) (k : List ℕ) (t : found.Token) (ts s rest old begun new : List Token)
-    → read_key ts ≡ Some (Some k, token_of t ∷ s) → IsOther t → begun ≡ old ++ token.begin_object ∷ []
-    → MemberPasses depth k (token_of t ∷ s) rest begun new → Passes of_object (inside depth ts) rest old new
-first_passes depth k t ts s rest old begun new named is begin (j, ms, r, read, more, wrote) =
-    ordinary depth ts rest old begun new (member k j ms)
-    (one_member depth k ts (token_of t ∷ s) r j named read ∙ ap (parse_map (member k j)) more)
-    (other_first k j ms (no_text_begins depth t s r j is read)) begin wrote
-
-text_behind : (k s : List ℕ) (ms : Members) (old named new : List Token)
-    → named ≡ old ++ token.key k ∷ token.string s ∷ [] → new ≡ named ++ of_members ms
-    → new ≡ old ++ of_members (member k (json.string s) ms)
-text_behind k s ms old named new held is =
-    is ∙ ap (λ o. o ++ of_members ms) held
-    ∙ append_assoc old (token.key k ∷ token.string s ∷ []) (of_members ms)
-
--- the second is none
-pub second_passes : (depth : ℕ) (k s l : List ℕ) (t : found.Token) (ts q rest old begun named new : List Token)
-    → read_key ts ≡ Some (Some l, token_of t ∷ q) → IsOther t → begun ≡ old ++ token.begin_object ∷ []
-    → named ≡ begun ++ token.key k ∷ token.string s ∷ [] → MemberPasses depth l (token_of t ∷ q) rest named new
-    → Passes of_object (inside depth (token.key k ∷ token.string s ∷ ts)) rest old new
-second_passes depth k s l t ts q rest old begun named new key is begin held (j, ms, r, read, more, wrote) =
-    ordinary depth (token.key k ∷ token.string s ∷ ts) rest old begun new (member k (json.string s) (member l j ms))
-    (text_held depth k s ts ∙ ap (parse_map (member k (json.string s)))
-    (one_member depth l ts (token_of t ∷ q) r j key read ∙ ap (parse_map (member l j)) more))
-    (other_second k l s j ms (no_text_begins depth t q r j is read)) begin
-    (text_behind k s (member l j ms) begun named new held wrote)
-
--- there is a third
-pub third_passes : (depth : ℕ) (k s l t m : List ℕ) (ts q rest old begun one two new : List Token)
-    → read_key ts ≡ Some (Some m, q) → begun ≡ old ++ token.begin_object ∷ []
-    → one ≡ begun ++ token.key k ∷ token.string s ∷ [] → two ≡ one ++ token.key l ∷ token.string t ∷ []
-    → MemberPasses depth m q rest two new
-    → Passes of_object (inside depth (token.key k ∷ token.string s ∷ token.key l ∷ token.string t ∷ ts)) rest old new
-third_passes depth k s l t m ts q rest old begun one two new key begin first second (j, ms, r, read, more, wrote) =
-    let behind = member m j ms in
-    ordinary depth (token.key k ∷ token.string s ∷ token.key l ∷ token.string t ∷ ts) rest old begun new
-    (member k (json.string s) (member l (json.string t) behind))
-    (text_held depth k s (token.key l ∷ token.string t ∷ ts) ∙ ap (parse_map (member k (json.string s)))
-    (text_held depth l t ts ∙ ap (parse_map (member l (json.string t)))
-    (one_member depth m ts q r j key read ∙ ap (parse_map (member m j)) more))) refl begin
-    (text_behind k s (member l (json.string t) behind) begun one new first
-    (text_behind l t behind one two new second wrote))

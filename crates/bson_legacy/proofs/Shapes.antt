@@ -1,5 +1,5 @@
 -- Objects of no older shape, by the token with which a value begins.
-use Rattle.std.proofs.Common.{◌≡◌, ℕ, List, ◌∷◌, Bool, true, false, Option, Some, None, refl, sym, ap, ◌∙◌, Bor}
+use Rattle.std.proofs.Common.{◌≡◌, ℕ, List, ◌∷◌, Bool, true, false, Option, Some, None, refl, sym, ap, ◌∙◌}
 use Rattle.json.specs.Json.{Json, Members, no_members, member, parse_map, value}
 use Rattle.json.specs.Json as json
 use Rattle.json.specs.Reads.{token_of}
@@ -7,6 +7,7 @@ use Rattle.json.specs.Token.{Token}
 use Rattle.json.specs.declared.token.Token as found
 use Rattle.json.specs.declared.token.Token.TheVariants as first
 use Rattle.json.proofs.Grammar.{value_is}
+use Rattle.bson_legacy.specs.Held.{IsOther}
 use Rattle.bson_legacy.specs.Modern.{older, other, lone, pair}
 
 abbrev pub is_text : Json → Bool
@@ -21,10 +22,6 @@ no_text_in : {A : Type 0} (f : A → Json) → ((a : A) → is_text (f a) ≡ fa
     → text_read (parse_map f o) ≡ false
 no_text_in f plain None = refl
 no_text_in f plain (Some p) = plain p.0
-
--- the token is no text
-abbrev pub IsOther : found.Token → Type 0
-IsOther t = (s : Bor (List ℕ)) → t ≡ first.String s → ⊥
 
 no_text : (depth : ℕ) (t : found.Token) (ts : List Token) → IsOther t → text_read (value depth (token_of t ∷ ts)) ≡ false
 no_text depth first.BeginObject ts is = ap text_read (value_is depth _) ∙ no_text_in json.object (λ ms. refl) _
@@ -42,6 +39,37 @@ no_text depth first.Bad ts is = ap text_read (value_is depth _)
 pub no_text_begins : (depth : ℕ) (t : found.Token) (ts r : List Token) (j : Json) → IsOther t
     → value depth (token_of t ∷ ts) ≡ Some (j, r) → is_text j ≡ false
 no_text_begins depth t ts r j is read = sym (ap text_read read) ∙ no_text depth t ts is
+
+abbrev pub is_object : Json → Bool
+is_object (json.object ms) = true
+is_object _ = false
+
+abbrev object_read : Option (Json × List Token) → Bool
+object_read None = false
+object_read (Some p) = is_object p.0
+
+no_object_in : {A : Type 0} (f : A → Json) → ((a : A) → is_object (f a) ≡ false) → (o : Option (A × List Token))
+    → object_read (parse_map f o) ≡ false
+no_object_in f plain None = refl
+no_object_in f plain (Some p) = plain p.0
+
+no_object : (depth : ℕ) (t : found.Token) (ts : List Token) → (t ≡ first.BeginObject → ⊥)
+    → object_read (value depth (token_of t ∷ ts)) ≡ false
+no_object depth first.BeginObject ts is = absurd (is refl)
+no_object depth first.EndObject ts is = ap object_read (value_is depth _)
+no_object depth first.BeginArray ts is = ap object_read (value_is depth _) ∙ no_object_in json.array (λ js. refl) _
+no_object depth first.EndArray ts is = ap object_read (value_is depth _)
+no_object depth (first.Key s) ts is = ap object_read (value_is depth _)
+no_object depth (first.String s) ts is = ap object_read (value_is depth _)
+no_object depth (first.Number s) ts is = ap object_read (value_is depth _)
+no_object depth (first.Bool b) ts is = ap object_read (value_is depth _)
+no_object depth first.Null ts is = ap object_read (value_is depth _)
+no_object depth first.Bad ts is = ap object_read (value_is depth _)
+
+-- a value that begins with another token than a brace is no object
+pub no_object_begins : (depth : ℕ) (t : found.Token) (ts r : List Token) (j : Json) → (t ≡ first.BeginObject → ⊥)
+    → value depth (token_of t ∷ ts) ≡ Some (j, r) → is_object j ≡ false
+no_object_begins depth t ts r j is read = sym (ap object_read read) ∙ no_object depth t ts is
 
 lone_other : (k : List ℕ) (j : Json) → is_text j ≡ false → lone k j ≡ other
 lone_other k json.null plain = refl

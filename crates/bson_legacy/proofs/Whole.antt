@@ -1,15 +1,21 @@
 -- The text of a whole tree.
 use Rattle.std.proofs.Common.{◌≡◌, ℕ, List, [], Option, Some, option_and_then, sym, ap, ◌∙◌}
-use Rattle.std.proofs.Common.{append-nil}
+use Rattle.std.proofs.Common.{append-nil, ◌≤◌, Result, Ok, Err, IfErr, IfOk, subst}
+use Rattle.std.proofs.lemmas.Option.{same_Some}
 use Rattle.json.specs.Json.{Json, if_last, value}
 use Rattle.json.specs.Lex.{tokens}
 use Rattle.json.specs.Print.{print}
 use Rattle.json.specs.Token.{Token}
-use Rattle.json.specs.Tree.{json_tokens}
+use Rattle.json.specs.Tree.{depth, json_tokens}
+use Rattle.json.specs.declared.error.Error.{Error}
 use Rattle.json.proofs.Printed.Trees.{value-json_tokens}
+use Rattle.serde_json.specs.Read.{max_depth}
+use Rattle.bson_tokens.specs.Parts.{IsBroken}
+use Rattle.bson_distinct.specs.Arranged.{arranged, IsArrangedText}
 use Rattle.bson_distinct.specs.Double.{json_of}
+use Rattle.bson_distinct.specs.declared.arrangement.Arrangement.TheVariants.{FirstPlaces}
 use Rattle.bson_legacy.specs.Modern.{modern}
-use Rattle.bson_legacy.specs.Text.{IsModernText}
+use Rattle.bson_legacy.specs.Text.{IsModernText, IsRewritten}
 
 abbrev whole : Option (Json × List Token) → Option Json
 whole o = option_and_then (λ p. if_last p.0 p.1) o
@@ -18,7 +24,7 @@ pub read_whole : (text : List ℕ) (j : Json) → value 127 (tokens text) ≡ So
 read_whole text j e = ap whole e
 
 pub written : (text out : List ℕ) (j : Json) (ts : List Token) → value 127 (tokens text) ≡ Some (j, [])
-    → ts ≡ json_tokens (modern j) → out ≡ print ts → tokens (print ts) ≡ ts → IsModernText text out
+    → ts ≡ json_tokens (modern j) → out ≡ print ts → tokens (print ts) ≡ ts → IsRewritten text out
 written text out j ts read is text_is again =
     record {
       tree = j;
@@ -28,3 +34,22 @@ written text out j ts read is text_is again =
           ∙ ap (λ us. whole (value 127 us)) (sym (append-nil (json_tokens (modern j))))
           ∙ ap whole (value-json_tokens (modern j) 127 [] shallow);
     }
+
+-- ---- of the text with each key once
+
+pub modern_of : (text resolved out : List ℕ) → IsArrangedText FirstPlaces text resolved → IsRewritten resolved out
+    → IsModernText text out
+modern_of text resolved out first then =
+    let same : arranged FirstPlaces first.tree ≡ then.tree =
+    same_Some (arranged FirstPlaces first.tree) then.tree (sym first.read_again ∙ then.is_tree) in
+    record {
+      resolved = resolved;
+      is_resolved = first;
+      compact = then.compact ∙ ap (λ j. print (json_tokens (modern j))) (sym same);
+      read_again = subst (λ j. depth (modern j) ≤ max_depth → json_of out ≡ Some (modern j)) (sym same) then.read_again;
+    }
+
+pub never_breaks : {X : Type 0} {Y : Type 0} (text resolved : List ℕ) (o : Option Y) (r : Result X Error)
+    → IsArrangedText FirstPlaces text resolved → IfErr r (IsBroken (json_of resolved)) → IfErr r (IsBroken o)
+never_breaks text resolved o (Ok x) first h = tt
+never_breaks text resolved o (Err e) first h = λ broken. let never = sym (h broken) ∙ first.read_again in cc

@@ -1,7 +1,7 @@
 -- The tree of Extended JSON v2 that a tree of v1 stands for (MongoDB Extended JSON v1; the Extended JSON specification,
 -- "Parsers", which lets readers take the older shapes). Members keep their order, and a key that stands twice does too.
 use Rattle.std.specs.Prelude.{ℕ, ◌-◌, List, ◌++◌, length, take, drop, slice_index, Bool, ◌&&◌, ◌||◌, ◌==◌}
-use Rattle.std.specs.Prelude.{codes, nat_le, if◌then◌else◌}
+use Rattle.std.specs.Prelude.{codes, false, nat_le, if◌then◌else◌}
 use Rattle.std.specs.Str.{bytes_eq}
 use Rattle.json.specs.Json.{Json, Items, no_items, item, Members, no_members, member}
 use Rattle.json.specs.Json as json
@@ -82,7 +82,19 @@ renewed (regex pattern options) ms = regex_tree pattern options
 renewed (date s) ms = date_tree s
 renewed other ms = json.object ms
 
--- each object of an older shape is the newer one, and all else stays
+-- ---- scopes
+
+-- code is a string at `$code`
+abbrev pub is_code : List ℕ → Json → Bool
+is_code k (json.string s) = bytes_eq k (codes "$code")
+is_code k _ = false
+
+abbrev pub is_scope : List ℕ → Bool
+is_scope k = bytes_eq k (codes "$scope")
+
+-- ---- whole trees
+
+-- each object of an older shape is the newer one, except a scope, whose keys are free; everything else stays
 abbrev mutual
   pub modern : Json → Json
   modern json.null = json.null
@@ -90,7 +102,25 @@ abbrev mutual
   modern (json.number s) = json.number s
   modern (json.string s) = json.string s
   modern (json.array js) = json.array (modern_items js)
-  modern (json.object ms) = renewed (older ms) (modern_members ms)
+  modern (json.object ms) = renewed (older ms) (modern_object ms)
+
+  -- what is at `$scope` next to code
+  pub modern_scope : Json → Json
+  modern_scope json.null = json.null
+  modern_scope (json.boolean b) = json.boolean b
+  modern_scope (json.number s) = json.number s
+  modern_scope (json.string s) = json.string s
+  modern_scope (json.array js) = json.array (modern_items js)
+  modern_scope (json.object ms) = json.object (modern_object ms)
+
+  -- the members of an object of no older shape, which may begin with code and its scope, in either order
+  pub modern_object : Members → Members
+  modern_object no_members = no_members
+  modern_object (member k j no_members) = member k (modern j) no_members
+  modern_object (member k j (member l i ms)) =
+      if is_code k j && is_scope l then member k (modern j) (member l (modern_scope i) (modern_members ms))
+      else if is_scope k && is_code l i then member k (modern_scope j) (member l (modern i) (modern_members ms))
+      else member k (modern j) (member l (modern i) (modern_members ms))
 
   pub modern_items : Items → Items
   modern_items no_items = no_items

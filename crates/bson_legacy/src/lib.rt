@@ -1,10 +1,12 @@
 //! Texts of the older MongoDB Extended JSON (v1), as older programs wrote them, made into those of
 //! v2 that they stand for, with no tree.
 //!
-//! In reading order: `date` (offsets with no colon), `older` (objects of an older shape), `modern`
-//! (from a text to the text in its place).
+//! In reading order: `date` (offsets with no colon), `held` (how an object begins), `older` (objects
+//! of an older shape), `modern` (from a text to the text in its place), `laws` (of the definitions).
 #![tactic(auto)]
 
 mod date;
+mod held;
+pub mod laws;
 pub mod modern;
 mod older;

@@ -1,35 +1,47 @@
 //! From a text to the text in its place, token by token.
 ghost use Rattle.std.specs.Prelude.{◌≡◌, ◌≢◌, ◌∷◌, [], IfErr, IfOk, OnOk, string_bytes};
-ghost use Rattle.json.specs.Json.{value};
+ghost use Rattle.json.specs.Json.{no_members, value};
 ghost use Rattle.json.specs.Lex.{tokens};
 ghost use Rattle.json.specs.Print.{print, IsPrintable};
 ghost use Rattle.json.specs.Reads.{token_of};
 ghost use Rattle.json.specs.Token as token;
+ghost use Rattle.serde_json.specs.Read.{read};
 ghost use Rattle.bson_distinct.specs.Double.{json_of};
 ghost use Rattle.bson_tokens.specs.Parts.{IsBroken};
 ghost use Rattle.bson_distinct.specs.Arranging.{elements, inside};
+ghost use Rattle.bson_legacy.specs.Held.{IsOpen, RestPasses, ScopeEnds, ScopePasses, onto};
 ghost use Rattle.bson_legacy.specs.Passed.{MemberPasses, Passes};
 ghost use Rattle.bson_legacy.specs.Passed.{of_items, of_members, of_object, of_value};
-ghost use Rattle.bson_legacy.specs.Text.{IsModernText};
+ghost use Rattle.bson_legacy.specs.Text.{IsModernText, IsRewritten};
 
-use crate::older::{write_lone, write_pair, write_text};
+use crate::held::{Begun, Texts, hold, is_scope, next_member, scope_place};
+use crate::older::{write_held, write_older, write_scope_or_value};
+use bson_distinct::arrange::arrange_text;
+use bson_distinct::arrangement::Arrangement;
 use json::{Error, Reader, Scratch, Token, Writer};
 use std::alloc::Global;
 
 /// How deep arrays and objects may nest.
 const MAX_DEPTH: usize = 127;
 
-/// The compact text of the tree that the text's tree stands for: each object of a shape of Extended
-/// JSON v1 is that of v2, and all else stays, with its keys in their order.
+/// Returns the compact JSON text of Extended JSON v2 for which a text of v1 stands.
 ///
-/// An object is of an older shape where it has exactly the keys `$binary` and `$type`, or `$regex`
-/// and `$options`, in either order, each with a text; and where it has the key `$date` alone, with a
-/// text that ends in an offset of four digits, as `+0100`, which gets its colon. `Invalid` is
-/// answered where the text is no JSON text of at most 127 levels. A binary and a regular expression
-/// nest one level deeper than they did.
+/// A text of v2 is its own, with each key once. An object has a shape of v1 if it has exactly the
+/// keys `$binary` and `$type`, or `$regex` and `$options`, in either order, each with a string; or
+/// the key `$date` alone, with a string that ends in an offset of four digits (`+0100`), which gets
+/// its colon. Of a duplicate key the last value counts, at the first position of the key, before
+/// the shape is tested. The object at `$scope` has no shape of v1 in an object that begins with
+/// `$code`, a string, and `$scope`, in either order: a scope's own keys are free. What a scope
+/// contains is rewritten like any value. A binary and a regular expression nest one level deeper
+/// than they did.
 ///
-/// No tree is made: the text is written as it is read, and of an object no more than two members are
-/// held. Memory is that of the output, and as much as the text has once more for texts with escapes.
+/// No tree is built: the text is written as it is read, first with each key once, and at most two
+/// members of an object are kept in memory. Memory is that of two texts.
+///
+/// # Errors
+///
+/// - `Invalid`: the text is not JSON, nests deeper than 127, or has a number out of range.
+/// - The other errors: an allocation fails.
 ///
 /// ```
 /// let text = modern_text(alloc, r#"{"$binary": "AQI=", "$type": "00"}"#)?;
@@ -37,6 +49,15 @@ const MAX_DEPTH: usize = 127;
 /// ```
 pub fn modern_text(alloc: Global, text: &str) -> Result<String, Error>
     ensures ok { IfOk result (λ written. IsModernText text.now (string_bytes written)) }
+    ensures broken { IfErr result (IsBroken (read text.now)) }
+{
+    let resolved = arrange_text(alloc, Arrangement::FirstPlaces, text)?;
+    rewrite(alloc, resolved.as_str())
+}
+
+// The text in place of one in which each key occurs once.
+fn rewrite(alloc: Global, text: &str) -> Result<String, Error>
+    ensures ok { IfOk result (λ written. IsRewritten text.now (string_bytes written)) }
     ensures broken { IfErr result (IsBroken (json_of text.now)) }
 {
     let mut scratch = Scratch::new(alloc);
@@ -130,8 +151,8 @@ fn write_items<'a>(
     Ok(out.end_array()?)
 }
 
-// An object whose brace was read. While it may be of an older shape its members are held: no more
-// than two, which are texts.
+// An object whose brace was read. While it may have an older shape its members are held: no more
+// than two, which are strings.
 #[cycle(write)]
 fn write_object<'a>(
     alloc: Global,
@@ -144,74 +165,95 @@ fn write_object<'a>(
     ensures broken { IfErr result (IsBroken (inside depth reader.old)) }
     ensures before { OnOk result (out.new.before ≡ out.old.before) }
 {
-    let Some(key) = reader.next_key()? else {
-        out.begin_object()?;
-        return Ok(out.end_object()?);
-    };
-    let first = reader.next().ok_or(Error::Invalid)?;
-    let Token::String(text) = first else {
-        out.begin_object()?;
-        return write_member(alloc, key, first, reader, depth, out);
-    };
-    write_behind_one(alloc, key, text, reader, depth, out)
+    match hold(reader)? {
+        Begun::Whole(texts) => Ok(write_older(alloc, texts, out)?),
+        Begun::Open(texts, key, first) => {
+            out.begin_object()?;
+            write_held(texts, out)?;
+            write_rest(alloc, texts, key, first, reader, depth, out)
+        }
+    }
 }
 
-// An object of which the first member was read, a text.
+// The member of this key, of whose value the first token was read, and those after it, in an object
+// that begins with the strings and has no older shape.
 #[cycle(write)]
-fn write_behind_one<'a>(
+fn write_rest<'a>(
     alloc: Global,
+    texts: Texts<'a>,
     key: &'a str,
-    text: &'a str,
+    first: Token<'a>,
     reader: &mut Reader<'a>,
     depth: usize,
     out: &mut Writer,
 ) -> Result<(), Error>
-    ensures ok { OnOk result
-        (Passes of_object (inside depth (token.key key.now ∷ token.string text.now ∷ reader.old)) reader.new
+    requires printable { first ≢ Token.Bad → IsPrintable (token_of first) }
+    requires shape { IsOpen texts first }
+    ensures ok { OnOk result (RestPasses texts.entry depth key.now (token_of first.entry ∷ reader.old) reader.new
         out.old.tokens out.new.tokens) }
     ensures broken { IfErr result
-        (IsBroken (inside depth (token.key key.now ∷ token.string text.now ∷ reader.old))) }
+        (IsBroken (inside depth (token.key key.now ∷ token_of first.entry ∷ reader.old))) }
     ensures before { OnOk result (out.new.before ≡ out.old.before) }
 {
-    let Some(other) = reader.next_key()? else {
-        return Ok(write_lone(alloc, key, text, out)?);
-    };
-    let first = reader.next().ok_or(Error::Invalid)?;
-    let Token::String(more) = first else {
-        out.begin_object()?;
-        write_text(key, text, out)?;
-        return write_member(alloc, other, first, reader, depth, out);
-    };
-    write_behind_two(alloc, key, text, other, more, reader, depth, out)
+    match scope_place(texts, key, first) {
+        Some(after_code) => write_scope(alloc, after_code, key, reader, depth, out),
+        None => write_member(alloc, key, first, reader, depth, out),
+    }
 }
 
-// An object of which the first two members were read, both texts.
+// The object at `$scope` whose brace was read, and the members after it. It is a scope if it comes
+// after code, or before code.
 #[cycle(write)]
-fn write_behind_two<'a>(
+fn write_scope<'a>(
     alloc: Global,
+    after_code: bool,
     key: &'a str,
-    text: &'a str,
-    other: &'a str,
-    more: &'a str,
     reader: &mut Reader<'a>,
     depth: usize,
     out: &mut Writer,
 ) -> Result<(), Error>
-    ensures ok { OnOk result
-        (Passes of_object (inside depth (token.key key.now ∷ token.string text.now ∷ token.key other.now
-        ∷ token.string more.now ∷ reader.old)) reader.new out.old.tokens out.new.tokens) }
-    ensures broken { IfErr result (IsBroken (inside depth (token.key key.now ∷ token.string text.now
-        ∷ token.key other.now ∷ token.string more.now ∷ reader.old))) }
+    ensures ok { OnOk result (ScopePasses after_code depth key.now reader.old reader.new
+        out.old.tokens out.new.tokens) }
+    ensures broken { IfErr result
+        (IsBroken (inside depth (token.key key.now ∷ token.begin_object ∷ reader.old))) }
     ensures before { OnOk result (out.new.before ≡ out.old.before) }
 {
-    let Some(third) = reader.next_key()? else {
-        return Ok(write_pair(key, text, other, more, out)?);
+    if depth == 0 {
+        return Err(Error::Invalid);
+    }
+    out.key(key)?;
+    match hold(reader)? {
+        Begun::Whole(texts) => write_held_scope(alloc, after_code, texts, reader, depth, out),
+        Begun::Open(texts, inner, first) => {
+            out.begin_object()?;
+            write_held(texts, out)?;
+            write_rest(alloc, texts, inner, first, reader, depth - 1, out)?;
+            write_members(alloc, reader, depth, out)
+        }
+    }
+}
+
+// The object of these members at `$scope`, whose end was read, and the members after it.
+#[cycle(write)]
+fn write_held_scope<'a>(
+    alloc: Global,
+    after_code: bool,
+    texts: Texts<'a>,
+    reader: &mut Reader<'a>,
+    depth: usize,
+    out: &mut Writer,
+) -> Result<(), Error>
+    ensures ok { OnOk result (ScopeEnds after_code depth (onto texts.entry no_members) reader.old reader.new
+        out.old.tokens out.new.tokens) }
+    ensures broken { IfErr result (IsBroken (inside depth reader.old)) }
+    ensures before { OnOk result (out.new.before ≡ out.old.before) }
+{
+    let Some((key, first)) = next_member(reader)? else {
+        write_scope_or_value(alloc, after_code, texts, out)?;
+        return Ok(out.end_object()?);
     };
-    let first = reader.next().ok_or(Error::Invalid)?;
-    out.begin_object()?;
-    write_text(key, text, out)?;
-    write_text(other, more, out)?;
-    write_member(alloc, third, first, reader, depth, out)
+    write_scope_or_value(alloc, is_scope(after_code, key, first), texts, out)?;
+    write_member(alloc, key, first, reader, depth, out)
 }
 
 // The member of this key, of whose value the first token was read, and those behind it.

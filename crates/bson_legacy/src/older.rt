@@ -1,22 +1,73 @@
-//! Objects of one or two texts, which may be of an older shape, and what is written for them.
+//! Objects of two strings at most, which may have an older shape, and what is written for them.
 ghost use Rattle.std.specs.Prelude.{◌≡◌, ◌++◌, ◌∷◌, [], OnOk};
-ghost use Rattle.json.specs.Json.{string};
+ghost use Rattle.json.specs.Json.{no_members, string};
 ghost use Rattle.json.specs.Token as token;
 ghost use Rattle.json.specs.Tree.{json_tokens};
 ghost use Rattle.bson_legacy.specs.Modern.{binary_tree, of_one, of_texts, regex_tree};
-ghost use Rattle.bson_legacy.specs.Passed.{of_value};
+ghost use Rattle.bson_legacy.specs.Held.{held, onto, scope_or_value};
+ghost use Rattle.bson_legacy.specs.Passed.{of_object, of_value};
 
 use crate::date::with_colon;
+use crate::held::Texts;
 use json::Writer;
 use std::alloc::{AllocError, Global};
 
-/// Writes what the object of this member alone stands for: a date, or itself.
-pub(crate) fn write_lone(
+/// Writes what the object of these members stands for.
+pub(crate) fn write_older(
     alloc: Global,
-    key: &str,
-    text: &str,
+    texts: Texts<'_>,
     out: &mut Writer,
 ) -> Result<(), AllocError>
+    ensures ok { OnOk result (out.new.tokens ≡ out.old.tokens ++ of_object (onto texts.entry no_members)) }
+    ensures before { out.new.before ≡ out.old.before }
+{
+    match texts {
+        Texts::Empty => {
+            out.begin_object()?;
+            out.end_object()
+        }
+        Texts::One(key, text) => write_lone(alloc, key, text, out),
+        Texts::Two(key, text, other, more) => write_pair(key, text, other, more, out),
+    }
+}
+
+/// Writes the object at `$scope` that has these members: as it is if code is next to it, or else
+/// what it stands for.
+pub(crate) fn write_scope_or_value(
+    alloc: Global,
+    is_scope: bool,
+    texts: Texts<'_>,
+    out: &mut Writer,
+) -> Result<(), AllocError>
+    ensures ok { OnOk result (out.new.tokens
+        ≡ out.old.tokens ++ json_tokens (scope_or_value is_scope (onto texts.entry no_members))) }
+    ensures before { out.new.before ≡ out.old.before }
+{
+    if !is_scope {
+        return write_older(alloc, texts, out);
+    }
+    out.begin_object()?;
+    write_held(texts, out)?;
+    out.end_object()
+}
+
+/// Writes the members with which an object begins.
+pub(crate) fn write_held(texts: Texts<'_>, out: &mut Writer) -> Result<(), AllocError>
+    ensures ok { OnOk result (out.new.tokens ≡ out.old.tokens ++ held texts.entry []) }
+    ensures before { out.new.before ≡ out.old.before }
+{
+    match texts {
+        Texts::Empty => Ok(()),
+        Texts::One(key, text) => write_text(key, text, out),
+        Texts::Two(key, text, other, more) => {
+            write_text(key, text, out)?;
+            write_text(other, more, out)
+        }
+    }
+}
+
+// Writes what the object of this member alone stands for: a date, or itself.
+fn write_lone(alloc: Global, key: &str, text: &str, out: &mut Writer) -> Result<(), AllocError>
     ensures ok { OnOk result (out.new.tokens ≡ out.old.tokens ++ of_value (of_one key.now (string text.now))) }
     ensures before { out.new.before ≡ out.old.before }
 {
@@ -36,8 +87,8 @@ fn write_one(key: &str, text: &str, out: &mut Writer) -> Result<(), AllocError>
     out.end_object()
 }
 
-/// Writes what the object of these two members stands for.
-pub(crate) fn write_pair(
+// Writes what the object of these two members stands for.
+fn write_pair(
     key: &str,
     text: &str,
     other: &str,
@@ -120,8 +171,8 @@ fn write_texts(
     out.end_object()
 }
 
-/// Writes a member that is a text.
-pub(crate) fn write_text(key: &str, text: &str, out: &mut Writer) -> Result<(), AllocError>
+// Writes a member that is a string.
+fn write_text(key: &str, text: &str, out: &mut Writer) -> Result<(), AllocError>
     ensures ok { OnOk result (out.new.tokens ≡ out.old.tokens ++ token.key key.now ∷ token.string text.now ∷ []) }
     ensures before { out.new.before ≡ out.old.before }
 {

@@ -1,4 +1,5 @@
 mod Asking
+mod Dumping
 mod Spaces
 mod Telling
 mod Verdicts

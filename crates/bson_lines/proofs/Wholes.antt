@@ -2,20 +2,20 @@
 use Rattle.std.proofs.Common.{◌≡◌, ◌⊎◌, inl, inr, List, ℕ, Option, sym, subst}
 use Rattle.std.specs.Io.KnownBytes.{Keeps}
 use Rattle.bson_convert.specs.Run.{ReadsAll}
-use Rattle.bson_convert.specs.declared.fault.Fault.{Fault}
-use Rattle.bson_convert.specs.declared.fault.Fault.TheVariants.{CannotRead, CannotWrite, NotJson, NotExtendedJson}
-use Rattle.bson_convert.specs.declared.fault.Fault.TheVariants.{NoBytes, OutOfMemory}
+use Rattle.bson_convert.specs.declared.error.Error.{Error}
+use Rattle.bson_convert.specs.declared.error.Error.TheVariants.{CannotRead, CannotWrite, NotJson, NotExtendedJson}
+use Rattle.bson_convert.specs.declared.error.Error.TheVariants.{NoBytes, OutOfMemory}
 use Rattle.bson_run.specs.Place.{IsWhere}
 use Rattle.bson_lines.specs.Whole.{behind, IsUngiven, WholeFails, WholeRefused}
 use Rattle.bson_lines.specs.declared.order.Order.{Order}
 
 module _ (order : Order) (mark bytes : List ℕ) (before after had holds : Option (List ℕ)) (all : ReadsAll before after bytes)
     (nothing : Keeps had holds) where
-  refused : (fault : Fault) (place : List ℕ) → IsUngiven order.options order.task fault (behind mark bytes)
+  refused : (fault : Error) (place : List ℕ) → IsUngiven order.options order.task fault (behind mark bytes)
       → IsWhere (behind mark bytes) fault place → WholeRefused order fault place mark before after had holds
   refused fault place is lies = record { bytes = bytes; all = all; refused = is; lies = lies; nothing = nothing }
 
-  fails : (fault : Fault) (place : List ℕ) → IsUngiven order.options order.task fault (behind mark bytes)
+  fails : (fault : Error) (place : List ℕ) → IsUngiven order.options order.task fault (behind mark bytes)
       → IsWhere (behind mark bytes) fault place → WholeFails order fault place mark before after had holds
   fails OutOfMemory place is lies = (nothing, lies)
   fails CannotRead place is lies = refused CannotRead place is lies
@@ -25,7 +25,7 @@ module _ (order : Order) (mark bytes : List ℕ) (before after had holds : Optio
   fails (NoBytes why) place is lies = refused (NoBytes why) place is lies
 
   -- the text is refused for the fault, or memory was wanting for its words
-  pub text_fails : (fault told : Fault) (place : List ℕ) → IsUngiven order.options order.task fault (behind mark bytes)
+  pub text_fails : (fault told : Error) (place : List ℕ) → IsUngiven order.options order.task fault (behind mark bytes)
       → (told ≡ fault) ⊎ (told ≡ OutOfMemory) → IsWhere (behind mark bytes) told place
       → WholeFails order told place mark before after had holds
   text_fails fault told place is (inl same) lies =

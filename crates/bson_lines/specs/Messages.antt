@@ -14,7 +14,7 @@ use Rattle.bson_codec.specs.declared.run_end.RunFault.{RunFault}
 use Rattle.bson_codec.specs.declared.run_end.RunFault.TheVariants as run_fault
 use Rattle.bson_run.specs.Lines.{onto_first}
 use Rattle.bson_convert.specs.Words.{words_of}
-use Rattle.bson_convert.specs.declared.fault.Fault.{Fault}
+use Rattle.bson_convert.specs.declared.error.Error as conversion
 use Rattle.bson_lines.specs.declared.order.Input as order
 use Rattle.bson_lines.specs.declared.order.Input.TheVariants.{Documents}
 use Rattle.bson_lines.specs.declared.run.Stop.{Stop}
@@ -72,7 +72,7 @@ abbrev pub text_head : List ℕ → ℕ → List ℕ
 text_head name number = if number == 0 then head_of name else line_head name number
 
 -- what is told of a text that is refused
-abbrev pub told_at : List ℕ → ℕ → Fault → (place : List ℕ) → List ℕ
+abbrev pub told_at : List ℕ → ℕ → conversion.Error → (place : List ℕ) → List ℕ
 told_at name number fault place = text_head name number ++ codes ": " ++ words_of fault ++ place
 
 -- a fault with its document, or that of a stream alone

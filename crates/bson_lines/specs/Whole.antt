@@ -10,8 +10,8 @@ use Rattle.bson_run.specs.Indent.{mode_of, ConvertsIndented, ConvertsInOrderInde
 use Rattle.bson_convert.specs.Run.{ReadsAll}
 use Rattle.bson_run.specs.Place.{IsWhere}
 use Rattle.bson_run.specs.Taken.{IsTakenAs, IsUntaken}
-use Rattle.bson_convert.specs.declared.fault.Fault.{Fault}
-use Rattle.bson_convert.specs.declared.fault.Fault.TheVariants.{NotJson, OutOfMemory}
+use Rattle.bson_convert.specs.declared.error.Error.{Error}
+use Rattle.bson_convert.specs.declared.error.Error.TheVariants.{NotJson, OutOfMemory}
 use Rattle.bson_convert.specs.declared.mode.Mode.{Mode}
 use Rattle.bson_convert.specs.declared.mode.Mode.TheVariants.{Canonical, Show}
 use Rattle.bson_run.specs.declared.order.Task.{Task}
@@ -59,7 +59,7 @@ Gives order (Taken taking work) text output =
     (taken : List ℕ) × IsTakenAs taking text taken × Works order work taken output
 
 -- why nothing is: the text is refused, or what is read in its place
-abbrev pub IsUngiven : Options → Task → Fault → List ℕ → Type 0
+abbrev pub IsUngiven : Options → Task → Error → List ℕ → Type 0
 IsUngiven o Encode fault text = IsUnencodedIn o fault text
 IsUngiven o EncodeInOrder fault text = IsUnencodedInOrder o fault text
 IsUngiven o (Taken taking work) fault text =
@@ -84,7 +84,7 @@ pub record WholeDone (order : Order) (mark : List ℕ) (before after had holds :
   pub written : Appends had holds output
 
 -- all was read, the text is refused, and nothing was written; this is where the fault lies, in words
-pub record WholeRefused (order : Order) (fault : Fault) (place mark : List ℕ) (before after had holds : Option (List ℕ))
+pub record WholeRefused (order : Order) (fault : Error) (place mark : List ℕ) (before after had holds : Option (List ℕ))
     : Type 0 where
   pub bytes : List ℕ
   pub all : ReadsAll before after bytes
@@ -100,7 +100,7 @@ pub record WholeUnwritten (order : Order) (mark : List ℕ) (before after : Opti
   pub gives : Gives order order.task (behind mark bytes) output
 
 -- what each fault of a text says of the bytes
-abbrev pub WholeFails : Order → Fault → (place mark : List ℕ) → (before after had holds : Option (List ℕ)) → Type 0
+abbrev pub WholeFails : Order → Error → (place mark : List ℕ) → (before after had holds : Option (List ℕ)) → Type 0
 WholeFails order OutOfMemory place mark before after had holds = Keeps had holds × (place ≡ [])
 WholeFails order fault place mark before after had holds = WholeRefused order fault place mark before after had holds
 

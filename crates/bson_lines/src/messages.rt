@@ -7,7 +7,7 @@ ghost use Rattle.bson_lines.specs.Messages.{text_head, told_at, told_of_document
 use crate::order::{Input, STANDARD};
 use crate::run::Stop;
 use bson_codec::run_end::{RunEnd, RunFault};
-use bson_convert::fault::Fault;
+use bson_convert::error;
 use bson_run::lines::Counts;
 use std::alloc::{AllocError, Global};
 use std::io::Error;
@@ -91,7 +91,7 @@ fn at_text(
     alloc: Global,
     name: &str,
     number: u64,
-    fault: &Fault,
+    fault: &error::Error,
     place: &str,
 ) -> Result<String, AllocError>
     ensures { IfOk result (λ line. string_bytes line ≡ told_at name.now number fault.now place.now) }

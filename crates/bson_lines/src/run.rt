@@ -12,7 +12,7 @@ use crate::progress::{Counted, Progress, Verdicts};
 use crate::streams::{Sink, Source};
 use crate::whole::convert_whole;
 use bson_codec::run_end::RunEnd;
-use bson_convert::fault::Fault;
+use bson_convert::error;
 use bson_run::lines::{Counts, LineRun};
 use std::alloc::Global;
 use std::fs;
@@ -38,7 +38,7 @@ pub enum Stop<'a> {
     Terminal,
     /// At a text of the file that is refused: at the line of this number, or at no line (0), why,
     /// and where in the text, in words.
-    Text(&'a str, u64, Fault, String),
+    Text(&'a str, u64, error::Error, String),
     /// At a document of the file.
     Document(&'a str, RunEnd),
 }
@@ -131,8 +131,8 @@ fn run_each<'a>(
     run.options = order.options;
     match run.run(rt.alloc(), reader, sink, report) {
         Ok(counts) => Ok(counts),
-        Err(Fault::CannotRead) => Err(Stop::Input(name, reader.error)),
-        Err(Fault::CannotWrite) => Err(write_stop(order, sink, report)),
+        Err(error::Error::CannotRead) => Err(Stop::Input(name, reader.error)),
+        Err(error::Error::CannotWrite) => Err(write_stop(order, sink, report)),
         Err(fault) => {
             let place = place_in(rt.alloc(), &run, &fault);
             Err(Stop::Text(name, run.number(), fault, place))
@@ -142,7 +142,7 @@ fn run_each<'a>(
 
 // Where the fault lies in the line at which the run stopped; nothing where memory is wanting for
 // the words.
-fn place_in(alloc: Global, run: &LineRun, fault: &Fault) -> String
+fn place_in(alloc: Global, run: &LineRun, fault: &error::Error) -> String
     ensures { IsWhere (text_held run.now.gathered) fault.now (string_bytes result) ⊎ (string_bytes result ≡ []) }
 {
     match run.place(alloc, fault) {

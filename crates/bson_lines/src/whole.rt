@@ -12,6 +12,7 @@ use crate::run::Stop;
 use bson::extjson::Form;
 use bson_convert::convert::convert_with;
 use bson_convert::converted::refuse;
+use bson_convert::error::Error;
 use bson_convert::fault::Fault;
 use bson_convert::mode::Mode;
 use bson_convert::stream::read_whole;
@@ -47,7 +48,7 @@ pub fn convert_whole<'a, R: Read, W: Write>(
     let bytes = match read_whole(alloc, reader) {
         Ok(bytes) => bytes,
         Err(Fault::CannotRead) => return Err(Stop::Input(name, None)),
-        Err(_) => return Err(Stop::Text(name, 0, Fault::OutOfMemory, String::new(alloc))),
+        Err(_) => return Err(Stop::Text(name, 0, Error::OutOfMemory, String::new(alloc))),
     };
     let text = strip_mark(mark, &bytes);
     let accepted = match accept(alloc, order, text) {
@@ -79,7 +80,7 @@ fn strip_mark<'a>(mark: &[u8], bytes: &'a [u8]) -> &'a [u8]
 }
 
 // What the text gives.
-fn accept(alloc: Global, order: &Order, bytes: &[u8]) -> Result<Accepted, Fault>
+fn accept(alloc: Global, order: &Order, bytes: &[u8]) -> Result<Accepted, Error>
     ensures ok { IfOk result (HasOutput order.now.options (Gives order.now order.now.task bytes.now)) }
     ensures fault { IfErr result (λ fault. IsUngiven order.now.options order.now.task fault bytes.now) }
 {
@@ -105,7 +106,7 @@ fn accept_modern(
     order: &Order,
     work: Work,
     modern: String,
-) -> Result<Accepted, Fault>
+) -> Result<Accepted, Error>
     ensures ok { IfOk result (HasOutput order.now.options (Works order.now work (string_bytes modern))) }
     ensures fault { IfErr result (λ fault. IsRefusedIn order.now.options fault (string_bytes modern)) }
 {
@@ -121,7 +122,7 @@ fn accept_modern(
 }
 
 // What a text gives that was taken.
-fn accept_taken(alloc: Global, order: &Order, work: Work, bytes: &[u8]) -> Result<Accepted, Fault>
+fn accept_taken(alloc: Global, order: &Order, work: Work, bytes: &[u8]) -> Result<Accepted, Error>
     ensures ok { IfOk result (HasOutput order.now.options (Works order.now work bytes.now)) }
     ensures fault { IfErr result (λ fault. IsRefusedIn order.now.options fault bytes.now) }
 {
@@ -133,7 +134,7 @@ fn accept_taken(alloc: Global, order: &Order, work: Work, bytes: &[u8]) -> Resul
 }
 
 // The output in the mode, over several lines where that is asked for.
-fn accept_text(alloc: Global, order: &Order, mode: Mode, bytes: &[u8]) -> Result<Accepted, Fault>
+fn accept_text(alloc: Global, order: &Order, mode: Mode, bytes: &[u8]) -> Result<Accepted, Error>
     ensures ok { IfOk result (HasOutput order.now.options (Lays order.now.options order.now.indent mode bytes.now)) }
     ensures fault { IfErr result (λ fault. IsRefusedIn order.now.options fault bytes.now) }
 {
@@ -152,7 +153,7 @@ fn accept_in_order(
     order: &Order,
     mode: Mode,
     bytes: &[u8],
-) -> Result<Accepted, Fault>
+) -> Result<Accepted, Error>
     ensures ok { IfOk result (HasOutput order.now.options (LaysInOrder order.now.options order.now.indent mode bytes.now)) }
     ensures fault { IfErr result (λ fault. IsRefusedIn order.now.options fault bytes.now) }
 {
@@ -166,7 +167,7 @@ fn accept_in_order(
 }
 
 // Nothing, of a text that means a value.
-fn check(alloc: Global, order: &Order, bytes: &[u8]) -> Result<Accepted, Fault>
+fn check(alloc: Global, order: &Order, bytes: &[u8]) -> Result<Accepted, Error>
     ensures ok { IfOk result (HasOutput order.now.options (Checks order.now.options bytes.now)) }
     ensures fault { IfErr result (λ fault. IsRefusedIn order.now.options fault bytes.now) }
 {
@@ -189,23 +190,23 @@ fn layout(order: &Order, mode: Mode) -> Option<(Form, usize)>
 }
 
 // At which line the text was refused, why, and where.
-fn refusal_of(alloc: Global, fault: Fault, text: &[u8]) -> (u64, Fault, String)
-    ensures fault { (result.1 ≡ fault) ⊎ (result.1 ≡ Fault.OutOfMemory) }
+fn refusal_of(alloc: Global, fault: Error, text: &[u8]) -> (u64, Error, String)
+    ensures fault { (result.1 ≡ fault) ⊎ (result.1 ≡ Error.OutOfMemory) }
     ensures place { IsWhere text.now result.1 (string_bytes result.2) }
-    ensures line { (result.1 ≡ Fault.NotJson) ⊎ (result.0 ≡ 0) }
+    ensures line { (result.1 ≡ Error.NotJson) ⊎ (result.0 ≡ 0) }
 {
     match place_of(alloc, &fault, text) {
         Ok((line, place)) => (line, fault, place),
-        Err(_) => (0, Fault::OutOfMemory, String::new(alloc)),
+        Err(_) => (0, Error::OutOfMemory, String::new(alloc)),
     }
 }
 
-fn place_of(alloc: Global, fault: &Fault, text: &[u8]) -> Result<(u64, String), AllocError>
-    ensures line { IfOk result (λ at. (fault.now ≡ Fault.NotJson) ⊎ (at.0 ≡ 0)) }
+fn place_of(alloc: Global, fault: &Error, text: &[u8]) -> Result<(u64, String), AllocError>
+    ensures line { IfOk result (λ at. (fault.now ≡ Error.NotJson) ⊎ (at.0 ≡ 0)) }
     ensures place { IfOk result (λ at. IsWhere text.now fault.now (string_bytes at.1)) }
 {
     let line = match fault {
-        Fault::NotJson => stop::Stop::of(alloc, text)?.line(text) as u64,
+        Error::NotJson => stop::Stop::of(alloc, text)?.line(text) as u64,
         _ => 0,
     };
     Ok((line, explain(alloc, fault, text)?))

@@ -10,7 +10,7 @@ use Rattle.bson.specs.WriteError.TheVariants as write_errors
 use Rattle.bson.specs.WrittenInOrder.{WrittenInOrder}
 use Rattle.bson_codec.specs.Canonical.{NestsPairs}
 use Rattle.bson_codec.specs.declared.de.Error.TheVariants as read_errors
-use Rattle.bson_convert.specs.declared.fault.Fault.TheVariants as faults
+use Rattle.bson_convert.specs.declared.error.Error.TheVariants as errors
 use Rattle.bson_pairs.specs.declared.again.NotAgain.{NotAgain}
 use Rattle.bson_pairs.specs.declared.again.NotAgain.TheVariants.{NoBytes, NoDocument, NoText}
 
@@ -26,6 +26,6 @@ Nests depth ps = (d : ℕ) × (depth ≡ suc d) × NestsPairs ps d
 
 -- a request for memory was refused
 abbrev pub IsWant : NotAgain → Type 0
-IsWant (NoBytes fault) = fault ≡ faults.OutOfMemory
+IsWant (NoBytes e) = e ≡ errors.OutOfMemory
 IsWant (NoDocument e) = e ≡ read_errors.OutOfMemory
 IsWant (NoText e) = e ≡ write_errors.OutOfMemory

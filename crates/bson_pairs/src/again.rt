@@ -12,7 +12,7 @@ ghost use Rattle.bson_pairs.specs.Again.{ComesBack, IsWant, Nests};
 use bson::Bson;
 use bson::extjson::{Doubles, Form, Options, WriteError};
 use bson_codec::{de, from_slice};
-use bson_convert::fault::Fault;
+use bson_convert::error::Error;
 use bson_run::encode::encode_in_order;
 use std::alloc::Global;
 
@@ -20,7 +20,7 @@ use std::alloc::Global;
 #[derive(Debug, Drop)]
 pub enum NotAgain {
     /// The text gives no bytes.
-    NoBytes(Fault),
+    NoBytes(Error),
     /// The bytes are no document.
     NoDocument(de::Error),
     /// The document gives no text.

@@ -114,15 +114,3 @@ HasValueIn D t = (v : Value) × (reads_in D t ≡ Ok v)
 
 abbrev pub FaultAt : Fault → Data → List PathSegment → Type 0
 FaultAt = FaultAtIn Special
-
-abbrev pub FaultAmong : Fault → ℕ → Items → List PathSegment → Type 0
-FaultAmong = FaultAmongIn Special
-
-abbrev pub FaultIn : Fault → Members → List PathSegment → Type 0
-FaultIn = FaultWithinIn Special
-
-abbrev pub IsFirstFault : Data → Place → Type 0
-IsFirstFault = IsFirstFaultIn Special
-
-abbrev pub HasValue : Data → Type 0
-HasValue = HasValueIn Special

@@ -9,7 +9,7 @@ use std::alloc::{AllocError, Global};
 ///
 /// ```
 /// let tree = Value::from_slice(alloc, br#"{"orders": [1.5]}"#)?;
-/// if let Some(place) = place_of_fault(alloc, &tree)? {
+/// if let Some(place) = first_place(alloc, Doubles::Special, tree)? {
 ///     println!(rt; "{:?}", place.segments)?; // [Element(0), Key("orders")]
 /// }
 /// ```
@@ -25,7 +25,7 @@ pub enum Segment {
 ///
 /// ```
 /// let tree = Value::from_slice(alloc, br#"{"$oid": "53e3"}"#)?;
-/// if let Some(place) = place_of_fault(alloc, &tree)? {
+/// if let Some(place) = first_place(alloc, Doubles::Special, tree)? {
 ///     println!(rt; "{}", place.reason)?; // an object id has 24 digits, but "53e3" has 4
 /// }
 /// ```
@@ -45,7 +45,7 @@ pub enum Reason {
 ///
 /// ```
 /// let tree = Value::from_slice(alloc, br#"{"orders": [{"price": 1.5}]}"#)?;
-/// if let Some(place) = place_of_fault(alloc, &tree)? {
+/// if let Some(place) = first_place(alloc, Doubles::Special, tree)? {
 ///     println!(rt; "{}", place.path(alloc)?)?; // orders.0.price
 /// }
 /// ```

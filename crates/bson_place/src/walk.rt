@@ -9,8 +9,8 @@ ghost use Rattle.bson_scalar.specs.Faults.{Fault, Fails, wrong_shape};
 ghost use Rattle.bson_scalar.specs.Scalar as kind;
 ghost use Rattle.bson_model.specs.Reading.{reads_in, reads_items_in, reads_members_in};
 ghost use Rattle.bson_place.specs.Built.{Builds};
-ghost use Rattle.bson_place.specs.Place.{FaultAtIn, FaultAmongIn, FaultWithinIn, HasValue, HasValueIn};
-ghost use Rattle.bson_place.specs.Place.{IsFirstFault, IsFirstFaultIn, IsReason, key as key_segment};
+ghost use Rattle.bson_place.specs.Place.{FaultAtIn, FaultAmongIn, FaultWithinIn, HasValueIn};
+ghost use Rattle.bson_place.specs.Place.{IsFirstFaultIn, IsReason, key as key_segment};
 ghost use Rattle.bson_place.specs.Place.{segment_of, path_of};
 
 use crate::builder::{Nothing, ValueBuilder};
@@ -26,33 +26,14 @@ use bson_scalar::wrapper::Wrapper;
 use serde_json::{Map, Number, Value};
 use std::alloc::{AllocError, Global};
 
-/// The first fault of the tree and the path to it, or nothing where the tree has a meaning in
+/// Returns the first fault of the tree and the path to it, or `None` if the tree has a meaning in
 /// MongoDB Extended JSON v2.
 ///
-/// Faults are met in the order of reading: of an array's elements in their order, of a document's
-/// values by ascending key. The path ends at a number that is no i64, at the key of a wrapper whose
-/// value is wrong, or at an object that has a wrapper key and the shape of no wrapper. The only
-/// error is out of memory. A copy of the tree is read.
-pub fn place_of_fault(alloc: Global, tree: &Value) -> Result<Option<Place>, AllocError>
-    ensures { IfOk result (λ found. MatchOption found (HasValue (view tree.now)) (IsFirstFault (view tree.now))) }
-{
-    place_of_fault_in(alloc, Doubles::Special, tree)
-}
-
-/// The first fault of the tree, as `place_of_fault` finds it, in either mode of doubles: where
-/// finite ones are read, a number is at fault only where its nearest double is not finite.
-pub fn place_of_fault_in(
-    alloc: Global,
-    doubles: Doubles,
-    tree: &Value,
-) -> Result<Option<Place>, AllocError>
-    ensures { IfOk result
-        (λ found. MatchOption found (HasValueIn doubles (view tree.now)) (IsFirstFaultIn doubles (view tree.now))) }
-{
-    first_place(alloc, doubles, tree.clone()?)
-}
-
-/// The first fault of a tree that is let go as it is read, as `place_of_fault_in` finds it.
+/// Faults are found in the order of reading: of an array's elements in their order, of a document's
+/// values in ascending key order. The path ends at a number that is not a 64-bit integer, at the key
+/// of a wrapper whose value is wrong, or at an object that has a wrapper key and the shape of no
+/// wrapper. With `Doubles::Finite` a number is a fault only if its nearest double is not finite. The
+/// only error is out of memory.
 pub fn first_place(
     alloc: Global,
     doubles: Doubles,
@@ -70,7 +51,7 @@ pub fn first_place(
 /// What the builder makes of the value that the tree means, or the tree's first fault and the path
 /// to it.
 ///
-/// The order of faults is that of `place_of_fault`. The only other error is out of memory.
+/// The order of faults is that of `first_place`. The only other error is out of memory.
 pub fn read_tree<B: ValueBuilder>(
     alloc: Global,
     doubles: Doubles,

@@ -17,7 +17,7 @@ use Rattle.bson_pack.specs.Packed.{IsPackedText}
 use Rattle.bson_convert.specs.Convert.{IsRefusedIn}
 use Rattle.bson_run.specs.Encode.{EncodesIn, EncodesInOrder, FailsAlone, FailsFor, IsBytesOf}
 use Rattle.bson_run.specs.Encode.{IsUnencodedFor, IsUnencodedIn, IsUnencodedInOrder, MeansKept}
-use Rattle.bson_run.specs.LinesSteps.{Options, Fault, CannotRead, NotJson, NotExtendedJson, NoBytes, OutOfMemory}
+use Rattle.bson_run.specs.LinesSteps.{Options, Error, CannotRead, NotJson, NotExtendedJson, NoBytes, OutOfMemory}
 use Rattle.bson_run.specs.LinesSteps.{CannotWrite}
 use Rattle.bson_convert.specs.declared.no_bytes.NoBytes.TheVariants.{NoDocument, ZeroInKey, ZeroInRegex, TooLong}
 
@@ -31,7 +31,7 @@ same_pairs : {ps qs : Pairs} → document ps ≡ document qs → ps ≡ qs
 same_pairs h = cc
 
 -- why a document that fails has no bytes
-pub fails_for : (fault : Fault) (value : Value) (ps : Pairs) → value ≡ document ps → FailsAlone fault ps
+pub fails_for : (fault : Error) (value : Value) (ps : Pairs) → value ≡ document ps → FailsAlone fault ps
     → IsUnencodedFor (λ v. v ≡ value) fault
 fails_for CannotRead value ps is h = h
 fails_for NotJson value ps is h = h
@@ -62,7 +62,7 @@ module _ (P : Value → Type 0) (value : Value) (h : P value) where
   fails_by : (cause : Cause) → FailsFor (λ v. v ≡ value) cause → FailsFor P cause
   fails_by cause f = record { pairs = f.pairs; meaning = by_value (document f.pairs) f.meaning; fails = f.fails }
 
-  unencoded_by : (fault : Fault) → IsUnencodedFor (λ v. v ≡ value) fault → IsUnencodedFor P fault
+  unencoded_by : (fault : Error) → IsUnencodedFor (λ v. v ≡ value) fault → IsUnencodedFor P fault
   unencoded_by CannotRead f = f
   unencoded_by NotJson f = f
   unencoded_by (NotExtendedJson place) f = f
@@ -131,7 +131,7 @@ module _ (o : Options) (text : List ℕ) where
 
   -- ---- what gives no bytes
 
-  told : (fault : Fault) → IsUnencodedFor (HasTextMeaningIn o.doubles text) fault → IsUnencodedIn o fault text
+  told : (fault : Error) → IsUnencodedFor (HasTextMeaningIn o.doubles text) fault → IsUnencodedIn o fault text
   told CannotRead f = f
   told NotJson f = absurd f
   told (NotExtendedJson place) f = absurd f
@@ -139,7 +139,7 @@ module _ (o : Options) (text : List ℕ) where
   told OutOfMemory f = tt
   told CannotWrite f = f
 
-  told_kept : (fault : Fault) → IsUnencodedFor (MeansKept o text) fault → IsUnencodedInOrder o fault text
+  told_kept : (fault : Error) → IsUnencodedFor (MeansKept o text) fault → IsUnencodedInOrder o fault text
   told_kept CannotRead f = f
   told_kept NotJson f = absurd f
   told_kept (NotExtendedJson place) f = absurd f
@@ -147,16 +147,16 @@ module _ (o : Options) (text : List ℕ) where
   told_kept OutOfMemory f = tt
   told_kept CannotWrite f = f
 
-  pub unencoded : (value : Value) (fault : Fault) → HasTextMeaningIn o.doubles text value
+  pub unencoded : (value : Value) (fault : Error) → HasTextMeaningIn o.doubles text value
       → IsUnencodedFor (λ v. v ≡ value) fault → IsUnencodedIn o fault text
   unencoded value fault h f = told fault (unencoded_by (HasTextMeaningIn o.doubles text) value h fault f)
 
-  pub unencoded_kept : (value : Value) (fault : Fault) → MeansKept o text value
+  pub unencoded_kept : (value : Value) (fault : Error) → MeansKept o text value
       → IsUnencodedFor (λ v. v ≡ value) fault → IsUnencodedInOrder o fault text
   unencoded_kept value fault h f = told_kept fault (unencoded_by (MeansKept o text) value h fault f)
 
   -- a text that means nothing
-  pub unread : (fault : Fault) → IsRefusedIn o fault text → IsUnencodedIn o fault text
+  pub unread : (fault : Error) → IsRefusedIn o fault text → IsUnencodedIn o fault text
   unread CannotRead f = f
   unread NotJson f = f
   unread (NotExtendedJson place) f = f
@@ -164,7 +164,7 @@ module _ (o : Options) (text : List ℕ) where
   unread OutOfMemory f = f
   unread CannotWrite f = f
 
-  pub unread_kept : (fault : Fault) → IsRefusedIn o fault text → IsUnencodedInOrder o fault text
+  pub unread_kept : (fault : Error) → IsRefusedIn o fault text → IsUnencodedInOrder o fault text
   unread_kept CannotRead f = f
   unread_kept NotJson f = f
   unread_kept (NotExtendedJson place) f = f

@@ -9,7 +9,7 @@ use Rattle.bson_run.specs.Lines.{lines, onto_first, text_held, text_of, Tells, I
 use Rattle.bson_run.specs.Lines.{blank, written, passed_over, IsStoppedIn, IsStoppedAtIn}
 use Rattle.bson_run.specs.LinesSteps.{Options, IsOpen, IsJudged, IsTold, HaveSameOutcomes, TakesLine}
 use Rattle.bson_run.specs.LinesSteps.{Progress, Takes, Ends, Reached, Stopped, StopsWithin, StopsLast}
-use Rattle.bson_run.specs.LinesSteps.{Fault, CannotRead, NotJson, NotExtendedJson, NoBytes, OutOfMemory}
+use Rattle.bson_run.specs.LinesSteps.{Error, CannotRead, NotJson, NotExtendedJson, NoBytes, OutOfMemory}
 use Rattle.bson_run.specs.LinesSteps.{CannotWrite, Gathered, OnRefusal, Task}
 use Rattle.bson_run.specs.declared.order.OnRefusal.TheVariants.{Stop}
 
@@ -33,7 +33,7 @@ lines_last (x ∷ y ∷ xs) h some =
 pub open_nil : IsOpen []
 open_nil k d h = absurd (omega arith)
 
-pub judged_bad : (o : Options) (task : Task) (fault : Fault) (text : List ℕ) → IsJudged o task fault text
+pub judged_bad : (o : Options) (task : Task) (fault : Error) (text : List ℕ) → IsJudged o task fault text
     → fault ≢ OutOfMemory → IsBadLineIn o task fault text
 judged_bad o task CannotRead text h other = h
 judged_bad o task NotJson text h other = h
@@ -42,7 +42,7 @@ judged_bad o task (NoBytes why) text h other = h
 judged_bad o task OutOfMemory text h other = absurd (other refl)
 judged_bad o task CannotWrite text h other = h
 
-stopped_at : (o : Options) (task : Task) (on_refusal : OnRefusal) (fault : Fault) (held : List ℕ) (n : ℕ) (line : List ℕ)
+stopped_at : (o : Options) (task : Task) (on_refusal : OnRefusal) (fault : Error) (held : List ℕ) (n : ℕ) (line : List ℕ)
     (others : List (List ℕ)) → held ≡ text_of n line → IsStoppedIn o task on_refusal fault held
     → IsStoppedAtIn o task on_refusal fault held n (line ∷ others)
 stopped_at o task on_refusal CannotRead held n line others is h = h
@@ -53,13 +53,13 @@ stopped_at o task on_refusal OutOfMemory held n line others is h = h
 stopped_at o task on_refusal CannotWrite held n line others is h = h
 
 -- a refused text stops the run, where refusals do
-pub refused_stops : (o : Options) (task : Task) (on_refusal : OnRefusal) (fault e : Fault) (text : List ℕ) → IsJudged o task fault text
+pub refused_stops : (o : Options) (task : Task) (on_refusal : OnRefusal) (fault e : Error) (text : List ℕ) → IsJudged o task fault text
     → (e ≡ OutOfMemory) ⊎ ((on_refusal ≡ Stop) × (e ≡ fault)) → IsStoppedIn o task on_refusal e text
 refused_stops o task on_refusal fault e text h (inl is) = subst (λ f. IsStoppedIn o task on_refusal f text) (sym is) tt
 refused_stops o task on_refusal fault e text h (inr p) =
     subst (λ f. IsStoppedIn o task on_refusal f text) (sym p.1) (of_fault fault h)
   where
-    of_fault : (f : Fault) → IsJudged o task f text → IsStoppedIn o task on_refusal f text
+    of_fault : (f : Error) → IsJudged o task f text → IsStoppedIn o task on_refusal f text
     of_fault CannotRead h = tt
     of_fault NotJson h = (p.0, h)
     of_fault (NotExtendedJson place) h = (p.0, h)
@@ -71,7 +71,7 @@ lines_none : (line : List ℕ) → length line ≡ 0 → lines line ≡ []
 lines_none [] none = refl
 lines_none (x ∷ xs) none = absurd (omega arith)
 
-by_memory : (o : Options) (task : Task) (on_refusal : OnRefusal) (fault : Fault) (held : List ℕ) (n : ℕ)
+by_memory : (o : Options) (task : Task) (on_refusal : OnRefusal) (fault : Error) (held : List ℕ) (n : ℕ)
     (others : List (List ℕ)) → fault ≡ OutOfMemory → IsStoppedAtIn o task on_refusal fault held n others
 by_memory o task on_refusal fault held n others e =
     subst (λ f. IsStoppedAtIn o task on_refusal f held n others) (sym e) tt
@@ -141,7 +141,7 @@ module _ {o : Options} {task : Task} {on_refusal : OnRefusal} where
         (written s.line.items more p (subst (λ n. WritesIn o task (text_of n s.line.items) more) e h));
   }
 
-  pub told_taken : (s t : Gathered) (fault : Fault) → t.line.items ≡ [] → t.lines ≡ s.lines + 1
+  pub told_taken : (s t : Gathered) (fault : Error) → t.line.items ≡ [] → t.lines ≡ s.lines + 1
       → t.output.items ≡ s.output.items → t.refused ≡ s.refused + 1 → on_refusal ≢ Stop
       → IsBadLineIn o task fault (text_of s.lines s.line.items)
       → IsTold o task (s.lines + 1) fault (text_of s.lines s.line.items) s.told.items t.told.items
@@ -207,13 +207,13 @@ module _ {o : Options} {task : Task} {on_refusal : OnRefusal} where
     outcomes = rw (same.output, same.told, same.refused) p.outcomes;
   }
 
-  pub stops_after : (xs ys : List ℕ) (fault : Fault) (s t u : Gathered) → Takes o task on_refusal xs s t
+  pub stops_after : (xs ys : List ℕ) (fault : Error) (s t u : Gathered) → Takes o task on_refusal xs s t
       → StopsWithin o task on_refusal ys fault t u → StopsWithin o task on_refusal (xs ++ ys) fault s u
   stops_after xs ys fault s t u f g before output told more p =
       subst (λ l. Stopped o task on_refusal (l ++ more) output told fault u) (append_assoc before xs ys)
       (g (before ++ xs) output told more (f before output told p))
 
-  pub memory_stops : (bytes : List ℕ) (fault : Fault) (s t : Gathered) → fault ≡ OutOfMemory → HaveSameOutcomes s t
+  pub memory_stops : (bytes : List ℕ) (fault : Error) (s t : Gathered) → fault ≡ OutOfMemory → HaveSameOutcomes s t
       → StopsWithin o task on_refusal bytes fault s t
   memory_stops bytes fault s t e same before output told more p = record {
     reached = record {
@@ -226,7 +226,7 @@ module _ {o : Options} {task : Task} {on_refusal : OnRefusal} where
     reason = by_memory o task on_refusal fault (text_held t) (length p.done) (lines (s.line.items ++ (bytes ++ more))) e;
   }
 
-  pub line_stops : (bytes : List ℕ) (fault : Fault) (s t : Gathered)
+  pub line_stops : (bytes : List ℕ) (fault : Error) (s t : Gathered)
       → IsStoppedIn o task on_refusal fault (text_held s) → HaveSameOutcomes s t → t.line ≡ s.line
       → StopsWithin o task on_refusal (10 ∷ bytes) fault s t
   line_stops bytes fault s t h same held before output told more p = record {
@@ -275,7 +275,7 @@ module _ {o : Options} {task : Task} {on_refusal : OnRefusal} where
             (sym all) (taken.outcomes p.done output told p.counted p.outcomes);
       }
 
-  pub last_stops : (fault : Fault) (s t : Gathered) → 0 < length s.line.items
+  pub last_stops : (fault : Error) (s t : Gathered) → 0 < length s.line.items
       → IsStoppedIn o task on_refusal fault (text_held s) → HaveSameOutcomes s t → t.line ≡ s.line
       → StopsLast o task on_refusal fault s t
   last_stops fault s t some h same held before output told p = record {
@@ -299,7 +299,7 @@ module _ {o : Options} {task : Task} {on_refusal : OnRefusal} where
   line_taken front s t u h e same taken =
       take_more front (10 ∷ []) s t u (piece_taken front s t h e same) (newline_taken t u taken)
 
-  pub line_stops_in : (rest : List ℕ) (n : ℕ) (fault : Fault) (s t u : Gathered) → n < length rest
+  pub line_stops_in : (rest : List ℕ) (n : ℕ) (fault : Error) (s t u : Gathered) → n < length rest
       → IsOpen (take n rest) → get_or rest n 0 ≡ 10
       → t.line.items ≡ s.line.items ++ take n rest → HaveSameOutcomes s t
       → IsStoppedIn o task on_refusal fault (text_held t) → HaveSameOutcomes t u → u.line ≡ t.line
@@ -309,7 +309,7 @@ module _ {o : Options} {task : Task} {on_refusal : OnRefusal} where
       (stops_after (take n rest) (10 ∷ drop (n + 1) rest) fault s t u (piece_taken (take n rest) s t h e same)
       (line_stops (drop (n + 1) rest) fault t u stops kept held))
 
-  pub whole_stops : (bytes taken rest : List ℕ) (fault : Fault) (s t u : Gathered) → bytes ≡ taken ++ rest
+  pub whole_stops : (bytes taken rest : List ℕ) (fault : Error) (s t u : Gathered) → bytes ≡ taken ++ rest
       → Takes o task on_refusal taken s t → StopsWithin o task on_refusal rest fault t u
       → StopsWithin o task on_refusal bytes fault s u
   whole_stops bytes taken rest fault s t u e f g =

@@ -9,7 +9,7 @@ use Rattle.bson_run.specs.Lines.{CutShortAtIn, CutsShort}
 use Rattle.bson_run.specs.LinesSteps.{Options, CannotWriteBoth, IsOpen, IsStart, HasWritten, HaveSameOutcomes}
 use Rattle.bson_run.specs.LinesSteps.{Progress, Takes, Ends, Reached, Stopped, StopsWithin, StopsLast, Running, Complete}
 use Rattle.bson_convert.specs.Run.{WritesBeginning, WritesPart}
-use Rattle.bson_run.specs.LinesSteps.{Fault, CannotRead, NotJson, NotExtendedJson, NoBytes, OutOfMemory}
+use Rattle.bson_run.specs.LinesSteps.{Error, CannotRead, NotJson, NotExtendedJson, NoBytes, OutOfMemory}
 use Rattle.bson_run.specs.LinesSteps.{CannotWrite, Gathered, OnRefusal, Task}
 use Rattle.bson_run.proofs.LinesLaws.{open_nil, reached}
 
@@ -74,7 +74,7 @@ module _ {o : Options} {task : Task} {on_refusal : OnRefusal} where
     outcomes = all.outcomes;
   }
 
-  stops : (fault : Fault) (before after had holds told tells : Option (List ℕ)) (bytes output verdicts : List ℕ)
+  stops : (fault : Error) (before after had holds told tells : Option (List ℕ)) (bytes output verdicts : List ℕ)
       (s u : Gathered) → u.lines ≡ s.lines → text_held u ≡ text_held s → Consumes before after bytes
       → Stopped o task on_refusal (bytes ++ left_of after) output verdicts fault s
       → Appends had holds (output ++ s.output.items) → Appends told tells (verdicts ++ s.told.items)
@@ -101,7 +101,7 @@ module _ {o : Options} {task : Task} {on_refusal : OnRefusal} where
         written = (written, reported);
       }
 
-  fails : (fault : Fault) (before after had holds told tells : Option (List ℕ)) (bytes output verdicts : List ℕ)
+  fails : (fault : Error) (before after had holds told tells : Option (List ℕ)) (bytes output verdicts : List ℕ)
       (s u : Gathered) → u.lines ≡ s.lines → text_held u ≡ text_held s → Consumes before after bytes
       → Stopped o task on_refusal (bytes ++ left_of after) output verdicts fault s
       → Appends had holds (output ++ s.output.items) → Appends told tells (verdicts ++ s.told.items)
@@ -115,7 +115,7 @@ module _ {o : Options} {task : Task} {on_refusal : OnRefusal} where
       λ before after had holds told tells bytes output verdicts s u count held given stopped written reported.
       absurd stopped.reason
 
-  cuts : (fault : Fault) (before after had mid holds told said tells : Option (List ℕ))
+  cuts : (fault : Error) (before after had mid holds told said tells : Option (List ℕ))
       (bytes output verdicts : List ℕ) (s u : Gathered) → fault ≡ CannotWrite → u.lines ≡ s.lines
       → Consumes before after bytes → Reached o task on_refusal (bytes ++ left_of after) output verdicts s
       → Appends had mid output → Appends told said verdicts
@@ -228,7 +228,7 @@ module _ {o : Options} {task : Task} {on_refusal : OnRefusal} where
     progress = flushed (p.bytes ++ block) p.output p.verdicts t u w (takes p.bytes p.output p.verdicts p.progress);
   }
 
-  pub block_fails : (fault : Fault) (block : List ℕ) (s t u : Gathered)
+  pub block_fails : (fault : Error) (block : List ℕ) (s t u : Gathered)
       (before given after had mid holds told said tells : Option (List ℕ))
       → StopsWithin o task on_refusal block fault s t
       → HasWritten t u → Appends mid holds t.output.items → Appends said tells t.told.items
@@ -241,7 +241,7 @@ module _ {o : Options} {task : Task} {on_refusal : OnRefusal} where
       (Appends-trans had mid holds p.output t.output.items p.written written)
       (Appends-trans told said tells p.verdicts t.told.items p.reported reported)
 
-  pub block_cut : {X : Type 0} (r : Result X Fault) (e : Fault) (block : List ℕ) (s t u : Gathered)
+  pub block_cut : {X : Type 0} (r : Result X Error) (e : Error) (block : List ℕ) (s t u : Gathered)
       → OnOk r (Takes o task on_refusal block s t) → IfErr r (λ e. StopsWithin o task on_refusal block e s t)
       → e ≡ CannotWrite → u.lines ≡ t.lines
       → (before given after had mid holds told said tells : Option (List ℕ))
@@ -273,7 +273,7 @@ module _ {o : Options} {task : Task} {on_refusal : OnRefusal} where
         reported = Appends-trans told said tells p.verdicts t.told.items p.reported reported;
       }
 
-  pub end_fails : (fault : Fault) (s t u : Gathered)
+  pub end_fails : (fault : Error) (s t u : Gathered)
       (before after had mid holds told said tells : Option (List ℕ)) → StopsLast o task on_refusal fault s t
       → HasWritten t u → Appends mid holds t.output.items → Appends said tells t.told.items
       → Running o task on_refusal before after had mid told said s → IsAtEnd after
@@ -285,7 +285,7 @@ module _ {o : Options} {task : Task} {on_refusal : OnRefusal} where
       (Appends-trans had mid holds p.output t.output.items p.written written)
       (Appends-trans told said tells p.verdicts t.told.items p.reported reported)
 
-  pub end_cut : {X : Type 0} (r : Result X Fault) (e : Fault) (s t u : Gathered)
+  pub end_cut : {X : Type 0} (r : Result X Error) (e : Error) (s t u : Gathered)
       → OnOk r (Ends o task on_refusal s t) → IfErr r (λ e. StopsLast o task on_refusal e s t)
       → e ≡ CannotWrite → u.lines ≡ t.lines
       → (before after had mid holds told said tells : Option (List ℕ))

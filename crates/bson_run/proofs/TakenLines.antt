@@ -3,7 +3,7 @@ use Rattle.std.proofs.Common.{ℕ, List, inl}
 use Rattle.bson_convert.specs.Convert.{IsRefusedIn}
 use Rattle.bson_run.specs.Lines.{IsBlank}
 use Rattle.bson_run.specs.LinesSteps.{Options, IsJudged}
-use Rattle.bson_run.specs.LinesSteps.{Fault, CannotRead, NotJson, NotExtendedJson, NoBytes, OutOfMemory}
+use Rattle.bson_run.specs.LinesSteps.{Error, CannotRead, NotJson, NotExtendedJson, NoBytes, OutOfMemory}
 use Rattle.bson_run.specs.LinesSteps.{CannotWrite}
 use Rattle.bson_run.specs.Taken.{IsTakenAs}
 use Rattle.bson_run.specs.declared.order.Taking.{Taking}
@@ -11,7 +11,7 @@ use Rattle.bson_run.specs.declared.order.Task.TheVariants.{Taken}
 use Rattle.bson_run.specs.declared.order.Work.{Work}
 
 -- what is read in the place of a text that is not blank is refused
-pub refused_once_taken : (o : Options) (taking : Taking) (work : Work) (fault : Fault) (text taken : List ℕ)
+pub refused_once_taken : (o : Options) (taking : Taking) (work : Work) (fault : Error) (text taken : List ℕ)
     → IsTakenAs taking text taken → ¬ IsBlank text → IsRefusedIn o fault taken
     → IsJudged o (Taken taking work) fault text
 refused_once_taken o taking work CannotRead text taken is some h = h

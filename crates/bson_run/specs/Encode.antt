@@ -11,8 +11,8 @@ use Rattle.bson_order.specs.Texts.{HasMeaningInOrder}
 use Rattle.bson_convert.specs.Convert.{IsRefusedIn}
 use Rattle.bson_convert.specs.declared.no_bytes.NoBytes.{NoBytes}
 use Rattle.bson_convert.specs.declared.no_bytes.NoBytes.TheVariants.{NoDocument, ZeroInKey, ZeroInRegex, TooLong}
-use Rattle.bson_convert.specs.declared.fault.Fault.{Fault}
-use Rattle.bson_convert.specs.declared.fault.Fault.TheVariants as fault
+use Rattle.bson_convert.specs.declared.error.Error.{Error}
+use Rattle.bson_convert.specs.declared.error.Error.TheVariants as error
 
 -- ---- what is meant has bytes, or has none
 
@@ -62,26 +62,26 @@ abbrev pub HasNoBytesInOrder : Options → NoBytes → List ℕ → Type 0
 HasNoBytesInOrder o why text = HasNoBytesFor (MeansKept o text) why
 
 -- what each fault says of the bytes
-abbrev pub IsUnencodedIn : Options → Fault → List ℕ → Type 0
-IsUnencodedIn o (fault.NoBytes why) text = HasNoBytesIn o why text
+abbrev pub IsUnencodedIn : Options → Error → List ℕ → Type 0
+IsUnencodedIn o (error.NoBytes why) text = HasNoBytesIn o why text
 IsUnencodedIn o it text = IsRefusedIn o it text
 
-abbrev pub IsUnencodedInOrder : Options → Fault → List ℕ → Type 0
-IsUnencodedInOrder o (fault.NoBytes why) text = HasNoBytesInOrder o why text
+abbrev pub IsUnencodedInOrder : Options → Error → List ℕ → Type 0
+IsUnencodedInOrder o (error.NoBytes why) text = HasNoBytesInOrder o why text
 IsUnencodedInOrder o it text = IsRefusedIn o it text
 
 -- ---- for private clauses
 
 -- why what is meant gave no bytes, or memory ran out
-abbrev pub IsUnencodedFor : (means : Value → Type 0) → Fault → Type 0
-IsUnencodedFor means (fault.NoBytes why) = HasNoBytesFor means why
-IsUnencodedFor means fault.OutOfMemory = Unit {0}
+abbrev pub IsUnencodedFor : (means : Value → Type 0) → Error → Type 0
+IsUnencodedFor means (error.NoBytes why) = HasNoBytesFor means why
+IsUnencodedFor means error.OutOfMemory = Unit {0}
 IsUnencodedFor means other = ⊥
 
 -- the document fails for the cause, or memory ran out
-abbrev pub FailsAlone : Fault → Pairs → Type 0
-FailsAlone (fault.NoBytes ZeroInKey) ps = DocumentFails zero_in_key ps
-FailsAlone (fault.NoBytes ZeroInRegex) ps = DocumentFails zero_in_regex ps
-FailsAlone (fault.NoBytes TooLong) ps = DocumentFails too_long ps
-FailsAlone fault.OutOfMemory ps = Unit {0}
+abbrev pub FailsAlone : Error → Pairs → Type 0
+FailsAlone (error.NoBytes ZeroInKey) ps = DocumentFails zero_in_key ps
+FailsAlone (error.NoBytes ZeroInRegex) ps = DocumentFails zero_in_regex ps
+FailsAlone (error.NoBytes TooLong) ps = DocumentFails too_long ps
+FailsAlone error.OutOfMemory ps = Unit {0}
 FailsAlone other ps = ⊥

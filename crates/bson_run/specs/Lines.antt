@@ -12,9 +12,9 @@ use Rattle.bson_run.specs.Place.{IsWhere}
 use Rattle.bson_convert.specs.Run.{WritesBeginning, WritesPart}
 use Rattle.bson_convert.specs.Run.{ReadsAll}
 use Rattle.bson_convert.specs.Words.{words_of}
-use Rattle.bson_convert.specs.declared.fault.Fault.{Fault}
-use Rattle.bson_convert.specs.declared.fault.Fault.TheVariants.{CannotRead, NotJson, NotExtendedJson, NoBytes, OutOfMemory}
-use Rattle.bson_convert.specs.declared.fault.Fault.TheVariants.{CannotWrite}
+use Rattle.bson_convert.specs.declared.error.Error.{Error}
+use Rattle.bson_convert.specs.declared.error.Error.TheVariants.{CannotRead, NotJson, NotExtendedJson, NoBytes, OutOfMemory}
+use Rattle.bson_convert.specs.declared.error.Error.TheVariants.{CannotWrite}
 use Rattle.bson_convert.specs.declared.mode.Mode.TheVariants.{Canonical}
 use Rattle.bson_convert.specs.declared.no_bytes.NoBytes as without
 use Rattle.bson_run.specs.declared.gathered.Gathered.{Gathered}
@@ -73,7 +73,7 @@ WritesIn o (Taken taking work) text output =
     (taken : List ℕ) × IsTakenAs taking text taken × WorksIn o work taken output
 
 -- the text has no meaning for the fault; one that is blank is not refused
-abbrev pub IsBadTextIn : Options → Fault → List ℕ → Type 0
+abbrev pub IsBadTextIn : Options → Error → List ℕ → Type 0
 IsBadTextIn o NotJson text = IsRefusedIn o NotJson text × (IsBlank text → ⊥)
 IsBadTextIn o (NotExtendedJson place) text = IsRefusedIn o (NotExtendedJson place) text
 IsBadTextIn o other text = ⊥
@@ -98,18 +98,18 @@ IsMeaninglessIn o (Taken taking work) place text =
 IsMeaninglessIn o task place text = IsBadTextIn o (NotExtendedJson place) text
 
 -- nothing is written of the text, for the fault
-abbrev pub IsBadLineIn : Options → Task → Fault → List ℕ → Type 0
+abbrev pub IsBadLineIn : Options → Task → Error → List ℕ → Type 0
 IsBadLineIn o task NotJson text = IsUnreadIn o task text
 IsBadLineIn o task (NotExtendedJson place) text = IsMeaninglessIn o task place text
 IsBadLineIn o task (NoBytes why) text = IsWithoutBytes o task why text
 IsBadLineIn o task other text = ⊥
 
 -- what is told of a refused line: its number, the fault and its place
-abbrev pub told_at : ℕ → Fault → List ℕ → List ℕ
+abbrev pub told_at : ℕ → Error → List ℕ → List ℕ
 told_at number fault place =
     codes "bson_lines: line " ++ decimal number ++ codes ": " ++ words_of fault ++ place ++ newline
 
-abbrev pub Tells : ℕ → Fault → (text told : List ℕ) → Type 0
+abbrev pub Tells : ℕ → Error → (text told : List ℕ) → Type 0
 Tells number fault text told = (place : List ℕ) × IsWhere text fault place × (told ≡ told_at number fault place)
 
 -- ---- what lines give, one after the other
@@ -124,7 +124,7 @@ pub data OutcomesIn (o : Options) (task : Task) (on_refusal : OnRefusal)
   written : {before : List (List ℕ)} {output told : List ℕ} {refused : ℕ} (line more : List ℕ)
       → OutcomesIn o task on_refusal before output told refused → WritesIn o task (text_of (length before) line) more
       → OutcomesIn o task on_refusal (before ++ line ∷ []) (output ++ more) told refused
-  passed_over : {before : List (List ℕ)} {output told : List ℕ} {refused : ℕ} (line : List ℕ) (fault : Fault)
+  passed_over : {before : List (List ℕ)} {output told : List ℕ} {refused : ℕ} (line : List ℕ) (fault : Error)
       (more : List ℕ) → OutcomesIn o task on_refusal before output told refused → on_refusal ≢ Stop
       → IsBadLineIn o task fault (text_of (length before) line) → Tells (length before + 1) fault (text_of (length before) line) more
       → OutcomesIn o task on_refusal (before ++ line ∷ []) output (told ++ more) (refused + 1)
@@ -198,7 +198,7 @@ CutShortAtIn o task on_refusal before after had holds told tells number =
     EndsAtIn o CutsShort (λ n others. Unit {0}) task on_refusal before after had holds told tells number
 
 -- why a run stops at a text: it is refused, and refusals stop the run; or for no reason that the bytes tell
-abbrev pub IsStoppedIn : Options → Task → OnRefusal → Fault → List ℕ → Type 0
+abbrev pub IsStoppedIn : Options → Task → OnRefusal → Error → List ℕ → Type 0
 IsStoppedIn o task on_refusal CannotRead text = Unit {0}
 IsStoppedIn o task on_refusal NotJson text = (on_refusal ≡ Stop) × IsUnreadIn o task text
 IsStoppedIn o task on_refusal (NotExtendedJson place) text =
@@ -208,7 +208,7 @@ IsStoppedIn o task on_refusal OutOfMemory text = Unit {0}
 IsStoppedIn o task on_refusal CannotWrite text = ⊥
 
 -- the same of the first of the lines that stand after so many others; where it is refused, its text is held
-abbrev pub IsStoppedAtIn : Options → Task → OnRefusal → Fault → (held : List ℕ) → ℕ → List (List ℕ) → Type 0
+abbrev pub IsStoppedAtIn : Options → Task → OnRefusal → Error → (held : List ℕ) → ℕ → List (List ℕ) → Type 0
 IsStoppedAtIn o task on_refusal CannotRead held before others = Unit {0}
 IsStoppedAtIn o task on_refusal OutOfMemory held before others = Unit {0}
 IsStoppedAtIn o task on_refusal CannotWrite held before others = ⊥
@@ -218,7 +218,7 @@ IsStoppedAtIn o task on_refusal fault held before (line ∷ others) =
 
 -- what each fault says of the bytes, and of the line whose number and text stand beside it: that it came for this
 -- reason, but for a fault of a writer
-abbrev pub FailsAtIn : Options → Fault → Task → OnRefusal
+abbrev pub FailsAtIn : Options → Error → Task → OnRefusal
     → (before after had holds told tells : Option (List ℕ)) → (number : ℕ) → (held : List ℕ) → Type 0
 FailsAtIn o CannotWrite task on_refusal before after had holds told tells number held =
     CutShortAtIn o task on_refusal before after had holds told tells number

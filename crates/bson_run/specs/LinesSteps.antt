@@ -5,9 +5,9 @@ use Rattle.bson_run.specs.Lines.{lines, text_held, OutcomesIn, IsBadLineIn, IsSt
 use Rattle.bson_convert.specs.Run.{WritesPart}
 -- the types that the steps speak of, for the proofs too
 pub use Rattle.bson.specs.declared.extjson.options.Options.{Options}
-pub use Rattle.bson_convert.specs.declared.fault.Fault.{Fault}
-pub use Rattle.bson_convert.specs.declared.fault.Fault.TheVariants.{CannotRead, NotJson, NotExtendedJson, NoBytes, OutOfMemory}
-pub use Rattle.bson_convert.specs.declared.fault.Fault.TheVariants.{CannotWrite}
+pub use Rattle.bson_convert.specs.declared.error.Error.{Error}
+pub use Rattle.bson_convert.specs.declared.error.Error.TheVariants.{CannotRead, NotJson, NotExtendedJson, NoBytes, OutOfMemory}
+pub use Rattle.bson_convert.specs.declared.error.Error.TheVariants.{CannotWrite}
 pub use Rattle.bson_run.specs.declared.gathered.Gathered.{Gathered}
 pub use Rattle.bson_run.specs.declared.order.OnRefusal.{OnRefusal}
 pub use Rattle.bson_run.specs.declared.order.Task.{Task}
@@ -22,16 +22,16 @@ pub record HasRoom (s : Gathered) : Type 0 where
   pub refused : s.refused ≤ s.lines
 
 -- what lines give is no fault of the reader, but where no further line can be counted
-abbrev pub IsCountedOut : Fault → ℕ → Type 0
+abbrev pub IsCountedOut : Error → ℕ → Type 0
 IsCountedOut fault lines = fault ≡ CannotRead → 2 ^ 64 - 2 ≤ lines
 
 -- why a text is not written
-abbrev pub IsJudged : Options → Task → Fault → List ℕ → Type 0
+abbrev pub IsJudged : Options → Task → Error → List ℕ → Type 0
 IsJudged o task OutOfMemory text = Unit {0}
 IsJudged o task fault text = IsBadLineIn o task fault text
 
 -- the verdict on a text was added to what was told
-abbrev pub IsTold : Options → Task → ℕ → Fault → List ℕ → List ℕ → List ℕ → Type 0
+abbrev pub IsTold : Options → Task → ℕ → Error → List ℕ → List ℕ → List ℕ → Type 0
 IsTold o task number fault text before after =
     (more : List ℕ) × (IsBadLineIn o task fault text → Tells number fault text more) × (after ≡ before ++ more)
 
@@ -94,19 +94,19 @@ pub record Reached (o : Options) (task : Task) (on_refusal : OnRefusal) (input o
   pub outcomes : OutcomesIn o task on_refusal done (output ++ s.output.items) (told ++ s.told.items) s.refused
 
 -- the next line stops the run
-pub record Stopped (o : Options) (task : Task) (on_refusal : OnRefusal) (input output told : List ℕ) (fault : Fault)
+pub record Stopped (o : Options) (task : Task) (on_refusal : OnRefusal) (input output told : List ℕ) (fault : Error)
     (s : Gathered) : Type 0 where
   pub reached : Reached o task on_refusal input output told s
   pub reason : IsStoppedAtIn o task on_refusal fault (text_held s) (length reached.done) reached.others
 
 -- a line that ends among the bytes stops the run, whatever follows them
-abbrev pub StopsWithin : Options → Task → OnRefusal → List ℕ → Fault → Gathered → Gathered → Type 0
+abbrev pub StopsWithin : Options → Task → OnRefusal → List ℕ → Error → Gathered → Gathered → Type 0
 StopsWithin o task on_refusal bytes fault s t = (before output told more : List ℕ)
     → Progress o task on_refusal before output told s
     → Stopped o task on_refusal ((before ++ bytes) ++ more) output told fault t
 
 -- the last line stops the run
-abbrev pub StopsLast : Options → Task → OnRefusal → Fault → Gathered → Gathered → Type 0
+abbrev pub StopsLast : Options → Task → OnRefusal → Error → Gathered → Gathered → Type 0
 StopsLast o task on_refusal fault s t = (before output told : List ℕ)
     → Progress o task on_refusal before output told s → Stopped o task on_refusal before output told fault t
 

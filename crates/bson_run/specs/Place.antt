@@ -14,8 +14,8 @@ use Rattle.bson_place.specs.Place.{dotted, path_of}
 use Rattle.bson_place.specs.declared.place.Place.{Place}
 use Rattle.bson_place.specs.declared.place.Reason.{Reason}
 use Rattle.bson_place.specs.declared.place.Reason.TheVariants.{BadObjectId, WrongShape}
-use Rattle.bson_convert.specs.declared.fault.Fault.{Fault}
-use Rattle.bson_convert.specs.declared.fault.Fault.TheVariants.{NotJson, NotExtendedJson}
+use Rattle.bson_convert.specs.declared.error.Error.{Error}
+use Rattle.bson_convert.specs.declared.error.Error.TheVariants.{NotJson, NotExtendedJson}
 use Rattle.bson_run.specs.declared.rule.Rule.{Rule}
 use Rattle.bson_run.specs.declared.rule.Rule.TheVariants.{Utf8, EndsEarly, MoreBehind, OutOfRange}
 use Rattle.bson_run.specs.declared.rule.Rule.TheVariants.{NoValue, Number, ControlCharacter, Escape, BehindComma}
@@ -140,7 +140,7 @@ abbrev pub IsStop : List ℕ → List ℕ → Type 0
 IsStop bytes words = (n : ℕ) × (rule : Rule) × Breaks bytes rule × (words ≡ at_column n rule)
 
 -- where the fault of a text lies in it; nothing for a fault that no text has
-abbrev pub IsWhere : List ℕ → Fault → List ℕ → Type 0
+abbrev pub IsWhere : List ℕ → Error → List ℕ → Type 0
 IsWhere text NotJson words = IsStop text words
 IsWhere text (NotExtendedJson place) words = IsPlaced text place words
 IsWhere text other words = words ≡ []

@@ -4,12 +4,14 @@ use Rattle.std.specs.Prelude.{◌≡◌, ◌⊎◌, ℕ, List, Option, None, Som
 use Rattle.std.specs.declared.alloc.Global.{Global}
 use Rattle.json.specs.Json.{Json}
 use Rattle.json.specs.Strict.{HasUniqueKeys}
+use Rattle.serde_json.specs.Data.{Data}
+use Rattle.serde_json.specs.Read.{read}
 use Rattle.bson_distinct.specs.Double.{json_of, HasDoubleKey}
 use Rattle.bson_legacy.specs.Text.{IsModernText}
 use Rattle.bson_place.specs.Place.{path_of}
 use Rattle.bson_place.specs.declared.place.Place.{Place}
-use Rattle.bson_convert.specs.declared.fault.Fault.{Fault}
-use Rattle.bson_convert.specs.declared.fault.Fault.TheVariants.{NotExtendedJson, OutOfMemory}
+use Rattle.bson_convert.specs.declared.error.Error.{Error}
+use Rattle.bson_convert.specs.declared.error.Error.TheVariants.{NotExtendedJson, OutOfMemory}
 use Rattle.bson_run.specs.declared.order.Taking.{Taking}
 use Rattle.bson_run.specs.declared.order.Taking.TheVariants.{Distinct, Legacy, DistinctLegacy}
 
@@ -21,9 +23,9 @@ HasNoDoubleKey bytes = (j : Json) → IsUtf8 bytes → json_of bytes ≡ Some j 
 abbrev pub HasDoubleKeyAt : Place → List ℕ → Type 0
 HasDoubleKeyAt place bytes = IsUtf8 bytes × HasDoubleKey bytes (path_of place)
 
--- the bytes are no JSON text
+-- the bytes are not a JSON text whose numbers are in range
 abbrev pub IsNoJson : List ℕ → Type 0
-IsNoJson bytes = (j : Json) → IsUtf8 bytes → json_of bytes ≡ Some j → ⊥
+IsNoJson bytes = (d : Data) → IsUtf8 bytes → read bytes ≡ Some d → ⊥
 
 -- in the place of a JSON text stands that of the tree for which its tree stands; other bytes stay
 abbrev pub StandsFor : List ℕ → List ℕ → Type 0
@@ -42,7 +44,7 @@ IsTurnedAway Legacy place bytes = ⊥
 IsTurnedAway DistinctLegacy place bytes = HasDoubleKeyAt place bytes
 
 -- what each fault says of the bytes
-abbrev pub IsUntaken : Taking → Fault → List ℕ → Type 0
+abbrev pub IsUntaken : Taking → Error → List ℕ → Type 0
 IsUntaken taking (NotExtendedJson place) bytes = IsTurnedAway taking place bytes
 IsUntaken taking OutOfMemory bytes = Unit {0}
 IsUntaken taking other bytes = ⊥

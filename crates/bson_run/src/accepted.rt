@@ -8,7 +8,7 @@ use crate::in_order::{convert_whole_in_order, filter_once};
 use bson::extjson::Options;
 use bson_convert::convert::{convert_whole, end_line};
 use bson_convert::converted::{Tried, arrange, refuse, refuse_arranged, try_text};
-use bson_convert::fault::Fault;
+use bson_convert::error::Error;
 use bson_convert::mode::Mode;
 use bson_distinct::arrangement::Arrangement;
 use std::alloc::Global;
@@ -40,7 +40,7 @@ impl Accepted {
     /// [`convert_with`](bson_convert::convert::convert_with) says. A caller who needs the bytes where
     /// they are refused need not hold them beside the output. Those that can't be written as they are
     /// read are looked at for a fault at once, which takes one more walk over their tokens.
-    pub fn of(alloc: Global, options: Options, mode: Mode, bytes: &[u8]) -> Result<Accepted, Fault>
+    pub fn of(alloc: Global, options: Options, mode: Mode, bytes: &[u8]) -> Result<Accepted, Error>
         ensures ok { IfOk result (HasOutput options (ConvertsIn options mode bytes.now)) }
         ensures fault { IfErr result (λ fault. IsRefusedIn options fault bytes.now) }
     {
@@ -70,12 +70,12 @@ impl Accepted {
         options: Options,
         mode: Mode,
         bytes: &[u8],
-    ) -> Result<Accepted, Fault>
+    ) -> Result<Accepted, Error>
         ensures ok { IfOk result (HasOutput options (ConvertsInOrder options mode bytes.now)) }
         ensures fault { IfErr result (λ fault. IsRefusedIn options fault bytes.now) }
     {
         let Ok(text) = simdutf8::compat::from_utf8(bytes) else {
-            return Err(Fault::NotJson);
+            return Err(Error::NotJson);
         };
         match filter_once(alloc, options, mode, text)? {
             Some(written) => Ok(Accepted::Output(end_line(written)?)),
@@ -88,9 +88,9 @@ impl Accepted {
     }
 
     /// The output. Of what was accepted with the same options only memory can be wanting for it.
-    pub fn output(self, alloc: Global, options: Options) -> Result<Vec<u8>, Fault>
+    pub fn output(self, alloc: Global, options: Options) -> Result<Vec<u8>, Error>
         ensures ok { IfOk result (λ output. Outputs options self output.items) }
-        ensures fault { IsSure options self → IfErr result (λ fault. fault ≡ Fault.OutOfMemory) }
+        ensures fault { IsSure options self → IfErr result (λ fault. fault ≡ Error.OutOfMemory) }
     {
         match self {
             Accepted::Output(output) => Ok(output),

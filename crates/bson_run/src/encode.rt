@@ -16,8 +16,8 @@ ghost use Rattle.bson_run.specs.Encode.{IsUnencodedIn, IsUnencodedInOrder};
 use bson::Bson;
 use bson::extjson::Options;
 use bson_codec::{ser, to_vec};
-use bson_convert::convert::fault_of;
-use bson_convert::fault::Fault;
+use bson_convert::convert::error_of;
+use bson_convert::error::Error;
 use bson_convert::no_bytes::NoBytes;
 use bson_pack::pack::pack_text;
 use std::alloc::Global;
@@ -35,17 +35,17 @@ use std::alloc::Global;
 ///     println!(rt; "{document}")?; // { "a": 2, "n": 5 }
 /// }
 /// ```
-pub fn encode_with(alloc: Global, options: Options, bytes: &[u8]) -> Result<Vec<u8>, Fault>
+pub fn encode_with(alloc: Global, options: Options, bytes: &[u8]) -> Result<Vec<u8>, Error>
     ensures ok { IfOk result (λ out. EncodesIn options bytes.now out.items) }
     ensures one { IfOk result (λ out. (other : List ℕ) → EncodesIn options bytes.now other → other ≡ out.items) }
     ensures accepts { (tree : Data) (ps : Pairs) → IsTextOf bytes.now tree
         → MeansIn options.doubles tree (document ps) → FitsDocument ps
-        → IfErr result (λ fault. fault ≡ Fault.OutOfMemory) }
+        → IfErr result (λ fault. fault ≡ Error.OutOfMemory) }
     ensures fault { IfErr result (λ fault. IsUnencodedIn options fault bytes.now) }
 {
     match Bson::try_from_text_with(alloc, options, bytes) {
         Ok(value) => bytes_of(alloc, value),
-        Err(error) => Err(fault_of(error)),
+        Err(error) => Err(error_of(error)),
     }
 }
 
@@ -58,13 +58,13 @@ pub fn encode_with(alloc: Global, options: Options, bytes: &[u8]) -> Result<Vec<
 ///     println!(rt; "{document}")?; // { "n": 5, "a": 2 }
 /// }
 /// ```
-pub fn encode_in_order(alloc: Global, options: Options, bytes: &[u8]) -> Result<Vec<u8>, Fault>
+pub fn encode_in_order(alloc: Global, options: Options, bytes: &[u8]) -> Result<Vec<u8>, Error>
     ensures ok { IfOk result (λ out. EncodesInOrder options bytes.now out.items) }
     ensures one { IfOk result (λ out. (other : List ℕ) → EncodesInOrder options bytes.now other
         → other ≡ out.items) }
     ensures accepts { (tree : Data) (ps : Pairs) → IsUtf8 bytes.now → read_kept bytes.now ≡ Some tree
         → MeansInOrder options.doubles tree (document ps) → FitsDocument ps
-        → IfErr result (λ fault. fault ≡ Fault.OutOfMemory) }
+        → IfErr result (λ fault. fault ≡ Error.OutOfMemory) }
     ensures fault { IfErr result (λ fault. IsUnencodedInOrder options fault bytes.now) }
 {
     match pack_document(alloc, options, bytes)? {
@@ -74,9 +74,9 @@ pub fn encode_in_order(alloc: Global, options: Options, bytes: &[u8]) -> Result<
 }
 
 // The bytes that are written as the text is read; none where it is to be read whole.
-fn pack_document(alloc: Global, options: Options, bytes: &[u8]) -> Result<Option<Vec<u8>>, Fault>
+fn pack_document(alloc: Global, options: Options, bytes: &[u8]) -> Result<Option<Vec<u8>>, Error>
     ensures ok { IfOk result (λ found. IfSome found (λ out. EncodesInOrder options bytes.now out.items)) }
-    ensures fault { IfErr result (λ fault. fault ≡ Fault.OutOfMemory) }
+    ensures fault { IfErr result (λ fault. fault ≡ Error.OutOfMemory) }
 {
     let Ok(text) = simdutf8::compat::from_utf8(bytes) else {
         return Ok(None);
@@ -84,33 +84,33 @@ fn pack_document(alloc: Global, options: Options, bytes: &[u8]) -> Result<Option
     match pack_text(alloc, options.doubles, text) {
         Ok(document) => Ok(Some(document)),
         Err(json::Error::Invalid) => Ok(None),
-        Err(_) => Err(Fault::OutOfMemory),
+        Err(_) => Err(Error::OutOfMemory),
     }
 }
 
 // The bytes of the value, which is read whole.
-fn encode_whole(alloc: Global, options: Options, bytes: &[u8]) -> Result<Vec<u8>, Fault>
+fn encode_whole(alloc: Global, options: Options, bytes: &[u8]) -> Result<Vec<u8>, Error>
     ensures ok { IfOk result (λ out. EncodesInOrder options bytes.now out.items) }
     ensures accepts { (tree : Data) (ps : Pairs) → IsUtf8 bytes.now → read_kept bytes.now ≡ Some tree
         → MeansInOrder options.doubles tree (document ps) → FitsDocument ps
-        → IfErr result (λ fault. fault ≡ Fault.OutOfMemory) }
+        → IfErr result (λ fault. fault ≡ Error.OutOfMemory) }
     ensures fault { IfErr result (λ fault. IsUnencodedInOrder options fault bytes.now) }
 {
     match Bson::try_from_text_in_order(alloc, options, bytes) {
         Ok(value) => bytes_of(alloc, value),
-        Err(error) => Err(fault_of(error)),
+        Err(error) => Err(error_of(error)),
     }
 }
 
 // The canonical bytes of the document that the value is.
-fn bytes_of(alloc: Global, value: Bson) -> Result<Vec<u8>, Fault>
+fn bytes_of(alloc: Global, value: Bson) -> Result<Vec<u8>, Error>
     ensures ok { IfOk result (λ out. IsBytesOf (λ v. v ≡ bson_view value) out.items) }
     ensures only { (ps : Pairs) → bson_view value ≡ document ps → FitsDocument ps
-        → IfErr result (λ fault. fault ≡ Fault.OutOfMemory) }
+        → IfErr result (λ fault. fault ≡ Error.OutOfMemory) }
     ensures fault { IfErr result (λ fault. IsUnencodedFor (λ v. v ≡ bson_view value) fault) }
 {
     let Bson::Document(document) = value else {
-        return Err(Fault::NoBytes(NoBytes::NoDocument));
+        return Err(Error::NoBytes(NoBytes::NoDocument));
     };
     match to_vec(alloc, &document) {
         Ok(bytes) => Ok(bytes),
@@ -119,15 +119,15 @@ fn bytes_of(alloc: Global, value: Bson) -> Result<Vec<u8>, Fault>
 }
 
 // The fault of a document that has no bytes.
-fn write_fault(error: ser::Error) -> Fault
+fn write_fault(error: ser::Error) -> Error
     ensures cause { (ps : Pairs) → IsRefusal error ps → FailsAlone result ps }
-    ensures memory { error ≡ errors.OutOfMemory → result ≡ Fault.OutOfMemory }
-    ensures only { result ≡ Fault.OutOfMemory → error ≡ errors.OutOfMemory }
+    ensures memory { error ≡ errors.OutOfMemory → result ≡ Error.OutOfMemory }
+    ensures only { result ≡ Error.OutOfMemory → error ≡ errors.OutOfMemory }
 {
     match error {
-        ser::Error::Key => Fault::NoBytes(NoBytes::ZeroInKey),
-        ser::Error::Regex => Fault::NoBytes(NoBytes::ZeroInRegex),
-        ser::Error::Size => Fault::NoBytes(NoBytes::TooLong),
-        ser::Error::OutOfMemory => Fault::OutOfMemory,
+        ser::Error::Key => Error::NoBytes(NoBytes::ZeroInKey),
+        ser::Error::Regex => Error::NoBytes(NoBytes::ZeroInRegex),
+        ser::Error::Size => Error::NoBytes(NoBytes::TooLong),
+        ser::Error::OutOfMemory => Error::OutOfMemory,
     }
 }

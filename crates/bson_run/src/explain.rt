@@ -6,7 +6,7 @@ use crate::quoted::quote;
 use crate::shorten::shorten;
 use crate::stop::Stop;
 use crate::taken::DOUBLE_KEY;
-use bson_convert::fault::Fault;
+use bson_convert::error::Error;
 use bson_place::place::{Place, Reason, Segment};
 use std::alloc::{AllocError, Global};
 
@@ -28,12 +28,12 @@ const MOST: usize = 300;
 /// A control character (`\u001b`) and a separator of lines (`\u2028`) or of paragraphs, which could
 /// break a line or steer a terminal, is told by its escape in JSON, and every other character as it
 /// is. Of a path or a message of more than 300 characters these are told, and `..` for the others.
-pub fn explain(alloc: Global, fault: &Fault, text: &[u8]) -> Result<String, AllocError>
+pub fn explain(alloc: Global, fault: &Error, text: &[u8]) -> Result<String, AllocError>
     ensures place { IfOk result (λ words. IsWhere text.now fault.now (string_bytes words)) }
 {
     match fault {
-        Fault::NotJson => column(alloc, text),
-        Fault::NotExtendedJson(place) => place_text(alloc, place, text),
+        Error::NotJson => column(alloc, text),
+        Error::NotExtendedJson(place) => place_text(alloc, place, text),
         _ => Ok(String::new(alloc)),
     }
 }

@@ -21,16 +21,19 @@ use crate::order::{OnRefusal, Taking, Task, Work};
 use crate::taken::take_as;
 use bson::extjson::Options;
 use bson_convert::convert::convert_with;
-use bson_convert::fault::Fault;
+use bson_convert::error::Error;
 use bson_convert::mode::Mode;
 use memchr::memchr;
 use std::alloc::{AllocError, Global};
 
 /// What a step over a line answers.
-type Step = Result<(), Fault>;
+type Step = Result<(), Error>;
 
 /// U+FEFF in UTF-8.
 const BYTE_ORDER_MARK: [u8; 3] = [0xef, 0xbb, 0xbf];
+
+/// An output of more bytes is long.
+const LONG: usize = 1 << 20;
 
 /// What is asked of a run.
 #[derive(Clone, Copy)]
@@ -78,7 +81,7 @@ fn is_blank(text: &[u8]) -> bool
 }
 
 // What is written of the text, or nothing for one that is blank.
-fn judge(alloc: Global, asked: Asked, text: &[u8]) -> Result<Option<Vec<u8>>, Fault>
+fn judge(alloc: Global, asked: Asked, text: &[u8]) -> Result<Option<Vec<u8>>, Error>
     ensures blank { result ≡ Ok None → IsBlank text.now }
     ensures ok { IfOk result (λ some. IfSome some (λ output. WritesIn asked.options asked.task text.now output.items)) }
     ensures fault { IfErr result (λ fault. IsJudged asked.options asked.task fault text.now) }
@@ -107,7 +110,7 @@ fn judge_taken(
     taking: Taking,
     work: Work,
     text: &[u8],
-) -> Result<Vec<u8>, Fault>
+) -> Result<Vec<u8>, Error>
     requires { ¬ IsBlank text.now }
     ensures ok { IfOk result (λ output. WritesIn options (Taken taking work) text.now output.items) }
     ensures fault { IfErr result (λ fault. IsJudged options (Taken taking work) fault text.now) }
@@ -118,7 +121,7 @@ fn judge_taken(
     }
 }
 
-fn work_on(alloc: Global, options: Options, work: Work, text: &[u8]) -> Result<Vec<u8>, Fault>
+fn work_on(alloc: Global, options: Options, work: Work, text: &[u8]) -> Result<Vec<u8>, Error>
     ensures ok { IfOk result (λ output. WorksIn options work text.now output.items) }
     ensures fault { IfErr result (λ fault. IsRefusedIn options fault text.now) }
 {
@@ -133,22 +136,33 @@ fn work_on(alloc: Global, options: Options, work: Work, text: &[u8]) -> Result<V
 }
 
 // What is told of a line that is refused: its number, the words for the fault, and its place.
-fn verdict(alloc: Global, number: u64, fault: &Fault, place: &str) -> Result<String, AllocError>
+fn verdict(alloc: Global, number: u64, fault: &Error, place: &str) -> Result<String, AllocError>
     ensures { IfOk result (λ told. string_bytes told ≡ told_at number fault.now place.now) }
 {
     let words = fault.message();
     format!(in alloc; "bson_lines: line {number}: {words}{place}\n")
 }
 
+/// Removes the bytes, and frees the memory of many.
+pub(crate) fn empty(bytes: &mut Vec<u8>)
+    ensures { bytes.new.items ≡ [] }
+{
+    let is_long = bytes.len() > LONG;
+    bytes.clear();
+    if is_long {
+        bytes.shrink_to_fit();
+    }
+}
+
 // Adds more bytes.
 fn append(bytes: &mut Vec<u8>, more: &[u8]) -> Step
     ensures ok { OnOk result (bytes.new.items ≡ bytes.old.items ++ more.now) }
     ensures err { OnErr result (bytes.new.items ≡ bytes.old.items) }
-    ensures fault { IfErr result (λ e. e ≡ Fault.OutOfMemory) }
+    ensures fault { IfErr result (λ e. e ≡ Error.OutOfMemory) }
 {
     match bytes.extend_from_slice(more) {
         Ok(()) => Ok(()),
-        Err(_) => Err(Fault::OutOfMemory),
+        Err(_) => Err(Error::OutOfMemory),
     }
 }
 
@@ -168,7 +182,7 @@ impl Gathered {
     }
 
     /// Where the fault of the line that is being gathered lies, in the words of `explain`.
-    pub fn place(&self, alloc: Global, fault: &Fault) -> Result<String, AllocError>
+    pub fn place(&self, alloc: Global, fault: &Error) -> Result<String, AllocError>
         ensures { IfOk result (λ place. IsWhere (text_held self.now) fault.now (string_bytes place)) }
     {
         explain(alloc, fault, text(self.lines, &self.line))
@@ -178,7 +192,7 @@ impl Gathered {
     fn extend_line(&mut self, piece: &[u8]) -> Step
         ensures ok { OnOk result (self.new.line.items ≡ self.old.line.items ++ piece.now) }
         ensures same { HaveSameOutcomes self.old self.new }
-        ensures fault { IfErr result (λ e. e ≡ Fault.OutOfMemory) }
+        ensures fault { IfErr result (λ e. e ≡ Error.OutOfMemory) }
     {
         append(&mut self.line, piece)
     }
@@ -196,11 +210,11 @@ impl Gathered {
     {
         if self.lines + 1 == u64::MAX {
             // A count that no run reaches.
-            return Err(Fault::CannotRead);
+            return Err(Error::CannotRead);
         }
         match judge(alloc, asked, text(self.lines, &self.line)) {
             Ok(None) => {}
-            Ok(Some(output)) => self.add(&output)?,
+            Ok(Some(output)) => self.add(output)?,
             Err(fault) => self.refuse(alloc, asked.on_refusal, fault)?,
         }
         self.line.clear();
@@ -208,21 +222,25 @@ impl Gathered {
         Ok(())
     }
 
-    // Adds the output of a line.
-    fn add(&mut self, output: &[u8]) -> Step
-        ensures ok { OnOk result (self.new.output.items ≡ self.old.output.items ++ output.now) }
+    // Adds the output of a line. A long output is moved, so that it is not in memory twice.
+    fn add(&mut self, output: Vec<u8>) -> Step
+        ensures ok { OnOk result (self.new.output.items ≡ self.old.output.items ++ output.items) }
         ensures err { OnErr result (self.new.output.items ≡ self.old.output.items) }
         ensures same { (self.new.line ≡ self.old.line) × (self.new.told ≡ self.old.told)
             × (self.new.lines ≡ self.old.lines) × (self.new.refused ≡ self.old.refused) }
-        ensures fault { IfErr result (λ e. e ≡ Fault.OutOfMemory) }
+        ensures fault { IfErr result (λ e. e ≡ Error.OutOfMemory) }
     {
-        append(&mut self.output, output)
+        if self.output.is_empty() && output.len() > LONG {
+            self.output = output;
+            return Ok(());
+        }
+        append(&mut self.output, &output)
     }
 
     // Tells of the line, where refused lines don't stop the run.
-    fn refuse(&mut self, alloc: Global, on_refusal: OnRefusal, fault: Fault) -> Step
+    fn refuse(&mut self, alloc: Global, on_refusal: OnRefusal, fault: Error) -> Step
         requires room { HasRoom self.old }
-        ensures ok { OnOk result ((fault ≢ Fault.OutOfMemory) × (on_refusal ≢ Stop)
+        ensures ok { OnOk result ((fault ≢ Error.OutOfMemory) × (on_refusal ≢ Stop)
             × (self.new.refused ≡ self.old.refused + 1)
             × ((options : Options) (task : Task) → IsTold options task (self.old.lines + 1) fault
             (text_of self.old.lines self.old.line.items) self.old.told.items self.new.told.items)) }
@@ -230,7 +248,7 @@ impl Gathered {
             × (self.new.refused ≡ self.old.refused)) }
         ensures same { (self.new.line ≡ self.old.line) × (self.new.output ≡ self.old.output)
             × (self.new.lines ≡ self.old.lines) }
-        ensures fault { IfErr result (λ e. (e ≡ Fault.OutOfMemory) ⊎ ((on_refusal ≡ Stop) × (e ≡ fault))) }
+        ensures fault { IfErr result (λ e. (e ≡ Error.OutOfMemory) ⊎ ((on_refusal ≡ Stop) × (e ≡ fault))) }
     {
         if fault.is_memory() {
             return Err(fault);
@@ -240,14 +258,14 @@ impl Gathered {
         }
         match self.tell(alloc, &fault) {
             Ok(()) => {}
-            Err(_) => return Err(Fault::OutOfMemory),
+            Err(_) => return Err(Error::OutOfMemory),
         }
         self.refused += 1;
         Ok(())
     }
 
     // Adds the verdict on the line.
-    fn tell(&mut self, alloc: Global, fault: &Fault) -> Result<(), AllocError>
+    fn tell(&mut self, alloc: Global, fault: &Error) -> Result<(), AllocError>
         requires room { HasRoom self.old }
         ensures ok { OnOk result
             ((options : Options) (task : Task) → IsTold options task (self.old.lines + 1) fault.now

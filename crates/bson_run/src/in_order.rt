@@ -11,13 +11,12 @@ ghost use Rattle.bson_run.specs.InOrder.{ConvertsInOrder, IsConvertedTextInOrder
 
 use bson::Bson;
 use bson::extjson::{Form, Options, WriteError};
-use bson_convert::convert::{displayed_text, end_line, fault_of};
+use bson_convert::convert::{displayed_text, end_line, error_of};
 use bson_convert::converted::{arrange, refuse};
-use bson_convert::fault::Fault;
+use bson_convert::error::Error;
 use bson_convert::mode::Mode;
 use bson_distinct::arrangement::Arrangement;
 use bson_filter::filter::{filter_text, show_text_in_order};
-use json::Error;
 use std::alloc::Global;
 
 /// [`convert_with`](bson_convert::convert::convert_with) where each document of the text has its keys in
@@ -36,12 +35,12 @@ pub fn convert_in_order(
     options: Options,
     mode: Mode,
     bytes: &[u8],
-) -> Result<Vec<u8>, Fault>
+) -> Result<Vec<u8>, Error>
     ensures ok { IfOk result (λ output. ConvertsInOrder options mode bytes.now output.items) }
     ensures one { IfOk result (λ output. (other : List ℕ) → ConvertsInOrder options mode bytes.now other
         → other ≡ output.items) }
     ensures accepts { (tree : Data) (value : model.Value) → IsTextOf bytes.now tree
-        → MeansIn options.doubles tree value → IfErr result (λ fault. fault ≡ Fault.OutOfMemory) }
+        → MeansIn options.doubles tree value → IfErr result (λ fault. fault ≡ Error.OutOfMemory) }
     ensures fault { IfErr result (λ fault. IsRefusedIn options fault bytes.now) }
 {
     let text = text_in_order(alloc, options, mode, bytes)?;
@@ -54,10 +53,10 @@ pub(crate) fn convert_whole_in_order(
     options: Options,
     mode: Mode,
     text: String,
-) -> Result<Vec<u8>, Fault>
+) -> Result<Vec<u8>, Error>
     ensures ok { IfOk result (λ output. ConvertsInOrder options mode (string_bytes text) output.items) }
     ensures accepts { (tree : Data) (value : model.Value) → IsTextOf (string_bytes text) tree
-        → MeansIn options.doubles tree value → IfErr result (λ fault. fault ≡ Fault.OutOfMemory) }
+        → MeansIn options.doubles tree value → IfErr result (λ fault. fault ≡ Error.OutOfMemory) }
 {
     if let Some(written) = filter_once(alloc, options, mode, text.as_str())? {
         return end_line(written);
@@ -73,14 +72,14 @@ pub(crate) fn text_in_order(
     options: Options,
     mode: Mode,
     bytes: &[u8],
-) -> Result<Vec<u8>, Fault>
+) -> Result<Vec<u8>, Error>
     ensures ok { IfOk result (λ text. IsConvertedTextInOrder options mode bytes.now text.items) }
     ensures accepts { (tree : Data) (value : model.Value) → IsTextOf bytes.now tree
-        → MeansIn options.doubles tree value → IfErr result (λ fault. fault ≡ Fault.OutOfMemory) }
+        → MeansIn options.doubles tree value → IfErr result (λ fault. fault ≡ Error.OutOfMemory) }
     ensures fault { IfErr result (λ fault. IsRefusedIn options fault bytes.now) }
 {
     let Ok(text) = simdutf8::compat::from_utf8(bytes) else {
-        return Err(Fault::NotJson);
+        return Err(Error::NotJson);
     };
     match filter_once(alloc, options, mode, text)? {
         Some(written) => Ok(written),
@@ -90,7 +89,7 @@ pub(crate) fn text_in_order(
 
 // The text of one that can't be written as it is read: that of the text in which each object has
 // each key once.
-fn arranged_text(alloc: Global, options: Options, mode: Mode, text: &str) -> Result<Vec<u8>, Fault>
+fn arranged_text(alloc: Global, options: Options, mode: Mode, text: &str) -> Result<Vec<u8>, Error>
     ensures ok { IfOk result (λ written. IsConvertedTextInOrder options mode text.now written.items) }
     ensures fault { IfErr result (λ fault. IsRefusedIn options fault text.now) }
 {
@@ -105,7 +104,7 @@ fn text_of_distinct(
     options: Options,
     mode: Mode,
     text: &str,
-) -> Result<Vec<u8>, Fault>
+) -> Result<Vec<u8>, Error>
     ensures ok { IfOk result (λ written. IsConvertedTextInOrder options mode text.now written.items) }
     ensures fault { IfErr result (λ fault. IsRefusedIn options fault text.now) }
 {
@@ -124,20 +123,20 @@ pub(crate) fn filter_once(
     options: Options,
     mode: Mode,
     text: &str,
-) -> Result<Option<Vec<u8>>, Fault>
+) -> Result<Option<Vec<u8>>, Error>
     ensures ok { IfOk result
         (λ found. IfSome found (λ written. IsConvertedTextInOrder options mode text.now written.items)) }
-    ensures fault { IfErr result (λ fault. fault ≡ Fault.OutOfMemory) }
+    ensures fault { IfErr result (λ fault. fault ≡ Error.OutOfMemory) }
 {
     match filter(alloc, options, mode, text) {
         Ok(written) => Ok(Some(written)),
-        Err(Error::Invalid) => Ok(None),
-        Err(_) => Err(Fault::OutOfMemory),
+        Err(json::Error::Invalid) => Ok(None),
+        Err(_) => Err(Error::OutOfMemory),
     }
 }
 
 // The text that the mode asks for of the value that the text means in order.
-fn filter(alloc: Global, options: Options, mode: Mode, text: &str) -> Result<Vec<u8>, Error>
+fn filter(alloc: Global, options: Options, mode: Mode, text: &str) -> Result<Vec<u8>, json::Error>
     ensures { IfOk result (λ written. IsConvertedTextInOrder options mode text.now written.items) }
 {
     match mode {
@@ -148,21 +147,21 @@ fn filter(alloc: Global, options: Options, mode: Mode, text: &str) -> Result<Vec
 }
 
 // The text of the value, which is read whole.
-fn whole_text(alloc: Global, options: Options, mode: Mode, bytes: &[u8]) -> Result<Vec<u8>, Fault>
+fn whole_text(alloc: Global, options: Options, mode: Mode, bytes: &[u8]) -> Result<Vec<u8>, Error>
     ensures ok { IfOk result (λ text. IsConvertedTextInOrder options mode bytes.now text.items) }
     ensures fault { IfErr result (λ fault. IsRefusedIn options fault bytes.now) }
 {
     match Bson::try_from_text_in_order(alloc, options, bytes) {
         Ok(value) => value_text(alloc, options, mode, value),
-        Err(error) => Err(fault_of(error)),
+        Err(error) => Err(error_of(error)),
     }
 }
 
 // The value's text in the mode, in its own order.
-fn value_text(alloc: Global, options: Options, mode: Mode, value: Bson) -> Result<Vec<u8>, Fault>
+fn value_text(alloc: Global, options: Options, mode: Mode, value: Bson) -> Result<Vec<u8>, Error>
     requires { writable_in options.doubles (bson_view value) ≡ true }
     ensures ok { IfOk result (λ text. IsTextInOrderFor options mode (bson_view value) text.items) }
-    ensures fault { IfErr result (λ fault. fault ≡ Fault.OutOfMemory) }
+    ensures fault { IfErr result (λ fault. fault ≡ Error.OutOfMemory) }
 {
     let text = match mode {
         Mode::Canonical => value.into_text_in_order(alloc, options, Form::Canonical),
@@ -173,6 +172,6 @@ fn value_text(alloc: Global, options: Options, mode: Mode, value: Bson) -> Resul
         Ok(text) => Ok(text.into_bytes()),
         // What was read can be written.
         Err(WriteError::FiniteDouble) => unreachable!(),
-        Err(WriteError::OutOfMemory) => Err(Fault::OutOfMemory),
+        Err(WriteError::OutOfMemory) => Err(Error::OutOfMemory),
     }
 }

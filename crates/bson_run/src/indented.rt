@@ -12,8 +12,8 @@ use crate::in_order::text_in_order;
 use crate::indent::indent_text;
 use bson::Bson;
 use bson::extjson::{Form, Options, WriteError};
-use bson_convert::convert::{end_line, fault_of, text_with};
-use bson_convert::fault::Fault;
+use bson_convert::convert::{end_line, error_of, text_with};
+use bson_convert::error::Error;
 use bson_convert::mode::Mode;
 use std::alloc::Global;
 
@@ -39,10 +39,10 @@ pub fn convert_indented(
     form: Form,
     spaces: usize,
     bytes: &[u8],
-) -> Result<Vec<u8>, Fault>
+) -> Result<Vec<u8>, Error>
     ensures ok { IfOk result (λ output. ConvertsIndented options form spaces bytes.now output.items) }
     ensures accepts { (tree : Data) (value : model.Value) → IsTextOf bytes.now tree
-        → MeansIn options.doubles tree value → IfErr result (λ fault. fault ≡ Fault.OutOfMemory) }
+        → MeansIn options.doubles tree value → IfErr result (λ fault. fault ≡ Error.OutOfMemory) }
     ensures fault { IfErr result (λ fault. IsRefusedIn options fault bytes.now) }
 {
     let text = text_of(alloc, options, form, bytes)?;
@@ -69,10 +69,10 @@ pub fn convert_in_order_indented(
     form: Form,
     spaces: usize,
     bytes: &[u8],
-) -> Result<Vec<u8>, Fault>
+) -> Result<Vec<u8>, Error>
     ensures ok { IfOk result (λ output. ConvertsInOrderIndented options form spaces bytes.now output.items) }
     ensures accepts { (tree : Data) (value : model.Value) → IsTextOf bytes.now tree
-        → MeansIn options.doubles tree value → IfErr result (λ fault. fault ≡ Fault.OutOfMemory) }
+        → MeansIn options.doubles tree value → IfErr result (λ fault. fault ≡ Error.OutOfMemory) }
     ensures fault { IfErr result (λ fault. IsRefusedIn options fault bytes.now) }
 {
     let text = text_of_ordered(alloc, options, form, bytes)?;
@@ -90,7 +90,7 @@ fn mode_of(form: Form) -> Mode
 }
 
 // The text in the form of the value that the bytes mean.
-fn text_of(alloc: Global, options: Options, form: Form, bytes: &[u8]) -> Result<String, Fault>
+fn text_of(alloc: Global, options: Options, form: Form, bytes: &[u8]) -> Result<String, Error>
     ensures ok { IfOk result (λ text. IsConvertedText options (mode_of form) bytes.now (string_bytes text)) }
     ensures fault { IfErr result (λ fault. IsRefusedIn options fault bytes.now) }
 {
@@ -103,13 +103,13 @@ fn text_of(alloc: Global, options: Options, form: Form, bytes: &[u8]) -> Result<
 }
 
 // The same of the value that is read whole.
-fn whole_text(alloc: Global, options: Options, form: Form, bytes: &[u8]) -> Result<String, Fault>
+fn whole_text(alloc: Global, options: Options, form: Form, bytes: &[u8]) -> Result<String, Error>
     ensures ok { IfOk result (λ text. IsConvertedText options (mode_of form) bytes.now (string_bytes text)) }
     ensures fault { IfErr result (λ fault. IsRefusedIn options fault bytes.now) }
 {
     match Bson::try_from_text_with(alloc, options, bytes) {
         Ok(value) => written_text(value.into_text_with(alloc, options, form)),
-        Err(error) => Err(fault_of(error)),
+        Err(error) => Err(error_of(error)),
     }
 }
 
@@ -119,10 +119,10 @@ fn text_of_ordered(
     options: Options,
     form: Form,
     bytes: &[u8],
-) -> Result<String, Fault>
+) -> Result<String, Error>
     ensures ok { IfOk result (λ text. IsConvertedTextInOrder options (mode_of form) bytes.now (string_bytes text)) }
     ensures accepts { (tree : Data) (value : model.Value) → IsTextOf bytes.now tree
-        → MeansIn options.doubles tree value → IfErr result (λ fault. fault ≡ Fault.OutOfMemory) }
+        → MeansIn options.doubles tree value → IfErr result (λ fault. fault ≡ Error.OutOfMemory) }
     ensures fault { IfErr result (λ fault. IsRefusedIn options fault bytes.now) }
 {
     let text = text_in_order(alloc, options, mode_of(form), bytes)?;
@@ -138,38 +138,38 @@ fn whole_text_in_order(
     options: Options,
     form: Form,
     bytes: &[u8],
-) -> Result<String, Fault>
+) -> Result<String, Error>
     ensures ok { IfOk result (λ text. IsConvertedTextInOrder options (mode_of form) bytes.now (string_bytes text)) }
     ensures accepts { (tree : Data) (value : model.Value) → IsTextOf bytes.now tree
-        → MeansIn options.doubles tree value → IfErr result (λ fault. fault ≡ Fault.OutOfMemory) }
+        → MeansIn options.doubles tree value → IfErr result (λ fault. fault ≡ Error.OutOfMemory) }
     ensures fault { IfErr result (λ fault. IsRefusedIn options fault bytes.now) }
 {
     match Bson::try_from_text_in_order(alloc, options, bytes) {
         Ok(value) => written_text(value.into_text_in_order(alloc, options, form)),
-        Err(error) => Err(fault_of(error)),
+        Err(error) => Err(error_of(error)),
     }
 }
 
 // The text that was written of a value that was read, which can be written.
-fn written_text(text: Result<String, WriteError>) -> Result<String, Fault>
+fn written_text(text: Result<String, WriteError>) -> Result<String, Error>
     requires { text ≡ Err WriteError.FiniteDouble → ⊥ }
     ensures ok { IfOk result (λ written. text ≡ Ok written) }
-    ensures fault { IfErr result (λ fault. fault ≡ Fault.OutOfMemory) }
+    ensures fault { IfErr result (λ fault. fault ≡ Error.OutOfMemory) }
 {
     match text {
         Ok(text) => Ok(text),
         Err(WriteError::FiniteDouble) => unreachable!(),
-        Err(WriteError::OutOfMemory) => Err(Fault::OutOfMemory),
+        Err(WriteError::OutOfMemory) => Err(Error::OutOfMemory),
     }
 }
 
 // The layout of the text, and a newline.
-fn lay_out(alloc: Global, spaces: usize, text: &str) -> Result<Vec<u8>, Fault>
+fn lay_out(alloc: Global, spaces: usize, text: &str) -> Result<Vec<u8>, Error>
     ensures ok { IfOk result (λ output. IsLaidOut spaces text.now output.items) }
-    ensures fault { IfErr result (λ fault. fault ≡ Fault.OutOfMemory) }
+    ensures fault { IfErr result (λ fault. fault ≡ Error.OutOfMemory) }
 {
     match indent_text(alloc, spaces, text) {
         Ok(laid) => end_line(laid),
-        Err(_) => Err(Fault::OutOfMemory),
+        Err(_) => Err(Error::OutOfMemory),
     }
 }

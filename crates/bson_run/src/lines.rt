@@ -8,11 +8,11 @@ ghost use Rattle.bson_run.specs.LinesSteps.{CannotWriteBoth, HasRoom, HasWritten
 ghost use Rattle.bson_run.specs.LinesSteps.{IsStart, Running};
 ghost use Rattle.bson_run.specs.Place.{IsWhere};
 
-use crate::gathered::{Asked, Gathered};
+use crate::gathered::{Asked, Gathered, empty};
 use crate::order::{OnRefusal, Task};
 use bson::extjson::Options;
 use bson_convert::convert::default_options;
-use bson_convert::fault::Fault;
+use bson_convert::error::Error;
 use bson_convert::stream::write_whole;
 use std::alloc::{AllocError, Global};
 use std::io::{Read, Write};
@@ -93,7 +93,7 @@ impl LineRun {
         reader: &mut R,
         writer: &mut W,
         report: &mut T,
-    ) -> Result<Counts, Fault>
+    ) -> Result<Counts, Error>
         ensures done { IfOk result (λ counts. DoneLinesIn self.old.options self.old.task self.old.on_refusal
             (R.remaining reader.old) (R.remaining reader.new) (W.contents writer.old) (W.contents writer.new)
             (T.contents report.old) (T.contents report.new) counts.lines counts.refused) }
@@ -121,7 +121,7 @@ impl LineRun {
     }
 
     /// Where the fault lies in the line at which the run stopped, in the words of `explain`.
-    pub fn place(&self, alloc: Global, fault: &Fault) -> Result<String, AllocError>
+    pub fn place(&self, alloc: Global, fault: &Error) -> Result<String, AllocError>
         ensures { IfOk result (λ place. IsWhere (text_held self.now.gathered) fault.now (string_bytes place)) }
     {
         self.gathered.place(alloc, fault)
@@ -136,7 +136,7 @@ fn run_on<R: Read, W: Write, T: Write>(
     reader: &mut R,
     writer: &mut W,
     report: &mut T,
-) -> Result<Counts, Fault>
+) -> Result<Counts, Error>
     requires start { IsStart gathered.old }
     requires room { HasRoom gathered.old }
     ensures room { HasRoom gathered.new }
@@ -151,7 +151,7 @@ fn run_on<R: Read, W: Write, T: Write>(
     let mut block = [0u8; BLOCK];
     for _ in 0..u64::MAX {
         let Ok(count) = reader.read(&mut block) else {
-            return Err(Fault::CannotRead);
+            return Err(Error::CannotRead);
         };
         if count == 0 {
             return end(alloc, asked, gathered, writer, report);
@@ -159,7 +159,7 @@ fn run_on<R: Read, W: Write, T: Write>(
         pass_on(alloc, asked, gathered, &block[..count], writer, report)?;
     }
     // A count that no run reaches.
-    Err(Fault::CannotRead)
+    Err(Error::CannotRead)
 }
 
 // Takes a block, and writes what its lines gave.
@@ -170,7 +170,7 @@ fn pass_on<W: Write, T: Write>(
     block: &[u8],
     writer: &mut W,
     report: &mut T,
-) -> Result<(), Fault>
+) -> Result<(), Error>
     requires room { HasRoom gathered.old }
     ensures room { HasRoom gathered.new }
     ensures ok { OnOk result ((before given after had told : Option (List ℕ))
@@ -199,7 +199,7 @@ fn end<W: Write, T: Write>(
     gathered: &mut Gathered,
     writer: &mut W,
     report: &mut T,
-) -> Result<Counts, Fault>
+) -> Result<Counts, Error>
     requires room { HasRoom gathered.old }
     ensures room { HasRoom gathered.new }
     ensures done { IfOk result (λ counts. (before after had told : Option (List ℕ))
@@ -231,7 +231,7 @@ fn write_out<W: Write, T: Write>(
     gathered: &mut Gathered,
     writer: &mut W,
     report: &mut T,
-) -> Result<(), Fault>
+) -> Result<(), Error>
     requires room { HasRoom gathered.old }
     ensures room { HasRoom gathered.new }
     ensures ok { OnOk result (HasWritten gathered.old gathered.new) }
@@ -241,15 +241,15 @@ fn write_out<W: Write, T: Write>(
         (CannotWriteBoth (W.contents writer.old) (W.contents writer.new) (T.contents report.old)
         (T.contents report.new) gathered.old.output.items gathered.old.told.items) }
     ensures same { OnErr result (gathered.new.lines ≡ gathered.old.lines) }
-    ensures fault { IfErr result (λ e. e ≡ Fault.CannotWrite) }
+    ensures fault { IfErr result (λ e. e ≡ Error.CannotWrite) }
 {
     let Ok(()) = write_whole(report, &gathered.told) else {
-        return Err(Fault::CannotWrite);
+        return Err(Error::CannotWrite);
     };
     let Ok(()) = write_whole(writer, &gathered.output) else {
-        return Err(Fault::CannotWrite);
+        return Err(Error::CannotWrite);
     };
-    gathered.output.clear();
+    empty(&mut gathered.output);
     gathered.told.clear();
     Ok(())
 }

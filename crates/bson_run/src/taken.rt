@@ -4,11 +4,10 @@ ghost use Rattle.bson_run.specs.Taken.{HasNoDoubleKey, IsTakenAs, IsUntaken, Sta
 ghost use Rattle.bson_run.specs.declared.order.Taking.TheVariants.{Distinct};
 
 use crate::order::Taking;
-use bson_convert::fault::Fault;
+use bson_convert::error::Error;
 use bson_distinct::walk::first_double_key;
 use bson_legacy::modern::modern_text;
 use bson_place::place::{Place, Reason};
-use json::Error;
 use std::alloc::Global;
 
 /// What is told of a key that stands twice.
@@ -28,7 +27,7 @@ pub(crate) const DOUBLE_KEY: &str = "a key that stands twice in its object";
 ///     println!(rt; "{newer}")?; // {"$regularExpression":{"pattern":"^a","options":"i"}}
 /// }
 /// ```
-pub fn take_as(alloc: Global, taking: Taking, bytes: &[u8]) -> Result<Option<String>, Fault>
+pub fn take_as(alloc: Global, taking: Taking, bytes: &[u8]) -> Result<Option<String>, Error>
     ensures ok { IfOk result (λ text. IsTakenAs taking bytes.now (taken_of bytes.now text)) }
     ensures fault { IfErr result (λ fault. IsUntaken taking fault bytes.now) }
 {
@@ -46,7 +45,7 @@ pub fn take_as(alloc: Global, taking: Taking, bytes: &[u8]) -> Result<Option<Str
 }
 
 // Refuses a text in which a key stands twice.
-fn refuse_double_keys(alloc: Global, bytes: &[u8]) -> Result<(), Fault>
+fn refuse_double_keys(alloc: Global, bytes: &[u8]) -> Result<(), Error>
     ensures ok { OnOk result (HasNoDoubleKey bytes.now) }
     ensures fault { IfErr result (λ fault. IsUntaken Distinct fault bytes.now) }
 {
@@ -54,26 +53,26 @@ fn refuse_double_keys(alloc: Global, bytes: &[u8]) -> Result<(), Fault>
         return Ok(());
     };
     match first_double_key(alloc, text) {
-        Ok(None) | Err(Error::Invalid) => Ok(()),
+        Ok(None) | Err(json::Error::Invalid) => Ok(()),
         Ok(Some(segments)) => {
             let reason = Reason::WrongShape(DOUBLE_KEY);
-            Err(Fault::NotExtendedJson(Place { reason, segments }))
+            Err(Error::NotExtendedJson(Place { reason, segments }))
         }
-        Err(_) => Err(Fault::OutOfMemory),
+        Err(_) => Err(Error::OutOfMemory),
     }
 }
 
 // The text in the place of one of v1; none for what is no JSON text.
-fn modernize(alloc: Global, bytes: &[u8]) -> Result<Option<String>, Fault>
+fn modernize(alloc: Global, bytes: &[u8]) -> Result<Option<String>, Error>
     ensures ok { IfOk result (λ text. StandsFor bytes.now (taken_of bytes.now text)) }
-    ensures fault { IfErr result (λ fault. fault ≡ Fault.OutOfMemory) }
+    ensures fault { IfErr result (λ fault. fault ≡ Error.OutOfMemory) }
 {
     let Ok(text) = simdutf8::compat::from_utf8(bytes) else {
         return Ok(None);
     };
     match modern_text(alloc, text) {
         Ok(text) => Ok(Some(text)),
-        Err(Error::Invalid) => Ok(None),
-        Err(_) => Err(Fault::OutOfMemory),
+        Err(json::Error::Invalid) => Ok(None),
+        Err(_) => Err(Error::OutOfMemory),
     }
 }

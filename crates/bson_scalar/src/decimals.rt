@@ -18,6 +18,10 @@ use std::alloc::{AllocError, Global};
 
 const SHAPE: &str = "`$numberDecimal` holds the text of a decimal that a Decimal128 has exactly";
 
+// The number of bytes of the longest text: a sign, 34 digits, a point, `E`, and an exponent of a
+// sign and four digits.
+const LONGEST_TEXT: usize = 42;
+
 // The decimal of a text.
 fn decimal_of(text: &str) -> Option<Decimal128>
     ensures { result ≡ decimal_in text.now }
@@ -43,6 +47,7 @@ pub(crate) fn write_decimal<S: Sink>(
     ensures written { IfOk result (λ t. S.wrote out.old (decimal_tree decimal) t out.new) }
     ensures before { S.before out.new ≡ S.before out.old }
 {
-    let text = format!(in alloc; "{decimal}")?;
+    let mut text = String::with_capacity(alloc, LONGEST_TEXT)?;
+    write!(text, "{decimal}")?;
     wrapped_owned("$numberDecimal", text, out)
 }

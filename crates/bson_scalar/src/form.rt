@@ -1,6 +1,14 @@
 //! The two forms of Extended JSON, and which doubles have a text.
 
 /// One of the two forms of MongoDB Extended JSON v2. Each tree of either form is read.
+///
+/// ```
+/// let (count, options) = (Bson::Int32(5), Options::default());
+/// let canonical = count.to_text_with(alloc, options, Form::Canonical)?;
+/// println!(rt; "{canonical}")?; // {"$numberInt":"5"}
+/// let relaxed = count.to_text_with(alloc, options, Form::Relaxed)?;
+/// println!(rt; "{relaxed}")?; // 5
+/// ```
 #[derive(Clone, Copy, Debug, Drop, PartialEq, Eq)]
 pub enum Form {
     /// Every type is kept.
@@ -11,6 +19,14 @@ pub enum Form {
 }
 
 /// Which doubles are read and written. Zeros, infinities and NaNs are in each.
+///
+/// ```
+/// let options = Options {
+///     doubles: Doubles::Finite,
+/// };
+/// let value = Bson::try_from_text_with(alloc, options, b"[0.5, 1]")?;
+/// println!(rt; "{value:?}")?; // Array([Double(0x3fe0000000000000), Int32(1)])
+/// ```
 #[derive(Clone, Copy, Debug, Drop, PartialEq, Eq)]
 pub enum Doubles {
     /// No others: a double that is finite and no zero has no tree, and a JSON number is an i64.

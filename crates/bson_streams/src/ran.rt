@@ -4,7 +4,7 @@ use crate::failing::{Drip, Pieces};
 use crate::order::{Call, Order};
 use bson::extjson::Options;
 use bson_convert::convert::convert;
-use bson_convert::fault::Fault;
+use bson_convert::error::Error;
 use bson_convert::mode::Mode;
 use bson_convert::run::run;
 use bson_run::in_order::convert_in_order;
@@ -87,7 +87,7 @@ fn whole(alloc: Global, mode: Mode, ends: &mut Ends<'_>) -> Result<String, Alloc
 /// writer would have taken it.
 fn converted(
     alloc: Global,
-    answer: Result<Vec<u8>, Fault>,
+    answer: Result<Vec<u8>, Error>,
     ends: &mut Ends<'_>,
 ) -> Result<String, AllocError> {
     match answer {
@@ -95,7 +95,15 @@ fn converted(
             ends.writer.taken = output;
             String::from_str(alloc, "done")
         }
-        Err(fault) => String::from_str(alloc, fault.line()),
+        Err(error) => String::from_str(alloc, line_of(&error)),
+    }
+}
+
+// The line of an error, which is never `NoBytes` here.
+fn line_of(error: &Error) -> &'static str {
+    match error.fault() {
+        Some(fault) => fault.line(),
+        None => error.message(),
     }
 }
 

@@ -9,7 +9,9 @@ use Rattle.std.specs.Map.{remove_entry}
 use Rattle.bson_place.specs.Place.{PathSegment}
 use Rattle.bson_scalar.specs.Faults.{Fault}
 use Rattle.bson_tokens.specs.Found.{Faults, Verdict, insert, remove, enter}
-use Rattle.bson_tokens.specs.Told.{AreTold, IsKept, Kept, Entry}
+use Rattle.bson_tokens.specs.declared.faults.Kept.{Kept}
+use Rattle.bson_tokens.specs.declared.faults.Kept.TheVariants.{Number, At, Dropped}
+use Rattle.bson_tokens.specs.Told.{AreTold, IsKept, Entry}
 
 abbrev key_cmp : Bor (List ℕ) → Bor (List ℕ) → Ordering
 key_cmp a b = slice_cmp nat_cmp a.now b.now
@@ -63,6 +65,7 @@ entered_none k (Some f) fs es are is = cc
 
 pub entered_some : (k : Bor (List ℕ)) (v : Verdict) (p : Kept) (fs : Faults) (es : List Entry) → AreTold fs es
     → IsKept v p → AreTold (enter k.now v fs) (insert_entry key_cmp es k p)
-entered_some k None None fs es are is = cc
-entered_some k None (Some b) fs es are is = let never = is.path in cc
+entered_some k None Number fs es are is = cc
+entered_some k None (At b) fs es are is = let never = is.path in cc
+entered_some k None Dropped fs es are is = cc is
 entered_some k (Some g) p fs es are is = inserted k g p fs es are is

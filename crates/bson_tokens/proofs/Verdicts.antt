@@ -10,7 +10,8 @@ use Rattle.bson_place.specs.declared.place.Place.{Place}
 use Rattle.bson_place.proofs.Offered.{one_fault, one_path, first_found, fault_to}
 use Rattle.bson_place.proofs.Offered.{carried}
 use Rattle.bson_tokens.specs.Found.{Verdict, Faults, found, or, within, here, least}
-use Rattle.bson_tokens.specs.Told.{Tells, AreTold, IsKept, Kept, Entry}
+use Rattle.bson_tokens.specs.declared.faults.Kept.{Kept}
+use Rattle.bson_tokens.specs.Told.{Tells, AreTold, IsKept, Entry}
 use Rattle.bson_tokens.proofs.Found.{Is, is_found}
 
 -- a place that tells a verdict tells one that is equal

@@ -1,15 +1,15 @@
 -- What a walk's answer tells of what was read.
-use Rattle.std.specs.Prelude.{◌≡◌, ℕ, List, [], ◌∷◌, Option, Some, None, MatchOption, Box}
-use Rattle.std.specs.declared.alloc.Global.{Global}
+use Rattle.std.specs.Prelude.{◌≡◌, ℕ, List, [], ◌∷◌, Option, Some, None, MatchOption, IsTrue, is_some}
 use Rattle.bson_scalar.specs.Faults.{wrong_shape}
 use Rattle.bson_scalar.specs.declared.form.Doubles.{Doubles}
-use Rattle.bson_scalar.specs.declared.form.Doubles.TheVariants.{Special}
 use Rattle.std.specs.Borrow.{Bor}
 use Rattle.json.specs.Token.{Token}
 use Rattle.serde_json.specs.Data.{Data, Members, no_members, object}
 use Rattle.serde_json.specs.Read.{read}
 use Rattle.bson_place.specs.Place.{HasValueIn, IsFirstFaultIn, IsPlace}
 use Rattle.bson_place.specs.declared.place.Place.{Place}
+use Rattle.bson_tokens.specs.declared.faults.Kept.{Kept}
+use Rattle.bson_tokens.specs.declared.faults.Kept.TheVariants.{Number, At, Dropped}
 use Rattle.bson_tokens.specs.Found.{Verdict, found, Faults}
 use Rattle.bson_tokens.specs.Parts.{ObjectIs}
 
@@ -17,9 +17,6 @@ use Rattle.bson_tokens.specs.Parts.{ObjectIs}
 abbrev pub IsTextPlaceIn : Doubles → List ℕ → Option Place → Type 0
 IsTextPlaceIn D text place =
     (t : Data) × (read text ≡ Some t) × MatchOption place (HasValueIn D t) (IsFirstFaultIn D t)
-
-abbrev pub IsPlaceIn : List ℕ → Option Place → Type 0
-IsPlaceIn = IsTextPlaceIn Special
 
 -- ---- for private clauses
 
@@ -36,17 +33,15 @@ abbrev pub ObjectFinds : Doubles → ℕ → List ℕ → List Token → Option 
 ObjectFinds D depth k ts place rest =
     (ms : Members) × ObjectIs depth no_members k ts ms rest × Tells (found D (object ms)) place
 
--- what is kept of a faulty member, and at its key
-abbrev pub Kept : Type 0
-Kept = Option (Box Place Global)
-
+-- what is kept of a faulty member at its key
 abbrev pub Entry : Type 0
 Entry = Bor (List ℕ) × Kept
 
--- it tells the verdict: nothing that of a number
+-- there is a fault, and what is kept tells it unless it was dropped
 abbrev pub IsKept : Verdict → Kept → Type 0
-IsKept v None = v ≡ Some (wrong_shape, [])
-IsKept v (Some b) = IsPlace (λ f path. v ≡ Some (f, path)) b.value
+IsKept v Number = v ≡ Some (wrong_shape, [])
+IsKept v (At b) = IsPlace (λ f path. v ≡ Some (f, path)) b.value
+IsKept v Dropped = IsTrue (is_some v)
 
 -- the entries are the faults, key by key
 abbrev pub AreTold : Faults → List Entry → Type 0

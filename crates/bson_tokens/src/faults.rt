@@ -7,8 +7,20 @@ ghost use Rattle.bson_tokens.specs.Told.{Tells, AreTold, IsKept};
 
 use bson_place::place::{Place, Reason, Segment};
 use bson_place::shape::NUMBER;
+use json::Error;
 use std::alloc::{AllocError, Global};
 use std::collections::BTreeMap;
+
+/// What is kept of a faulty member.
+#[derive(Drop)]
+pub(crate) enum Kept {
+    /// Its value is a number that is not an i64.
+    Number,
+    /// Its first fault and the path to it.
+    At(Box<Place>),
+    /// Nothing: a lesser key had a fault when its value was read.
+    Dropped,
+}
 
 // The place behind one more segment.
 pub(crate) fn with_segment(place: Place, segment: Segment) -> Result<Place, AllocError>
@@ -23,10 +35,11 @@ pub(crate) fn with_segment(place: Place, segment: Segment) -> Result<Place, Allo
     Ok(Place { reason, segments })
 }
 
-// Notes what was found of the last value of the key so far.
+// Notes what was found of the last value of the key so far. The place of a fault is kept only if no
+// lesser key has one, so that objects with many faults need little memory.
 pub(crate) fn enter<'a>(
     alloc: Global,
-    faults: &mut BTreeMap<&'a str, Option<Box<Place>>>,
+    faults: &mut BTreeMap<&'a str, Kept>,
     key: &'a str,
     member: Option<Place>,
 ) -> Result<(), AllocError>
@@ -36,15 +49,38 @@ pub(crate) fn enter<'a>(
     match member {
         None => drop(faults.remove(key)),
         Some(place) => {
-            let kept = keep(alloc, place)?;
+            let kept = keep_first(alloc, faults, key, place)?;
             drop(faults.insert(key, kept)?);
         }
     }
     Ok(())
 }
 
-// What is kept of a faulty member: nothing where its value is a number that is no i64.
-fn keep(alloc: Global, place: Place) -> Result<Option<Box<Place>>, AllocError>
+// What is kept of a member at the key with a fault at the place.
+fn keep_first(
+    alloc: Global,
+    faults: &BTreeMap<&str, Kept>,
+    key: &str,
+    place: Place,
+) -> Result<Kept, AllocError>
+    ensures { IfOk result (λ kept. (v : Verdict) → IsPlace (λ f path. v ≡ Some (f, path)) place → IsKept v kept) }
+{
+    if has_lesser(faults, key) {
+        return Ok(Kept::Dropped);
+    }
+    keep(alloc, place)
+}
+
+// Whether a lesser key has a fault.
+fn has_lesser(faults: &BTreeMap<&str, Kept>, key: &str) -> bool {
+    match faults.first_key_value() {
+        Some((first, _)) => *first < key,
+        None => false,
+    }
+}
+
+// What is kept of a faulty member with its place.
+fn keep(alloc: Global, place: Place) -> Result<Kept, AllocError>
     ensures { IfOk result (λ kept. (v : Verdict) → IsPlace (λ f path. v ≡ Some (f, path)) place → IsKept v kept) }
 {
     let Place {
@@ -52,10 +88,10 @@ fn keep(alloc: Global, place: Place) -> Result<Option<Box<Place>>, AllocError>
         mut segments,
     } = place;
     if segments.is_empty() && is_of_number(&reason) {
-        return Ok(None);
+        return Ok(Kept::Number);
     }
     segments.shrink_to_fit();
-    Ok(Some(Box::new(alloc, Place { reason, segments })?))
+    Ok(Kept::At(Box::new(alloc, Place { reason, segments })?))
 }
 
 fn is_of_number(reason: &Reason) -> bool
@@ -67,29 +103,31 @@ fn is_of_number(reason: &Reason) -> bool
     }
 }
 
-// The fault at the least key.
+// The fault at the least key, or `Invalid` if its place was dropped.
 pub(crate) fn least_fault(
     alloc: Global,
-    mut faults: BTreeMap<&str, Option<Box<Place>>>,
-) -> Result<Option<Place>, AllocError>
+    mut faults: BTreeMap<&str, Kept>,
+) -> Result<Option<Place>, Error>
     ensures { IfOk result (λ p. (fs : Faults) → AreTold fs faults.entry.entries → Tells (least fs) p) }
 {
     match faults.pop_first() {
         None => Ok(None),
         Some((key, kept)) => {
+            let place = place_of(alloc, kept)?;
             let key = String::from_str(alloc, key)?;
-            Ok(Some(with_segment(place_of(alloc, kept), Segment::Key(key))?))
+            Ok(Some(with_segment(place, Segment::Key(key))?))
         }
     }
 }
 
-// The place that was kept.
-fn place_of(alloc: Global, kept: Option<Box<Place>>) -> Place
-    ensures { (v : Verdict) → IsKept v kept → IsPlace (λ f path. v ≡ Some (f, path)) result }
+// The place that was kept, or `Invalid` if none was.
+fn place_of(alloc: Global, kept: Kept) -> Result<Place, Error>
+    ensures { IfOk result (λ p. (v : Verdict) → IsKept v kept → IsPlace (λ f path. v ≡ Some (f, path)) p) }
 {
     match kept {
-        None => place_here(alloc, NUMBER),
-        Some(place) => Box::into_inner(place),
+        Kept::Number => Ok(place_here(alloc, NUMBER)),
+        Kept::At(place) => Ok(Box::into_inner(place)),
+        Kept::Dropped => Err(Error::Invalid),
     }
 }
 

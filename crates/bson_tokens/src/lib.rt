@@ -13,3 +13,6 @@ pub mod prefix;
 pub mod start;
 pub mod tree;
 pub mod walk;
+
+/// How deep arrays and objects may nest in a JSON text.
+pub const MAX_DEPTH: usize = 127;

@@ -9,11 +9,12 @@ ghost use Rattle.bson_place.specs.Place.{element};
 ghost use Rattle.bson_tokens.specs.Found.{Verdict, found, found_items, or, within};
 ghost use Rattle.bson_tokens.specs.Parts.{IsBroken};
 ghost use Rattle.bson_tokens.specs.Start.{primitive_tree};
-ghost use Rattle.bson_tokens.specs.Told.{Tells, Finds, IsPlaceIn, IsTextPlaceIn};
+ghost use Rattle.bson_tokens.specs.Told.{Tells, Finds, IsTextPlaceIn};
 ghost use Rattle.json.specs.declared.error.Error.TheVariants.{OutOfMemory};
 
 mod wrapped;
 
+use crate::MAX_DEPTH;
 use crate::faults::{enter, least_fault, place_here, with_segment};
 use crate::start::{Primitive, Start, read_start};
 use crate::walk::wrapped::walk_wrapper;
@@ -28,25 +29,16 @@ use serde_json::{Map, Value};
 use std::alloc::{AllocError, Global};
 use std::collections::BTreeMap;
 
-/// How deep arrays and objects may nest.
-const MAX_DEPTH: usize = 127;
-
-/// The first fault of the text's tree and the path to it, or nothing where the tree has a meaning
-/// in MongoDB Extended JSON v2.
+/// Returns the first fault of the text's tree and the path to it, or `None` if the tree has a
+/// meaning in MongoDB Extended JSON v2.
 ///
-/// It is the place that `place_of_fault` finds in the tree, and no tree of the whole is made: of an
+/// It is the place that `first_place` finds in the tree, and no tree of the whole is made: of an
 /// array the first fault is kept, of an object the faults by key, since a later value of a key
-/// takes the place of an earlier one. Only a text in which `$code` stands behind a `$scope` that
-/// its object begins with is read as a tree. `Invalid` is answered where the text has no tree: it is
-/// no JSON text of at most 127 levels, or has a number whose nearest double is not finite.
-pub fn first_fault(alloc: Global, text: &str) -> Result<Option<Place>, Error>
-    ensures place { IfOk result (λ found. IsPlaceIn text.now found) }
-    ensures broken { IfErr result (IsBroken (read text.now)) }
-{
-    first_fault_in(alloc, Doubles::Special, text)
-}
-
-/// The first fault of the text's tree, as `first_fault` finds it, in either mode of doubles.
+/// takes the place of an earlier one. A text is read as a tree only in two cases: `$code` follows a
+/// `$scope` that its object begins with, or a faulty key's value gives way to a later one without a
+/// fault after the place of the object's next fault was dropped. `Invalid` is returned if the text
+/// has no tree: it is not a JSON text of at most 127 levels, or has a number whose nearest double is
+/// not finite.
 pub fn first_fault_in(alloc: Global, doubles: Doubles, text: &str) -> Result<Option<Place>, Error>
     ensures place { IfOk result (λ found. IsTextPlaceIn doubles text.now found) }
     ensures broken { IfErr result (IsBroken (read text.now)) }
@@ -57,8 +49,9 @@ pub fn first_fault_in(alloc: Global, doubles: Doubles, text: &str) -> Result<Opt
     }
 }
 
-// The first fault of a text that the walk does not refuse. It refuses one that has no tree, and
-// one in which code stands behind its scope, since what a scope holds is told by the code.
+// The first fault of a text that the walk does not reject. It rejects a text without a tree, one in
+// which code follows its scope, since the code decides what a scope means, and one whose first
+// fault was dropped.
 fn walk_text(alloc: Global, doubles: Doubles, text: &str) -> Result<Option<Place>, Error>
     ensures { IfOk result (λ found. IsTextPlaceIn doubles text.now found) }
 {
@@ -201,7 +194,7 @@ fn walk_members(
     }
     match wrapper {
         Some((_, wrapper)) => Ok(Some(place_here(alloc, beside_others(wrapper)))),
-        None => Ok(least_fault(alloc, faults)?),
+        None => least_fault(alloc, faults),
     }
 }
 

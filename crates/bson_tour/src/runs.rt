@@ -4,9 +4,10 @@ use bson_codec::de::DEPTH;
 use bson_codec::from_slice;
 use bson_convert::convert::convert;
 use bson_convert::converted::{Tried, try_text};
+use bson_convert::error::Error;
 use bson_convert::fault::Fault;
 use bson_convert::mode::{Mode, mode_of};
-use bson_convert::value::value_of;
+use bson_convert::run::run;
 use bson_run::accepted::Accepted;
 use bson_run::encode::{encode_in_order, encode_with};
 use bson_run::in_order::convert_in_order;
@@ -32,6 +33,7 @@ pub(crate) fn print(rt: &impl Print, alloc: Global) -> anyhow::Result<()> {
     convert_in_order_indented_call(rt, alloc)?;
     mode(rt, alloc)?;
     fault(rt, alloc)?;
+    error(rt, alloc)?;
     counts(rt, alloc)?;
     line_run(rt, alloc)?;
     task(rt, alloc)?;
@@ -105,7 +107,7 @@ fn encode_in_order_call(rt: &impl Print, alloc: Global) -> anyhow::Result<()> {
 }
 
 fn no_bytes(rt: &impl Print, alloc: Global) -> anyhow::Result<()> {
-    if let Err(Fault::NoBytes(why)) = encode_in_order(alloc, Options::default(), b"[1, 2]") {
+    if let Err(Error::NoBytes(why)) = encode_in_order(alloc, Options::default(), b"[1, 2]") {
         println!(rt; "{}", why.message())?; // no document
     }
     Ok(())
@@ -157,8 +159,21 @@ fn mode(rt: &impl Print, alloc: Global) -> anyhow::Result<()> {
 }
 
 fn fault(rt: &impl Print, alloc: Global) -> anyhow::Result<()> {
-    if let Err(fault) = value_of(alloc, b"[1, 2") {
-        println!(rt; "{}", fault.line())?; // bson_cli: not JSON
+    let mut input: &[u8] = b"[1, 2";
+    let mut output = Vec::new(alloc);
+    if let Err(fault) = run(alloc, Mode::Relaxed, &mut input, &mut output) {
+        let is_of_input = match fault {
+            Fault::NotJson | Fault::BadObjectId | Fault::NotExtendedJson => true,
+            Fault::CannotRead | Fault::OutOfMemory | Fault::CannotWrite => false,
+        };
+        println!(rt; "{is_of_input} {}", fault.line())?; // true bson_cli: not JSON
+    }
+    Ok(())
+}
+
+fn error(rt: &impl Print, alloc: Global) -> anyhow::Result<()> {
+    if let Err(error) = convert(alloc, Mode::Canonical, br#"[{"$oid": 5}]"#) {
+        println!(rt; "{}", error.message())?; // not Extended JSON
     }
     Ok(())
 }

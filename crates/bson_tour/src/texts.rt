@@ -4,7 +4,7 @@ use bson::{Bson, Document};
 use bson_convert::convert::text_with;
 use bson_convert::mode::Mode;
 use bson_place::builder::Nothing;
-use bson_place::walk::{place_of_fault, read_tree};
+use bson_place::walk::{first_place, read_tree};
 use serde_json::Value;
 use std::alloc::Global;
 
@@ -12,6 +12,8 @@ pub(crate) fn print(rt: &impl Print, alloc: Global) -> anyhow::Result<()> {
     extjson_de_error(rt, alloc)?;
     write_error(rt, alloc)?;
     options(rt, alloc)?;
+    form(rt, alloc)?;
+    doubles(rt, alloc)?;
     to_text_with_call(rt, alloc)?;
     to_text_in_order_call(rt, alloc)?;
     try_from_text_call(rt, alloc)?;
@@ -52,6 +54,24 @@ fn options(rt: &impl Print, alloc: Global) -> anyhow::Result<()> {
     if let Err(error) = Bson::Double(1).into_text_with(alloc, Options::default(), Form::Canonical) {
         println!(rt; "{error}")?; // a finite double has no text
     }
+    Ok(())
+}
+
+fn form(rt: &impl Print, alloc: Global) -> anyhow::Result<()> {
+    let (count, options) = (Bson::Int32(5), Options::default());
+    let canonical = count.to_text_with(alloc, options, Form::Canonical)?;
+    println!(rt; "{canonical}")?; // {"$numberInt":"5"}
+    let relaxed = count.to_text_with(alloc, options, Form::Relaxed)?;
+    println!(rt; "{relaxed}")?; // 5
+    Ok(())
+}
+
+fn doubles(rt: &impl Print, alloc: Global) -> anyhow::Result<()> {
+    let options = Options {
+        doubles: Doubles::Finite,
+    };
+    let value = Bson::try_from_text_with(alloc, options, b"[0.5, 1]")?;
+    println!(rt; "{value:?}")?; // Array([Double(0x3fe0000000000000), Int32(1)])
     Ok(())
 }
 
@@ -116,7 +136,7 @@ fn text_with_call(rt: &impl Print, alloc: Global) -> anyhow::Result<()> {
 
 fn place(rt: &impl Print, alloc: Global) -> anyhow::Result<()> {
     let tree = Value::from_slice(alloc, br#"{"orders": [{"price": 1.5}]}"#)?;
-    if let Some(place) = place_of_fault(alloc, &tree)? {
+    if let Some(place) = first_place(alloc, Doubles::Special, tree)? {
         println!(rt; "{}", place.path(alloc)?)?; // orders.0.price
     }
     Ok(())
@@ -124,7 +144,7 @@ fn place(rt: &impl Print, alloc: Global) -> anyhow::Result<()> {
 
 fn segment(rt: &impl Print, alloc: Global) -> anyhow::Result<()> {
     let tree = Value::from_slice(alloc, br#"{"orders": [1.5]}"#)?;
-    if let Some(place) = place_of_fault(alloc, &tree)? {
+    if let Some(place) = first_place(alloc, Doubles::Special, tree)? {
         println!(rt; "{:?}", place.segments)?; // [Element(0), Key("orders")]
     }
     Ok(())
@@ -132,7 +152,7 @@ fn segment(rt: &impl Print, alloc: Global) -> anyhow::Result<()> {
 
 fn reason(rt: &impl Print, alloc: Global) -> anyhow::Result<()> {
     let tree = Value::from_slice(alloc, br#"{"$oid": "53e3"}"#)?;
-    if let Some(place) = place_of_fault(alloc, &tree)? {
+    if let Some(place) = first_place(alloc, Doubles::Special, tree)? {
         println!(rt; "{}", place.reason)?; // an object id has 24 digits, but "53e3" has 4
     }
     Ok(())

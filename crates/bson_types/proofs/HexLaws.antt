@@ -1,12 +1,13 @@
 -- What the kit reads in a text of hexadecimal digits is what the text says.
 use Rattle.std.proofs.Common.{◌≡◌, inl, inr, ℕ, ◌+◌, ◌*◌, ◌%◌, List, [], ◌∷◌, length, Option, Some, None, Result, Ok}
-use Rattle.std.proofs.Common.{Err, refl, sym, ap, ◌∙◌, subst, arith}
+use Rattle.std.proofs.Common.{Err, unwrap_or, refl, sym, ap, ◌∙◌, subst, arith}
 use Rattle.std.specs.Result.{result_unwrap_or}
 use Rattle.std.proofs.lemmas.Bool.Decides.{nat_tests}
 use Rattle.hex.specs.declared.error.FromHexError.{FromHexError}
 use Rattle.hex.specs.Hex.{decode_pairs, decode_sized, digit_or_error, hex_digit_value, pair_value, value_at, ◌>>=◌}
 use Rattle.hex.proofs.HexLemmas.{decode_of-even, decode_sized-ok, decode_sized-twice}
-use Rattle.bson_types.specs.HexText.{IsDigitOf, IsHexText, nothing, pair}
+use Rattle.hex.specs.declared.error.FromHexError.TheVariants.{InvalidHexCharacter}
+use Rattle.bson_types.specs.HexText.{IsDigitOf, IsHexText, nothing, pair, byte_of_digits}
 
 -- ---- a digit
 
@@ -71,3 +72,27 @@ sized_to n text bytes is size =
     let long : length text ≡ 2 * n = omega (arith, size, twice is) in
     let even : length text % 2 ≡ 0 = omega (arith, long) in
     decode_sized-twice text n long ∙ decode_of-even text even ∙ pairs_to 0 is
+
+-- ---- two digits
+
+pair_from : (x y : Option ℕ) (c d i v : ℕ) → byte_of_digits x y ≡ Some v
+    → (digit_or_error c i x >>= (λ high. digit_or_error d (i + 1) y >>= (λ low. Ok (high * 16 + low)))) ≡ Ok v
+pair_from (Some high) (Some low) c d i v h = ap Ok (ap (λ (o : Option ℕ). unwrap_or o 0) h)
+pair_from (Some high) None c d i v h = cc h
+pair_from None y c d i v h = cc h
+
+no_pair : (x y : Option ℕ) (c d i : ℕ) → byte_of_digits x y ≡ None → (e : FromHexError)
+    × ((digit_or_error c i x >>= (λ high. digit_or_error d (i + 1) y >>= (λ low. Ok (high * 16 + low)))) ≡ Err e)
+no_pair (Some high) (Some low) c d i h = cc h
+no_pair (Some high) None c d i h = (InvalidHexCharacter d (i + 1), refl)
+no_pair None y c d i h = (InvalidHexCharacter c i, refl)
+
+-- two digits are read as their byte
+pub digits_read : (c d i v : ℕ) → byte_of_digits (hex_digit_value c) (hex_digit_value d) ≡ Some v
+    → pair_value c d i ≡ Ok v
+digits_read c d i v h = pair_from (hex_digit_value c) (hex_digit_value d) c d i v h
+
+-- two characters that are not digits are not read
+pub digits_refused : (c d i : ℕ) → byte_of_digits (hex_digit_value c) (hex_digit_value d) ≡ None
+    → (e : FromHexError) × (pair_value c d i ≡ Err e)
+digits_refused c d i h = no_pair (hex_digit_value c) (hex_digit_value d) c d i h

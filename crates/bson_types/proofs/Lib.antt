@@ -10,5 +10,6 @@ pub mod HexLaws
 pub mod UuidLaws
 mod UuidWriting
 pub mod Base64Laws
+mod DigitTable
 pub mod ByteRanges
 pub mod Offered

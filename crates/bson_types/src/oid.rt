@@ -1,5 +1,5 @@
 //! Object ids (BSON 1.1, type 0x07), and their texts of 24 hexadecimal digits.
-ghost use Rattle.std.specs.Prelude.{◌≡◌, ◌++◌, ℕ, List, Ok, Some, IfOk, IfErr, length, not};
+ghost use Rattle.std.specs.Prelude.{◌≡◌, ◌++◌, ℕ, List, Ok, Some, IfOk, IfErr, IfSome, length, not};
 ghost use Rattle.std.specs.Prelude.{string_bytes};
 ghost use Rattle.std.specs.Cmp.Lexicographic.{nat_list_cmp_total, slice_cmp, texts_po, texts_ties};
 ghost use Rattle.std.specs.Int.{w32, to_be_bytes};
@@ -7,11 +7,12 @@ ghost use Rattle.std.specs.Ordering.{nat_cmp};
 ghost use Rattle.std.proofs.Common.{refl};
 ghost use Rattle.bson_types.specs.Oid.{IsObjectId, IsOidText, BadLength, bad_place, encode_lower};
 ghost use Rattle.bson_types.specs.Oid.{fault_at, is_hex_digit, oid_fault, oid_millis};
+ghost use Rattle.hex.specs.Hex.{hex_digit_value};
+ghost use Rattle.bson_types.specs.HexText.{below_16, byte_of_digits};
 ghost use Rattle.bson_types.specs.OidFault.{IsOidError};
 ghost use Rattle.bson_types.specs.declared.oid.Error.TheVariants as oid_error;
 
 use bson_datetime::DateTime;
-use hex::FromHex;
 use std::alloc::{AllocError, Global};
 use std::cmp::Ordering;
 use std::fmt;
@@ -108,9 +109,9 @@ impl ObjectId {
         if text.len() % 2 != 0 {
             return Err(length_error(alloc, text));
         }
-        match <[u8; 12] as FromHex>::from_hex(text) {
-            Ok(bytes) => Ok(ObjectId::from_bytes(bytes)),
-            Err(_) => Err(digit_error(alloc, text)),
+        match bytes_of(text.as_bytes()) {
+            Some(bytes) => Ok(ObjectId::from_bytes(bytes)),
+            None => Err(digit_error(alloc, text)),
         }
     }
 
@@ -186,6 +187,58 @@ impl fmt::Display for ObjectId {
             Err(_) => unreachable!(),
         }
     }
+}
+
+// The value of each byte that is a hexadecimal digit, of either case, and 255 for the others.
+const DIGIT_VALUES: [u8; 256] = [
+    255, 255, 255, 255, 255, 255, 255, 255, 255, 255, 255, 255, 255, 255, 255, 255, 255, 255, 255,
+    255, 255, 255, 255, 255, 255, 255, 255, 255, 255, 255, 255, 255, 255, 255, 255, 255, 255, 255,
+    255, 255, 255, 255, 255, 255, 255, 255, 255, 255, 0, 1, 2, 3, 4, 5, 6, 7, 8, 9, 255, 255, 255,
+    255, 255, 255, 255, 10, 11, 12, 13, 14, 15, 255, 255, 255, 255, 255, 255, 255, 255, 255, 255,
+    255, 255, 255, 255, 255, 255, 255, 255, 255, 255, 255, 255, 255, 255, 255, 255, 10, 11, 12, 13,
+    14, 15, 255, 255, 255, 255, 255, 255, 255, 255, 255, 255, 255, 255, 255, 255, 255, 255, 255,
+    255, 255, 255, 255, 255, 255, 255, 255, 255, 255, 255, 255, 255, 255, 255, 255, 255, 255, 255,
+    255, 255, 255, 255, 255, 255, 255, 255, 255, 255, 255, 255, 255, 255, 255, 255, 255, 255, 255,
+    255, 255, 255, 255, 255, 255, 255, 255, 255, 255, 255, 255, 255, 255, 255, 255, 255, 255, 255,
+    255, 255, 255, 255, 255, 255, 255, 255, 255, 255, 255, 255, 255, 255, 255, 255, 255, 255, 255,
+    255, 255, 255, 255, 255, 255, 255, 255, 255, 255, 255, 255, 255, 255, 255, 255, 255, 255, 255,
+    255, 255, 255, 255, 255, 255, 255, 255, 255, 255, 255, 255, 255, 255, 255, 255, 255, 255, 255,
+    255, 255, 255, 255, 255, 255, 255, 255, 255, 255, 255, 255, 255, 255, 255, 255, 255, 255, 255,
+    255, 255, 255,
+];
+
+// The value of a digit, or 255.
+fn digit_value(byte: u8) -> u8
+    ensures { below_16 result ≡ hex_digit_value byte }
+{
+    DIGIT_VALUES[byte as usize]
+}
+
+// The byte of two digits.
+fn byte_of(high: u8, low: u8) -> Option<u8>
+    ensures { result ≡ byte_of_digits (hex_digit_value high) (hex_digit_value low) }
+{
+    let high = digit_value(high);
+    let low = digit_value(low);
+    if high >= 16 || low >= 16 {
+        return None;
+    }
+    Some(high * 16 + low)
+}
+
+// The bytes of a text, if it is 24 digits.
+fn bytes_of(text: &[u8]) -> Option<[u8; 12]>
+    ensures some { IfSome result (λ id. IsOidText text.now id) }
+    ensures every { (id : List ℕ) → IsOidText text.now id → result ≡ Some id }
+{
+    if text.len() != 24 {
+        return None;
+    }
+    let mut bytes = [0u8; 12];
+    'bytes: for at in 0..12 {
+        bytes[at] = byte_of(text[2 * at], text[2 * at + 1])?;
+    }
+    Some(bytes)
 }
 
 // What the type says of the bytes.

@@ -10,9 +10,9 @@ use Rattle.bson_place.specs.declared.place.Reason.{Reason}
 use Rattle.bson_place.specs.declared.place.Reason.TheVariants.{BadObjectId, WrongShape}
 use Rattle.bson_place.specs.declared.place.Place.{Place}
 use Rattle.bson_convert.specs.Convert.{IsRefusedIn}
-use Rattle.bson_convert.specs.declared.fault.Fault.{Fault}
-use Rattle.bson_convert.specs.declared.fault.Fault.TheVariants.{CannotRead, NotJson, NotExtendedJson, NoBytes, OutOfMemory}
-use Rattle.bson_convert.specs.declared.fault.Fault.TheVariants.{CannotWrite}
+use Rattle.bson_convert.specs.declared.error.Error.{Error}
+use Rattle.bson_convert.specs.declared.error.Error.TheVariants.{CannotRead, NotJson, NotExtendedJson, NoBytes, OutOfMemory}
+use Rattle.bson_convert.specs.declared.error.Error.TheVariants.{CannotWrite}
 use Rattle.bson_run.specs.Encode.{HasNoBytesFor}
 use Rattle.bson_convert.specs.declared.no_bytes.NoBytes as without
 use Rattle.bson_convert.specs.declared.no_bytes.NoBytes.TheVariants.{NoDocument, ZeroInKey, ZeroInRegex, TooLong}
@@ -40,7 +40,7 @@ of_place : (o : Options) (why : TreeFault → Type 0) (place : Place) (bytes : L
 of_place o why place bytes h reason =
     record { tree = h.0; text = h.1; refused = h.2.nothing; reason = reason }
 
-pub causes : (o : Options) (fault : Fault) (bytes : List ℕ) → IsRefusedIn o fault bytes
+pub causes : (o : Options) (fault : Error) (bytes : List ℕ) → IsRefusedIn o fault bytes
     → IsCauseIn o (status_of fault) bytes
 causes o CannotRead bytes h = absurd h
 causes o NotJson bytes h = record {
@@ -83,11 +83,11 @@ no_meaning k o status text cause least most = record {
   listed = inl (least, most);
 }
 
-reason_status : (r : Reason) → (2 ≤ status_for r) × (status_for r ≤ 5)
+pub reason_status : (r : Reason) → (2 ≤ status_for r) × (status_for r ≤ 5)
 reason_status (BadObjectId e) = (omega arith, omega arith)
 reason_status (WrongShape message) = (omega arith, omega arith)
 
-refused : (k : KeyOrder) (o : Options) (fault : Fault) (text : List ℕ) → IsRefusedIn o fault text
+refused : (k : KeyOrder) (o : Options) (fault : Error) (text : List ℕ) → IsRefusedIn o fault text
     → IsUnencoded k o (status_of fault) text
 refused k o CannotRead text h = absurd h
 refused k o NotJson text h = no_meaning k o 2 text (causes o NotJson text h) (omega arith) (omega arith)
@@ -134,7 +134,7 @@ without_bytes k o TooLong text h = record {
 }
 
 -- what the status of the fault says of the text
-pub unencoded : (k : KeyOrder) (o : Options) (fault : Fault) (text : List ℕ) → IsUnencodedBy k o fault text
+pub unencoded : (k : KeyOrder) (o : Options) (fault : Error) (text : List ℕ) → IsUnencodedBy k o fault text
     → IsUnencoded k o (status_of fault) text
 unencoded Ascending o CannotRead text h = absurd h
 unencoded Ascending o NotJson text h = refused Ascending o NotJson text h
@@ -150,7 +150,7 @@ unencoded AsGiven o OutOfMemory text h = refused AsGiven o OutOfMemory text h
 unencoded AsGiven o CannotWrite text h = absurd h
 
 -- a text that gives no bytes has the fault of a text
-pub of_text : (k : KeyOrder) (o : Options) (fault : Fault) (text : List ℕ) → IsUnencodedBy k o fault text
+pub of_text : (k : KeyOrder) (o : Options) (fault : Error) (text : List ℕ) → IsUnencodedBy k o fault text
     → IsOfText fault
 of_text k o NotJson text h = tt
 of_text k o (NotExtendedJson place) text h = tt

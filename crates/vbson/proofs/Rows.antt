@@ -1,14 +1,18 @@
 -- Rows of the numbers that a caller in C writes and reads (languages/c/vbson.h has them). A definition that is changed
 -- together with its code is refused here.
-use Rattle.std.proofs.Common.{◌≡◌, Some, None, refl}
+use Rattle.std.proofs.Common.{◌≡◌, Some, None, true, false, refl}
 use Rattle.bson.specs.Doubles.TheVariants.{Special, Finite}
 use Rattle.bson_place.specs.declared.place.Reason.TheVariants.{BadObjectId, WrongShape}
 use Rattle.bson_convert.specs.Convert.{default_options}
 use Rattle.bson_convert.specs.declared.mode.Mode.TheVariants as mode
-use Rattle.bson_convert.specs.declared.fault.Fault.TheVariants as fault
+use Rattle.bson_convert.specs.declared.error.Error.TheVariants as error
 use Rattle.bson_convert.specs.declared.no_bytes.NoBytes.TheVariants as without
 use Rattle.vbson.specs.Convert.{mode_at, options_of, order_of, status_for, status_of}
+use Rattle.bson_bytes.specs.declared.keys.DuplicateKeys.TheVariants.{Replace, Refuse}
+use Rattle.bson_run.specs.declared.order.Taking.TheVariants.{Distinct, Legacy, DistinctLegacy}
 use Rattle.vbson.specs.Documents.{depth}
+use Rattle.vbson.specs.Reading.{duplicate_keys_of, preprocessing_of}
+use Rattle.vbson.specs.Values.{verdict}
 use Rattle.vbson.specs.declared.flags.KeyOrder.TheVariants.{Ascending, AsGiven}
 
 -- ---- modes
@@ -32,16 +36,28 @@ flags_numbered : (options_of 0 ≡ default_options)
     × (order_of 3 ≡ AsGiven)
 flags_numbered = (refl, refl, refl, refl, refl, refl, refl, refl, refl)
 
+-- the flags 4 and 8 are of what is read
+reading_numbered : (preprocessing_of 3 ≡ None)
+    × (preprocessing_of 4 ≡ Some Distinct)
+    × (preprocessing_of 8 ≡ Some Legacy)
+    × (preprocessing_of 15 ≡ Some DistinctLegacy)
+    × (duplicate_keys_of 11 ≡ Replace)
+    × (duplicate_keys_of 4 ≡ Refuse)
+reading_numbered = (refl, refl, refl, refl, refl, refl)
+
 -- ---- statuses
 
-statuses_numbered : (status_of fault.NotJson ≡ 2)
+verdicts_numbered : (verdict true ≡ 0) × (verdict false ≡ 9)
+verdicts_numbered = (refl, refl)
+
+statuses_numbered : (status_of error.NotJson ≡ 2)
     × ((e : _) → status_for (BadObjectId e) ≡ 3)
     × ((message : _) → status_for (WrongShape message) ≡ 4)
-    × (status_of fault.OutOfMemory ≡ 5)
-    × (status_of (fault.NoBytes without.NoDocument) ≡ 10)
-    × (status_of (fault.NoBytes without.ZeroInKey) ≡ 11)
-    × (status_of (fault.NoBytes without.ZeroInRegex) ≡ 12)
-    × (status_of (fault.NoBytes without.TooLong) ≡ 13)
+    × (status_of error.OutOfMemory ≡ 5)
+    × (status_of (error.NoBytes without.NoDocument) ≡ 10)
+    × (status_of (error.NoBytes without.ZeroInKey) ≡ 11)
+    × (status_of (error.NoBytes without.ZeroInRegex) ≡ 12)
+    × (status_of (error.NoBytes without.TooLong) ≡ 13)
 statuses_numbered = (refl, λ e. refl, λ message. refl, refl, refl, refl, refl, refl)
 
 -- ---- documents

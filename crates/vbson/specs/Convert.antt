@@ -12,9 +12,9 @@ use Rattle.bson_convert.specs.Convert.{ConvertsIn, default_options, newline}
 use Rattle.bson_run.specs.InOrder.{ConvertsInOrder}
 use Rattle.bson_convert.specs.declared.mode.Mode.{Mode}
 use Rattle.bson_convert.specs.declared.mode.Mode.TheVariants.{Canonical, Relaxed, Show}
-use Rattle.bson_convert.specs.declared.fault.Fault.{Fault}
-use Rattle.bson_convert.specs.declared.fault.Fault.TheVariants.{CannotRead, NotJson, NotExtendedJson, NoBytes}
-use Rattle.bson_convert.specs.declared.fault.Fault.TheVariants.{CannotWrite}
+use Rattle.bson_convert.specs.declared.error.Error.{Error}
+use Rattle.bson_convert.specs.declared.error.Error.TheVariants.{CannotRead, NotJson, NotExtendedJson, NoBytes}
+use Rattle.bson_convert.specs.declared.error.Error.TheVariants.{CannotWrite}
 use Rattle.bson_convert.specs.declared.no_bytes.NoBytes as without
 use Rattle.bson_convert.specs.declared.no_bytes.NoBytes.TheVariants.{NoDocument, ZeroInKey, ZeroInRegex, TooLong}
 use Rattle.vbson.specs.Text.{IsText}
@@ -81,7 +81,7 @@ pub record IsCauseIn (o : Options) (status : ℕ) (bytes : List ℕ) : Type 0 wh
   pub not_extended_json : status ≡ 4 → HasNoMeaningIn o IsBad bytes
 
 -- a text is neither read from a reader nor written to a writer
-abbrev pub IsOfText : Fault → Type 0
+abbrev pub IsOfText : Error → Type 0
 IsOfText CannotRead = ⊥
 IsOfText CannotWrite = ⊥
 IsOfText _ = Unit {0}
@@ -96,7 +96,7 @@ status_without ZeroInKey = 11
 status_without ZeroInRegex = 12
 status_without TooLong = 13
 
-abbrev pub status_of : Fault → ℕ
+abbrev pub status_of : Error → ℕ
 status_of NotJson = 2
 status_of (NotExtendedJson place) = status_for place.reason
 status_of (NoBytes why) = status_without why

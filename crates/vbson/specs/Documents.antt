@@ -16,7 +16,7 @@ use Rattle.bson_model.specs.Displayed.{display_text}
 use Rattle.bson_model.specs.Normal.{writable_in}
 use Rattle.bson_model.specs.Value.{Value, Pairs, document}
 use Rattle.bson_run.specs.Encode.{FailsFor, IsBytesOf, IsNoDocument, IsUnencodedIn, IsUnencodedInOrder, MeansKept}
-use Rattle.bson_convert.specs.declared.fault.Fault.{Fault}
+use Rattle.bson_convert.specs.declared.error.Error.{Error}
 use Rattle.bson_convert.specs.declared.mode.Mode.{Mode}
 use Rattle.bson_convert.specs.declared.mode.Mode.TheVariants.{Canonical, Relaxed, Show}
 use Rattle.vbson.specs.Convert.{IsCauseIn, mode_at}
@@ -132,6 +132,6 @@ pub record IsUnencoded (k : KeyOrder) (o : Options) (status : ℕ) (text : List 
   pub listed : ((2 ≤ status) × (status ≤ 5)) ⊎ ((10 ≤ status) × (status ≤ 13))
 
 -- what each fault says of a text that gave no bytes, its keys in the order
-abbrev pub IsUnencodedBy : KeyOrder → Options → Fault → List ℕ → Type 0
+abbrev pub IsUnencodedBy : KeyOrder → Options → Error → List ℕ → Type 0
 IsUnencodedBy Ascending o fault text = IsUnencodedIn o fault text
 IsUnencodedBy AsGiven o fault text = IsUnencodedInOrder o fault text

@@ -1,15 +1,13 @@
 -- A block of documents, one behind the other.
-use Rattle.std.specs.Prelude.{◌≡◌, ◌⊎◌, ◌+◌, ℕ, List, ◌++◌, Some, length, true}
+use Rattle.std.specs.Prelude.{◌≡◌, ◌⊎◌, ℕ, List, ◌++◌, Some, length, true}
 use Rattle.bson.specs.declared.extjson.options.Options.{Options}
-use Rattle.bson_codec.specs.Documents.{Dump, HasNoLine}
+use Rattle.bson_codec.specs.Documents.{Dump, EndsInside, IsOfBytes}
 use Rattle.bson_codec.specs.Told.{told_of}
 use Rattle.bson_codec.specs.declared.documents.Line.{Line}
 use Rattle.bson_codec.specs.declared.documents.Line.TheVariants.{Text, TextInOrder, Shown}
 use Rattle.bson_codec.specs.declared.documents.Run.{Run}
 use Rattle.bson_codec.specs.declared.run_end.RunEnd.{RunEnd}
 use Rattle.bson_codec.specs.declared.run_end.RunFault.{RunFault}
-use Rattle.bson_codec.specs.declared.run_end.RunFault.TheVariants.{Malformed, FiniteDouble, CannotRead, CannotWrite}
-use Rattle.bson_codec.specs.declared.run_end.RunFault.TheVariants.{OutOfMemory}
 use Rattle.bson_convert.specs.declared.mode.Mode.{Mode}
 use Rattle.bson_convert.specs.declared.mode.Mode.TheVariants.{Canonical, Relaxed, Show}
 use Rattle.bson.specs.Form.TheVariants as form
@@ -39,21 +37,13 @@ pub record AreAll (run : Run) (block output verdicts : List ℕ) (count done : �
   pub documents : Dump run block output verdicts count refused
   pub whole : done ≡ length block
 
--- the documents before the last give this output; of the last nothing can be written, for the fault of which the verdict
--- behind theirs tells, and what stands behind the bytes that were taken of it is not looked at
+-- the documents before the last give this output; the block ends early at the last, for a fault of its bytes, which the
+-- verdict behind theirs names
 pub record AreCut (run : Run) (block output verdicts : List ℕ) (count done : ℕ) : Type 0 where
-  pub before : List ℕ
-  pub taken : List ℕ
-  pub rest : List ℕ
   pub told : List ℕ
-  pub number : ℕ
   pub refused : ℕ
   pub fault : RunFault
-  pub cut : block ≡ before ++ taken ++ rest
-  pub documents : Dump run before output told number refused
-  pub counted : count ≡ number + 1
-  pub place : done ≡ length before
-  pub reason : HasNoLine fault run taken
+  pub cut : EndsInside run block output told fault count refused done
   pub said : verdicts ≡ told ++ told_of count done fault
 
 abbrev pub GivesDocuments : Run → (block output verdicts : List ℕ) → (count done : ℕ) → Type 0
@@ -71,14 +61,6 @@ pub record AreDecoded (k : KeyOrder) (o : Options) (number : ℕ) (block : List 
   pub is_told : IsText told out.told
 
 -- ---- for private clauses
-
--- the fault is that of the bytes
-abbrev pub IsOfBytes : RunFault → Type 0
-IsOfBytes (Malformed k n) = Unit {0}
-IsOfBytes FiniteDouble = Unit {0}
-IsOfBytes CannotRead = ⊥
-IsOfBytes CannotWrite = ⊥
-IsOfBytes OutOfMemory = ⊥
 
 -- the verdicts, and that on the last document
 abbrev pub EndsAs : RunEnd → (told all : List ℕ) → Type 0

@@ -3,6 +3,7 @@ pub mod Documents
 pub mod Dumps
 pub mod Explain
 pub mod Lines
+pub mod Reading
 pub mod Room
 pub mod Text
 pub mod Values

@@ -1,30 +1,35 @@
--- Texts by what they mean.
-use Rattle.std.specs.Prelude.{◌≡◌, ◌⊎◌, ℕ, List, Bool, true, fold}
+-- Values that are compared and hashed. `Has` says which value an input has: MeansUnder of a text, IsDocumentUnder of the
+-- bytes of a document.
+use Rattle.std.specs.Prelude.{◌≡◌, ◌⊎◌, ℕ, List, Bool, true, false, fold}
 use Rattle.std.specs.Hash.DefaultHasher as sip
 use Rattle.bson_model.specs.Feed.{feed}
 use Rattle.bson_model.specs.Same.{same}
 use Rattle.bson_model.specs.Value.{Value}
-use Rattle.bson.specs.TextMeaning.{HasTextMeaning}
 
--- each text means a value, and these two are the same, or not
-pub record Compare (a b : List ℕ) (are_same : Bool) : Type 0 where
+-- each input has a value, and the two values are the same, or not
+pub record Compare (Has : List ℕ → Value → Type 0) (a b : List ℕ) (are_same : Bool) : Type 0 where
   pub left : Value
   pub right : Value
-  pub of_left : HasTextMeaning a left
-  pub of_right : HasTextMeaning b right
+  pub of_left : Has a left
+  pub of_right : Has b right
   pub compared : same left right ≡ are_same
 
--- the first text is refused for the cause, or means a value and the second is
-abbrev pub RefusesOne : (List ℕ → Type 0) → List ℕ → List ℕ → Type 0
-RefusesOne cause a b = cause a ⊎ ((value : Value) × HasTextMeaning a value × cause b)
+-- the first input is rejected for the cause, or has a value and the second is rejected
+abbrev pub RejectsOne : (List ℕ → Value → Type 0) → (List ℕ → Type 0) → List ℕ → List ℕ → Type 0
+RejectsOne Has cause a b = cause a ⊎ ((value : Value) × Has a value × cause b)
+
+-- the status for whether two values are the same
+abbrev pub verdict : Bool → ℕ
+verdict true = 0
+verdict false = 9
 
 -- the value's words in SipHash-1-3 with both keys 0
 abbrev pub hash_of : Value → ℕ
 hash_of value = sip.finish (fold sip.write sip.initial (feed value))
 
--- the number is the hash of the value that the text means, and of each that is the same
-pub record IsHashOf (text : List ℕ) (number : ℕ) : Type 0 where
+-- the number is the hash of the value that the input has, and of each value that is the same
+pub record IsHashOf (Has : List ℕ → Value → Type 0) (input : List ℕ) (number : ℕ) : Type 0 where
   pub value : Value
-  pub meaning : HasTextMeaning text value
+  pub has : Has input value
   pub hash : number ≡ hash_of value
   pub alike : (other : Value) → same value other ≡ true → hash_of other ≡ number

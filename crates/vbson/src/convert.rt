@@ -17,7 +17,7 @@ use crate::status;
 use crate::text::{Text, text_of_line};
 use bson::extjson::Options;
 use bson_convert::convert::convert_with;
-use bson_convert::fault::Fault;
+use bson_convert::error::Error;
 use bson_convert::mode::Mode;
 use bson_convert::no_bytes::NoBytes;
 use bson_place::place::Reason;
@@ -97,12 +97,12 @@ fn convert_text(
     options: Options,
     mode: Mode,
     text: &[u8],
-) -> Result<Vec<u8>, Fault>
+) -> Result<Vec<u8>, Error>
     ensures ok { IfOk result (λ line. ConvertsBy order options mode text.now line.items) }
     ensures one { IfOk result (λ line. (other : List ℕ) → ConvertsBy order options mode text.now other
         → other ≡ line.items) }
     ensures accepts { (tree : Data) (value : model.Value) → IsTextOf text.now tree → MeansIn options.doubles tree value
-        → IfErr result (λ fault. fault ≡ Fault.OutOfMemory) }
+        → IfErr result (λ fault. fault ≡ Error.OutOfMemory) }
     ensures fault { IfErr result (λ fault. IsRefusedIn options fault text.now) }
 {
     match order {
@@ -124,23 +124,23 @@ pub(crate) fn mode_of(number: u32) -> Option<Mode>
 }
 
 /// The status of a fault that a text can have.
-pub fn status_of(fault: Fault) -> u32
+pub fn status_of(fault: Error) -> u32
     requires { IsOfText fault }
     ensures number { result ≡ status_of fault }
     ensures cause { (o : Options) (bytes : List ℕ) → IsRefusedIn o fault bytes → IsCauseIn o result bytes }
     ensures listed { (o : Options) (bytes : List ℕ) → IsRefusedIn o fault bytes → result ≤ 5 }
 {
     match fault {
-        Fault::NotJson => status::NOT_JSON,
-        Fault::NotExtendedJson(place) => match &place.reason {
+        Error::NotJson => status::NOT_JSON,
+        Error::NotExtendedJson(place) => match &place.reason {
             Reason::BadObjectId(_) => status::BAD_OBJECT_ID,
             Reason::WrongShape(_) => status::NOT_EXTENDED_JSON,
         },
-        Fault::NoBytes(NoBytes::NoDocument) => status::NO_DOCUMENT,
-        Fault::NoBytes(NoBytes::ZeroInKey) => status::ZERO_IN_KEY,
-        Fault::NoBytes(NoBytes::ZeroInRegex) => status::ZERO_IN_REGEX,
-        Fault::NoBytes(NoBytes::TooLong) => status::TOO_LONG,
-        Fault::OutOfMemory => status::OUT_OF_MEMORY,
-        Fault::CannotRead | Fault::CannotWrite => unreachable!(),
+        Error::NoBytes(NoBytes::NoDocument) => status::NO_DOCUMENT,
+        Error::NoBytes(NoBytes::ZeroInKey) => status::ZERO_IN_KEY,
+        Error::NoBytes(NoBytes::ZeroInRegex) => status::ZERO_IN_REGEX,
+        Error::NoBytes(NoBytes::TooLong) => status::TOO_LONG,
+        Error::OutOfMemory => status::OUT_OF_MEMORY,
+        Error::CannotRead | Error::CannotWrite => unreachable!(),
     }
 }

@@ -18,7 +18,7 @@ use crate::flags::{KeyOrder, has_others, options_of, order_of};
 use crate::status;
 use crate::text::{Text, as_line, text_of_line};
 use bson::extjson::Options;
-use bson_convert::fault::Fault;
+use bson_convert::error::Error;
 use bson_run::encode::{encode_in_order, encode_with};
 use std::alloc::Global;
 
@@ -86,14 +86,14 @@ fn encode_text(
 }
 
 // The bytes of the document that the text means, its keys in the order.
-fn bytes_by(alloc: Global, order: KeyOrder, options: Options, text: &[u8]) -> Result<Vec<u8>, Fault>
+fn bytes_by(alloc: Global, order: KeyOrder, options: Options, text: &[u8]) -> Result<Vec<u8>, Error>
     ensures ok { IfOk result (λ bytes. Encodes order options text.now bytes.items) }
     ensures accepts { (tree : Data) (ps : Pairs) → order ≡ orders.Ascending → IsTextOf text.now tree
         → MeansIn options.doubles tree (model.document ps) → FitsDocument ps
-        → IfErr result (λ fault. fault ≡ Fault.OutOfMemory) }
+        → IfErr result (λ fault. fault ≡ Error.OutOfMemory) }
     ensures accepts_in_order { (ps : Pairs) → order ≡ orders.AsGiven → IsUtf8 text.now
         → HasMeaningInOrder options.doubles text.now (model.document ps) → FitsDocument ps
-        → IfErr result (λ fault. fault ≡ Fault.OutOfMemory) }
+        → IfErr result (λ fault. fault ≡ Error.OutOfMemory) }
     ensures refused { IfErr result (λ fault. IsUnencodedBy order options fault text.now) }
 {
     match order {

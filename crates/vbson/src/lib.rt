@@ -19,6 +19,7 @@ mod encode;
 mod explain;
 mod flags;
 mod lines;
+mod reading;
 mod room;
 mod scalars;
 mod status;

@@ -1,66 +1,143 @@
-//! Two texts by what they mean.
-ghost use Rattle.std.specs.Prelude.{◌≡◌, ◌⊎◌, ◌<◌, ◌≤◌, true, false};
-ghost use Rattle.bson.specs.TextMeaning.{IsNoText};
+//! Values that are compared and hashed.
+ghost use Rattle.std.specs.Prelude.{◌≡◌, ◌⊎◌, ◌↔◌, ◌<◌, ◌≤◌, ◌/◌, ◌%◌, true, false};
 ghost use Rattle.bson.specs.View.{bson_view};
 ghost use Rattle.bson_model.specs.Same.{same};
 ghost use Rattle.bson_model.specs.Value.{Value};
-ghost use Rattle.vbson.specs.Convert.{HasNoMeaning, IsBad, IsBadId};
-ghost use Rattle.vbson.specs.Values.{Compare, IsHashOf, RefusesOne, hash_of};
+ghost use Rattle.vbson.specs.Reading.{HasBadIdUnder, IsBadUnder, IsDocumentUnder, IsNoDocumentUnder};
+ghost use Rattle.vbson.specs.Reading.{IsNoTextUnder, MeansUnder};
+ghost use Rattle.vbson.specs.Values.{Compare, IsHashOf, RejectsOne, hash_of, verdict};
 
-use crate::convert::status_of;
+use crate::flags::has_more_than_reading;
+use crate::reading::{value_of_document, value_of_text};
 use crate::status;
 use bson::Bson;
-use bson_convert::value::value_of;
 use std::alloc::Global;
 use std::hash::{DefaultHasher, Hash, Hasher};
 
-/// Tells whether two texts mean the same value: of the same kind, arrays place by place, and
-/// documents with the same keys and the same values under each, in any order. 0 where they do, and
-/// `DIFFERENT` where they mean two.
+/// Compares the values of two texts. Returns `DONE` if they are the same: of the same kind, arrays
+/// element by element, and documents with the same keys and the same values under each, in any
+/// order. Returns `DIFFERENT` if they are not.
 ///
-/// The first text is read first, so that its fault is told where both have one.
+/// The first text is read first: its fault is returned if both have one. The flags are `DOUBLES`,
+/// `REJECT_DUPLICATE_KEYS` and `LEGACY`.
 #[unsafe(no_mangle)]
-pub extern "C" fn vbson_same(alloc: Global, a: &[u8], b: &[u8]) -> u32
-    ensures same { result ≡ 0 → Compare a.now b.now true }
-    ensures different { result ≡ 9 → Compare a.now b.now false }
+pub extern "C" fn vbson_same(alloc: Global, flags: u32, a: &[u8], b: &[u8]) -> u32
+    ensures same { result ≡ 0 → Compare (MeansUnder flags) a.now b.now true }
+    ensures different { result ≡ 9 → Compare (MeansUnder flags) a.now b.now false }
+    ensures accepts { (v w : Value) → MeansUnder flags a.now v → MeansUnder flags b.now w
+        → (result ≡ verdict (same v w)) ⊎ (result ≡ 1) ⊎ (result ≡ 5) }
 
     // When each other status comes.
-    ensures not_json { result ≡ 2 → RefusesOne IsNoText a.now b.now }
-    ensures bad_object_id { result ≡ 3 → RefusesOne (HasNoMeaning IsBadId) a.now b.now }
-    ensures not_extended_json { result ≡ 4 → RefusesOne (HasNoMeaning IsBad) a.now b.now }
-    ensures listed { (result ≡ 0) ⊎ ((2 ≤ result) × (result ≤ 5)) ⊎ (result ≡ 9) }
+    ensures no_mode { result ≡ 1 ↔ (15 < flags) ⊎ (flags / 2 % 2 ≡ 1) }
+    ensures not_json { result ≡ 2 → RejectsOne (MeansUnder flags) (IsNoTextUnder flags) a.now b.now }
+    ensures bad_object_id { result ≡ 3 → RejectsOne (MeansUnder flags) (HasBadIdUnder flags) a.now b.now }
+    ensures not_extended_json { result ≡ 4 → RejectsOne (MeansUnder flags) (IsBadUnder flags) a.now b.now }
+    ensures listed { (result ≤ 5) ⊎ (result ≡ 9) }
 {
-    let left = match value_of(alloc, a) {
+    if has_more_than_reading(flags) {
+        return status::NO_MODE;
+    }
+    let left = match value_of_text(alloc, flags, a) {
         Ok(value) => value,
-        Err(fault) => return status_of(fault),
+        Err(status) => return status,
     };
-    match value_of(alloc, b) {
-        Ok(right) if left == right => status::DONE,
-        Ok(_) => status::DIFFERENT,
-        Err(fault) => status_of(fault),
+    match value_of_text(alloc, flags, b) {
+        Ok(right) => compare(&left, &right),
+        Err(status) => status,
     }
 }
 
-/// The hash of the value that the text means, which is one for texts that `vbson_same` finds the
-/// same: the value's words in SipHash-1-3 with both keys 0. Whoever chooses the texts can choose
-/// many of one hash.
+/// Computes the hash of the value of a text. Texts that `vbson_same` finds the same have one hash:
+/// the value's words in SipHash-1-3 with both keys 0. Whoever chooses the texts can choose many of
+/// one hash.
 #[unsafe(no_mangle)]
-pub extern "C" fn vbson_hash(alloc: Global, text: &[u8], out: &mut u64) -> u32
-    ensures done { result ≡ 0 → IsHashOf text.now out.new }
+pub extern "C" fn vbson_hash(alloc: Global, flags: u32, text: &[u8], out: &mut u64) -> u32
+    ensures done { result ≡ 0 → IsHashOf (MeansUnder flags) text.now out.new }
+    ensures accepts { (v : Value) → MeansUnder flags text.now v
+        → ((result ≡ 0) × (out.new ≡ hash_of v)) ⊎ (result ≡ 1) ⊎ (result ≡ 5) }
 
-    // When each other status comes, and that nothing is left then.
-    ensures not_json { result ≡ 2 → IsNoText text.now }
-    ensures bad_object_id { result ≡ 3 → HasNoMeaning IsBadId text.now }
-    ensures not_extended_json { result ≡ 4 → HasNoMeaning IsBad text.now }
-    ensures listed { (result ≡ 0) ⊎ ((2 ≤ result) × (result ≤ 5)) }
+    // When each other status comes, and that nothing is written then.
+    ensures no_mode { result ≡ 1 ↔ (15 < flags) ⊎ (flags / 2 % 2 ≡ 1) }
+    ensures not_json { result ≡ 2 → IsNoTextUnder flags text.now }
+    ensures bad_object_id { result ≡ 3 → HasBadIdUnder flags text.now }
+    ensures not_extended_json { result ≡ 4 → IsBadUnder flags text.now }
+    ensures listed { result ≤ 5 }
     ensures kept { 0 < result → out.new ≡ out.old }
 {
-    match value_of(alloc, text) {
+    if has_more_than_reading(flags) {
+        return status::NO_MODE;
+    }
+    match value_of_text(alloc, flags, text) {
         Ok(value) => {
             *out = hash_of(&value);
             status::DONE
         }
-        Err(fault) => status_of(fault),
+        Err(status) => status,
+    }
+}
+
+/// Compares two documents by their bytes, as `vbson_same` compares the values of texts. A finite
+/// double needs no flag; only `REJECT_DUPLICATE_KEYS` changes what is accepted.
+#[unsafe(no_mangle)]
+pub extern "C" fn vbson_same_documents(alloc: Global, flags: u32, a: &[u8], b: &[u8]) -> u32
+    ensures same { result ≡ 0 → Compare (IsDocumentUnder flags) a.now b.now true }
+    ensures different { result ≡ 9 → Compare (IsDocumentUnder flags) a.now b.now false }
+    ensures accepts { (v w : Value) → IsDocumentUnder flags a.now v → IsDocumentUnder flags b.now w
+        → (result ≡ verdict (same v w)) ⊎ (result ≡ 1) ⊎ (result ≡ 5) }
+
+    // When each other status comes.
+    ensures no_mode { result ≡ 1 ↔ (15 < flags) ⊎ (flags / 2 % 2 ≡ 1) }
+    ensures no_document { result ≡ 10
+        → RejectsOne (IsDocumentUnder flags) (IsNoDocumentUnder flags) a.now b.now }
+    ensures listed { (result ≤ 1) ⊎ (result ≡ 5) ⊎ (result ≡ 9) ⊎ (result ≡ 10) }
+{
+    if has_more_than_reading(flags) {
+        return status::NO_MODE;
+    }
+    let left = match value_of_document(alloc, flags, a) {
+        Ok(document) => document,
+        Err(status) => return status,
+    };
+    match value_of_document(alloc, flags, b) {
+        Ok(right) => compare(&left, &right),
+        Err(status) => status,
+    }
+}
+
+/// Computes the hash of a document by its bytes: the hash that `vbson_hash` returns for a text of
+/// the same value. The flags are those of `vbson_same_documents`.
+#[unsafe(no_mangle)]
+pub extern "C" fn vbson_hash_document(alloc: Global, flags: u32, bytes: &[u8], out: &mut u64) -> u32
+    ensures done { result ≡ 0 → IsHashOf (IsDocumentUnder flags) bytes.now out.new }
+    ensures accepts { (v : Value) → IsDocumentUnder flags bytes.now v
+        → ((result ≡ 0) × (out.new ≡ hash_of v)) ⊎ (result ≡ 1) ⊎ (result ≡ 5) }
+
+    // When each other status comes, and that nothing is written then.
+    ensures no_mode { result ≡ 1 ↔ (15 < flags) ⊎ (flags / 2 % 2 ≡ 1) }
+    ensures no_document { result ≡ 10 → IsNoDocumentUnder flags bytes.now }
+    ensures listed { (result ≤ 1) ⊎ (result ≡ 5) ⊎ (result ≡ 10) }
+    ensures kept { 0 < result → out.new ≡ out.old }
+{
+    if has_more_than_reading(flags) {
+        return status::NO_MODE;
+    }
+    match value_of_document(alloc, flags, bytes) {
+        Ok(document) => {
+            *out = hash_of(&document);
+            status::DONE
+        }
+        Err(status) => status,
+    }
+}
+
+// Returns the status for whether two values are the same.
+fn compare(left: &Bson, right: &Bson) -> u32
+    ensures { result ≡ verdict (same (bson_view left.now) (bson_view right.now)) }
+{
+    if left == right {
+        status::DONE
+    } else {
+        status::DIFFERENT
     }
 }
 

@@ -33,10 +33,12 @@ extern "C" {
     fn vbson_convert_with(mode: u32, flags: u32, text: *const u8, len: usize, out: *mut RawText) -> u32;
     fn vbson_explain(flags: u32, text: *const u8, len: usize, out: *mut RawText) -> u32;
     fn vbson_convert_lines(mode: u32, flags: u32, block: *const u8, len: usize, out: *mut RawLines) -> u32;
-    fn vbson_same(a: *const u8, a_len: usize, b: *const u8, b_len: usize) -> u32;
-    fn vbson_hash(text: *const u8, len: usize, out: *mut u64) -> u32;
+    fn vbson_same(flags: u32, a: *const u8, a_len: usize, b: *const u8, b_len: usize) -> u32;
+    fn vbson_hash(flags: u32, text: *const u8, len: usize, out: *mut u64) -> u32;
     fn vbson_is_document(bytes: *const u8, len: usize) -> u32;
     fn vbson_explain_document(bytes: *const u8, len: usize, out: *mut RawText) -> u32;
+    fn vbson_same_documents(flags: u32, a: *const u8, a_len: usize, b: *const u8, b_len: usize) -> u32;
+    fn vbson_hash_document(flags: u32, bytes: *const u8, len: usize, out: *mut u64) -> u32;
     fn vbson_decode(mode: u32, flags: u32, bytes: *const u8, len: usize, out: *mut RawText) -> u32;
     fn vbson_encode(flags: u32, text: *const u8, len: usize, out: *mut RawText) -> u32;
     fn vbson_encode_lines(flags: u32, block: *const u8, len: usize, out: *mut RawLines) -> u32;
@@ -68,6 +70,10 @@ const TOO_LONG: u32 = 13;
 pub const DOUBLES: u32 = 1;
 /// Of flags: the order of keys.
 pub const KEEP_ORDER: u32 = 2;
+/// Of flags: duplicate keys are rejected.
+pub const REJECT_DUPLICATE_KEYS: u32 = 4;
+/// Of flags: Extended JSON v1 is read too.
+pub const LEGACY: u32 = 8;
 
 /// No text of a small value is longer: see the ROOMs of `vbson.h`.
 pub const ROOM: usize = 64;
@@ -91,7 +97,7 @@ fn wants_done(status: u32) -> Result<(), ErrorKind> {
         ZERO_IN_KEY => Err(ErrorKind::ZeroInKey),
         ZERO_IN_REGEX => Err(ErrorKind::ZeroInRegex),
         TOO_LONG => Err(ErrorKind::TooLong),
-        // `Mode` and `Options` have no other number, `ROOM` is enough, and `same` looks for DIFFERENT itself.
+        // `Mode`, `Options` and `ReadOptions` have no other number, `ROOM` is enough, and `compared` looks for DIFFERENT.
         NO_MODE | NO_ROOM | DIFFERENT => unreachable!(),
         other => unreachable!("status {other}"),
     }
@@ -183,20 +189,38 @@ fn left(call: impl FnOnce(*mut RawText) -> u32) -> Result<RawText, ErrorKind> {
     Ok(out)
 }
 
-pub fn same(a: &[u8], b: &[u8]) -> Result<bool, ErrorKind> {
-    wants_processor();
+pub fn same(flags: u32, a: &[u8], b: &[u8]) -> Result<bool, ErrorKind> {
     // SAFETY: the slices are readable.
-    match unsafe { vbson_same(a.as_ptr(), a.len(), b.as_ptr(), b.len()) } {
+    compared(|| unsafe { vbson_same(flags, a.as_ptr(), a.len(), b.as_ptr(), b.len()) })
+}
+
+pub fn same_documents(flags: u32, a: &[u8], b: &[u8]) -> Result<bool, ErrorKind> {
+    // SAFETY: as above.
+    compared(|| unsafe { vbson_same_documents(flags, a.as_ptr(), a.len(), b.as_ptr(), b.len()) })
+}
+
+fn compared(call: impl FnOnce() -> u32) -> Result<bool, ErrorKind> {
+    wants_processor();
+    match call() {
         DIFFERENT => Ok(false),
         status => wants_done(status).map(|()| true),
     }
 }
 
-pub fn hash(text: &[u8]) -> Result<u64, ErrorKind> {
+pub fn hash(flags: u32, text: &[u8]) -> Result<u64, ErrorKind> {
+    // SAFETY: the slice is readable, and `out` overlaps nothing.
+    hashed(|out| unsafe { vbson_hash(flags, text.as_ptr(), text.len(), out) })
+}
+
+pub fn hash_document(flags: u32, bytes: &[u8]) -> Result<u64, ErrorKind> {
+    // SAFETY: as above.
+    hashed(|out| unsafe { vbson_hash_document(flags, bytes.as_ptr(), bytes.len(), out) })
+}
+
+fn hashed(call: impl FnOnce(*mut u64) -> u32) -> Result<u64, ErrorKind> {
     wants_processor();
     let mut out = 0;
-    // SAFETY: the slice is readable, and `out` overlaps nothing.
-    wants_done(unsafe { vbson_hash(text.as_ptr(), text.len(), &mut out) })?;
+    wants_done(call(&mut out))?;
     Ok(out)
 }
 

@@ -1,7 +1,7 @@
 //! Documents by their bytes (BSON 1.1, bsonspec.org).
 use crate::block::Block;
 use crate::text::{error_of, owned};
-use crate::{call, Error, ErrorKind, Mode, Options, Text};
+use crate::{call, Error, ErrorKind, Mode, Options, ReadOptions, Text};
 use std::fmt;
 use std::ops::Deref;
 
@@ -38,6 +38,37 @@ pub fn explain_document(bytes: &[u8]) -> Option<Error> {
     }
 }
 
+/// Compares two documents by their bytes: they are the same in any order of their keys.
+///
+/// # Errors
+///
+/// `NoDocument`, with its place, if the first bytes are not a document, or the second are not: with
+/// `reject_duplicate_keys` also if a document in them has a duplicate key. `OutOfMemory` if an allocation fails.
+pub fn same_documents(options: ReadOptions, a: &[u8], b: &[u8]) -> Result<bool, Error> {
+    call::same_documents(options.flags(), a, b).map_err(|kind| rejected(kind, options, &[a, b]))
+}
+
+/// Computes the hash of a document by its bytes: the number that [`hash`](crate::hash) returns for a text that means the
+/// same value.
+///
+/// # Errors
+///
+/// Those of [`same_documents`].
+pub fn hash_document(options: ReadOptions, bytes: &[u8]) -> Result<u64, Error> {
+    call::hash_document(options.flags(), bytes).map_err(|kind| rejected(kind, options, &[bytes]))
+}
+
+/// The error for the first of the documents that is rejected. Only bytes with a duplicate key are rejected without words.
+fn rejected(kind: ErrorKind, options: ReadOptions, documents: &[&[u8]]) -> Error {
+    let is_rejected = |it: &&&[u8]| call::hash_document(options.flags(), it) == Err(ErrorKind::NoDocument);
+    match documents.iter().find(is_rejected) {
+        Some(it) if kind == ErrorKind::NoDocument => {
+            explain_document(it).unwrap_or_else(|| Error::explained(kind, "no document (a duplicate key)"))
+        }
+        _ => kind.into(),
+    }
+}
+
 /// The text, in the mode, of the document that the bytes are.
 ///
 /// In the two forms keys come out in ascending order at every depth, unless `keep_order` has the document's own, and a
@@ -59,6 +90,6 @@ pub fn decode(mode: Mode, options: Options, bytes: &[u8]) -> Result<Text, Error>
 pub fn encode(options: Options, text: &[u8]) -> Result<Bytes, Error> {
     match call::encode(options.flags(), text) {
         Ok(raw) => Ok(Bytes(Block::of(raw))),
-        Err(kind) => Err(error_of(kind, options, &[text])),
+        Err(kind) => Err(error_of(kind, options.flags(), &[text])),
     }
 }

@@ -28,11 +28,11 @@ mod lines;
 mod scalar;
 mod text;
 
-pub use document::{decode, encode, explain_document, is_document, Bytes};
+pub use document::{decode, encode, explain_document, hash_document, is_document, same_documents, Bytes};
 pub use error::{Error, ErrorKind};
 pub use lines::{convert_lines, decode_documents, encode_lines, Documents, EncodedLines, Lines, RefusedDocument};
 pub use scalar::{DateTime, Decimal128, ObjectId};
-pub use text::{convert, convert_with, explain, hash, same, Mode, Options, Text};
+pub use text::{convert, convert_with, explain, hash, same, Mode, Options, ReadOptions, Text};
 
 /// The version of the library that is linked, as (0, 2, 0).
 pub fn version() -> (u32, u32, u32) {

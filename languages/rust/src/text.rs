@@ -60,6 +60,29 @@ impl Options {
     }
 }
 
+/// What [`same`], [`hash`], [`same_documents`](crate::same_documents) and [`hash_document`](crate::hash_document) accept
+/// beyond the default, or reject.
+#[derive(Clone, Copy, Debug, Default, PartialEq, Eq)]
+pub struct ReadOptions {
+    /// Finite doubles are read, as with [`Options::doubles`]. The bytes of a document have them in any case.
+    pub doubles: bool,
+    /// Input in which an object or a document has a duplicate key, at any depth, is rejected; otherwise the last value of
+    /// such a key wins.
+    pub reject_duplicate_keys: bool,
+    /// Texts of Extended JSON v1 are read too: `{"$binary": .., "$type": ..}`, `{"$regex": .., "$options": ..}`, and a
+    /// `$date` with an offset such as `+0100`. It changes nothing for the bytes of a document.
+    pub legacy: bool,
+}
+
+impl ReadOptions {
+    pub(crate) fn flags(self) -> u32 {
+        let doubles = if self.doubles { call::DOUBLES } else { 0 };
+        let reject_duplicate_keys = if self.reject_duplicate_keys { call::REJECT_DUPLICATE_KEYS } else { 0 };
+        let legacy = if self.legacy { call::LEGACY } else { 0 };
+        doubles | reject_duplicate_keys | legacy
+    }
+}
+
 /// The text, in the mode, of the value that a text of Extended JSON means, in either form or mixed.
 ///
 /// Keys come out in ascending order at every depth; of a key that stands twice the last value counts. A finite double
@@ -68,7 +91,7 @@ impl Options {
 pub fn convert(mode: Mode, text: &[u8]) -> Result<Text, Error> {
     match call::convert(mode as u32, text) {
         Ok(raw) => Ok(owned(raw)),
-        Err(kind) => Err(error_of(kind, Options::default(), &[text])),
+        Err(kind) => Err(error_of(kind, 0, &[text])),
     }
 }
 
@@ -76,7 +99,7 @@ pub fn convert(mode: Mode, text: &[u8]) -> Result<Text, Error> {
 pub fn convert_with(mode: Mode, options: Options, text: &[u8]) -> Result<Text, Error> {
     match call::convert_with(mode as u32, options.flags(), text) {
         Ok(raw) => Ok(owned(raw)),
-        Err(kind) => Err(error_of(kind, options, &[text])),
+        Err(kind) => Err(error_of(kind, options.flags(), &[text])),
     }
 }
 
@@ -85,14 +108,25 @@ pub fn explain(options: Options, text: &[u8]) -> Option<Error> {
     convert_with(Mode::Canonical, options, text).err()
 }
 
-/// Whether two texts of Extended JSON mean the same value. The fault of the first is told before that of the second.
-pub fn same(a: &[u8], b: &[u8]) -> Result<bool, Error> {
-    call::same(a, b).map_err(|kind| error_of(kind, Options::default(), &[a, b]))
+/// Compares the values of two texts of Extended JSON: documents are the same in any order of their keys.
+///
+/// # Errors
+///
+/// `NotJson`, `BadObjectId` or `NotExtendedJson`, with its place, for the first text, or for the second if the first has
+/// none. `OutOfMemory` if an allocation fails.
+pub fn same(options: ReadOptions, a: &[u8], b: &[u8]) -> Result<bool, Error> {
+    let flags = options.flags();
+    call::same(flags, a, b).map_err(|kind| error_of(kind, flags, &[a, b]))
 }
 
-/// The hash of the value that a text means: one number for all texts that `same` finds the same.
-pub fn hash(text: &[u8]) -> Result<u64, Error> {
-    call::hash(text).map_err(|kind| error_of(kind, Options::default(), &[text]))
+/// Computes the hash of the value of a text: one number for all texts that [`same`] finds the same.
+///
+/// # Errors
+///
+/// Those of [`same`].
+pub fn hash(options: ReadOptions, text: &[u8]) -> Result<u64, Error> {
+    let flags = options.flags();
+    call::hash(flags, text).map_err(|kind| error_of(kind, flags, &[text]))
 }
 
 pub(crate) fn owned(raw: call::RawText) -> Text {
@@ -103,11 +137,11 @@ pub(crate) fn owned(raw: call::RawText) -> Text {
 
 /// The error with its place, of the first of the texts that is refused. Only such a text is read again; without memory
 /// for that, the error has no place.
-pub(crate) fn error_of(kind: ErrorKind, options: Options, texts: &[&[u8]]) -> Error {
+pub(crate) fn error_of(kind: ErrorKind, flags: u32, texts: &[&[u8]]) -> Error {
     if !matches!(kind, ErrorKind::NotJson | ErrorKind::BadObjectId | ErrorKind::NotExtendedJson) {
         return kind.into();
     }
-    let mut told = texts.iter().map(|it| call::explain(options.flags(), it).map(owned));
+    let mut told = texts.iter().map(|it| call::explain(flags, it).map(owned));
     match told.find(|it| it.as_ref().map_or(true, |words| !words.is_empty())) {
         Some(Ok(words)) => Error::explained(kind, &words),
         _ => kind.into(),

@@ -1,7 +1,8 @@
 //! Each call of the wrapper, and each error.
 use std::thread;
 use vbson::{convert, convert_lines, convert_with, decode, encode, explain, explain_document, hash, is_document, same, version};
-use vbson::{decode_documents, encode_lines, DateTime, Decimal128, Error, ErrorKind, Mode, ObjectId, Options, Text};
+use vbson::{decode_documents, encode_lines, hash_document, same_documents, ReadOptions};
+use vbson::{DateTime, Decimal128, Error, ErrorKind, Mode, ObjectId, Options, Text};
 
 #[test]
 fn texts_are_converted() {
@@ -54,8 +55,8 @@ fn faults_are_told() {
     assert_eq!(kind(convert(Mode::Canonical, b"\"\xff\"")), Some(ErrorKind::NotJson));
     assert_eq!(kind(convert(Mode::Canonical, b"1.5")), Some(ErrorKind::NotExtendedJson));
     assert_eq!(kind(convert(Mode::Relaxed, br#"{"$oid":"zz"}"#)), Some(ErrorKind::BadObjectId));
-    assert_eq!(kind(same(b"1", b"{")), Some(ErrorKind::NotJson));
-    assert_eq!(kind(hash(b"1.5")), Some(ErrorKind::NotExtendedJson));
+    assert_eq!(kind(same(ReadOptions::default(), b"1", b"{")), Some(ErrorKind::NotJson));
+    assert_eq!(kind(hash(ReadOptions::default(), b"1.5")), Some(ErrorKind::NotExtendedJson));
     assert_eq!(kind("1.2.3".parse::<Decimal128>()), Some(ErrorKind::NoSuchText));
     assert_eq!(kind("53e3".parse::<ObjectId>()), Some(ErrorKind::NoSuchText));
     assert_eq!(kind("2020".parse::<DateTime>()), Some(ErrorKind::NoSuchText));
@@ -86,8 +87,8 @@ fn places_are_told() {
         let error = convert(Mode::Relaxed, text.as_bytes()).unwrap_err();
         assert_eq!((error.to_string(), error.at(), error.why()), (words, at, why));
         assert_eq!(explain(Options::default(), text.as_bytes()).as_ref(), Some(&error));
-        assert_eq!(same(b"1", text.as_bytes()).as_ref(), Err(&error));
-        assert_eq!(hash(text.as_bytes()).as_ref(), Err(&error));
+        assert_eq!(same(ReadOptions::default(), b"1", text.as_bytes()).as_ref(), Err(&error));
+        assert_eq!(hash(ReadOptions::default(), text.as_bytes()).as_ref(), Err(&error));
     }
     let error = "53e3".parse::<ObjectId>().unwrap_err();
     assert_eq!((error.to_string().as_str(), error.at(), error.why()), ("no such text", "", "no such text"));
@@ -96,10 +97,56 @@ fn places_are_told() {
 #[test]
 fn texts_are_compared_by_meaning() {
     let (one, other) = (br#"{"a":1,"b":2}"#, br#"{"b":2,"a":{"$numberInt":"1"}}"#);
-    assert_eq!(same(one, other), Ok(true));
-    assert_eq!(hash(one), hash(other));
-    assert_eq!(same(one, b"{}"), Ok(false));
-    assert_ne!(hash(one), hash(b"{}"));
+    let options = ReadOptions::default();
+    assert_eq!(same(options, one, other), Ok(true));
+    assert_eq!(hash(options, one), hash(options, other));
+    assert_eq!(same(options, one, b"{}"), Ok(false));
+    assert_ne!(hash(options, one), hash(options, b"{}"));
+}
+
+#[test]
+fn what_is_compared_has_options() {
+    let default = ReadOptions::default();
+    let doubles = ReadOptions { doubles: true, ..default };
+    let (one, other) = (br#"{"price":1.5,"a":1}"#, br#"{"a":1,"price":{"$numberDouble":"1.50"}}"#);
+    assert_eq!(same(doubles, one, other), Ok(true));
+    assert_eq!(hash(doubles, one), hash(doubles, other));
+    assert_eq!(same(doubles, b"1.5", b"2.5"), Ok(false));
+    assert_eq!(kind(same(default, one, other)), Some(ErrorKind::NotExtendedJson));
+    let strict = ReadOptions { reject_duplicate_keys: true, ..doubles };
+    let twice = br#"{"a":[{"b":1,"b":2}]}"#;
+    let error = same(strict, b"1", twice).unwrap_err();
+    assert_eq!((error.kind(), error.at(), error.why()), (ErrorKind::NotExtendedJson, "a.0.b", "a key that stands twice in its object"));
+    assert_eq!(hash(strict, twice), Err(error));
+    assert_eq!(same(default, twice, br#"{"a":[{"b":2}]}"#), Ok(true));
+    let legacy = ReadOptions { legacy: true, ..default };
+    let (v1, v2) = (br#"{"$binary":"AQI=","$type":"00"}"#, br#"{"$binary":{"base64":"AQI=","subType":"00"}}"#);
+    assert_eq!(same(legacy, v1, v2), Ok(true));
+    assert_eq!(hash(legacy, v1), hash(default, v2));
+    assert_eq!(kind(same(default, v1, v2)), Some(ErrorKind::NotExtendedJson));
+}
+
+#[test]
+fn documents_are_compared_by_their_bytes() {
+    let (options, keeps) = (ReadOptions::default(), Options { doubles: true, keep_order: true });
+    let one = encode(keeps, br#"{"price":1.5,"a":1}"#).unwrap();
+    let other = encode(keeps, br#"{"a":1,"price":1.5}"#).unwrap();
+    assert_ne!(&*one, &*other);
+    assert_eq!(same_documents(options, &one, &other), Ok(true));
+    assert_eq!(hash_document(options, &one), hash_document(options, &other));
+    let doubles = ReadOptions { doubles: true, ..options };
+    assert_eq!(hash_document(options, &one), hash(doubles, br#"{"a":1,"price":1.5}"#));
+    assert_eq!(same_documents(options, &one, b"\x05\0\0\0\0"), Ok(false));
+    let damaged = decode(Mode::Relaxed, keeps, &one[..9]).map_err(Some).err().unwrap();
+    assert_eq!(same_documents(options, &one, &one[..9]).err(), damaged);
+    assert_eq!(hash_document(options, &one[..9]).err(), damaged);
+    let twice = b"\x13\0\0\0\x10b\0\x05\0\0\0\x10b\0\x06\0\0\0\0";
+    assert_eq!(hash_document(options, twice), hash(options, br#"{"b":6}"#));
+    let strict = ReadOptions { reject_duplicate_keys: true, ..options };
+    let error = same_documents(strict, twice, &one[..9]).unwrap_err();
+    assert_eq!((error.kind(), error.at(), error.why()), (ErrorKind::NoDocument, "", "a duplicate key"));
+    assert_eq!(hash_document(strict, twice), Err(error));
+    assert_eq!(same_documents(strict, &one, &other), Ok(true));
 }
 
 #[test]

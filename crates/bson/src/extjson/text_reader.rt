@@ -34,12 +34,10 @@ use crate::extjson::options::Options;
 use crate::extjson::text_error::TextError;
 use crate::extjson::text_reader::values::read_value;
 use bson_scalar::form::Doubles;
+use bson_tokens::MAX_DEPTH;
 use bson_tokens::walk::first_fault_in;
 use json::{Error, Reader, Scratch};
 use std::alloc::Global;
-
-// How deep arrays and objects may nest.
-const MAX_DEPTH: usize = 127;
 
 impl Bson {
     /// The value that the bytes mean, as one text of MongoDB Extended JSON v2, in either form or

@@ -160,5 +160,5 @@ fn walk_pairs(
         let member = walk_value(alloc, doubles, reader, depth)?;
         enter(alloc, &mut faults, name, member)?;
     }
-    Ok(least_fault(alloc, faults)?)
+    least_fault(alloc, faults)
 }

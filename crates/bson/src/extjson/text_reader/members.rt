@@ -89,7 +89,9 @@ fn put_few(mut members: Vec<Pair<Bson>>, key: String, value: Bson) -> Result<Gat
 {
     let place = place_of(&members, key.as_str());
     match place {
-        Err(at) if at < members.len() && members.len() >= MANY => put_many(members, key, value),
+        Ok(at) | Err(at) if members.len() >= MANY && at < members.len() - 1 => {
+            put_many(members, key, value)
+        }
         _ => {
             enter(&mut members, place, key, value)?;
             Ok(Gathered::Few(members))

@@ -2,9 +2,9 @@ use Rattle.std.proofs.Common.{ℕ, Result, IfErr, refl, subst, sym}
 use Rattle.bson_codec.specs.Documents.{IsUngiven}
 use Rattle.bson_codec.specs.Streams.{WritesBeginning}
 use Rattle.bson_codec.specs.declared.run_end.RunFault.{RunFault}
-use Rattle.bson_codec.proofs.Runs.{cut_line, judged_ends, untold}
+use Rattle.bson_codec.proofs.Runs.{bad_bytes, cut_line, judged_ends, untold}
 use Rattle.bson_codec.proofs.documents.give.Goals as goal
-use Rattle.bson_codec.proofs.documents.give.Goals.{in-Ok-tell, in-Err-tell}
+use Rattle.bson_codec.proofs.documents.give.Goals.{in-Ok-tell, in-Err-tell, else-run-via-then-run+else-may_pass, else-run-via-else-run}
 
 pub returns-in_default-clause-fault : goal.returns-in_default-clause-fault
 returns-in_default-clause-fault g c =
@@ -28,10 +28,16 @@ returns-then-may_pass-clause-fault g c =
           (λ (r : Result ℕ RunFault). IfErr r (λ e. IsUngiven e c.args.run c.args.number c.args.start bytes had had told tells))
           (sym w.result-is)
           (untold w.in-Err-tell.error c.args.run c.args.number c.args.start bytes c.in-Err.fault had told tells
-          (c.if-may_pass.ensures refl c.args.run c.in-Err.ensures.fault).0 w.in-Err-tell.ensures.fault)
+          (bad_bytes c.in-Err.fault c.args.run bytes (c.if-may_pass.ensures.0 refl).0 c.in-Err.ensures.fault)
+          (c.if-run.true, (c.if-may_pass.ensures.0 refl).1) w.in-Err-tell.ensures.fault)
     ]
 
 pub returns-else-run-clause-fault : goal.returns-else-run-clause-fault
 returns-else-run-clause-fault g c =
     judged_ends c.in-Err.fault c.args.run c.args.number c.args.start c.args.bytes.now
     (g.W.Write.contents c.args.writer.now) (g.T.Write.contents c.args.report.now) c.in-Err.ensures.fault
+    (λ is over. elim c.else-run.branch [
+      | else-run-via-then-run+else-may_pass w ↦
+          let no = w.if-may_pass.ensures.1 (is, over.1) in absurd cc
+      | else-run-via-else-run w ↦ let no = w.if-run.false in let yes = over.0 in absurd cc
+    ])

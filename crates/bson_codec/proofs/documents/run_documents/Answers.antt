@@ -1,6 +1,7 @@
 use Rattle.std.proofs.Common.{◌+◌, List, ℕ, arith, refl, subst}
 use Rattle.bson_codec.specs.Documents.{IsGiven, IsUngiven}
-use Rattle.bson_codec.proofs.Runs.{run_begins, run_goes_on, run_ends, run_ends_unwritten, one_at_most}
+use Rattle.bson_codec.proofs.Justified.{justified, unread_justified}
+use Rattle.bson_codec.proofs.Runs.{run_begins, run_goes_on, run_ends_at, run_ends_unread, one_at_most, some_taken}
 use Rattle.bson_codec.proofs.documents.run_documents.Goals as goal
 
 pub loop-documents-init : goal.loop-documents-init
@@ -9,17 +10,6 @@ loop-documents-init g c = (
   run_begins c.args.run (g.R.Read.remaining c.args.reader.now) (g.W.Write.contents c.args.writer.now)
       (g.T.Write.contents c.args.report.now),
 )
-
-pub returns-in-Err-clause-fails : goal.returns-in-Err-clause-fails
-returns-in-Err-clause-fails g c =
-    let some = c.take_document.ensures.some in
-    let number = c.loop-documents.documents + 1 in
-    run_ends_unwritten c.args.run (g.R.Read.remaining c.args.reader.now)
-    (g.R.Read.remaining c.loop-documents.reader) (g.R.Read.remaining c.take_document.new.reader)
-    (g.W.Write.contents c.args.writer.now) (g.W.Write.contents c.loop-documents.writer)
-    (g.T.Write.contents c.args.report.now) (g.T.Write.contents c.loop-documents.report) c.loop-documents.documents
-    c.loop-documents.refused c.loop-documents.start number c.fault_of_reader-fault.result some.0
-    c.loop-documents.invariant.1 some.1 refl (c.fault_of_reader-fault.ensures c.args.run number c.loop-documents.start some.0)
 
 pub loop-documents-preserved : goal.loop-documents-preserved
 loop-documents-preserved g c =
@@ -41,17 +31,46 @@ loop-documents-preserved g c =
           (omega (arith, c.in-Some.ensures, c.len.ensures, c.take_document.new.bytes.ok)),
     )
 
+pub returns-in-Err-clause-fails : goal.returns-in-Err-clause-fails
+returns-in-Err-clause-fails g c =
+    run_ends_unread c.args.run (g.R.Read.remaining c.args.reader.now) (g.R.Read.remaining c.loop-documents.reader)
+    (g.R.Read.remaining c.take_document.new.reader) (g.W.Write.contents c.args.writer.now)
+    (g.W.Write.contents c.loop-documents.writer) (g.T.Write.contents c.args.report.now)
+    (g.T.Write.contents c.loop-documents.report) c.loop-documents.documents c.loop-documents.refused
+    c.loop-documents.start (c.loop-documents.documents + 1) c.fault_of_reader-fault.result c.take_document.ensures.some.0
+    c.loop-documents.invariant.1 c.take_document.ensures.some.1 refl c.fault_of_reader-fault.ensures
+
+pub returns-in-Err-clause-justified : goal.returns-in-Err-clause-justified
+returns-in-Err-clause-justified g c =
+    unread_justified c.args.run (g.R.Read.remaining c.args.reader.now) c.fault_of_reader-fault.result
+    c.loop-documents.start c.fault_of_reader-fault.ensures
+
 pub returns-in-Err-give-clause-fails : goal.returns-in-Err-give-clause-fails
 returns-in-Err-give-clause-fails g c =
-    let bytes = c.take_document.new.bytes.items in
     let number = c.loop-documents.documents + 1 in
     let before = g.W.Write.contents c.loop-documents.writer in
     let after = g.W.Write.contents c.give.new.writer in
     let tells = g.T.Write.contents c.loop-documents.report in
     let after_tells = g.T.Write.contents c.give.new.report in
-    run_ends c.args.run (g.R.Read.remaining c.args.reader.now) (g.R.Read.remaining c.loop-documents.reader)
+    run_ends_at c.args.run (g.R.Read.remaining c.args.reader.now) (g.R.Read.remaining c.loop-documents.reader)
     (g.R.Read.remaining c.take_document.new.reader) (g.W.Write.contents c.args.writer.now) before after
     (g.T.Write.contents c.args.report.now) tells after_tells c.loop-documents.documents c.loop-documents.refused
-    c.loop-documents.start number c.in-Err-give.fault bytes c.loop-documents.invariant.1 c.in_default.ensures.taken refl
+    c.loop-documents.start number c.in-Err-give.fault c.take_document.new.bytes.items c.loop-documents.invariant.1
+    c.in_default.ensures.taken refl (some_taken c.take_document.new.bytes.items _ (omega (arith, c.take_document.new.bytes.ok)) c.if-is_empty.ensures) c.in_default.ensures.front
     (subst (λ (b : List ℕ). IsUngiven c.in-Err-give.fault c.args.run number c.loop-documents.start b before after tells after_tells)
     c.as_slice-bytes.ensures.value c.in-Err-give.ensures.fault)
+
+pub returns-in-Err-give-clause-justified : goal.returns-in-Err-give-clause-justified
+returns-in-Err-give-clause-justified g c =
+    let number = c.loop-documents.documents + 1 in
+    let before = g.W.Write.contents c.loop-documents.writer in
+    let after = g.W.Write.contents c.give.new.writer in
+    let tells = g.T.Write.contents c.loop-documents.report in
+    let after_tells = g.T.Write.contents c.give.new.report in
+    justified (run_ends_at c.args.run (g.R.Read.remaining c.args.reader.now) (g.R.Read.remaining c.loop-documents.reader)
+    (g.R.Read.remaining c.take_document.new.reader) (g.W.Write.contents c.args.writer.now) before after
+    (g.T.Write.contents c.args.report.now) tells after_tells c.loop-documents.documents c.loop-documents.refused
+    c.loop-documents.start number c.in-Err-give.fault c.take_document.new.bytes.items c.loop-documents.invariant.1
+    c.in_default.ensures.taken refl (some_taken c.take_document.new.bytes.items _ (omega (arith, c.take_document.new.bytes.ok)) c.if-is_empty.ensures) c.in_default.ensures.front
+    (subst (λ (b : List ℕ). IsUngiven c.in-Err-give.fault c.args.run number c.loop-documents.start b before after tells after_tells)
+    c.as_slice-bytes.ensures.value c.in-Err-give.ensures.fault))

@@ -5,18 +5,18 @@ use Rattle.bson_codec.proofs.Streams.{take_front, take_short, on_three, on_some}
 use Rattle.bson_codec.proofs.stream.take_document.Goals as goal
 
 pub returns-then-len-lt-LENGTH-clause-front : goal.returns-then-len-lt-LENGTH-clause-front
-returns-then-len-lt-LENGTH-clause-front g c = λ d all ps rest known h.
-    absurd (take_short d all ps rest _ c.fill.new.bytes.items _ _ known h c.clear.ensures.items c.in_ok-fill.ensures.taken
+returns-then-len-lt-LENGTH-clause-front g c = λ all known.
+    take_short all _ c.fill.new.bytes.items _ _ known c.clear.ensures.items c.in_ok-fill.ensures.taken
     c.in_ok-fill.ensures.end c.in_ok-fill.ensures.bound
-    (omega (arith, c.if-len-lt-LENGTH.true, c.len.ensures, c.fill.new.bytes.ok)))
+    (omega (arith, c.if-len-lt-LENGTH.true, c.len.ensures, c.fill.new.bytes.ok))
 
 pub returns-clause-front : goal.returns-clause-front
-returns-clause-front g c = λ d all ps rest known h.
+returns-clause-front g c = λ all known.
     let says : c.promised_size-size.result ≡ promised c.fill.new.bytes.items =
     c.promised_size-size.ensures.value ∙ ap promised c.as_slice.ensures.value in
     on_three c.fill-2.result c.fill-2.ensures.taken c.fill-2.ensures.end c.fill-2.ensures.bound
-    (λ taken end bound. take_front d all ps rest _ c.fill.new.bytes.items c.fill-2.new.bytes.items _ _ _
-    c.promised_size-size.result known h c.clear.ensures.items c.in_ok-fill.ensures.taken c.in_ok-fill.ensures.end
+    (λ taken end bound. take_front all _ c.fill.new.bytes.items c.fill-2.new.bytes.items _ _ _
+    c.promised_size-size.result known c.clear.ensures.items c.in_ok-fill.ensures.taken c.in_ok-fill.ensures.end
     c.in_ok-fill.ensures.bound says taken end bound)
 
 pub returns-clause-end : goal.returns-clause-end

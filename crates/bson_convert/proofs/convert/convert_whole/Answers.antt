@@ -4,7 +4,7 @@ use Rattle.bson_tokens.proofs.Offered.{if_ok}
 use Rattle.bson_convert.proofs.Arranged.{accepted}
 use Rattle.bson_convert.specs.Convert.{IsConvertedText, IsRefusedIn}
 use Rattle.bson_convert.proofs.Converting.{text_converts}
-use Rattle.bson_convert.specs.declared.fault.Fault.{Fault}
+use Rattle.bson_convert.specs.declared.error.Error.{Error}
 use Rattle.bson_convert.proofs.convert.convert_whole.Goals as goal
 
 pub returns-clause-ok : goal.returns-clause-ok
@@ -25,5 +25,5 @@ returns-in_err-text-clause-accepts c = λ t v is means.
     let fault = c.in_err-text.field-0.0 in
     let refused = subst (IsRefusedIn o fault) c.deref.ensures.value
     (c.in_err-text.ensures.fault c.deref.result.now c.in_ok-tried.ensures.ok) in
-    let result : Result (Unit {0}) Fault = Err fault in
+    let result : Result (Unit {0}) Error = Err fault in
     rw (p.1, p.2) (accepted o bytes t v is means result refused)

@@ -12,8 +12,8 @@ returns c =
       doubles = D;
       form = f;
       text = c.in_ok-with_capacity.field-0;
-      part = c.new.result;
-      starts = c.new-2.result;
+      part = c.in_ok-with_capacity-2.field-0;
+      starts = c.in_ok-with_capacity-3.field-0;
       behind = false;
       most = c.memory_allowed.result;
     } in

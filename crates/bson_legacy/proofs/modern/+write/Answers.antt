@@ -1,17 +1,19 @@
-use Rattle.std.proofs.Common.{◌≡◌, [], ◌∷◌, length, Some, None, refl, sym, ap, ◌∙◌, arith}
+use Rattle.std.proofs.Common.{◌≡◌, ◌++◌, ◌-◌, [], ◌∷◌, length, Some, None, refl, subst, sym, ap, ◌∙◌, arith}
 use Rattle.std.proofs.lemmas.Result.{err_from_is_err_and, on_ok_weaker}
-use Rattle.json.specs.Json.{array, object, member, after_end_array, parse_map, read_key, value}
+use Rattle.json.specs.Json.{array, object, member, no_members, after_end_array, parse_map, read_key, value}
 use Rattle.json.specs.Reads.{token_of}
 use Rattle.json.specs.Token as token
-use Rattle.json.proofs.Grammar.{left, read_key_is, read_key-shorter, skip_value-shorter, value_is}
-use Rattle.bson_distinct.specs.Arranging.{inside}
+use Rattle.json.specs.Tree.{json_tokens}
+use Rattle.json.proofs.Grammar.{left, read_key-shorter, skip_value-shorter, value_is}
+use Rattle.bson_legacy.specs.Held.{Begins, IsNext, onto, scope_or_value}
 use Rattle.bson_legacy.specs.Passed.{Passes, of_items, of_members, of_value}
-use Rattle.bson_legacy.proofs.Passing.{all_breaks, breaks, first_passes, item_passed, items_passed, lone_passes}
-use Rattle.bson_legacy.proofs.Passing.{member_passed, members_passed, no_text_held, no_texts_held, none_passes}
-use Rattle.bson_legacy.proofs.Passing.{pair_passes, second_passes, third_passes}
+use Rattle.bson_legacy.proofs.Passing.{all_breaks, breaks, item_passed, items_passed, member_passed, members_passed}
 use Rattle.bson_distinct.proofs.Offered.{no_item, no_key, no_member, one_member}
 use Rattle.bson_legacy.proofs.Values.{array_opened, array_passes, array_too_deep, none_begins, object_opened}
 use Rattle.bson_legacy.proofs.Values.{object_passes, object_too_deep, plain_passes}
+use Rattle.bson_legacy.proofs.Objects.{broken_after_rest, broken_behind, broken_rest, broken_scope, held_scope_passes}
+use Rattle.bson_legacy.proofs.Objects.{member_passes, open_passes, open_scope_passes, scope_ends, scope_goes_on}
+use Rattle.bson_legacy.proofs.Objects.{scope_passes, too_deep_scope}
 use Rattle.bson_legacy.proofs.modern.+write.Goals as goal
 
 -- ---- values
@@ -91,59 +93,70 @@ write_members-returns-clause-ok t c =
     members_passed c.args.depth c.args.reader.now l.reader c.next_key.new.self c.args.out.now.tokens l.out.tokens
     c.end_object.new.self.tokens l.invariant.1 (grind arith) c.in_ok-end_object.ensures.ok
 
--- ---- objects, and what is held of them
+-- ---- objects
 
-pub write_object-returns-in_default-clause-ok : goal.write_object-returns-in_default-clause-ok
-write_object-returns-in_default-clause-ok t c =
-    none_passes c.args.depth c.args.reader.now c.next_key.new.self c.args.out.now.tokens
-    c.begin_object.new.self.tokens c.end_object.new.self.tokens (grind arith) c.in_ok-begin_object.ensures.ok
-    c.in_ok-end_object.ensures.ok
+pub write_object-returns-in_ok-write_held-in-Open-clause-ok : goal.write_object-returns-in_ok-write_held-in-Open-clause-ok
+write_object-returns-in_ok-write_held-in-Open-clause-ok t c =
+    let o = c.in-Open in
+    let begins = subst (λ b. Begins b c.args.reader.now c.hold.new.reader) o.is c.in_ok-texts.ensures.ok in
+    on_ok_weaker c.write_rest.result
+    (open_passes o.texts c.args.depth o.key o.first c.args.reader.now c.hold.new.reader c.write_rest.new.reader
+    c.args.out.now.tokens c.begin_object.new.self.tokens c.write_held.new.out.tokens c.write_rest.new.out.tokens begins
+    c.in_ok-begin_object-in-Open.ensures.ok c.in_ok-write_held-in-Open.ensures.ok) c.write_rest.ensures.ok
 
-pub write_object-returns-in_default-first-clause-ok : goal.write_object-returns-in_default-first-clause-ok
-write_object-returns-in_default-first-clause-ok t c =
-    let ts = c.args.reader.now in
-    let k = c.in-Some.key.now in
-    let f = c.in_ok-first.first in
-    let named : read_key ts ≡ Some (Some k, token_of f ∷ c.next.new.self) = grind arith in
+pub write_rest-returns-in-Some-clause-ok : goal.write_rest-returns-in-Some-clause-ok
+write_rest-returns-in-Some-clause-ok t c =
+    on_ok_weaker c.write_scope.result
+    (scope_passes c.args.texts c.args.depth c.args.key.now c.args.first c.in-Some.after_code c.args.reader.now
+    c.write_scope.new.reader c.args.out.now.tokens c.write_scope.new.out.tokens
+    (sym c.scope_place.ensures ∙ c.in-Some.is)) c.write_scope.ensures.ok
+
+pub write_rest-returns-in-None-clause-ok : goal.write_rest-returns-in-None-clause-ok
+write_rest-returns-in-None-clause-ok t c =
     on_ok_weaker c.write_member.result
-    (first_passes c.args.depth k f ts c.next.new.self c.write_member.new.reader c.args.out.now.tokens
-    c.begin_object-in_default-first.new.self.tokens c.write_member.new.out.tokens named c.in_default-first.not-String
-    c.in_ok-begin_object-2.ensures.ok) c.write_member.ensures.ok
-
-pub write_behind_one-returns-in_default-clause-ok : goal.write_behind_one-returns-in_default-clause-ok
-write_behind_one-returns-in_default-clause-ok t c =
-    lone_passes c.args.depth c.args.key.now c.args.text.now c.args.reader.now c.next_key.new.self
-    c.args.out.now.tokens c.write_lone.new.out.tokens (grind arith) c.in_ok-write_lone.ensures.ok
-
-pub write_behind_one-returns-in_default-first-clause-ok : goal.write_behind_one-returns-in_default-first-clause-ok
-write_behind_one-returns-in_default-first-clause-ok t c =
-    let ts = c.args.reader.now in
-    let l = c.in-Some.other.now in
-    let f = c.in_ok-first.first in
-    let named : read_key ts ≡ Some (Some l, token_of f ∷ c.next.new.self) = grind arith in
-    on_ok_weaker c.write_member.result
-    (second_passes c.args.depth c.args.key.now c.args.text.now l f ts c.next.new.self c.write_member.new.reader
-    c.args.out.now.tokens c.begin_object.new.self.tokens c.write_text.new.out.tokens c.write_member.new.out.tokens
-    named c.in_default-first.not-String c.in_ok-begin_object.ensures.ok c.in_ok-write_text.ensures.ok)
+    (member_passes c.args.texts c.args.depth c.args.key.now c.args.first c.args.reader.now c.write_member.new.reader
+    c.args.out.now.tokens c.write_member.new.out.tokens c.requires.1.1.1 (sym c.scope_place.ensures ∙ c.in-None.is))
     c.write_member.ensures.ok
 
-pub write_behind_two-returns-in_default-clause-ok : goal.write_behind_two-returns-in_default-clause-ok
-write_behind_two-returns-in_default-clause-ok t c =
-    pair_passes c.args.depth c.args.key.now c.args.text.now c.args.other.now c.args.more.now c.args.reader.now
-    c.next_key.new.self c.args.out.now.tokens c.write_pair.new.out.tokens (grind arith)
-    c.in_ok-write_pair.ensures.ok
+-- ---- scopes
 
-pub write_behind_two-returns-clause-ok : goal.write_behind_two-returns-clause-ok
-write_behind_two-returns-clause-ok t c =
-    let ts = c.args.reader.now in
-    let m = c.in-Some.third.now in
-    let q = token_of c.in_ok-first.first ∷ c.next.new.self in
-    let named : read_key ts ≡ Some (Some m, q) = grind arith in
+pub write_scope-returns-in-Whole-clause-ok : goal.write_scope-returns-in-Whole-clause-ok
+write_scope-returns-in-Whole-clause-ok t c =
+    let texts = c.in-Whole.texts in
+    let begins = subst (λ b. Begins b c.args.reader.now c.hold.new.reader) c.in-Whole.is c.in_ok-texts.ensures.ok in
+    on_ok_weaker c.write_held_scope.result
+    (held_scope_passes c.args.depth (omega arith) c.args.after_code c.args.key.now c.args.reader.now c.hold.new.reader
+    c.write_held_scope.new.reader c.args.out.now.tokens c.key.new.self.tokens c.write_held_scope.new.out.tokens
+    (onto texts no_members) (begins (c.args.depth - 1)) c.in_ok-key.ensures.ok) c.write_held_scope.ensures.ok
+
+pub write_scope-returns-in_ok-write_rest-in-Open-clause-ok : goal.write_scope-returns-in_ok-write_rest-in-Open-clause-ok
+write_scope-returns-in_ok-write_rest-in-Open-clause-ok t c =
+    let o = c.in-Open in
+    let begins = subst (λ b. Begins b c.args.reader.now c.hold.new.reader) o.is c.in_ok-texts.ensures.ok in
+    on_ok_weaker c.write_members.result
+    (open_scope_passes c.args.depth (omega arith) c.args.after_code o.texts c.args.key.now o.inner o.first
+    c.args.reader.now c.hold.new.reader c.write_rest.new.reader c.write_members.new.reader c.args.out.now.tokens
+    c.key.new.self.tokens c.begin_object.new.self.tokens c.write_held.new.out.tokens c.write_rest.new.out.tokens
+    c.write_members.new.out.tokens begins c.in_ok-key.ensures.ok c.in_ok-begin_object-in-Open.ensures.ok
+    c.in_ok-write_held-in-Open.ensures.ok c.in_ok-write_rest-in-Open.ensures.ok) c.write_members.ensures.ok
+
+pub write_held_scope-returns-in_default-clause-ok : goal.write_held_scope-returns-in_default-clause-ok
+write_held_scope-returns-in_default-clause-ok t c =
+    let ended = subst (λ o. IsNext o c.args.reader.now c.next_member.new.reader) c.in_default.is c.in_ok-key.ensures.ok in
+    scope_ends c.args.after_code c.args.depth (onto c.args.texts no_members) c.args.reader.now
+    c.next_member.new.reader c.args.out.now.tokens c.write_scope_or_value.new.out.tokens c.end_object.new.self.tokens
+    ended c.in_ok-write_scope_or_value.ensures.ok c.in_ok-end_object.ensures.ok
+
+pub write_held_scope-returns-clause-ok : goal.write_held_scope-returns-clause-ok
+write_held_scope-returns-clause-ok t c =
+    let scope = onto c.args.texts no_members in
+    let next = subst (λ o. IsNext o c.args.reader.now c.next_member.new.reader) c.in-Some.is c.in_ok-key.ensures.ok in
+    let shown = c.in_ok-write_scope_or_value-2.ensures.ok
+    ∙ ap (λ b. c.args.out.now.tokens ++ json_tokens (scope_or_value b scope)) c.is_scope.ensures in
     on_ok_weaker c.write_member.result
-    (third_passes c.args.depth c.args.key.now c.args.text.now c.args.other.now c.args.more.now m ts q
-    c.write_member.new.reader c.args.out.now.tokens c.begin_object.new.self.tokens c.write_text.new.out.tokens
-    c.write_text-2.new.out.tokens c.write_member.new.out.tokens named c.in_ok-begin_object.ensures.ok
-    c.in_ok-write_text.ensures.ok c.in_ok-write_text-2.ensures.ok) c.write_member.ensures.ok
+    (scope_goes_on c.args.after_code c.args.depth c.in-Some.key.now c.in-Some.first scope c.args.reader.now
+    c.next_member.new.reader c.write_member.new.reader c.args.out.now.tokens c.write_scope_or_value-2.new.out.tokens
+    c.write_member.new.out.tokens next.0 shown) c.write_member.ensures.ok
 
 -- ---- where the text breaks
 
@@ -221,72 +234,39 @@ write_member-returns-clause-broken t c =
     one_member c.args.depth k (token.key k ∷ held) held c.write_begun.new.reader read.0 refl read.1
     ∙ ap (parse_map (member k read.0)) none) c.write_members.ensures.broken
 
-pub write_object-returns-in_err-key-clause-broken : goal.write_object-returns-in_err-key-clause-broken
-write_object-returns-in_err-key-clause-broken t c =
-    let p = err_from_is_err_and c.from_residual.result c.from_residual.ensures.1 in
-    rw p.1 (λ broken. no_key c.args.depth c.args.reader.now (grind arith))
+pub write_scope-returns-then-depth-eq0-clause-broken : goal.write_scope-returns-then-depth-eq0-clause-broken
+write_scope-returns-then-depth-eq0-clause-broken t c =
+    λ broken. too_deep_scope c.args.depth c.args.key.now c.args.reader.now (omega arith)
 
-pub write_object-returns-in_err-first-clause-broken : goal.write_object-returns-in_err-first-clause-broken
-write_object-returns-in_err-first-clause-broken t c =
-    let named : read_key c.args.reader.now ≡ Some (Some c.in-Some.key.now, []) = grind arith in
-    let p = err_from_is_err_and c.from_residual-in_err-first.result c.from_residual-in_err-first.ensures.1 in
-    rw p.1 (λ broken. no_member c.args.depth c.in-Some.key.now c.args.reader.now [] named (value_is c.args.depth []))
+pub write_scope-returns-in_err-texts-clause-broken : goal.write_scope-returns-in_err-texts-clause-broken
+write_scope-returns-in_err-texts-clause-broken t c =
+    let p = err_from_is_err_and c.from_residual-in_err-texts.result c.from_residual-in_err-texts.ensures.1 in
+    rw (p.1, p.2) (λ broken. broken_scope c.args.depth (omega arith) c.args.key.now c.args.reader.now
+    (c.in_err-texts.ensures.broken broken (c.args.depth - 1)))
 
-pub write_object-returns-in_default-first-clause-broken : goal.write_object-returns-in_default-first-clause-broken
-write_object-returns-in_default-first-clause-broken t c =
-    let ts = c.args.reader.now in
-    let k = c.in-Some.key.now in
-    let q = token_of c.in_ok-first.first ∷ c.next.new.self in
-    let named : read_key ts ≡ Some (Some k, q) = grind arith in
-    breaks c.write_member.result _ _ (λ none. ap (inside c.args.depth) (read_key_is ts (Some k) q named) ∙ none)
-    c.write_member.ensures.broken
+pub write_scope-returns-in_err-write_rest-in-Open-clause-broken :
+    goal.write_scope-returns-in_err-write_rest-in-Open-clause-broken
+write_scope-returns-in_err-write_rest-in-Open-clause-broken t c =
+    let o = c.in-Open in
+    let begins = subst (λ b. Begins b c.args.reader.now c.hold.new.reader) o.is c.in_ok-texts.ensures.ok in
+    let p = err_from_is_err_and c.from_residual-in_err-write_rest-in-Open.result
+    c.from_residual-in_err-write_rest-in-Open.ensures.1 in
+    rw (p.1, p.2) (λ broken. broken_rest c.args.depth (omega arith) o.texts c.args.key.now o.inner o.first
+    c.args.reader.now c.hold.new.reader begins (c.in_err-write_rest-in-Open.ensures.broken broken))
 
-pub write_behind_one-returns-in_err-other-clause-broken : goal.write_behind_one-returns-in_err-other-clause-broken
-write_behind_one-returns-in_err-other-clause-broken t c =
-    let p = err_from_is_err_and c.from_residual.result c.from_residual.ensures.1 in
-    rw p.1 (λ broken. no_text_held c.args.depth c.args.key.now c.args.text.now c.args.reader.now
-    (no_key c.args.depth c.args.reader.now (grind arith)))
+pub write_scope-returns-in-Whole-clause-broken : goal.write_scope-returns-in-Whole-clause-broken
+write_scope-returns-in-Whole-clause-broken t c =
+    let begins = subst (λ b. Begins b c.args.reader.now c.hold.new.reader) c.in-Whole.is c.in_ok-texts.ensures.ok in
+    breaks c.write_held_scope.result _ _ (λ none.
+    broken_behind c.args.depth (omega arith) c.args.key.now c.args.reader.now c.hold.new.reader
+    (onto c.in-Whole.texts no_members) (begins (c.args.depth - 1)) none) c.write_held_scope.ensures.broken
 
-pub write_behind_one-returns-in_err-first-clause-broken : goal.write_behind_one-returns-in_err-first-clause-broken
-write_behind_one-returns-in_err-first-clause-broken t c =
-    let ts = c.args.reader.now in
-    let l = c.in-Some.other.now in
-    let named : read_key ts ≡ Some (Some l, []) = grind arith in
-    let p = err_from_is_err_and c.from_residual-in_err-first.result c.from_residual-in_err-first.ensures.1 in
-    rw p.1 (λ broken. no_text_held c.args.depth c.args.key.now c.args.text.now ts
-    (no_member c.args.depth l ts [] named (value_is c.args.depth [])))
-
-pub write_behind_one-returns-in_default-first-clause-broken :
-    goal.write_behind_one-returns-in_default-first-clause-broken
-write_behind_one-returns-in_default-first-clause-broken t c =
-    let ts = c.args.reader.now in
-    let l = c.in-Some.other.now in
-    let q = token_of c.in_ok-first.first ∷ c.next.new.self in
-    let named : read_key ts ≡ Some (Some l, q) = grind arith in
-    breaks c.write_member.result _ _ (λ none. no_text_held c.args.depth c.args.key.now c.args.text.now ts
-    (ap (inside c.args.depth) (read_key_is ts (Some l) q named) ∙ none)) c.write_member.ensures.broken
-
-pub write_behind_two-returns-in_err-third-clause-broken : goal.write_behind_two-returns-in_err-third-clause-broken
-write_behind_two-returns-in_err-third-clause-broken t c =
-    let p = err_from_is_err_and c.from_residual.result c.from_residual.ensures.1 in
-    rw p.1 (λ broken. no_texts_held c.args.depth c.args.key.now c.args.text.now c.args.other.now c.args.more.now
-    c.args.reader.now (no_key c.args.depth c.args.reader.now (grind arith)))
-
-pub write_behind_two-returns-in_err-first-clause-broken : goal.write_behind_two-returns-in_err-first-clause-broken
-write_behind_two-returns-in_err-first-clause-broken t c =
-    let ts = c.args.reader.now in
-    let m = c.in-Some.third.now in
-    let named : read_key ts ≡ Some (Some m, []) = grind arith in
-    let p = err_from_is_err_and c.from_residual-in_err-first.result c.from_residual-in_err-first.ensures.1 in
-    rw p.1 (λ broken. no_texts_held c.args.depth c.args.key.now c.args.text.now c.args.other.now c.args.more.now ts
-    (no_member c.args.depth m ts [] named (value_is c.args.depth [])))
-
-pub write_behind_two-returns-clause-broken : goal.write_behind_two-returns-clause-broken
-write_behind_two-returns-clause-broken t c =
-    let ts = c.args.reader.now in
-    let m = c.in-Some.third.now in
-    let q = token_of c.in_ok-first.first ∷ c.next.new.self in
-    let named : read_key ts ≡ Some (Some m, q) = grind arith in
-    breaks c.write_member.result _ _ (λ none.
-    no_texts_held c.args.depth c.args.key.now c.args.text.now c.args.other.now c.args.more.now ts
-    (ap (inside c.args.depth) (read_key_is ts (Some m) q named) ∙ none)) c.write_member.ensures.broken
+pub write_scope-returns-in_ok-write_rest-in-Open-clause-broken :
+    goal.write_scope-returns-in_ok-write_rest-in-Open-clause-broken
+write_scope-returns-in_ok-write_rest-in-Open-clause-broken t c =
+    let o = c.in-Open in
+    let begins = subst (λ b. Begins b c.args.reader.now c.hold.new.reader) o.is c.in_ok-texts.ensures.ok in
+    breaks c.write_members.result _ _ (λ none.
+    broken_after_rest c.args.depth (omega arith) o.texts c.args.key.now o.inner o.first c.args.reader.now
+    c.hold.new.reader c.write_rest.new.reader c.write_held.new.out.tokens c.write_rest.new.out.tokens begins
+    c.in_ok-write_rest-in-Open.ensures.ok none) c.write_members.ensures.broken

@@ -5,28 +5,31 @@ use Rattle.bson_legacy.proofs.Passing.{whole}
 use Rattle.bson_legacy.proofs.modern.+write.Given as goal
 
 abbrev pub decreases-write_begun : goal.decreases-write_begun
-decreases-write_begun l = 7 * l.depth
+decreases-write_begun l = 8 * l.depth
 
 abbrev pub decreases-write_value : goal.decreases-write_value
-decreases-write_value l = 7 * l.depth + 1
+decreases-write_value l = 8 * l.depth + 1
 
 abbrev pub decreases-write_items : goal.decreases-write_items
-decreases-write_items l = 7 * l.depth + 2
+decreases-write_items l = 8 * l.depth + 2
 
 abbrev pub decreases-write_members : goal.decreases-write_members
-decreases-write_members l = 7 * l.depth + 2
+decreases-write_members l = 8 * l.depth + 2
 
 abbrev pub decreases-write_member : goal.decreases-write_member
-decreases-write_member l = 7 * l.depth + 3
+decreases-write_member l = 8 * l.depth + 3
 
-abbrev pub decreases-write_behind_two : goal.decreases-write_behind_two
-decreases-write_behind_two l = 7 * l.depth + 4
+abbrev pub decreases-write_held_scope : goal.decreases-write_held_scope
+decreases-write_held_scope l = 8 * l.depth + 4
 
-abbrev pub decreases-write_behind_one : goal.decreases-write_behind_one
-decreases-write_behind_one l = 7 * l.depth + 5
+abbrev pub decreases-write_scope : goal.decreases-write_scope
+decreases-write_scope l = 8 * l.depth + 5
+
+abbrev pub decreases-write_rest : goal.decreases-write_rest
+decreases-write_rest l = 8 * l.depth + 6
 
 abbrev pub decreases-write_object : goal.decreases-write_object
-decreases-write_object l = 7 * l.depth + 6
+decreases-write_object l = 8 * l.depth + 7
 
 -- what is left, written behind what was written, is the whole
 abbrev pub invariant-write_items-items : goal.invariant-write_items-items

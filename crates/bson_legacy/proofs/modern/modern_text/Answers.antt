@@ -1,19 +1,11 @@
-use Rattle.std.proofs.Common.{◌≡◌, [], Some, sym, ap, ◌∙◌, arith, string_bytes}
-use Rattle.json.specs.Json.{value}
-use Rattle.json.specs.Lex.{tokens}
-use Rattle.json.specs.Tree.{json_tokens}
-use Rattle.bson_legacy.specs.Modern.{modern}
-use Rattle.bson_legacy.proofs.Whole.{written}
+use Rattle.std.proofs.Common.{◌≡◌, arith, string_bytes}
+use Rattle.std.proofs.lemmas.Result.{IfOk-weaker}
+use Rattle.bson_legacy.specs.Text.{IsModernText, IsRewritten}
+use Rattle.bson_legacy.proofs.Whole.{modern_of, never_breaks}
 use Rattle.bson_legacy.proofs.modern.modern_text.Goals as goal
 
-pub returns-clause-ok : goal.returns-clause-ok
-returns-clause-ok c =
-    let passed = c.in_ok-write_value.ensures.ok in
-    let j = passed.0 in
-    let left : c.write_value.new.reader ≡ [] = grind arith in
-    let start : c.in_ok-reader.reader ≡ tokens c.args.text.now = grind arith in
-    let whole : value 127 (tokens c.args.text.now) ≡ Some (j, []) =
-    ap (value 127) (sym start) ∙ passed.1 ∙ ap (λ r. Some (j, r)) left in
-    let is : c.write_value.new.out.tokens ≡ json_tokens (modern j) = grind arith in
-    written c.args.text.now (string_bytes c.into_text.result) j c.write_value.new.out.tokens whole is
-    c.into_text.ensures.text c.into_text.ensures.again
+pub returns : goal.returns
+returns c = record {
+  ok = IfOk-weaker c.rewrite.result _ _ (λ written is. modern_of c.args.text.now _ (string_bytes written) c.in_ok-resolved.ensures.ok (rw (← c.as_str.ensures.value) is)) c.rewrite.ensures.ok;
+  broken = never_breaks c.args.text.now _ _ c.rewrite.result c.in_ok-resolved.ensures.ok (rw (← c.as_str.ensures.value) c.rewrite.ensures.broken);
+}

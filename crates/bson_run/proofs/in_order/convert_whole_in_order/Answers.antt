@@ -6,7 +6,7 @@ use Rattle.serde_json.specs.Read.{read}
 use Rattle.bson.specs.TextMeaning.{IsTextOf}
 use Rattle.bson_convert.proofs.Offered.{accepted}
 use Rattle.bson_convert.specs.Convert.{IsRefusedIn}
-use Rattle.bson_convert.specs.declared.fault.Fault.{Fault}
+use Rattle.bson_convert.specs.declared.error.Error.{Error}
 use Rattle.bson_distinct.specs.Arranged.{IsArrangedText}
 use Rattle.bson_distinct.specs.declared.arrangement.Arrangement.TheVariants.{FirstPlaces}
 use Rattle.bson_tokens.proofs.Offered.{if_ok}
@@ -20,7 +20,7 @@ returns-in_err-arranged-clause-accepts c = λ t v is means.
     let o = c.args.options in
     let fault = c.in_err-arranged.field-0.0 in
     let refused = subst (IsRefusedIn o fault) c.as_str-2.ensures.value (c.in_err-arranged.ensures.fault o) in
-    let result : Result (Unit {0}) Fault = Err fault in
+    let result : Result (Unit {0}) Error = Err fault in
     rw (p.1, p.2) (accepted o (string_bytes c.args.text) t v is means result refused)
 
 pub returns-clause-ok : goal.returns-clause-ok

@@ -8,6 +8,6 @@ pub returns : goal.returns
 returns c = λ fs are.
     let found = c.in_ok-with_segment-in-Some in
     let copied : string_bytes c.in_ok-key-in-Some.key ≡ c.in-Some.key.now = search rules in
-    least_some fs c.in-Some.key c.in-Some.kept c.place_of.result found.field-0 _
-    (subst (AreTold fs) c.in-Some.ensures.removal are) c.place_of.ensures
-    (found.ensures.path ∙ ap (λ k. path_of c.place_of.result ++ key k ∷ []) copied) found.ensures.reason
+    least_some fs c.in-Some.key c.in-Some.kept c.in_ok-place-in-Some.place found.field-0 _
+    (subst (AreTold fs) c.in-Some.ensures.removal are) c.in_ok-place-in-Some.ensures
+    (found.ensures.path ∙ ap (λ k. path_of c.in_ok-place-in-Some.place ++ key k ∷ []) copied) found.ensures.reason

@@ -134,19 +134,20 @@ walk_members-returns-in-Some-wrapper-clause-ok t c =
           (at_here c.place_here.result c.place_here.ensures.reason c.place_here.ensures.path),
     )
 
-pub walk_members-returns-in_ok-least_fault-in-None-clause-ok : goal.walk_members-returns-in_ok-least_fault-in-None-clause-ok
-walk_members-returns-in_ok-least_fault-in-None-clause-ok t c =
+pub walk_members-returns-in-None-clause-ok : goal.walk_members-returns-in-None-clause-ok
+walk_members-returns-in-None-clause-ok t c =
     let l = c.members in
     let so_far = l.invariant.0 in
     let ended : read_key l.reader ≡ Some (None, c.next_key.new.self) = grind arith in
-    let none : has_wrapper so_far ≡ false = sym l.invariant.4 ∙ ap is_some c.in-None.is in (
+    let none : has_wrapper so_far ≡ false = sym l.invariant.4 ∙ ap is_some c.in-None.is in
+    if_ok c.least_fault.result c.least_fault.ensures (λ p told_by. (
       so_far,
       all_gathered c.args.depth no_members c.args.reader.now l.reader c.next_key.new.self so_far l.invariant.1 ended
           (length c.args.reader.now) (omega arith),
-      told (least (faults c.args.doubles so_far)) (found c.args.doubles (object so_far)) _
+      told (least (faults c.args.doubles so_far)) (found c.args.doubles (object so_far)) p
           (sym (plain_found c.args.doubles so_far none ∙ least_is c.args.doubles so_far))
-          (c.in_ok-least_fault-in-None.ensures (faults c.args.doubles so_far) l.invariant.3),
-    )
+          (told_by (faults c.args.doubles so_far) l.invariant.3),
+    ))
 
 -- ---- the others, by subject
 

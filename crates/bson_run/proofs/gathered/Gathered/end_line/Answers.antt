@@ -23,7 +23,6 @@ returns-clause-ok c =
           written_taken self _ w.in-Ok-Some.output.items c.clear.ensures.items
           (ap (λ (s : Gathered). s.lines + 1) w.self-is ∙ ap (λ n. n + 1) added.same.2)
           (ap (λ (s : Gathered). s.output.items) w.self-is ∙ added.ok
-          ∙ ap (λ l. self.output.items ++ l) w.deref-in-Ok-Some.ensures.value
           ∙ ap (λ (v : Vec ℕ Global). self.output.items ++ v.items) w.in-Ok-Some.output-is)
           (ap (λ (s : Gathered). s.told.items) w.self-is ∙ ap (λ v. v.items) added.same.1)
           (ap (λ (s : Gathered). s.refused) w.self-is ∙ added.same.3)

@@ -13,6 +13,7 @@ use Rattle.bson_tokens.specs.Found.{found, found_members, faults, least}
 use Rattle.bson_tokens.specs.Told.{Tells, AreTold}
 use Rattle.bson_tokens.proofs.Faulty.{faults_put, least_is}
 use Rattle.bson_tokens.proofs.Gathering.{none_yet, one_gathered, all_gathered}
+use Rattle.bson_tokens.proofs.Rounds.{if_ok}
 use Rattle.bson_tokens.proofs.Starts.{primitive_read, array_read, object_read}
 use Rattle.bson_tokens.specs.Start.{primitive_tree}
 use Rattle.bson_tokens.proofs.Verdicts.{told, at_here, none_told}
@@ -50,14 +51,14 @@ pub wrapped::walk_pairs-returns-clause-ok : goal.wrapped::walk_pairs-returns-cla
 wrapped::walk_pairs-returns-clause-ok t c =
     let l = c.members in
     let so_far = l.invariant.0 in
-    let ended : read_key l.reader ≡ Some (None, c.next_key.new.self) = grind arith in (
+    let ended : read_key l.reader ≡ Some (None, c.next_key.new.self) = grind arith in
+    if_ok c.least_fault.result c.least_fault.ensures (λ p told_by. (
       so_far,
       all_gathered c.args.depth no_members c.args.reader.now l.reader c.next_key.new.self so_far l.invariant.1 ended
           (length c.args.reader.now) (omega arith),
-      told (least (faults c.args.doubles so_far)) (found_members c.args.doubles so_far) _
-          (sym (least_is c.args.doubles so_far))
-          (c.in_ok-least_fault.ensures (faults c.args.doubles so_far) l.invariant.3),
-    )
+      told (least (faults c.args.doubles so_far)) (found_members c.args.doubles so_far) p
+          (sym (least_is c.args.doubles so_far)) (told_by (faults c.args.doubles so_far) l.invariant.3),
+    ))
 
 -- ---- what stands as a scope
 

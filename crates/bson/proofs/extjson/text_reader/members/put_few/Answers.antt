@@ -7,8 +7,8 @@ use Rattle.bson.proofs.PutAscends.{put_ascends}
 use Rattle.bson.proofs.MembersByKey.{put_gathered}
 use Rattle.bson.proofs.extjson.text_reader.members.put_few.Goals as goal
 
-pub returns-in-Err : goal.returns-in-Err
-returns-in-Err c =
+pub returns-in-Ok : goal.returns-in-Ok
+returns-in-Ok c =
     subst (λ ps. IfOk c.put_many.result (IsPut Ascending (string_bytes c.args.key) (bson_view c.args.value) ps))
     (put_gathered c.args.members.items c.requires) c.put_many.ensures
 

@@ -1,3 +1,0 @@
-pub mod Seen
-pub mod SameLaws
-pub mod Steps

@@ -1,0 +1,171 @@
+-- What is read in the place of a text, and what a status says of it.
+use Rattle.std.proofs.Common.{◌≡◌, ◌≢◌, ◌≤◌, inl, inr, ℕ, List, Option, None, Some, refl, ap, sym, subst, ◌∙◌, arith}
+use Rattle.std.specs.Prelude.{IsUtf8}
+use Rattle.json.specs.Print.{print}
+use Rattle.json.specs.Tree.{json_tokens}
+use Rattle.serde_json.specs.Data.{Data}
+use Rattle.serde_json.specs.Read.{read}
+use Rattle.bson_distinct.specs.Arranged.{arranged}
+use Rattle.bson_distinct.specs.Double.{json_of}
+use Rattle.bson_distinct.specs.declared.arrangement.Arrangement.TheVariants.{FirstPlaces}
+use Rattle.bson_legacy.specs.Modern.{modern}
+use Rattle.bson_legacy.specs.Text.{IsModernText}
+use Rattle.bson_place.specs.Place.{path_of}
+use Rattle.bson_place.specs.declared.place.Place.{Place}
+use Rattle.bson_scalar.specs.declared.form.Doubles.{Doubles}
+use Rattle.bson_model.specs.Means.{MeansIn}
+use Rattle.bson_bytes.specs.Laws.{IsReadIn}
+use Rattle.bson_model.specs.Value.{Pairs, Value}
+use Rattle.bson.specs.TextMeaning.{HasTextMeaningIn, IsTextOf}
+use Rattle.bson.specs.declared.extjson.options.Options.{Options}
+use Rattle.bson_convert.specs.Convert.{IsRefusedIn}
+use Rattle.bson_convert.specs.declared.error.Error.{Error}
+use Rattle.bson_convert.specs.declared.error.Error.TheVariants.{CannotRead, NotJson, NotExtendedJson, NoBytes, OutOfMemory}
+use Rattle.bson_convert.specs.declared.error.Error.TheVariants.{CannotWrite}
+use Rattle.bson_run.specs.Taken.{HasDoubleKeyAt, HasNoDoubleKey, IsNoJson, StandsFor}
+use Rattle.bson_run.specs.declared.order.Taking.{Taking}
+use Rattle.bson_run.specs.declared.order.Taking.TheVariants.{Distinct, Legacy, DistinctLegacy}
+use Rattle.vbson.proofs.Causes.{causes, reason_status}
+use Rattle.vbson.proofs.Duplicates.{not_unique}
+use Rattle.vbson.proofs.Numbers.{is_read}
+use Rattle.vbson.specs.Convert.{IsOfText, options_of, status_of}
+use Rattle.vbson.specs.Documents.{depth}
+use Rattle.vbson.specs.Reading.{HasRejectedKey, IsReadAs, IsRejectedWith, IsUnread, IsWithoutValue, MeansUnder}
+use Rattle.vbson.specs.Reading.{IsWithoutDocument, duplicate_keys_of, preprocessing_of}
+
+-- ---- one value
+
+-- bytes mean one value
+pub one_meaning : (D : Doubles) (bytes : List ℕ) (v w : Value) → HasTextMeaningIn D bytes v
+    → HasTextMeaningIn D bytes w → v ≡ w
+one_meaning D bytes v w a b =
+    let x : read bytes ≡ Some a.tree = a.text.tree_read in
+    let y : read bytes ≡ Some b.tree = b.text.tree_read in
+    let trees : a.tree ≡ b.tree = cc in
+    b.meaning.one v (subst (λ t. MeansIn D t v) trees a.meaning.means)
+
+one_modern : (text a b : List ℕ) → IsModernText text a → IsModernText text b → a ≡ b
+one_modern text a b x y =
+    let i : json_of text ≡ Some x.is_resolved.tree = x.is_resolved.is_tree in
+    let j : json_of text ≡ Some y.is_resolved.tree = y.is_resolved.is_tree in
+    let trees : x.is_resolved.tree ≡ y.is_resolved.tree = cc in
+    x.compact ∙ (ap (λ t. print (json_tokens (modern (arranged FirstPlaces t)))) trees ∙ sym y.compact)
+
+not_json : (text a : List ℕ) → IsUtf8 text → IsModernText text a → IsNoJson text → ⊥
+not_json text a utf8 x none =
+    let d = is_read FirstPlaces text x.resolved x.is_resolved in
+    none d.0 utf8 d.1
+
+one_newer : (text a b : List ℕ) → StandsFor text a → StandsFor text b → a ≡ b
+one_newer text a b (inl x) (inl y) = one_modern text a b x.1 y.1
+one_newer text a b (inl x) (inr y) = absurd (not_json text a x.0 x.1 y.0)
+one_newer text a b (inr x) (inl y) = absurd (not_json text b y.0 y.1 x.0)
+one_newer text a b (inr x) (inr y) = x.1 ∙ sym y.1
+
+-- one text is read in the place of a text
+pub one_read : (preprocessing : Option Taking) (text a b : List ℕ) → IsReadAs preprocessing text a
+    → IsReadAs preprocessing text b → a ≡ b
+one_read None text a b x y = x ∙ sym y
+one_read (Some Distinct) text a b x y = x.1 ∙ sym y.1
+one_read (Some Legacy) text a b x y = one_newer text a b x y
+one_read (Some DistinctLegacy) text a b x y = one_newer text a b x.1 y.1
+
+-- which means one value
+pub meant : (flags : ℕ) (text read : List ℕ) (value : Value) → IsReadAs (preprocessing_of flags) text read
+    → MeansUnder flags text value → HasTextMeaningIn (options_of flags).doubles read value
+meant flags text read value is means =
+    subst (λ x. HasTextMeaningIn (options_of flags).doubles x value)
+    (one_read (preprocessing_of flags) text means.read read means.read_as is) means.meaning
+
+-- ---- what a status says
+
+two_at_least : (o : Options) (fault : Error) (bytes : List ℕ) → IsRefusedIn o fault bytes
+    → (2 ≤ status_of fault) × (status_of fault ≤ 5)
+two_at_least o CannotRead bytes h = absurd h
+two_at_least o NotJson bytes h = (omega arith, omega arith)
+two_at_least o (NotExtendedJson place) bytes h = reason_status place.reason
+two_at_least o (NoBytes why) bytes h = absurd h
+two_at_least o OutOfMemory bytes h = (omega arith, omega arith)
+two_at_least o CannotWrite bytes h = absurd h
+
+pub rejected : (o : Options) (fault : Error) (bytes : List ℕ) → IsRefusedIn o fault bytes
+    → ((tree : Data) (value : Value) → IsTextOf bytes tree → MeansIn o.doubles tree value → fault ≡ OutOfMemory)
+    → IsRejectedWith o (status_of fault) bytes
+rejected o fault bytes h accepts = record {
+  cause = causes o fault bytes h;
+  accepts = λ value means. ap status_of (accepts means.tree value means.text means.meaning.means);
+  listed = two_at_least o fault bytes h;
+}
+
+-- of what is read in the place of a text
+pub without_value : (flags status : ℕ) (text read : List ℕ) → IsReadAs (preprocessing_of flags) text read
+    → IsRejectedWith (options_of flags) status read → IsWithoutValue flags status text
+without_value flags status text read is h = record {
+  not_json = λ two. record { read = read; read_as = is; rejected = h.cause.not_json two };
+  bad_object_id = λ three. record { read = read; read_as = is; rejected = h.cause.bad_object_id three };
+  not_extended_json = λ four. inr (record { read = read; read_as = is; rejected = h.cause.not_extended_json four });
+  accepts = λ value means. h.accepts value (meant flags text read value is means);
+  listed = h.listed;
+}
+
+-- when memory runs out
+pub no_memory : (flags : ℕ) (text : List ℕ) → IsWithoutValue flags 5 text
+no_memory flags text = record {
+  not_json = λ is. absurd (omega (arith, is));
+  bad_object_id = λ is. absurd (omega (arith, is));
+  not_extended_json = λ is. absurd (omega (arith, is));
+  accepts = λ value means. refl;
+  listed = (omega arith, omega arith);
+}
+
+not_both : (place : Place) (text : List ℕ) → HasDoubleKeyAt place text → HasNoDoubleKey text → ⊥
+not_both place text h none = not_unique h.1.0 (path_of place) h.1.2 (none h.1.0 h.0 h.1.1)
+
+-- a text that preprocessing rejects is not read
+not_read : (preprocessing : Option Taking) (text read : List ℕ) → HasRejectedKey preprocessing text
+    → IsReadAs preprocessing text read → ⊥
+not_read None text read h is = h
+not_read (Some Distinct) text read h is = not_both h.0 text h.1 is.0
+not_read (Some Legacy) text read h is = h.1
+not_read (Some DistinctLegacy) text read h is = not_both h.0 text h.1 is.0
+
+rejected_key : (preprocessing : Option Taking) (fault : Error) (text : List ℕ) → IsUnread preprocessing fault text
+    → fault ≢ OutOfMemory → HasRejectedKey preprocessing text
+rejected_key None fault text h some = h
+rejected_key (Some taking) CannotRead text h some = absurd h
+rejected_key (Some taking) NotJson text h some = absurd h
+rejected_key (Some taking) (NotExtendedJson place) text h some = (place, h)
+rejected_key (Some taking) (NoBytes why) text h some = absurd h
+rejected_key (Some taking) OutOfMemory text h some = absurd (some refl)
+rejected_key (Some taking) CannotWrite text h some = absurd h
+
+pub turned_away : (flags : ℕ) (fault : Error) (text : List ℕ) → IsUnread (preprocessing_of flags) fault text
+    → fault ≢ OutOfMemory → IsWithoutValue flags 4 text
+turned_away flags fault text h some =
+    let key = rejected_key (preprocessing_of flags) fault text h some in
+    record {
+      not_json = λ is. absurd (omega (arith, is));
+      bad_object_id = λ is. absurd (omega (arith, is));
+      not_extended_json = λ is. inl key;
+      accepts = λ value means. absurd (not_read (preprocessing_of flags) text means.read key means.read_as);
+      listed = (omega arith, omega arith);
+    }
+
+-- an error that bytes have as a text is neither of a reader nor of a writer
+pub of_refused : (o : Options) (fault : Error) (bytes : List ℕ) → IsRefusedIn o fault bytes → IsOfText fault
+of_refused o CannotRead bytes h = h
+of_refused o NotJson bytes h = tt
+of_refused o (NotExtendedJson place) bytes h = tt
+of_refused o (NoBytes why) bytes h = tt
+of_refused o OutOfMemory bytes h = tt
+of_refused o CannotWrite bytes h = h
+
+-- ---- documents
+
+pub no_document_under : (flags : ℕ) (bytes : List ℕ)
+    → ((ps : Pairs) → IsReadIn (duplicate_keys_of flags) depth bytes ps → ⊥) → IsWithoutDocument flags 10 bytes
+no_document_under flags bytes none = record {
+  no_document = λ ten value is. none is.pairs is.read;
+  accepts = λ value is. absurd (none is.pairs is.read);
+  listed = inr refl;
+}

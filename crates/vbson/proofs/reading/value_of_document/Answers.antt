@@ -1,0 +1,21 @@
+use Rattle.std.proofs.Common.{ap, subst, sym, ◌∙◌}
+use Rattle.bson_bytes.specs.Laws.{IsReadIn}
+use Rattle.bson_model.specs.Value.{document}
+use Rattle.vbson.proofs.Decoding.{document_seen}
+use Rattle.vbson.proofs.Preprocessed.{no_document_under}
+use Rattle.vbson.specs.Documents.{depth}
+use Rattle.vbson.proofs.reading.value_of_document.Goals as goal
+
+pub returns-in-Ok-clause-one : goal.returns-in-Ok-clause-one
+returns-in-Ok-clause-one c value is =
+    let read = subst (λ k. IsReadIn k depth c.args.bytes.now is.pairs) (sym c.duplicate_keys_of.ensures) is.read in
+    is.is ∙ (ap document (sym (c.in-Ok.ensures.only is.pairs read).0) ∙ sym (document_seen c.in-Ok.document))
+
+-- reading gave a fault, and did not run out of memory
+pub returns-in-Err-Malformed-clause-rejected : goal.returns-in-Err-Malformed-clause-rejected
+returns-in-Err-Malformed-clause-rejected c =
+    no_document_under c.args.flags c.args.bytes.now (λ ps given.
+    let read = subst (λ k. IsReadIn k depth c.args.bytes.now ps) (sym c.duplicate_keys_of.ensures) given in
+    let only = (c.in-Err-Malformed.ensures.only ps read).1 in
+    let is = c.in-Err-Malformed.field-0-is in
+    absurd cc)

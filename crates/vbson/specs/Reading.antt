@@ -1,0 +1,99 @@
+-- Which value the flags read from a text, and from the bytes of a document.
+use Rattle.std.specs.Prelude.{◌≡◌, ◌⊎◌, ◌≤◌, ◌==◌, ◌/◌, ◌%◌, ℕ, List, Option, None, Some, if◌then◌else◌}
+use Rattle.bson.specs.TextMeaning.{HasTextMeaningIn, IsNoText}
+use Rattle.bson_bytes.specs.Laws.{IsReadIn}
+use Rattle.bson_bytes.specs.declared.keys.DuplicateKeys.{DuplicateKeys}
+use Rattle.bson_bytes.specs.declared.keys.DuplicateKeys.TheVariants.{Replace, Refuse}
+use Rattle.bson_model.specs.Value.{Value, Pairs, document}
+use Rattle.bson_place.specs.declared.place.Place.{Place}
+use Rattle.bson.specs.declared.extjson.options.Options.{Options}
+use Rattle.bson_convert.specs.declared.error.Error.{Error}
+use Rattle.bson_run.specs.Taken.{IsTakenAs, IsTurnedAway, IsUntaken}
+use Rattle.bson_run.specs.declared.order.Taking.{Taking}
+use Rattle.bson_run.specs.declared.order.Taking.TheVariants.{Distinct, Legacy, DistinctLegacy}
+use Rattle.vbson.specs.Convert.{HasNoMeaningIn, IsBad, IsBadId, IsCauseIn, options_of}
+use Rattle.vbson.specs.Documents.{depth}
+
+-- ---- texts
+
+-- what the bits 4 and 8 request: that a duplicate key is rejected, and that Extended JSON v1 is read too
+abbrev pub preprocessing_of : ℕ → Option Taking
+preprocessing_of flags =
+    if flags / 4 % 2 == 1
+    then (if flags / 8 % 2 == 1 then Some DistinctLegacy else Some Distinct)
+    else (if flags / 8 % 2 == 1 then Some Legacy else None)
+
+-- preprocessing accepts the text, and these bytes are read in its place
+abbrev pub IsReadAs : Option Taking → (text read : List ℕ) → Type 0
+IsReadAs None text read = read ≡ text
+IsReadAs (Some preprocessing) text read = IsTakenAs preprocessing text read
+
+-- preprocessing rejects the text
+abbrev pub HasRejectedKey : Option Taking → List ℕ → Type 0
+HasRejectedKey None text = ⊥
+HasRejectedKey (Some preprocessing) text = (place : Place) × IsTurnedAway preprocessing place text
+
+-- under the flags the text means the value
+pub record MeansUnder (flags : ℕ) (text : List ℕ) (value : Value) : Type 0 where
+  pub read : List ℕ
+  pub read_as : IsReadAs (preprocessing_of flags) text read
+  pub meaning : HasTextMeaningIn (options_of flags).doubles read value
+
+-- what is read in the place of the text is rejected for the cause
+pub record IsReadAndRejected (flags : ℕ) (cause : List ℕ → Type 0) (text : List ℕ) : Type 0 where
+  pub read : List ℕ
+  pub read_as : IsReadAs (preprocessing_of flags) text read
+  pub rejected : cause read
+
+abbrev pub IsNoTextUnder : ℕ → List ℕ → Type 0
+IsNoTextUnder flags = IsReadAndRejected flags IsNoText
+
+abbrev pub HasBadIdUnder : ℕ → List ℕ → Type 0
+HasBadIdUnder flags = IsReadAndRejected flags (HasNoMeaningIn (options_of flags) IsBadId)
+
+abbrev pub IsBadUnder : ℕ → List ℕ → Type 0
+IsBadUnder flags text =
+    HasRejectedKey (preprocessing_of flags) text
+    ⊎ IsReadAndRejected flags (HasNoMeaningIn (options_of flags) IsBad) text
+
+-- ---- documents
+
+-- the bit 4 rejects a duplicate key
+abbrev pub duplicate_keys_of : ℕ → DuplicateKeys
+duplicate_keys_of flags = if flags / 4 % 2 == 1 then Refuse else Replace
+
+-- under the flags the bytes are the document that the value is
+pub record IsDocumentUnder (flags : ℕ) (bytes : List ℕ) (value : Value) : Type 0 where
+  pub pairs : Pairs
+  pub read : IsReadIn (duplicate_keys_of flags) depth bytes pairs
+  pub is : value ≡ document pairs
+
+abbrev pub IsNoDocumentUnder : ℕ → List ℕ → Type 0
+IsNoDocumentUnder flags bytes = (value : Value) → IsDocumentUnder flags bytes value → ⊥
+
+-- ---- for private clauses
+
+-- what a fault says of a text that preprocessing does not accept
+abbrev pub IsUnread : Option Taking → Error → List ℕ → Type 0
+IsUnread None fault text = ⊥
+IsUnread (Some preprocessing) fault text = IsUntaken preprocessing fault text
+
+-- what a status says of bytes that mean nothing, with no preprocessing
+pub record IsRejectedWith (o : Options) (status : ℕ) (bytes : List ℕ) : Type 0 where
+  pub cause : IsCauseIn o status bytes
+  pub accepts : (value : Value) → HasTextMeaningIn o.doubles bytes value → status ≡ 5
+  pub listed : (2 ≤ status) × (status ≤ 5)
+
+-- what a status says of a text that has no value under the flags
+pub record IsWithoutValue (flags status : ℕ) (text : List ℕ) : Type 0 where
+  pub not_json : status ≡ 2 → IsNoTextUnder flags text
+  pub bad_object_id : status ≡ 3 → HasBadIdUnder flags text
+  pub not_extended_json : status ≡ 4 → IsBadUnder flags text
+  pub accepts : (value : Value) → MeansUnder flags text value → status ≡ 5
+  pub listed : (2 ≤ status) × (status ≤ 5)
+
+-- what a status says of bytes that are not a document under the flags
+pub record IsWithoutDocument (flags status : ℕ) (bytes : List ℕ) : Type 0 where
+  pub no_document : status ≡ 10 → IsNoDocumentUnder flags bytes
+  pub accepts : (value : Value) → IsDocumentUnder flags bytes value → status ≡ 5
+  pub listed : (status ≡ 5) ⊎ (status ≡ 10)

@@ -1,0 +1,81 @@
+//! The value that flags read from a text, or from the bytes of a document.
+ghost use Rattle.std.specs.Prelude.{◌≡◌, ◌⊎◌, IfOk, IfErr};
+ghost use Rattle.bson.specs.TextMeaning.{HasTextMeaningIn};
+ghost use Rattle.bson.specs.View.{bson_view};
+ghost use Rattle.bson_model.specs.Value.{Value};
+ghost use Rattle.bson_run.specs.Taken.{taken_of};
+ghost use Rattle.vbson.specs.Reading.{IsDocumentUnder, IsReadAs, IsUnread, IsWithoutValue, IsRejectedWith};
+ghost use Rattle.vbson.specs.Reading.{IsWithoutDocument, MeansUnder};
+
+use crate::convert::status_of;
+use crate::flags::{duplicate_keys_of, options_of, preprocessing_of};
+use crate::status;
+use bson::Bson;
+use bson::extjson::Options;
+use bson_codec::de;
+use bson_codec::de::{DEPTH, ReadOptions, from_slice_with};
+use bson_convert::convert::error_of;
+use bson_convert::error::Error;
+use bson_run::order::Taking;
+use bson_run::taken::take_as;
+use std::alloc::Global;
+
+/// Returns the value of a text, or the status of its first fault.
+pub fn value_of_text(alloc: Global, flags: u32, text: &[u8]) -> Result<Bson, u32>
+    ensures ok { IfOk result (λ value. MeansUnder flags text.now (bson_view value)) }
+    ensures one { (value : Value) → MeansUnder flags text.now value → IfOk result (λ v. value ≡ bson_view v) }
+    ensures rejected { IfErr result (λ status. IsWithoutValue flags status text.now) }
+{
+    match preprocess(alloc, preprocessing_of(flags), text) {
+        Ok(Some(newer)) => meaning_of(alloc, options_of(flags), newer.as_bytes()),
+        Ok(None) => meaning_of(alloc, options_of(flags), text),
+        Err(fault) if fault.is_memory() => Err(status::OUT_OF_MEMORY),
+        Err(_) => Err(status::NOT_EXTENDED_JSON),
+    }
+}
+
+/// Returns the text that is read in the place of a text, or `None` if the text itself is read.
+pub fn preprocess(
+    alloc: Global,
+    preprocessing: Option<Taking>,
+    text: &[u8],
+) -> Result<Option<String>, Error>
+    ensures ok { IfOk result (λ newer. IsReadAs preprocessing text.now (taken_of text.now newer)) }
+    ensures rejected { IfErr result (λ fault. IsUnread preprocessing fault text.now) }
+{
+    match preprocessing {
+        Some(taking) => take_as(alloc, taking, text),
+        None => Ok(None),
+    }
+}
+
+// Returns the value that bytes mean as a text, with no preprocessing.
+fn meaning_of(alloc: Global, options: Options, bytes: &[u8]) -> Result<Bson, u32>
+    ensures ok { IfOk result (λ value. HasTextMeaningIn options.doubles bytes.now (bson_view value)) }
+    ensures one { (value : Value) → HasTextMeaningIn options.doubles bytes.now value
+        → IfOk result (λ v. value ≡ bson_view v) }
+    ensures rejected { IfErr result (λ status. IsRejectedWith options status bytes.now) }
+{
+    match Bson::try_from_text_with(alloc, options, bytes) {
+        Ok(value) => Ok(value),
+        Err(error) => Err(status_of(error_of(error))),
+    }
+}
+
+/// Returns the document that bytes are, as a value, or a status.
+pub fn value_of_document(alloc: Global, flags: u32, bytes: &[u8]) -> Result<Bson, u32>
+    ensures ok { IfOk result (λ value. IsDocumentUnder flags bytes.now (bson_view value)) }
+    ensures one { (value : Value) → IsDocumentUnder flags bytes.now value
+        → IfOk result (λ v. value ≡ bson_view v) }
+    ensures rejected { IfErr result (λ status. IsWithoutDocument flags status bytes.now) }
+{
+    let options = ReadOptions {
+        depth: DEPTH,
+        duplicate_keys: duplicate_keys_of(flags),
+    };
+    match from_slice_with(alloc, options, bytes) {
+        Ok(document) => Ok(Bson::Document(document)),
+        Err(de::Error::Malformed { .. }) => Err(status::NO_DOCUMENT),
+        Err(de::Error::OutOfMemory) => Err(status::OUT_OF_MEMORY),
+    }
+}

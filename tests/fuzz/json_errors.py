@@ -1,0 +1,200 @@
+"""Where bytes stop to be a JSON text (RFC 8259), and which rule they break there, as docs/PROGRAMS.md says it.
+
+A token is a bracket, a comma, a colon, a string, or a word: other characters up to a blank, a bracket, a comma or a
+colon. An error lies at the first token that is none of JSON, or that JSON has but not there: a comma or a colon lies at
+itself, any other token at what follows it, where a comma behind a value and a colon behind a key belong to these.
+"""
+from json_text import DEEPEST, NUMBER, NotJson, string
+
+BLANKS, MARKS = ' \t\n\r', '{}[],:'
+OPENING, CLOSING = ('{', '['), ('}', ']')
+LITERALS = ('null', 'true', 'false')
+
+
+class Broken(Exception):
+    """The place of the error among the characters, and the name of the rule."""
+
+    def __init__(self, place, rule):
+        super().__init__(place, rule)
+        self.place, self.rule = place, rule
+
+
+def error_of(data):
+    """The number of bytes before the error and the name of the rule, or None for a JSON text."""
+    try:
+        text = data.decode('utf-8')
+    except UnicodeDecodeError as error:
+        return error.start, 'Utf8'
+    try:
+        reader = Reader(text)
+        reader.whole()
+    except Broken as broken:
+        return len(text[:broken.place].encode()), broken.rule
+    if reader.large is not None:
+        return len(text[:reader.large].encode()), 'OutOfRange'
+    return None
+
+
+def string_end(text, at):
+    """The place behind the string that begins here, or None where it is none."""
+    try:
+        # (a character behind the text ends each string that has no quote)
+        return string(text + '\0', at + 1)[1]
+    except NotJson:
+        return None
+
+
+def string_rule(text, at):
+    """The rule that a string breaks which begins here."""
+    escaped = False
+    for letter in text[at + 1:]:
+        if letter < ' ':
+            return 'ControlCharacter'
+        if letter == '"' and not escaped:
+            return 'Escape'
+        escaped = letter == '\\' and not escaped
+    return 'EndsEarly'
+
+
+class Reader:
+    """One pass over a text, which it leaves at the first error; `large` is the first number that is no finite double."""
+
+    def __init__(self, text):
+        self.text, self.large = text, None
+
+    def start(self, at):
+        """The place of the next token."""
+        while at < len(self.text) and self.text[at] in BLANKS:
+            at += 1
+        return at
+
+    def mark(self, at):
+        return self.text[at] if at < len(self.text) else ''
+
+    def comma(self, at):
+        """The place behind a comma that follows a value, and whether there is one."""
+        at = self.start(at)
+        return (self.start(at + 1), True) if self.mark(at) == ',' else (at, False)
+
+    def no_token(self, at, is_key, may_begin=True):
+        """The error of what is no token here: a value or a key, unless one stands before it with no comma."""
+        first = self.mark(at)
+        if not first:
+            raise Broken(at, 'EndsEarly')
+        before = self.text[:at].rstrip(BLANKS)[-1:]
+        if before == ',' and first in ',:]}':
+            raise Broken(at, 'BehindComma')
+        if not may_begin or before not in ('', *',:[{'):
+            raise Broken(at, 'Separator')
+        if first == '"':
+            raise Broken(at, string_rule(self.text, at))
+        if is_key or first in "'`":
+            raise Broken(at, 'Quotes')
+        raise Broken(at, 'Number' if first in '0123456789-+.' else 'NoValue')
+
+    def word_end(self, at):
+        """The place behind the literal or the number that begins here, or None where it is none."""
+        end = at
+        while end < len(self.text) and self.text[end] not in BLANKS + MARKS:
+            end += 1
+        word = self.text[at:end]
+        number = NUMBER.fullmatch(word)
+        if number and self.large is None and float(word) in (float('inf'), float('-inf')):
+            self.large = at
+        return end if number or word in LITERALS else None
+
+    def scalar_end(self, at, is_key):
+        """The place behind a string, a literal or a number."""
+        if self.mark(at) in ('', *',:\\}]'):
+            self.no_token(at, is_key)
+        end = string_end(self.text, at) if self.mark(at) == '"' else self.word_end(at)
+        if end is None:
+            self.no_token(at, is_key)
+        return end
+
+    def key_end(self, at):
+        """The place of the colon behind a string, or None where none follows."""
+        end = self.start(string_end(self.text, at))
+        return end if self.mark(end) == ':' else None
+
+    def whole(self):
+        """Reads the text's value, behind which nothing stands."""
+        at, has_comma = self.comma(self.value(self.start(0), DEEPEST, ''))
+        if has_comma or self.mark(at):
+            raise Broken(self.more(at, has_comma), 'MoreBehind')
+
+    def more(self, at, has_comma):
+        """The place that is told of what stands behind the text's value."""
+        if not has_comma:
+            return self.behind(at) if self.mark(at) in CLOSING else at
+        if self.mark(at) in OPENING:
+            return self.start(at + 1)
+        try:
+            end = self.scalar_end(at, False)
+        except Broken:
+            return at
+        colon = self.key_end(at) if self.mark(at) == '"' else None
+        return self.comma(end)[0] if colon is None else self.start(colon + 1)
+
+    def behind(self, at):
+        """The place behind a bracket and the comma that follows it."""
+        return self.comma(at + 1)[0]
+
+    def value(self, at, levels, before):
+        """The place behind a value that begins here, in an array, in an object behind its key, or at the top."""
+        first = self.mark(at)
+        if first in CLOSING:
+            self.closing(at, before)
+        if first in OPENING:
+            if levels == 0:
+                raise Broken(self.start(at + 1), 'Depth')
+            return self.members(at, levels - 1) if first == '{' else self.items(at, levels - 1)
+        end = self.scalar_end(at, False)
+        if first == '"' and self.key_end(at) is not None:
+            raise Broken(self.start(self.key_end(at) + 1), 'Separator')
+        return end
+
+    def closing(self, at, before):
+        """The error of a closing bracket where a value may begin."""
+        if self.text[:at].rstrip(BLANKS)[-1:] == ',':
+            raise Broken(at, 'BehindComma')
+        raise Broken(self.behind(at), 'BehindKey' if before == ':' else 'Separator')
+
+    def items(self, at, levels):
+        """The place behind the array whose bracket stands here."""
+        at, may_close, may_begin = self.start(at + 1), True, True
+        while True:
+            if self.mark(at) == ']' and may_close:
+                return at + 1
+            if not may_begin and self.mark(at) != '}':
+                self.no_token(at, False, False)
+            at, has_comma = self.comma(self.value(at, levels, '['))
+            may_close, may_begin = not has_comma, has_comma
+
+    def members(self, at, levels):
+        """The place behind the object whose brace stands here."""
+        at, may_close, may_begin = self.start(at + 1), True, True
+        while True:
+            first = self.mark(at)
+            if first == '}' and may_close:
+                return at + 1
+            if first in CLOSING:
+                self.closing(at, '{')
+            if not may_begin:
+                self.no_token(at, True, False)
+            at, has_comma = self.comma(self.value(self.key(at), levels, ':'))
+            may_close, may_begin = not has_comma, has_comma
+
+    def key(self, at):
+        """The place of the value of the key that stands here."""
+        first = self.mark(at)
+        if first in OPENING:
+            raise Broken(self.start(at + 1), 'Quotes')
+        end = self.scalar_end(at, True)
+        colon = self.key_end(at) if first == '"' else None
+        if colon is not None:
+            return self.start(colon + 1)
+        next_place, has_comma = self.comma(end)
+        if first != '"':
+            raise Broken(next_place, 'Quotes')
+        raise Broken(next_place, 'BehindKey' if has_comma or self.mark(next_place) else 'EndsEarly')
