@@ -24,8 +24,7 @@ mutual
   items_read json.no_items h = (no_items, refl)
   items_read (json.item j js) h =
       let d = tree_read j h.0 in
-      let ds = items_read js h.1 in
-      (
+      let ds = items_read js h.1 in (
         item d.0 ds.0,
         ap (option_and_then (λ x. option_map (item x) (of_items js))) d.1 ∙ ap (option_map (item d.0)) ds.1,
       )
