@@ -34,9 +34,9 @@ static void convert(const char *text, size_t len) {
     bson_free(out);
     bson_destroy(value);
 #else
-    vbson_text out = VBSON_TEXT_NONE;
-    if (vbson_convert(VBSON_CANONICAL, (const uint8_t *)text, len, &out) != VBSON_DONE) exit(1);
-    vbson_text_free(&out);
+    vbson_buffer out = VBSON_BUFFER_INIT;
+    if (vbson_convert(VBSON_CANONICAL, (const uint8_t *)text, len, &out) != VBSON_OK) exit(1);
+    vbson_buffer_free(&out);
 #endif
 }
 

@@ -36,14 +36,14 @@ int main(int count, char **words) {
     size_t len;
     uint8_t *bytes = read_all(&len);
     if (bytes == NULL) return 1;
-    vbson_text out = VBSON_TEXT_NONE;
+    vbson_buffer out = VBSON_BUFFER_INIT;
     uint32_t status = vbson_convert((uint32_t)mode, bytes, len, &out);
     free(bytes);
-    if (status != VBSON_DONE) {
+    if (status != VBSON_OK) {
         fprintf(stderr, "convert: %s\n", vbson_status_text(status));
         return 1;
     }
     int is_written = fwrite(out.bytes, 1, out.len, stdout) == out.len && putchar('\n') != EOF && fflush(stdout) == 0;
-    vbson_text_free(&out);
+    vbson_buffer_free(&out);
     return is_written ? 0 : 1;
 }

@@ -281,20 +281,20 @@ static PyObject *only_value(const uint8_t *bytes, size_t len, PyObject *types) {
 
 /* ---- calls */
 
-typedef uint32_t print_call(const uint8_t bytes[16], uint8_t *room, size_t size, size_t *len);
+typedef uint32_t print_call(const uint8_t bytes[16], uint8_t *buffer, size_t size, size_t *len);
 
 /* printed(address, bytes): the text of a decimal of 16 bytes, by the call that prints it; or its status. */
 static PyObject *printed(PyObject *self, PyObject *arguments) {
     PyObject *call, *given;
     char *bytes;
     Py_ssize_t size;
-    uint8_t room[64];
+    uint8_t buffer[64];
     size_t len = 0;
     if (!PyArg_ParseTuple(arguments, "OO", &call, &given) || PyBytes_AsStringAndSize(given, &bytes, &size) != 0) return NULL;
     void *address = PyLong_AsVoidPtr(call);
     if (address == NULL || size != 16) return PyErr_Occurred() ? NULL : cut_short();
-    uint32_t status = ((print_call *)address)((const uint8_t *)bytes, room, sizeof room, &len);
-    return status != 0 ? PyLong_FromUnsignedLong(status) : PyUnicode_DecodeUTF8((const char *)room, (Py_ssize_t)len, NULL);
+    uint32_t status = ((print_call *)address)((const uint8_t *)bytes, buffer, sizeof buffer, &len);
+    return status != 0 ? PyLong_FromUnsignedLong(status) : PyUnicode_DecodeUTF8((const char *)buffer, (Py_ssize_t)len, NULL);
 }
 
 static PyObject *status_of(uint32_t status) { return PyLong_FromUnsignedLong(status); }

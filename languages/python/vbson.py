@@ -24,8 +24,8 @@ import platform
 import re
 from typing import Any, List, Optional, Tuple, Union
 
-__all__ = ["CANONICAL", "RELAXED", "SHOW", "Error", "NotJson", "BadObjectId", "NotExtendedJson", "NoSuchText", "NoText",
-           "NoDocument", "NoBytes", "NoValue", "loads", "loads_lines", "dumps", "convert", "convert_lines", "explain", "same", "hash_of",
+__all__ = ["CANONICAL", "RELAXED", "SHOW", "Error", "NotJson", "BadObjectId", "NotExtendedJson", "InvalidString", "NotRepresentable",
+           "NotADocument", "NotEncodable", "NoValue", "loads", "loads_lines", "dumps", "convert", "convert_lines", "explain", "same", "hash_of",
            "same_documents", "hash_of_document", "is_document", "explain_document", "decode", "decode_documents", "encode", "encode_lines", "decimal128",
            "decimal128_text", "decimal_of", "object_id", "object_id_text", "date_time", "date_time_text", "datetime_of", "version"]
 
@@ -40,24 +40,24 @@ DOUBLES, KEEP_ORDER, REJECT_DUPLICATE_KEYS, LEGACY = 1, 2, 4, 8
 _EPOCH = datetime.datetime(1970, 1, 1, tzinfo=datetime.timezone.utc)
 _MILLISECOND = datetime.timedelta(milliseconds=1)
 
-DONE, NO_MODE, NOT_JSON, BAD_OBJECT_ID, NOT_EXTENDED_JSON = 0, 1, 2, 3, 4
-OUT_OF_MEMORY, NO_SUCH_TEXT, NO_TEXT, NO_ROOM, DIFFERENT = 5, 6, 7, 8, 9
-NO_DOCUMENT, ZERO_IN_KEY, ZERO_IN_REGEX, TOO_LONG = 10, 11, 12, 13
+OK, INVALID_ARGUMENT, NOT_JSON, BAD_OBJECT_ID, NOT_EXTENDED_JSON = 0, 1, 2, 3, 4
+OUT_OF_MEMORY, INVALID_STRING, NOT_REPRESENTABLE, BUFFER_TOO_SMALL, DIFFERENT = 5, 6, 7, 8, 9
+NOT_A_DOCUMENT, ZERO_IN_KEY, ZERO_IN_REGEX, TOO_LONG = 10, 11, 12, 13
 
 
 class Error(ValueError):
     """The library refused what it was handed.
 
-    Of a text of Extended JSON the error has words for where the fault lies, `place`, and for what is wrong there, `why`:
+    Of a text of Extended JSON the error has the path to what is wrong, `path`, and the reason, `reason`:
     'orders.3.price' and 'a number is no whole number of 64 bits; found 1.5', or 'column 7' and the rule of JSON that is
-    broken there, as 'a comma or a bracket is missing'. The place is empty where the fault is that of the whole text; keys are in it as
-    they are. Of bytes that are no document the place is the number of bytes before the fault: 'byte 4' and 'ends too
+    broken there, as 'a comma or a bracket is missing'. The path is empty if the error is that of the whole text; keys are in it as
+    they are. For bytes that are not a document the path is the byte offset of the error: 'byte 4' and 'ends too
     early'. str() has both, behind the words for the class.
     """
 
-    def __init__(self, words="", place="", why=""):
+    def __init__(self, words="", path="", reason=""):
         super().__init__(words)
-        self.place, self.why = place, why or words
+        self.path, self.reason = path, reason or words
 
 
 class NotJson(Error):
@@ -72,19 +72,19 @@ class NotExtendedJson(Error):
     """The JSON text means nothing in Extended JSON v2."""
 
 
-class NoSuchText(Error):
+class InvalidString(Error):
     """The text is none of the kind that was asked for."""
 
 
-class NoText(Error):
+class NotRepresentable(Error):
     """The value has no text of the kind that was asked for: of a document, a finite double without `doubles`."""
 
 
-class NoDocument(Error):
+class NotADocument(Error):
     """The bytes are no document of BSON, or the text means another value than a document."""
 
 
-class NoBytes(Error):
+class NotEncodable(Error):
     """The document has no bytes: a 0 byte in a key or a regular expression, or a part that is too long."""
 
 
@@ -92,12 +92,12 @@ class NoValue(Error):
     """A value has none among the types that were asked for."""
 
 
-_ERRORS = {NO_MODE: (ValueError, "no such mode or flag"), NOT_JSON: (NotJson, "not JSON"),
+_ERRORS = {INVALID_ARGUMENT: (ValueError, "no such mode or flag"), NOT_JSON: (NotJson, "not JSON"),
            BAD_OBJECT_ID: (BadObjectId, "bad object id"), NOT_EXTENDED_JSON: (NotExtendedJson, "not Extended JSON"),
-           OUT_OF_MEMORY: (MemoryError, "out of memory"), NO_SUCH_TEXT: (NoSuchText, "no such text"),
-           NO_TEXT: (NoText, "no text"), NO_DOCUMENT: (NoDocument, "no document"),
-           ZERO_IN_KEY: (NoBytes, "a key has a 0 byte in it"),
-           ZERO_IN_REGEX: (NoBytes, "a regular expression has a 0 byte in it"), TOO_LONG: (NoBytes, "a part is too long for BSON")}
+           OUT_OF_MEMORY: (MemoryError, "out of memory"), INVALID_STRING: (InvalidString, "no such text"),
+           NOT_REPRESENTABLE: (NotRepresentable, "no text"), NOT_A_DOCUMENT: (NotADocument, "no document"),
+           ZERO_IN_KEY: (NotEncodable, "a key has a 0 byte in it"),
+           ZERO_IN_REGEX: (NotEncodable, "a regular expression has a 0 byte in it"), TOO_LONG: (NotEncodable, "a part is too long for BSON")}
 
 
 class _Text(ctypes.Structure):
@@ -105,11 +105,11 @@ class _Text(ctypes.Structure):
 
 
 class _Lines(ctypes.Structure):
-    _fields_ = [("text", _Text), ("told", _Text), ("lines", ctypes.c_uint64), ("refused", ctypes.c_uint64)]
+    _fields_ = [("text", _Text), ("diagnostics", _Text), ("lines", ctypes.c_uint64), ("refused", ctypes.c_uint64)]
 
 
 class _Documents(ctypes.Structure):
-    _fields_ = [("text", _Text), ("told", _Text), ("documents", ctypes.c_uint64), ("done", ctypes.c_uint64)]
+    _fields_ = [("text", _Text), ("diagnostics", _Text), ("documents", ctypes.c_uint64), ("consumed", ctypes.c_uint64)]
 
 
 _HERE = os.path.dirname(os.path.realpath(__file__))
@@ -240,8 +240,8 @@ def _read_flags(doubles, reject_duplicate_keys, legacy):
             | _flag("reject_duplicate_keys", reject_duplicate_keys, REJECT_DUPLICATE_KEYS))
 
 
-def _wants_done(status):
-    if status != DONE:
+def _expect_ok(status):
+    if status != OK:
         error, words = _ERRORS.get(status, (Error, f"status {status}"))
         raise error(words)
 
@@ -266,7 +266,7 @@ def _left_by(call, *arguments):
     """The status of a call that leaves bytes, and the bytes."""
     out = _nothing()
     status = call(*arguments, ctypes.byref(out))
-    return status, _taken(out) if status == DONE else b""
+    return status, _taken(out) if status == OK else b""
 
 
 def _text_of(call, *arguments):
@@ -280,7 +280,7 @@ def _text_by(name, mode, flags, given):
     if _sooner is None:
         return _text_of(getattr(_library, f"vbson_{name}"), mode, flags, given, len(given))
     made = _sooner.text_by(_ADDRESSES[name], mode, flags, given)
-    return (DONE, made) if isinstance(made, str) else (made, "")
+    return (OK, made) if isinstance(made, str) else (made, "")
 
 
 def _encoded(flags, given):
@@ -288,11 +288,11 @@ def _encoded(flags, given):
     if _sooner is None:
         return _left_by(_library.vbson_encode, flags, given, len(given))
     made = _sooner.bytes_by(_ADDRESSES["encode"], flags, given)
-    return (DONE, made) if isinstance(made, bytes) else (made, b"")
+    return (OK, made) if isinstance(made, bytes) else (made, b"")
 
 
 # The words behind those for the class: a column or a path, and a message. The message on an object id may hold any
-# characters, but its path ends in a wrapper's key, or in two points where it is not told whole; no other message holds a
+# characters, but its path ends in a wrapper's key, or in two points if it is cut off; no other message holds a
 # bracket before the value that it tells.
 _ON_ID = r" \(((?:the character '|an object id has ).*)\)"
 _OF_ID = re.compile(r" at (.*?\$(?:oid|dbPointer))" + _ON_ID, re.S)
@@ -312,10 +312,10 @@ def _explained(status, words):
 def _wants_accepted(status, flags, *texts):
     """Raises where a call refused the first of the texts that is refused."""
     if status in (NOT_JSON, BAD_OBJECT_ID, NOT_EXTENDED_JSON):
-        # (only a text that was refused is read again; without memory for that, the error has no place)
+        # (only a text that was refused is read again; without memory for that, the error has no path)
         said = (_text_of(_library.vbson_explain, flags, it, len(it)) for it in texts)
-        raise _explained(status, next((words for told, words in said if words or told != DONE), ""))
-    _wants_done(status)
+        raise _explained(status, next((words for found, words in said if words or found != OK), ""))
+    _expect_ok(status)
 
 
 def version() -> str:
@@ -330,7 +330,7 @@ def convert(text: _Given, mode: Union[int, str] = CANONICAL, doubles: bool = Fal
     Keys come out in ascending order at every depth; of a key that stands twice the last value counts. The output can mean
     another value in two ways: a NaN of Decimal128 loses its sign and its s, and in the relaxed form an Int64 that fits is
     read again as an Int32. Raises NotJson, BadObjectId, NotExtendedJson (also at a finite double, as 1.5 or 0.0), each with
-    its place, and MemoryError.
+    its path, and MemoryError.
 
     With doubles finite ones are read, each as the double nearest to the number, and written as their shortest decimal,
     {"$numberDouble":"12.5"} in the canonical form and 12.5 in the relaxed one. With keep_order keys come out in the order of
@@ -343,12 +343,12 @@ def convert(text: _Given, mode: Union[int, str] = CANONICAL, doubles: bool = Fal
 
 
 _STATUSES = {words: status for status, (_, words) in _ERRORS.items()}
-_OF_LINES = (NOT_JSON, BAD_OBJECT_ID, NOT_EXTENDED_JSON, NO_DOCUMENT, ZERO_IN_KEY, ZERO_IN_REGEX, TOO_LONG)
+_OF_LINES = (NOT_JSON, BAD_OBJECT_ID, NOT_EXTENDED_JSON, NOT_A_DOCUMENT, ZERO_IN_KEY, ZERO_IN_REGEX, TOO_LONG)
 _VERDICT = re.compile(rf"bson_lines: line (\d+): ({'|'.join(_ERRORS[it][1] for it in _OF_LINES)})(.*)")
 
 
 def _refusal(verdict):
-    """The number of a line that is refused, and its error, of what is told of it."""
+    """The number of a line that is refused, and its error, from its diagnostic."""
     found = _VERDICT.fullmatch(verdict)
     return int(found[1]), _explained(_STATUSES[found[2]], found[2] + found[3])
 
@@ -363,12 +363,12 @@ def convert_lines(block: _Given, mode: Union[int, str] = CANONICAL, doubles: boo
     """
     mode, flags, given = _mode(mode), _flags(doubles, keep_order), _bytes(block)
     out = _Lines(_nothing(), _nothing(), 0, 0)
-    _wants_done(_library.vbson_convert_lines(mode, flags, given, len(given), ctypes.byref(out)))
-    return _taken(out.text), _refusals(out.told)
+    _expect_ok(_library.vbson_convert_lines(mode, flags, given, len(given), ctypes.byref(out)))
+    return _taken(out.text), _refusals(out.diagnostics)
 
 
-def _refusals(told):
-    return [_refusal(it) for it in _taken(told).decode().split("\n")[:-1]]
+def _refusals(diagnostics):
+    return [_refusal(it) for it in _taken(diagnostics).decode().split("\n")[:-1]]
 
 
 def explain(text: _Given, doubles: bool = False, reject_duplicate_keys: bool = False, legacy: bool = False) -> str:
@@ -378,7 +378,7 @@ def explain(text: _Given, doubles: bool = False, reject_duplicate_keys: bool = F
     """
     flags, given = _read_flags(doubles, reject_duplicate_keys, legacy), _bytes(text)
     status, words = _text_of(_library.vbson_explain, flags, given, len(given))
-    _wants_done(status)
+    _expect_ok(status)
     return words
 
 
@@ -394,7 +394,7 @@ def same(a: _Given, b: _Given, doubles: bool = False, reject_duplicate_keys: boo
     status = _library.vbson_same(flags, a, len(a), b, len(b))
     if status != DIFFERENT:
         _wants_accepted(status, flags, a, b)
-    return status == DONE
+    return status == OK
 
 
 def hash_of(text: _Given, doubles: bool = False, reject_duplicate_keys: bool = False, legacy: bool = False) -> int:
@@ -411,19 +411,19 @@ def same_documents(a: _Bytes, b: _Bytes, reject_duplicate_keys: bool = False) ->
     """Compares two documents by their bytes: they are the same in any order of their keys.
 
     With reject_duplicate_keys bytes are rejected if one of their documents has a duplicate key, at any depth; otherwise the
-    last value of such a key wins. Raises NoDocument with its place, for the first document first, and MemoryError.
+    last value of such a key wins. Raises NotADocument with its path, for the first document first, and MemoryError.
     """
     flags, a, b = _flag("reject_duplicate_keys", reject_duplicate_keys, REJECT_DUPLICATE_KEYS), _document(a), _document(b)
     status = _library.vbson_same_documents(flags, a, len(a), b, len(b))
     if status != DIFFERENT:
         _wants_documents(status, flags, a, b)
-    return status == DONE
+    return status == OK
 
 
 def hash_of_document(document: _Bytes, reject_duplicate_keys: bool = False) -> int:
     """Computes the hash of a document by its bytes: the number that `hash_of` returns for a text of the same value.
 
-    The option is that of `same_documents`. Raises NoDocument with its place, and MemoryError.
+    The option is that of `same_documents`. Raises NotADocument with its path, and MemoryError.
     """
     flags, given = _flag("reject_duplicate_keys", reject_duplicate_keys, REJECT_DUPLICATE_KEYS), _document(document)
     status, number = _hash_of_document(flags, given)
@@ -438,12 +438,12 @@ def _hash_of_document(flags, given):
 
 def _wants_documents(status, flags, *documents):
     """Raises if a call rejected the first of the documents that is rejected."""
-    if status == NO_DOCUMENT:
-        first = next((it for it in documents if _hash_of_document(flags, it)[0] == NO_DOCUMENT), b"")
-        told, words = _text_of(_library.vbson_explain_document, first, len(first))
-        # (only bytes with a duplicate key have no words; without memory for the words, the error has no place)
-        raise _explained(status, words or "no document" + " (a duplicate key)" * (told == DONE))
-    _wants_done(status)
+    if status == NOT_A_DOCUMENT:
+        first = next((it for it in documents if _hash_of_document(flags, it)[0] == NOT_A_DOCUMENT), b"")
+        status_of_words, words = _text_of(_library.vbson_explain_document, first, len(first))
+        # (only bytes with a duplicate key have no words; without memory for the words, the error has no path)
+        raise _explained(status, words or "no document" + " (a duplicate key)" * (status_of_words == OK))
+    _expect_ok(status)
 
 
 def _document(value):
@@ -456,14 +456,14 @@ def is_document(document: _Bytes) -> bool:
     Documents, arrays and scopes of code may stand at most 100 in each other, here and in `decode`.
     """
     given = _document(document)
-    return _library.vbson_is_document(given, len(given)) == DONE
+    return _library.vbson_is_document(given, len(given)) == OK
 
 
 def explain_document(document: _Bytes) -> str:
     """Why bytes are no document, and where, as a line of words; empty where they are one. Raises MemoryError."""
     given = _document(document)
     status, words = _text_of(_library.vbson_explain_document, given, len(given))
-    _wants_done(status)
+    _expect_ok(status)
     return words
 
 
@@ -471,7 +471,7 @@ def decode(document: _Bytes, mode: Union[int, str] = CANONICAL, doubles: bool = 
     """The text, in the mode, of the document that bytes of BSON 1.1 are.
 
     In the two forms keys come out in ascending order at every depth, and with keep_order, or in SHOW, in the document's own;
-    of a key that stands twice the last value counts. Raises NoDocument with its place ('byte 4'), NoText in the two forms at
+    of a key that stands twice the last value counts. Raises NotADocument with its path ('byte 4'), NotRepresentable in the two forms at
     a finite double other than 0.0 where doubles is not True, and MemoryError.
     """
     return _decoded(_mode(mode), _flags(doubles, keep_order), _document(document))
@@ -479,17 +479,17 @@ def decode(document: _Bytes, mode: Union[int, str] = CANONICAL, doubles: bool = 
 
 def _decoded(mode, flags, given):
     status, made = _text_by("decode", mode, flags, given)
-    if status == NO_DOCUMENT:
-        # (without memory for the words, the error has no place)
+    if status == NOT_A_DOCUMENT:
+        # (without memory for the words, the error has no path)
         raise _explained(status, _text_of(_library.vbson_explain_document, given, len(given))[1])
-    _wants_done(status)
+    _expect_ok(status)
     return made
 
 
 def encode(text: _Given, doubles: bool = False, keep_order: bool = False) -> bytes:
     """The canonical bytes of the document that a text of Extended JSON means, its keys in ascending order.
 
-    With keep_order they are in that of the text. Raises as convert does, NoDocument where the text means another value, and NoBytes where the document has none.
+    With keep_order they are in that of the text. Raises as convert does, NotADocument where the text means another value, and NotEncodable where the document has none.
     """
     flags, given = _flags(doubles, keep_order), _bytes(text)
     status, made = _encoded(flags, given)
@@ -505,20 +505,20 @@ def encode_lines(block: _Given, doubles: bool = False, keep_order: bool = False)
     """
     flags, given = _flags(doubles, keep_order), _bytes(block)
     out = _Lines(_nothing(), _nothing(), 0, 0)
-    _wants_done(_library.vbson_encode_lines(flags, given, len(given), ctypes.byref(out)))
-    return _taken(out.text), _refusals(out.told)
+    _expect_ok(_library.vbson_encode_lines(flags, given, len(given), ctypes.byref(out)))
+    return _taken(out.text), _refusals(out.diagnostics)
 
 
 _OF_DOCUMENT = re.compile(r"document (\d+) at byte (\d+): (.*?)(?: at its byte (\d+))?")
 
 
 def _refused_document(verdict):
-    """The number of a document that is refused, the bytes before it, and its error, of what is told of it."""
-    number, start, why, at = _OF_DOCUMENT.fullmatch(verdict).groups()
+    """The number of a document that is refused, the bytes before it, and its error, from its diagnostic."""
+    number, start, reason, offset = _OF_DOCUMENT.fullmatch(verdict).groups()
     if at is None:
-        error, words = _ERRORS[NO_TEXT]
+        error, words = _ERRORS[NOT_REPRESENTABLE]
         return int(number), int(start), error(words)
-    return int(number), int(start), _explained(NO_DOCUMENT, f"no document at byte {at} ({why})")
+    return int(number), int(start), _explained(NOT_A_DOCUMENT, f"no document at byte {offset} ({reason})")
 
 
 def decode_documents(block: _Bytes, mode: Union[int, str] = CANONICAL, doubles: bool = False,
@@ -532,9 +532,9 @@ def decode_documents(block: _Bytes, mode: Union[int, str] = CANONICAL, doubles: 
     """
     mode, flags, given = _mode(mode), _flags(doubles, keep_order), _document(block)
     out = _Documents(_nothing(), _nothing(), 0, 0)
-    _wants_done(_library.vbson_decode_documents(mode, flags, given, len(given), ctypes.byref(out)))
-    text, told = _taken(out.text), _taken(out.told).decode()
-    return text, [_refused_document(it) for it in told.split("\n")[:-1]]
+    _expect_ok(_library.vbson_decode_documents(mode, flags, given, len(given), ctypes.byref(out)))
+    text, diagnostics = _taken(out.text), _taken(out.diagnostics).decode()
+    return text, [_refused_document(it) for it in diagnostics.split("\n")[:-1]]
 
 
 _kinds = {}
@@ -577,7 +577,7 @@ def loads(text: _Given, doubles: bool = True, keep_order: bool = True, types: Op
 def _under_a_key(flags, given):
     """The bytes of the document that has under its one key what the text means; raises why there are none."""
     status, made = _encoded(flags, given)
-    if status == NO_DOCUMENT:
+    if status == NOT_A_DOCUMENT:
         given = b'{"v":' + given + b"}"
         status, made = _encoded(flags, given)
         _wants_accepted(status, flags, given)
@@ -585,7 +585,7 @@ def _under_a_key(flags, given):
     _wants_accepted(status, flags, given)
     size = len(made) + 8
     if size > 0x7FFFFFFF:
-        raise NoBytes("a part is too long for BSON")
+        raise NotEncodable("a part is too long for BSON")
     return size.to_bytes(4, "little") + b"\x03v\0" + made + b"\0"
 
 
@@ -609,8 +609,8 @@ def dumps(value: Any, form: Union[int, str] = CANONICAL, doubles: bool = True, k
     '{"n":1.5,"b":{"$binary":{"base64":"AQI=","subType":"00"}},"a":[true,5]}'
 
     Keys come out in the order of each dict, unless keep_order is False: then they ascend. Raises TypeError where a value is
-    of no such type, or a key no str, OverflowError at an int past 64 bits, NoBytes as encode does, NoDocument where it nests
-    deeper than 100 dicts and lists (99, where the value is no dict), and NoText at a finite double other than 0.0 without
+    of no such type, or a key no str, OverflowError at an int past 64 bits, NotEncodable as encode does, NotADocument where it nests
+    deeper than 100 dicts and lists (99, where the value is no dict), and NotRepresentable at a finite double other than 0.0 without
     doubles.
     """
     form = _mode(form)
@@ -624,14 +624,14 @@ def dumps(value: Any, form: Union[int, str] = CANONICAL, doubles: bool = True, k
 
 def _parsed(call, text, size):
     given, out = _bytes(text), ctypes.create_string_buffer(size)
-    _wants_done(call(given, len(given), out))
+    _expect_ok(call(given, len(given), out))
     return out.raw
 
 
 def _printed(call, value):
-    room, size = ctypes.create_string_buffer(64), ctypes.c_size_t()
-    _wants_done(call(value, room, len(room), ctypes.byref(size)))
-    return room.raw[:size.value].decode()
+    buffer, size = ctypes.create_string_buffer(64), ctypes.c_size_t()
+    _expect_ok(call(value, buffer, len(buffer), ctypes.byref(size)))
+    return buffer.raw[:size.value].decode()
 
 
 def _of_size(value, size, what):
@@ -644,7 +644,7 @@ def _of_size(value, size, what):
 def decimal128(value: Union[_Given, decimal.Decimal]) -> bytes:
     """The 16 bytes, the lowest first, of the decimal that a text denotes, or of a decimal.Decimal.
 
-    No value is rounded: NoSuchText where it would have to be, and where the text is no decimal's.
+    No value is rounded: InvalidString where it would have to be, and where the text is no decimal's.
     """
     given = str(value) if isinstance(value, decimal.Decimal) else value
     return _parsed(_library.vbson_decimal128_parse, given, 16)
@@ -666,7 +666,7 @@ def decimal_of(value: _Bytes) -> decimal.Decimal:
 
 
 def object_id(text: _Given) -> bytes:
-    """The 12 bytes of the object id whose 24 hexadecimal digits the text is. Raises NoSuchText."""
+    """The 12 bytes of the object id whose 24 hexadecimal digits the text is. Raises InvalidString."""
     return _parsed(_library.vbson_object_id_parse, text, 12)
 
 
@@ -678,12 +678,12 @@ def object_id_text(value: _Bytes) -> str:
 def date_time(value: Union[_Given, datetime.datetime]) -> int:
     """The milliseconds since 1970-01-01T00:00:00Z of the moment that a text of RFC 3339 names, or of a datetime.
 
-    Raises NoSuchText. A datetime has a time zone and whole milliseconds, or it is a ValueError.
+    Raises InvalidString. A datetime has a time zone and whole milliseconds, or it is a ValueError.
     """
     if isinstance(value, datetime.datetime):
         return _millis(value)
     given, out = _bytes(value), ctypes.c_int64()
-    _wants_done(_library.vbson_date_time_parse(given, len(given), ctypes.byref(out)))
+    _expect_ok(_library.vbson_date_time_parse(given, len(given), ctypes.byref(out)))
     return out.value
 
 
@@ -697,9 +697,9 @@ def _millis(moment):
 
 
 def date_time_text(millis: int) -> str:
-    """The text of RFC 3339, in UTC, of so many milliseconds after 1970-01-01T00:00:00Z. Raises NoText."""
+    """The text of RFC 3339, in UTC, of so many milliseconds after 1970-01-01T00:00:00Z. Raises NotRepresentable."""
     if not -2**63 <= _number(millis, "a moment is an int of milliseconds") < 2**63:
-        raise NoText("no text")
+        raise NotRepresentable("no text")
     return _printed(_library.vbson_date_time_print, millis)
 
 

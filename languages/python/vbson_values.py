@@ -241,7 +241,7 @@ _READERS = {
 def _sized(inside, more):
     """The bytes behind their length, to which so many more are counted."""
     if len(inside) + more > 0x7FFFFFFF:
-        raise vbson.NoBytes("a part is too long for BSON")
+        raise vbson.NotEncodable("a part is too long for BSON")
     return _LENGTH.pack(len(inside) + more) + inside
 
 
@@ -253,7 +253,7 @@ def _name(text, what):
     if not isinstance(text, str):
         raise TypeError(f"a key is str, and not {type(text).__name__}")
     if "\0" in text:
-        raise vbson.NoBytes(f"a {what} has a 0 byte in it")
+        raise vbson.NotEncodable(f"a {what} has a 0 byte in it")
     return text.encode() + b"\0"
 
 
@@ -334,7 +334,7 @@ class Types:
                 found = vbson._sooner.value_by(vbson._ADDRESSES["encode"], flags, text, self._made)
                 return found if isinstance(found, tuple) else None
             status, made = vbson._encoded(flags, text)
-            return self._only(made) if status == vbson.DONE else None
+            return self._only(made) if status == vbson.OK else None
         except vbson.NoValue:
             return None
 
@@ -430,7 +430,7 @@ class Bson(Types):
         try:
             return self._bson.encode({KEY: value}, codec_options=self._writing)
         except self._errors.InvalidDocument as error:
-            kind = vbson.NoBytes if re.search("must not contain (a|the) NUL", str(error)) else TypeError
+            kind = vbson.NotEncodable if re.search("must not contain (a|the) NUL", str(error)) else TypeError
             raise kind(str(error)) from error
 
 

@@ -4,17 +4,17 @@
 /* ---- texts */
 
 static int converts(uint32_t mode, const char *text, const char *wanted) {
-    vbson_text out = VBSON_TEXT_NONE;
-    int is_right = vbson_convert(mode, TEXT(text), &out) == VBSON_DONE && out.len == strlen(wanted)
+    vbson_buffer out = VBSON_BUFFER_INIT;
+    int is_right = vbson_convert(mode, TEXT(text), &out) == VBSON_OK && out.len == strlen(wanted)
         && out.size == out.len + 1 && memcmp(out.bytes, wanted, out.size) == 0;
-    vbson_text_free(&out);
+    vbson_buffer_free(&out);
     return is_right && out.size == 0 && out.len == 0;
 }
 
 /* The status, and that `out` is as it was. */
 static int refuses(uint32_t mode, const char *text, size_t len, uint32_t status) {
     static const uint8_t before[] = "before";
-    vbson_text out = {before, 7, 6};
+    vbson_buffer out = {before, 7, 6};
     uint32_t found = vbson_convert(mode, (const uint8_t *)text, len, &out);
     return found == status && out.bytes == before && out.size == 7 && out.len == 6;
 }
@@ -32,20 +32,20 @@ static void convert(void) {
     CHECK(converts(VBSON_RELAXED, "[]", "[]"));
 
     /* a text with U+0000 in it, which ends the C string early */
-    vbson_text out = VBSON_TEXT_NONE;
-    CHECK(vbson_convert(VBSON_SHOW, TEXT("\"a\\u0000b\""), &out) == VBSON_DONE);
+    vbson_buffer out = VBSON_BUFFER_INIT;
+    CHECK(vbson_convert(VBSON_SHOW, TEXT("\"a\\u0000b\""), &out) == VBSON_OK);
     CHECK(out.len == 5 && memcmp(out.bytes, "\"a\0b\"", 6) == 0);
-    vbson_text_free(&out);
-    vbson_text_free(&out);
+    vbson_buffer_free(&out);
+    vbson_buffer_free(&out);
 
     /* only the bytes that are told are read */
-    CHECK(vbson_convert(VBSON_RELAXED, (const uint8_t *)"[1]]]", 3, &out) == VBSON_DONE && out.len == 3);
-    vbson_text_free(&out);
+    CHECK(vbson_convert(VBSON_RELAXED, (const uint8_t *)"[1]]]", 3, &out) == VBSON_OK && out.len == 3);
+    vbson_buffer_free(&out);
 }
 
 static void convert_refused(void) {
-    CHECK(refuses(3, "{}", 2, VBSON_NO_MODE));
-    CHECK(refuses(UINT32_MAX, "not JSON", 8, VBSON_NO_MODE));
+    CHECK(refuses(3, "{}", 2, VBSON_INVALID_ARGUMENT));
+    CHECK(refuses(UINT32_MAX, "not JSON", 8, VBSON_INVALID_ARGUMENT));
     CHECK(refuses(VBSON_CANONICAL, "", 0, VBSON_NOT_JSON));
     CHECK(refuses(VBSON_SHOW, "{}x", 3, VBSON_NOT_JSON));
     CHECK(refuses(VBSON_SHOW, "{} {}", 5, VBSON_NOT_JSON));
@@ -57,16 +57,16 @@ static void convert_refused(void) {
 }
 
 static int converts_with(uint32_t mode, uint32_t flags, const char *text, const char *wanted) {
-    vbson_text out = VBSON_TEXT_NONE;
-    int is_right = vbson_convert_with(mode, flags, TEXT(text), &out) == VBSON_DONE && out.len == strlen(wanted)
+    vbson_buffer out = VBSON_BUFFER_INIT;
+    int is_right = vbson_convert_with(mode, flags, TEXT(text), &out) == VBSON_OK && out.len == strlen(wanted)
         && out.size == out.len + 1 && memcmp(out.bytes, wanted, out.size) == 0;
-    vbson_text_free(&out);
+    vbson_buffer_free(&out);
     return is_right;
 }
 
 static int refuses_with(uint32_t mode, uint32_t flags, const char *text, uint32_t status) {
     static const uint8_t before[] = "before";
-    vbson_text out = {before, 7, 6};
+    vbson_buffer out = {before, 7, 6};
     uint32_t found = vbson_convert_with(mode, flags, TEXT(text), &out);
     return found == status && out.bytes == before && out.size == 7 && out.len == 6;
 }
@@ -86,11 +86,11 @@ static void convert_with(void) {
     CHECK(refuses_with(VBSON_CANONICAL, VBSON_DOUBLES, "{\"$numberDouble\":\"1e400\"}", VBSON_NOT_EXTENDED_JSON));
     CHECK(refuses_with(VBSON_RELAXED, VBSON_DOUBLES, "1e400", VBSON_NOT_JSON));
     CHECK(refuses_with(VBSON_RELAXED, VBSON_DOUBLES, "[1.5,{\"$oid\":\"5\"}]", VBSON_BAD_OBJECT_ID));
-    CHECK(refuses_with(3, 0, "{}", VBSON_NO_MODE));
-    CHECK(refuses_with(3, VBSON_DOUBLES, "{}", VBSON_NO_MODE));
-    CHECK(refuses_with(VBSON_CANONICAL, 4, "{}", VBSON_NO_MODE));
-    CHECK(refuses_with(VBSON_CANONICAL, 7, "{}", VBSON_NO_MODE));
-    CHECK(refuses_with(VBSON_SHOW, UINT32_MAX, "not JSON", VBSON_NO_MODE));
+    CHECK(refuses_with(3, 0, "{}", VBSON_INVALID_ARGUMENT));
+    CHECK(refuses_with(3, VBSON_DOUBLES, "{}", VBSON_INVALID_ARGUMENT));
+    CHECK(refuses_with(VBSON_CANONICAL, 4, "{}", VBSON_INVALID_ARGUMENT));
+    CHECK(refuses_with(VBSON_CANONICAL, 7, "{}", VBSON_INVALID_ARGUMENT));
+    CHECK(refuses_with(VBSON_SHOW, UINT32_MAX, "not JSON", VBSON_INVALID_ARGUMENT));
 }
 
 static void keep_order(void) {
@@ -107,21 +107,21 @@ static void keep_order(void) {
     CHECK(refuses_with(VBSON_RELAXED, VBSON_KEEP_ORDER, twice, VBSON_NOT_EXTENDED_JSON));
     CHECK(refuses_with(VBSON_RELAXED, VBSON_KEEP_ORDER, "{\"b\":", VBSON_NOT_JSON));
     CHECK(refuses_with(VBSON_RELAXED, VBSON_KEEP_ORDER, "{\"$oid\":\"5\"}", VBSON_BAD_OBJECT_ID));
-    CHECK(refuses_with(3, VBSON_KEEP_ORDER, "{}", VBSON_NO_MODE));
+    CHECK(refuses_with(3, VBSON_KEEP_ORDER, "{}", VBSON_INVALID_ARGUMENT));
 }
 
 static int explains(uint32_t flags, const char *text, const char *wanted) {
-    vbson_text out = VBSON_TEXT_NONE;
-    int is_right = vbson_explain(flags, TEXT(text), &out) == VBSON_DONE && out.len == strlen(wanted)
+    vbson_buffer out = VBSON_BUFFER_INIT;
+    int is_right = vbson_explain(flags, TEXT(text), &out) == VBSON_OK && out.len == strlen(wanted)
         && out.size == out.len + 1 && memcmp(out.bytes, wanted, out.size) == 0;
     if (!is_right) printf("%s\n", vbson_chars(&out));
-    vbson_text_free(&out);
+    vbson_buffer_free(&out);
     return is_right;
 }
 
 static void explain(void) {
     static const uint8_t before[] = "before";
-    vbson_text out = {before, 7, 6};
+    vbson_buffer out = {before, 7, 6};
     const char *number = "not Extended JSON at orders.1.price (a number is no whole number of 64 bits; found 1.5)";
     CHECK(explains(0, "{\"orders\":[1,{\"price\":1.5}]}", number));
     CHECK(explains(VBSON_DOUBLES, "{\"orders\":[1,{\"price\":1.5}]}", ""));
@@ -136,7 +136,7 @@ static void explain(void) {
     CHECK(explains(0, "{\"a\":1}", ""));
     CHECK(explains(VBSON_KEEP_ORDER, "{\"b\":{\"$oid\":\"5\"},\"a\":[1.5]}", "not Extended JSON at a.0 (a number is no whole number of 64 bits; found 1.5)"));
     CHECK(explains(VBSON_DOUBLES | VBSON_KEEP_ORDER, "[1.5]", ""));
-    CHECK(vbson_explain(16, TEXT("{}"), &out) == VBSON_NO_MODE && out.bytes == before && out.size == 7 && out.len == 6);
+    CHECK(vbson_explain(16, TEXT("{}"), &out) == VBSON_INVALID_ARGUMENT && out.bytes == before && out.size == 7 && out.len == 6);
     CHECK(explains(VBSON_REJECT_DUPLICATE_KEYS, "{\"a\":[{\"b\":1,\"b\":2}]}", "not Extended JSON at a.0.b (a key that stands twice in its object)"));
     CHECK(explains(0, "{\"a\":[{\"b\":1,\"b\":2}]}", "") && explains(VBSON_REJECT_DUPLICATE_KEYS, "{\"a\":[{\"b\":1},{\"b\":2}]}", ""));
     CHECK(explains(VBSON_REJECT_DUPLICATE_KEYS | VBSON_LEGACY, "[1.5,", "not JSON at column 5 (the text ends before its value is whole)"));
@@ -145,15 +145,15 @@ static void explain(void) {
         "not Extended JSON (`$binary` stands alone in its object; found {\"$binary\":\"AQI=\",\"$type\":\"00\"})"));
     CHECK(explains(VBSON_LEGACY, "{\"a\":{\"$binary\":\"AQI=\",\"$type\":\"0\"}}",
         "not Extended JSON at a.$binary (`subType` holds two hexadecimal digits; found {\"base64\":\"AQI=\",\"subType\":\"0\"})"));
-    CHECK(vbson_explain(UINT32_MAX, TEXT("!"), &out) == VBSON_NO_MODE && out.bytes == before && out.len == 6);
+    CHECK(vbson_explain(UINT32_MAX, TEXT("!"), &out) == VBSON_INVALID_ARGUMENT && out.bytes == before && out.len == 6);
 }
 
 /* ---- values */
 
 static void same(void) {
     const char *one = "{\"a\":1,\"b\":[2,3]}";
-    CHECK(vbson_same(0, TEXT(one), TEXT("{ \"b\": [2, {\"$numberInt\":\"3\"}], \"a\": 1 }")) == VBSON_DONE);
-    CHECK(vbson_same(0, TEXT(one), TEXT(one)) == VBSON_DONE);
+    CHECK(vbson_same(0, TEXT(one), TEXT("{ \"b\": [2, {\"$numberInt\":\"3\"}], \"a\": 1 }")) == VBSON_OK);
+    CHECK(vbson_same(0, TEXT(one), TEXT(one)) == VBSON_OK);
     CHECK(vbson_same(0, TEXT("[1,2]"), TEXT("[2,1]")) == VBSON_DIFFERENT);
     CHECK(vbson_same(0, TEXT("1"), TEXT("{\"$numberLong\":\"1\"}")) == VBSON_DIFFERENT);
     CHECK(vbson_same(0, TEXT("{\"a\":1}"), TEXT("{\"a\":1,\"b\":1}")) == VBSON_DIFFERENT);
@@ -169,29 +169,29 @@ static void same_by_flags(void) {
     const char *v1 = "{\"$type\":\"00\",\"$binary\":\"AQI=\"}", *v2 = "{\"$binary\":{\"base64\":\"AQI=\",\"subType\":\"00\"}}";
     uint32_t strict = VBSON_REJECT_DUPLICATE_KEYS, all = VBSON_DOUBLES | VBSON_REJECT_DUPLICATE_KEYS | VBSON_LEGACY;
     CHECK(vbson_same(0, TEXT(price), TEXT(other)) == VBSON_NOT_EXTENDED_JSON);
-    CHECK(vbson_same(VBSON_DOUBLES, TEXT(price), TEXT(other)) == VBSON_DONE && vbson_same(all, TEXT(price), TEXT(other)) == VBSON_DONE);
+    CHECK(vbson_same(VBSON_DOUBLES, TEXT(price), TEXT(other)) == VBSON_OK && vbson_same(all, TEXT(price), TEXT(other)) == VBSON_OK);
     CHECK(vbson_same(VBSON_DOUBLES, TEXT("0.0"), TEXT("-0.0")) == VBSON_DIFFERENT);
     CHECK(vbson_same(VBSON_DOUBLES, TEXT("1.0"), TEXT("1")) == VBSON_DIFFERENT);
-    CHECK(vbson_same(0, TEXT(twice), TEXT("{\"a\":2}")) == VBSON_DONE && vbson_same(0, TEXT(within), TEXT(within)) == VBSON_DONE);
+    CHECK(vbson_same(0, TEXT(twice), TEXT("{\"a\":2}")) == VBSON_OK && vbson_same(0, TEXT(within), TEXT(within)) == VBSON_OK);
     CHECK(vbson_same(strict, TEXT(twice), TEXT("{\"a\":2}")) == VBSON_NOT_EXTENDED_JSON);
     CHECK(vbson_same(strict, TEXT("1"), TEXT(within)) == VBSON_NOT_EXTENDED_JSON);
-    CHECK(vbson_same(strict, TEXT("{\"a\":1,\"b\":{\"a\":2}}"), TEXT("{\"b\":{\"a\":2},\"a\":1}")) == VBSON_DONE);
+    CHECK(vbson_same(strict, TEXT("{\"a\":1,\"b\":{\"a\":2}}"), TEXT("{\"b\":{\"a\":2},\"a\":1}")) == VBSON_OK);
     CHECK(vbson_same(strict, TEXT("!"), TEXT(twice)) == VBSON_NOT_JSON);
-    CHECK(vbson_same(VBSON_LEGACY, TEXT(v1), TEXT(v2)) == VBSON_DONE && vbson_same(0, TEXT(v1), TEXT(v2)) == VBSON_NOT_EXTENDED_JSON);
+    CHECK(vbson_same(VBSON_LEGACY, TEXT(v1), TEXT(v2)) == VBSON_OK && vbson_same(0, TEXT(v1), TEXT(v2)) == VBSON_NOT_EXTENDED_JSON);
     CHECK(vbson_same(VBSON_LEGACY, TEXT("{\"$regex\":\"a\",\"$options\":\"i\"}"),
-        TEXT("{\"$regularExpression\":{\"pattern\":\"a\",\"options\":\"i\"}}")) == VBSON_DONE);
-    CHECK(vbson_same(all, TEXT(v1), TEXT(v2)) == VBSON_DONE && vbson_same(all, TEXT(v1), TEXT(twice)) == VBSON_NOT_EXTENDED_JSON);
+        TEXT("{\"$regularExpression\":{\"pattern\":\"a\",\"options\":\"i\"}}")) == VBSON_OK);
+    CHECK(vbson_same(all, TEXT(v1), TEXT(v2)) == VBSON_OK && vbson_same(all, TEXT(v1), TEXT(twice)) == VBSON_NOT_EXTENDED_JSON);
     static const uint32_t none[] = {VBSON_KEEP_ORDER, VBSON_DOUBLES | VBSON_KEEP_ORDER, 16, 15, UINT32_MAX};
     for (size_t i = 0; i < sizeof none / sizeof *none; i++) {
         uint64_t number = 7;
-        CHECK(vbson_same(none[i], TEXT("1"), TEXT("1")) == VBSON_NO_MODE && vbson_same(none[i], TEXT("!"), TEXT("!")) == VBSON_NO_MODE);
-        CHECK(vbson_hash(none[i], TEXT("1"), &number) == VBSON_NO_MODE && number == 7);
+        CHECK(vbson_same(none[i], TEXT("1"), TEXT("1")) == VBSON_INVALID_ARGUMENT && vbson_same(none[i], TEXT("!"), TEXT("!")) == VBSON_INVALID_ARGUMENT);
+        CHECK(vbson_hash(none[i], TEXT("1"), &number) == VBSON_INVALID_ARGUMENT && number == 7);
     }
 }
 
 static uint64_t hash_by(uint32_t flags, const char *text) {
     uint64_t number = 0;
-    CHECK(vbson_hash(flags, TEXT(text), &number) == VBSON_DONE);
+    CHECK(vbson_hash(flags, TEXT(text), &number) == VBSON_OK);
     return number;
 }
 
@@ -226,31 +226,31 @@ static const uint8_t five[] = {12, 0, 0, 0, 0x10, 'a', 0, 5, 0, 0, 0, 0};
 static const uint8_t truth_of_two[] = {9, 0, 0, 0, 8, 'a', 0, 2, 0};
 
 static int decodes(uint32_t mode, uint32_t flags, const uint8_t *bytes, size_t len, const char *wanted) {
-    vbson_text out = VBSON_TEXT_NONE;
-    int is_right = vbson_decode(mode, flags, bytes, len, &out) == VBSON_DONE && out.len == strlen(wanted)
+    vbson_buffer out = VBSON_BUFFER_INIT;
+    int is_right = vbson_decode(mode, flags, bytes, len, &out) == VBSON_OK && out.len == strlen(wanted)
         && out.size == out.len + 1 && memcmp(out.bytes, wanted, out.size) == 0;
-    vbson_text_free(&out);
-    return is_right && vbson_is_document(bytes, len) == VBSON_DONE;
+    vbson_buffer_free(&out);
+    return is_right && vbson_is_document(bytes, len) == VBSON_OK;
 }
 
 static const uint8_t kept[] = "before";
 
-static int is_kept(const vbson_text *out) {
+static int is_kept(const vbson_buffer *out) {
     return out->bytes == kept && out->size == 7 && out->len == 6;
 }
 
 static int refuses_bytes(uint32_t mode, uint32_t flags, const uint8_t *bytes, size_t len, uint32_t status) {
-    vbson_text out = {kept, 7, 6};
+    vbson_buffer out = {kept, 7, 6};
     return vbson_decode(mode, flags, bytes, len, &out) == status && is_kept(&out);
 }
 
 static int explains_bytes(const uint8_t *bytes, size_t len, const char *wanted) {
-    vbson_text out = VBSON_TEXT_NONE;
-    int is_right = vbson_explain_document(bytes, len, &out) == VBSON_DONE && out.len == strlen(wanted)
+    vbson_buffer out = VBSON_BUFFER_INIT;
+    int is_right = vbson_explain_document(bytes, len, &out) == VBSON_OK && out.len == strlen(wanted)
         && out.size == out.len + 1 && memcmp(out.bytes, wanted, out.size) == 0;
     if (!is_right) printf("%s\n", vbson_chars(&out));
-    vbson_text_free(&out);
-    return is_right && (vbson_is_document(bytes, len) == VBSON_DONE) == (*wanted == 0);
+    vbson_buffer_free(&out);
+    return is_right && (vbson_is_document(bytes, len) == VBSON_OK) == (*wanted == 0);
 }
 
 static void decode(void) {
@@ -260,19 +260,19 @@ static void decode(void) {
     CHECK(decodes(VBSON_RELAXED, VBSON_DOUBLES, pair, sizeof pair, "{\"a\":1.5,\"b\":5}"));
     CHECK(decodes(VBSON_SHOW, 0, pair, sizeof pair, "{ \"b\": 5, \"a\": Double(0x3ff8000000000000) }"));
     CHECK(decodes(VBSON_CANONICAL, 0, (const uint8_t *)"\5\0\0\0", 5, "{}"));
-    CHECK(refuses_bytes(VBSON_RELAXED, 0, pair, sizeof pair, VBSON_NO_TEXT));
-    CHECK(refuses_bytes(VBSON_CANONICAL, 0, pair, sizeof pair, VBSON_NO_TEXT));
-    CHECK(refuses_bytes(3, 0, five, sizeof five, VBSON_NO_MODE));
+    CHECK(refuses_bytes(VBSON_RELAXED, 0, pair, sizeof pair, VBSON_NOT_REPRESENTABLE));
+    CHECK(refuses_bytes(VBSON_CANONICAL, 0, pair, sizeof pair, VBSON_NOT_REPRESENTABLE));
+    CHECK(refuses_bytes(3, 0, five, sizeof five, VBSON_INVALID_ARGUMENT));
     CHECK(decodes(VBSON_RELAXED, VBSON_DOUBLES | VBSON_KEEP_ORDER, pair, sizeof pair, "{\"b\":5,\"a\":1.5}"));
     CHECK(decodes(VBSON_SHOW, VBSON_KEEP_ORDER, pair, sizeof pair, "{ \"b\": 5, \"a\": Double(0x3ff8000000000000) }"));
-    CHECK(refuses_bytes(VBSON_RELAXED, VBSON_KEEP_ORDER, pair, sizeof pair, VBSON_NO_TEXT));
-    CHECK(refuses_bytes(VBSON_RELAXED, 4, five, sizeof five, VBSON_NO_MODE));
-    CHECK(refuses_bytes(UINT32_MAX, UINT32_MAX, five, 0, VBSON_NO_MODE));
+    CHECK(refuses_bytes(VBSON_RELAXED, VBSON_KEEP_ORDER, pair, sizeof pair, VBSON_NOT_REPRESENTABLE));
+    CHECK(refuses_bytes(VBSON_RELAXED, 4, five, sizeof five, VBSON_INVALID_ARGUMENT));
+    CHECK(refuses_bytes(UINT32_MAX, UINT32_MAX, five, 0, VBSON_INVALID_ARGUMENT));
     for (size_t len = 0; len < sizeof five; len++) {
-        CHECK(refuses_bytes(VBSON_SHOW, 0, five, len, VBSON_NO_DOCUMENT) && vbson_is_document(five, len) == VBSON_NO_DOCUMENT);
+        CHECK(refuses_bytes(VBSON_SHOW, 0, five, len, VBSON_NOT_A_DOCUMENT) && vbson_is_document(five, len) == VBSON_NOT_A_DOCUMENT);
     }
-    CHECK(refuses_bytes(VBSON_SHOW, 0, (const uint8_t *)"\5\0\0\0\0", 6, VBSON_NO_DOCUMENT));
-    CHECK(refuses_bytes(VBSON_RELAXED, 0, truth_of_two, sizeof truth_of_two, VBSON_NO_DOCUMENT));
+    CHECK(refuses_bytes(VBSON_SHOW, 0, (const uint8_t *)"\5\0\0\0\0", 6, VBSON_NOT_A_DOCUMENT));
+    CHECK(refuses_bytes(VBSON_RELAXED, 0, truth_of_two, sizeof truth_of_two, VBSON_NOT_A_DOCUMENT));
 }
 
 static void explain_document(void) {
@@ -294,15 +294,15 @@ static void explain_document(void) {
 }
 
 static int encodes(uint32_t flags, const char *text, const uint8_t *wanted, size_t len) {
-    vbson_text out = VBSON_TEXT_NONE;
-    int is_right = vbson_encode(flags, TEXT(text), &out) == VBSON_DONE && out.len == len && out.size == len + 1
+    vbson_buffer out = VBSON_BUFFER_INIT;
+    int is_right = vbson_encode(flags, TEXT(text), &out) == VBSON_OK && out.len == len && out.size == len + 1
         && memcmp(out.bytes, wanted, len) == 0 && out.bytes[len] == 0;
-    vbson_text_free(&out);
+    vbson_buffer_free(&out);
     return is_right;
 }
 
 static int refuses_text(uint32_t flags, const char *text, uint32_t status) {
-    vbson_text out = {kept, 7, 6};
+    vbson_buffer out = {kept, 7, 6};
     return vbson_encode(flags, TEXT(text), &out) == status && is_kept(&out);
 }
 
@@ -315,15 +315,15 @@ static void encode(void) {
     CHECK(encodes(VBSON_DOUBLES | VBSON_KEEP_ORDER, "{\"b\":5,\"a\":1.5}", pair, sizeof pair));
     CHECK(encodes(VBSON_KEEP_ORDER, "{\"a\":7,\"a\":{\"$numberInt\":\"5\"}}", five, sizeof five));
     CHECK(refuses_text(VBSON_KEEP_ORDER, "{\"b\":5,\"a\":1.5}", VBSON_NOT_EXTENDED_JSON));
-    CHECK(refuses_text(VBSON_KEEP_ORDER, "[{}]", VBSON_NO_DOCUMENT));
+    CHECK(refuses_text(VBSON_KEEP_ORDER, "[{}]", VBSON_NOT_A_DOCUMENT));
     CHECK(refuses_text(VBSON_KEEP_ORDER, "{\"b\\u0000\":1,\"a\":{\"$regularExpression\":{\"pattern\":\"\\u0000\",\"options\":\"\"}}}", VBSON_ZERO_IN_KEY));
-    CHECK(refuses_text(4, "{}", VBSON_NO_MODE));
-    CHECK(refuses_text(UINT32_MAX, "!", VBSON_NO_MODE));
+    CHECK(refuses_text(4, "{}", VBSON_INVALID_ARGUMENT));
+    CHECK(refuses_text(UINT32_MAX, "!", VBSON_INVALID_ARGUMENT));
     CHECK(refuses_text(0, "{", VBSON_NOT_JSON));
     CHECK(refuses_text(0, "{\"a\":{\"$oid\":\"5\"}}", VBSON_BAD_OBJECT_ID));
     CHECK(refuses_text(0, "{\"b\":5,\"a\":1.5}", VBSON_NOT_EXTENDED_JSON));
     static const char *const others[] = {"5", "[]", "null", "\"a\"", "[{}]", "{\"$numberLong\":\"5\"}", "{\"$code\":\"f\",\"$scope\":{}}"};
-    for (size_t i = 0; i < sizeof others / sizeof *others; i++) CHECK(refuses_text(0, others[i], VBSON_NO_DOCUMENT));
+    for (size_t i = 0; i < sizeof others / sizeof *others; i++) CHECK(refuses_text(0, others[i], VBSON_NOT_A_DOCUMENT));
     CHECK(refuses_text(0, "{\"a\":[{\"b\\u0000\":1}]}", VBSON_ZERO_IN_KEY));
     CHECK(refuses_text(0, "{\"a\":{\"$regularExpression\":{\"pattern\":\"\\u0000\",\"options\":\"\"}}}", VBSON_ZERO_IN_REGEX));
 }
@@ -334,8 +334,8 @@ static void damaged(void) {
         "\"d\":{\"$code\":\"f\",\"$scope\":{\"x\":1}},\"e\":{\"$binary\":{\"base64\":\"AQID\",\"subType\":\"02\"}},"
         "\"f\":{\"$regularExpression\":{\"pattern\":\"a\",\"options\":\"xi\"}},\"g\":{\"$symbol\":\"s\"},"
         "\"h\":{\"$dbPointer\":{\"$ref\":\"n\",\"$id\":{\"$oid\":\"53e37d08776f724e42000000\"}}},\"i\":{\"$minKey\":1}}";
-    vbson_text whole = VBSON_TEXT_NONE;
-    CHECK(vbson_encode(0, TEXT(text), &whole) == VBSON_DONE && whole.len > 100);
+    vbson_buffer whole = VBSON_BUFFER_INIT;
+    CHECK(vbson_encode(0, TEXT(text), &whole) == VBSON_OK && whole.len > 100);
     size_t others = 0;
     for (size_t bit = 0; bit < 9 * whole.len; bit++) {
         /* (a block of its own, so that the sanitizer tells a byte past the end) */
@@ -344,17 +344,17 @@ static void damaged(void) {
         memcpy(bytes, whole.bytes, len);
         if (len == whole.len) bytes[bit / 8] ^= (uint8_t)(1 << bit % 8);
         bytes = realloc(bytes, len > 0 ? len : 1);
-        vbson_text words = VBSON_TEXT_NONE, shown = VBSON_TEXT_NONE;
+        vbson_buffer words = VBSON_BUFFER_INIT, shown = VBSON_BUFFER_INIT;
         uint32_t is_one = vbson_is_document(bytes, len), status = vbson_decode(VBSON_SHOW, 0, bytes, len, &shown);
-        CHECK(vbson_explain_document(bytes, len, &words) == VBSON_DONE && (words.len == 0) == (is_one == VBSON_DONE));
-        CHECK(status == is_one && (is_one == VBSON_DONE || is_one == VBSON_NO_DOCUMENT));
-        others += is_one == VBSON_NO_DOCUMENT;
-        vbson_text_free(&words);
-        vbson_text_free(&shown);
+        CHECK(vbson_explain_document(bytes, len, &words) == VBSON_OK && (words.len == 0) == (is_one == VBSON_OK));
+        CHECK(status == is_one && (is_one == VBSON_OK || is_one == VBSON_NOT_A_DOCUMENT));
+        others += is_one == VBSON_NOT_A_DOCUMENT;
+        vbson_buffer_free(&words);
+        vbson_buffer_free(&shown);
         free(bytes);
     }
     CHECK(others > 2 * whole.len && others < 9 * whole.len);
-    vbson_text_free(&whole);
+    vbson_buffer_free(&whole);
 }
 
 /* ---- small values */
@@ -383,61 +383,61 @@ static int is_fresh(size_t wanted_len) {
 
 static int decimal_prints(const char *text, const char *wanted) {
     uint8_t bytes[16] = {0};
-    return vbson_decimal128_parse(TEXT(text), bytes) == VBSON_DONE
-        && vbson_decimal128_print(bytes, fresh(), sizeof room, &len) == VBSON_DONE && holds(wanted);
+    return vbson_decimal128_parse(TEXT(text), bytes) == VBSON_OK
+        && vbson_decimal128_print(bytes, fresh(), sizeof room, &len) == VBSON_OK && holds(wanted);
 }
 
 static void decimals(void) {
     static const uint8_t five_bytes[16] = {5, 0, 0, 0, 0, 0, 0, 0, 0, 0, 0, 0, 0, 0, 0x40, 0x30};
     uint8_t bytes[16] = {9, 9};
-    CHECK(vbson_decimal128_parse(TEXT("5"), bytes) == VBSON_DONE && memcmp(bytes, five_bytes, 16) == 0);
+    CHECK(vbson_decimal128_parse(TEXT("5"), bytes) == VBSON_OK && memcmp(bytes, five_bytes, 16) == 0);
     CHECK(decimal_prints("19.90", "19.90"));
     CHECK(decimal_prints("-inf", "-Infinity"));
     CHECK(decimal_prints("nan", "NaN"));
     CHECK(decimal_prints("1E+3", "1E+3"));
     /* the two longest kinds of texts */
     CHECK(decimal_prints("-1234567890123456789012345678901234E-6176", "-1.234567890123456789012345678901234E-6143"));
-    CHECK(len == VBSON_DECIMAL128_ROOM);
+    CHECK(len == VBSON_DECIMAL128_MAX_LENGTH);
     CHECK(decimal_prints("-0.000001234567890123456789012345678901234", "-0.000001234567890123456789012345678901234"));
-    CHECK(len == VBSON_DECIMAL128_ROOM);
-    CHECK(vbson_decimal128_print(five_bytes, fresh(), 0, &len) == VBSON_NO_ROOM && is_fresh(1));
-    CHECK(vbson_decimal128_print(five_bytes, fresh(), 1, &len) == VBSON_DONE && holds("5"));
+    CHECK(len == VBSON_DECIMAL128_MAX_LENGTH);
+    CHECK(vbson_decimal128_print(five_bytes, fresh(), 0, &len) == VBSON_BUFFER_TOO_SMALL && is_fresh(1));
+    CHECK(vbson_decimal128_print(five_bytes, fresh(), 1, &len) == VBSON_OK && holds("5"));
     static const char *const none[] = {"", "x", "\xff", "1e", "1.2.3", "12345678901234567890123456789012345", "1E6145"};
     for (size_t i = 0; i < sizeof none / sizeof *none; i++) {
-        CHECK(vbson_decimal128_parse(TEXT(none[i]), bytes) == VBSON_NO_SUCH_TEXT && memcmp(bytes, five_bytes, 16) == 0);
+        CHECK(vbson_decimal128_parse(TEXT(none[i]), bytes) == VBSON_INVALID_STRING && memcmp(bytes, five_bytes, 16) == 0);
     }
 }
 
 static void object_ids(void) {
     static const uint8_t wanted[12] = {0x53, 0xe3, 0x7d, 0x08, 0x77, 0x6f, 0x72, 0x4e, 0x42};
     uint8_t id[12] = {1, 2, 3};
-    CHECK(vbson_object_id_parse(TEXT("53E37d08776f724e42000000"), id) == VBSON_DONE && memcmp(id, wanted, 12) == 0);
-    CHECK(vbson_object_id_print(id, fresh(), sizeof room, &len) == VBSON_DONE && holds("53e37d08776f724e42000000"));
-    CHECK(vbson_object_id_print(id, fresh(), 24, &len) == VBSON_DONE && holds("53e37d08776f724e42000000"));
-    CHECK(vbson_object_id_print(id, fresh(), 23, &len) == VBSON_NO_ROOM && is_fresh(24));
+    CHECK(vbson_object_id_parse(TEXT("53E37d08776f724e42000000"), id) == VBSON_OK && memcmp(id, wanted, 12) == 0);
+    CHECK(vbson_object_id_print(id, fresh(), sizeof room, &len) == VBSON_OK && holds("53e37d08776f724e42000000"));
+    CHECK(vbson_object_id_print(id, fresh(), 24, &len) == VBSON_OK && holds("53e37d08776f724e42000000"));
+    CHECK(vbson_object_id_print(id, fresh(), 23, &len) == VBSON_BUFFER_TOO_SMALL && is_fresh(24));
     static const char *const none[] = {"", "53e3", "53e37d08776f724e4200000g", "53e37d08776f724e420000000", "\xff"};
     for (size_t i = 0; i < sizeof none / sizeof *none; i++) {
-        CHECK(vbson_object_id_parse(TEXT(none[i]), id) == VBSON_NO_SUCH_TEXT && memcmp(id, wanted, 12) == 0);
+        CHECK(vbson_object_id_parse(TEXT(none[i]), id) == VBSON_INVALID_STRING && memcmp(id, wanted, 12) == 0);
     }
 }
 
 static void moments(void) {
     int64_t millis = 0;
-    CHECK(vbson_date_time_parse(TEXT("2020-06-01T00:42:40.292Z"), &millis) == VBSON_DONE);
+    CHECK(vbson_date_time_parse(TEXT("2020-06-01T00:42:40.292Z"), &millis) == VBSON_OK);
     CHECK(millis == INT64_C(1590972160292));
-    CHECK(vbson_date_time_print(millis, fresh(), 24, &len) == VBSON_DONE && holds("2020-06-01T00:42:40.292Z"));
-    CHECK(vbson_date_time_print(millis, fresh(), 23, &len) == VBSON_NO_ROOM && is_fresh(24));
-    CHECK(vbson_date_time_print(0, fresh(), 20, &len) == VBSON_DONE && holds("1970-01-01T00:00:00Z"));
-    CHECK(vbson_date_time_print(INT64_C(-62167219200000), fresh(), 64, &len) == VBSON_DONE);
+    CHECK(vbson_date_time_print(millis, fresh(), 24, &len) == VBSON_OK && holds("2020-06-01T00:42:40.292Z"));
+    CHECK(vbson_date_time_print(millis, fresh(), 23, &len) == VBSON_BUFFER_TOO_SMALL && is_fresh(24));
+    CHECK(vbson_date_time_print(0, fresh(), 20, &len) == VBSON_OK && holds("1970-01-01T00:00:00Z"));
+    CHECK(vbson_date_time_print(INT64_C(-62167219200000), fresh(), 64, &len) == VBSON_OK);
     CHECK(holds("0000-01-01T00:00:00Z"));
-    CHECK(vbson_date_time_print(INT64_C(-62167219200001), fresh(), 64, &len) == VBSON_NO_TEXT && is_fresh(99));
-    CHECK(vbson_date_time_print(INT64_C(253402300800000), fresh(), 64, &len) == VBSON_NO_TEXT && is_fresh(99));
-    CHECK(vbson_date_time_print(INT64_MAX, fresh(), 0, &len) == VBSON_NO_TEXT && is_fresh(99));
-    CHECK(vbson_date_time_print(INT64_MIN, fresh(), 64, &len) == VBSON_NO_TEXT && is_fresh(99));
-    CHECK(vbson_date_time_parse(TEXT("1969-12-31T23:59:59.9995+00:00"), &millis) == VBSON_DONE && millis == 0);
+    CHECK(vbson_date_time_print(INT64_C(-62167219200001), fresh(), 64, &len) == VBSON_NOT_REPRESENTABLE && is_fresh(99));
+    CHECK(vbson_date_time_print(INT64_C(253402300800000), fresh(), 64, &len) == VBSON_NOT_REPRESENTABLE && is_fresh(99));
+    CHECK(vbson_date_time_print(INT64_MAX, fresh(), 0, &len) == VBSON_NOT_REPRESENTABLE && is_fresh(99));
+    CHECK(vbson_date_time_print(INT64_MIN, fresh(), 64, &len) == VBSON_NOT_REPRESENTABLE && is_fresh(99));
+    CHECK(vbson_date_time_parse(TEXT("1969-12-31T23:59:59.9995+00:00"), &millis) == VBSON_OK && millis == 0);
     static const char *const none[] = {"", "2020", "\xff", "2020-02-30T00:00:00Z", "2020-06-01T00:42:60Z"};
     for (size_t i = 0; i < sizeof none / sizeof *none; i++) {
-        CHECK(vbson_date_time_parse(TEXT(none[i]), &millis) == VBSON_NO_SUCH_TEXT && millis == 0);
+        CHECK(vbson_date_time_parse(TEXT(none[i]), &millis) == VBSON_INVALID_STRING && millis == 0);
     }
 }
 
@@ -450,22 +450,22 @@ static void same_documents(void) {
     uint64_t number = 0;
     for (uint32_t flags = 0; flags < 17; flags++) {
         int is_none = flags > 15 || (flags & VBSON_KEEP_ORDER) != 0;
-        CHECK(vbson_same_documents(flags, BYTES(pair), BYTES(sorted)) == (is_none ? VBSON_NO_MODE : VBSON_DONE));
-        CHECK(vbson_same_documents(flags, BYTES(pair), BYTES(empty)) == (is_none ? VBSON_NO_MODE : VBSON_DIFFERENT));
+        CHECK(vbson_same_documents(flags, BYTES(pair), BYTES(sorted)) == (is_none ? VBSON_INVALID_ARGUMENT : VBSON_OK));
+        CHECK(vbson_same_documents(flags, BYTES(pair), BYTES(empty)) == (is_none ? VBSON_INVALID_ARGUMENT : VBSON_DIFFERENT));
         number = 7;
-        CHECK(vbson_hash_document(flags, BYTES(sorted), &number) == (is_none ? VBSON_NO_MODE : VBSON_DONE));
+        CHECK(vbson_hash_document(flags, BYTES(sorted), &number) == (is_none ? VBSON_INVALID_ARGUMENT : VBSON_OK));
         CHECK(number == (is_none ? 7 : hash_by(VBSON_DOUBLES, "{\"b\":5,\"a\":1.5}")));
     }
-    CHECK(vbson_same_documents(0, BYTES(twice), BYTES(twice)) == VBSON_DONE);
-    CHECK(vbson_same_documents(strict, BYTES(twice), BYTES(empty)) == VBSON_NO_DOCUMENT);
-    CHECK(vbson_same_documents(all, BYTES(empty), BYTES(twice)) == VBSON_NO_DOCUMENT);
-    CHECK(vbson_same_documents(0, pair, 4, BYTES(pair)) == VBSON_NO_DOCUMENT && vbson_same_documents(0, BYTES(pair), pair, 4) == VBSON_NO_DOCUMENT);
-    CHECK(vbson_same_documents(0, TEXT("{}"), TEXT("{}")) == VBSON_NO_DOCUMENT);
-    CHECK(vbson_hash_document(0, BYTES(twice), &number) == VBSON_DONE && number == hash_of("{\"b\":5}"));
+    CHECK(vbson_same_documents(0, BYTES(twice), BYTES(twice)) == VBSON_OK);
+    CHECK(vbson_same_documents(strict, BYTES(twice), BYTES(empty)) == VBSON_NOT_A_DOCUMENT);
+    CHECK(vbson_same_documents(all, BYTES(empty), BYTES(twice)) == VBSON_NOT_A_DOCUMENT);
+    CHECK(vbson_same_documents(0, pair, 4, BYTES(pair)) == VBSON_NOT_A_DOCUMENT && vbson_same_documents(0, BYTES(pair), pair, 4) == VBSON_NOT_A_DOCUMENT);
+    CHECK(vbson_same_documents(0, TEXT("{}"), TEXT("{}")) == VBSON_NOT_A_DOCUMENT);
+    CHECK(vbson_hash_document(0, BYTES(twice), &number) == VBSON_OK && number == hash_of("{\"b\":5}"));
     number = 7;
-    CHECK(vbson_hash_document(strict, BYTES(twice), &number) == VBSON_NO_DOCUMENT && number == 7);
-    CHECK(vbson_hash_document(0, TEXT("{}"), &number) == VBSON_NO_DOCUMENT && number == 7);
-    CHECK(vbson_hash_document(0, BYTES(empty), &number) == VBSON_DONE && number == hash_of("{}"));
+    CHECK(vbson_hash_document(strict, BYTES(twice), &number) == VBSON_NOT_A_DOCUMENT && number == 7);
+    CHECK(vbson_hash_document(0, TEXT("{}"), &number) == VBSON_NOT_A_DOCUMENT && number == 7);
+    CHECK(vbson_hash_document(0, BYTES(empty), &number) == VBSON_OK && number == hash_of("{}"));
 }
 
 int main(void) {
@@ -486,6 +486,6 @@ int main(void) {
     decimals();
     object_ids();
     moments();
-    CHECK(strcmp(vbson_status_text(VBSON_NO_ROOM), "no room") == 0);
+    CHECK(strcmp(vbson_status_text(VBSON_BUFFER_TOO_SMALL), "no room") == 0);
     return end();
 }

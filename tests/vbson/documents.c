@@ -17,7 +17,7 @@ static uint8_t *bytes_of(const char *digits, size_t *len) {
     return bytes;
 }
 
-static uint32_t answer(int call, const uint8_t *bytes, size_t len, vbson_text *out) {
+static uint32_t answer(int call, const uint8_t *bytes, size_t len, vbson_buffer *out) {
     if (call < 3) return vbson_decode((uint32_t)call, VBSON_DOUBLES, bytes, len, out);
     if (call == 3) return vbson_encode(VBSON_DOUBLES, bytes, len, out);
     if (call == 4) return vbson_explain_document(bytes, len, out);
@@ -34,11 +34,11 @@ int main(void) {
         size_t len;
         uint8_t *bytes = bytes_of(line + (call < CALLS ? strlen(calls[call]) : 0), &len);
         if (bytes == NULL) return 1;
-        vbson_text out = VBSON_TEXT_NONE;
+        vbson_buffer out = VBSON_BUFFER_INIT;
         printf("%u ", answer(call, bytes, len, &out));
         for (size_t i = 0; i < out.len; i++) printf("%02x", out.bytes[i]);
         printf("\n");
-        vbson_text_free(&out);
+        vbson_buffer_free(&out);
         free(bytes);
     }
     free(line);

@@ -23,20 +23,20 @@ def of_bytes(name, digits, wanted):
     fault = re.fullmatch(r"Malformed \{ kind: (\w+), offset: (\d+) \}", wanted)
     if fault:
         words = f"no document at byte {fault[2]} ({KINDS[fault[1]]})"
-        yield "explain", digits, vbson.DONE, words.encode()
+        yield "explain", digits, vbson.OK, words.encode()
         for call in ("is", "canonical", "relaxed", "show"):
-            yield call, digits, vbson.NO_DOCUMENT, b""
+            yield call, digits, vbson.NOT_A_DOCUMENT, b""
         return
-    yield "is", digits, vbson.DONE, b""
-    yield "explain", digits, vbson.DONE, b""
+    yield "is", digits, vbson.OK, b""
+    yield "explain", digits, vbson.OK, b""
     if name == "read" and not wanted.startswith("Document("):
-        yield "show", digits, vbson.DONE, wanted.replace("↵", "\n").encode()
+        yield "show", digits, vbson.OK, wanted.replace("↵", "\n").encode()
 
 
 def of_text(text, wanted):
     """The same of a text whose document is written."""
-    status = UNWRITTEN.get(wanted.removeprefix("NoBytes(").removesuffix(")"), vbson.DONE)
-    left = bytes.fromhex(wanted) if status == vbson.DONE else b""
+    status = UNWRITTEN.get(wanted.removeprefix("NoBytes(").removesuffix(")"), vbson.OK)
+    left = bytes.fromhex(wanted) if status == vbson.OK else b""
     yield "encode", text.encode().hex(), status, left
 
 
@@ -44,7 +44,7 @@ def of_dump(form, digits, wanted):
     """The same of a dump of one document, whose keys the library sorts."""
     text, _, counts = wanted.rpartition("↵")
     if form in ("canonical", "relaxed", "show") and counts == "DocumentCounts { documents: 1, refused: 0 }":
-        yield form, digits, vbson.DONE, text.encode()
+        yield form, digits, vbson.OK, text.encode()
 
 
 def calls_of(row):
@@ -71,7 +71,7 @@ def cases():
 
 
 NUMBERS = {vbson.NotJson: vbson.NOT_JSON, vbson.BadObjectId: vbson.BAD_OBJECT_ID, vbson.NotExtendedJson: vbson.NOT_EXTENDED_JSON,
-           vbson.NoText: vbson.NO_TEXT, vbson.NoDocument: vbson.NO_DOCUMENT}
+           vbson.NotRepresentable: vbson.NOT_REPRESENTABLE, vbson.NotADocument: vbson.NOT_A_DOCUMENT}
 CAUSES = {"a key has a 0 byte in it": vbson.ZERO_IN_KEY, "a regular expression has a 0 byte in it": vbson.ZERO_IN_REGEX}
 
 
@@ -81,18 +81,18 @@ def by_python(line):
     given = bytes.fromhex(digits)
     try:
         if call == "is":
-            return f"{vbson.DONE if vbson.is_document(given) else vbson.NO_DOCUMENT} "
+            return f"{vbson.OK if vbson.is_document(given) else vbson.NOT_A_DOCUMENT} "
         if call == "explain":
             return f"0 {vbson.explain_document(given).encode().hex()}"
         if call == "encode":
             return f"0 {vbson.encode(given, doubles=True).hex()}"
         return f"0 {vbson.decode(given, call, doubles=True).encode().hex()}"
-    except vbson.NoDocument as error:
+    except vbson.NotADocument as error:
         words = vbson.explain_document(given) if call != "encode" else "no document"
         # (the error is made of those words, and place and reason are all of them)
-        is_whole = str(error) == words == f"no document at {error.place} ({error.why})" or call == "encode"
-        return f"{vbson.NO_DOCUMENT if is_whole else -1} "
-    except vbson.NoBytes as error:
+        is_whole = str(error) == words == f"no document at {error.path} ({error.reason})" or call == "encode"
+        return f"{vbson.NOT_A_DOCUMENT if is_whole else -1} "
+    except vbson.NotEncodable as error:
         return f"{CAUSES[str(error)]} "
     except vbson.Error as error:
         return f"{NUMBERS[type(error)]} "
@@ -130,11 +130,11 @@ def alone(call, given, *how):
     try:
         return call(given, *how), None
     except vbson.Error as error:
-        return b"", (type(error), str(error), error.place, error.why)
+        return b"", (type(error), str(error), error.path, error.reason)
 
 
 def told_alike(refused):
-    return [(*it[:-1], (type(it[-1]), str(it[-1]), it[-1].place, it[-1].why)) for it in refused]
+    return [(*it[:-1], (type(it[-1]), str(it[-1]), it[-1].path, it[-1].reason)) for it in refused]
 
 
 def blocks():

@@ -44,7 +44,7 @@ fn mode_of(call: &str) -> Mode {
 
 /// Whether the error is made of the words for these bytes, and place and reason are all of them.
 fn is_explained(error: &Error, given: &[u8]) -> bool {
-    let words = format!("no document at {} ({})", error.at(), error.why());
+    let words = format!("no document at {} ({})", error.path(), error.reason());
     error.to_string() == words && explain_document(given).as_ref() == Some(error)
 }
 
@@ -53,8 +53,8 @@ fn status_of(kind: ErrorKind) -> i32 {
         ErrorKind::NotJson => 2,
         ErrorKind::BadObjectId => 3,
         ErrorKind::NotExtendedJson => 4,
-        ErrorKind::NoText => 7,
-        ErrorKind::NoDocument => 10,
+        ErrorKind::NotRepresentable => 7,
+        ErrorKind::NotADocument => 10,
         ErrorKind::ZeroInKey => 11,
         ErrorKind::ZeroInRegex => 12,
         other => panic!("{other}"),

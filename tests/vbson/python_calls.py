@@ -142,7 +142,7 @@ def refusal(call, *arguments):
     try:
         return call(*arguments)
     except vbson.Error as it:
-        return str(it), it.place, it.why, type(it)
+        return str(it), it.path, it.reason, type(it)
 
 
 def try_places():
@@ -180,12 +180,12 @@ def try_places():
         want(f"the hash of {text}", refusal(vbson.hash_of, text), wanted)
     want("nothing to explain", (vbson.explain("{}"), vbson.explain("1.5", True)), ("", ""))
     want("the place with doubles", refusal(vbson.convert, '[1.5,{"$numberInt":""}]', 0, True)[1], "1.$numberInt")
-    want("no place", refusal(vbson.object_id, "53e3"), ("no such text", "", "no such text", vbson.NoSuchText))
+    want("no place", refusal(vbson.object_id, "53e3"), ("no such text", "", "no such text", vbson.InvalidString))
     try:
         vbson.convert("[1.5]")
     except vbson.Error as it:
         copied = pickle.loads(pickle.dumps(it))
-        want("an error that was pickled", (str(copied), copied.place, copied.why), (str(it), "0", number))
+        want("an error that was pickled", (str(copied), copied.path, copied.reason), (str(it), "0", number))
         want("the class of an error that was pickled", type(copied), vbson.NotExtendedJson)
 
 
@@ -247,7 +247,7 @@ def try_reading():
     want("the hash of a document", vbson.hash_of_document(memoryview(turned)), vbson.hash_of(price, doubles=True))
     doubled = b"\x13\0\0\0\x10b\0\5\0\0\0\x10b\0\6\0\0\0\0"
     want("the last value of a document", vbson.same_documents(doubled, vbson.encode('{"b":6}')), True)
-    wanted = "no document (a duplicate key)", "", "a duplicate key", vbson.NoDocument
+    wanted = "no document (a duplicate key)", "", "a duplicate key", vbson.NotADocument
     want("a duplicate key of a document", refusal(lambda it: vbson.hash_of_document(it, **strict), doubled), wanted)
     want("the first of two documents", refusal(lambda it: vbson.same_documents(it, b"", **strict), doubled), wanted)
     want("the second of two", refusal(lambda it: vbson.same_documents(document, it, **strict), doubled), wanted)
@@ -277,7 +277,7 @@ def try_lines():
     want("lines that are refused", [number for number, _ in refused], [2, 3, 4])
     for _, error in refused:
         line = {vbson.NotExtendedJson: '{"a":[1.5]}', vbson.NotJson: "[", vbson.BadObjectId: '{"$oid":"5"}'}[type(error)]
-        want(f"{line} among lines", (str(error), error.place, error.why, type(error)), refusal(vbson.convert, line))
+        want(f"{line} among lines", (str(error), error.path, error.reason, type(error)), refusal(vbson.convert, line))
     want("lines of doubles", vbson.convert_lines("[1.5]\n", "relaxed", True), (b"[1.5]\n", []))
     raises("lines in no mode", ValueError, vbson.convert_lines, b"", 3)
     raises("lines of a list", TypeError, vbson.convert_lines, ["1"])
@@ -289,21 +289,21 @@ def try_blocks():
     want("documents that are left", text, b'{"n":5}\n{"n":5}\n')
     want("documents that are refused", [it[:2] for it in refused], [(2, 12)])
     error = refused[0][2]
-    want("one among documents", (str(error), error.place, error.why, type(error)), refusal(vbson.decode, bad))
+    want("one among documents", (str(error), error.path, error.reason, type(error)), refusal(vbson.decode, bad))
     text, refused = vbson.decode_documents(five + b"\6\0\0\0", vbson.SHOW)
     want("a block that ends early", (text, [it[:2] for it in refused]), (b'{ "n": 5 }\n', [(2, 12)]))
     want("no documents", vbson.decode_documents(b""), (b"", []))
     double = vbson.encode('{"b":1.5,"a":2}', True, True)
     want("documents with doubles", vbson.decode_documents(double, "relaxed", True, True), (b'{"b":1.5,"a":2}\n', []))
     error = vbson.decode_documents(double)[1][0][2]
-    want("a double among documents", (str(error), error.place, error.why, type(error)), refusal(vbson.decode, double))
+    want("a double among documents", (str(error), error.path, error.reason, type(error)), refusal(vbson.decode, double))
     raises("documents in no mode", ValueError, vbson.decode_documents, b"", 3)
     raises("documents of a text", TypeError, vbson.decode_documents, "")
     given, refused = vbson.encode_lines('{"n": 5}\n[1]\n\n{"a":[1.5]}\n{"a\\u0000":1}\n{"n": 5}')
     want("lines that are encoded", given, five + five)
     want("lines that are not encoded", [it[0] for it in refused], [2, 4, 5])
     for (_, error), line in zip(refused, ("[1]", '{"a":[1.5]}', '{"a\\u0000":1}')):
-        want(f"{line} among encoded lines", (str(error), error.place, error.why, type(error)), refusal(vbson.encode, line))
+        want(f"{line} among encoded lines", (str(error), error.path, error.reason, type(error)), refusal(vbson.encode, line))
     want("lines that are encoded in order", vbson.encode_lines('{"b":1.5,"a":2}', True, True), (double, []))
     raises("encoded lines of a list", TypeError, vbson.encode_lines, ["1"])
 
@@ -323,17 +323,17 @@ def try_documents():
     want("a double, relaxed", vbson.decode(double, "relaxed", doubles=True), '{"a":1.5}')
     want("a double shown", vbson.decode(double, "show"), '{ "a": Double(0x3ff8000000000000) }')
     want("a double there", vbson.encode('{"a":1.5}', doubles=True), double)
-    raises("a double without", vbson.NoText, vbson.decode, double)
+    raises("a double without", vbson.NotRepresentable, vbson.decode, double)
     raises("a double there without", vbson.NotExtendedJson, vbson.encode, '{"a":1.5}')
     want("no double there", refusal(vbson.encode, '{"a":1.5}')[1:3], ("a", "a number is no whole number of 64 bits; found 1.5"))
     for given, place, why in ((b"", "byte 0", "ends too early"), (five + b"\0", "byte 12", "bytes behind the document"),
                               (bytes.fromhex("090000000861000200"), "byte 7", "a boolean is neither 0 nor 1")):
         words = f"no document at {place} ({why})"
         want(f"{given.hex()} explained", vbson.explain_document(given), words)
-        want(f"{given.hex()} decoded", refusal(vbson.decode, given), (words, place, why, vbson.NoDocument))
+        want(f"{given.hex()} decoded", refusal(vbson.decode, given), (words, place, why, vbson.NotADocument))
     want("nothing to explain", vbson.explain_document(five), "")
-    want("another value", refusal(vbson.encode, "[1]"), ("no document", "", "no document", vbson.NoDocument))
-    want("a 0 byte", refusal(vbson.encode, '{"a\\u0000":1}')[::3], ("a key has a 0 byte in it", vbson.NoBytes))
+    want("another value", refusal(vbson.encode, "[1]"), ("no document", "", "no document", vbson.NotADocument))
+    want("a 0 byte", refusal(vbson.encode, '{"a\\u0000":1}')[::3], ("a key has a 0 byte in it", vbson.NotEncodable))
     raises("an id", vbson.BadObjectId, vbson.encode, '{"a":{"$oid":"5"}}')
     for it in ("{}", 5, None, [12], 1.5):
         for call in (vbson.decode, vbson.is_document, vbson.explain_document):
@@ -347,16 +347,16 @@ def try_small_values():
     want("a decimal", vbson.decimal128("5"), bytes([5, *[0] * 13, 0x40, 0x30]))
     want("a decimal's text", vbson.decimal128_text(vbson.decimal128("19.90")), "19.90")
     want("any pattern has a text", vbson.decimal128_text(b"\xff" * 16), "NaN")
-    raises("no decimal", vbson.NoSuchText, vbson.decimal128, "1.2.3")
+    raises("no decimal", vbson.InvalidString, vbson.decimal128, "1.2.3")
     raises("15 bytes", ValueError, vbson.decimal128_text, b"\0" * 15)
     want("an object id", vbson.object_id("53E37d08776f724e42000000").hex(), "53e37d08776f724e42000000")
     want("an object id's text", vbson.object_id_text(b"\0\xff" * 6), "00ff" * 6)
-    raises("no object id", vbson.NoSuchText, vbson.object_id, "53e3")
+    raises("no object id", vbson.InvalidString, vbson.object_id, "53e3")
     want("a moment", vbson.date_time("2020-06-01T00:42:40.292Z"), 1590972160292)
     want("a moment's text", vbson.date_time_text(-1), "1969-12-31T23:59:59.999Z")
-    raises("no moment", vbson.NoSuchText, vbson.date_time, "2020")
-    raises("a moment of no text", vbson.NoText, vbson.date_time_text, 2**62)
-    raises("a moment past 64 bits", vbson.NoText, vbson.date_time_text, 2**63)
+    raises("no moment", vbson.InvalidString, vbson.date_time, "2020")
+    raises("a moment of no text", vbson.NotRepresentable, vbson.date_time_text, 2**62)
+    raises("a moment past 64 bits", vbson.NotRepresentable, vbson.date_time_text, 2**63)
     for it in (True, 1.0, "5", None):
         raises(f"no moment {it!r}", TypeError, vbson.date_time_text, it)
         raises(f"no datetime {it!r}", TypeError, vbson.datetime_of, it)
@@ -376,7 +376,7 @@ def try_decimals():
             want(f"{text} and back", vbson.decimal_of(vbson.decimal128(value)).as_tuple(), value.as_tuple())
         want("NaN", vbson.decimal_of(vbson.decimal128("NaN")).is_nan(), True)
         for text in ("12345678901234567890123456789012345", "1E+6145", "1E-6177", "NaN123"):
-            raises(f"the decimal {text}", vbson.NoSuchText, vbson.decimal128, decimal.Decimal(text))
+            raises(f"the decimal {text}", vbson.InvalidString, vbson.decimal128, decimal.Decimal(text))
 
 
 def try_datetimes():

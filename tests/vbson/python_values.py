@@ -75,8 +75,8 @@ def try_plain():
                         (re.compile("a", re.I | re.X), '{"$regularExpression":{"options":"ix","pattern":"a"}}')):
         want(f"{value!r} in the relaxed form", vbson.dumps(value, "relaxed", types="plain"), text)
     for value, error in ((object(), TypeError), ({1: 2}, TypeError), ([{1, 2}], TypeError), (datetime.date(2020, 1, 1), TypeError),
-                         (2**63, OverflowError), (-2**63 - 1, OverflowError), ({"a\0": 1}, vbson.NoBytes), (Regex("\0"), vbson.NoBytes),
-                         (datetime.datetime(2020, 1, 1), ValueError), (decimal.Decimal("1E+7000"), vbson.NoSuchText),
+                         (2**63, OverflowError), (-2**63 - 1, OverflowError), ({"a\0": 1}, vbson.NotEncodable), (Regex("\0"), vbson.NotEncodable),
+                         (datetime.datetime(2020, 1, 1), ValueError), (decimal.Decimal("1E+7000"), vbson.InvalidString),
                          ("\ud800", UnicodeEncodeError), (ObjectId(b"1"), ValueError)):
         raises(f"{value!r}", error, vbson.dumps, value, types="plain")
 
@@ -103,16 +103,16 @@ def try_both(types):
         raises(f"no text {given!r}", vbson.NotJson, vbson.loads, given, types=types)
     raises("no Extended JSON", vbson.NotExtendedJson, vbson.loads, '[{"$numberInt":"x"}]', types=types)
     raises("a double", vbson.NotExtendedJson, vbson.loads, "[1.5]", False, types=types)
-    raises("a double's text", vbson.NoText, vbson.dumps, [1.5], "relaxed", False, types=types)
+    raises("a double's text", vbson.NotRepresentable, vbson.dumps, [1.5], "relaxed", False, types=types)
     raises("an id", vbson.BadObjectId, vbson.loads, '{"$oid":"5"}', types=types)
-    raises("a 0 byte in a key", vbson.NoBytes, vbson.loads, '{"a\\u0000":1}', types=types)
-    raises("a 0 byte in a key there", vbson.NoBytes, vbson.dumps, {"a\0": 1}, types=types)
+    raises("a 0 byte in a key", vbson.NotEncodable, vbson.loads, '{"a\\u0000":1}', types=types)
+    raises("a 0 byte in a key there", vbson.NotEncodable, vbson.dumps, {"a\0": 1}, types=types)
     raises("no value", TypeError, vbson.dumps, object(), types=types)
     raises("no text", TypeError, vbson.loads, 5, types=types)
     values, refused = vbson.loads_lines('{"b":1,"a":[{"$ref":"x","$id":1}]}\n[1]\n{"$oid":"5"}\n\n{"b":1.5}\n', types=types)
     want("values of lines", values, [vbson.loads('{"b":1,"a":[{"$ref":"x","$id":1}]}', types=types), {"b": 1.5}])
     want("the keys of lines", [*map(list, values)], [["b", "a"], ["b"]])
-    want("lines of no values", [(number, type(it)) for number, it in refused], [(2, vbson.NoDocument), (3, vbson.BadObjectId)])
+    want("lines of no values", [(number, type(it)) for number, it in refused], [(2, vbson.NotADocument), (3, vbson.BadObjectId)])
     want("no lines", vbson.loads_lines("", types=types), ([], []))
     for given in ('"~"', '["~"]', '{"~":"~"}', '"\\u007e"', '{"\\u007e":1,"~":2}', '{"a":{"~":1}}'):
         want(f"{given} there and back", vbson.dumps(vbson.loads(given, types=types), "relaxed", types=types),
@@ -129,7 +129,7 @@ def try_both(types):
     for _ in range(98):
         nested = [nested]
     want("nested 99 deep", vbson.dumps(nested, types=types), "[" * 99 + "]" * 99)
-    raises("nested 100 deep", vbson.NoDocument, vbson.dumps, [nested], types=types)
+    raises("nested 100 deep", vbson.NotADocument, vbson.dumps, [nested], types=types)
     want("nested 126 deep", type(vbson.loads(deep, types=types)), list)
 
 

@@ -43,8 +43,8 @@ enum { TEXTS = sizeof texts / sizeof *texts, KINDS = 30 };
 /* What a call of each kind answers, and all that it can write. */
 struct answer {
     uint32_t status;
-    vbson_text text;
-    vbson_text told;
+    vbson_buffer text;
+    vbson_buffer diagnostics;
     uint64_t number;
     uint8_t room[64];
     size_t len;
@@ -55,7 +55,7 @@ static const uint8_t before[] = "before";
 static struct answer nothing(void) {
     struct answer it;
     memset(&it, 0, sizeof it);
-    it.text = it.told = (vbson_text){before, 7, 6};
+    it.text = it.diagnostics = (vbson_buffer){before, 7, 6};
     it.number = 42;
     memset(it.room, 0xa5, sizeof it.room);
     it.len = 99;
@@ -63,25 +63,25 @@ static struct answer nothing(void) {
 }
 
 /* The bytes of the text's document; of a text that means none its own, which are none either. */
-static vbson_text document;
+static vbson_buffer document;
 
 static void find_document(const char *text) {
-    vbson_text_free(&document);
-    if (vbson_encode(0, TEXT(text), &document) != VBSON_DONE) document = (vbson_text){(const uint8_t *)text, 0, strlen(text)};
+    vbson_buffer_free(&document);
+    if (vbson_encode(0, TEXT(text), &document) != VBSON_OK) document = (vbson_buffer){(const uint8_t *)text, 0, strlen(text)};
 }
 
 static uint32_t convert_lines(uint32_t flags, const char *text, struct answer *it) {
-    vbson_lines out = {it->text, it->told, it->number, it->number};
+    vbson_lines out = {it->text, it->diagnostics, it->number, it->number};
     uint32_t status = vbson_convert_lines(VBSON_RELAXED, flags, TEXT(text), &out);
-    it->text = out.text, it->told = out.told;
+    it->text = out.text, it->diagnostics = out.diagnostics;
     it->number = 100 * (out.lines - 42) + out.refused;
     return status;
 }
 
 static uint32_t encode_lines(uint32_t flags, const char *text, struct answer *it) {
-    vbson_lines out = {it->text, it->told, it->number, it->number};
+    vbson_lines out = {it->text, it->diagnostics, it->number, it->number};
     uint32_t status = vbson_encode_lines(flags, TEXT(text), &out);
-    it->text = out.text, it->told = out.told;
+    it->text = out.text, it->diagnostics = out.diagnostics;
     it->number = 100 * (out.lines - 42) + out.refused;
     return status;
 }
@@ -92,10 +92,10 @@ static uint32_t decode_documents(uint32_t flags, struct answer *it) {
     size_t len = document.len < sizeof twice / 2 ? document.len : sizeof twice / 2;
     memcpy(twice, document.bytes, len);
     memcpy(twice + len, document.bytes, len);
-    vbson_documents out = {it->text, it->told, it->number, it->number};
+    vbson_documents out = {it->text, it->diagnostics, it->number, it->number};
     uint32_t status = vbson_decode_documents(VBSON_RELAXED, flags, twice, 2 * len, &out);
-    it->text = out.text, it->told = out.told;
-    it->number = 100 * (out.documents - 42) + out.done;
+    it->text = out.text, it->diagnostics = out.diagnostics;
+    it->number = 100 * (out.documents - 42) + out.consumed;
     return status;
 }
 
@@ -129,19 +129,19 @@ static struct answer call(int kind, const char *text, long number) {
     return it;
 }
 
-static int is_same_text(vbson_text a, vbson_text b) {
+static int is_same_text(vbson_buffer a, vbson_buffer b) {
     return a.size == b.size && a.len == b.len && memcmp(a.bytes, b.bytes, a.size) == 0;
 }
 
 /* With what was handed in as it was: status aside. */
 static int is_alike(const struct answer *a, const struct answer *b) {
-    return is_same_text(a->text, b->text) && is_same_text(a->told, b->told) && a->number == b->number && memcmp(a->room, b->room, sizeof a->room) == 0
+    return is_same_text(a->text, b->text) && is_same_text(a->diagnostics, b->diagnostics) && a->number == b->number && memcmp(a->room, b->room, sizeof a->room) == 0
         && a->len == b->len;
 }
 
 static void let_go(struct answer *it) {
-    if (it->text.bytes != before) vbson_text_free(&it->text);
-    if (it->told.bytes != before) vbson_text_free(&it->told);
+    if (it->text.bytes != before) vbson_buffer_free(&it->text);
+    if (it->diagnostics.bytes != before) vbson_buffer_free(&it->diagnostics);
 }
 
 static long refuse_each(int kind, const char *text) {
@@ -173,7 +173,7 @@ int main(void) {
     for (int i = 0; i < TEXTS; i++) {
         find_document(texts[i]);
         requests = 0;
-        CHECK(vbson_is_document(document.bytes, document.len) == (i == 0 ? VBSON_DONE : VBSON_NO_DOCUMENT) && requests == 0);
+        CHECK(vbson_is_document(document.bytes, document.len) == (i == 0 ? VBSON_OK : VBSON_NOT_A_DOCUMENT) && requests == 0);
     }
     return end();
 }

@@ -1,5 +1,5 @@
 """Holds languages/c/vbson.h and the wrappers to the sources of crates/vbson: the calls with their types, the statuses
-with their numbers, which statuses each call answers, the modes, the flags, the rooms, the text's fields, and the version."""
+with their numbers, which statuses each call answers, the modes, the flags, the greatest lengths, the buffer's fields, and the version."""
 import re
 from pathlib import Path
 
@@ -8,7 +8,7 @@ SOURCES = ROOT / "crates/vbson/src"
 LANGUAGES = ROOT / "languages"
 HEADER = LANGUAGES / "c/vbson.h"
 NUMBERS = {"u32": "uint32_t", "i64": "int64_t", "u64": "uint64_t", "usize": "size_t"}
-STRUCTS = {"Text<'static>": "vbson_text", "Lines<'static>": "vbson_lines", "Documents<'static>": "vbson_documents"}
+STRUCTS = {"Text<'static>": "vbson_buffer", "Lines<'static>": "vbson_lines", "Documents<'static>": "vbson_documents"}
 EXPORT = re.compile(
     r'#\[unsafe\(no_mangle\)\]\npub (?:unsafe )?extern "C" fn (\w+)\(([^)]*)\) -> (\w+)\n(.*?)\n\{\n', re.S)
 
@@ -51,7 +51,7 @@ def of_rust(name, kind):
         return f"{NUMBERS[kind]} {name}"
     found = re.fullmatch(r"\*(const|mut) (?:\[u8; (\d+)\]|(\w+))", kind)
     const = "const " if found[1] == "const" else ""
-    kinds = {"u8": "uint8_t", "RawText": "vbson_text", "RawLines": "vbson_lines", "RawDocuments": "vbson_documents", **NUMBERS}
+    kinds = {"u8": "uint8_t", "RawText": "vbson_buffer", "RawLines": "vbson_lines", "RawDocuments": "vbson_documents", **NUMBERS}
     if found[2]:
         return f"{const}uint8_t {name}[{found[2]}]"
     return f"{const}{kinds[found[3]]} *{name}"
@@ -162,38 +162,38 @@ def status_faults():
         yield f"the flag {name}", None if is_right else "other numbers"
 
 
-def room_faults():
-    """The room of each kind is the one that its text fits in by the contract, and no wrapper hands over less."""
+def length_faults():
+    """The greatest length of each kind is that of the contract, and no wrapper has a smaller buffer."""
     text = HEADER.read_text()
-    rust = int(re.search(r"(?m)^pub const ROOM: usize = (\d+);$", (LANGUAGES / "rust/src/call.rs").read_text())[1])
-    python = int(re.search(r"room, size = ctypes.create_string_buffer\((\d+)\)", (LANGUAGES / "python/vbson.py").read_text())[1])
+    rust = int(re.search(r"(?m)^pub const MAX_LENGTH: usize = (\d+);$", (LANGUAGES / "rust/src/call.rs").read_text())[1])
+    python = int(re.search(r"buffer, size = ctypes.create_string_buffer\((\d+)\)", (LANGUAGES / "python/vbson.py").read_text())[1])
     for name, (_, _, contract) in exports().items():
-        fits = re.search(r"ensures fits \{ (\d+) ≤ length room.old → result ≢ 8 \}", contract)
+        fits = re.search(r"ensures fits \{ (\d+) ≤ length buffer.old → result ≢ 8 \}", contract)
         if name.endswith("_print"):
             kind = name.removeprefix("vbson_").removesuffix("_print").upper()
-            is_right = fits and f"#define VBSON_{kind}_ROOM {fits[1]}\n" in text and int(fits[1]) <= min(rust, python)
-            yield f"the room of {name}", None if is_right else "vbson.h, a wrapper and the contract have other numbers"
+            is_right = fits and f"#define VBSON_{kind}_MAX_LENGTH {fits[1]}\n" in text and int(fits[1]) <= min(rust, python)
+            yield f"the greatest length of {name}", None if is_right else "vbson.h, a wrapper and the contract have other numbers"
 
 
 def text_fault():
     source = (SOURCES / "text.rt").read_text()
     wanted = "#[repr(C)]\n#[derive(Drop)]\npub struct Text<'a> {\n    pub bytes: &'a [u8],\n    pub len: usize,\n}"
     has_fields = wanted in source
-    fields = re.search(r"typedef struct vbson_text \{(.*?)\} vbson_text;", HEADER.read_text(), flags=re.S)[1]
+    fields = re.search(r"typedef struct vbson_buffer \{(.*?)\} vbson_buffer;", HEADER.read_text(), flags=re.S)[1]
     names = re.findall(r"(\S[^;/*]*\*?\w+);", re.sub(r"/\*.*?\*/", "", fields))
     return None if has_fields and names == ["const uint8_t *bytes", "size_t size", "size_t len"] else f"{names}"
 
 
 def block_fault(name, file, numbers):
     """Two texts and two numbers, as the sources, the header and the wrapper in Rust have them."""
-    wanted = f"#[repr(C)]\n#[derive(Drop)]\npub struct {name}<'a> {{\n    pub text: Text<'a>,\n    pub told: Text<'a>,\n"
-    rust = f"pub struct Raw{name} {{\n    pub text: RawText,\n    pub told: RawText,\n"
+    wanted = f"#[repr(C)]\n#[derive(Drop)]\npub struct {name}<'a> {{\n    pub text: Text<'a>,\n    pub diagnostics: Text<'a>,\n"
+    rust = f"pub struct Raw{name} {{\n    pub text: RawText,\n    pub diagnostics: RawText,\n"
     behind = "".join(f"    pub {it}: u64,\n" for it in numbers) + "}"
     has_fields = wanted + behind in (SOURCES / file).read_text() and rust + behind in (LANGUAGES / "rust/src/call.rs").read_text()
     in_c = f"vbson_{name.lower()}"
     fields = re.search(rf"typedef struct {in_c} \{{(.*?)\}} {in_c};", HEADER.read_text(), flags=re.S)[1]
     names = re.findall(r"(\S[^;/*]*\w+);", re.sub(r"/\*.*?\*/", "", fields))
-    return None if has_fields and names == ["vbson_text text", "vbson_text told", *(f"uint64_t {it}" for it in numbers)] else f"{names}"
+    return None if has_fields and names == ["vbson_buffer text", "vbson_buffer diagnostics", *(f"uint64_t {it}" for it in numbers)] else f"{names}"
 
 
 def version():
@@ -221,10 +221,10 @@ def faults():
     yield from call_faults()
     yield from rust_faults()
     yield from status_faults()
-    yield from room_faults()
-    yield "the fields of vbson_text", text_fault()
+    yield from length_faults()
+    yield "the fields of vbson_buffer", text_fault()
     yield "the fields of vbson_lines", block_fault("Lines", "lines.rt", ("lines", "refused"))
-    yield "the fields of vbson_documents", block_fault("Documents", "dump.rt", ("documents", "done"))
+    yield "the fields of vbson_documents", block_fault("Documents", "dump.rt", ("documents", "consumed"))
     yield from version_faults()
 
 

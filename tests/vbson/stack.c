@@ -44,15 +44,15 @@ static void nest_documents(int tag, int times) {
 static uint32_t status;
 
 static uint32_t lines_status(uint32_t flags) {
-    vbson_lines out = VBSON_LINES_NONE;
+    vbson_lines out = VBSON_LINES_INIT;
     uint32_t done = vbson_convert_lines(VBSON_CANONICAL, flags, TEXT(text), &out);
-    vbson_text_free(&out.text);
-    vbson_text_free(&out.told);
+    vbson_buffer_free(&out.text);
+    vbson_buffer_free(&out.diagnostics);
     return done;
 }
 
 static void *calls(void *kind) {
-    vbson_text out = VBSON_TEXT_NONE;
+    vbson_buffer out = VBSON_BUFFER_INIT;
     uint64_t number;
     int it = *(int *)kind;
     if (it < 3) status = vbson_convert((uint32_t)it, TEXT(text), &out);
@@ -71,7 +71,7 @@ static void *calls(void *kind) {
     else if (it == 8) status = vbson_is_document(document, document_len);
     else if (it == 9) status = vbson_explain_document(document, document_len, &out);
     else status = vbson_decode((uint32_t)it - 10, 0, document, document_len, &out);
-    vbson_text_free(&out);
+    vbson_buffer_free(&out);
     return NULL;
 }
 
@@ -107,18 +107,18 @@ static void count(int kind) {
 static void all_kinds(uint32_t wanted, uint32_t encoded) {
     for (int kind = 0; kind < 8; kind++) {
         count(kind);
-        CHECK(status == (kind < 6 ? wanted : kind == 6 ? VBSON_DONE : encoded));
+        CHECK(status == (kind < 6 ? wanted : kind == 6 ? VBSON_OK : encoded));
     }
     for (int kind = 13; kind < 17; kind++) {
         count(kind);
-        CHECK(status == (kind < 15 ? VBSON_DONE : kind == 15 ? wanted : encoded));
+        CHECK(status == (kind < 15 ? VBSON_OK : kind == 15 ? wanted : encoded));
     }
 }
 
 static void all_of_documents(uint32_t wanted) {
     for (int kind = 8; kind < 13; kind++) {
         count(kind);
-        CHECK(status == (kind == 9 ? VBSON_DONE : wanted));
+        CHECK(status == (kind == 9 ? VBSON_OK : wanted));
     }
     for (int kind = 17; kind < 20; kind++) {
         count(kind);
@@ -128,15 +128,15 @@ static void all_of_documents(uint32_t wanted) {
 
 int main(void) {
     nest("[", "]", 127);
-    all_kinds(VBSON_DONE, VBSON_NO_DOCUMENT);
+    all_kinds(VBSON_OK, VBSON_NOT_A_DOCUMENT);
     nest("{\"b\":1,\"a\":", "}", 127);
-    all_kinds(VBSON_DONE, VBSON_DONE);
+    all_kinds(VBSON_OK, VBSON_OK);
     nest("{\"$code\":\"f\",\"$scope\":{\"b\":2,\"a\":", "}}", 63);
-    all_kinds(VBSON_DONE, VBSON_NO_DOCUMENT);
+    all_kinds(VBSON_OK, VBSON_NOT_A_DOCUMENT);
     nest("{\"$scope\":{\"b\":2,\"a\":", "},\"$code\":\"f\"}", 63);
-    all_kinds(VBSON_DONE, VBSON_NO_DOCUMENT);
+    all_kinds(VBSON_OK, VBSON_NOT_A_DOCUMENT);
     nest("{\"$scope\":", "}", 127);
-    all_kinds(VBSON_DONE, VBSON_DONE);
+    all_kinds(VBSON_OK, VBSON_OK);
     nest("[", "]", 128);
     all_kinds(VBSON_NOT_JSON, VBSON_NOT_JSON);
     nest("{\"a\":", "}", 9000);
@@ -144,11 +144,11 @@ int main(void) {
     static const int tags[] = {3, 4, 15};
     for (int i = 0; i < 3; i++) {
         nest_documents(tags[i], 99);
-        all_of_documents(VBSON_DONE);
+        all_of_documents(VBSON_OK);
         nest_documents(tags[i], 100);
-        all_of_documents(VBSON_NO_DOCUMENT);
+        all_of_documents(VBSON_NOT_A_DOCUMENT);
         nest_documents(tags[i], 3000);
-        all_of_documents(VBSON_NO_DOCUMENT);
+        all_of_documents(VBSON_NOT_A_DOCUMENT);
     }
     printf("the deepest texts and documents used %zu KiB of the stack, texts in order %zu KiB\n", most >> 10, most_in_order >> 10);
     return end();

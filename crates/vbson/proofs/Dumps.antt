@@ -12,19 +12,19 @@ wrote : (had holds output : List ℕ) → holds ≡ had ++ output → had ≡ []
 wrote had holds output is none = sym (is ∙ ap (λ x. x ++ output) none)
 
 -- it ended at a document, for a fault of its bytes, which the verdict behind the others names
-pub cut_block : (run : Run) (block had output held told all : List ℕ) (after : Option (List ℕ)) (fault : RunFault)
+pub cut_block : (run : Run) (block had output held diagnostics all : List ℕ) (after : Option (List ℕ)) (fault : RunFault)
     (number refused start : ℕ)
-    → EndsAt run (Some block) after (Some had) (Some output) (Some held) (Some told) fault number refused start
-    → had ≡ [] → held ≡ [] → IsOfBytes fault → all ≡ told ++ told_of number start fault
+    → EndsAt run (Some block) after (Some had) (Some output) (Some held) (Some diagnostics) fault number refused start
+    → had ≡ [] → held ≡ [] → IsOfBytes fault → all ≡ diagnostics ++ told_of number start fault
     → GivesDocuments run block output all number start
-cut_block run block had output held told all after fault number refused start h none also is said =
+cut_block run block had output held diagnostics all after fault number refused start h none also is said =
     let (out, tells, inside, written, reported) =
-    ends_inside run block after (Some had) (Some output) (Some held) (Some told) fault number refused start h is in
+    ends_inside run block after (Some had) (Some output) (Some held) (Some diagnostics) fault number refused start h is in
     inr (record {
-      told = told;
+      diagnostics = diagnostics;
       refused = refused;
       fault = fault;
-      cut = subst (λ x. EndsInside run block x told fault number refused start) (wrote had output out written none)
-          (subst (λ x. EndsInside run block out x fault number refused start) (wrote held told tells reported also) inside);
+      cut = subst (λ x. EndsInside run block x diagnostics fault number refused start) (wrote had output out written none)
+          (subst (λ x. EndsInside run block out x fault number refused start) (wrote held diagnostics tells reported also) inside);
       said = said;
     })

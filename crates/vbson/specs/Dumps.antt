@@ -27,41 +27,41 @@ line_of AsGiven Canonical = TextInOrder form.Canonical
 line_of AsGiven Relaxed = TextInOrder form.Relaxed
 line_of AsGiven Show = Shown
 
--- a document that is refused is told and passed over
+-- a document that is refused is reported and passed over
 abbrev pub run_of : KeyOrder → Options → Mode → Run
 run_of k o mode = record { depth = depth; options = o; line = line_of k mode; keep_going = true }
 
 -- the block is so many documents, which give this output and these verdicts
-pub record AreAll (run : Run) (block output verdicts : List ℕ) (count done : ℕ) : Type 0 where
+pub record AreAll (run : Run) (block output verdicts : List ℕ) (count consumed : ℕ) : Type 0 where
   pub refused : ℕ
   pub documents : Dump run block output verdicts count refused
-  pub whole : done ≡ length block
+  pub whole : consumed ≡ length block
 
 -- the documents before the last give this output; the block ends early at the last, for a fault of its bytes, which the
 -- verdict behind theirs names
-pub record AreCut (run : Run) (block output verdicts : List ℕ) (count done : ℕ) : Type 0 where
-  pub told : List ℕ
+pub record AreCut (run : Run) (block output verdicts : List ℕ) (count consumed : ℕ) : Type 0 where
+  pub diagnostics : List ℕ
   pub refused : ℕ
   pub fault : RunFault
-  pub cut : EndsInside run block output told fault count refused done
-  pub said : verdicts ≡ told ++ told_of count done fault
+  pub cut : EndsInside run block output diagnostics fault count refused consumed
+  pub said : verdicts ≡ diagnostics ++ told_of count consumed fault
 
-abbrev pub GivesDocuments : Run → (block output verdicts : List ℕ) → (count done : ℕ) → Type 0
-GivesDocuments run block output verdicts count done =
-    AreAll run block output verdicts count done ⊎ AreCut run block output verdicts count done
+abbrev pub GivesDocuments : Run → (block output verdicts : List ℕ) → (count consumed : ℕ) → Type 0
+GivesDocuments run block output verdicts count consumed =
+    AreAll run block output verdicts count consumed ⊎ AreCut run block output verdicts count consumed
 
 -- what is left is the output and the verdicts of the documents in the mode of the number, and these counts
 pub record AreDecoded (k : KeyOrder) (o : Options) (number : ℕ) (block : List ℕ) (out : given.Documents) : Type 0 where
   pub mode : Mode
   pub named : mode_at number ≡ Some mode
   pub text : List ℕ
-  pub told : List ℕ
-  pub gives : GivesDocuments (run_of k o mode) block text told out.documents out.done
+  pub diagnostics : List ℕ
+  pub gives : GivesDocuments (run_of k o mode) block text diagnostics out.documents out.consumed
   pub is_text : IsText text out.text
-  pub is_told : IsText told out.told
+  pub are_diagnostics : IsText diagnostics out.diagnostics
 
 -- ---- for private clauses
 
 -- the verdicts, and that on the last document
-abbrev pub EndsAs : RunEnd → (told all : List ℕ) → Type 0
-EndsAs end told all = IsOfBytes end.fault × (all ≡ told ++ told_of end.number end.start end.fault)
+abbrev pub EndsAs : RunEnd → (diagnostics all : List ℕ) → Type 0
+EndsAs end diagnostics all = IsOfBytes end.fault × (all ≡ diagnostics ++ told_of end.number end.start end.fault)

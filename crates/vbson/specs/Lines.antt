@@ -31,10 +31,10 @@ pub record GivesLines (o : Options) (task : Task) (block output verdicts : List 
 -- what is left is the output and the verdicts of the lines by the task, and these counts
 pub record AreGiven (o : Options) (task : Task) (block : List ℕ) (out : Lines) : Type 0 where
   pub text : List ℕ
-  pub told : List ℕ
-  pub gives : GivesLines o task block text told out.lines out.refused
+  pub diagnostics : List ℕ
+  pub gives : GivesLines o task block text diagnostics out.lines out.refused
   pub is_text : IsText text out.text
-  pub is_told : IsText told out.told
+  pub are_diagnostics : IsText diagnostics out.diagnostics
 
 -- the same where each line is converted in the mode of the number
 pub record AreConverted (k : KeyOrder) (o : Options) (number : ℕ) (block : List ℕ) (out : Lines) : Type 0 where

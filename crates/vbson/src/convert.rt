@@ -78,16 +78,16 @@ pub extern "C" fn vbson_convert_with(
     ensures kept { 0 < result → out.new ≡ out.old }
 {
     if has_others(flags) {
-        return status::NO_MODE;
+        return status::INVALID_ARGUMENT;
     }
     let Some(mode) = mode_of(mode) else {
-        return status::NO_MODE;
+        return status::INVALID_ARGUMENT;
     };
     match convert_text(alloc, order_of(flags), options_of(flags), mode, text) {
         Ok(line) => *out = text_of_line(line),
         Err(fault) => return status_of(fault),
     }
-    status::DONE
+    status::OK
 }
 
 // The text in the mode, with keys in the order, and a newline.
@@ -136,7 +136,7 @@ pub fn status_of(fault: Error) -> u32
             Reason::BadObjectId(_) => status::BAD_OBJECT_ID,
             Reason::WrongShape(_) => status::NOT_EXTENDED_JSON,
         },
-        Error::NoBytes(NoBytes::NoDocument) => status::NO_DOCUMENT,
+        Error::NoBytes(NoBytes::NoDocument) => status::NOT_A_DOCUMENT,
         Error::NoBytes(NoBytes::ZeroInKey) => status::ZERO_IN_KEY,
         Error::NoBytes(NoBytes::ZeroInRegex) => status::ZERO_IN_REGEX,
         Error::NoBytes(NoBytes::TooLong) => status::TOO_LONG,

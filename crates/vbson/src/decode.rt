@@ -43,16 +43,16 @@ pub extern "C" fn vbson_decode(
     ensures kept { 0 < result → out.new ≡ out.old }
 {
     if has_others(flags) {
-        return status::NO_MODE;
+        return status::INVALID_ARGUMENT;
     }
     let Some(mode) = mode_of(mode) else {
-        return status::NO_MODE;
+        return status::INVALID_ARGUMENT;
     };
     match decode_document(alloc, order_of(flags), options_of(flags), mode, bytes) {
         Ok(line) => *out = text_of_line(line),
         Err(status) => return status,
     }
-    status::DONE
+    status::OK
 }
 
 // The text in the mode of the document that the bytes are, and a newline; or the status.
@@ -69,7 +69,7 @@ fn decode_document(
 {
     match from_slice(alloc, bytes, DEPTH) {
         Ok(document) => write_document(alloc, order, options, mode, document),
-        Err(Error::Malformed { .. }) => Err(status::NO_DOCUMENT),
+        Err(Error::Malformed { .. }) => Err(status::NOT_A_DOCUMENT),
         Err(Error::OutOfMemory) => Err(status::OUT_OF_MEMORY),
     }
 }
@@ -100,7 +100,7 @@ fn write_document(
     };
     match text {
         Ok(text) => as_line(text.into_bytes()),
-        Err(WriteError::FiniteDouble) => Err(status::NO_TEXT),
+        Err(WriteError::FiniteDouble) => Err(status::NOT_REPRESENTABLE),
         Err(WriteError::OutOfMemory) => Err(status::OUT_OF_MEMORY),
     }
 }

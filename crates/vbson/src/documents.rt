@@ -17,8 +17,8 @@ pub extern "C" fn vbson_is_document(bytes: &[u8]) -> u32
     ensures listed { (result ≡ 0) ⊎ (result ≡ 10) }
 {
     match is_document(bytes, DEPTH) {
-        Ok(()) => status::DONE,
-        Err(_) => status::NO_DOCUMENT,
+        Ok(()) => status::OK,
+        Err(_) => status::NOT_A_DOCUMENT,
     }
 }
 
@@ -38,7 +38,7 @@ pub extern "C" fn vbson_explain_document(
         Ok(line) => *out = text_of_line(line),
         Err(_) => return status::OUT_OF_MEMORY,
     }
-    status::DONE
+    status::OK
 }
 
 // The words, and a newline.

@@ -17,15 +17,15 @@ use bson_codec::run_end::{RunEnd, RunFault};
 use bson_convert::mode::Mode;
 use std::alloc::Global;
 
-/// What a block of documents gives: the text of each, what is told of those that are refused, how
+/// What a block of documents gives: the text of each, the diagnostics of those that are refused, how
 /// many there are, and how many bytes stand before the one at which the block ends early, or all.
 #[repr(C)]
 #[derive(Drop)]
 pub struct Documents<'a> {
     pub text: Text<'a>,
-    pub told: Text<'a>,
+    pub diagnostics: Text<'a>,
     pub documents: u64,
-    pub done: u64,
+    pub consumed: u64,
 }
 
 /// Reads the block as documents one behind the other, and leaves the text of each in a mode, a line
@@ -48,10 +48,10 @@ pub extern "C" fn vbson_decode_documents(
     ensures kept { 0 < result → out.new ≡ out.old }
 {
     if has_others(flags) {
-        return status::NO_MODE;
+        return status::INVALID_ARGUMENT;
     }
     let Some(mode) = mode_of(mode) else {
-        return status::NO_MODE;
+        return status::INVALID_ARGUMENT;
     };
     let run = run_of(order_of(flags), options_of(flags), mode);
     let Some(given) = decode_block(alloc, run, block) else {
@@ -59,11 +59,11 @@ pub extern "C" fn vbson_decode_documents(
     };
     *out = Documents {
         text: text_of_line(given.text),
-        told: text_of_line(given.told),
+        diagnostics: text_of_line(given.diagnostics),
         documents: given.documents,
-        done: given.done,
+        consumed: given.consumed,
     };
-    status::DONE
+    status::OK
 }
 
 // What is asked of each document.
@@ -97,55 +97,65 @@ fn line_of(order: KeyOrder, mode: Mode) -> Line
 #[derive(Drop)]
 struct Given {
     text: Vec<u8>,
-    told: Vec<u8>,
+    diagnostics: Vec<u8>,
     documents: u64,
-    done: u64,
+    consumed: u64,
 }
 
 // What the documents of the block give; none when out of memory.
 fn decode_block(alloc: Global, run: Run, block: &[u8]) -> Option<Given>
-    ensures { IfSome result (λ given. (text : List ℕ) × (told : List ℕ)
-        × GivesDocuments run block.now text told given.documents given.done
-        × (given.text.items ≡ text ++ newline) × (given.told.items ≡ told ++ newline)) }
+    ensures { IfSome result (λ given. (text : List ℕ) × (diagnostics : List ℕ)
+        × GivesDocuments run block.now text diagnostics given.documents given.consumed
+        × (given.text.items ≡ text ++ newline) × (given.diagnostics.items ≡ diagnostics ++ newline)) }
 {
     let mut reader = block;
-    let (mut text, mut told) = (Vec::new(alloc), Vec::new(alloc));
-    match run_documents(alloc, run, &mut reader, &mut text, &mut told) {
-        Ok(counts) => with_newlines(text, told, counts.documents, block.len() as u64),
-        Err(end) => with_newlines(text, add_line(alloc, end, told)?, end.number, end.start),
+    let (mut text, mut diagnostics) = (Vec::new(alloc), Vec::new(alloc));
+    match run_documents(alloc, run, &mut reader, &mut text, &mut diagnostics) {
+        Ok(counts) => with_newlines(text, diagnostics, counts.documents, block.len() as u64),
+        Err(end) => with_newlines(
+            text,
+            add_line(alloc, end, diagnostics)?,
+            end.number,
+            end.start,
+        ),
     }
 }
 
 // The texts, with a newline more behind each; none when out of memory.
-fn with_newlines(text: Vec<u8>, told: Vec<u8>, documents: u64, done: u64) -> Option<Given>
+fn with_newlines(
+    text: Vec<u8>,
+    diagnostics: Vec<u8>,
+    documents: u64,
+    consumed: u64,
+) -> Option<Given>
     ensures { IfSome result (λ given. (given.text.items ≡ text.items ++ newline)
-        × (given.told.items ≡ told.items ++ newline) × (given.documents ≡ documents) × (given.done ≡ done)) }
+        × (given.diagnostics.items ≡ diagnostics.items ++ newline) × (given.documents ≡ documents) × (given.consumed ≡ consumed)) }
 {
-    let (Ok(text), Ok(told)) = (as_line(text), as_line(told)) else {
+    let (Ok(text), Ok(diagnostics)) = (as_line(text), as_line(diagnostics)) else {
         return None;
     };
     Some(Given {
         text,
-        told,
+        diagnostics,
         documents,
-        done,
+        consumed,
     })
 }
 
 // The verdicts, and that on the document at which the run ended; none where memory, a reader or a
 // writer was wanting.
-fn add_line(alloc: Global, end: RunEnd, mut told: Vec<u8>) -> Option<Vec<u8>>
-    ensures { IfSome result (λ all. EndsAs end told.items all.items) }
+fn add_line(alloc: Global, end: RunEnd, mut diagnostics: Vec<u8>) -> Option<Vec<u8>>
+    ensures { IfSome result (λ all. EndsAs end diagnostics.items all.items) }
 {
     match end.fault {
         RunFault::Malformed { .. } | RunFault::FiniteDouble => {
             let Ok(said) = end.to_line(alloc) else {
                 return None;
             };
-            let Ok(()) = told.extend_from_slice(said.as_bytes()) else {
+            let Ok(()) = diagnostics.extend_from_slice(said.as_bytes()) else {
                 return None;
             };
-            Some(told)
+            Some(diagnostics)
         }
         RunFault::CannotRead | RunFault::CannotWrite | RunFault::OutOfMemory => None,
     }

@@ -54,13 +54,13 @@ pub extern "C" fn vbson_encode(
     ensures kept { 0 < result → out.new ≡ out.old }
 {
     if has_others(flags) {
-        return status::NO_MODE;
+        return status::INVALID_ARGUMENT;
     }
     match encode_text(alloc, order_of(flags), options_of(flags), text) {
         Ok(line) => *out = text_of_line(line),
         Err(status) => return status,
     }
-    status::DONE
+    status::OK
 }
 
 // The bytes of the document that the text means, and a newline; or the status.

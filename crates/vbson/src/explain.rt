@@ -35,13 +35,13 @@ pub extern "C" fn vbson_explain(
     ensures kept { 0 < result → out.new ≡ out.old }
 {
     if flags > ALL {
-        return status::NO_MODE;
+        return status::INVALID_ARGUMENT;
     }
     match line_of(alloc, flags, text) {
         Ok(line) => *out = text_of_line(line),
         Err(_) => return status::OUT_OF_MEMORY,
     }
-    status::DONE
+    status::OK
 }
 
 // The words, and a newline.

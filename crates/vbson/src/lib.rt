@@ -7,10 +7,11 @@
 //! order: `status`, `flags`, `text` (a text that the caller has and frees) with `convert` (one text
 //! to another), `explain` (why a text is refused, and where) and `lines` (a block of lines), `values` (two texts by what they
 //! mean), `documents` (whether bytes are a document of BSON) with `decode` (their text), `encode`
-//! (the bytes of a text) and `dump` (a block of documents), and `room` (room of the caller's) with `scalars` (decimals, object ids,
+//! (the bytes of a text) and `dump` (a block of documents), and `buffer` (a buffer of the caller's) with `scalars` (decimals, object ids,
 //! moments).
 #![tactic(auto)]
 
+mod buffer;
 mod convert;
 mod decode;
 mod documents;
@@ -20,7 +21,6 @@ mod explain;
 mod flags;
 mod lines;
 mod reading;
-mod room;
 mod scalars;
 mod status;
 mod text;

@@ -14,13 +14,13 @@ use bson_run::lines::LineRun;
 use bson_run::order::{OnRefusal, Task};
 use std::alloc::Global;
 
-/// What a block of lines gives: what each is converted to, what is told of those that are refused,
+/// What a block of lines gives: what each is converted to, the diagnostics of those that are refused,
 /// how many lines there are, and how many are refused.
 #[repr(C)]
 #[derive(Drop)]
 pub struct Lines<'a> {
     pub text: Text<'a>,
-    pub told: Text<'a>,
+    pub diagnostics: Text<'a>,
     pub lines: u64,
     pub refused: u64,
 }
@@ -44,17 +44,17 @@ pub extern "C" fn vbson_convert_lines(
     ensures kept { 0 < result → out.new ≡ out.old }
 {
     if has_others(flags) {
-        return status::NO_MODE;
+        return status::INVALID_ARGUMENT;
     }
     let Some(mode) = mode_of(mode) else {
-        return status::NO_MODE;
+        return status::INVALID_ARGUMENT;
     };
     let task = task_of(order_of(flags), mode);
     let Some(lines) = lines_of(alloc, options_of(flags), task, block) else {
         return status::OUT_OF_MEMORY;
     };
     *out = lines;
-    status::DONE
+    status::OK
 }
 
 /// Reads each line of the block as one text of Extended JSON, and leaves the bytes of the document
@@ -76,14 +76,14 @@ pub extern "C" fn vbson_encode_lines(
     ensures kept { 0 < result → out.new ≡ out.old }
 {
     if has_others(flags) {
-        return status::NO_MODE;
+        return status::INVALID_ARGUMENT;
     }
     let task = encoding_of(order_of(flags));
     let Some(encoded) = lines_of(alloc, options_of(flags), task, block) else {
         return status::OUT_OF_MEMORY;
     };
     *out = encoded;
-    status::DONE
+    status::OK
 }
 
 // What is done with each line.
@@ -113,7 +113,7 @@ fn lines_of(alloc: Global, options: Options, task: Task, block: &[u8]) -> Option
     let given = run_block(alloc, options, task, block)?;
     Some(Lines {
         text: text_of_line(given.text),
-        told: text_of_line(given.told),
+        diagnostics: text_of_line(given.diagnostics),
         lines: given.lines,
         refused: given.refused,
     })
@@ -123,30 +123,30 @@ fn lines_of(alloc: Global, options: Options, task: Task, block: &[u8]) -> Option
 #[derive(Drop)]
 struct Given {
     text: Vec<u8>,
-    told: Vec<u8>,
+    diagnostics: Vec<u8>,
     lines: u64,
     refused: u64,
 }
 
 // The same with a newline more behind each text.
 fn run_block(alloc: Global, options: Options, task: Task, block: &[u8]) -> Option<Given>
-    ensures { IfSome result (λ given. (text : List ℕ) × (told : List ℕ)
-        × GivesLines options task block.now text told given.lines given.refused
-        × (given.text.items ≡ text ++ newline) × (given.told.items ≡ told ++ newline)) }
+    ensures { IfSome result (λ given. (text : List ℕ) × (diagnostics : List ℕ)
+        × GivesLines options task block.now text diagnostics given.lines given.refused
+        × (given.text.items ≡ text ++ newline) × (given.diagnostics.items ≡ diagnostics ++ newline)) }
 {
     let mut reader = block;
-    let (mut text, mut told) = (Vec::new(alloc), Vec::new(alloc));
+    let (mut text, mut diagnostics) = (Vec::new(alloc), Vec::new(alloc));
     let mut run = LineRun::new(alloc, task, OnRefusal::KeepGoing);
     run.options = options;
-    let Ok(counts) = run.run(alloc, &mut reader, &mut text, &mut told) else {
+    let Ok(counts) = run.run(alloc, &mut reader, &mut text, &mut diagnostics) else {
         return None;
     };
-    let (Ok(text), Ok(told)) = (as_line(text), as_line(told)) else {
+    let (Ok(text), Ok(diagnostics)) = (as_line(text), as_line(diagnostics)) else {
         return None;
     };
     Some(Given {
         text,
-        told,
+        diagnostics,
         lines: counts.lines,
         refused: counts.refused,
     })

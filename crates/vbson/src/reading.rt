@@ -75,7 +75,7 @@ pub fn value_of_document(alloc: Global, flags: u32, bytes: &[u8]) -> Result<Bson
     };
     match from_slice_with(alloc, options, bytes) {
         Ok(document) => Ok(Bson::Document(document)),
-        Err(de::Error::Malformed { .. }) => Err(status::NO_DOCUMENT),
+        Err(de::Error::Malformed { .. }) => Err(status::NOT_A_DOCUMENT),
         Err(de::Error::OutOfMemory) => Err(status::OUT_OF_MEMORY),
     }
 }

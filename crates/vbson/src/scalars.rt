@@ -6,9 +6,9 @@ ghost use Rattle.bson_types.specs.Oid.{IsOidText, encode_lower};
 ghost use Rattle.bson_datetime.specs.Grammar.{Names};
 ghost use Rattle.bson_datetime.specs.Moment.{IsRfcMillis};
 ghost use Rattle.bson_datetime.specs.Displayed.{rfc};
-ghost use Rattle.vbson.specs.Room.{HasNoRoom, IsPut};
+ghost use Rattle.vbson.specs.Buffer.{DoesNotFit, IsPut};
 
-use crate::room::put;
+use crate::buffer::put;
 use crate::status;
 use bson_datetime::{DateTime, Error as DateTimeError};
 use bson_decimal::Decimal128;
@@ -26,14 +26,14 @@ pub extern "C" fn vbson_decimal128_parse(text: &[u8], out: &mut [u8; 16]) -> u32
     ensures kept { 0 < result → out.new ≡ out.old }
 {
     let Ok(text) = str::from_utf8(text) else {
-        return status::NO_SUCH_TEXT;
+        return status::INVALID_STRING;
     };
     match Decimal128::from_str(text) {
         Ok(decimal) => {
             *out = decimal.bytes();
-            status::DONE
+            status::OK
         }
-        Err(_) => status::NO_SUCH_TEXT,
+        Err(_) => status::INVALID_STRING,
     }
 }
 
@@ -42,17 +42,17 @@ pub extern "C" fn vbson_decimal128_parse(text: &[u8], out: &mut [u8; 16]) -> u32
 pub extern "C" fn vbson_decimal128_print(
     alloc: Global,
     bytes: &[u8; 16],
-    room: &mut [u8],
+    buffer: &mut [u8],
     len: &mut usize,
 ) -> u32
-    ensures done { result ≡ 0 → IsPut (decimal_text bytes.now) room.old room.new len.new }
-    ensures no_room { result ≡ 8 → HasNoRoom (decimal_text bytes.now) room.old room.new len.new }
-    ensures fits { 42 ≤ length room.old → result ≢ 8 }
+    ensures done { result ≡ 0 → IsPut (decimal_text bytes.now) buffer.old buffer.new len.new }
+    ensures too_small { result ≡ 8 → DoesNotFit (decimal_text bytes.now) buffer.old buffer.new len.new }
+    ensures fits { 42 ≤ length buffer.old → result ≢ 8 }
     ensures listed { (result ≡ 0) ⊎ (result ≡ 5) ⊎ (result ≡ 8) }
-    ensures kept { result ≡ 5 → (room.new ≡ room.old) × (len.new ≡ len.old) }
+    ensures kept { result ≡ 5 → (buffer.new ≡ buffer.old) × (len.new ≡ len.old) }
 {
     match format!(in alloc; "{}", Decimal128::from_bytes(*bytes)) {
-        Ok(text) => put(text.as_bytes(), room, len),
+        Ok(text) => put(text.as_bytes(), buffer, len),
         Err(_) => status::OUT_OF_MEMORY,
     }
 }
@@ -68,23 +68,23 @@ pub extern "C" fn vbson_object_id_parse(text: &[u8], out: &mut [u8; 12]) -> u32
     match <[u8; 12] as FromHex>::from_hex(text) {
         Ok(id) => {
             *out = id;
-            status::DONE
+            status::OK
         }
-        Err(_) => status::NO_SUCH_TEXT,
+        Err(_) => status::INVALID_STRING,
     }
 }
 
 /// The 24 lower-case hexadecimal digits of the 12 bytes.
 #[unsafe(no_mangle)]
-pub extern "C" fn vbson_object_id_print(bytes: &[u8; 12], room: &mut [u8], len: &mut usize) -> u32
-    ensures done { result ≡ 0 → IsPut (encode_lower bytes.now) room.old room.new len.new }
-    ensures no_room { result ≡ 8 → HasNoRoom (encode_lower bytes.now) room.old room.new len.new }
-    ensures fits { 24 ≤ length room.old → result ≢ 8 }
+pub extern "C" fn vbson_object_id_print(bytes: &[u8; 12], buffer: &mut [u8], len: &mut usize) -> u32
+    ensures done { result ≡ 0 → IsPut (encode_lower bytes.now) buffer.old buffer.new len.new }
+    ensures too_small { result ≡ 8 → DoesNotFit (encode_lower bytes.now) buffer.old buffer.new len.new }
+    ensures fits { 24 ≤ length buffer.old → result ≢ 8 }
     ensures listed { (result ≡ 0) ⊎ (result ≡ 8) }
 {
     let mut digits = [0u8; 24];
     match hex::encode_to_slice(bytes.as_slice(), &mut digits) {
-        Ok(()) => put(&digits, room, len),
+        Ok(()) => put(&digits, buffer, len),
         Err(_) => unreachable!(),
     }
 }
@@ -99,14 +99,14 @@ pub extern "C" fn vbson_date_time_parse(text: &[u8], out: &mut i64) -> u32
     ensures kept { 0 < result → out.new ≡ out.old }
 {
     let Ok(text) = str::from_utf8(text) else {
-        return status::NO_SUCH_TEXT;
+        return status::INVALID_STRING;
     };
     match DateTime::parse_rfc3339_str(text) {
         Ok(moment) => {
             *out = moment.timestamp_millis();
-            status::DONE
+            status::OK
         }
-        Err(_) => status::NO_SUCH_TEXT,
+        Err(_) => status::INVALID_STRING,
     }
 }
 
@@ -116,20 +116,20 @@ pub extern "C" fn vbson_date_time_parse(text: &[u8], out: &mut i64) -> u32
 pub extern "C" fn vbson_date_time_print(
     alloc: Global,
     millis: i64,
-    room: &mut [u8],
+    buffer: &mut [u8],
     len: &mut usize,
 ) -> u32
-    ensures done { result ≡ 0 → IsPut (rfc millis) room.old room.new len.new }
-    ensures no_room { result ≡ 8 → HasNoRoom (rfc millis) room.old room.new len.new }
-    ensures fits { 24 ≤ length room.old → result ≢ 8 }
+    ensures done { result ≡ 0 → IsPut (rfc millis) buffer.old buffer.new len.new }
+    ensures too_small { result ≡ 8 → DoesNotFit (rfc millis) buffer.old buffer.new len.new }
+    ensures fits { 24 ≤ length buffer.old → result ≢ 8 }
     ensures no_text { result ≡ 7 → ¬ (IsRfcMillis millis) }
     ensures in_years { (result ≡ 0) ⊎ (result ≡ 8) → IsRfcMillis millis }
     ensures listed { (result ≡ 0) ⊎ (result ≡ 5) ⊎ (result ≡ 7) ⊎ (result ≡ 8) }
-    ensures kept { (result ≡ 5) ⊎ (result ≡ 7) → (room.new ≡ room.old) × (len.new ≡ len.old) }
+    ensures kept { (result ≡ 5) ⊎ (result ≡ 7) → (buffer.new ≡ buffer.old) × (len.new ≡ len.old) }
 {
     match DateTime::from_millis(millis).try_to_rfc3339_string(alloc) {
-        Ok(text) => put(text.as_bytes(), room, len),
-        Err(DateTimeError::CannotFormat { .. }) => status::NO_TEXT,
+        Ok(text) => put(text.as_bytes(), buffer, len),
+        Err(DateTimeError::CannotFormat { .. }) => status::NOT_REPRESENTABLE,
         Err(_) => status::OUT_OF_MEMORY,
     }
 }

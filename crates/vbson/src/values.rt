@@ -35,7 +35,7 @@ pub extern "C" fn vbson_same(alloc: Global, flags: u32, a: &[u8], b: &[u8]) -> u
     ensures listed { (result ≤ 5) ⊎ (result ≡ 9) }
 {
     if has_more_than_reading(flags) {
-        return status::NO_MODE;
+        return status::INVALID_ARGUMENT;
     }
     let left = match value_of_text(alloc, flags, a) {
         Ok(value) => value,
@@ -65,12 +65,12 @@ pub extern "C" fn vbson_hash(alloc: Global, flags: u32, text: &[u8], out: &mut u
     ensures kept { 0 < result → out.new ≡ out.old }
 {
     if has_more_than_reading(flags) {
-        return status::NO_MODE;
+        return status::INVALID_ARGUMENT;
     }
     match value_of_text(alloc, flags, text) {
         Ok(value) => {
             *out = hash_of(&value);
-            status::DONE
+            status::OK
         }
         Err(status) => status,
     }
@@ -92,7 +92,7 @@ pub extern "C" fn vbson_same_documents(alloc: Global, flags: u32, a: &[u8], b: &
     ensures listed { (result ≤ 1) ⊎ (result ≡ 5) ⊎ (result ≡ 9) ⊎ (result ≡ 10) }
 {
     if has_more_than_reading(flags) {
-        return status::NO_MODE;
+        return status::INVALID_ARGUMENT;
     }
     let left = match value_of_document(alloc, flags, a) {
         Ok(document) => document,
@@ -119,12 +119,12 @@ pub extern "C" fn vbson_hash_document(alloc: Global, flags: u32, bytes: &[u8], o
     ensures kept { 0 < result → out.new ≡ out.old }
 {
     if has_more_than_reading(flags) {
-        return status::NO_MODE;
+        return status::INVALID_ARGUMENT;
     }
     match value_of_document(alloc, flags, bytes) {
         Ok(document) => {
             *out = hash_of(&document);
-            status::DONE
+            status::OK
         }
         Err(status) => status,
     }
@@ -135,7 +135,7 @@ fn compare(left: &Bson, right: &Bson) -> u32
     ensures { result ≡ verdict (same (bson_view left.now) (bson_view right.now)) }
 {
     if left == right {
-        status::DONE
+        status::OK
     } else {
         status::DIFFERENT
     }

@@ -1,7 +1,7 @@
 //! The calls of `vbson.h` under safe signatures. A slice's pointer is never null, as the header wants it.
 use crate::ErrorKind;
 
-/// `vbson_text`.
+/// `vbson_buffer`.
 #[repr(C)]
 pub struct RawText {
     pub bytes: *const u8,
@@ -13,7 +13,7 @@ pub struct RawText {
 #[repr(C)]
 pub struct RawLines {
     pub text: RawText,
-    pub told: RawText,
+    pub diagnostics: RawText,
     pub lines: u64,
     pub refused: u64,
 }
@@ -22,9 +22,9 @@ pub struct RawLines {
 #[repr(C)]
 pub struct RawDocuments {
     pub text: RawText,
-    pub told: RawText,
+    pub diagnostics: RawText,
     pub documents: u64,
-    pub done: u64,
+    pub consumed: u64,
 }
 
 extern "C" {
@@ -44,24 +44,24 @@ extern "C" {
     fn vbson_encode_lines(flags: u32, block: *const u8, len: usize, out: *mut RawLines) -> u32;
     fn vbson_decode_documents(mode: u32, flags: u32, block: *const u8, len: usize, out: *mut RawDocuments) -> u32;
     fn vbson_decimal128_parse(text: *const u8, len: usize, out: *mut [u8; 16]) -> u32;
-    fn vbson_decimal128_print(bytes: *const [u8; 16], room: *mut u8, size: usize, len: *mut usize) -> u32;
+    fn vbson_decimal128_print(bytes: *const [u8; 16], buffer: *mut u8, size: usize, len: *mut usize) -> u32;
     fn vbson_object_id_parse(text: *const u8, len: usize, out: *mut [u8; 12]) -> u32;
-    fn vbson_object_id_print(bytes: *const [u8; 12], room: *mut u8, size: usize, len: *mut usize) -> u32;
+    fn vbson_object_id_print(bytes: *const [u8; 12], buffer: *mut u8, size: usize, len: *mut usize) -> u32;
     fn vbson_date_time_parse(text: *const u8, len: usize, out: *mut i64) -> u32;
-    fn vbson_date_time_print(millis: i64, room: *mut u8, size: usize, len: *mut usize) -> u32;
+    fn vbson_date_time_print(millis: i64, buffer: *mut u8, size: usize, len: *mut usize) -> u32;
 }
 
-const DONE: u32 = 0;
-const NO_MODE: u32 = 1;
+const OK: u32 = 0;
+const INVALID_ARGUMENT: u32 = 1;
 const NOT_JSON: u32 = 2;
 const BAD_OBJECT_ID: u32 = 3;
 const NOT_EXTENDED_JSON: u32 = 4;
 const OUT_OF_MEMORY: u32 = 5;
-const NO_SUCH_TEXT: u32 = 6;
-const NO_TEXT: u32 = 7;
-const NO_ROOM: u32 = 8;
+const INVALID_STRING: u32 = 6;
+const NOT_REPRESENTABLE: u32 = 7;
+const BUFFER_TOO_SMALL: u32 = 8;
 const DIFFERENT: u32 = 9;
-const NO_DOCUMENT: u32 = 10;
+const NOT_A_DOCUMENT: u32 = 10;
 const ZERO_IN_KEY: u32 = 11;
 const ZERO_IN_REGEX: u32 = 12;
 const TOO_LONG: u32 = 13;
@@ -76,7 +76,7 @@ pub const REJECT_DUPLICATE_KEYS: u32 = 4;
 pub const LEGACY: u32 = 8;
 
 /// No text of a small value is longer: see the ROOMs of `vbson.h`.
-pub const ROOM: usize = 64;
+pub const MAX_LENGTH: usize = 64;
 
 /// The archive's instructions, which it does not test for itself. (The answer is kept by `std`.)
 fn wants_processor() {
@@ -84,21 +84,21 @@ fn wants_processor() {
     assert!(has_all, "vbson needs a processor with SSE4.2 and POPCNT");
 }
 
-fn wants_done(status: u32) -> Result<(), ErrorKind> {
+fn expect_ok(status: u32) -> Result<(), ErrorKind> {
     match status {
-        DONE => Ok(()),
+        OK => Ok(()),
         NOT_JSON => Err(ErrorKind::NotJson),
         BAD_OBJECT_ID => Err(ErrorKind::BadObjectId),
         NOT_EXTENDED_JSON => Err(ErrorKind::NotExtendedJson),
         OUT_OF_MEMORY => Err(ErrorKind::OutOfMemory),
-        NO_SUCH_TEXT => Err(ErrorKind::NoSuchText),
-        NO_TEXT => Err(ErrorKind::NoText),
-        NO_DOCUMENT => Err(ErrorKind::NoDocument),
+        INVALID_STRING => Err(ErrorKind::InvalidString),
+        NOT_REPRESENTABLE => Err(ErrorKind::NotRepresentable),
+        NOT_A_DOCUMENT => Err(ErrorKind::NotADocument),
         ZERO_IN_KEY => Err(ErrorKind::ZeroInKey),
         ZERO_IN_REGEX => Err(ErrorKind::ZeroInRegex),
         TOO_LONG => Err(ErrorKind::TooLong),
-        // `Mode`, `Options` and `ReadOptions` have no other number, `ROOM` is enough, and `compared` looks for DIFFERENT.
-        NO_MODE | NO_ROOM | DIFFERENT => unreachable!(),
+        // `Mode`, `Options` and `ReadOptions` have no other number, `MAX_LENGTH` is enough, and `compared` looks for DIFFERENT.
+        INVALID_ARGUMENT | BUFFER_TOO_SMALL | DIFFERENT => unreachable!(),
         other => unreachable!("status {other}"),
     }
 }
@@ -130,7 +130,7 @@ pub fn explain(flags: u32, text: &[u8]) -> Result<RawText, ErrorKind> {
 pub fn is_document(bytes: &[u8]) -> bool {
     wants_processor();
     // SAFETY: the slice is readable.
-    unsafe { vbson_is_document(bytes.as_ptr(), bytes.len()) == DONE }
+    unsafe { vbson_is_document(bytes.as_ptr(), bytes.len()) == OK }
 }
 
 /// The words in a block of their own, as above.
@@ -154,27 +154,27 @@ pub fn encode(flags: u32, text: &[u8]) -> Result<RawText, ErrorKind> {
 /// The texts in blocks of their own, as above.
 pub fn convert_lines(mode: u32, flags: u32, block: &[u8]) -> Result<RawLines, ErrorKind> {
     wants_processor();
-    let mut out = RawLines { text: none(), told: none(), lines: 0, refused: 0 };
+    let mut out = RawLines { text: none(), diagnostics: none(), lines: 0, refused: 0 };
     // SAFETY: the slice is readable, and `out` is valid and overlaps nothing.
-    wants_done(unsafe { vbson_convert_lines(mode, flags, block.as_ptr(), block.len(), &mut out) })?;
+    expect_ok(unsafe { vbson_convert_lines(mode, flags, block.as_ptr(), block.len(), &mut out) })?;
     Ok(out)
 }
 
 /// The bytes and the text in blocks of their own, as above.
 pub fn encode_lines(flags: u32, block: &[u8]) -> Result<RawLines, ErrorKind> {
     wants_processor();
-    let mut out = RawLines { text: none(), told: none(), lines: 0, refused: 0 };
+    let mut out = RawLines { text: none(), diagnostics: none(), lines: 0, refused: 0 };
     // SAFETY: as above.
-    wants_done(unsafe { vbson_encode_lines(flags, block.as_ptr(), block.len(), &mut out) })?;
+    expect_ok(unsafe { vbson_encode_lines(flags, block.as_ptr(), block.len(), &mut out) })?;
     Ok(out)
 }
 
 /// The texts in blocks of their own, as above.
 pub fn decode_documents(mode: u32, flags: u32, block: &[u8]) -> Result<RawDocuments, ErrorKind> {
     wants_processor();
-    let mut out = RawDocuments { text: none(), told: none(), documents: 0, done: 0 };
+    let mut out = RawDocuments { text: none(), diagnostics: none(), documents: 0, consumed: 0 };
     // SAFETY: as above.
-    wants_done(unsafe { vbson_decode_documents(mode, flags, block.as_ptr(), block.len(), &mut out) })?;
+    expect_ok(unsafe { vbson_decode_documents(mode, flags, block.as_ptr(), block.len(), &mut out) })?;
     Ok(out)
 }
 
@@ -185,7 +185,7 @@ fn none() -> RawText {
 fn left(call: impl FnOnce(*mut RawText) -> u32) -> Result<RawText, ErrorKind> {
     wants_processor();
     let mut out = none();
-    wants_done(call(&mut out))?;
+    expect_ok(call(&mut out))?;
     Ok(out)
 }
 
@@ -203,7 +203,7 @@ fn compared(call: impl FnOnce() -> u32) -> Result<bool, ErrorKind> {
     wants_processor();
     match call() {
         DIFFERENT => Ok(false),
-        status => wants_done(status).map(|()| true),
+        status => expect_ok(status).map(|()| true),
     }
 }
 
@@ -220,7 +220,7 @@ pub fn hash_document(flags: u32, bytes: &[u8]) -> Result<u64, ErrorKind> {
 fn hashed(call: impl FnOnce(*mut u64) -> u32) -> Result<u64, ErrorKind> {
     wants_processor();
     let mut out = 0;
-    wants_done(call(&mut out))?;
+    expect_ok(call(&mut out))?;
     Ok(out)
 }
 
@@ -228,7 +228,7 @@ pub fn decimal128_parse(text: &[u8]) -> Result<[u8; 16], ErrorKind> {
     wants_processor();
     let mut out = [0; 16];
     // SAFETY: the slice is readable, and `out` overlaps nothing.
-    wants_done(unsafe { vbson_decimal128_parse(text.as_ptr(), text.len(), &mut out) })?;
+    expect_ok(unsafe { vbson_decimal128_parse(text.as_ptr(), text.len(), &mut out) })?;
     Ok(out)
 }
 
@@ -236,7 +236,7 @@ pub fn object_id_parse(text: &[u8]) -> Result<[u8; 12], ErrorKind> {
     wants_processor();
     let mut out = [0; 12];
     // SAFETY: the slice is readable, and `out` overlaps nothing.
-    wants_done(unsafe { vbson_object_id_parse(text.as_ptr(), text.len(), &mut out) })?;
+    expect_ok(unsafe { vbson_object_id_parse(text.as_ptr(), text.len(), &mut out) })?;
     Ok(out)
 }
 
@@ -244,32 +244,32 @@ pub fn date_time_parse(text: &[u8]) -> Result<i64, ErrorKind> {
     wants_processor();
     let mut out = 0;
     // SAFETY: the slice is readable, and `out` overlaps nothing.
-    wants_done(unsafe { vbson_date_time_parse(text.as_ptr(), text.len(), &mut out) })?;
+    expect_ok(unsafe { vbson_date_time_parse(text.as_ptr(), text.len(), &mut out) })?;
     Ok(out)
 }
 
-/// The room, and the length of the text that the call put at its front.
-pub type Printed = ([u8; ROOM], usize);
+/// The buffer, and the length of the string that the call wrote at its start.
+pub type Printed = ([u8; MAX_LENGTH], usize);
 
 pub fn decimal128_print(bytes: &[u8; 16]) -> Result<Printed, ErrorKind> {
-    // SAFETY: the bytes are readable, and the room and the length overlap nothing.
-    print(|room, len| unsafe { vbson_decimal128_print(bytes, room, ROOM, len) })
+    // SAFETY: the bytes are readable, and the buffer and the length overlap nothing.
+    print(|buffer, len| unsafe { vbson_decimal128_print(bytes, buffer, MAX_LENGTH, len) })
 }
 
 pub fn object_id_print(bytes: &[u8; 12]) -> Result<Printed, ErrorKind> {
     // SAFETY: as above.
-    print(|room, len| unsafe { vbson_object_id_print(bytes, room, ROOM, len) })
+    print(|buffer, len| unsafe { vbson_object_id_print(bytes, buffer, MAX_LENGTH, len) })
 }
 
 pub fn date_time_print(millis: i64) -> Result<Printed, ErrorKind> {
     // SAFETY: as above.
-    print(|room, len| unsafe { vbson_date_time_print(millis, room, ROOM, len) })
+    print(|buffer, len| unsafe { vbson_date_time_print(millis, buffer, MAX_LENGTH, len) })
 }
 
 fn print(call: impl FnOnce(*mut u8, *mut usize) -> u32) -> Result<Printed, ErrorKind> {
     wants_processor();
-    let mut room = [0; ROOM];
+    let mut buffer = [0; MAX_LENGTH];
     let mut len = 0;
-    wants_done(call(room.as_mut_ptr(), &mut len))?;
-    Ok((room, len))
+    expect_ok(call(buffer.as_mut_ptr(), &mut len))?;
+    Ok((buffer, len))
 }

@@ -32,9 +32,9 @@ pub fn is_document(bytes: &[u8]) -> bool {
 pub fn explain_document(bytes: &[u8]) -> Option<Error> {
     match call::explain_document(bytes).map(owned) {
         Ok(words) if words.is_empty() => None,
-        Ok(words) => Some(Error::explained(ErrorKind::NoDocument, &words)),
+        Ok(words) => Some(Error::explained(ErrorKind::NotADocument, &words)),
         Err(_) if is_document(bytes) => None,
-        Err(_) => Some(ErrorKind::NoDocument.into()),
+        Err(_) => Some(ErrorKind::NotADocument.into()),
     }
 }
 
@@ -42,7 +42,7 @@ pub fn explain_document(bytes: &[u8]) -> Option<Error> {
 ///
 /// # Errors
 ///
-/// `NoDocument`, with its place, if the first bytes are not a document, or the second are not: with
+/// `NotADocument`, with its place, if the first bytes are not a document, or the second are not: with
 /// `reject_duplicate_keys` also if a document in them has a duplicate key. `OutOfMemory` if an allocation fails.
 pub fn same_documents(options: ReadOptions, a: &[u8], b: &[u8]) -> Result<bool, Error> {
     call::same_documents(options.flags(), a, b).map_err(|kind| rejected(kind, options, &[a, b]))
@@ -60,9 +60,9 @@ pub fn hash_document(options: ReadOptions, bytes: &[u8]) -> Result<u64, Error> {
 
 /// The error for the first of the documents that is rejected. Only bytes with a duplicate key are rejected without words.
 fn rejected(kind: ErrorKind, options: ReadOptions, documents: &[&[u8]]) -> Error {
-    let is_rejected = |it: &&&[u8]| call::hash_document(options.flags(), it) == Err(ErrorKind::NoDocument);
+    let is_rejected = |it: &&&[u8]| call::hash_document(options.flags(), it) == Err(ErrorKind::NotADocument);
     match documents.iter().find(is_rejected) {
-        Some(it) if kind == ErrorKind::NoDocument => {
+        Some(it) if kind == ErrorKind::NotADocument => {
             explain_document(it).unwrap_or_else(|| Error::explained(kind, "no document (a duplicate key)"))
         }
         _ => kind.into(),
@@ -72,12 +72,12 @@ fn rejected(kind: ErrorKind, options: ReadOptions, documents: &[&[u8]]) -> Error
 /// The text, in the mode, of the document that the bytes are.
 ///
 /// In the two forms keys come out in ascending order at every depth, unless `keep_order` has the document's own, and a
-/// finite double other than 0.0 is `NoText` without the option for it; `Mode::Show` has the document's own order, and every
-/// double. Of a key that stands twice the last value counts. `NoDocument`, with its place, where the bytes are none.
+/// finite double other than 0.0 is `NotRepresentable` without the option for it; `Mode::Show` has the document's own order, and every
+/// double. Of a key that stands twice the last value counts. `NotADocument`, with its place, where the bytes are none.
 pub fn decode(mode: Mode, options: Options, bytes: &[u8]) -> Result<Text, Error> {
     match call::decode(mode as u32, options.flags(), bytes) {
         Ok(raw) => Ok(owned(raw)),
-        Err(ErrorKind::NoDocument) => Err(explain_document(bytes).unwrap_or_else(|| ErrorKind::NoDocument.into())),
+        Err(ErrorKind::NotADocument) => Err(explain_document(bytes).unwrap_or_else(|| ErrorKind::NotADocument.into())),
         Err(kind) => Err(kind.into()),
     }
 }
@@ -85,7 +85,7 @@ pub fn decode(mode: Mode, options: Options, bytes: &[u8]) -> Result<Text, Error>
 /// The canonical bytes of the document that a text of Extended JSON means, keys in ascending order, or with `keep_order`
 /// in that of the text.
 ///
-/// `NoDocument` where the text means another value; `ZeroInKey`, `ZeroInRegex` or `TooLong` where the document has no
+/// `NotADocument` where the text means another value; `ZeroInKey`, `ZeroInRegex` or `TooLong` where the document has no
 /// bytes; what is no Extended JSON with its place, as of `convert_with`.
 pub fn encode(options: Options, text: &[u8]) -> Result<Bytes, Error> {
     match call::encode(options.flags(), text) {

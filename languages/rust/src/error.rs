@@ -13,11 +13,11 @@ pub enum ErrorKind {
     /// A request for memory was refused.
     OutOfMemory,
     /// The text is none of the kind that was asked for.
-    NoSuchText,
+    InvalidString,
     /// The value has no text of the kind that was asked for: of a document, a finite double without the option for it.
-    NoText,
+    NotRepresentable,
     /// The bytes are no document of BSON, or the text means another value than a document.
-    NoDocument,
+    NotADocument,
     /// A key of the document has a 0 byte in it, which would end it.
     ZeroInKey,
     /// The pattern or the options of a regular expression of the document have a 0 byte in them.
@@ -33,9 +33,9 @@ impl ErrorKind {
             ErrorKind::BadObjectId => "bad object id",
             ErrorKind::NotExtendedJson => "not Extended JSON",
             ErrorKind::OutOfMemory => "out of memory",
-            ErrorKind::NoSuchText => "no such text",
-            ErrorKind::NoText => "no text",
-            ErrorKind::NoDocument => "no document",
+            ErrorKind::InvalidString => "no such text",
+            ErrorKind::NotRepresentable => "no text",
+            ErrorKind::NotADocument => "no document",
             ErrorKind::ZeroInKey => "a key has a 0 byte in it",
             ErrorKind::ZeroInRegex => "a regular expression has a 0 byte in it",
             ErrorKind::TooLong => "a part is too long for BSON",
@@ -60,13 +60,13 @@ impl Error {
     /// Where the fault of a text lies: `orders.0.price`, or `column 7` of what is no JSON. Of
     /// bytes that are no document, the number of bytes before the fault, as `byte 4`.
     /// Empty where the fault is that of the whole text, and where the call reads neither.
-    pub fn at(&self) -> &str {
+    pub fn path(&self) -> &str {
         self.parts().0
     }
 
     /// What is wrong there: `a number is no whole number of 64 bits; found 1.5`, or of what is no JSON the rule that is
     /// broken, as `a comma or a bracket is missing`; else the words for the kind.
-    pub fn why(&self) -> &str {
+    pub fn reason(&self) -> &str {
         Some(self.parts().1).filter(|it| !it.is_empty()).unwrap_or(self.kind.words())
     }
 

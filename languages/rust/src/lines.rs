@@ -21,8 +21,8 @@ pub struct Lines {
 /// error.
 pub fn convert_lines(mode: Mode, options: Options, block: &[u8]) -> Result<Lines, Error> {
     let raw = call::convert_lines(mode as u32, options.flags(), block)?;
-    let (text, told) = (owned(raw.text), owned(raw.told));
-    Ok(Lines { text, count: raw.lines, refused: refusals(&told) })
+    let (text, diagnostics) = (owned(raw.text), owned(raw.diagnostics));
+    Ok(Lines { text, count: raw.lines, refused: refusals(&diagnostics) })
 }
 
 /// What the lines of a block give, each the bytes of a document.
@@ -40,8 +40,8 @@ pub struct EncodedLines {
 /// `convert_lines`. Only running out of memory is an error.
 pub fn encode_lines(options: Options, block: &[u8]) -> Result<EncodedLines, Error> {
     let raw = call::encode_lines(options.flags(), block)?;
-    let (bytes, told) = (Bytes(Block::of(raw.text)), owned(raw.told));
-    Ok(EncodedLines { bytes, count: raw.lines, refused: refusals(&told) })
+    let (bytes, diagnostics) = (Bytes(Block::of(raw.text)), owned(raw.diagnostics));
+    Ok(EncodedLines { bytes, count: raw.lines, refused: refusals(&diagnostics) })
 }
 
 /// What the documents of a block give.
@@ -52,7 +52,7 @@ pub struct Documents {
     /// How many documents there are, refused ones too.
     pub count: u64,
     /// The bytes of the block that were documents: all, or those before the one at which it ends early.
-    pub done: u64,
+    pub consumed: u64,
     /// Those that are refused.
     pub refused: Vec<RefusedDocument>,
 }
@@ -75,21 +75,21 @@ pub struct RefusedDocument {
 /// error.
 pub fn decode_documents(mode: Mode, options: Options, block: &[u8]) -> Result<Documents, Error> {
     let raw = call::decode_documents(mode as u32, options.flags(), block)?;
-    let (text, told) = (owned(raw.text), owned(raw.told));
-    let refused = told.lines().map(|it| refused_document(it).expect("a verdict has a number and a place")).collect();
-    Ok(Documents { text, count: raw.documents, done: raw.done, refused })
+    let (text, diagnostics) = (owned(raw.text), owned(raw.diagnostics));
+    let refused = diagnostics.lines().map(|it| refused_document(it).expect("a diagnostic has a number and an offset")).collect();
+    Ok(Documents { text, count: raw.documents, consumed: raw.consumed, refused })
 }
 
-/// What is told of lines that are refused.
-fn refusals(told: &str) -> Vec<(u64, Error)> {
-    told.lines().map(|verdict| refusal(verdict).expect("a verdict has a number and a kind")).collect()
+/// The errors of rejected lines.
+fn refusals(diagnostics: &str) -> Vec<(u64, Error)> {
+    diagnostics.lines().map(|it| refusal(it).expect("a diagnostic has a number and a kind")).collect()
 }
 
 /// The number and the error of a verdict, `bson_lines: line 3: not JSON at column 7 (no value begins so)`.
 fn refusal(verdict: &str) -> Option<(u64, Error)> {
     let (number, words) = verdict.strip_prefix("bson_lines: line ")?.split_once(": ")?;
     let of_texts = [ErrorKind::NotJson, ErrorKind::BadObjectId, ErrorKind::NotExtendedJson];
-    let of_bytes = [ErrorKind::NoDocument, ErrorKind::ZeroInKey, ErrorKind::ZeroInRegex, ErrorKind::TooLong];
+    let of_bytes = [ErrorKind::NotADocument, ErrorKind::ZeroInKey, ErrorKind::ZeroInRegex, ErrorKind::TooLong];
     let kind = of_texts.into_iter().chain(of_bytes).find(|it| words.starts_with(&it.to_string()))?;
     Some((number.parse().ok()?, Error::explained(kind, words)))
 }
@@ -99,8 +99,8 @@ fn refused_document(verdict: &str) -> Option<RefusedDocument> {
     let (head, words) = verdict.strip_prefix("document ")?.split_once(": ")?;
     let (number, start) = head.split_once(" at byte ")?;
     let error = match words.rsplit_once(" at its byte ") {
-        Some((why, at)) => Error::explained(ErrorKind::NoDocument, &format!("no document at byte {at} ({why})")),
-        None => ErrorKind::NoText.into(),
+        Some((why, at)) => Error::explained(ErrorKind::NotADocument, &format!("no document at byte {at} ({why})")),
+        None => ErrorKind::NotRepresentable.into(),
     };
     Some(RefusedDocument { number: number.parse().ok()?, start: start.parse().ok()?, error })
 }

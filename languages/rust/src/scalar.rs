@@ -19,7 +19,7 @@ pub struct DateTime(pub i64);
 impl FromStr for Decimal128 {
     type Err = Error;
 
-    /// No value is rounded: a text with too many digits is `NoSuchText`, as any other that is no decimal.
+    /// No value is rounded: a text with too many digits is `InvalidString`, as any other that is no decimal.
     fn from_str(text: &str) -> Result<Decimal128, Error> {
         Ok(Decimal128(call::decimal128_parse(text.as_bytes())?))
     }
@@ -28,7 +28,7 @@ impl FromStr for Decimal128 {
 impl FromStr for ObjectId {
     type Err = Error;
 
-    /// 24 hexadecimal digits of either case; else `NoSuchText`.
+    /// 24 hexadecimal digits of either case; else `InvalidString`.
     fn from_str(text: &str) -> Result<ObjectId, Error> {
         Ok(ObjectId(call::object_id_parse(text.as_bytes())?))
     }
@@ -37,14 +37,14 @@ impl FromStr for ObjectId {
 impl FromStr for DateTime {
     type Err = Error;
 
-    /// A text of RFC 3339 (section 5.6); else `NoSuchText`.
+    /// A text of RFC 3339 (section 5.6); else `InvalidString`.
     fn from_str(text: &str) -> Result<DateTime, Error> {
         Ok(DateTime(call::date_time_parse(text.as_bytes())?))
     }
 }
 
 impl DateTime {
-    /// The text of RFC 3339, in UTC. `NoText` outside the years 0000 to 9999.
+    /// The text of RFC 3339, in UTC. `NotRepresentable` outside the years 0000 to 9999.
     pub fn to_rfc3339(self) -> Result<String, Error> {
         let printed = call::date_time_print(self.0)?;
         Ok(text_of(&printed).to_owned())

@@ -57,10 +57,10 @@ fn faults_are_told() {
     assert_eq!(kind(convert(Mode::Relaxed, br#"{"$oid":"zz"}"#)), Some(ErrorKind::BadObjectId));
     assert_eq!(kind(same(ReadOptions::default(), b"1", b"{")), Some(ErrorKind::NotJson));
     assert_eq!(kind(hash(ReadOptions::default(), b"1.5")), Some(ErrorKind::NotExtendedJson));
-    assert_eq!(kind("1.2.3".parse::<Decimal128>()), Some(ErrorKind::NoSuchText));
-    assert_eq!(kind("53e3".parse::<ObjectId>()), Some(ErrorKind::NoSuchText));
-    assert_eq!(kind("2020".parse::<DateTime>()), Some(ErrorKind::NoSuchText));
-    assert_eq!(DateTime(i64::MAX).to_rfc3339(), Err(ErrorKind::NoText.into()));
+    assert_eq!(kind("1.2.3".parse::<Decimal128>()), Some(ErrorKind::InvalidString));
+    assert_eq!(kind("53e3".parse::<ObjectId>()), Some(ErrorKind::InvalidString));
+    assert_eq!(kind("2020".parse::<DateTime>()), Some(ErrorKind::InvalidString));
+    assert_eq!(DateTime(i64::MAX).to_rfc3339(), Err(ErrorKind::NotRepresentable.into()));
     assert_eq!(ErrorKind::NotExtendedJson.to_string(), "not Extended JSON");
 }
 
@@ -85,13 +85,13 @@ fn places_are_told() {
         (&*format!(r#"{{"{long}":{{"$oid":"53e3 ("}}}}"#), format!("bad object id at {cut} ({digit})"), cut.as_str(), digit),
     ] {
         let error = convert(Mode::Relaxed, text.as_bytes()).unwrap_err();
-        assert_eq!((error.to_string(), error.at(), error.why()), (words, at, why));
+        assert_eq!((error.to_string(), error.path(), error.reason()), (words, at, why));
         assert_eq!(explain(Options::default(), text.as_bytes()).as_ref(), Some(&error));
         assert_eq!(same(ReadOptions::default(), b"1", text.as_bytes()).as_ref(), Err(&error));
         assert_eq!(hash(ReadOptions::default(), text.as_bytes()).as_ref(), Err(&error));
     }
     let error = "53e3".parse::<ObjectId>().unwrap_err();
-    assert_eq!((error.to_string().as_str(), error.at(), error.why()), ("no such text", "", "no such text"));
+    assert_eq!((error.to_string().as_str(), error.path(), error.reason()), ("no such text", "", "no such text"));
 }
 
 #[test]
@@ -116,7 +116,7 @@ fn what_is_compared_has_options() {
     let strict = ReadOptions { reject_duplicate_keys: true, ..doubles };
     let twice = br#"{"a":[{"b":1,"b":2}]}"#;
     let error = same(strict, b"1", twice).unwrap_err();
-    assert_eq!((error.kind(), error.at(), error.why()), (ErrorKind::NotExtendedJson, "a.0.b", "a key that stands twice in its object"));
+    assert_eq!((error.kind(), error.path(), error.reason()), (ErrorKind::NotExtendedJson, "a.0.b", "a key that stands twice in its object"));
     assert_eq!(hash(strict, twice), Err(error));
     assert_eq!(same(default, twice, br#"{"a":[{"b":2}]}"#), Ok(true));
     let legacy = ReadOptions { legacy: true, ..default };
@@ -144,7 +144,7 @@ fn documents_are_compared_by_their_bytes() {
     assert_eq!(hash_document(options, twice), hash(options, br#"{"b":6}"#));
     let strict = ReadOptions { reject_duplicate_keys: true, ..options };
     let error = same_documents(strict, twice, &one[..9]).unwrap_err();
-    assert_eq!((error.kind(), error.at(), error.why()), (ErrorKind::NoDocument, "", "a duplicate key"));
+    assert_eq!((error.kind(), error.path(), error.reason()), (ErrorKind::NotADocument, "", "a duplicate key"));
     assert_eq!(hash_document(strict, twice), Err(error));
     assert_eq!(same_documents(strict, &one, &other), Ok(true));
 }
@@ -200,18 +200,18 @@ fn documents_come_back_from_their_bytes() {
     assert!(is_document(&five) && explain_document(&five).is_none());
     let double = encode(doubles, br#"{"n": 1.5}"#).unwrap();
     assert_eq!(&*decode(Mode::Canonical, doubles, &double).unwrap(), r#"{"n":{"$numberDouble":"1.5"}}"#);
-    assert_eq!(kind(decode(Mode::Canonical, options, &double)), Some(ErrorKind::NoText));
+    assert_eq!(kind(decode(Mode::Canonical, options, &double)), Some(ErrorKind::NotRepresentable));
     for len in 0..five.len() {
         assert!(!is_document(&five[..len]));
         let error = decode(Mode::Show, options, &five[..len]).unwrap_err();
-        assert_eq!((error.kind(), error.why()), (ErrorKind::NoDocument, "ends too early"));
+        assert_eq!((error.kind(), error.reason()), (ErrorKind::NotADocument, "ends too early"));
         assert_eq!(explain_document(&five[..len]), Some(error));
     }
     let error = decode(Mode::Show, options, &[9, 0, 0, 0, 8, b'a', 0, 2, 0]).unwrap_err();
     assert_eq!(error.to_string(), "no document at byte 7 (a boolean is neither 0 nor 1)");
-    assert_eq!((error.at(), error.why()), ("byte 7", "a boolean is neither 0 nor 1"));
+    assert_eq!((error.path(), error.reason()), ("byte 7", "a boolean is neither 0 nor 1"));
     for (text, wanted) in [
-        ("[]", ErrorKind::NoDocument),
+        ("[]", ErrorKind::NotADocument),
         (r#"{"a\u0000":1}"#, ErrorKind::ZeroInKey),
         (r#"{"a":{"$regularExpression":{"pattern":"\u0000","options":""}}}"#, ErrorKind::ZeroInRegex),
         ("{", ErrorKind::NotJson),
@@ -219,7 +219,7 @@ fn documents_come_back_from_their_bytes() {
         assert_eq!(kind(encode(options, text.as_bytes())), Some(wanted));
     }
     let error = encode(options, br#"{"a":[1.5]}"#).unwrap_err();
-    assert_eq!((error.kind(), error.at()), (ErrorKind::NotExtendedJson, "a.0"));
+    assert_eq!((error.kind(), error.path()), (ErrorKind::NotExtendedJson, "a.0"));
 }
 
 #[test]

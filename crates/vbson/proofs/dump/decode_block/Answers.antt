@@ -13,12 +13,12 @@ returns-in_ok-add_line-in-Err c =
     let all = c.in_ok-add_line-in-Err.field-0.items in
     let end = c.in-Err.end in
     let gives = cut_block run block _ text _ _ all _ end.fault end.number end.refused end.start c.in-Err.ensures.fails
-    c.new-text.ensures.items c.new-told.ensures.items c.in_ok-add_line-in-Err.ensures.0 c.in_ok-add_line-in-Err.ensures.1 in
+    c.new-text.ensures.items c.new-diagnostics.ensures.items c.in_ok-add_line-in-Err.ensures.0 c.in_ok-add_line-in-Err.ensures.1 in
     IfSome_then c.with_newlines-in-Err.result c.with_newlines-in-Err.ensures
     (λ given is. (
       text,
       all,
-      subst (λ n. GivesDocuments run block text all n given.done) (sym is.2)
+      subst (λ n. GivesDocuments run block text all n given.consumed) (sym is.2)
           (subst (λ n. GivesDocuments run block text all end.number n) (sym is.3) gives),
       is.0,
       is.1,

@@ -5,4 +5,4 @@ use Rattle.vbson.proofs.scalars.vbson_date_time_print.Goals as goal
 pub returns-in-Ok-clause-fits : goal.returns-in-Ok-clause-fits
 returns-in-Ok-clause-fits c enough is =
     let short = rfc-length c.from_millis.result c.in-Ok.ensures.in_years in
-    omega (arith, (c.put.ensures.no_room is).short, short, ap length c.in-Ok.ensures.ok)
+    omega (arith, (c.put.ensures.too_small is).short, short, ap length c.in-Ok.ensures.ok)

@@ -1,0 +1,19 @@
+//! Strings that are written into a buffer of the caller's.
+ghost use Rattle.std.specs.Prelude.{◌≡◌, ◌⊎◌};
+ghost use Rattle.vbson.specs.Buffer.{DoesNotFit, IsPut};
+
+use crate::status;
+
+/// Writes the bytes at the start of the buffer if they fit, and sets `len` to their number.
+pub fn put(bytes: &[u8], buffer: &mut [u8], len: &mut usize) -> u32
+    ensures done { result ≡ 0 → IsPut bytes.now buffer.old buffer.new len.new }
+    ensures too_small { result ≡ 8 → DoesNotFit bytes.now buffer.old buffer.new len.new }
+    ensures listed { (result ≡ 0) ⊎ (result ≡ 8) }
+{
+    *len = bytes.len();
+    if buffer.len() < bytes.len() {
+        return status::BUFFER_TOO_SMALL;
+    }
+    buffer[..bytes.len()].copy_from_slice(bytes);
+    status::OK
+}
