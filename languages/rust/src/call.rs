@@ -66,19 +66,19 @@ const ZERO_IN_KEY: u32 = 11;
 const ZERO_IN_REGEX: u32 = 12;
 const TOO_LONG: u32 = 13;
 
-/// Of flags: finite doubles.
+/// The flag for finite doubles.
 pub const DOUBLES: u32 = 1;
-/// Of flags: the order of keys.
+/// The flag for the order of keys.
 pub const KEEP_ORDER: u32 = 2;
-/// Of flags: duplicate keys are rejected.
+/// The flag that rejects duplicate keys.
 pub const REJECT_DUPLICATE_KEYS: u32 = 4;
-/// Of flags: Extended JSON v1 is read too.
+/// The flag for Extended JSON v1.
 pub const LEGACY: u32 = 8;
 
-/// No text of a small value is longer: see the ROOMs of `vbson.h`.
+/// No string of a scalar is longer: see the greatest lengths in `vbson.h`.
 pub const MAX_LENGTH: usize = 64;
 
-/// The archive's instructions, which it does not test for itself. (The answer is kept by `std`.)
+/// Whether the processor has the instructions that the archive uses and does not test for. (`std` caches the answer.)
 fn wants_processor() {
     let has_all = std::is_x86_feature_detected!("sse4.2") && std::is_x86_feature_detected!("popcnt");
     assert!(has_all, "vbson needs a processor with SSE4.2 and POPCNT");

@@ -1,11 +1,11 @@
-//! Documents by their bytes (BSON 1.1, bsonspec.org).
+//! BSON documents (BSON 1.1, bsonspec.org).
 use crate::block::Block;
 use crate::text::{error_of, owned};
 use crate::{call, Error, ErrorKind, Mode, Options, ReadOptions, Text};
 use std::fmt;
 use std::ops::Deref;
 
-/// Bytes of the library's own, freed when they are dropped.
+/// Bytes that the library allocated. They are freed when they are dropped.
 pub struct Bytes(pub(crate) Block);
 
 impl Deref for Bytes {
@@ -22,13 +22,13 @@ impl fmt::Debug for Bytes {
     }
 }
 
-/// Whether the bytes are one document, all of them, in which documents, arrays and scopes stand at most 100 in each
-/// other. It takes no memory.
+/// Returns whether the bytes are exactly one document, in which documents, arrays and scopes nest at most 100 deep. It
+/// allocates no memory.
 pub fn is_document(bytes: &[u8]) -> bool {
     call::is_document(bytes)
 }
 
-/// Why bytes are no document, and where; None where they are one. Without memory for the words it has no place.
+/// Returns why, and where, the bytes are not a document; None if they are one. If memory runs out, the error has no offset.
 pub fn explain_document(bytes: &[u8]) -> Option<Error> {
     match call::explain_document(bytes).map(owned) {
         Ok(words) if words.is_empty() => None,
@@ -38,18 +38,18 @@ pub fn explain_document(bytes: &[u8]) -> Option<Error> {
     }
 }
 
-/// Compares two documents by their bytes: they are the same in any order of their keys.
+/// Compares two documents. The order of their keys doesn't matter.
 ///
 /// # Errors
 ///
-/// `NotADocument`, with its place, if the first bytes are not a document, or the second are not: with
-/// `reject_duplicate_keys` also if a document in them has a duplicate key. `OutOfMemory` if an allocation fails.
+/// `NotADocument`, with the byte offset of the error, if `a` is not a document, or `b` is not one. With
+/// `reject_duplicate_keys` also if a document has a duplicate key. `OutOfMemory` if an allocation fails.
 pub fn same_documents(options: ReadOptions, a: &[u8], b: &[u8]) -> Result<bool, Error> {
     call::same_documents(options.flags(), a, b).map_err(|kind| rejected(kind, options, &[a, b]))
 }
 
-/// Computes the hash of a document by its bytes: the number that [`hash`](crate::hash) returns for a text that means the
-/// same value.
+/// Computes the hash of a document. It is the hash that [`hash`](crate::hash) returns for Extended JSON with the same
+/// value.
 ///
 /// # Errors
 ///
@@ -58,7 +58,7 @@ pub fn hash_document(options: ReadOptions, bytes: &[u8]) -> Result<u64, Error> {
     call::hash_document(options.flags(), bytes).map_err(|kind| rejected(kind, options, &[bytes]))
 }
 
-/// The error for the first of the documents that is rejected. Only bytes with a duplicate key are rejected without words.
+/// The error of the first rejected document. Only a duplicate key is rejected without a message.
 fn rejected(kind: ErrorKind, options: ReadOptions, documents: &[&[u8]]) -> Error {
     let is_rejected = |it: &&&[u8]| call::hash_document(options.flags(), it) == Err(ErrorKind::NotADocument);
     match documents.iter().find(is_rejected) {
@@ -69,11 +69,15 @@ fn rejected(kind: ErrorKind, options: ReadOptions, documents: &[&[u8]]) -> Error
     }
 }
 
-/// The text, in the mode, of the document that the bytes are.
+/// Reads the bytes as one document, and writes it in the mode.
 ///
-/// In the two forms keys come out in ascending order at every depth, unless `keep_order` has the document's own, and a
-/// finite double other than 0.0 is `NotRepresentable` without the option for it; `Mode::Show` has the document's own order, and every
-/// double. Of a key that stands twice the last value counts. `NotADocument`, with its place, where the bytes are none.
+/// The canonical and relaxed forms have keys in ascending order at every depth, and with `keep_order` in the document's
+/// own order, which `Mode::Show` always has. The last value of a duplicate key wins.
+///
+/// # Errors
+///
+/// `NotADocument`, with the byte offset of the error. `NotRepresentable` in the two forms if the document has a finite
+/// double other than 0.0, and `doubles` is off. `OutOfMemory` if an allocation fails.
 pub fn decode(mode: Mode, options: Options, bytes: &[u8]) -> Result<Text, Error> {
     match call::decode(mode as u32, options.flags(), bytes) {
         Ok(raw) => Ok(owned(raw)),
@@ -82,11 +86,13 @@ pub fn decode(mode: Mode, options: Options, bytes: &[u8]) -> Result<Text, Error>
     }
 }
 
-/// The canonical bytes of the document that a text of Extended JSON means, keys in ascending order, or with `keep_order`
-/// in that of the text.
+/// Reads one Extended JSON text, and writes the canonical bytes of its document. Keys are in ascending order, or with
+/// `keep_order` in that of the input.
 ///
-/// `NotADocument` where the text means another value; `ZeroInKey`, `ZeroInRegex` or `TooLong` where the document has no
-/// bytes; what is no Extended JSON with its place, as of `convert_with`.
+/// # Errors
+///
+/// Those of [`convert_with`](crate::convert_with). `NotADocument` if the value is not a document. `ZeroInKey`,
+/// `ZeroInRegex` or `TooLong` if the document has no bytes.
 pub fn encode(options: Options, text: &[u8]) -> Result<Bytes, Error> {
     match call::encode(options.flags(), text) {
         Ok(raw) => Ok(Bytes(Block::of(raw))),

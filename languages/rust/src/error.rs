@@ -1,28 +1,28 @@
-//! Why a call was refused, and where.
+//! Why a call failed, and where.
 use std::fmt;
 
-/// Which refusal it is.
+/// The kind of an error.
 #[derive(Clone, Copy, Debug, PartialEq, Eq)]
 pub enum ErrorKind {
-    /// The bytes are not UTF-8, not one JSON text, or nest deeper than 127.
+    /// The input is not UTF-8, is not one JSON text, or nests deeper than 127.
     NotJson,
-    /// The first fault of a JSON text is the text of an object id.
+    /// The first error is an invalid object id.
     BadObjectId,
-    /// The JSON text means nothing in Extended JSON v2.
+    /// The first error is any other: the JSON is not valid Extended JSON v2.
     NotExtendedJson,
-    /// A request for memory was refused.
+    /// An allocation failed.
     OutOfMemory,
-    /// The text is none of the kind that was asked for.
+    /// The string does not have the format that the call parses.
     InvalidString,
-    /// The value has no text of the kind that was asked for: of a document, a finite double without the option for it.
+    /// The value has no output of the requested format: a document with a finite double, if `doubles` is off.
     NotRepresentable,
-    /// The bytes are no document of BSON, or the text means another value than a document.
+    /// The bytes are not a BSON document, or the value of the input is not a document.
     NotADocument,
-    /// A key of the document has a 0 byte in it, which would end it.
+    /// A key of the document contains a 0 byte, which would end it.
     ZeroInKey,
-    /// The pattern or the options of a regular expression of the document have a 0 byte in them.
+    /// The pattern or the options of a regular expression contain a 0 byte.
     ZeroInRegex,
-    /// A part of the document is too long for BSON.
+    /// A part of the document is too long for BSON: 2^31 bytes or more.
     TooLong,
 }
 
@@ -43,7 +43,7 @@ impl ErrorKind {
     }
 }
 
-/// Why a call was refused; of a text of Extended JSON and of a document's bytes, with where. It is displayed as
+/// Why a call failed, and for Extended JSON and documents also where. It is displayed as
 /// `not Extended JSON at orders.0.price (a number is no whole number of 64 bits; found 1.5)`.
 #[derive(Clone, Debug, PartialEq, Eq)]
 pub struct Error {
@@ -52,39 +52,38 @@ pub struct Error {
 }
 
 impl Error {
-    /// Which refusal it is.
+    /// Returns the kind of the error.
     pub fn kind(&self) -> ErrorKind {
         self.kind
     }
 
-    /// Where the fault of a text lies: `orders.0.price`, or `column 7` of what is no JSON. Of
-    /// bytes that are no document, the number of bytes before the fault, as `byte 4`.
-    /// Empty where the fault is that of the whole text, and where the call reads neither.
+    /// Returns the path to the error: `orders.0.price`, or `column 7` if the input is not JSON. For bytes that are not a
+    /// document it is the byte offset: `byte 4`. It is empty if the error is that of the whole value, or of another call.
     pub fn path(&self) -> &str {
         self.parts().0
     }
 
-    /// What is wrong there: `a number is no whole number of 64 bits; found 1.5`, or of what is no JSON the rule that is
-    /// broken, as `a comma or a bracket is missing`; else the words for the kind.
+    /// Returns what is wrong there: `a number is no whole number of 64 bits; found 1.5`. If the input is not JSON, it is the
+    /// broken rule, for example `a comma or a bracket is missing`. Otherwise it is the message of the kind.
     pub fn reason(&self) -> &str {
         Some(self.parts().1).filter(|it| !it.is_empty()).unwrap_or(self.kind.words())
     }
 
-    /// An error with the words of `vbson_explain` or `vbson_explain_document`.
+    /// An error with the message of `vbson_explain` or `vbson_explain_document`.
     pub(crate) fn explained(kind: ErrorKind, words: &str) -> Error {
         Error { kind, behind: words.strip_prefix(kind.words()).unwrap_or("").to_owned() }
     }
 
-    /// The place and the message of the words behind those for the kind: ` at PLACE (MESSAGE)`, or either alone.
+    /// The path and the reason in what follows the message of the kind: ` at PATH (REASON)`, or either alone.
     fn parts(&self) -> (&str, &str) {
-        let (place, message) = self.behind.split_at(self.seam().unwrap_or(self.behind.len()));
+        let (path, message) = self.behind.split_at(self.seam().unwrap_or(self.behind.len()));
         let message = message.strip_prefix(" (").and_then(|it| it.strip_suffix(')'));
-        (place.strip_prefix(" at ").unwrap_or(place), message.unwrap_or(""))
+        (path.strip_prefix(" at ").unwrap_or(path), message.unwrap_or(""))
     }
 
-    /// Where the message begins. That on an object id may hold any characters, but behind a wrapper's key, at which its
-    /// path ends, or behind the two points of one that is not told whole, it begins with these words; no other message
-    /// holds a bracket before the value that it tells.
+    /// Where the reason begins. That of an object id may contain any characters, but it begins with these words after the
+    /// key of a wrapper, at which its path ends, or after the two points of a path that is cut off. No other reason
+    /// contains a bracket before the value that it quotes.
     fn seam(&self) -> Option<usize> {
         let begins = [" (the character '", " (an object id has "];
         let of_id = || begins.iter().flat_map(|it| self.behind.match_indices(it)).map(|(at, _)| at);

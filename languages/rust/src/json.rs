@@ -1,4 +1,4 @@
-//! Values of `serde_json`, by the feature of this name: what `loads` and `dumps` of the module for Python are.
+//! Values of `serde_json`, with the feature of this name. `loads` and `dumps` of the Python module do the same.
 //!
 //! A `Value` holds Extended JSON as it is written: of the canonical form each type of BSON, `{"$numberLong":"5"}`, and of the
 //! relaxed one plain numbers. Objects keep the order of their keys, and so does what is made of them with
@@ -10,9 +10,9 @@ use serde_json::{Deserializer, Value};
 /// The form of a value.
 #[derive(Clone, Copy, Debug, PartialEq, Eq)]
 pub enum Form {
-    /// The canonical form of Extended JSON v2, which keeps every type.
+    /// Canonical Extended JSON v2, which keeps every type.
     Canonical,
-    /// The relaxed form, with plain numbers, and dates as texts.
+    /// Relaxed Extended JSON v2, with JSON numbers, and dates as strings.
     Relaxed,
 }
 
@@ -25,7 +25,11 @@ impl Form {
     }
 }
 
-/// The value, in the form, of what a text of Extended JSON means. Errors are those of `convert_with`.
+/// Reads one Extended JSON text, and returns its value in the form.
+///
+/// # Errors
+///
+/// Those of `convert_with`.
 ///
 /// ```
 /// use vbson::{json, Options};
@@ -37,10 +41,12 @@ pub fn from_text(form: Form, options: Options, text: &[u8]) -> Result<Value, Err
     convert_with(form.mode(), options, text).map(parsed)
 }
 
-/// The text, in the form, of what a value means as Extended JSON, of either form. Errors are those of `convert_with`.
+/// Writes a value, which is Extended JSON of either form, in the form. Each number is written exactly.
 ///
-/// Each number is written exactly: a whole one past `i64::MAX` is `NotExtendedJson` also with finite doubles, as the
-/// nearest double is another.
+/// # Errors
+///
+/// Those of `convert_with`. An integer past `i64::MAX` is `NotExtendedJson`, also with finite doubles, since the nearest
+/// double is another number.
 ///
 /// ```
 /// use vbson::{json, Options};
@@ -52,12 +58,20 @@ pub fn to_text(form: Form, options: Options, value: &Value) -> Result<Text, Erro
     convert_with(form.mode(), options, &written(value)?)
 }
 
-/// The value, in the form, of the document that the bytes are. Errors are those of `decode`.
+/// Reads the bytes as one document, and returns its value in the form.
+///
+/// # Errors
+///
+/// Those of `decode`.
 pub fn from_document(form: Form, options: Options, bytes: &[u8]) -> Result<Value, Error> {
     decode(form.mode(), options, bytes).map(parsed)
 }
 
-/// The canonical bytes of the document that a value means. Errors are those of `encode`, and of `to_text`.
+/// Returns the canonical bytes of the document that a value denotes.
+///
+/// # Errors
+///
+/// Those of `encode` and of `to_text`.
 pub fn to_document(options: Options, value: &Value) -> Result<Bytes, Error> {
     encode(options, &written(value)?)
 }

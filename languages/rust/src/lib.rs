@@ -1,12 +1,12 @@
-//! MongoDB Extended JSON v2, BSON bytes and the small values of BSON, over `libvbson.a`, whose calls are proved
-//! (`vbson.h` says what each answers).
+//! MongoDB Extended JSON v2, BSON bytes and BSON's scalar types, over `libvbson.a`, whose calls are proved (`vbson.h`
+//! documents each of them).
 //!
-//! It runs on x86-64 Linux with glibc alone, on a processor with SSE4.2 and POPCNT: on any other the first call panics.
-//! Reading the deepest text (nested 127 deep) takes 448 KiB of stack, which the threads of `std` have. With `keep_order` a
-//! text that nests deep by objects which begin with the key `$scope` takes up to 5 MiB, which they have not: give the
-//! thread more, where such a text may come.
+//! It runs only on x86-64 Linux with glibc. The processor must have SSE4.2 and POPCNT; otherwise the first call panics.
+//! The deepest input (127 levels) needs 448 KiB of stack, which the threads of `std` have. With `keep_order`, deeply nested
+//! objects that begin with the key `$scope` need up to 5 MiB, which they don't have: start a thread with more for such
+//! input.
 //!
-//! With the feature `serde_json`, which is off by default, the module `json` has texts and documents as its values.
+//! The feature `serde_json`, which is off by default, adds the module `json`, which converts to and from its values.
 //!
 //! ```
 //! use vbson::{convert, Mode};
@@ -34,7 +34,7 @@ pub use lines::{convert_lines, decode_documents, encode_lines, Documents, Encode
 pub use scalar::{DateTime, Decimal128, ObjectId};
 pub use text::{convert, convert_with, explain, hash, same, Mode, Options, ReadOptions, Text};
 
-/// The version of the library that is linked, as (0, 2, 0).
+/// Returns the version of the library that is linked, for example (0, 2, 0).
 pub fn version() -> (u32, u32, u32) {
     let number = call::version();
     (number / 10000, number / 100 % 100, number % 100)

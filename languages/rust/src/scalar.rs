@@ -1,10 +1,10 @@
-//! Decimals, object ids and moments.
+//! Decimals, object ids and date-times.
 use crate::call::{self, Printed};
 use crate::Error;
 use std::fmt;
 use std::str::{self, FromStr};
 
-/// A decimal of 128 bits as BSON has it: 16 bytes, the lowest first. Equal are equal bytes, so `1.5` is not `1.50`.
+/// A Decimal128 of BSON: 16 bytes, the lowest first. Equality compares the bytes, so `1.5` is not `1.50`.
 #[derive(Clone, Copy, Debug, PartialEq, Eq, Hash)]
 pub struct Decimal128(pub [u8; 16]);
 
@@ -12,14 +12,14 @@ pub struct Decimal128(pub [u8; 16]);
 #[derive(Clone, Copy, Debug, PartialEq, Eq, PartialOrd, Ord, Hash)]
 pub struct ObjectId(pub [u8; 12]);
 
-/// A moment, in milliseconds since 1970-01-01T00:00:00Z.
+/// A date-time in milliseconds since 1970-01-01T00:00:00Z.
 #[derive(Clone, Copy, Debug, PartialEq, Eq, PartialOrd, Ord, Hash)]
 pub struct DateTime(pub i64);
 
 impl FromStr for Decimal128 {
     type Err = Error;
 
-    /// No value is rounded: a text with too many digits is `InvalidString`, as any other that is no decimal.
+    /// Parses a decimal, which is never rounded. `InvalidString` if it has too many digits, or is not a decimal.
     fn from_str(text: &str) -> Result<Decimal128, Error> {
         Ok(Decimal128(call::decimal128_parse(text.as_bytes())?))
     }
@@ -28,7 +28,7 @@ impl FromStr for Decimal128 {
 impl FromStr for ObjectId {
     type Err = Error;
 
-    /// 24 hexadecimal digits of either case; else `InvalidString`.
+    /// Parses 24 hexadecimal digits of either case. `InvalidString` for anything else.
     fn from_str(text: &str) -> Result<ObjectId, Error> {
         Ok(ObjectId(call::object_id_parse(text.as_bytes())?))
     }
@@ -37,21 +37,25 @@ impl FromStr for ObjectId {
 impl FromStr for DateTime {
     type Err = Error;
 
-    /// A text of RFC 3339 (section 5.6); else `InvalidString`.
+    /// Parses a date-time of RFC 3339 (section 5.6). `InvalidString` for anything else.
     fn from_str(text: &str) -> Result<DateTime, Error> {
         Ok(DateTime(call::date_time_parse(text.as_bytes())?))
     }
 }
 
 impl DateTime {
-    /// The text of RFC 3339, in UTC. `NotRepresentable` outside the years 0000 to 9999.
+    /// Formats the date-time by RFC 3339, in UTC.
+    ///
+    /// # Errors
+    ///
+    /// `NotRepresentable` outside the years 0000 to 9999.
     pub fn to_rfc3339(self) -> Result<String, Error> {
         let printed = call::date_time_print(self.0)?;
         Ok(text_of(&printed).to_owned())
     }
 }
 
-/// `fmt::Error` where a request for memory was refused.
+/// `fmt::Error` if an allocation fails.
 impl fmt::Display for Decimal128 {
     fn fmt(&self, f: &mut fmt::Formatter<'_>) -> fmt::Result {
         let printed = call::decimal128_print(&self.0).map_err(|_| fmt::Error)?;
@@ -66,7 +70,7 @@ impl fmt::Display for ObjectId {
     }
 }
 
-/// The text of RFC 3339, in UTC; the milliseconds, as `253402300800000 ms`, where `to_rfc3339` has none.
+/// Formats by RFC 3339, in UTC, or as milliseconds, for example `253402300800000 ms`, if `to_rfc3339` fails.
 impl fmt::Display for DateTime {
     fn fmt(&self, f: &mut fmt::Formatter<'_>) -> fmt::Result {
         match call::date_time_print(self.0) {

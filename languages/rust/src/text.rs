@@ -1,4 +1,4 @@
-//! Texts of Extended JSON.
+//! Extended JSON input and output.
 use crate::block::Block;
 use crate::{call, Error, ErrorKind};
 use std::ops::Deref;
@@ -8,15 +8,15 @@ use std::{fmt, str};
 #[derive(Clone, Copy, Debug, PartialEq, Eq)]
 #[repr(u32)]
 pub enum Mode {
-    /// The canonical form of Extended JSON v2, which keeps every type.
+    /// Canonical Extended JSON v2, which keeps every type.
     Canonical = 0,
-    /// The relaxed form, with plain numbers, and dates as texts.
+    /// Relaxed Extended JSON v2, with JSON numbers, and dates as strings.
     Relaxed = 1,
-    /// The value for people to read; no JSON.
+    /// A form for people to read; it is not JSON.
     Show = 2,
 }
 
-/// A text of the library's own, freed when it is dropped.
+/// A string that the library allocated. It is freed when it is dropped.
 pub struct Text(Block);
 
 impl Deref for Text {
@@ -24,7 +24,7 @@ impl Deref for Text {
 
     fn deref(&self) -> &str {
         debug_assert!(str::from_utf8(&self.0).is_ok());
-        // SAFETY: `owned` looked at the bytes, which nobody changes.
+        // SAFETY: `owned` checked the bytes, which nobody changes.
         unsafe { str::from_utf8_unchecked(&self.0) }
     }
 }
@@ -41,14 +41,14 @@ impl fmt::Debug for Text {
     }
 }
 
-/// What may be read and written beside the default.
+/// What is accepted and written in addition to the default.
 #[derive(Clone, Copy, Debug, Default, PartialEq, Eq)]
 pub struct Options {
-    /// Finite doubles: each number that is no whole one of 64 bits is read as the double nearest to it, and a double is
-    /// written as its shortest decimal, `{"$numberDouble":"12.5"}` in the canonical form and `12.5` in the relaxed one.
+    /// Accepts finite doubles. A number that is not an integer of 64 bits is read as the nearest double. A double is
+    /// written as its shortest decimal: `{"$numberDouble":"12.5"}` in the canonical form, `12.5` in the relaxed one.
     pub doubles: bool,
-    /// The keys of documents stay in the order of the text, or of the document, in the place of an ascending one; of a key
-    /// that stands twice the last value counts, at the place of the first.
+    /// Preserves the order of the keys in the input or the document; without it keys are sorted. The last value of a
+    /// duplicate key wins, at the position of the first.
     pub keep_order: bool,
 }
 
@@ -64,12 +64,12 @@ impl Options {
 /// beyond the default, or reject.
 #[derive(Clone, Copy, Debug, Default, PartialEq, Eq)]
 pub struct ReadOptions {
-    /// Finite doubles are read, as with [`Options::doubles`]. The bytes of a document have them in any case.
+    /// Accepts finite doubles, as [`Options::doubles`] does. The bytes of a document may always have them.
     pub doubles: bool,
-    /// Input in which an object or a document has a duplicate key, at any depth, is rejected; otherwise the last value of
-    /// such a key wins.
+    /// Rejects input in which an object or a document has a duplicate key, at any depth. Without it the last value of a
+    /// duplicate key wins.
     pub reject_duplicate_keys: bool,
-    /// Texts of Extended JSON v1 are read too: `{"$binary": .., "$type": ..}`, `{"$regex": .., "$options": ..}`, and a
+    /// Accepts Extended JSON v1 too: `{"$binary": .., "$type": ..}`, `{"$regex": .., "$options": ..}`, and a
     /// `$date` with an offset such as `+0100`. It changes nothing for the bytes of a document.
     pub legacy: bool,
 }
@@ -83,11 +83,16 @@ impl ReadOptions {
     }
 }
 
-/// The text, in the mode, of the value that a text of Extended JSON means, in either form or mixed.
+/// Reads one Extended JSON text (canonical, relaxed or mixed), and writes its value in the mode.
 ///
-/// Keys come out in ascending order at every depth; of a key that stands twice the last value counts. A finite double
-/// is `NotExtendedJson`, as `1.5` and `0.0` are. The output can mean another value in two ways: a NaN of Decimal128 loses
-/// its sign and its s, and in the relaxed form an Int64 that fits is read again as an Int32.
+/// Keys are written in ascending order, at every depth. The last value of a duplicate key wins. The output can denote
+/// another value in two cases: a NaN of Decimal128 loses its sign and its payload, and in the relaxed form an Int64 that
+/// fits is read again as an Int32.
+///
+/// # Errors
+///
+/// `NotJson`, `BadObjectId` or `NotExtendedJson`, with the path to the first error. A finite double is `NotExtendedJson`,
+/// and so are numbers such as `1.5` and `0.0`. `OutOfMemory` if an allocation fails.
 pub fn convert(mode: Mode, text: &[u8]) -> Result<Text, Error> {
     match call::convert(mode as u32, text) {
         Ok(raw) => Ok(owned(raw)),
@@ -95,7 +100,11 @@ pub fn convert(mode: Mode, text: &[u8]) -> Result<Text, Error> {
     }
 }
 
-/// `convert` with options.
+/// Does what [`convert`] does, with options.
+///
+/// # Errors
+///
+/// Those of [`convert`].
 pub fn convert_with(mode: Mode, options: Options, text: &[u8]) -> Result<Text, Error> {
     match call::convert_with(mode as u32, options.flags(), text) {
         Ok(raw) => Ok(owned(raw)),
@@ -103,23 +112,22 @@ pub fn convert_with(mode: Mode, options: Options, text: &[u8]) -> Result<Text, E
     }
 }
 
-/// Why `convert_with` refuses a text, and where; None where it accepts it.
+/// Returns why, and where, `convert_with` rejects the input; None if it accepts it.
 pub fn explain(options: Options, text: &[u8]) -> Option<Error> {
     convert_with(Mode::Canonical, options, text).err()
 }
 
-/// Compares the values of two texts of Extended JSON: documents are the same in any order of their keys.
+/// Compares the values of two inputs. The order of the keys of documents doesn't matter.
 ///
 /// # Errors
 ///
-/// `NotJson`, `BadObjectId` or `NotExtendedJson`, with its place, for the first text, or for the second if the first has
-/// none. `OutOfMemory` if an allocation fails.
+/// `NotJson`, `BadObjectId` or `NotExtendedJson`, with the path to the first error of `a`, or of `b` if `a` has none. `OutOfMemory` if an allocation fails.
 pub fn same(options: ReadOptions, a: &[u8], b: &[u8]) -> Result<bool, Error> {
     let flags = options.flags();
     call::same(flags, a, b).map_err(|kind| error_of(kind, flags, &[a, b]))
 }
 
-/// Computes the hash of the value of a text: one number for all texts that [`same`] finds the same.
+/// Computes the hash of the input's value. Inputs that [`same`] finds the same have one hash.
 ///
 /// # Errors
 ///
@@ -135,14 +143,14 @@ pub(crate) fn owned(raw: call::RawText) -> Text {
     Text(block)
 }
 
-/// The error with its place, of the first of the texts that is refused. Only such a text is read again; without memory
-/// for that, the error has no place.
+/// The error of the first rejected input, with its path. Only a rejected input is read again; if that runs out of memory,
+/// the error has no path.
 pub(crate) fn error_of(kind: ErrorKind, flags: u32, texts: &[&[u8]]) -> Error {
     if !matches!(kind, ErrorKind::NotJson | ErrorKind::BadObjectId | ErrorKind::NotExtendedJson) {
         return kind.into();
     }
-    let mut told = texts.iter().map(|it| call::explain(flags, it).map(owned));
-    match told.find(|it| it.as_ref().map_or(true, |words| !words.is_empty())) {
+    let mut explained = texts.iter().map(|it| call::explain(flags, it).map(owned));
+    match explained.find(|it| it.as_ref().map_or(true, |words| !words.is_empty())) {
         Some(Ok(words)) => Error::explained(kind, &words),
         _ => kind.into(),
     }
