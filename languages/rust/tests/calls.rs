@@ -178,15 +178,15 @@ fn documents_are_decoded_in_one_call() {
     let bad = [9, 0, 0, 0, 8, b'a', 0, 2, 0];
     let block = [&double[..], &bad, b"\x05\0\0\0\0", b"\x06\0\0"].concat();
     let found = decode_documents(Mode::Relaxed, keeps, &block).unwrap();
-    assert_eq!((&*found.text, found.count, found.done), ("{\"b\":1.5,\"a\":2}\n{}\n", 4, 37));
+    assert_eq!((&*found.text, found.count, found.consumed), ("{\"b\":1.5,\"a\":2}\n{}\n", 4, 37));
     let refused: Vec<_> = found.refused.iter().map(|it| (it.number, it.start, it.error.to_string())).collect();
     let boolean = explain_document(&bad).unwrap().to_string();
     assert_eq!(refused, [(2, 23, boolean), (4, 37, "no document at byte 0 (ends too early)".to_owned())]);
     let found = decode_documents(Mode::Canonical, options, &double).unwrap();
-    assert_eq!((&*found.text, found.count, found.done, found.refused.len()), ("", 1, 23, 1));
+    assert_eq!((&*found.text, found.count, found.consumed, found.refused.len()), ("", 1, 23, 1));
     assert_eq!(found.refused[0].error, decode(Mode::Canonical, options, &double).unwrap_err());
     let found = decode_documents(Mode::Show, options, b"").unwrap();
-    assert_eq!((&*found.text, found.count, found.done, found.refused.len()), ("", 0, 0, 0));
+    assert_eq!((&*found.text, found.count, found.consumed, found.refused.len()), ("", 0, 0, 0));
 }
 
 #[test]
