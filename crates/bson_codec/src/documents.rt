@@ -1,4 +1,4 @@
-//! Documents one behind the other, as dumps have them.
+//! Concatenated documents, as in dumps.
 ghost use Rattle.std.specs.Prelude.{◌≡◌, ◌⊎◌, ◌↔◌, ℕ, List, ◌++◌, IfOk, IfErr, OnOk, IsTrue, false, string_bytes};
 ghost use Rattle.std.specs.Io.KnownBytes.{Appends};
 ghost use Rattle.bson_model.specs.Displayed.{display_text};
@@ -24,10 +24,10 @@ use bson_bytes::parts::size_at;
 use std::alloc::Global;
 use std::io::{Read, Write};
 
-/// As many documents as a run counts.
+/// The greatest number of documents in one run.
 const MOST: u64 = u64::MAX - 1;
 
-/// What a run over documents writes of each.
+/// What a run over documents writes for each of them.
 ///
 /// ```
 /// let run = Run {
@@ -41,17 +41,17 @@ const MOST: u64 = u64::MAX - 1;
 /// ```
 #[derive(Clone, Copy, PartialEq, Eq, Debug)]
 pub enum Line {
-    /// Its text in a form of Extended JSON with ascending keys, and a newline.
+    /// A line of Extended JSON in this form, with keys in ascending order.
     Text(Form),
-    /// The same with the keys of each document in its own order, at every depth.
+    /// A line of Extended JSON in this form, with the keys of each document in its own order.
     TextInOrder(Form),
-    /// The text of its `Display`, and a newline.
+    /// A line with the output of `Display`.
     Shown,
-    /// Nothing: it is only looked at.
+    /// Nothing: the document is only checked.
     Nothing,
 }
 
-/// What is asked of a run over documents.
+/// The options of a run over documents.
 ///
 /// ```
 /// let run = Run {
@@ -62,13 +62,13 @@ pub enum Line {
 /// ```
 #[derive(Clone, Copy, PartialEq, Eq, Debug)]
 pub struct Run {
-    /// How deep documents, arrays and scopes may nest.
+    /// The number of levels to which documents, arrays and scopes may nest.
     pub depth: usize,
-    /// Which values have a text.
+    /// Whether finite doubles are accepted.
     pub options: Options,
-    /// What is written of each document.
+    /// What is written for each document.
     pub line: Line,
-    /// Whether a rejected document is reported and passed over, and the run goes on.
+    /// Whether the run reports and skips a rejected document, and goes on.
     pub keep_going: bool,
 }
 
@@ -89,7 +89,7 @@ impl Default for Run {
     }
 }
 
-/// How many documents there were.
+/// The counts of a run over documents.
 ///
 /// ```
 /// let mut input: &[u8] = b"\x05\0\0\0\0\x05\0\0\0\0";
@@ -99,20 +99,31 @@ impl Default for Run {
 /// ```
 #[derive(Clone, Copy, PartialEq, Eq, Debug)]
 pub struct DocumentCounts {
-    /// All documents, refused ones too.
+    /// The number of all documents, rejected ones included.
     pub documents: u64,
-    /// Those that were refused.
+    /// The number of rejected documents.
     pub refused: u64,
 }
 
-/// Reads documents one behind the other until the reader has nothing left, and writes a line of
-/// each, in their order.
+/// Reads concatenated documents until the reader is at its end, and writes a line for each of
+/// them, in their order.
 ///
-/// A rejected document ends the run. With `keep_going` it is reported and passed over if all bytes
-/// of its length came, since the next document begins behind them. A document that can be written
-/// is never rejected. What the documents before the end gave was written and reported. Nothing of
-/// the document at the end was, but at `CannotWrite` a beginning. Memory is that of the largest
-/// document and its text.
+/// A rejected document ends the run. If `keep_going` is set and all bytes of its length are
+/// present, the document is reported and skipped instead, since the next one begins after them. A
+/// document that can be written is never rejected. The run needs memory for the largest document
+/// and its line.
+///
+/// # Errors
+///
+/// The error has the number and the offset of the document at which the run ended. Everything of
+/// the documents before it was written and reported. Nothing of the document itself was, except
+/// that a beginning of it may have been written if the error is `CannotWrite`.
+///
+/// - `Malformed`: the bytes are not a document.
+/// - `FiniteDouble`: the document has a finite double, and `options` does not accept it.
+/// - `CannotRead`: the reader failed, or has more bytes than a run can count.
+/// - `CannotWrite`: the writer or the report failed.
+/// - `OutOfMemory`: an allocation failed.
 pub fn run_documents<R: Read, W: Write, T: Write>(
     alloc: Global,
     run: Run,
@@ -126,7 +137,7 @@ pub fn run_documents<R: Read, W: Write, T: Write>(
     ensures fails { IfErr result (λ e. EndsAt run (R.remaining reader.old) (R.remaining reader.new)
         (W.contents writer.old) (W.contents writer.new) (T.contents report.old) (T.contents report.new)
         e.fault e.number e.refused e.start) }
-    // The run ends at a document only if that one can't be written, nor is passed over.
+    // The run ends at a document only if that document cannot be written and is not skipped.
     ensures justified { IfErr result (λ e. IsJustified run (R.remaining reader.old) e.fault e.start) }
 {
     let mut bytes = Vec::new(alloc);
@@ -169,7 +180,7 @@ pub fn run_documents<R: Read, W: Write, T: Write>(
         refused += passed;
         start = behind;
     }
-    // A count that no run reaches.
+    // No run reaches this number of documents.
     Err(RunEnd {
         fault: RunFault::CannotRead,
         number: u64::MAX,
@@ -178,7 +189,7 @@ pub fn run_documents<R: Read, W: Write, T: Write>(
     })
 }
 
-// Writes the line of a document; or answers 1 for one that is refused, told and passed over.
+// Writes the line of a document and returns 0, or reports and skips the document and returns 1.
 fn give<W: Write, T: Write>(
     alloc: Global,
     run: Run,
@@ -229,7 +240,7 @@ fn line_of(alloc: Global, run: Run, bytes: &[u8]) -> Result<Vec<u8>, RunFault>
     }
 }
 
-// The document that the bytes are.
+// Reads the document.
 fn read(alloc: Global, run: Run, bytes: &[u8]) -> Result<Document, RunFault>
     ensures ok { IfOk result (λ document. IsRead run.depth bytes.now (document_view document)) }
     ensures fault { IfErr result (λ e. IsJudged e run bytes.now) }
@@ -241,7 +252,7 @@ fn read(alloc: Global, run: Run, bytes: &[u8]) -> Result<Document, RunFault>
     }
 }
 
-// The document's text in the form with ascending keys, and a newline.
+// Returns the document's line with keys in ascending order.
 fn text_line(alloc: Global, run: Run, form: Form, document: Document) -> Result<Vec<u8>, RunFault>
     ensures ok { IfOk result (λ line. WritesLine run.options (Text form) (document_view document) line.items) }
     ensures fault { IfErr result (λ e. IsUnwritten e run.options (Text form) (document_view document)) }
@@ -253,7 +264,7 @@ fn text_line(alloc: Global, run: Run, form: Form, document: Document) -> Result<
     }
 }
 
-// The document's text in the form with its keys in their own order, and a newline.
+// Returns the document's line with keys in their own order.
 fn ordered_line(
     alloc: Global,
     run: Run,
@@ -270,7 +281,7 @@ fn ordered_line(
     }
 }
 
-// The text that shows the document, and a newline.
+// Returns the line with the output of `Display`.
 fn shown_line(alloc: Global, document: Document) -> Result<Vec<u8>, RunFault>
     ensures ok { IfOk result (λ line. line.items ≡ display_text (model.document (document_view document)) ++ newline) }
     ensures fault { IfErr result (λ e. e ≡ OutOfMemory) }
@@ -281,7 +292,7 @@ fn shown_line(alloc: Global, document: Document) -> Result<Vec<u8>, RunFault>
     }
 }
 
-// The text, and a newline.
+// Appends a newline.
 fn end_line(text: String) -> Result<Vec<u8>, RunFault>
     ensures ok { IfOk result (λ line. line.items ≡ string_bytes text ++ newline) }
     ensures fault { IfErr result (λ e. e ≡ OutOfMemory) }
@@ -293,7 +304,7 @@ fn end_line(text: String) -> Result<Vec<u8>, RunFault>
     }
 }
 
-// Tells of a document that is passed over.
+// Reports a document that is skipped.
 fn tell<T: Write>(
     alloc: Global,
     number: u64,
@@ -313,7 +324,7 @@ fn tell<T: Write>(
     }
 }
 
-// Whether a run that keeps going passes over a rejected document.
+// Whether a run with `keep_going` skips a rejected document.
 fn may_pass(fault: RunFault, bytes: &[u8]) -> bool
     ensures { IsTrue result ↔ IsOfBytes fault × BeginsWithLength bytes.now }
 {
@@ -326,7 +337,7 @@ fn may_pass(fault: RunFault, bytes: &[u8]) -> bool
     }
 }
 
-// Whether the bytes are as many as the length that they begin with.
+// Whether the number of bytes is the length that they begin with.
 fn has_length(bytes: &[u8]) -> bool
     ensures { IsTrue result ↔ BeginsWithLength bytes.now }
 {
@@ -336,7 +347,7 @@ fn has_length(bytes: &[u8]) -> bool
     }
 }
 
-// Why no bytes of a document came.
+// Maps the error of the reader.
 fn fault_of_reader(error: ReaderError) -> RunFault
     ensures { (result ≡ CannotRead) ⊎ (result ≡ OutOfMemory) }
 {

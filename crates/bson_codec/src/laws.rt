@@ -5,16 +5,15 @@ ghost use Rattle.bson_codec.specs.Documents.{Dump, EndsAt, EndsInside, IsOfBytes
 ghost use Rattle.bson_codec.specs.declared.documents.Run.{Run};
 ghost use Rattle.bson_codec.specs.declared.run_end.RunFault.{RunFault};
 
-/// The same bytes are one dump. They have one output and one list of verdicts, and are so many
-/// documents, of which so many are passed over.
+/// Law: the same bytes are one dump, with one output, one report and one pair of counts.
 pub fn one_dump()
     ensures { (run : Run) (bytes output other told tells : List ℕ) (number count refused left : ℕ)
         → Dump run bytes output told number refused → Dump run bytes other tells count left
         → (output ≡ other) × (told ≡ tells) × (number ≡ count) × (refused ≡ left) }
 {}
 
-/// A run over the same bytes ends inside them at one document for one fault. It has one output and
-/// one list of verdicts before it, and the bytes are no dump.
+/// Law: a run that ends inside the same bytes ends at one document, for one error. It has one
+/// output and one report before that document, and the bytes are not a dump.
 pub fn one_end()
     ensures end { (run : Run) (all output other told tells : List ℕ) (number count refused left start place : ℕ)
         (fault cause : RunFault) → EndsInside run all output told fault number refused start
@@ -25,8 +24,8 @@ pub fn one_end()
         → EndsInside run all output told fault number refused start → ⊥ }
 {}
 
-/// A run that ends for a fault of its bytes ends inside them. What it wrote and reported is what the
-/// documents before gave.
+/// Law: a run that ends for an error of its bytes ends inside them. Its output and its report are
+/// those of the documents before the end.
 pub fn ends_are_inside()
     ensures { (run : Run) (all : List ℕ) (after had holds told tells : Option (List ℕ)) (fault : RunFault)
         (number refused start : ℕ) → EndsAt run (Some all) after had holds told tells fault number refused start

@@ -1,0 +1,89 @@
+"""Runs the recipes of docs/guide.md: each command in one folder, in their order, whose output must be what stands below
+it; and each block of Python, whose lines must print what their comments say. What is not built or installed is not tried,
+which is said. A command that ends in a backslash goes on in the next line.
+"""
+import os
+import re
+import shutil
+import subprocess
+import sys
+import tempfile
+
+import sources
+
+GUIDE = "docs/guide.md"
+PROGRAMS = ("bson_cli", "bson_lines")
+LIBRARY = f"{sources.TOP}/languages/out/lib/libvbson.so"
+# The commands that a recipe may need beside those that each test needs, and the module of Python.
+TOOLS, MODULES = ("jq", "sqlite3"), ("pandas",)
+COMMAND = "    $ "
+
+
+def is_built(name):
+    """Whether the program is built, and ./bson builds nothing before it runs."""
+    out = f"{sources.TOP}/crates/{name}/out"
+    if not (os.access(f"{out}/{name}", os.X_OK) and os.path.exists(f"{out}/built_from")):
+        return False
+    changed = (os.path.getmtime(f"{sources.TOP}/{it}") for it in sources.files_in("crates", ".rt", ".antt"))
+    return max(changed) <= os.path.getmtime(f"{out}/built_from")
+
+
+def parts(text):
+    """Each command with its output, and each block of Python, in the order of the page: its section, kind, code, output."""
+    heading, lines = "", iter(text.split("\n"))
+    made = []
+    for line in lines:
+        if line.startswith("## "):
+            heading = line[3:]
+        elif line == "```Python":
+            block = "".join(f"{it}\n" for it in iter(lambda: next(lines), "```"))
+            printed = "".join(f"{it}\n" for it in re.findall(r"(?m)^print\(.*\)  # (.*)$", block))
+            made.append([heading, "Python", block, printed])
+        elif line.startswith(COMMAND):
+            code = line[len(COMMAND) :]
+            while code.endswith("\\"):
+                code += "\n" + next(lines)
+            made.append([heading, "command", code, ""])
+        elif line.startswith("    ") and made and made[-1][1] == "command":
+            made[-1][3] += f"{line[4:]}\n"
+    return made
+
+
+def lacks(heading, kind, code, of_section):
+    """What this part needs that is not here."""
+    if kind == "Python":
+        if not os.path.exists(LIBRARY):
+            return "the library for Python is not built"
+        needed = [it for it in MODULES if re.search(rf"\bimport {it}\b", code)]
+        missing = [it for it in needed if subprocess.run([sys.executable, "-c", f"import {it}"], capture_output=True).returncode]
+        return f"there is no module {missing[0]}" if missing else ""
+    missing = [it for it in TOOLS if re.search(rf"\b{it}\b", of_section) and not shutil.which(it)]
+    return f"there is no command {missing[0]}" if missing else ""
+
+
+def ran(kind, code, room):
+    environment = {**os.environ, "PATH": f"{room}/bin:{os.environ['PATH']}", "VBSON_LIBRARY": LIBRARY, "LC_ALL": "C.UTF-8",
+                   "PYTHONPATH": f"{sources.TOP}/languages/python"}
+    words = [sys.executable, "-B", "-c", code] if kind == "Python" else ["bash", "-c", code]
+    return subprocess.run(words, cwd=room, env=environment, stdin=subprocess.DEVNULL, capture_output=True, text=True, timeout=60)
+
+
+def checks(program=f"{sources.TOP}/bson"):
+    """What is wrong with each part that was tried."""
+    text = sources.read(GUIDE)
+    found = parts(text)
+    yield [] if any(kind == "command" for _, kind, *_ in found) else [f"{GUIDE} has no commands"]
+    if program == f"{sources.TOP}/bson" and not all(map(is_built, PROGRAMS)):
+        print(f"not tried: the recipes of {GUIDE}, since the programs are not built")
+        return
+    with tempfile.TemporaryDirectory() as room:
+        os.mkdir(f"{room}/bin")
+        os.symlink(program, f"{room}/bin/bson")
+        for heading, kind, code, wanted in found:
+            of_section = "\n".join(it[2] for it in found if it[0] == heading and it[1] == "command")
+            if why := lacks(heading, kind, code, of_section):
+                print(f"not tried: a part of the recipe '{heading}', since {why}")
+                continue
+            answer = ran(kind, code, room)
+            is_right = (answer.returncode, answer.stdout) == (0, wanted)
+            yield [] if is_right else [f"{GUIDE}, '{heading}': {code}\n{answer.stdout}{answer.stderr}"]
