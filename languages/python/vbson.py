@@ -1,16 +1,16 @@
-"""MongoDB Extended JSON v2, BSON bytes and the small values of BSON, by the library libvbson.so, whose calls are proved.
+"""MongoDB Extended JSON v2, BSON bytes and BSON's scalar types, by the library libvbson.so, whose calls are proved.
 
     >>> convert('{"n": 5}')
     '{"n":{"$numberInt":"5"}}'
     >>> decode(encode('{"n": 5}'), "relaxed")
     '{"n":5}'
 
-The library is looked for in the variable VBSON_LIBRARY (its path), beside this file, in ../out/lib (where ./vbson build
+The library is searched in the variable VBSON_LIBRARY (its path), beside this file, in ../out/lib (where ./vbson build
 puts it), in ../.. (where it is installed beside this file) and where the system keeps libraries. It runs on x86-64 Linux
-with glibc and a processor with SSE4.2 and POPCNT, which is checked if the machine has /proc/cpuinfo. The module _vbson,
-which is built where there is a Python.h, answers the same sooner; the variable VBSON_EXTENSION has its path, or is empty
-for none.
-Texts are `str`, or `bytes` (any other that lends its bytes) in UTF-8; anything else is a TypeError. Any number of threads
+with glibc, on a processor with SSE4.2 and POPCNT, which is checked if the machine has /proc/cpuinfo. The extension module
+_vbson, which is built if there is a Python.h, returns the same faster; the variable VBSON_EXTENSION has its path, or is
+empty for none.
+Input is `str`, or `bytes` (or another object with a buffer) in UTF-8; anything else is a TypeError. Any number of threads
 may call at once.
 """
 import ctypes
@@ -32,7 +32,7 @@ __all__ = ["CANONICAL", "RELAXED", "SHOW", "Error", "NotJson", "BadObjectId", "N
 _Bytes = Union[bytes, bytearray, memoryview]
 _Given = Union[str, bytes, bytearray, memoryview]
 
-# What `convert` writes: the canonical form, the relaxed form, or the value for people to read.
+# What `convert` writes: the canonical form, the relaxed form, or a form for people to read.
 CANONICAL, RELAXED, SHOW = 0, 1, 2
 _MODES = {"canonical": CANONICAL, "relaxed": RELAXED, "show": SHOW}
 DOUBLES, KEEP_ORDER, REJECT_DUPLICATE_KEYS, LEGACY = 1, 2, 4, 8
@@ -46,13 +46,13 @@ NOT_A_DOCUMENT, ZERO_IN_KEY, ZERO_IN_REGEX, TOO_LONG = 10, 11, 12, 13
 
 
 class Error(ValueError):
-    """The library refused what it was handed.
+    """The library rejected its input.
 
-    Of a text of Extended JSON the error has the path to what is wrong, `path`, and the reason, `reason`:
-    'orders.3.price' and 'a number is no whole number of 64 bits; found 1.5', or 'column 7' and the rule of JSON that is
-    broken there, as 'a comma or a bracket is missing'. The path is empty if the error is that of the whole text; keys are in it as
-    they are. For bytes that are not a document the path is the byte offset of the error: 'byte 4' and 'ends too
-    early'. str() has both, behind the words for the class.
+    For Extended JSON the error has the path to what is wrong, `path`, and the reason, `reason`: 'orders.3.price' and 'a
+    number is no whole number of 64 bits; found 1.5', or 'column 7' and the broken rule of JSON, for example 'a comma or a
+    bracket is missing'. The path is empty if the error is that of the whole value; keys are in it as they are. For bytes
+    that are not a document the path is the byte offset of the error: 'byte 4' and 'ends too early'. str() has both, after
+    the message of the class.
     """
 
     def __init__(self, words="", path="", reason=""):
@@ -61,35 +61,35 @@ class Error(ValueError):
 
 
 class NotJson(Error):
-    """The bytes are not UTF-8, not one JSON text, or nest deeper than 127."""
+    """The input is not UTF-8, is not one JSON text, or nests deeper than 127."""
 
 
 class BadObjectId(Error):
-    """The first fault of a JSON text is the text of an object id."""
+    """The first error is an invalid object id."""
 
 
 class NotExtendedJson(Error):
-    """The JSON text means nothing in Extended JSON v2."""
+    """The first error is any other: the JSON is not valid Extended JSON v2."""
 
 
 class InvalidString(Error):
-    """The text is none of the kind that was asked for."""
+    """The string does not have the format that the call parses."""
 
 
 class NotRepresentable(Error):
-    """The value has no text of the kind that was asked for: of a document, a finite double without `doubles`."""
+    """The value has no output of the requested format: a document with a finite double, without `doubles`."""
 
 
 class NotADocument(Error):
-    """The bytes are no document of BSON, or the text means another value than a document."""
+    """The bytes are not a BSON document, or the value of the input is not a document."""
 
 
 class NotEncodable(Error):
-    """The document has no bytes: a 0 byte in a key or a regular expression, or a part that is too long."""
+    """The document has no bytes: a key or a regular expression contains a 0 byte, or a part is too long."""
 
 
 class NoValue(Error):
-    """A value has none among the types that were asked for."""
+    """A value can't be represented in the requested types."""
 
 
 _ERRORS = {INVALID_ARGUMENT: (ValueError, "no such mode or flag"), NOT_JSON: (NotJson, "not JSON"),
@@ -319,22 +319,22 @@ def _wants_accepted(status, flags, *texts):
 
 
 def version() -> str:
-    """The library's version, as '0.2.0'."""
+    """Returns the version of the library, for example '0.2.0'."""
     number = _library.vbson_version()
     return f"{number // 10000}.{number // 100 % 100}.{number % 100}"
 
 
 def convert(text: _Given, mode: Union[int, str] = CANONICAL, doubles: bool = False, keep_order: bool = False) -> str:
-    """The text, in the mode, of the value that a text of Extended JSON means. A mode goes by its number or its name.
+    """Reads one Extended JSON text, and writes its value in the mode, which is given by its number or its name.
 
-    Keys come out in ascending order at every depth; of a key that stands twice the last value counts. The output can mean
-    another value in two ways: a NaN of Decimal128 loses its sign and its s, and in the relaxed form an Int64 that fits is
-    read again as an Int32. Raises NotJson, BadObjectId, NotExtendedJson (also at a finite double, as 1.5 or 0.0), each with
-    its path, and MemoryError.
+    Keys are written in ascending order, at every depth. The last value of a duplicate key wins. The output can denote
+    another value in two cases: a NaN of Decimal128 loses its sign and its payload, and in the relaxed form an Int64 that
+    fits is read again as an Int32. Raises NotJson, BadObjectId or NotExtendedJson (also for a finite double such as 1.5 or
+    0.0), each with its path, and MemoryError.
 
-    With doubles finite ones are read, each as the double nearest to the number, and written as their shortest decimal,
-    {"$numberDouble":"12.5"} in the canonical form and 12.5 in the relaxed one. With keep_order keys come out in the order of
-    the text; of a key that stands twice the last value counts, at the place of the first.
+    doubles accepts finite doubles. Each number is read as the nearest double, and written as its shortest decimal:
+    {"$numberDouble":"12.5"} in the canonical form, 12.5 in the relaxed one. keep_order preserves the order of the keys; the
+    last value of a duplicate key wins, at the position of the first.
     """
     mode, flags, given = _mode(mode), _flags(doubles, keep_order), _bytes(text)
     status, made = _text_by("convert_with", mode, flags, given)
@@ -344,22 +344,21 @@ def convert(text: _Given, mode: Union[int, str] = CANONICAL, doubles: bool = Fal
 
 _STATUSES = {words: status for status, (_, words) in _ERRORS.items()}
 _OF_LINES = (NOT_JSON, BAD_OBJECT_ID, NOT_EXTENDED_JSON, NOT_A_DOCUMENT, ZERO_IN_KEY, ZERO_IN_REGEX, TOO_LONG)
-_VERDICT = re.compile(rf"bson_lines: line (\d+): ({'|'.join(_ERRORS[it][1] for it in _OF_LINES)})(.*)")
+_DIAGNOSTIC = re.compile(rf"bson_lines: line (\d+): ({'|'.join(_ERRORS[it][1] for it in _OF_LINES)})(.*)")
 
 
-def _refusal(verdict):
-    """The number of a line that is refused, and its error, from its diagnostic."""
-    found = _VERDICT.fullmatch(verdict)
+def _refusal(diagnostic):
+    """The number and the error of a rejected line, from its diagnostic."""
+    found = _DIAGNOSTIC.fullmatch(diagnostic)
     return int(found[1]), _explained(_STATUSES[found[2]], found[2] + found[3])
 
 
 def convert_lines(block: _Given, mode: Union[int, str] = CANONICAL, doubles: bool = False,
                   keep_order: bool = False) -> Tuple[bytes, List[Tuple[int, Error]]]:
-    """What the lines of a block are converted to, a line each, and of each line that is refused its number and its error.
+    """Converts each line of a block as `convert` does. Returns the output, and the number and error of each rejected line.
 
-    Each line is read as `convert` reads a text. A newline ends a line; what stands behind the last newline is a line too,
-    unless it is empty. Lines of spaces, tabs and carriage returns give nothing, and count; a byte order mark at the start of
-    the block is passed over. Raises MemoryError.
+    A newline ends a line; bytes after the last newline are a line too. A line of spaces, tabs and carriage returns counts,
+    and has no output. A byte order mark at the start of the block is skipped. Raises MemoryError.
     """
     mode, flags, given = _mode(mode), _flags(doubles, keep_order), _bytes(block)
     out = _Lines(_nothing(), _nothing(), 0, 0)
@@ -372,7 +371,7 @@ def _refusals(diagnostics):
 
 
 def explain(text: _Given, doubles: bool = False, reject_duplicate_keys: bool = False, legacy: bool = False) -> str:
-    """Why `convert` or `same` rejects a text, and where, as a line of words; empty if they accept it.
+    """Returns why, and where, `convert` or `same` rejects the input, as one line; empty if they accept it.
 
     Raises MemoryError.
     """
@@ -383,12 +382,12 @@ def explain(text: _Given, doubles: bool = False, reject_duplicate_keys: bool = F
 
 
 def same(a: _Given, b: _Given, doubles: bool = False, reject_duplicate_keys: bool = False, legacy: bool = False) -> bool:
-    """Compares the values of two texts of Extended JSON: documents are the same in any order of their keys.
+    """Compares the values of two inputs. The order of the keys of documents doesn't matter.
 
-    With doubles finite ones are read, as by `convert`. With reject_duplicate_keys a text is rejected if one of its objects
-    has a duplicate key, at any depth; otherwise the last value of such a key wins. With legacy texts of Extended JSON v1
-    are read too: {"$binary": .., "$type": ..}, {"$regex": .., "$options": ..}, and a $date with an offset such as +0100.
-    Raises as `convert` does, for the first text first.
+    doubles accepts finite doubles, as in `convert`. reject_duplicate_keys rejects an input if one of its objects has a
+    duplicate key, at any depth; without it the last value wins. legacy accepts Extended JSON v1 too:
+    {"$binary": .., "$type": ..}, {"$regex": .., "$options": ..}, and a $date with an offset such as +0100. Raises the
+    errors of `convert`, for a first.
     """
     flags, a, b = _read_flags(doubles, reject_duplicate_keys, legacy), _bytes(a), _bytes(b)
     status = _library.vbson_same(flags, a, len(a), b, len(b))
@@ -398,9 +397,9 @@ def same(a: _Given, b: _Given, doubles: bool = False, reject_duplicate_keys: boo
 
 
 def hash_of(text: _Given, doubles: bool = False, reject_duplicate_keys: bool = False, legacy: bool = False) -> int:
-    """Computes the hash of the value of a text: one number for all texts that `same` finds the same.
+    """Computes the hash of the input's value. Inputs that `same` finds the same have one hash.
 
-    The options are those of `same`. Raises as `convert` does.
+    The options are those of `same`. Raises the errors of `convert`.
     """
     flags, given, out = _read_flags(doubles, reject_duplicate_keys, legacy), _bytes(text), ctypes.c_uint64()
     _wants_accepted(_library.vbson_hash(flags, given, len(given), ctypes.byref(out)), flags, given)
@@ -408,10 +407,10 @@ def hash_of(text: _Given, doubles: bool = False, reject_duplicate_keys: bool = F
 
 
 def same_documents(a: _Bytes, b: _Bytes, reject_duplicate_keys: bool = False) -> bool:
-    """Compares two documents by their bytes: they are the same in any order of their keys.
+    """Compares two documents. The order of their keys doesn't matter.
 
-    With reject_duplicate_keys bytes are rejected if one of their documents has a duplicate key, at any depth; otherwise the
-    last value of such a key wins. Raises NotADocument with its path, for the first document first, and MemoryError.
+    reject_duplicate_keys rejects bytes if one of their documents has a duplicate key, at any depth; without it the last
+    value wins. Raises NotADocument with its path, for a first, and MemoryError.
     """
     flags, a, b = _flag("reject_duplicate_keys", reject_duplicate_keys, REJECT_DUPLICATE_KEYS), _document(a), _document(b)
     status = _library.vbson_same_documents(flags, a, len(a), b, len(b))
@@ -421,7 +420,7 @@ def same_documents(a: _Bytes, b: _Bytes, reject_duplicate_keys: bool = False) ->
 
 
 def hash_of_document(document: _Bytes, reject_duplicate_keys: bool = False) -> int:
-    """Computes the hash of a document by its bytes: the number that `hash_of` returns for a text of the same value.
+    """Computes the hash of a document. It is the hash that `hash_of` returns for Extended JSON with the same value.
 
     The option is that of `same_documents`. Raises NotADocument with its path, and MemoryError.
     """
@@ -437,7 +436,7 @@ def _hash_of_document(flags, given):
 
 
 def _wants_documents(status, flags, *documents):
-    """Raises if a call rejected the first of the documents that is rejected."""
+    """Raises the error of the first rejected document, if there is one."""
     if status == NOT_A_DOCUMENT:
         first = next((it for it in documents if _hash_of_document(flags, it)[0] == NOT_A_DOCUMENT), b"")
         status_of_words, words = _text_of(_library.vbson_explain_document, first, len(first))
@@ -451,16 +450,16 @@ def _document(value):
 
 
 def is_document(document: _Bytes) -> bool:
-    """Whether bytes are one document of BSON 1.1, all of them.
+    """Returns whether the bytes are exactly one document of BSON 1.1.
 
-    Documents, arrays and scopes of code may stand at most 100 in each other, here and in `decode`.
+    Documents, arrays and scopes of code nest at most 100 deep, here and in `decode`.
     """
     given = _document(document)
     return _library.vbson_is_document(given, len(given)) == OK
 
 
 def explain_document(document: _Bytes) -> str:
-    """Why bytes are no document, and where, as a line of words; empty where they are one. Raises MemoryError."""
+    """Returns why, and where, the bytes are not a document, as one line; empty if they are one. Raises MemoryError."""
     given = _document(document)
     status, words = _text_of(_library.vbson_explain_document, given, len(given))
     _expect_ok(status)
@@ -468,11 +467,11 @@ def explain_document(document: _Bytes) -> str:
 
 
 def decode(document: _Bytes, mode: Union[int, str] = CANONICAL, doubles: bool = False, keep_order: bool = False) -> str:
-    """The text, in the mode, of the document that bytes of BSON 1.1 are.
+    """Reads the bytes as one document, and writes it in the mode.
 
-    In the two forms keys come out in ascending order at every depth, and with keep_order, or in SHOW, in the document's own;
-    of a key that stands twice the last value counts. Raises NotADocument with its path ('byte 4'), NotRepresentable in the two forms at
-    a finite double other than 0.0 where doubles is not True, and MemoryError.
+    The canonical and relaxed forms have keys in ascending order, at every depth. With keep_order, and always in SHOW, they
+    are in the document's own order. The last value of a duplicate key wins. Raises NotADocument with its path ('byte 4'),
+    MemoryError, and in the two forms NotRepresentable for a finite double other than 0.0 without doubles.
     """
     return _decoded(_mode(mode), _flags(doubles, keep_order), _document(document))
 
@@ -487,9 +486,10 @@ def _decoded(mode, flags, given):
 
 
 def encode(text: _Given, doubles: bool = False, keep_order: bool = False) -> bytes:
-    """The canonical bytes of the document that a text of Extended JSON means, its keys in ascending order.
+    """Reads one Extended JSON text, and returns the canonical bytes of its document.
 
-    With keep_order they are in that of the text. Raises as convert does, NotADocument where the text means another value, and NotEncodable where the document has none.
+    Keys are in ascending order, and with keep_order in that of the input. Raises the errors of convert, NotADocument if the
+    value is not a document, and NotEncodable if the document has no bytes.
     """
     flags, given = _flags(doubles, keep_order), _bytes(text)
     status, made = _encoded(flags, given)
@@ -498,10 +498,10 @@ def encode(text: _Given, doubles: bool = False, keep_order: bool = False) -> byt
 
 
 def encode_lines(block: _Given, doubles: bool = False, keep_order: bool = False) -> Tuple[bytes, List[Tuple[int, Error]]]:
-    """The bytes of the documents that the lines of a block mean, one behind the other, and of each line that is refused its
-    number and its error.
+    """Encodes each line of a block as `encode` does. Returns the concatenated documents, and the number and error of each
+    rejected line.
 
-    Each line is read as `encode` reads a text, and lines are those of `convert_lines`. Raises MemoryError.
+    The lines are those of `convert_lines`. Raises MemoryError.
     """
     flags, given = _flags(doubles, keep_order), _bytes(block)
     out = _Lines(_nothing(), _nothing(), 0, 0)
@@ -512,10 +512,10 @@ def encode_lines(block: _Given, doubles: bool = False, keep_order: bool = False)
 _OF_DOCUMENT = re.compile(r"document (\d+) at byte (\d+): (.*?)(?: at its byte (\d+))?")
 
 
-def _refused_document(verdict):
-    """The number of a document that is refused, the bytes before it, and its error, from its diagnostic."""
-    number, start, reason, offset = _OF_DOCUMENT.fullmatch(verdict).groups()
-    if at is None:
+def _refused_document(diagnostic):
+    """The number, the byte offset and the error of a rejected document, from its diagnostic."""
+    number, start, reason, offset = _OF_DOCUMENT.fullmatch(diagnostic).groups()
+    if offset is None:
         error, words = _ERRORS[NOT_REPRESENTABLE]
         return int(number), int(start), error(words)
     return int(number), int(start), _explained(NOT_A_DOCUMENT, f"no document at byte {offset} ({reason})")
@@ -523,12 +523,11 @@ def _refused_document(verdict):
 
 def decode_documents(block: _Bytes, mode: Union[int, str] = CANONICAL, doubles: bool = False,
                      keep_order: bool = False) -> Tuple[bytes, List[Tuple[int, int, Error]]]:
-    """The texts of the documents of a block, one behind the other, a line each, and of each document that is refused its
-    number, the number of bytes before it, and its error.
+    """Decodes the concatenated documents of a block, each as `decode` does. Returns the output, a line for each document, and
+    the number, the byte offset and the error of each rejected document.
 
-    Each is read as `decode` reads one. Behind one that is refused the next begins where its length says; where the block has
-    no such length, or fewer bytes than it says, that document is the last, and what stands behind is not looked at. Raises
-    MemoryError.
+    The next document begins where the length of the one before it ends, also if that was rejected. If the block has no
+    valid length there, or fewer bytes, that document is the last, and the rest is not read. Raises MemoryError.
     """
     mode, flags, given = _mode(mode), _flags(doubles, keep_order), _document(block)
     out = _Documents(_nothing(), _nothing(), 0, 0)
@@ -544,28 +543,28 @@ def _types(name):
     try:
         return _kinds[name]
     except (KeyError, TypeError):
-        # (a module of its own, which only they need)
+        # (another module, which only loads and dumps need)
         import vbson_values
         found = _kinds[name] = vbson_values.types_of(name)
         return found
 
 
 def loads(text: _Given, doubles: bool = True, keep_order: bool = True, types: Optional[str] = None) -> Any:
-    """The value of Python that a text of Extended JSON means, of either form.
+    """Reads one Extended JSON text of either form, and returns its value in Python.
 
-    Its types are those of the package bson of PyMongo ('bson'), or those of vbson_values, which need no package ('plain');
-    the first where that package is installed, if types is None. Dates are datetimes in UTC. Doubles are read, and the keys
-    of a dict stand in the order of the text, unless these are False.
+    The types are those of PyMongo's package bson ('bson'), or those of vbson_values, which need no package ('plain'). If
+    types is None, they are the first if that package is installed. Dates are datetimes in UTC. Unless they are False,
+    doubles accepts finite doubles, and keep_order preserves the order of keys.
 
     >>> loads('{"n": 1.5, "b": {"$binary": {"base64": "AQI=", "subType": "00"}}, "a": [true, null]}')
     {'n': 1.5, 'b': b'\\x01\\x02', 'a': [True, None]}
 
-    Raises as encode does of a document with a text of that meaning under a key, so that a text that is none itself may nest
-    126 deep, one less than others. Raises NoValue, of bson alone, where that has no such value: dates outside the years 1 to
-    9999 before its version 4.3, UUIDs that are not 16 bytes.
+    Raises the errors that encode has for a document with this value under a key. So a value that is not a document may nest
+    126 deep, one less than a document. Raises NoValue if bson can't represent a value: dates outside the years 1 to 9999
+    before its version 4.3, and UUIDs that are not 16 bytes.
     """
     given, flags, kinds = _bytes(text), _flags(doubles, keep_order), _types(types)
-    # (each value is read under a key: bson makes another of a document at the top)
+    # (each value is read under a key, since bson treats a document at the top differently)
     if b'"~"' not in given and b"\\u" not in given:
         # No further key is read as that one, so that a document of one key has in it the value of the whole text.
         found = kinds.only_value(flags, b'{"~":' + given + b"}")
@@ -575,7 +574,7 @@ def loads(text: _Given, doubles: bool = True, keep_order: bool = True, types: Op
 
 
 def _under_a_key(flags, given):
-    """The bytes of the document that has under its one key what the text means; raises why there are none."""
+    """The bytes of a document with the value under its one key; raises the error if there are none."""
     status, made = _encoded(flags, given)
     if status == NOT_A_DOCUMENT:
         given = b'{"v":' + given + b"}"
@@ -591,10 +590,9 @@ def _under_a_key(flags, given):
 
 def loads_lines(block: _Given, doubles: bool = True, keep_order: bool = True,
                 types: Optional[str] = None) -> Tuple[List[Any], List[Tuple[int, Error]]]:
-    """The values of Python of the documents that the lines of a block mean, and of each line that is refused its number and
-    its error.
+    """Returns the values of the documents in the lines of a block, and the number and error of each rejected line.
 
-    Lines are those of `encode_lines`, and values those of `loads`. Raises NoValue where one has no value, and MemoryError.
+    The lines are those of `encode_lines`, the values those of `loads`. Raises NoValue and MemoryError.
     """
     kinds = _types(types)
     documents, refused = encode_lines(block, doubles, keep_order)
@@ -603,15 +601,15 @@ def loads_lines(block: _Given, doubles: bool = True, keep_order: bool = True,
 
 def dumps(value: Any, form: Union[int, str] = CANONICAL, doubles: bool = True, keep_order: bool = True,
           types: Optional[str] = None) -> str:
-    """The text of Extended JSON, in the form, of a value of Python. The types are those of loads.
+    """Writes a value of Python as Extended JSON in the form. The types are those of loads.
 
     >>> dumps({"n": 1.5, "b": bytes([1, 2]), "a": [True, 5]}, "relaxed")
     '{"n":1.5,"b":{"$binary":{"base64":"AQI=","subType":"00"}},"a":[true,5]}'
 
-    Keys come out in the order of each dict, unless keep_order is False: then they ascend. Raises TypeError where a value is
-    of no such type, or a key no str, OverflowError at an int past 64 bits, NotEncodable as encode does, NotADocument where it nests
-    deeper than 100 dicts and lists (99, where the value is no dict), and NotRepresentable at a finite double other than 0.0 without
-    doubles.
+    Keys are in the order of each dict, or sorted if keep_order is False. Raises TypeError for a value of another type or a
+    key that is not a str, OverflowError for an int past 64 bits, and NotEncodable as encode does. Raises NotADocument if it
+    nests deeper than 100 dicts and lists (99 if the value is not a dict), and NotRepresentable for a finite double other
+    than 0.0 without doubles.
     """
     form = _mode(form)
     if form == SHOW:
@@ -642,16 +640,16 @@ def _of_size(value, size, what):
 
 
 def decimal128(value: Union[_Given, decimal.Decimal]) -> bytes:
-    """The 16 bytes, the lowest first, of the decimal that a text denotes, or of a decimal.Decimal.
+    """Returns the 16 bytes, the lowest first, of a decimal: a string or a decimal.Decimal.
 
-    No value is rounded: InvalidString where it would have to be, and where the text is no decimal's.
+    Raises InvalidString if the string is not a decimal, or would have to be rounded.
     """
     given = str(value) if isinstance(value, decimal.Decimal) else value
     return _parsed(_library.vbson_decimal128_parse, given, 16)
 
 
 def decimal128_text(value: _Bytes) -> str:
-    """The text of a decimal of 16 bytes."""
+    """Formats a decimal of 16 bytes."""
     given = _of_size(value, 16, "a decimal")
     if _sooner is not None:
         made = _sooner.printed(_ADDRESSES["decimal128_print"], given)
@@ -661,24 +659,24 @@ def decimal128_text(value: _Bytes) -> str:
 
 
 def decimal_of(value: _Bytes) -> decimal.Decimal:
-    """The decimal.Decimal of a decimal of 16 bytes, exactly: digits, exponent and sign, whatever the context is."""
+    """Returns the exact decimal.Decimal of a decimal of 16 bytes, with its digits, exponent and sign, in any context."""
     return decimal.Decimal(decimal128_text(value))
 
 
 def object_id(text: _Given) -> bytes:
-    """The 12 bytes of the object id whose 24 hexadecimal digits the text is. Raises InvalidString."""
+    """Parses the 24 hexadecimal digits of an object id into its 12 bytes. Raises InvalidString."""
     return _parsed(_library.vbson_object_id_parse, text, 12)
 
 
 def object_id_text(value: _Bytes) -> str:
-    """The 24 lower-case hexadecimal digits of an object id of 12 bytes."""
+    """Formats an object id of 12 bytes as 24 lower-case hexadecimal digits."""
     return _printed(_library.vbson_object_id_print, _of_size(value, 12, "an object id"))
 
 
 def date_time(value: Union[_Given, datetime.datetime]) -> int:
-    """The milliseconds since 1970-01-01T00:00:00Z of the moment that a text of RFC 3339 names, or of a datetime.
+    """Returns the milliseconds since 1970-01-01T00:00:00Z of a string of RFC 3339, or of a datetime.
 
-    Raises InvalidString. A datetime has a time zone and whole milliseconds, or it is a ValueError.
+    Raises InvalidString, and ValueError for a datetime without a time zone or with a fraction of a millisecond.
     """
     if isinstance(value, datetime.datetime):
         return _millis(value)
@@ -697,12 +695,12 @@ def _millis(moment):
 
 
 def date_time_text(millis: int) -> str:
-    """The text of RFC 3339, in UTC, of so many milliseconds after 1970-01-01T00:00:00Z. Raises NotRepresentable."""
+    """Formats milliseconds since 1970-01-01T00:00:00Z by RFC 3339, in UTC. Raises NotRepresentable."""
     if not -2**63 <= _number(millis, "a moment is an int of milliseconds") < 2**63:
         raise NotRepresentable("no text")
     return _printed(_library.vbson_date_time_print, millis)
 
 
 def datetime_of(millis: int) -> datetime.datetime:
-    """The datetime, in UTC, of so many milliseconds after 1970-01-01T00:00:00Z. OverflowError outside the years 1 to 9999."""
+    """Returns the datetime, in UTC, of milliseconds since 1970-01-01T00:00:00Z. Raises OverflowError outside the years 1 to 9999."""
     return _EPOCH + _number(millis, "a moment is an int of milliseconds") * _MILLISECOND
