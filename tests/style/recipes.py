@@ -1,6 +1,6 @@
-"""Runs the recipes of docs/guide.md: each command in one folder, in their order, whose output must be what stands below
-it; and each block of Python, whose lines must print what their comments say. What is not built or installed is not tried,
-which is said. A command that ends in a backslash goes on in the next line.
+"""Runs the recipes of docs/guide.md, and by messages.py the rows of docs/errors.md. The commands of the recipes run in one
+folder, in their order, and their output must be what is below them. Blocks of Python must print what their comments say. What
+is not built or installed is not tried, which is said. A command that ends in a backslash goes on in the next line.
 """
 import os
 import re
@@ -9,6 +9,7 @@ import subprocess
 import sys
 import tempfile
 
+import messages
 import sources
 
 GUIDE = "docs/guide.md"
@@ -74,8 +75,9 @@ def checks(program=f"{sources.TOP}/bson"):
     found = parts(text)
     yield [] if any(kind == "command" for _, kind, *_ in found) else [f"{GUIDE} has no commands"]
     if program == f"{sources.TOP}/bson" and not all(map(is_built, PROGRAMS)):
-        print(f"not tried: the recipes of {GUIDE}, since the programs are not built")
+        print(f"not tried: the recipes of {GUIDE} and the rows of {messages.ERRORS}, since the programs are not built")
         return
+    yield from messages.checks(program)
     with tempfile.TemporaryDirectory() as room:
         os.mkdir(f"{room}/bin")
         os.symlink(program, f"{room}/bin/bson")

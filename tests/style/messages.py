@@ -1,0 +1,37 @@
+"""Runs the rows of docs/errors.md: the input must be rejected with the message, and what is in the last column must work:
+an input of its own, or an option for the first input. (A last column without code is not tried.)
+"""
+import re
+import subprocess
+
+import sources
+
+ERRORS = "docs/errors.md"
+CODE = r"(?:``(.*?)``|`([^`]*)`)"
+ROW = re.compile(rf"(?m)^\| {CODE} \| {CODE} \| (.*) \|$")
+
+
+def rows():
+    """The message, the input, and what works of each row."""
+    for found in ROW.finditer(sources.read(ERRORS)):
+        works = re.fullmatch(CODE, found[5])
+        yield found[1] or found[2], found[3] or found[4], (works[1] or works[2]) if works else ""
+
+
+def checked(program, text, *words):
+    """The status and the message of a check of one line."""
+    ran = subprocess.run([program, "lines", "check", *words], input=text, capture_output=True, text=True, timeout=60)
+    return ran.returncode, ran.stderr
+
+
+def checks(program):
+    """What is wrong with each row."""
+    found = list(rows())
+    yield [] if found else [f"{ERRORS} has no rows"]
+    for message, text, works in found:
+        wanted = 1, f"bson_lines: line 1: {message}\n"
+        status, said = checked(program, text)
+        yield [] if (status, said) == wanted else [f"{ERRORS}: {text} is answered by {said}"]
+        if works:
+            status, said = checked(program, text, works) if works.startswith("--") else checked(program, works)
+            yield [] if (status, said) == (0, "") else [f"{ERRORS}: {works} does not work: {said}"]
