@@ -24,15 +24,13 @@ use bson_scalar::form::Doubles;
 use bson_scalar::read::read_wrapper;
 use bson_scalar::scalar::Scalar;
 use bson_scalar::wrapper::{Wrapper, wrapper_named};
+use bson_tokens::MAX_DEPTH;
 use bson_tokens::held::read_held;
 use bson_tokens::number::number;
 use itoa::Buffer;
 use json::{Error, Reader, Scratch, Token};
 use serde_json::Value;
 use std::alloc::Global;
-
-// How deep arrays and objects may nest.
-const MAX_DEPTH: usize = 127;
 
 /// Writes the value of the whole text, under no name.
 pub(crate) fn write_text<W: ValueWriter>(

@@ -18,11 +18,9 @@ use crate::held::{Begun, Texts, hold, is_scope, next_member, scope_place};
 use crate::older::{write_held, write_older, write_scope_or_value};
 use bson_distinct::arrange::arrange_text;
 use bson_distinct::arrangement::Arrangement;
+use bson_tokens::MAX_DEPTH;
 use json::{Error, Reader, Scratch, Token, Writer};
 use std::alloc::Global;
-
-/// How deep arrays and objects may nest.
-const MAX_DEPTH: usize = 127;
 
 /// Returns the compact JSON text of Extended JSON v2 for which a text of v1 stands.
 ///

@@ -8,11 +8,9 @@ use bson_distinct::arrangement::Arrangement;
 use bson_filter::ahead::Ahead;
 use bson_filter::walk::write_document;
 use bson_scalar::form::Doubles;
+use bson_tokens::MAX_DEPTH;
 use json::{Error, Reader, Scratch, Token};
 use std::alloc::Global;
-
-// How deep arrays and objects may nest inside the document.
-const MAX_DEPTH: usize = 126;
 
 /// The canonical bytes of the document that the text means, its keys in the order of the text, at
 /// every depth, and of a key that stands twice the last value at the first place: they are written
@@ -55,7 +53,7 @@ fn write_packed(alloc: Global, doubles: Doubles, text: &str) -> Result<Vec<u8>, 
         alloc,
         doubles,
         &mut reader,
-        MAX_DEPTH,
+        MAX_DEPTH - 1,
         first,
         true,
         &mut keys,

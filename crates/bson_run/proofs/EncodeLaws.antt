@@ -27,7 +27,7 @@ use Rattle.bson_convert.specs.declared.no_bytes.NoBytes.TheVariants.{NoDocument,
 pub document_seen : (d : Document) → bson_view (held d) ≡ document (document_view d)
 document_seen d = search (rules, the_lemmas)
 
-same_pairs : {ps qs : Pairs} → document ps ≡ document qs → ps ≡ qs
+pub same_pairs : {ps qs : Pairs} → document ps ≡ document qs → ps ≡ qs
 same_pairs h = cc
 
 -- why a document that fails has no bytes
@@ -89,7 +89,7 @@ module _ (o : Options) (text : List ℕ) where
   value_one value h v m =
       h.meaning.one v (subst (λ t. MeansIn o.doubles t v) (tree_one text m.tree h.tree m.text h.text) m.meaning.means)
 
-  kept_one : (value : Value) → MeansKept o text value → (v : Value) → MeansKept o text v → v ≡ value
+  pub kept_one : (value : Value) → MeansKept o text value → (v : Value) → MeansKept o text v → v ≡ value
   kept_one value h v m =
       let a : read_kept text ≡ Some h.1.tree = h.1.tree_read in
       let b : read_kept text ≡ Some m.1.tree = m.1.tree_read in
@@ -122,6 +122,12 @@ module _ (o : Options) (text : List ℕ) where
     canonical = x.canonical;
     back = x.back;
   }
+
+  pub ascending_one : (out other : List ℕ) → EncodesIn o text out → EncodesIn o text other → other ≡ out
+  ascending_one out other x y =
+      let same : document y.pairs ≡ document x.pairs =
+      value_one (document x.pairs) x.meaning (document y.pairs) y.meaning in
+      y.canonical ∙ ap document_bytes (same_pairs same) ∙ sym x.canonical
 
   pub in_order_one : (out other : List ℕ) → EncodesInOrder o text out → EncodesInOrder o text other → other ≡ out
   in_order_one out other x y =

@@ -5,8 +5,13 @@ mod IndentedTexts
 mod Indenting
 pub mod LinesLaws
 pub mod LinesRuns
+mod OneOutcome
+mod OneOutput
+mod OneRead
+mod OneText
 mod Ordered
 mod Parts
 mod Rows
 mod Rules
+mod RunsInside
 pub mod TakenLines

@@ -4,6 +4,7 @@ pub mod InOrder
 pub mod Indent
 pub mod Lines
 pub mod LinesSteps
+pub mod Outcomes
 pub mod Place
 pub mod Taken
 pub mod Words

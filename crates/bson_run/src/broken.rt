@@ -7,11 +7,9 @@ ghost use Rattle.serde_json.specs.Read.{max_depth};
 ghost use Rattle.bson_run.specs.Place.{Breaks, IsOfToken, IsOfValue, closes, opens};
 
 use crate::rule::Rule;
+use bson_tokens::MAX_DEPTH;
 use json::{Reader, Scratch, Token};
 use std::alloc::AllocError;
-
-/// How deep arrays and objects may nest.
-pub(crate) const MAX_DEPTH: usize = 127;
 
 /// The first rule that the value of a text breaks, where it has none.
 pub(crate) fn rule_of(text: &str, scratch: &mut Scratch) -> Result<Rule, AllocError>

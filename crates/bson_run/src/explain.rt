@@ -2,10 +2,11 @@
 ghost use Rattle.std.specs.Prelude.{IfOk, string_bytes};
 ghost use Rattle.bson_run.specs.Place.{IsPlaced, IsQuote, IsReasonIn, IsStop, IsWhere};
 
+use crate::order::{Taking, Task};
 use crate::quoted::quote;
 use crate::shorten::shorten;
 use crate::stop::Stop;
-use crate::taken::DOUBLE_KEY;
+use crate::taken::{DOUBLE_KEY, take_as};
 use bson_convert::error::Error;
 use bson_place::place::{Place, Reason, Segment};
 use std::alloc::{AllocError, Global};
@@ -33,8 +34,40 @@ pub fn explain(alloc: Global, fault: &Error, text: &[u8]) -> Result<String, Allo
 {
     match fault {
         Error::NotJson => column(alloc, text),
-        Error::NotExtendedJson(place) => place_text(alloc, place, text),
+        Error::NotExtendedJson(place) => place_text(alloc, place, text, None),
         _ => Ok(String::new(alloc)),
+    }
+}
+
+/// [`explain`] of a text that a task refused. If another text was read in its place, the path leads
+/// into that text, and the value there is told only if the first has it at that path, too.
+pub fn explain_under(
+    alloc: Global,
+    task: Task,
+    fault: &Error,
+    text: &[u8],
+) -> Result<String, AllocError>
+    ensures place { IfOk result (λ words. IsWhere text.now fault.now (string_bytes words)) }
+{
+    let Error::NotExtendedJson(place) = fault else {
+        return explain(alloc, fault, text);
+    };
+    match newer_text(alloc, task, text)? {
+        Some(newer) => place_text(alloc, place, text, Some(newer.as_bytes())),
+        None => place_text(alloc, place, text, None),
+    }
+}
+
+// The text that a task read in the place of this one, if it read another.
+fn newer_text(alloc: Global, task: Task, text: &[u8]) -> Result<Option<String>, AllocError> {
+    match task {
+        Task::Taken(Taking::Legacy | Taking::DistinctLegacy, _) => {
+            match take_as(alloc, Taking::Legacy, text) {
+                Ok(newer) => Ok(newer),
+                Err(_) => Err(AllocError),
+            }
+        }
+        _ => Ok(None),
     }
 }
 
@@ -42,19 +75,21 @@ pub fn explain(alloc: Global, fault: &Error, text: &[u8]) -> Result<String, Allo
 fn column(alloc: Global, text: &[u8]) -> Result<String, AllocError>
     ensures { IfOk result (λ words. IsStop text.now (string_bytes words)) }
 {
-    let stop = Stop::of(alloc, text)?;
-    let column = stop.column(text);
-    let rule = stop.rule.message();
-    format!(in alloc; " at column {column} ({rule})")
+    Stop::of(alloc, text)?.message(alloc, text)
 }
 
-// The words for a place in a text.
-fn place_text(alloc: Global, place: &Place, text: &[u8]) -> Result<String, AllocError>
+// The words for a place in a text, or in the newer one that was read.
+fn place_text(
+    alloc: Global,
+    place: &Place,
+    text: &[u8],
+    newer: Option<&[u8]>,
+) -> Result<String, AllocError>
     ensures { IfOk result (λ words. IsPlaced text.now place.now (string_bytes words)) }
 {
     let whole = place.path(alloc)?;
     let path = shorten(alloc, whole.as_str(), MOST, true)?;
-    let reason = reason_in(alloc, place, text)?;
+    let reason = reason_in(alloc, place, text, newer)?;
     let message = shorten(alloc, reason.as_str(), MOST, true)?;
     if path.is_empty() {
         return format!(in alloc; " ({message})");
@@ -63,29 +98,45 @@ fn place_text(alloc: Global, place: &Place, text: &[u8]) -> Result<String, Alloc
 }
 
 // The words for what was expected at a place, and for what is found there in a text.
-fn reason_in(alloc: Global, place: &Place, text: &[u8]) -> Result<String, AllocError>
+fn reason_in(
+    alloc: Global,
+    place: &Place,
+    text: &[u8],
+    newer: Option<&[u8]>,
+) -> Result<String, AllocError>
     ensures { IfOk result (λ words. IsReasonIn text.now place.now.reason (string_bytes words)) }
 {
     match &place.reason {
         Reason::BadObjectId(why) => format!(in alloc; "{why}"),
         Reason::WrongShape(expected) => {
-            let found = quote_at(alloc, expected, &place.segments, text)?;
+            let found = quote_at(alloc, expected, &place.segments, text, newer)?;
             format!(in alloc; "{expected}{found}")
         }
     }
 }
 
-// The words for what is found at a place; none for a key that stands twice, since no value is wrong.
+// The words for what is found at a place; none for a key that stands twice, since no value is wrong,
+// and none if the newer text has another value there.
 fn quote_at(
     alloc: Global,
     expected: &str,
     segments: &[Segment],
     text: &[u8],
+    newer: Option<&[u8]>,
 ) -> Result<String, AllocError>
     ensures { IfOk result (λ words. IsQuote text.now (string_bytes words)) }
 {
     if expected == DOUBLE_KEY {
         return Ok(String::new(alloc));
     }
-    quote(alloc, segments, text)
+    let found = quote(alloc, segments, text)?;
+    let Some(newer) = newer else {
+        return Ok(found);
+    };
+    let other = quote(alloc, segments, newer)?;
+    if other.as_str() == found.as_str() {
+        Ok(found)
+    } else {
+        Ok(String::new(alloc))
+    }
 }

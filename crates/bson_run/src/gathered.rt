@@ -15,7 +15,7 @@ ghost use Rattle.bson_run.specs.declared.order.Task.TheVariants.{Taken};
 ghost use Rattle.bson.specs.declared.extjson.options.Options.{Options};
 
 use crate::encode::{encode_in_order, encode_with};
-use crate::explain::explain;
+use crate::explain::explain_under;
 use crate::in_order::convert_in_order;
 use crate::order::{OnRefusal, Taking, Task, Work};
 use crate::taken::take_as;
@@ -181,11 +181,11 @@ impl Gathered {
         }
     }
 
-    /// Where the fault of the line that is being gathered lies, in the words of `explain`.
-    pub fn place(&self, alloc: Global, fault: &Error) -> Result<String, AllocError>
+    /// Where the fault of the line that is being gathered lies, in the words of `explain_under`.
+    pub fn place(&self, alloc: Global, task: Task, fault: &Error) -> Result<String, AllocError>
         ensures { IfOk result (λ place. IsWhere (text_held self.now) fault.now (string_bytes place)) }
     {
-        explain(alloc, fault, text(self.lines, &self.line))
+        explain_under(alloc, task, fault, text(self.lines, &self.line))
     }
 
     // Adds a piece of the line.
@@ -215,7 +215,7 @@ impl Gathered {
         match judge(alloc, asked, text(self.lines, &self.line)) {
             Ok(None) => {}
             Ok(Some(output)) => self.add(output)?,
-            Err(fault) => self.refuse(alloc, asked.on_refusal, fault)?,
+            Err(fault) => self.refuse(alloc, asked, fault)?,
         }
         self.line.clear();
         self.lines += 1;
@@ -238,9 +238,9 @@ impl Gathered {
     }
 
     // Tells of the line, where refused lines don't stop the run.
-    fn refuse(&mut self, alloc: Global, on_refusal: OnRefusal, fault: Error) -> Step
+    fn refuse(&mut self, alloc: Global, asked: Asked, fault: Error) -> Step
         requires room { HasRoom self.old }
-        ensures ok { OnOk result ((fault ≢ Error.OutOfMemory) × (on_refusal ≢ Stop)
+        ensures ok { OnOk result ((fault ≢ Error.OutOfMemory) × (asked.on_refusal ≢ Stop)
             × (self.new.refused ≡ self.old.refused + 1)
             × ((options : Options) (task : Task) → IsTold options task (self.old.lines + 1) fault
             (text_of self.old.lines self.old.line.items) self.old.told.items self.new.told.items)) }
@@ -248,15 +248,15 @@ impl Gathered {
             × (self.new.refused ≡ self.old.refused)) }
         ensures same { (self.new.line ≡ self.old.line) × (self.new.output ≡ self.old.output)
             × (self.new.lines ≡ self.old.lines) }
-        ensures fault { IfErr result (λ e. (e ≡ Error.OutOfMemory) ⊎ ((on_refusal ≡ Stop) × (e ≡ fault))) }
+        ensures fault { IfErr result (λ e. (e ≡ Error.OutOfMemory) ⊎ ((asked.on_refusal ≡ Stop) × (e ≡ fault))) }
     {
         if fault.is_memory() {
             return Err(fault);
         }
-        if on_refusal == OnRefusal::Stop {
+        if asked.on_refusal == OnRefusal::Stop {
             return Err(fault);
         }
-        match self.tell(alloc, &fault) {
+        match self.tell(alloc, asked.task, &fault) {
             Ok(()) => {}
             Err(_) => return Err(Error::OutOfMemory),
         }
@@ -265,7 +265,7 @@ impl Gathered {
     }
 
     // Adds the verdict on the line.
-    fn tell(&mut self, alloc: Global, fault: &Error) -> Result<(), AllocError>
+    fn tell(&mut self, alloc: Global, task: Task, fault: &Error) -> Result<(), AllocError>
         requires room { HasRoom self.old }
         ensures ok { OnOk result
             ((options : Options) (task : Task) → IsTold options task (self.old.lines + 1) fault.now
@@ -274,7 +274,7 @@ impl Gathered {
         ensures same { (self.new.line ≡ self.old.line) × (self.new.output ≡ self.old.output)
             × (self.new.lines ≡ self.old.lines) × (self.new.refused ≡ self.old.refused) }
     {
-        let place = self.place(alloc, fault)?;
+        let place = self.place(alloc, task, fault)?;
         let verdict = verdict(alloc, self.lines + 1, fault, &place)?;
         self.told.extend_from_slice(verdict.as_bytes())
     }

@@ -63,7 +63,8 @@ pub(crate) fn convert_whole_in_order(
     }
     let arranged = arrange(alloc, Arrangement::FirstPlaces, text.as_str())?;
     drop(text);
-    convert_in_order(alloc, options, mode, arranged.as_bytes())
+    let written = text_of_distinct(alloc, options, mode, arranged.as_str())?;
+    end_line(written)
 }
 
 /// What [`convert_in_order`] gives, without the newline.

@@ -20,6 +20,7 @@ mod gathered;
 pub mod in_order;
 pub mod indent;
 pub mod indented;
+pub mod laws;
 pub mod lines;
 pub mod order;
 mod quoted;

@@ -120,11 +120,11 @@ impl LineRun {
         self.gathered.lines.saturating_add(1)
     }
 
-    /// Where the fault lies in the line at which the run stopped, in the words of `explain`.
+    /// Where the fault lies in the line at which the run stopped, in the words of `explain_under`.
     pub fn place(&self, alloc: Global, fault: &Error) -> Result<String, AllocError>
         ensures { IfOk result (λ place. IsWhere (text_held self.now.gathered) fault.now (string_bytes place)) }
     {
-        self.gathered.place(alloc, fault)
+        self.gathered.place(alloc, self.task, fault)
     }
 }
 

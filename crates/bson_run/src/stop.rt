@@ -1,9 +1,10 @@
 //! Where bytes stop to be a JSON text.
-ghost use Rattle.std.specs.Prelude.{◌≡◌, ◌↔◌, IfOk, IsTrue};
-ghost use Rattle.bson_run.specs.Place.{Breaks, HasGrammar, before_stop, column_at, line_at};
+ghost use Rattle.std.specs.Prelude.{◌≡◌, ◌↔◌, IfOk, IsTrue, string_bytes};
+ghost use Rattle.bson_run.specs.Place.{Breaks, HasGrammar, at_column, before_stop, column_at, line_at};
 
-use crate::broken::{MAX_DEPTH, rule_of};
+use crate::broken::rule_of;
 use crate::rule::Rule;
+use bson_tokens::MAX_DEPTH;
 use bson_tokens::number::number;
 use json::{Reader, Scratch, Token};
 use std::alloc::{AllocError, Global};
@@ -58,6 +59,15 @@ impl Stop {
     {
         let line = self.before(bytes).iter().rev();
         1 + line.take_while(|byte| **byte != b'\n').count()
+    }
+
+    /// What a program says of it: the column and the rule, to be put behind the words for the error.
+    pub fn message(self, alloc: Global, bytes: &[u8]) -> Result<String, AllocError>
+        ensures { IfOk result (λ words. string_bytes words ≡ at_column (column_at self.offset bytes.now) self.rule) }
+    {
+        let column = self.column(bytes);
+        let rule = self.rule.message();
+        format!(in alloc; " at column {column} ({rule})")
     }
 
     // The bytes before it, which are not all.

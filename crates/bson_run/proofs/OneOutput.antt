@@ -1,0 +1,244 @@
+-- What is written of a text is one output, and what has no bytes has none for one cause.
+use Rattle.std.proofs.Common.{◌≡◌, ◌⊎◌, inl, inr, ℕ, List, ◌++◌, Some, None, refl, ap, sym, ◌∙◌, subst}
+use Rattle.std.specs.Prelude.{IsUtf8}
+use Rattle.serde_json.specs.Read.{read}
+use Rattle.bson.proofs.Offered.{tree_one}
+use Rattle.bson.specs.TextMeaning.{HasTextMeaningIn, IsNoText}
+use Rattle.bson.specs.declared.extjson.options.Options.{Options}
+use Rattle.bson_codec.specs.Canonical.{Cause, zero_in_key, zero_in_regex, too_long, DocumentFails, FitsDocument}
+use Rattle.bson_model.specs.Fault.{fault_of_in}
+use Rattle.bson_model.specs.Means.{MeansIn}
+use Rattle.bson_model.specs.Sorted.{sorted}
+use Rattle.bson_model.specs.Value.{Pairs, Value, document}
+use Rattle.bson_order.specs.Texts.{HasMeaningInOrder}
+use Rattle.bson_place.proofs.Offered.{one_path}
+use Rattle.bson_place.specs.Place.{FaultAtIn, path_of}
+use Rattle.bson_place.specs.declared.place.Place.{Place}
+use Rattle.bson_scalar.specs.TreeText.{tree_text}
+use Rattle.bson_scalar.specs.declared.form.Form.TheVariants as form
+use Rattle.bson_convert.specs.Convert.{ConvertsIn, IsAccepted, IsOutputIn, IsRefusedIn, newline}
+use Rattle.bson_convert.specs.declared.error.Error.TheVariants.{NotExtendedJson, NoBytes}
+use Rattle.bson_convert.specs.declared.mode.Mode.{Mode}
+use Rattle.bson_convert.specs.declared.mode.Mode.TheVariants.{Canonical, Relaxed, Show}
+use Rattle.bson_convert.specs.declared.no_bytes.NoBytes as without
+use Rattle.bson_convert.specs.declared.no_bytes.NoBytes.TheVariants.{NoDocument, ZeroInKey, ZeroInRegex, TooLong}
+use Rattle.bson_run.proofs.EncodeLaws.{ascending_one, in_order_one, kept_one, same_pairs, value_one}
+use Rattle.bson_run.proofs.OneRead.{blank_taken, blank_turned, one_taken}
+use Rattle.bson_run.specs.Encode.{FailsFor, HasNoBytesFor, IsBytesOf, IsNoDocument, MeansKept}
+use Rattle.bson_run.specs.InOrder.{ConvertsInOrder, IsOutputInOrder}
+use Rattle.bson_run.specs.Lines.{IsBlank, IsWithoutBytes, WorksIn, WritesIn}
+use Rattle.bson_run.specs.Taken.{IsTakenAs, IsTurnedAway}
+use Rattle.bson_run.specs.declared.order.Task.{Task}
+use Rattle.bson_run.specs.declared.order.Task.TheVariants.{Write, WriteInOrder, Check, Encode, EncodeInOrder, Taken}
+use Rattle.bson_run.specs.declared.order.Work.{Work}
+use Rattle.bson_run.specs.declared.order.Work.TheVariants as work
+
+-- ---- what is read in the place of a text
+
+abbrev pub Reads : Task → (text read : List ℕ) → Type 0
+Reads (Taken taking work) text read = IsTakenAs taking text read
+Reads task text read = read ≡ text
+
+abbrev pub Turned : Task → Place → List ℕ → Type 0
+Turned (Taken taking work) place text = IsTurnedAway taking place text
+Turned task place text = ⊥
+
+pub one_read : (task : Task) (text a b : List ℕ) → Reads task text a → Reads task text b → a ≡ b
+one_read (Write mode) text a b x y = x ∙ sym y
+one_read (WriteInOrder mode) text a b x y = x ∙ sym y
+one_read Check text a b x y = x ∙ sym y
+one_read Encode text a b x y = x ∙ sym y
+one_read EncodeInOrder text a b x y = x ∙ sym y
+one_read (Taken taking work) text a b x y = one_taken taking text a b x y
+
+pub blank_read : (task : Task) (text a : List ℕ) → IsBlank text → Reads task text a → a ≡ text
+blank_read (Write mode) text a h x = x
+blank_read (WriteInOrder mode) text a h x = x
+blank_read Check text a h x = x
+blank_read Encode text a h x = x
+blank_read EncodeInOrder text a h x = x
+blank_read (Taken taking work) text a h x = blank_taken taking text a h x
+
+pub turned_blank : (task : Task) (place : Place) (text : List ℕ) → IsBlank text → Turned task place text → ⊥
+turned_blank (Write mode) place text h x = x
+turned_blank (WriteInOrder mode) place text h x = x
+turned_blank Check place text h x = x
+turned_blank Encode place text h x = x
+turned_blank EncodeInOrder place text h x = x
+turned_blank (Taken taking work) place text h x = blank_turned taking place text h x
+
+-- ---- causes
+
+abbrev pub of_cause : Cause → without.NoBytes
+of_cause zero_in_key = ZeroInKey
+of_cause zero_in_regex = ZeroInRegex
+of_cause too_long = TooLong
+
+abbrev pub Fails : (Value → Type 0) → without.NoBytes → Type 0
+Fails P why = ((why ≡ NoDocument) × IsNoDocument P)
+    ⊎ ((cause : Cause) × (why ≡ of_cause cause) × FailsFor P cause)
+
+pub fails_of : (P : Value → Type 0) (why : without.NoBytes) → HasNoBytesFor P why → Fails P why
+fails_of P NoDocument h = inl (refl, h)
+fails_of P ZeroInKey h = inr (zero_in_key, refl, h)
+fails_of P ZeroInRegex h = inr (zero_in_regex, refl, h)
+fails_of P TooLong h = inr (too_long, refl, h)
+
+module _ (P : Value → Type 0) (one : (v w : Value) → P v → P w → v ≡ w)
+    (no_cause : (ps : Pairs) (c : Cause) → FitsDocument ps → DocumentFails c ps → ⊥)
+    (one_cause : (ps : Pairs) (c e : Cause) → DocumentFails c ps → DocumentFails e ps → c ≡ e) where
+  pairs_one : (ps qs : Pairs) → P (document ps) → P (document qs) → ps ≡ qs
+  pairs_one ps qs x y = same_pairs (one (document ps) (document qs) x y)
+
+  pub same_cause : (why other : without.NoBytes) → Fails P why → Fails P other → why ≡ other
+  same_cause why other (inl (e, n)) (inl (g, m)) = e ∙ sym g
+  same_cause why other (inl (e, n)) (inr (c, g, f)) =
+      absurd (n.other f.pairs (one n.value (document f.pairs) n.meaning f.meaning))
+  same_cause why other (inr (c, e, f)) (inl (g, n)) =
+      absurd (n.other f.pairs (one n.value (document f.pairs) n.meaning f.meaning))
+  same_cause why other (inr (c, e, f)) (inr (d, g, k)) =
+      let pairs : k.pairs ≡ f.pairs = pairs_one k.pairs f.pairs k.meaning f.meaning in
+      let causes : c ≡ d = one_cause f.pairs c d f.fails (subst (DocumentFails d) pairs k.fails) in
+      e ∙ ap of_cause causes ∙ sym g
+
+  pub has_bytes : (why : without.NoBytes) (bytes : List ℕ) → IsBytesOf P bytes → Fails P why → ⊥
+  has_bytes why bytes b (inl (e, n)) = n.other b.pairs (one n.value (document b.pairs) n.meaning b.meaning)
+  has_bytes why bytes b (inr (c, e, f)) =
+      let pairs : f.pairs ≡ b.pairs = pairs_one f.pairs b.pairs f.meaning b.meaning in
+      no_cause b.pairs c b.fits (subst (DocumentFails c) pairs f.fails)
+
+-- ---- what a text means
+
+module _ (o : Options) where
+  by_default : (text : List ℕ) (v : Value) → IsUtf8 text → HasMeaningInOrder o.doubles text v → IsAccepted o text
+  by_default text v utf8 m =
+      (m.by_default.0, sorted v, record { utf8 = utf8; tree_read = m.by_default.1 }, m.by_default.2.means)
+
+  meant : (text : List ℕ) (v : Value) → HasTextMeaningIn o.doubles text v → IsAccepted o text
+  meant text v m = (m.tree, v, m.text, m.meaning.means)
+
+  converts : (mode : Mode) (text out : List ℕ) → ConvertsIn o mode text out → IsAccepted o text
+  converts mode text out x = (x.tree, x.value, x.text, x.meaning.means)
+
+  converts_in_order : (mode : Mode) (text out : List ℕ) → ConvertsInOrder o mode text out → IsAccepted o text
+  converts_in_order mode text out x = by_default text x.value x.utf8 x.meaning
+
+  works : (it : Work) (text out : List ℕ) → WorksIn o it text out → IsAccepted o text
+  works (work.Write mode) text out x = converts mode text out x
+  works (work.WriteInOrder mode) text out x = converts_in_order mode text out x
+  works work.Check text out x = converts Canonical text x.0.0 x.0.1
+
+  pub no_text : (text : List ℕ) → IsAccepted o text → IsNoText text → ⊥
+  no_text text (t, v, is, m) h =
+      let none : read text ≡ None = h is.utf8 in let some : read text ≡ Some t = is.tree_read in cc
+
+  pub no_fault : (text : List ℕ) (place : Place) → IsAccepted o text → IsRefusedIn o (NotExtendedJson place) text → ⊥
+  no_fault text place (t, v, is, m) h =
+      h.2.nothing v (subst (λ u. MeansIn o.doubles u v) (tree_one text t h.0 is h.1) m)
+
+  pub fault_text : (text : List ℕ) (place : Place) → IsRefusedIn o (NotExtendedJson place) text → IsNoText text → ⊥
+  fault_text text place (t, is, first) h =
+      let none : read text ≡ None = h is.utf8 in let some : read text ≡ Some t = is.tree_read in cc
+
+  pub same_path : (text : List ℕ) (place other : Place) → IsRefusedIn o (NotExtendedJson place) text
+      → IsRefusedIn o (NotExtendedJson other) text → path_of place ≡ path_of other
+  same_path text place other (t, is, x) (u, also, y) =
+      let trees : u ≡ t = tree_one text u t also is in
+      one_path o.doubles x.path
+      (subst (λ d. FaultAtIn o.doubles (fault_of_in o.doubles d) d (path_of other)) trees y.path)
+
+  -- ---- what is written
+
+  one_output : (mode : Mode) (v : Value) (a b : List ℕ) → IsOutputIn o mode v a → IsOutputIn o mode v b → a ≡ b
+  one_output Canonical v a b x y =
+      x.line.text
+      ∙ ap (λ t. tree_text o.doubles form.Canonical t ++ newline) (y.is_tree.one x.tree x.is_tree.written)
+      ∙ sym y.line.text
+  one_output Relaxed v a b x y =
+      x.line.text ∙ ap (λ t. tree_text o.doubles form.Relaxed t ++ newline) (y.is_tree.one x.tree x.is_tree.written)
+      ∙ sym y.line.text
+  one_output Show v a b x y = x ∙ sym y
+
+  one_converted : (mode : Mode) (text a b : List ℕ) → ConvertsIn o mode text a → ConvertsIn o mode text b → a ≡ b
+  one_converted mode text a b x y =
+      let mine : HasTextMeaningIn o.doubles text x.value =
+      record { tree = x.tree; text = x.text; meaning = x.meaning } in
+      let other : HasTextMeaningIn o.doubles text y.value =
+      record { tree = y.tree; text = y.text; meaning = y.meaning } in
+      one_output mode x.value a b x.is_output
+      (subst (λ v. IsOutputIn o mode v b) (value_one o text x.value mine y.value other) y.is_output)
+
+  one_output_in_order : (mode : Mode) (v : Value) (a b : List ℕ) → IsOutputInOrder o mode v a
+      → IsOutputInOrder o mode v b → a ≡ b
+  one_output_in_order Canonical v a b x y =
+      let trees = y.is_text.one x.is_text.tree x.is_text.written in
+      let texts : x.text ≡ y.text =
+      x.is_text.compact ∙ ap (tree_text o.doubles form.Canonical) trees ∙ sym y.is_text.compact in
+      x.line ∙ ap (λ t. t ++ newline) texts ∙ sym y.line
+  one_output_in_order Relaxed v a b x y =
+      let trees = y.is_text.one x.is_text.tree x.is_text.written in
+      let texts : x.text ≡ y.text =
+      x.is_text.compact ∙ ap (tree_text o.doubles form.Relaxed) trees ∙ sym y.is_text.compact in
+      x.line ∙ ap (λ t. t ++ newline) texts ∙ sym y.line
+  one_output_in_order Show v a b x y = x ∙ sym y
+
+  one_in_order : (mode : Mode) (text a b : List ℕ) → ConvertsInOrder o mode text a → ConvertsInOrder o mode text b
+      → a ≡ b
+  one_in_order mode text a b x y =
+      one_output_in_order mode x.value a b x.is_output
+      (subst (λ v. IsOutputInOrder o mode v b)
+      (kept_one o text x.value (x.utf8, x.meaning) y.value (y.utf8, y.meaning)) y.is_output)
+
+  one_work : (it : Work) (text a b : List ℕ) → WorksIn o it text a → WorksIn o it text b → a ≡ b
+  one_work (work.Write mode) text a b x y = one_converted mode text a b x y
+  one_work (work.WriteInOrder mode) text a b x y = one_in_order mode text a b x y
+  one_work work.Check text a b x y = x.1 ∙ sym y.1
+
+  pub one_written : (task : Task) (text a b : List ℕ) → WritesIn o task text a → WritesIn o task text b → a ≡ b
+  one_written (Write mode) text a b x y = one_converted mode text a b x y
+  one_written (WriteInOrder mode) text a b x y = one_in_order mode text a b x y
+  one_written Check text a b x y = x.1 ∙ sym y.1
+  one_written Encode text a b x y = ascending_one o text b a y x
+  one_written EncodeInOrder text a b x y = in_order_one o text b a y x
+  one_written (Taken taking it) text a b x y =
+      one_work it x.0 a b x.2
+      (subst (λ t. WorksIn o it t b) (one_taken taking text y.0 x.0 y.1 x.1) y.2)
+
+  -- what is written of a text means something
+  pub written_read : (task : Task) (text a : List ℕ) → WritesIn o task text a
+      → (read : List ℕ) × Reads task text read × IsAccepted o read
+  written_read (Write mode) text a x = (text, refl, converts mode text a x)
+  written_read (WriteInOrder mode) text a x = (text, refl, converts_in_order mode text a x)
+  written_read Check text a x = (text, refl, converts Canonical text x.0.0 x.0.1)
+  written_read Encode text a x = (text, refl, meant text (document x.pairs) x.meaning)
+  written_read EncodeInOrder text a x =
+      (text, refl, by_default text (document x.pairs) x.meaning.0 x.meaning.1)
+  written_read (Taken taking it) text a x = (x.0, x.1, works it x.0 a x.2)
+
+  -- ---- what has no bytes
+
+  pub one_meant : (text : List ℕ) (v w : Value) → HasTextMeaningIn o.doubles text v → HasTextMeaningIn o.doubles text w
+      → v ≡ w
+  one_meant text v w x y = value_one o text w y v x
+
+  pub one_kept : (text : List ℕ) (v w : Value) → MeansKept o text v → MeansKept o text w → v ≡ w
+  one_kept text v w x y = kept_one o text w y v x
+
+  fails_meant : (text : List ℕ) (why : without.NoBytes) → Fails (HasTextMeaningIn o.doubles text) why
+      → IsAccepted o text
+  fails_meant text why (inl (e, n)) = meant text n.value n.meaning
+  fails_meant text why (inr (c, e, f)) = meant text (document f.pairs) f.meaning
+
+  fails_kept : (text : List ℕ) (why : without.NoBytes) → Fails (MeansKept o text) why → IsAccepted o text
+  fails_kept text why (inl (e, n)) = by_default text n.value n.meaning.0 n.meaning.1
+  fails_kept text why (inr (c, e, f)) = by_default text (document f.pairs) f.meaning.0 f.meaning.1
+
+  pub without_read : (task : Task) (why : without.NoBytes) (text : List ℕ) → IsWithoutBytes o task why text
+      → Reads task text text × IsAccepted o text
+  without_read (Write mode) why text h = absurd h
+  without_read (WriteInOrder mode) why text h = absurd h
+  without_read Check why text h = absurd h
+  without_read Encode why text h =
+      (refl, fails_meant text why (fails_of (HasTextMeaningIn o.doubles text) why h))
+  without_read EncodeInOrder why text h = (refl, fails_kept text why (fails_of (MeansKept o text) why h))
+  without_read (Taken taking it) why text h = absurd h

@@ -1,0 +1,167 @@
+-- One text is read in the place of a text, and a blank text is none.
+use Rattle.std.proofs.Common.{◌≡◌, ◌⊎◌, inl, inr, ℕ, List, [], ◌∷◌, Some, None, option_map, option_and_then, refl, ap, sym, ◌∙◌, subst}
+use Rattle.std.proofs.lemmas.List.Elements.{All-head, All-tail}
+use Rattle.std.specs.Prelude.{IsUtf8}
+use Rattle.json.specs.Json as json
+use Rattle.json.specs.Lex.{lex, between, fresh, punctuate}
+use Rattle.json.specs.Print.{print}
+use Rattle.json.specs.Strict.{HasUniqueKeys}
+use Rattle.json.specs.Tree.{json_tokens}
+use Rattle.serde_json.specs.Data.{Data, null, boolean, number, string, array, object, Items, no_items, item, Members}
+use Rattle.serde_json.specs.Data.{no_members, put}
+use Rattle.serde_json.specs.Read.{max_depth, of_json, of_items, of_members, read}
+use Rattle.bson.specs.TextMeaning.{IsTextOf}
+use Rattle.bson_distinct.specs.Arranged.{arranged, HasNumbers, ItemsHaveNumbers, MembersHaveNumbers, IsArrangedText}
+use Rattle.bson_distinct.specs.Double.{DoubleAt, json_of}
+use Rattle.bson_distinct.specs.declared.arrangement.Arrangement.TheVariants.{FirstPlaces}
+use Rattle.bson_legacy.specs.Modern.{modern}
+use Rattle.bson_legacy.specs.Text.{IsModernText}
+use Rattle.bson_place.specs.Place.{PathSegment, path_of}
+use Rattle.bson_place.specs.declared.place.Place.{Place}
+use Rattle.bson_run.specs.Lines.{IsBlank}
+use Rattle.bson_run.specs.Taken.{HasDoubleKeyAt, HasNoDoubleKey, IsNoJson, IsTakenAs, IsTurnedAway, StandsFor}
+use Rattle.bson_run.specs.declared.order.Taking.{Taking}
+use Rattle.bson_run.specs.declared.order.Taking.TheVariants.{Distinct, Legacy, DistinctLegacy}
+
+-- ---- a JSON text each of whose numbers is in range is read
+
+mutual
+  tree_read : (j : json.Json) → HasNumbers j → (d : Data) × (of_json j ≡ Some d)
+  tree_read json.null h = (null, refl)
+  tree_read (json.boolean b) h = (boolean b, refl)
+  tree_read (json.number s) h = (number h.0, ap (option_map number) h.1)
+  tree_read (json.string s) h = (string s, refl)
+  tree_read (json.array js) h =
+      let ds = items_read js h in
+      (array ds.0, ap (option_map array) ds.1)
+  tree_read (json.object ms) h =
+      let ds = members_read ms no_members h in
+      (object ds.0, ap (option_map object) ds.1)
+
+  items_read : (js : json.Items) → ItemsHaveNumbers js → (ds : Items) × (of_items js ≡ Some ds)
+  items_read json.no_items h = (no_items, refl)
+  items_read (json.item j js) h =
+      let d = tree_read j h.0 in
+      let ds = items_read js h.1 in (
+        item d.0 ds.0,
+        ap (option_and_then (λ x. option_map (item x) (of_items js))) d.1 ∙ ap (option_map (item d.0)) ds.1,
+      )
+
+  members_read : (ms : json.Members) (found : Members) → MembersHaveNumbers ms
+      → (ds : Members) × (of_members ms found ≡ Some ds)
+  members_read json.no_members found h = (found, refl)
+  members_read (json.member k j ms) found h =
+      let d = tree_read j h.0 in
+      let ds = members_read ms (put k d.0 found) h.1 in
+      (ds.0, ap (option_and_then (λ x. of_members ms (put k x found))) d.1 ∙ ds.1)
+
+is_read : (text written : List ℕ) → IsArrangedText FirstPlaces text written → (d : Data) × (read text ≡ Some d)
+is_read text written is =
+    let d = tree_read is.tree is.numbers in
+    (d.0, ap (option_and_then of_json) is.is_tree ∙ d.1)
+
+-- ---- one text in the place of another
+
+one_modern : (text a b : List ℕ) → IsModernText text a → IsModernText text b → a ≡ b
+one_modern text a b x y =
+    let i : json_of text ≡ Some x.is_resolved.tree = x.is_resolved.is_tree in
+    let j : json_of text ≡ Some y.is_resolved.tree = y.is_resolved.is_tree in
+    let trees : x.is_resolved.tree ≡ y.is_resolved.tree = cc in
+    x.compact ∙ (ap (λ t. print (json_tokens (modern (arranged FirstPlaces t)))) trees ∙ sym y.compact)
+
+not_json : (text a : List ℕ) → IsUtf8 text → IsModernText text a → IsNoJson text → ⊥
+not_json text a utf8 x none =
+    let d = is_read text x.resolved x.is_resolved in
+    none d.0 utf8 d.1
+
+one_newer : (text a b : List ℕ) → StandsFor text a → StandsFor text b → a ≡ b
+one_newer text a b (inl x) (inl y) = one_modern text a b x.1 y.1
+one_newer text a b (inl x) (inr y) = absurd (not_json text a x.0 x.1 y.0)
+one_newer text a b (inr x) (inl y) = absurd (not_json text b y.0 y.1 x.0)
+one_newer text a b (inr x) (inr y) = x.1 ∙ sym y.1
+
+pub one_taken : (taking : Taking) (text a b : List ℕ) → IsTakenAs taking text a → IsTakenAs taking text b → a ≡ b
+one_taken Distinct text a b x y = x.1 ∙ sym y.1
+one_taken Legacy text a b x y = one_newer text a b x y
+one_taken DistinctLegacy text a b x y = one_newer text a b x.1 y.1
+
+-- ---- a blank text
+
+passed : (x : ℕ) (xs : List ℕ) → (x ≡ 32) ⊎ ((x ≡ 9) ⊎ (x ≡ 13)) → lex between (x ∷ xs) ≡ lex between xs
+unfolding lex
+passed x xs (inl e) = ap (λ y. lex between (y ∷ xs)) e
+passed x xs (inr (inl e)) = ap (λ y. lex between (y ∷ xs)) e
+passed x xs (inr (inr e)) = ap (λ y. lex between (y ∷ xs)) e
+
+no_lexeme : (text : List ℕ) → IsBlank text → lex between text ≡ lex between []
+no_lexeme [] h = refl
+no_lexeme (x ∷ xs) h =
+    passed x xs (All-head (λ y. (y ≡ 32) ⊎ ((y ≡ 9) ⊎ (y ≡ 13))) x xs h)
+    ∙ no_lexeme xs (All-tail (λ y. (y ≡ 32) ⊎ ((y ≡ 9) ⊎ (y ≡ 13))) x xs h)
+
+nothing : json_of [] ≡ None
+unfolding lex punctuate json.value
+nothing = refl
+
+blank_tree : (text : List ℕ) → IsBlank text → json_of text ≡ None
+blank_tree text h =
+    ap (λ ls. option_and_then (λ p. json.if_last p.0 p.1) (json.value max_depth (punctuate fresh ls))) (no_lexeme text h)
+    ∙ nothing
+
+pub blank_text : (text : List ℕ) (t : Data) → IsBlank text → IsTextOf text t → ⊥
+blank_text text t h is =
+    let none : read text ≡ None = ap (option_and_then of_json) (blank_tree text h) in
+    let some : read text ≡ Some t = is.tree_read in
+    cc
+
+stays : (text a : List ℕ) → IsBlank text → StandsFor text a → a ≡ text
+stays text a h (inl x) =
+    let none : json_of text ≡ None = blank_tree text h in
+    let some : json_of text ≡ Some x.1.is_resolved.tree = x.1.is_resolved.is_tree in
+    absurd cc
+stays text a h (inr x) = x.1
+
+-- it is read itself
+pub blank_taken : (taking : Taking) (text a : List ℕ) → IsBlank text → IsTakenAs taking text a → a ≡ text
+blank_taken Distinct text a h x = x.1
+blank_taken Legacy text a h x = stays text a h x
+blank_taken DistinctLegacy text a h x = stays text a h x.1
+
+blank_double : (place : Place) (text : List ℕ) → IsBlank text → HasDoubleKeyAt place text → ⊥
+blank_double place text h x =
+    let none : json_of text ≡ None = blank_tree text h in
+    let some : json_of text ≡ Some x.1.0 = x.1.1 in
+    cc
+
+-- and not turned away
+pub blank_turned : (taking : Taking) (place : Place) (text : List ℕ) → IsBlank text → IsTurnedAway taking place text → ⊥
+blank_turned Distinct place text h x = blank_double place text h x
+blank_turned Legacy place text h x = x
+blank_turned DistinctLegacy place text h x = blank_double place text h x
+
+-- ---- a text that is turned away
+
+module _ (twice : (j : json.Json) (path : List PathSegment) → DoubleAt j path → ¬ HasUniqueKeys j) where
+  not_both : (place : Place) (text : List ℕ) → HasDoubleKeyAt place text → HasNoDoubleKey text → ⊥
+  not_both place text h none = twice h.1.0 (path_of place) h.1.2 (none h.1.0 h.0 h.1.1)
+
+  pub not_taken : (taking : Taking) (place : Place) (text a : List ℕ) → IsTurnedAway taking place text
+      → IsTakenAs taking text a → ⊥
+  not_taken Distinct place text a h is = not_both place text h is.0
+  not_taken Legacy place text a h is = h
+  not_taken DistinctLegacy place text a h is = not_both place text h is.0
+
+module _ (one_path : (j : json.Json) (path other : List PathSegment) → DoubleAt j path → DoubleAt j other → path ≡ other) where
+  one_double : (place other : Place) (text : List ℕ) → HasDoubleKeyAt place text → HasDoubleKeyAt other text
+      → path_of place ≡ path_of other
+  one_double place other text x y =
+      let a : json_of text ≡ Some x.1.0 = x.1.1 in
+      let b : json_of text ≡ Some y.1.0 = y.1.1 in
+      let same : y.1.0 ≡ x.1.0 = cc in
+      one_path x.1.0 (path_of place) (path_of other) x.1.2 (subst (λ j. DoubleAt j (path_of other)) same y.1.2)
+
+  pub one_turned : (taking : Taking) (place other : Place) (text : List ℕ) → IsTurnedAway taking place text
+      → IsTurnedAway taking other text → path_of place ≡ path_of other
+  one_turned Distinct place other text x y = one_double place other text x y
+  one_turned Legacy place other text x y = absurd x
+  one_turned DistinctLegacy place other text x y = one_double place other text x y

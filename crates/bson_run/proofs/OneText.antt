@@ -1,0 +1,184 @@
+-- A text is blank, or is written as one output, or is refused for one fault.
+use Rattle.std.proofs.Common.{◌≡◌, inl, inr, ℕ, List, refl, subst}
+use Rattle.json.specs.Json.{Json}
+use Rattle.json.specs.Strict.{HasUniqueKeys}
+use Rattle.serde_json.specs.Read.{read}
+use Rattle.bson.specs.TextMeaning.{HasTextMeaningIn, IsNoText, IsTextOf}
+use Rattle.bson.specs.declared.extjson.options.Options.{Options}
+use Rattle.bson_codec.specs.Canonical.{Cause, DocumentFails, FitsDocument}
+use Rattle.bson_distinct.specs.Double.{DoubleAt}
+use Rattle.bson_model.specs.Value.{Pairs}
+use Rattle.bson_place.specs.Place.{PathSegment, path_of}
+use Rattle.bson_place.specs.declared.place.Place.{Place}
+use Rattle.bson_convert.specs.Convert.{IsAccepted, IsRefusedIn}
+use Rattle.bson_convert.specs.declared.error.Error.{Error}
+use Rattle.bson_convert.specs.declared.error.Error.TheVariants.{CannotRead, NotJson, NotExtendedJson, NoBytes, OutOfMemory}
+use Rattle.bson_convert.specs.declared.error.Error.TheVariants.{CannotWrite}
+use Rattle.bson_convert.specs.declared.no_bytes.NoBytes as without
+use Rattle.bson_run.proofs.OneRead.{blank_text, not_taken, one_turned}
+use Rattle.bson_run.specs.Encode.{MeansKept}
+use Rattle.bson_run.specs.Lines.{IsBadLineIn, IsBlank, IsWithoutBytes, WritesIn}
+use Rattle.bson_run.specs.Outcomes.{IsSameFault}
+use Rattle.bson_run.specs.declared.order.Task.{Task}
+use Rattle.bson_run.specs.declared.order.Task.TheVariants.{Write, WriteInOrder, Check, Encode, EncodeInOrder, Taken}
+use Rattle.bson_run.proofs.OneOutput.{Reads, Turned, blank_read, fails_of, fault_text, has_bytes, no_fault, no_text, one_kept, one_meant}
+use Rattle.bson_run.proofs.OneOutput.{one_read, one_written, same_cause, same_path, turned_blank, without_read, written_read}
+
+-- what a text gives is one thing
+pub record Decided (o : Options) (task : Task) : Type 0 where
+  pub one_text : (text a b : List ℕ) → WritesIn o task text a → WritesIn o task text b → a ≡ b
+  pub written_blank : (text a : List ℕ) → WritesIn o task text a → IsBlank text → ⊥
+  pub written_bad : (text a : List ℕ) (fault : Error) → WritesIn o task text a → IsBadLineIn o task fault text → ⊥
+  pub blank_bad : (text : List ℕ) (fault : Error) → IsBlank text → IsBadLineIn o task fault text → ⊥
+  pub same_fault : (text : List ℕ) (fault cause : Error) → IsBadLineIn o task fault text → IsBadLineIn o task cause text
+      → IsSameFault fault cause
+
+-- ---- why a line is refused
+
+data View (o : Options) (task : Task) (text : List ℕ) : Error → Type 0 where
+  unread : (read : List ℕ) → Reads task text read → IsNoText read → (IsBlank text → ⊥) → View o task text NotJson
+  meaningless : (place : Place) (read : List ℕ) → Reads task text read → IsRefusedIn o (NotExtendedJson place) read
+      → View o task text (NotExtendedJson place)
+  turned : (place : Place) → Turned task place text → View o task text (NotExtendedJson place)
+  bare : (why : without.NoBytes) → IsWithoutBytes o task why text → View o task text (NoBytes why)
+
+view : (o : Options) (task : Task) (text : List ℕ) (fault : Error) → IsBadLineIn o task fault text
+    → View o task text fault
+view o (Write mode) text NotJson h = unread text refl h.0 h.1
+view o (WriteInOrder mode) text NotJson h = unread text refl h.0 h.1
+view o Check text NotJson h = unread text refl h.0 h.1
+view o Encode text NotJson h = unread text refl h.0 h.1
+view o EncodeInOrder text NotJson h = unread text refl h.0 h.1
+view o (Taken taking it) text NotJson h = unread h.0.0 h.0.1 h.0.2 h.1
+view o (Write mode) text (NotExtendedJson place) h = meaningless place text refl h
+view o (WriteInOrder mode) text (NotExtendedJson place) h = meaningless place text refl h
+view o Check text (NotExtendedJson place) h = meaningless place text refl h
+view o Encode text (NotExtendedJson place) h = meaningless place text refl h
+view o EncodeInOrder text (NotExtendedJson place) h = meaningless place text refl h
+view o (Taken taking it) text (NotExtendedJson place) (inl h) = meaningless place h.0 h.1 h.2
+view o (Taken taking it) text (NotExtendedJson place) (inr h) = turned place h
+view o task text (NoBytes why) h = bare why h
+view o task text CannotRead h = absurd h
+view o task text OutOfMemory h = absurd h
+view o task text CannotWrite h = absurd h
+
+module _ (twice : (j : Json) (path : List PathSegment) → DoubleAt j path → ¬ HasUniqueKeys j)
+    (one_double : (j : Json) (path other : List PathSegment) → DoubleAt j path → DoubleAt j other → path ≡ other)
+    (no_cause : (ps : Pairs) (c : Cause) → FitsDocument ps → DocumentFails c ps → ⊥)
+    (one_cause : (ps : Pairs) (c e : Cause) → DocumentFails c ps → DocumentFails e ps → c ≡ e)
+    (o : Options) where
+  not_turned : (task : Task) (place : Place) (text a : List ℕ) → Turned task place text → Reads task text a → ⊥
+  not_turned (Write mode) place text a h is = h
+  not_turned (WriteInOrder mode) place text a h is = h
+  not_turned Check place text a h is = h
+  not_turned Encode place text a h is = h
+  not_turned EncodeInOrder place text a h is = h
+  not_turned (Taken taking it) place text a h is = not_taken twice taking place text a h is
+
+  both_turned : (task : Task) (place other : Place) (text : List ℕ) → Turned task place text → Turned task other text
+      → path_of place ≡ path_of other
+  both_turned (Write mode) place other text x y = absurd x
+  both_turned (WriteInOrder mode) place other text x y = absurd x
+  both_turned Check place other text x y = absurd x
+  both_turned Encode place other text x y = absurd x
+  both_turned EncodeInOrder place other text x y = absurd x
+  both_turned (Taken taking it) place other text x y = one_turned one_double taking place other text x y
+
+  both_bare : (task : Task) (why other : without.NoBytes) (text : List ℕ) → IsWithoutBytes o task why text
+      → IsWithoutBytes o task other text → why ≡ other
+  both_bare (Write mode) why other text x y = absurd x
+  both_bare (WriteInOrder mode) why other text x y = absurd x
+  both_bare Check why other text x y = absurd x
+  both_bare Encode why other text x y =
+      let P = HasTextMeaningIn o.doubles text in
+      same_cause P (one_meant o text) no_cause one_cause why other (fails_of P why x) (fails_of P other y)
+  both_bare EncodeInOrder why other text x y =
+      let P = MeansKept o text in
+      same_cause P (one_kept o text) no_cause one_cause why other (fails_of P why x) (fails_of P other y)
+  both_bare (Taken taking it) why other text x y = absurd x
+
+  not_bare : (task : Task) (why : without.NoBytes) (text a : List ℕ) → WritesIn o task text a
+      → IsWithoutBytes o task why text → ⊥
+  not_bare (Write mode) why text a w h = h
+  not_bare (WriteInOrder mode) why text a w h = h
+  not_bare Check why text a w h = h
+  not_bare Encode why text a w h =
+      let P = HasTextMeaningIn o.doubles text in
+      has_bytes P (one_meant o text) no_cause one_cause why a w (fails_of P why h)
+  not_bare EncodeInOrder why text a w h =
+      let P = MeansKept o text in
+      has_bytes P (one_kept o text) no_cause one_cause why a w (fails_of P why h)
+  not_bare (Taken taking it) why text a w h = h
+
+  module _ (task : Task) (text : List ℕ) where
+    -- what is read is no text of a value, and one
+    apart : (a b : List ℕ) → Reads task text a → Reads task text b → IsAccepted o a → IsNoText b → ⊥
+    apart a b x y accepted none = no_text o a accepted (subst IsNoText (one_read task text b a y x) none)
+
+    unmeant : (a b : List ℕ) (place : Place) → Reads task text a → Reads task text b → IsAccepted o a
+        → IsRefusedIn o (NotExtendedJson place) b → ⊥
+    unmeant a b place x y accepted h =
+        no_fault o a place accepted (subst (IsRefusedIn o (NotExtendedJson place)) (one_read task text b a y x) h)
+
+    untexted : (a b : List ℕ) (place : Place) → Reads task text a → Reads task text b
+        → IsRefusedIn o (NotExtendedJson place) a → IsNoText b → ⊥
+    untexted a b place x y h none =
+        fault_text o a place h (subst IsNoText (one_read task text b a y x) none)
+
+    viewed_written : (a : List ℕ) (fault : Error) → WritesIn o task text a → View o task text fault → ⊥
+    viewed_written a fault w (unread read is none some) =
+        let r = written_read o task text a w in apart r.0 read r.1 is r.2 none
+    viewed_written a fault w (meaningless place read is h) =
+        let r = written_read o task text a w in unmeant r.0 read place r.1 is r.2 h
+    viewed_written a fault w (turned place h) =
+        let r = written_read o task text a w in not_turned task place text r.0 h r.1
+    viewed_written a fault w (bare why h) = not_bare task why text a w h
+
+    accepted_blank : IsBlank text → (a : List ℕ) → Reads task text a → IsAccepted o a → ⊥
+    accepted_blank blank a is (t, v, of, m) =
+        blank_text text t blank (subst (λ b. IsTextOf b t) (blank_read task text a blank is) of)
+
+    viewed_blank : (fault : Error) → IsBlank text → View o task text fault → ⊥
+    viewed_blank fault blank (unread read is none some) = some blank
+    viewed_blank fault blank (meaningless place read is (t, of, first)) =
+        blank_text text t blank (subst (λ b. IsTextOf b t) (blank_read task text read blank is) of)
+    viewed_blank fault blank (turned place h) = turned_blank task place text blank h
+    viewed_blank fault blank (bare why h) =
+        let r = without_read o task why text h in accepted_blank blank text r.0 r.1
+
+    viewed : (fault cause : Error) → View o task text fault → View o task text cause → IsSameFault fault cause
+    viewed fault cause (unread a x none some) (unread b y neither also) = tt
+    viewed fault cause (unread a x none some) (meaningless place b y h) = absurd (untexted b a place y x h none)
+    viewed fault cause (unread a x none some) (turned place h) = absurd (not_turned task place text a h x)
+    viewed fault cause (unread a x none some) (bare why h) =
+        let r = without_read o task why text h in absurd (apart text a r.0 x r.1 none)
+    viewed fault cause (meaningless place a x h) (unread b y none some) = absurd (untexted a b place x y h none)
+    viewed fault cause (meaningless place a x h) (meaningless other b y k) =
+        same_path o a place other h
+        (subst (IsRefusedIn o (NotExtendedJson other)) (one_read task text b a y x) k)
+    viewed fault cause (meaningless place a x h) (turned other k) = absurd (not_turned task other text a k x)
+    viewed fault cause (meaningless place a x h) (bare why k) =
+        let r = without_read o task why text k in absurd (unmeant text a place r.0 x r.1 h)
+    viewed fault cause (turned place h) (unread b y none some) = absurd (not_turned task place text b h y)
+    viewed fault cause (turned place h) (meaningless other b y k) = absurd (not_turned task place text b h y)
+    viewed fault cause (turned place h) (turned other k) = both_turned task place other text h k
+    viewed fault cause (turned place h) (bare why k) =
+        let r = without_read o task why text k in absurd (not_turned task place text text h r.0)
+    viewed fault cause (bare why h) (unread b y none some) =
+        let r = without_read o task why text h in absurd (apart text b r.0 y r.1 none)
+    viewed fault cause (bare why h) (meaningless place b y k) =
+        let r = without_read o task why text h in absurd (unmeant text b place r.0 y r.1 k)
+    viewed fault cause (bare why h) (turned place k) =
+        let r = without_read o task why text h in absurd (not_turned task place text text k r.0)
+    viewed fault cause (bare why h) (bare other k) = both_bare task why other text h k
+
+  pub decided : (task : Task) → Decided o task
+  decided task = record {
+    one_text = one_written o task;
+    written_blank = λ text a w blank.
+        let r = written_read o task text a w in accepted_blank task text blank r.0 r.1 r.2;
+    written_bad = λ text a fault w bad. viewed_written task text a fault w (view o task text fault bad);
+    blank_bad = λ text fault blank bad. viewed_blank task text fault blank (view o task text fault bad);
+    same_fault = λ text fault cause x y.
+        viewed task text fault cause (view o task text fault x) (view o task text cause y);
+  }

@@ -1,0 +1,45 @@
+-- The same lines have one outcome.
+use Rattle.std.specs.Prelude.{◌≡◌, ◌+◌, ℕ, List, [], ◌∷◌, ◌++◌, length}
+use Rattle.bson.specs.declared.extjson.options.Options.{Options}
+use Rattle.bson_place.specs.Place.{path_of}
+use Rattle.bson_convert.specs.declared.error.Error.{Error}
+use Rattle.bson_convert.specs.declared.error.Error.TheVariants.{NotJson, NotExtendedJson, NoBytes}
+use Rattle.bson_run.specs.Lines.{text_of, IsBadLineIn, OutcomesIn, Tells}
+use Rattle.bson_run.specs.declared.order.OnRefusal.{OnRefusal}
+use Rattle.bson_run.specs.declared.order.OnRefusal.TheVariants.{Stop}
+use Rattle.bson_run.specs.declared.order.Task.{Task}
+
+-- the fault is one of a text
+abbrev pub IsOfText : Error → Type 0
+IsOfText NotJson = Unit {0}
+IsOfText (NotExtendedJson place) = Unit {0}
+IsOfText (NoBytes why) = Unit {0}
+IsOfText other = ⊥
+
+-- the faults are the same, with the same path where there is one; the words for what was expected may differ
+abbrev pub IsSameFault : Error → Error → Type 0
+IsSameFault NotJson NotJson = Unit {0}
+IsSameFault (NotExtendedJson place) (NotExtendedJson other) = path_of place ≡ path_of other
+IsSameFault (NoBytes why) (NoBytes other) = why ≡ other
+IsSameFault fault other = ⊥
+
+-- verdicts on the same texts for the same faults; they differ only in what `Tells` leaves open: the column and the rule
+-- of a text that is no JSON, and behind a path the words for what was expected and found
+pub data AreAlike : List ℕ → List ℕ → Type 0 where
+  silent : AreAlike [] []
+  also : {told tells : List ℕ} (number : ℕ) (fault cause : Error) (text said says : List ℕ) → AreAlike told tells
+      → IsSameFault fault cause → Tells number fault text said → Tells number cause text says
+      → AreAlike (told ++ said) (tells ++ says)
+
+-- a run over these lines does those before the one of this number, and stops at that one, which is refused for the fault
+pub record StopsInside (o : Options) (task : Task) (on_refusal : OnRefusal) (all : List (List ℕ))
+    (output verdicts : List ℕ) (fault : Error) (number : ℕ) : Type 0 where
+  pub done : List (List ℕ)
+  pub line : List ℕ
+  pub others : List (List ℕ)
+  pub refused : ℕ
+  pub parts : all ≡ done ++ line ∷ others
+  pub outcomes : OutcomesIn o task on_refusal done output verdicts refused
+  pub counted : number ≡ length done + 1
+  pub stops : on_refusal ≡ Stop
+  pub reason : IsBadLineIn o task fault (text_of (length done) line)

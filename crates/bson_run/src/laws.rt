@@ -1,0 +1,60 @@
+//! Laws of the definitions.
+ghost use Rattle.std.specs.Prelude.{◌≡◌, ℕ, List, Option, Some, length};
+ghost use Rattle.std.specs.Io.KnownBytes.{Appends};
+ghost use Rattle.bson.specs.declared.extjson.options.Options.{Options};
+ghost use Rattle.bson_convert.specs.declared.error.Error.{Error};
+ghost use Rattle.bson_run.specs.Lines.{lines, DoneLinesIn, FailsAtIn, OutcomesIn};
+ghost use Rattle.bson_run.specs.Outcomes.{AreAlike, IsOfText, IsSameFault, StopsInside};
+ghost use Rattle.bson_run.specs.declared.order.OnRefusal.{OnRefusal};
+ghost use Rattle.bson_run.specs.declared.order.Task.{Task};
+
+use bson_bytes::laws::{first_cause_is_one, what_fits_has_no_cause};
+use bson_distinct::laws::one_double;
+
+/// The same lines have one output, and as many of them are refused, for the same faults.
+pub fn one_outcome()
+    ensures { (options : Options) (task : Task) (on_refusal : OnRefusal) (lines : List (List ℕ))
+        (output other told tells : List ℕ) (refused left : ℕ)
+        → OutcomesIn options task on_refusal lines output told refused
+        → OutcomesIn options task on_refusal lines other tells left
+        → (output ≡ other) × AreAlike told tells × (refused ≡ left) }
+{
+    one_double();
+    what_fits_has_no_cause();
+    first_cause_is_one();
+}
+
+/// A run over the same lines stops inside them at one line, for one fault. It has one output before
+/// that line, and the lines are not all done.
+pub fn one_stop()
+    ensures stop { (options : Options) (task : Task) (on_refusal : OnRefusal) (lines : List (List ℕ))
+        (output other told tells : List ℕ) (fault cause : Error) (number count : ℕ)
+        → StopsInside options task on_refusal lines output told fault number
+        → StopsInside options task on_refusal lines other tells cause count
+        → (output ≡ other) × AreAlike told tells × IsSameFault fault cause × (number ≡ count) }
+    ensures either { (options : Options) (task : Task) (on_refusal : OnRefusal) (lines : List (List ℕ))
+        (output other told tells : List ℕ) (fault : Error) (number refused : ℕ)
+        → OutcomesIn options task on_refusal lines other tells refused
+        → StopsInside options task on_refusal lines output told fault number → ⊥ }
+{
+    one_double();
+    what_fits_has_no_cause();
+    first_cause_is_one();
+}
+
+/// A run over known bytes that is done has done all of their lines. One that stops for a fault of a
+/// text stops inside them. What it wrote and told is what the lines before gave.
+pub fn runs_are_inside()
+    ensures done { (options : Options) (task : Task) (on_refusal : OnRefusal) (all : List ℕ)
+        (after had holds told tells : Option (List ℕ)) (number refused : ℕ)
+        → DoneLinesIn options task on_refusal (Some all) after had holds told tells number refused
+        → (number ≡ length (lines all)) × ((output : List ℕ) × (verdicts : List ℕ)
+        × OutcomesIn options task on_refusal (lines all) output verdicts refused
+        × Appends had holds output × Appends told tells verdicts) }
+    ensures stops { (options : Options) (task : Task) (on_refusal : OnRefusal) (all : List ℕ)
+        (after had holds told tells : Option (List ℕ)) (fault : Error) (number : ℕ) (held : List ℕ)
+        → FailsAtIn options fault task on_refusal (Some all) after had holds told tells number held → IsOfText fault
+        → (output : List ℕ) × (verdicts : List ℕ)
+        × StopsInside options task on_refusal (lines all) output verdicts fault number
+        × Appends had holds output × Appends told tells verdicts }
+{}
