@@ -1,0 +1,4 @@
+pub mod Loop
+pub mod Apart
+pub mod Sending
+pub mod Offered
