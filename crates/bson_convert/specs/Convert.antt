@@ -101,3 +101,8 @@ IsConvertedText o mode bytes text =
 abbrev pub IsTried : Options → Mode → List ℕ → Tried → Type 0
 IsTried o mode bytes (Written text) = IsConvertedText o mode bytes text.items
 IsTried o mode bytes (Arranged text) = IsUtf8 bytes × (read (string_bytes text) ≡ read bytes)
+
+-- the text that was written is UTF-8; the other is by its type
+abbrev pub IsUtf8Tried : Tried → Type 0
+IsUtf8Tried (Written text) = IsUtf8 text.items
+IsUtf8Tried (Arranged text) = Unit {0}

@@ -1,5 +1,5 @@
 //! One text to another: from bytes to bytes.
-ghost use Rattle.std.specs.Prelude.{◌≡◌, ◌++◌, IfOk, IfErr, ℕ, List};
+ghost use Rattle.std.specs.Prelude.{◌≡◌, ◌++◌, IfOk, IfErr, IsUtf8, ℕ, List};
 ghost use Rattle.serde_json.specs.Data.{Data};
 ghost use Rattle.bson_model.specs.Means.{Means, MeansIn};
 ghost use Rattle.bson_model.specs.Displayed.{display_text};
@@ -8,7 +8,7 @@ ghost use Rattle.bson_model.specs.Laws.{IsReadFormIn};
 ghost use Rattle.bson.specs.View.{bson_view};
 ghost use Rattle.bson_convert.specs.Convert.{Converts, ConvertsIn, IsRefused, IsRefusedIn};
 ghost use Rattle.bson.specs.declared.extjson.options.Options.{Options};
-ghost use Rattle.bson_convert.specs.Convert.{default_options, IsConvertedText, IsTextFor, IsTried, newline};
+ghost use Rattle.bson_convert.specs.Convert.{default_options, IsConvertedText, IsTextFor, IsTried, IsUtf8Tried, newline};
 ghost use Rattle.bson.specs.TextMeaning.{IsTextOf, HasTextMeaningIn, IsTextFaultIn};
 ghost use Rattle.bson.specs.declared.extjson.text_error.TextError.{TextError};
 
@@ -35,6 +35,7 @@ use std::alloc::Global;
 /// ```
 pub fn convert(alloc: Global, mode: Mode, bytes: &[u8]) -> Result<Vec<u8>, Error>
     ensures ok { IfOk result (λ output. Converts mode bytes.now output.items) }
+    ensures utf8 { IfOk result (λ output. IsUtf8 output.items) }
     ensures one { IfOk result (λ output. (other : List ℕ) → Converts mode bytes.now other → other ≡ output.items) }
     ensures accepts { (tree : Data) (value : model.Value) → IsTextOf bytes.now tree → Means tree value
         → IfErr result (λ fault. fault ≡ Error.OutOfMemory) }
@@ -58,6 +59,7 @@ pub fn convert_with(
     bytes: &[u8],
 ) -> Result<Vec<u8>, Error>
     ensures ok { IfOk result (λ output. ConvertsIn options mode bytes.now output.items) }
+    ensures utf8 { IfOk result (λ output. IsUtf8 output.items) }
     ensures one { IfOk result (λ output. (other : List ℕ) → ConvertsIn options mode bytes.now other
         → other ≡ output.items) }
     ensures accepts { (tree : Data) (value : model.Value) → IsTextOf bytes.now tree
@@ -77,6 +79,7 @@ pub fn convert_whole(
     bytes: Vec<u8>,
 ) -> Result<Vec<u8>, Error>
     ensures ok { IfOk result (λ output. ConvertsIn options mode bytes.items output.items) }
+    ensures utf8 { IfOk result (λ output. IsUtf8 output.items) }
     ensures accepts { (tree : Data) (value : model.Value) → IsTextOf bytes.items tree
         → MeansIn options.doubles tree value → IfErr result (λ fault. fault ≡ Error.OutOfMemory) }
     ensures fault { IfErr result (λ fault. IsRefusedIn options fault bytes.items) }
@@ -102,6 +105,7 @@ pub fn text_with(
     bytes: &[u8],
 ) -> Result<Vec<u8>, Error>
     ensures ok { IfOk result (λ text. IsConvertedText options mode bytes.now text.items) }
+    ensures utf8 { IfOk result (λ text. IsUtf8 text.items) }
     ensures accepts { (tree : Data) (value : model.Value) → IsTextOf bytes.now tree
         → MeansIn options.doubles tree value → IfErr result (λ fault. fault ≡ Error.OutOfMemory) }
     ensures fault { IfErr result (λ fault. IsRefusedIn options fault bytes.now) }
@@ -114,6 +118,7 @@ pub fn text_with(
 fn finish(alloc: Global, options: Options, mode: Mode, tried: Tried) -> Result<Vec<u8>, Error>
     ensures ok { (bytes : List ℕ) → IsTried options mode bytes tried
         → IfOk result (λ text. IsConvertedText options mode bytes text.items) }
+    ensures utf8 { IsUtf8Tried tried → IfOk result (λ text. IsUtf8 text.items) }
     ensures fault { (bytes : List ℕ) → IsTried options mode bytes tried
         → IfErr result (λ fault. IsRefusedIn options fault bytes) }
 {
@@ -157,6 +162,7 @@ pub(crate) fn value_text(
 ) -> Result<Vec<u8>, Error>
     requires { IsReadFormIn options.doubles (bson_view value) }
     ensures ok { IfOk result (λ text. IsTextFor options mode (bson_view value) text.items) }
+    ensures utf8 { IfOk result (λ text. IsUtf8 text.items) }
     ensures fault { IfErr result (λ fault. fault ≡ Error.OutOfMemory) }
 {
     let text = match mode {
@@ -175,6 +181,7 @@ pub(crate) fn value_text(
 /// The text that shows the value.
 pub fn displayed_text(alloc: Global, value: &Bson) -> Result<Vec<u8>, Error>
     ensures ok { IfOk result (λ text. text.items ≡ display_text (bson_view value.now)) }
+    ensures utf8 { IfOk result (λ text. IsUtf8 text.items) }
     ensures fault { IfErr result (λ fault. fault ≡ Error.OutOfMemory) }
 {
     match format!(in alloc; "{value}") {
@@ -186,6 +193,7 @@ pub fn displayed_text(alloc: Global, value: &Bson) -> Result<Vec<u8>, Error>
 /// The bytes, and a newline.
 pub fn end_line(mut line: Vec<u8>) -> Result<Vec<u8>, Error>
     ensures ok { IfOk result (λ ended. ended.items ≡ line.items ++ newline) }
+    ensures utf8 { IsUtf8 line.items → IfOk result (λ ended. IsUtf8 ended.items) }
     ensures fault { IfErr result (λ fault. fault ≡ Error.OutOfMemory) }
 {
     match line.push(b'\n') {

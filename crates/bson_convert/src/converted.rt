@@ -3,11 +3,11 @@
 //! A text that can't be written as it is read is arranged, so that each object has each key once:
 //! that text is of the same tree. So a key that stands twice needs no value in memory, nor does what
 //! a later value takes the place of; and where the text means nothing, its fault is the same.
-ghost use Rattle.std.specs.Prelude.{◌≡◌, IfOk, IfErr, OnOk, ℕ, List, string_bytes};
+ghost use Rattle.std.specs.Prelude.{◌≡◌, IfOk, IfErr, IsUtf8, OnOk, ℕ, List, string_bytes};
 ghost use Rattle.serde_json.specs.Read.{read};
 ghost use Rattle.bson_distinct.specs.Arranged.{IsArrangedText};
 ghost use Rattle.bson_tokens.specs.Parts.{IsBroken};
-ghost use Rattle.bson_convert.specs.Convert.{IsAccepted, IsConvertedText, IsRefusedIn, IsTried};
+ghost use Rattle.bson_convert.specs.Convert.{IsAccepted, IsConvertedText, IsRefusedIn, IsTried, IsUtf8Tried};
 ghost use Rattle.bson.specs.declared.extjson.options.Options.{Options};
 
 use crate::convert::{meaning, value_text};
@@ -40,6 +40,7 @@ pub enum Tried {
 /// the arranged text of the bytes where they can't be.
 pub fn try_text(alloc: Global, options: Options, mode: Mode, bytes: &[u8]) -> Result<Tried, Error>
     ensures ok { IfOk result (λ tried. IsTried options mode bytes.now tried) }
+    ensures utf8 { IfOk result IsUtf8Tried }
     ensures fault { IfErr result (λ fault. IsRefusedIn options fault bytes.now) }
 {
     let Ok(text) = simdutf8::compat::from_utf8(bytes) else {
@@ -62,6 +63,7 @@ pub(crate) fn read_arranged(
     arranged: &str,
 ) -> Result<Vec<u8>, Error>
     ensures ok { IfOk result (λ text. IsConvertedText options mode arranged.now text.items) }
+    ensures utf8 { IfOk result (λ text. IsUtf8 text.items) }
     ensures fault { IfErr result (λ fault. IsRefusedIn options fault arranged.now) }
 {
     match stream_text(alloc, options, mode, arranged) {
@@ -82,7 +84,8 @@ fn stream_text(
     mode: Mode,
     text: &str,
 ) -> Result<Vec<u8>, json::Error>
-    ensures { IfOk result (λ written. IsConvertedText options mode text.now written.items) }
+    ensures ok { IfOk result (λ written. IsConvertedText options mode text.now written.items) }
+    ensures utf8 { IfOk result (λ written. IsUtf8 written.items) }
 {
     match mode {
         Mode::Canonical => sort_text(alloc, options.doubles, Form::Canonical, text),

@@ -15,5 +15,6 @@ pub mod SortedMembers
 pub mod SortedPairs
 pub mod Sorting
 pub mod Standing
+pub mod Utf8Texts
 pub mod Walking
 pub mod Wrappers

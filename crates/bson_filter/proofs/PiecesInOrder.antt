@@ -115,7 +115,7 @@ all_last_at : (b : Bool) (P : Piece → Type 0) (p : Piece) (ps : List Piece) �
 all_last_at true P p ps h here is = rw h is
 all_last_at false P p ps h here is = rw h (All-cons P p (last_ones ps) here is)
 
-all_last : (P : Piece → Type 0) (ps : List Piece) → All P ps → All P (last_ones ps)
+pub all_last : (P : Piece → Type 0) (ps : List Piece) → All P ps → All P (last_ones ps)
 all_last P [] h = h
 all_last P (p ∷ ps) h = all_last_at _ P p ps refl (All-head P p ps h) (all_last P ps (All-tail P p ps h))
 

@@ -8,7 +8,7 @@ use Rattle.bson_distinct.specs.declared.arrangement.Arrangement.{Arrangement}
 use Rattle.bson_distinct.specs.declared.arrangement.Arrangement.TheVariants.{FirstPlaces}
 use Rattle.bson_model.specs.Displayed.{display_text, entry, entry_texts}
 use Rattle.bson_model.specs.Value.{Pairs, no_pairs, pair, document}
-use Rattle.bson_filter.specs.ShownWritten.{member_front, next_text, separator_if, brace_behind, pairs_shown, value_shown}
+use Rattle.bson_filter.specs.ShownWritten.{member_front, separator_if, brace_behind, pairs_shown, value_shown}
 use Rattle.bson_filter.specs.ShownWritten.{Added, IsBegun, KeyAdded, PairsAdded, ValueAdded}
 use Rattle.bson_filter.specs.Walked.{PairsWritten, keys_of, once}
 use Rattle.bson_filter.specs.declared.sorted_text.Begun.{Begun}

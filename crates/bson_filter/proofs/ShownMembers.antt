@@ -1,6 +1,6 @@
 -- The members of a document that a writer of the text that shows values has written.
 use Rattle.std.proofs.Common.{◌≡◌, ℕ, ◌-◌, ◌<◌, Bool, true, false, List, [], ◌∷◌, ◌++◌, codes, length, map, take, Bor}
-use Rattle.std.proofs.Common.{Ordering, Less, Equal, Greater, nat_cmp, refl, sym, ap, ◌∙◌, arith, append_assoc}
+use Rattle.std.proofs.Common.{◌==◌, cond, eqb-true, Ordering, Less, Equal, Greater, nat_cmp, refl, sym, ap, ◌∙◌, arith, append_assoc}
 use Rattle.std.proofs.lemmas.List.{length-append}
 use Rattle.std.proofs.lemmas.List.Elements.{All-head, All-tail}
 use Rattle.std.specs.List.{All, flat_map}
@@ -101,12 +101,12 @@ some_in_turn no_pairs found is = is
 some_in_turn (pair k v ps) found is = some_in_turn ps (put_pair k (sorted v) found) (put_some k (sorted v) found)
 
 -- with its keys in order as well
-pub some_sorted : (ps : Pairs) → 0 < length (keys_of ps) → is_none (sorted_pairs (once ps)) ≡ false
+some_sorted : (ps : Pairs) → 0 < length (keys_of ps) → is_none (sorted_pairs (once ps)) ≡ false
 some_sorted no_pairs h = absurd (omega arith)
 some_sorted (pair k v ps) h =
     ap is_none (once_sorted (pair k v ps)) ∙ some_in_turn ps (put_pair k (sorted v) no_pairs) refl
 
-pub none_sorted : (ps : Pairs) → length (keys_of ps) ≡ 0 → sorted_pairs (once ps) ≡ no_pairs
+none_sorted : (ps : Pairs) → length (keys_of ps) ≡ 0 → sorted_pairs (once ps) ≡ no_pairs
 none_sorted no_pairs h = refl
 none_sorted (pair k v ps) h = absurd (omega arith)
 
@@ -162,14 +162,24 @@ module _ (texts : List ℕ) (values : Values) where
   none_at before new [] none is = is
   none_at before new (p ∷ ps) none is = let never : true ≡ false = ap is_none none in cc
 
-pub document_shown : (before texts new : List ℕ) (ps : Pairs) → HasMembers IsShownMember before texts new ps
+document_shown : (before texts new : List ℕ) (ps : Pairs) → HasMembers IsShownMember before texts new ps
     → is_none ps ≡ false → take (length new - 1) new ++ codes " }" ≡ before ++ display_text (document ps)
 document_shown before texts new ps h some =
     shown_at texts h.values before new h.members h.all (ap is_none (sym h.pairs) ∙ some) h.text
     ∙ ap (λ qs. before ++ display_text (document qs)) (sym h.pairs)
 
-pub empty_shown : (before texts new : List ℕ) (ps : Pairs) → HasMembers IsShownMember before texts new ps
+empty_shown : (before texts new : List ℕ) (ps : Pairs) → HasMembers IsShownMember before texts new ps
     → ps ≡ no_pairs → new ≡ before ++ display_text (document ps)
 empty_shown before texts new ps h none =
     none_at texts h.values before new h.members (sym none ∙ h.pairs) h.text
     ∙ ap (λ qs. before ++ display_text (document qs)) (sym none)
+
+-- with a blank before the brace, where the document has members
+pub ended_shown : (is_empty : Bool) (before texts new last : List ℕ) (ps : Pairs)
+    → HasMembers IsShownMember before texts new (sorted_pairs (once ps)) → is_empty ≡ (length (keys_of ps) == 0)
+    → last ≡ cond is_empty new (take (length new - 1) new ++ codes " }")
+    → last ≡ before ++ display_text (document (sorted_pairs (once ps)))
+ended_shown true before texts new last ps h none is =
+    is ∙ empty_shown before texts new (sorted_pairs (once ps)) h (none_sorted ps (eqb-true (length (keys_of ps)) 0 (sym none)))
+ended_shown false before texts new last ps h some is =
+    is ∙ document_shown before texts new (sorted_pairs (once ps)) h (some_sorted ps (grind (arith, some)))

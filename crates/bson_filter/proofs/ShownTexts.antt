@@ -1,5 +1,5 @@
 -- Texts that a writer of the text that shows values puts one after another.
-use Rattle.std.proofs.Common.{◌≡◌, ℕ, ◌+◌, Bool, true, false, List, [], ◌∷◌, ◌++◌, codes, take, refl, sym, ap}
+use Rattle.std.proofs.Common.{◌≡◌, ℕ, ◌+◌, Bool, true, false, List, [], ◌∷◌, ◌++◌, codes, refl, sym, ap}
 use Rattle.std.proofs.Common.{◌∙◌, subst, append_assoc}
 use Rattle.std.specs.List.{flat_map}
 use Rattle.bson_scalar.specs.declared.form.Doubles.{Doubles}
@@ -11,12 +11,10 @@ use Rattle.bson_model.specs.Value as model
 use Rattle.bson_model.specs.Value.{Value, Values, no_values, Pairs, code_scope, document}
 use Rattle.bson_order.specs.Texts.{HasMeaningInOrder}
 use Rattle.bson_filter.specs.Filtered.{IsShownTextBy}
-use Rattle.bson_filter.specs.ShownWritten.{Added, Next, ValueAdded, PairsAdded, IsCodeBegun, separator_if}
+use Rattle.bson_filter.specs.ShownWritten.{Added, Next, ValueAdded, separator_if}
 use Rattle.bson_filter.specs.ShownWritten.{items_shown, value_shown}
 use Rattle.bson_filter.specs.Walked.{ItemsWritten}
-use Rattle.bson_filter.specs.declared.sorted_text.Begun.{Begun}
 use Rattle.bson_filter.specs.declared.shown_text.ShownWriter.{ShownWriter}
-use Rattle.bson_filter.proofs.Standing.{text_before}
 
 -- what is shown in the order of keys, and with them ascending
 pub as_it_is : (v : Value) → value_shown FirstPlaces v ≡ v

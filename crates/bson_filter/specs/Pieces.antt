@@ -5,7 +5,7 @@ use Rattle.std.specs.Borrow.{Bor}
 use Rattle.std.specs.Cmp.Lexicographic.{slice_cmp}
 use Rattle.std.specs.List.Sorted.{IsPermutation}
 use Rattle.std.specs.Ordering.{nat_cmp}
-use Rattle.std.specs.Str.{bytes_eq}
+use Rattle.std.specs.Str.{bytes_eq, is_utf8}
 use Rattle.std.specs.declared.cmp.Ordering.TheVariants.{Less}
 use Rattle.json.specs.Print.{quoted}
 use Rattle.serde_json.specs.Data.{Data}
@@ -95,6 +95,10 @@ IsOpen old texts ps = texts ≡ old ++ 123 ∷ open_text texts false ps
 -- in their place stands the object's text
 abbrev pub IsEnded : List Piece → List ℕ → List ℕ → List ℕ → Type 0
 IsEnded pieces old texts new = (written : List ℕ) × InOrder pieces texts written × (new ≡ old ++ written)
+
+-- a brace ends the text, and what stands before it is UTF-8
+abbrev pub IsBraced : List ℕ → Type 0
+IsBraced text = (front : List ℕ) × (is_utf8 front ≡ true) × (text ≡ front ++ 125 ∷ [])
 
 -- ---- of values
 

@@ -1,5 +1,5 @@
 //! From text to text, token by token.
-ghost use Rattle.std.specs.Prelude.{IfOk};
+ghost use Rattle.std.specs.Prelude.{IfOk, IsUtf8};
 ghost use Rattle.bson_filter.specs.Filtered.{IsFilteredText, IsShownText, IsShownTextBy, IsShownTextInOrder};
 ghost use Rattle.bson_filter.specs.Filtered.{IsSortedText};
 
@@ -35,6 +35,7 @@ pub fn filter_text(
     text: &str,
 ) -> Result<Vec<u8>, Error>
     ensures ok { IfOk result (λ written. IsFilteredText doubles form text.now written.items) }
+    ensures utf8 { IfOk result (λ written. IsUtf8 written.items) }
 {
     let mut writer = TextWriter {
         alloc,
@@ -54,6 +55,7 @@ pub fn filter_text(
 /// [`arrange_text`](bson_distinct::arrange::arrange_text) gives by ascending keys.
 pub fn sort_text(alloc: Global, doubles: Doubles, form: Form, text: &str) -> Result<Vec<u8>, Error>
     ensures ok { IfOk result (λ written. IsSortedText doubles form text.now written.items) }
+    ensures utf8 { IfOk result (λ written. IsUtf8 written.items) }
 {
     let mut writer = SortedWriter {
         alloc,
@@ -75,6 +77,7 @@ pub fn sort_text(alloc: Global, doubles: Doubles, form: Form, text: &str) -> Res
 /// `Invalid` says nothing of the text, and comes where it comes from [`sort_text`].
 pub fn show_text(alloc: Global, doubles: Doubles, text: &str) -> Result<Vec<u8>, Error>
     ensures ok { IfOk result (λ written. IsShownText doubles text.now written.items) }
+    ensures utf8 { IfOk result (λ written. IsUtf8 written.items) }
 {
     show_by(alloc, doubles, Arrangement::Ascending, text)
 }
@@ -83,6 +86,7 @@ pub fn show_text(alloc: Global, doubles: Doubles, text: &str) -> Result<Vec<u8>,
 /// from [`filter_text`].
 pub fn show_text_in_order(alloc: Global, doubles: Doubles, text: &str) -> Result<Vec<u8>, Error>
     ensures ok { IfOk result (λ written. IsShownTextInOrder doubles text.now written.items) }
+    ensures utf8 { IfOk result (λ written. IsUtf8 written.items) }
 {
     show_by(alloc, doubles, Arrangement::FirstPlaces, text)
 }
@@ -94,6 +98,7 @@ fn show_by(
     text: &str,
 ) -> Result<Vec<u8>, Error>
     ensures ok { IfOk result (λ written. IsShownTextBy doubles arrangement text.now written.items) }
+    ensures utf8 { IfOk result (λ written. IsUtf8 written.items) }
 {
     let mut writer = ShownWriter {
         alloc,

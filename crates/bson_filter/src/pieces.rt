@@ -1,10 +1,11 @@
 //! The texts of an object's members, put in order where their keys do not ascend.
 ghost use Rattle.std.specs.Prelude.{◌≡◌, ◌<◌, ◌++◌, drop, length, map, None, option_map, suc, take, true};
 ghost use Rattle.std.specs.Prelude.{IfOk, IfSome, OnOk};
+ghost use Rattle.std.specs.Str.{is_utf8};
 ghost use Rattle.std.specs.List.{All};
 ghost use Rattle.std.specs.List.Sorted.{IsPermutation};
 ghost use Rattle.bson_filter.specs.Pieces.{end_before, pieces_from, piece_key, object_text, last_ones, stands_again, Ascend};
-ghost use Rattle.bson_filter.specs.Pieces.{Follows, InOrder, IsEnded, IsOpen, IsWithin, KeysAscend};
+ghost use Rattle.bson_filter.specs.Pieces.{Follows, InOrder, IsBraced, IsEnded, IsOpen, IsWithin, KeysAscend};
 ghost use Rattle.bson_model.specs.Stable.{IsStableByKey};
 ghost use Rattle.serde_json.specs.Written.{comma_if};
 
@@ -41,8 +42,11 @@ pub(crate) fn end_object(
     requires within { All (IsWithin text.old.items) (pieces_from keys.now starts.now (length text.old.items)) }
     requires opened { IsOpen (take start text.old.items) text.old.items
         (pieces_from keys.now starts.now (length text.old.items)) }
-    ensures { OnOk result (IsEnded (pieces_from keys.now starts.now (length text.old.items))
+    requires utf8 { is_utf8 text.old.items ≡ true }
+    ensures ended { OnOk result (IsEnded (pieces_from keys.now starts.now (length text.old.items))
         (take start text.old.items) text.old.items text.new.items) }
+    ensures braced { OnOk result (IsBraced text.new.items) }
+    ensures utf8 { is_utf8 text.new.items ≡ true }
 {
     if ascend(keys) {
         text.extend_from_slice(b"}")?;
@@ -235,7 +239,8 @@ fn has_next(pieces: &Vec<Piece<'_>>, at: usize, key: &str) -> bool
 
 // Adds a comma behind another part.
 pub(crate) fn put_comma(behind: bool, text: &mut Vec<u8>) -> Result<(), AllocError>
-    ensures { OnOk result (text.new.items ≡ text.old.items ++ comma_if behind) }
+    ensures text { OnOk result (text.new.items ≡ text.old.items ++ comma_if behind) }
+    ensures utf8 { is_utf8 text.old.items ≡ true → is_utf8 text.new.items ≡ true }
 {
     if behind {
         text.push(b',')?;

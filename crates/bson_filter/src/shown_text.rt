@@ -1,11 +1,13 @@
 //! The text that shows values, each document's keys in ascending order or in the order in which they
 //! came.
-ghost use Rattle.std.specs.Prelude.{◌≡◌, ◌∷◌, ◌++◌, [], length, map, true, false, codes, OnOk};
+ghost use Rattle.std.specs.Prelude.{◌≡◌, ◌-◌, ◌∷◌, ◌++◌, [], length, map, take, true, false, codes, OnOk};
+ghost use Rattle.std.specs.Prelude.{if◌then◌else◌};
+ghost use Rattle.std.specs.Str.{is_utf8};
 ghost use Rattle.bson_scalar.specs.Displayed.{scalar_text};
 ghost use Rattle.bson_scalar.specs.View.{scalar_of, scalar_view};
 ghost use Rattle.bson_model.specs.Value.{Pairs};
 ghost use Rattle.bson_distinct.specs.declared.arrangement.Arrangement.TheVariants as arrangement;
-ghost use Rattle.bson_filter.specs.ShownWritten.{Added, IsBegun, KeyAdded, Next, PairsAdded, ValueAdded, brace_behind, separator_if};
+ghost use Rattle.bson_filter.specs.Pieces.{IsBraced};
 ghost use Rattle.bson_filter.specs.Walked.{PairsWritten, keys_of, once};
 
 use crate::distinct::are_distinct;
@@ -35,9 +37,13 @@ pub(crate) struct ShownWriter {
     pub(crate) behind: bool,
     // So many bytes may be taken to put members in order.
     pub(crate) most: usize,
+    ghost utf8: { is_utf8 text.items ≡ true },
 }
 
 impl ShownWriter {
+    ghost use Rattle.bson_filter.specs.ShownWritten.{Added, IsBegun, KeyAdded, Next, PairsAdded, ValueAdded, brace_behind};
+    ghost use Rattle.bson_filter.specs.ShownWritten.{separator_if};
+
     // Adds the separator of elements that is due.
     fn add_separator(&mut self) -> Result<(), AllocError>
         ensures { OnOk result (Added self.old (separator_if self.old.behind) self.old.behind self.new) }
@@ -48,11 +54,11 @@ impl ShownWriter {
         Ok(())
     }
 
-    // Adds the bytes, behind which a value stands or not.
-    fn add(&mut self, bytes: &[u8], behind: bool) -> Result<(), AllocError>
-        ensures { OnOk result (Added self.old bytes.now behind self.new) }
+    // Adds the text, behind which a value stands or not.
+    fn add(&mut self, text: &str, behind: bool) -> Result<(), AllocError>
+        ensures { OnOk result (Added self.old text.now behind self.new) }
     {
-        self.text.extend_from_slice(bytes)?;
+        self.text.extend_from_slice(text.as_bytes())?;
         self.behind = behind;
         Ok(())
     }
@@ -98,10 +104,7 @@ impl ShownWriter {
             self.most,
             &mut self.text,
         )?;
-        if !keys.is_empty() {
-            self.text.pop();
-            self.text.extend_from_slice(b" }")?;
-        }
+        put_blank(keys.is_empty(), &mut self.text)?;
         self.starts.truncate(begun.held);
         self.behind = true;
         Ok(())
@@ -114,27 +117,27 @@ impl ShownWriter {
             → PairsWritten (λ a k v b. ValueAdded a v b) KeyAdded ps mid self.old
             → keys_of ps ≡ map (λ k. k.now) keys.old → PairsAdded start (once ps) self.new) }
     {
-        let brace = brace_behind(self.behind);
+        let brace = ShownWriter::brace_behind(self.behind);
         if !are_distinct(self.alloc, keys) {
             return Err(Error::Invalid);
         }
         self.starts.truncate(begun.held);
         Ok(self.add(brace, true)?)
     }
-}
 
-// The brace that ends a document, with a blank behind its members.
-fn brace_behind(behind: bool) -> &'static [u8]
-    ensures { result.now ≡ brace_behind behind }
-{
-    if behind { b" }" } else { b"}" }
+    // The brace that ends a document, with a blank behind its members.
+    fn brace_behind(behind: bool) -> &'static str
+        ensures { result.now ≡ brace_behind behind }
+    {
+        if behind { " }" } else { "}" }
+    }
 }
 
 // The members begin with a blank, so that a comma alone stands between them.
 impl ValueWriter for ShownWriter {
     type Open = Begun;
 
-    ghost use Rattle.bson_filter.specs.ShownWritten.{IsCodeBegun};
+    ghost use Rattle.bson_filter.specs.ShownWritten.{IsBegun, IsCodeBegun, KeyAdded, Next, PairsAdded, ValueAdded};
 
     ghost name_of = { λ n. [] };
 
@@ -152,9 +155,9 @@ impl ValueWriter for ShownWriter {
 
     fn string(&mut self, _name: &str, text: &str) -> Result<(), Error> {
         self.add_separator()?;
-        self.add(b"\"", false)?;
-        self.add(text.as_bytes(), false)?;
-        Ok(self.add(b"\"", true)?)
+        self.add("\"", false)?;
+        self.add(text, false)?;
+        Ok(self.add("\"", true)?)
     }
 
     fn boolean(&mut self, _name: &str, truth: bool) -> Result<(), Error> {
@@ -176,12 +179,12 @@ impl ValueWriter for ShownWriter {
     fn begin_array(&mut self, _name: &str) -> Result<Begun, Error> {
         self.add_separator()?;
         let begun = self.position();
-        self.add(b"[", false)?;
+        self.add("[", false)?;
         Ok(begun)
     }
 
     fn end_array(&mut self, _begun: Begun) -> Result<(), Error> {
-        Ok(self.add(b"]", true)?)
+        Ok(self.add("]", true)?)
     }
 
     fn embed(&mut self, _name: &str) -> Result<(), Error> {
@@ -191,7 +194,7 @@ impl ValueWriter for ShownWriter {
     fn begin(&mut self) -> Result<Begun, Error> {
         self.add_separator()?;
         let begun = self.position();
-        self.add(b"{", false)?;
+        self.add("{", false)?;
         Ok(begun)
     }
 
@@ -200,9 +203,9 @@ impl ValueWriter for ShownWriter {
         let Ok(()) = self.starts.push(self.text.len()) else {
             return Err(Error::OutOfMemory);
         };
-        self.add(b" \"", false)?;
-        self.add(name.as_bytes(), false)?;
-        Ok(self.add(b"\": ", false)?)
+        self.add(" \"", false)?;
+        self.add(name, false)?;
+        Ok(self.add("\": ", false)?)
     }
 
     fn end(&mut self, begun: Begun, keys: &mut [&str]) -> Result<(), Error> {
@@ -215,7 +218,7 @@ impl ValueWriter for ShownWriter {
     // What is begun is the scope, which is not shown.
     fn begin_code(&mut self, _name: &str, code: &str) -> Result<Begun, Error> {
         self.add_separator()?;
-        self.add(code.as_bytes(), false)?;
+        self.add(code, false)?;
         Ok(self.position())
     }
 
@@ -224,6 +227,20 @@ impl ValueWriter for ShownWriter {
         self.behind = true;
         Ok(())
     }
+}
+
+// Puts a blank in front of the brace that ends a document, if it has members.
+fn put_blank(is_empty: bool, text: &mut Vec<u8>) -> Result<(), AllocError>
+    requires { IsBraced text.old.items }
+    ensures text { OnOk result (text.new.items ≡ (if is_empty then text.old.items
+        else (take (length text.old.items - 1) text.old.items ++ codes " }"))) }
+    ensures utf8 { is_utf8 text.new.items ≡ true }
+{
+    if !is_empty {
+        text.pop();
+        text.extend_from_slice(b" }")?;
+    }
+    Ok(())
 }
 
 fn scalar_ref(value: &Scalar) -> ScalarRef<'_>

@@ -1,8 +1,8 @@
 //! A text of Extended JSON that values are written to, each document's keys in ascending order.
-ghost use Rattle.std.specs.Prelude.{◌≡◌, ◌∷◌, [], length, true, false, OnOk, IfOk};
+ghost use Rattle.std.specs.Prelude.{◌≡◌, ◌<◌, ◌∷◌, [], length, true, false, OnOk, IfOk};
+ghost use Rattle.std.specs.Str.{is_utf8};
 ghost use Rattle.json.specs.Print.{print};
 ghost use Rattle.serde_json.specs.Written.{comma_if};
-ghost use Rattle.bson_filter.specs.SortedWritten.{Added};
 
 use crate::pieces::{end_object, put_comma};
 use crate::writer::{ValueWriter, write_error};
@@ -31,6 +31,7 @@ pub(crate) struct SortedWriter {
     pub(crate) behind: bool,
     // So many bytes may be taken to put members in order.
     pub(crate) most: usize,
+    ghost utf8: { is_utf8 text.items ≡ true },
 }
 
 /// Where the text of what was begun starts, and how many starts there were.
@@ -41,6 +42,8 @@ pub(crate) struct Begun {
 }
 
 impl SortedWriter {
+    ghost use Rattle.bson_filter.specs.SortedWritten.{Added};
+
     // Adds the comma that is due.
     fn add_comma(&mut self) -> Result<(), AllocError>
         ensures { OnOk result (Added self.old (comma_if self.old.behind) self.old.behind self.new) }
@@ -48,8 +51,9 @@ impl SortedWriter {
         put_comma(self.behind, &mut self.text)
     }
 
-    // Adds a byte, behind which a value stands or not.
+    // Adds a byte of ASCII, behind which a value stands or not.
     fn add_byte(&mut self, byte: u8, behind: bool) -> Result<(), AllocError>
+        requires { byte < 128 }
         ensures { OnOk result (Added self.old (byte ∷ []) behind self.new) }
     {
         self.text.push(byte)?;

@@ -2,12 +2,15 @@ use Rattle.std.proofs.Common.{◌≡◌, ℕ, List, sym, subst, arith}
 use Rattle.std.specs.Prelude.{IsUtf8, string_bytes}
 use Rattle.serde_json.specs.Read.{read}
 use Rattle.bson_tokens.proofs.Offered.{if_err, if_ok}
-use Rattle.bson_convert.specs.Convert.{IsTried}
+use Rattle.bson_convert.specs.Convert.{IsTried, IsUtf8Tried}
 use Rattle.bson_convert.proofs.Arranged.{meant_alike, refused_alike}
 use Rattle.bson_convert.proofs.convert.finish.Goals as goal
 
 pub returns-in-Written-clause-ok : goal.returns-in-Written-clause-ok
 returns-in-Written-clause-ok c = λ bytes is. subst (IsTried c.args.options c.args.mode bytes) c.in-Written.is is
+
+pub returns-in-Written-clause-utf8 : goal.returns-in-Written-clause-utf8
+returns-in-Written-clause-utf8 c = λ u. subst IsUtf8Tried c.in-Written.is u
 
 pub returns-in-Arranged : goal.returns-in-Arranged
 returns-in-Arranged c =
@@ -22,6 +25,7 @@ returns-in-Arranged c =
     record {
       ok = λ bytes is. if_ok c.read_arranged.result c.read_arranged.ensures.ok
           (λ text x. (x.0, meant_alike o bytes arranged (tried bytes is).0 (tried bytes is).1 x.0 x.1, x.2));
+      utf8 = λ _. c.read_arranged.ensures.utf8;
       fault = λ bytes is. if_err c.read_arranged.result c.read_arranged.ensures.fault
           (λ f x. refused_alike o bytes arranged (tried bytes is).0 (tried bytes is).1 f valid x);
     }

@@ -1,4 +1,4 @@
-use Rattle.std.proofs.Common.{◌≡◌, [], refl, ◌∙◌, arith}
+use Rattle.std.proofs.Common.{◌≡◌, [], refl, ◌∙◌, sym, subst, arith, IsUtf8}
 use Rattle.json.specs.Print.{print}
 use Rattle.bson_filter.specs.declared.text.TextWriter.{TextWriter}
 use Rattle.bson_filter.proofs.Sending.{text_sent}
@@ -15,4 +15,5 @@ returns c =
     let written : c.into_inner.result.items ≡ print new.out.tokens = grind (arith, before) in
     record {
       ok = text_sent D f c.args.text.now c.into_inner.result.items old new done refl refl c.new.ensures.tokens written;
+      utf8 = subst IsUtf8 (sym written) c.into_inner.ensures.utf8;
     }

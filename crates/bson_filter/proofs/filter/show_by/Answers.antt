@@ -1,7 +1,12 @@
 use Rattle.std.proofs.Common.{false, refl}
+use Rattle.std.proofs.lemmas.Str.{IsUtf8-from_is_utf8}
 use Rattle.bson_filter.specs.declared.shown_text.ShownWriter.{ShownWriter}
 use Rattle.bson_filter.proofs.ShownTexts.{text_shown}
+use Rattle.bson_filter.proofs.Utf8Texts.{nothing_utf8}
 use Rattle.bson_filter.proofs.filter.show_by.Goals as goal
+
+pub invariant_of-writer : goal.invariant_of-writer
+invariant_of-writer c = record { utf8 = nothing_utf8 _ c.in_ok-with_capacity.ensures.items }
 
 pub returns : goal.returns
 returns c =
@@ -13,8 +18,10 @@ returns c =
       starts = c.new-2.result;
       behind = false;
       most = c.memory_allowed.result;
+      utf8 = nothing_utf8 _ c.in_ok-with_capacity.ensures.items;
     } in
     record {
       ok = text_shown c.args.doubles c.args.arrangement c.args.text.now old c.write_text.new.out
           c.in_ok-write_text.ensures refl refl c.in_ok-with_capacity.ensures.items;
+      utf8 = IsUtf8-from_is_utf8 c.write_text.new.out.text.items c.write_text.new.out.utf8;
     }

@@ -1,7 +1,12 @@
 use Rattle.std.proofs.Common.{false, refl}
+use Rattle.std.proofs.lemmas.Str.{IsUtf8-from_is_utf8}
 use Rattle.bson_filter.specs.declared.sorted_text.SortedWriter.{SortedWriter}
 use Rattle.bson_filter.proofs.Sorting.{text_sorted}
+use Rattle.bson_filter.proofs.Utf8Texts.{nothing_utf8}
 use Rattle.bson_filter.proofs.filter.sort_text.Goals as goal
+
+pub invariant_of-writer : goal.invariant_of-writer
+invariant_of-writer c = record { utf8 = nothing_utf8 _ c.in_ok-with_capacity.ensures.items }
 
 pub returns : goal.returns
 returns c =
@@ -16,8 +21,10 @@ returns c =
       starts = c.in_ok-with_capacity-3.field-0;
       behind = false;
       most = c.memory_allowed.result;
+      utf8 = nothing_utf8 _ c.in_ok-with_capacity.ensures.items;
     } in
     record {
       ok = text_sorted D f c.args.text.now old c.write_text.new.out c.in_ok-write_text.ensures refl refl refl
           c.in_ok-with_capacity.ensures.items;
+      utf8 = IsUtf8-from_is_utf8 c.write_text.new.out.text.items c.write_text.new.out.utf8;
     }

@@ -1,18 +1,27 @@
 use Rattle.std.proofs.Common.{◌≡◌, arith, ◌++◌, length, None, take, sym, ap, ◌∙◌, subst}
 use Rattle.std.specs.Prelude.{IfSome}
 use Rattle.std.specs.List.{All}
-use Rattle.bson_filter.specs.Pieces.{pieces_from, InOrder, IsWithin}
+use Rattle.bson_filter.specs.Pieces.{pieces_from, InOrder, IsBraced, IsEnded, IsWithin}
 use Rattle.bson_filter.proofs.PiecesInOrder.{ended_in_place, pieces_ascend}
+use Rattle.std.proofs.lemmas.Str.{is_utf8-from_IsUtf8}
+use Rattle.std.specs.Str.{is_utf8}
+use Rattle.bson_filter.proofs.Utf8Texts.{before_utf8, braced_utf8, ended_utf8}
 use Rattle.bson_filter.proofs.pieces.end_object.Goals as goal
 
 pub returns-then-ascend : goal.returns-then-ascend
 returns-then-ascend c =
     let texts = c.args.text.now.items in
     let end = length texts in
-    ended_in_place (take c.args.start texts) texts c.extend_from_slice.new.self.items
-    (pieces_from c.args.keys.now c.args.starts.now end) c.requires.opened
-    (pieces_ascend None c.args.keys.now c.args.starts.now end (c.ascend.ensures c.if-ascend.true))
-    c.in_ok-extend_from_slice.ensures.items
+    let braced : IsBraced c.extend_from_slice.new.self.items =
+    (texts, c.requires.utf8, c.in_ok-extend_from_slice.ensures.items) in
+    record {
+      ended = ended_in_place (take c.args.start texts) texts c.extend_from_slice.new.self.items
+          (pieces_from c.args.keys.now c.args.starts.now end) c.requires.opened
+          (pieces_ascend None c.args.keys.now c.args.starts.now end (c.ascend.ensures c.if-ascend.true))
+          c.in_ok-extend_from_slice.ensures.items;
+      braced = braced;
+      utf8 = braced_utf8 c.extend_from_slice.new.self.items braced;
+    }
 
 pub in_order-requires : goal.in_order-requires
 in_order-requires c =
@@ -22,16 +31,31 @@ in_order-requires c =
     ∙ ap (pieces_from c.args.keys.now c.args.starts.now) long in
     subst (All (IsWithin texts)) (sym whole) c.requires.within
 
+-- what stands before the object is left
+pub returns-in_err-extend_from_slice-2-clause-utf8 : goal.returns-in_err-extend_from_slice-2-clause-utf8
+returns-in_err-extend_from_slice-2-clause-utf8 c =
+    let texts = c.args.text.now.items in
+    let before = take c.args.start texts in
+    ap is_utf8 (c.in_err-extend_from_slice-2.ensures.items ∙ c.truncate.ensures.items)
+    ∙ is_utf8-from_IsUtf8 before
+    (before_utf8 before texts (pieces_from c.args.keys.now c.args.starts.now (length texts)) c.requires.opened c.requires.utf8)
+
 pub returns : goal.returns
 returns c =
     let texts = c.args.text.now.items in
     let long : c.len-2.result ≡ length texts = grind arith in
     let written = c.in_ok-written.written.items in
-    let whole = c.in_ok-pieces.ensures ∙ ap (pieces_from c.args.keys.now c.args.starts.now) long in (
+    let whole = c.in_ok-pieces.ensures ∙ ap (pieces_from c.args.keys.now c.args.starts.now) long in
+    let before = take c.args.start texts in
+    let new = c.extend_from_slice-2.new.self.items in
+    let pieces = pieces_from c.args.keys.now c.args.starts.now (length texts) in
+    let ended : IsEnded pieces before texts new = (
       written,
       subst (λ ps. InOrder ps texts written) whole
           (subst (λ s. IfSome s (λ t. InOrder c.in_ok-pieces.pieces.items texts t.items)) c.in_ok-written.ensures.ok_part
           c.in_ok-in_order.ensures),
       c.in_ok-extend_from_slice-2.ensures.items ∙ ap (λ l. l ++ c.deref.result.now) c.truncate.ensures.items
-          ∙ ap (λ l. take c.args.start texts ++ l) c.deref.ensures.value,
-    )
+          ∙ ap (λ l. before ++ l) c.deref.ensures.value,
+    ) in
+    let braced = ended_utf8 before texts new pieces c.requires.opened c.requires.utf8 ended in
+    record { ended = ended; braced = braced; utf8 = braced_utf8 new braced }

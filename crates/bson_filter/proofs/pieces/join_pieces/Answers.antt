@@ -23,7 +23,7 @@ loop-at-preserved c =
     let old = c.loop-at.out.items in
     let mid = c.put_comma.new.text.items in
     let new = c.extend_from_slice.new.self.items in
-    let comma = c.in_ok-put_comma.ensures ∙ ap (λ b. old ++ comma_if b) c.is_some.ensures in
+    let comma = c.in_ok-put_comma.ensures.text ∙ ap (λ b. old ++ comma_if b) c.is_some.ensures in
     let text : new ≡ mid ++ piece_text texts p = grind arith in
     rw (add-one at)
     record {

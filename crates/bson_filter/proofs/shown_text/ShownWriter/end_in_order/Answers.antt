@@ -17,6 +17,7 @@ returns c = λ start mid ps begun written keys.
       starts = c.truncate.new.self;
       behind = now.behind;
       most = now.most;
+      utf8 = now.utf8;
     } in
     let apart = subst AreDistinct (sym keys) (c.are_distinct.ensures.0 (grind arith)) in
     document_added start mid now kept new c.args.begun ps c.requires.first_places begun written apart refl refl

@@ -1,4 +1,4 @@
-use Rattle.std.proofs.Common.{◌≡◌, ◌-◌, ◌<◌, ◌++◌, codes, length, take, refl, sym, ap, ◌∙◌, subst, arith, append_assoc, vec_len}
+use Rattle.std.proofs.Common.{◌≡◌, ◌==◌, ◌++◌, length, take, refl, sym, ap, ◌∙◌, subst, arith, append_assoc}
 use Rattle.std.proofs.lemmas.List.{length-map}
 use Rattle.std.specs.List.{All}
 use Rattle.bson_distinct.specs.declared.arrangement.Arrangement.TheVariants.{Ascending}
@@ -8,12 +8,9 @@ use Rattle.bson_model.specs.Value.{document}
 use Rattle.bson_filter.specs.Pieces.{pieces_from, IsEnded, IsOpen, IsWithin}
 use Rattle.bson_filter.specs.ShownWritten.{next_text, pairs_shown, separator_if}
 use Rattle.bson_filter.specs.Walked.{keys_of, once}
-use Rattle.bson_filter.specs.declared.shown_text.ShownWriter.{ShownWriter}
-use Rattle.bson_filter.proofs.ShownMembers.{document_shown, document_stands, empty_shown, none_sorted, same_order, some_sorted}
+use Rattle.bson_filter.proofs.ShownMembers.{document_stands, ended_shown, same_order}
 use Rattle.bson_filter.proofs.Standing.{own_starts, are_held, others_held, all_within, stands_open, has_members}
 use Rattle.bson_filter.proofs.shown_text.ShownWriter.end_sorted.Goals as goal
-use Rattle.bson_filter.proofs.shown_text.ShownWriter.end_sorted.Goals.{then-not-is_empty+in_ok-extend_from_slice}
-use Rattle.bson_filter.proofs.shown_text.ShownWriter.end_sorted.Goals.{else-not-is_empty}
 
 pub slice_bounds-starts-count : goal.slice_bounds-starts-count
 slice_bounds-starts-count c =
@@ -65,29 +62,16 @@ returns c = λ start mid ps begun written named.
     let qs = sorted_pairs (once ps) in
     let h = has_members d new
     (subst (λ starts. IsEnded (pieces_from ks starts (length texts)) (take c.args.begun.start texts) texts new)
-    (own_starts d c.deref.result.now c.deref.ensures.value) c.in_ok-end_object.ensures) in
-    let kept = λ (w : ShownWriter). take c.args.begun.held w.starts.items in
+    (own_starts d c.deref.result.now c.deref.ensures.value) c.in_ok-end_object.ensures.ended) in
+    let last = c.put_blank.new.text.items in
     let ordered = same_order ps mid c.args.self.now written ∙ begun.2.1 in
     let ascending : Ascending ≡ start.arrangement = sym c.requires.ascending ∙ ordered in
     let whole = append_assoc start.text.items (separator_if start.behind) (display_text (document qs))
     ∙ ap (λ a. start.text.items ++ (separator_if start.behind ++ display_text (document (pairs_shown a (once ps))))) ascending in
     let many : length (keys_of ps) ≡ length ks = ap length named ∙ length-map ks (λ k. k.now) in
-    elim c.if-not-is_empty.branch [
-      | then-not-is_empty+in_ok-extend_from_slice w ↦
-          let some : 0 < length (keys_of ps) = grind (arith, many) in
-          let long : vec_len c.end_object.new.text ≡ length new = grind arith in (
-            refl,
-            ap (λ s. s.arrangement) w.self-is ∙ ordered,
-            c.truncate.ensures.items ∙ ap kept w.self-is ∙ others_held d,
-            ap (λ s. s.text.items) w.self-is ∙ w.in_ok-extend_from_slice.ensures.items
-                ∙ ap (λ l. l ++ codes " }") (w.pop.ensures.rest ∙ ap (λ n. take (n - 1) new) long)
-                ∙ document_shown (next_text start) texts new qs h (some_sorted ps some) ∙ whole,
-          )
-      | else-not-is_empty w ↦
-          let none : length (keys_of ps) ≡ 0 = grind (arith, many) in (
-            refl,
-            ap (λ s. s.arrangement) w.self-is ∙ ordered,
-            c.truncate.ensures.items ∙ ap kept w.self-is ∙ others_held d,
-            ap (λ s. s.text.items) w.self-is ∙ empty_shown (next_text start) texts new qs h (none_sorted ps none) ∙ whole,
-          )
-    ]
+    let none : c.is_empty.result ≡ (length (keys_of ps) == 0) = c.is_empty.ensures ∙ ap (λ n. n == 0) (sym many) in (
+      refl,
+      ordered,
+      c.truncate.ensures.items ∙ others_held d,
+      ended_shown c.is_empty.result (next_text start) texts new last ps h none c.in_ok-put_blank.ensures.text ∙ whole,
+    )

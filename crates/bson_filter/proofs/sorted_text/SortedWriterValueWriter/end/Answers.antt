@@ -57,5 +57,5 @@ returns c = λ start mid ps begun written named.
     let (ms, is, text) = document_added start.doubles start.form start texts new (sorted_pairs (once ps))
     (has_members d new
     (subst (λ starts. IsEnded (pieces_from ks starts (length texts)) (take c.args.begun.start texts) texts new)
-    (own_starts d c.deref.result.now c.deref.ensures.value) c.in_ok-end_object.ensures)) in
+    (own_starts d c.deref.result.now c.deref.ensures.value) c.in_ok-end_object.ensures.ended)) in
     (ms, is, (mode, form, refl, c.truncate.ensures.items ∙ others_held d, text))
