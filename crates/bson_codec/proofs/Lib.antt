@@ -10,4 +10,5 @@ pub mod Justified
 pub mod Lengths
 pub mod OneDump
 pub mod Inside
+pub mod Decoded
 pub mod Offered

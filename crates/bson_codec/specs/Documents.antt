@@ -13,6 +13,8 @@ use Rattle.bson_bytes.specs.Reading.{reads, size_at}
 use Rattle.bson_codec.specs.Errors.{IsPlacedFault}
 use Rattle.bson_codec.specs.Streams.{front_of}
 use Rattle.bson_codec.specs.Told.{newline, told_of}
+use Rattle.bson_codec.specs.declared.de.Error.{Error}
+use Rattle.bson_codec.specs.declared.de.Error.TheVariants as errors
 use Rattle.bson_codec.specs.declared.documents.Line.{Line}
 use Rattle.bson_codec.specs.declared.documents.Line.TheVariants.{Text, TextInOrder, Shown, Nothing}
 use Rattle.bson_codec.specs.declared.documents.Run.{Run}
@@ -169,6 +171,11 @@ pub record EndsInside (run : Run) (all output verdicts : List ℕ) (fault : RunF
 abbrev pub IsJudged : RunFault → Run → List ℕ → Type 0
 IsJudged OutOfMemory run bytes = Unit {0}
 IsJudged fault run bytes = HasNoLine fault run bytes
+
+-- the fault of a run that the error is
+abbrev pub run_fault : Error → RunFault
+run_fault (errors.Malformed k n) = Malformed k n
+run_fault errors.OutOfMemory = OutOfMemory
 
 -- why the document has no such line, or memory ran out
 abbrev pub IsUnwritten : RunFault → Options → Line → Pairs → Type 0

@@ -4,6 +4,7 @@ pub mod Writing
 pub mod Streams
 pub mod Told
 pub mod Documents
+pub mod Texts
 -- what public clauses cite of the crates below, so that a caller names this crate alone
 pub use Rattle.bson_bytes.specs.Grammar
 pub use Rattle.bson_bytes.specs.Laws

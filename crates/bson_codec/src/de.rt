@@ -15,9 +15,9 @@ use crate::ser;
 use crate::ser::to_vec;
 use crate::stopped::{Stopped, fault_at};
 use bson::Document;
-use bson_bytes::check;
 pub use bson_bytes::fault::FaultKind;
 pub use bson_bytes::keys::DuplicateKeys;
+use bson_source::nothing;
 use std::alloc::{AllocError, Global};
 
 /// How deep documents, arrays and scopes may nest where a caller has no limit of its own: the limit
@@ -178,7 +178,7 @@ pub fn is_document(bytes: &[u8], depth: usize) -> Result<()>
     // Which fault it is, and where.
     ensures fault { IfErr result (λ e. IsFaultAlone e bytes.now (reads depth bytes.now)) }
 {
-    match check::is_document(bytes, depth) {
+    match nothing::is_document(bytes, depth) {
         Ok(()) => Ok(()),
         Err(fault) => Err(locate(Stopped::Fault(fault), bytes)),
     }
@@ -229,7 +229,7 @@ fn read_whole(
 }
 
 // The error with its place from the front of the bytes.
-fn locate(stopped: Stopped, bytes: &[u8]) -> Error
+pub(crate) fn locate(stopped: Stopped, bytes: &[u8]) -> Error
     requires { StandsIn stopped bytes.now }
     ensures { result ≡ located stopped bytes.now }
 {

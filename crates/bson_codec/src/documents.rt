@@ -9,7 +9,7 @@ ghost use Rattle.bson.specs.Doubles.TheVariants.{Special};
 ghost use Rattle.bson.specs.Form.TheVariants.{Canonical};
 ghost use Rattle.bson_codec.specs.Documents.{BeginsWithLength, DoneDocuments, EndsAt, IsGiven, IsJudged};
 ghost use Rattle.bson_codec.specs.Documents.{IsJustified, IsLine, IsOfBytes, IsUngiven, IsUntold, IsUnwritten};
-ghost use Rattle.bson_codec.specs.Documents.{WritesLine};
+ghost use Rattle.bson_codec.specs.Documents.{WritesLine, run_fault};
 ghost use Rattle.bson_codec.specs.Told.{newline, told_of};
 ghost use Rattle.bson_codec.specs.declared.documents.Line.TheVariants.{Text, TextInOrder};
 ghost use Rattle.bson_codec.specs.declared.documents.Run.{Run};
@@ -18,7 +18,8 @@ ghost use Rattle.bson_codec.specs.declared.run_end.RunFault.TheVariants.{CannotR
 use crate::de::{DEPTH, Error, from_slice, is_document};
 use crate::run_end::{RunEnd, RunFault, verdict};
 use crate::stream::{ReaderError, take_document, write_whole};
-use bson::extjson::{Form, Options, WriteError};
+use crate::text::decode_text;
+use bson::extjson::{Doubles, Form, Options, WriteError};
 use bson::{Bson, Document};
 use bson_bytes::parts::size_at;
 use std::alloc::Global;
@@ -230,12 +231,11 @@ fn line_of(alloc: Global, run: Run, bytes: &[u8]) -> Result<Vec<u8>, RunFault>
 {
     match run.line {
         Line::Text(form) => text_line(alloc, run, form, read(alloc, run, bytes)?),
-        Line::TextInOrder(form) => ordered_line(alloc, run, form, read(alloc, run, bytes)?),
+        Line::TextInOrder(form) => ordered_line(alloc, run, form, bytes),
         Line::Shown => shown_line(alloc, read(alloc, run, bytes)?),
         Line::Nothing => match is_document(bytes, run.depth) {
             Ok(()) => Ok(Vec::new(alloc)),
-            Err(Error::Malformed { kind, offset }) => Err(RunFault::Malformed { kind, offset }),
-            Err(Error::OutOfMemory) => Err(RunFault::OutOfMemory),
+            Err(error) => Err(fault_of(error)),
         },
     }
 }
@@ -247,8 +247,7 @@ fn read(alloc: Global, run: Run, bytes: &[u8]) -> Result<Document, RunFault>
 {
     match from_slice(alloc, bytes, run.depth) {
         Ok(document) => Ok(document),
-        Err(Error::Malformed { kind, offset }) => Err(RunFault::Malformed { kind, offset }),
-        Err(Error::OutOfMemory) => Err(RunFault::OutOfMemory),
+        Err(error) => Err(fault_of(error)),
     }
 }
 
@@ -264,13 +263,34 @@ fn text_line(alloc: Global, run: Run, form: Form, document: Document) -> Result<
     }
 }
 
-// Returns the document's line with keys in their own order.
-fn ordered_line(
-    alloc: Global,
-    run: Run,
-    form: Form,
-    document: Document,
-) -> Result<Vec<u8>, RunFault>
+// The text in the form, with the keys in their own order, of the document that the bytes are, and a
+// newline. With finite doubles it needs no document in memory.
+fn ordered_line(alloc: Global, run: Run, form: Form, bytes: &[u8]) -> Result<Vec<u8>, RunFault>
+    requires { run.line ≡ TextInOrder form }
+    ensures ok { IfOk result (λ line. IsLine run bytes.now line.items) }
+    ensures fault { IfErr result (λ e. IsJudged e run bytes.now) }
+{
+    match run.options.doubles {
+        Doubles::Finite => match decode_text(alloc, form, bytes, run.depth) {
+            Ok(text) => end_line(text),
+            Err(error) => Err(fault_of(error)),
+        },
+        Doubles::Special => value_line(alloc, run, form, read(alloc, run, bytes)?),
+    }
+}
+
+// Why the bytes are not a document.
+fn fault_of(error: Error) -> RunFault
+    ensures { result ≡ run_fault error }
+{
+    match error {
+        Error::Malformed { kind, offset } => RunFault::Malformed { kind, offset },
+        Error::OutOfMemory => RunFault::OutOfMemory,
+    }
+}
+
+// Returns the line of the document in the form, with its keys in their own order.
+fn value_line(alloc: Global, run: Run, form: Form, document: Document) -> Result<Vec<u8>, RunFault>
     ensures ok { IfOk result (λ line. WritesLine run.options (TextInOrder form) (document_view document) line.items) }
     ensures fault { IfErr result (λ e. IsUnwritten e run.options (TextInOrder form) (document_view document)) }
 {

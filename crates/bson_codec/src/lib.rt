@@ -11,6 +11,7 @@ mod scalars;
 pub mod ser;
 mod stopped;
 pub mod stream;
+pub mod text;
 mod write;
 
 pub use de::{
@@ -19,3 +20,4 @@ pub use de::{
 pub use documents::run_documents;
 pub use ser::to_vec;
 pub use stream::{from_reader, to_writer};
+pub use text::decode_text;

@@ -3,7 +3,9 @@ use bson::extjson::Form;
 use bson::{Bson, Document};
 use bson_codec::de::{DEPTH, DuplicateKeys, Error, ReadOptions};
 use bson_codec::documents::{Line, Run, run_documents};
-use bson_codec::{from_reader, from_slice, from_slice_with, is_document, to_vec, to_writer};
+use bson_codec::{
+    decode_text, from_reader, from_slice, from_slice_with, is_document, to_vec, to_writer,
+};
 use std::alloc::Global;
 
 pub(crate) fn print(rt: &impl Print, alloc: Global) -> anyhow::Result<()> {
@@ -14,6 +16,7 @@ pub(crate) fn print(rt: &impl Print, alloc: Global) -> anyhow::Result<()> {
     read_options(rt, alloc)?;
     ser_error(rt, alloc)?;
     looked_at(rt)?;
+    decoded(rt, alloc)?;
     reader_error(rt, alloc)?;
     writer_error(rt, alloc)?;
     counts(rt, alloc)?;
@@ -76,6 +79,12 @@ fn ser_error(rt: &impl Print, alloc: Global) -> anyhow::Result<()> {
 
 fn looked_at(rt: &impl Print) -> anyhow::Result<()> {
     println!(rt; "{:?}", is_document(b"\x05\0\0\0\0", DEPTH).is_ok())?; // true
+    Ok(())
+}
+
+fn decoded(rt: &impl Print, alloc: Global) -> anyhow::Result<()> {
+    let bytes = b"\x0c\0\0\0\x10n\0\x05\0\0\0\0";
+    println!(rt; "{}", decode_text(alloc, Form::Relaxed, bytes, DEPTH)?)?; // {"n":5}
     Ok(())
 }
 

@@ -1,0 +1,14 @@
+use Rattle.std.proofs.Common.{◌≡◌, ◌++◌, string_bytes}
+use Rattle.std.proofs.lemmas.Result.{IfOk-weaker}
+use Rattle.bson_codec.specs.Documents.{IsLine}
+use Rattle.bson_codec.specs.Told.{newline}
+use Rattle.bson_codec.proofs.Decoded.{line_is}
+use Rattle.bson_codec.proofs.documents.ordered_line.Goals as goal
+
+pub returns-in-Ok-clause-ok : goal.returns-in-Ok-clause-ok
+returns-in-Ok-clause-ok c =
+    let text = string_bytes c.in-Ok.text in
+    IfOk-weaker c.end_line.result (λ line. line.items ≡ text ++ newline)
+    (λ line. IsLine c.args.run c.args.bytes.now line.items)
+    (λ line is. line_is c.args.run c.args.form c.args.bytes.now text line.items c.requires c.in-Finite.is c.in-Ok.ensures.ok is)
+    c.end_line.ensures.ok

@@ -1,0 +1,60 @@
+//! The text of a document's bytes.
+ghost use Rattle.std.specs.Prelude.{◌≡◌, IfOk, IfErr, string_bytes};
+ghost use Rattle.bson_bytes.specs.Laws.{IsRead};
+ghost use Rattle.bson_bytes.specs.Reading.{reads};
+ghost use Rattle.bson_codec.specs.Errors.{IsFaultOf};
+ghost use Rattle.bson_codec.specs.Texts.{IsTextOf};
+ghost use Rattle.bson_codec.specs.declared.de.Error.TheVariants as errors;
+ghost use Rattle.bson_model.specs.Value.{Pairs};
+
+use crate::de::{Error, from_slice, locate};
+use crate::stopped::Stopped;
+use bson::Bson;
+use bson::extjson::{Doubles, Form, Options, WriteError};
+use bson_source::stop::Stop;
+use bson_source::text::document_text;
+use std::alloc::Global;
+
+/// Reads all of the bytes as a document (BSON 1.1), and returns its compact text in the form (MongoDB
+/// Extended JSON v2). Each document has its keys in their own order, and finite doubles are written.
+///
+/// The text is written while the bytes are read. No value is made in memory, unless some document may
+/// have a duplicate key. If a key is duplicated, its last value wins, at its first position. An error
+/// has the first fault of the bytes and its offset.
+///
+/// ```
+/// let bytes = b"\x0c\0\0\0\x10n\0\x05\0\0\0\0";
+/// println!(rt; "{}", decode_text(alloc, Form::Relaxed, bytes, DEPTH)?)?; // {"n":5}
+/// ```
+pub fn decode_text(alloc: Global, form: Form, bytes: &[u8], depth: usize) -> Result<String, Error>
+    // The bytes are a document, and this is its text.
+    ensures ok { IfOk result (λ s. IsTextOf form depth bytes.now (string_bytes s)) }
+    // The bytes of a document are refused only if memory runs out.
+    ensures only { (ps : Pairs) → IsRead depth bytes.now ps → IfErr result (λ e. e ≡ errors.OutOfMemory) }
+    // Which fault it is, and where.
+    ensures fault { IfErr result (λ e. IsFaultOf e bytes.now (reads depth bytes.now)) }
+{
+    match document_text(alloc, form, bytes, depth) {
+        Ok(text) => Ok(text),
+        Err(Stop::Fault(fault)) => Err(locate(Stopped::Fault(fault), bytes)),
+        Err(Stop::OutOfMemory) => Err(Error::OutOfMemory),
+        Err(Stop::PossibleDuplicate) => decode_by_value(alloc, form, bytes, depth),
+    }
+}
+
+// Decodes the bytes through a document in memory.
+fn decode_by_value(alloc: Global, form: Form, bytes: &[u8], depth: usize) -> Result<String, Error>
+    ensures ok { IfOk result (λ s. IsTextOf form depth bytes.now (string_bytes s)) }
+    ensures only { (ps : Pairs) → IsRead depth bytes.now ps → IfErr result (λ e. e ≡ errors.OutOfMemory) }
+    ensures fault { IfErr result (λ e. IsFaultOf e bytes.now (reads depth bytes.now)) }
+{
+    let options = Options {
+        doubles: Doubles::Finite,
+    };
+    let document = from_slice(alloc, bytes, depth)?;
+    match Bson::Document(document).into_text_in_order(alloc, options, form) {
+        Ok(text) => Ok(text),
+        Err(WriteError::OutOfMemory) => Err(Error::OutOfMemory),
+        Err(WriteError::FiniteDouble) => unreachable!(),
+    }
+}
