@@ -1,6 +1,6 @@
 -- What the words ask for.
 use Rattle.std.proofs.Common.{◌≡◌, ◌⊎◌, inl, inr, ◌<◌, ◌∙◌, ℕ, Bool, true, false, cond, List, Option, Some, None, map, length}
-use Rattle.std.proofs.Common.{refl, sym, ap, subst, get_or, Result, Ok, Err, IfOk}
+use Rattle.std.proofs.Common.{refl, sym, ap, subst, get_or, Result, Ok, Err, IfOk, zero, suc, [], ◌∷◌, ◌++◌, ◌+◌, take, add-one, arith}
 use Rattle.std.proofs.lemmas.List.{get_or-map, length-map}
 use Rattle.std.specs.List.{Contains}
 use Rattle.std.specs.Option.{IfSome, option_map_or}
@@ -9,7 +9,7 @@ use Rattle.bson_run.specs.declared.order.Taking.{Taking}
 use Rattle.bson_run.specs.declared.order.Task.{Task}
 use Rattle.bson_run.specs.declared.order.Task.TheVariants.{Write, WriteInOrder, Check, Encode, EncodeInOrder}
 use Rattle.bson_run.specs.declared.order.Task.TheVariants.{Taken}
-use Rattle.bson_lines.specs.Order.{first_taken, in_order, IsAnswer, IsAskedBy, IsTaken}
+use Rattle.bson_lines.specs.Order.{first_taken, in_order, AreGiven, one_more, IsAnswer, IsAskedBy, IsTaken, Takes}
 use Rattle.bson_lines.specs.declared.arguments.Given.{Given}
 use Rattle.bson_lines.specs.declared.arguments.Taken as arguments
 use Rattle.bson_lines.specs.declared.arguments.Taken.TheVariants as taken
@@ -50,15 +50,15 @@ verb_there : (words : List (List ℕ)) (o : Option Task) (verb : Task) → IfSom
     → o ≡ Some verb → Contains words (task_name verb)
 verb_there words o verb h e = subst (λ it. IfSome it (λ it. Contains words (task_name it))) e h
 
-answered : (words : List (List ℕ)) (given : Given) (asked : Asked)
+answered : (words : List (List ℕ)) (given : Given) (asked : Asked) → AreGiven words given
     → IfSome given.task (λ verb. Contains words (task_name verb)) → IsAnswer given asked → IsAskedBy words asked
-answered words given (Run order) h is = (
+answered words given (Run order) are h is = (
   subst (Contains words) (sym (ap task_name is.task ∙ named _ _ is.verb)) (verb_there words given.task is.verb h is.is_verb),
-  (given, is),
+  (given, are, is),
 )
-answered words given Help h is = absurd is
-answered words given Version h is = absurd is
-answered words given Nothing h is = tt
+answered words given Help are h is = absurd is
+answered words given Version are h is = absurd is
+answered words given Nothing are h is = tt
 
 pub still_there : (words : List (List ℕ)) (word : List ℕ) (old new : Option Task) → Contains words word
     → IfSome old (λ verb. Contains words (task_name verb))
@@ -90,8 +90,29 @@ word_there f all xs i x word same within is of =
     subst (λ ys. Contains (map f ys) word) same (subst (Contains (map f xs)) (sym of)
     (i, subst (λ n. i < n) (sym (length-map xs f)) within, get_or-map f xs i x (f x) within ∙ ap f (sym is)))
 
-pub answer : {E : Type 0} (words : List (List ℕ)) (given : Given) (r : Result Asked E)
+pub answer : {E : Type 0} (words : List (List ℕ)) (given : Given) (r : Result Asked E) → AreGiven words given
     → IfSome given.task (λ verb. Contains words (task_name verb)) → IfOk r (λ asked. IsAnswer given asked)
     → IfOk r (λ asked. IsAskedBy words asked)
-answer words given (Ok asked) h is = answered words given asked h is
-answer words given (Err e) h is = tt
+answer words given (Ok asked) are h is = answered words given asked are h is
+answer words given (Err e) are h is = tt
+
+-- ---- the words one after the other
+
+next_taken : {X : Type 0} (xs : List X) (i : ℕ) (x : X) → i < length xs → x ≡ get_or xs i x
+    → take (suc i) xs ≡ take i xs ++ x ∷ []
+next_taken [] i x within is = absurd (omega arith)
+next_taken (y ∷ ys) zero x within is = ap (λ z. z ∷ []) (sym is)
+next_taken (y ∷ ys) (suc i) x within is = ap (λ l. y ∷ l) (next_taken ys i x (omega arith) is)
+
+pub more_given : {X : Type 0} (f : X → List ℕ) (all xs : List X) (i : ℕ) (x : X) (word : List ℕ) (old new : Given) → xs ≡ all
+    → i < length xs → x ≡ get_or xs i x → word ≡ f x → AreGiven (take i (map f all)) old → Takes word old new
+    → AreGiven (take (i + 1) (map f all)) new
+more_given f all xs i x word old new same within is of given takes =
+    let there : f x ≡ get_or (map f xs) i (f x) = sym (get_or-map f xs i x (f x) within ∙ ap f (sym is)) in
+    let grown : take (suc i) (map f xs) ≡ take i (map f xs) ++ f x ∷ [] =
+    next_taken (map f xs) i (f x) (subst (λ n. i < n) (sym (length-map xs f)) within) there in
+    let before : AreGiven (take i (map f xs)) old = subst (λ ys. AreGiven (take i (map f ys)) old) (sym same) given in
+    let after : AreGiven (take (suc i) (map f xs)) new =
+    subst (λ ws. AreGiven ws new) (sym grown) (one_more (f x) new before (subst (λ w. Takes w old new) of takes)) in
+    subst (λ ys. AreGiven (take (i + 1) (map f ys)) new) same
+    (subst (λ n. AreGiven (take n (map f xs)) new) (sym (add-one i)) after)

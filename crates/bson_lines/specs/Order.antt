@@ -1,6 +1,6 @@
 -- What the words after the program's name ask for.
 use Rattle.std.specs.Prelude.{◌≡◌, ◌≢◌, ◌⊎◌, ◌≤◌, ◌++◌, ℕ, Bool, true, false, List, [], ◌∷◌, Option, None, Some, IsSome, codes}
-use Rattle.std.specs.Prelude.{◌&&◌, ◌||◌, Contains, map, not, string_bytes, vec_len, if◌then◌else◌}
+use Rattle.std.specs.Prelude.{bytes_eq, ◌&&◌, ◌||◌, Contains, map, not, string_bytes, vec_len, if◌then◌else◌}
 use Rattle.std.specs.Option.{option_map_or}
 use Rattle.bson_run.specs.Words.{task_name}
 use Rattle.bson_run.specs.declared.order.OnRefusal.TheVariants.{KeepGoing, Stop}
@@ -14,12 +14,14 @@ use Rattle.bson_run.specs.declared.order.Work.TheVariants as work
 use Rattle.bson_lines.specs.declared.order.Asked.{Asked}
 use Rattle.bson_lines.specs.declared.order.Asked.TheVariants.{Run, Help, Version, Nothing}
 use Rattle.bson_lines.specs.declared.order.Input.{Input}
-use Rattle.bson_lines.specs.declared.order.Input.TheVariants.{Text, Documents}
+use Rattle.bson_lines.specs.declared.order.Input.TheVariants.{Lines, Text, Documents}
 use Rattle.bson_lines.specs.declared.order.Order.{Order}
 use Rattle.bson_lines.specs.declared.arguments.Given.{Given}
 use Rattle.bson_lines.specs.declared.arguments.Taken as arguments
 use Rattle.bson_lines.specs.declared.arguments.Taken.TheVariants as taken
-use Rattle.bson_lines.specs.declared.arguments.Next.TheVariants.{Output, Indent}
+use Rattle.bson_lines.specs.declared.arguments.Next.{Next}
+use Rattle.bson_lines.specs.declared.arguments.Next.TheVariants.{Any, Output, Indent, Name}
+use Rattle.bson.specs.Doubles.TheVariants.{Finite, Special}
 
 -- ---- tasks
 
@@ -54,6 +56,65 @@ has_own_order input task = false
 -- the word has the option of the output and its file in it
 abbrev pub HasOutput : (file word : List ℕ) → Type 0
 HasOutput file word = (word ≡ codes "--output=" ++ file) ⊎ (word ≡ codes "-o" ++ file)
+
+-- ---- what the words give
+
+-- what a word sets where no option waits for it: each option sets its own part, and any other word none of these
+abbrev pub given_of : List ℕ → Given → Given
+given_of word given = record given {
+  options = if bytes_eq word (codes "--doubles") then record given.options { doubles = Finite } else given.options;
+  keeps_going = bytes_eq word (codes "--keep-going") || given.keeps_going;
+  input = if bytes_eq word (codes "--whole") then Text
+      else (if bytes_eq word (codes "--bson") then Documents else given.input);
+  keeps_order = bytes_eq word (codes "--keep-order") || given.keeps_order;
+  sorts_keys = bytes_eq word (codes "--sort-keys") || given.sorts_keys;
+  is_distinct = bytes_eq word (codes "--no-double-keys") || given.is_distinct;
+  is_legacy = bytes_eq word (codes "--legacy") || given.is_legacy;
+  next = if bytes_eq word (codes "--") then Name
+      else (if bytes_eq word (codes "-o") || bytes_eq word (codes "--output") then Output
+      else (if bytes_eq word (codes "--indent") then Indent else given.next));
+}
+
+-- a word that is an option gives what the table says; the words of files, of the verb and of numbers give the rest
+abbrev pub Sets : (word : List ℕ) → (old new : Given) → Type 0
+Sets word old new = new ≡ record (given_of word old) {
+  task = new.task;
+  indent = new.indent;
+  output = new.output;
+  inputs = new.inputs;
+}
+
+-- the word is taken for what the word before it waits for
+abbrev pub TakesFor : Next → (word : List ℕ) → (old new : Given) → Type 0
+TakesFor Any word old new = Sets word old new
+TakesFor Output word old new = new ≡ record old { next = Any; output = new.output }
+TakesFor Indent word old new = new ≡ record old { next = Any; indent = new.indent }
+TakesFor Name word old new = new ≡ record old { task = new.task; inputs = new.inputs }
+
+abbrev pub Takes : (word : List ℕ) → (old new : Given) → Type 0
+Takes word old new = TakesFor old.next word old new
+
+-- nothing was given yet
+abbrev pub IsFirst : Given → Type 0
+IsFirst given = given ≡ record given {
+  task = None;
+  options = record { doubles = Special };
+  keeps_going = false;
+  input = Lines;
+  keeps_order = false;
+  sorts_keys = false;
+  is_distinct = false;
+  is_legacy = false;
+  indent = None;
+  output = None;
+  next = Any;
+}
+
+-- what the words give, one after the other
+pub data AreGiven : List (List ℕ) → Given → Type 0 where
+  none : (given : Given) → IsFirst given → vec_len given.inputs ≡ 0 → AreGiven [] given
+  one_more : {words : List (List ℕ)} {old : Given} (word : List ℕ) (new : Given) → AreGiven words old → Takes word old new
+      → AreGiven (words ++ word ∷ []) new
 
 -- ---- options
 
@@ -145,7 +206,8 @@ IsAnswer given Nothing = (verb : Task) → given.task ≡ Some verb → ¬ Fits 
 -- what each answer says of the words: those that ask for help or for the version are among them, and so is the name of
 -- the run's task, whose options stand together
 abbrev pub IsAskedBy : (words : List (List ℕ)) → Asked → Type 0
-IsAskedBy words (Run order) = Contains words (task_name order.task) × ((given : Given) × IsGiven given order)
+IsAskedBy words (Run order) =
+    Contains words (task_name order.task) × ((given : Given) × AreGiven words given × IsGiven given order)
 IsAskedBy words Help = Contains words (codes "--help") ⊎ Contains words (codes "-h")
 IsAskedBy words Version = Contains words (codes "--version") ⊎ Contains words (codes "-v")
 IsAskedBy words Nothing = Unit {0}

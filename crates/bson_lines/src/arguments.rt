@@ -1,9 +1,9 @@
 //! What the words after the program's name give, one after the other.
 ghost use Rattle.std.specs.Prelude.{◌≡◌, ◌⊎◌, ◌<◌, ◌≤◌, ℕ, List, None, OnOk, IfOk, IfSome, map, string_bytes};
-ghost use Rattle.std.specs.Prelude.{◌==◌, ◌||◌, slice_index, if◌then◌else◌, true};
+ghost use Rattle.std.specs.Prelude.{◌==◌, ◌||◌, slice_index, if◌then◌else◌, true, vec_len};
 ghost use Rattle.std.specs.Fmt.{decimal};
 ghost use Rattle.bson_lines.specs.Order.{first_taken, has_own_order, in_order, or_standard, taking_of};
-ghost use Rattle.bson_lines.specs.Order.{HasOutput, IsAnswer, IsNoHelp, IsTaken};
+ghost use Rattle.bson_lines.specs.Order.{HasOutput, IsAnswer, IsFirst, IsNoHelp, IsTaken, Sets, Takes};
 ghost use Rattle.bson_run.specs.Words.{task_name};
 
 use crate::fits::fits;
@@ -56,7 +56,8 @@ pub enum Taken {
 impl Given {
     /// No word yet.
     pub fn new(alloc: Global) -> Given
-        ensures { result.task ≡ None }
+        ensures first { IsFirst result }
+        ensures inputs { vec_len result.inputs ≡ 0 }
     {
         Given {
             alloc,
@@ -77,6 +78,7 @@ impl Given {
 
     /// Takes the next word.
     pub fn take(&mut self, word: &str) -> Result<Taken, AllocError>
+        ensures given { Takes word.now self.old self.new }
         ensures verb { IfSome self.new.task (λ verb. (self.old.task ≡ Some verb) ⊎ (word.now ≡ task_name verb)) }
         ensures help { IfOk result (λ taken. IsTaken word.now taken) }
     {
@@ -96,6 +98,7 @@ impl Given {
 
     // Takes a word that no option waits for.
     fn take_any(&mut self, word: &str) -> Result<Taken, AllocError>
+        ensures given { Sets word.now self.old self.new }
         ensures verb { IfSome self.new.task (λ verb. (self.old.task ≡ Some verb) ⊎ (word.now ≡ task_name verb)) }
         ensures help { IfOk result (λ taken. IsTaken word.now taken) }
     {
@@ -124,6 +127,7 @@ impl Given {
 
     // Takes a word that has its option in it, or a name.
     fn take_joined(&mut self, word: &str) -> Result<Taken, AllocError>
+        ensures given { self.new ≡ record self.old { task = self.new.task; indent = self.new.indent; output = self.new.output; inputs = self.new.inputs } }
         ensures verb { IfSome self.new.task (λ verb. (self.old.task ≡ Some verb) ⊎ (word.now ≡ task_name verb)) }
         ensures no_help { IfOk result IsNoHelp }
     {
@@ -139,7 +143,7 @@ impl Given {
 
     // A number of spaces, from 1 to 16.
     fn take_indent(&mut self, word: &str) -> Taken
-        ensures verb { self.new.task ≡ self.old.task }
+        ensures given { self.new ≡ record self.old { indent = self.new.indent } }
         ensures no_help { IsNoHelp result }
     {
         let is_first = self.indent.is_none();
@@ -167,7 +171,7 @@ impl Given {
     }
 
     fn take_output(&mut self, name: &str) -> Result<Taken, AllocError>
-        ensures verb { self.new.task ≡ self.old.task }
+        ensures given { self.new ≡ record self.old { output = self.new.output } }
         ensures output { OnOk result (IfSome self.new.output
             (λ file. (self.old.output ≡ Some file) ⊎ (string_bytes file ≡ name.now))) }
         ensures no_help { IfOk result IsNoHelp }
@@ -181,6 +185,7 @@ impl Given {
 
     // The first is a mode, and the others are files.
     fn take_name(&mut self, word: &str) -> Result<Taken, AllocError>
+        ensures given { self.new ≡ record self.old { task = self.new.task; inputs = self.new.inputs } }
         ensures verb { IfSome self.new.task (λ verb. (self.old.task ≡ Some verb) ⊎ (word.now ≡ task_name verb)) }
         ensures no_help { IfOk result IsNoHelp }
     {

@@ -3,7 +3,7 @@ ghost use Rattle.std.specs.Prelude.{◌≡◌, ◌≢◌, ◌⊎◌, IfOk, IfErr
 ghost use Rattle.bson_convert.specs.Convert.{IsRefusedIn};
 ghost use Rattle.bson_run.specs.Accepted.{HasOutput};
 ghost use Rattle.bson_run.specs.Indent.{mode_of};
-ghost use Rattle.bson_run.specs.Place.{IsWhere};
+ghost use Rattle.bson_run.specs.Place.{IsStop, IsWhere};
 ghost use Rattle.bson_lines.specs.Whole.{behind, Checks, Gives, IsUngiven, Lays, LaysInOrder, WholeDone};
 ghost use Rattle.bson_lines.specs.Whole.{WholeStops, Works};
 
@@ -18,7 +18,7 @@ use bson_convert::mode::Mode;
 use bson_convert::stream::read_whole;
 use bson_run::accepted::Accepted;
 use bson_run::encode::{encode_in_order, encode_with};
-use bson_run::explain::explain;
+use bson_run::explain::explain_under;
 use bson_run::indented::{convert_in_order_indented, convert_indented};
 use bson_run::order::{Task, Work};
 use bson_run::stop;
@@ -54,7 +54,7 @@ pub fn convert_whole<'a, R: Read, W: Write>(
     let accepted = match accept(alloc, order, text) {
         Ok(accepted) => accepted,
         Err(fault) => {
-            let (line, fault, place) = refusal_of(alloc, fault, text);
+            let (line, fault, place) = refusal_of(alloc, order.task, fault, text);
             return Err(Stop::Text(name, line, fault, place));
         }
     };
@@ -190,24 +190,36 @@ fn layout(order: &Order, mode: Mode) -> Option<(Form, usize)>
 }
 
 // At which line the text was refused, why, and where.
-fn refusal_of(alloc: Global, fault: Error, text: &[u8]) -> (u64, Error, String)
+fn refusal_of(alloc: Global, task: Task, fault: Error, text: &[u8]) -> (u64, Error, String)
     ensures fault { (result.1 ≡ fault) ⊎ (result.1 ≡ Error.OutOfMemory) }
     ensures place { IsWhere text.now result.1 (string_bytes result.2) }
     ensures line { (result.1 ≡ Error.NotJson) ⊎ (result.0 ≡ 0) }
 {
-    match place_of(alloc, &fault, text) {
+    match place_of(alloc, task, &fault, text) {
         Ok((line, place)) => (line, fault, place),
         Err(_) => (0, Error::OutOfMemory, String::new(alloc)),
     }
 }
 
-fn place_of(alloc: Global, fault: &Error, text: &[u8]) -> Result<(u64, String), AllocError>
+fn place_of(
+    alloc: Global,
+    task: Task,
+    fault: &Error,
+    text: &[u8],
+) -> Result<(u64, String), AllocError>
     ensures line { IfOk result (λ at. (fault.now ≡ Error.NotJson) ⊎ (at.0 ≡ 0)) }
     ensures place { IfOk result (λ at. IsWhere text.now fault.now (string_bytes at.1)) }
 {
-    let line = match fault {
-        Error::NotJson => stop::Stop::of(alloc, text)?.line(text) as u64,
-        _ => 0,
-    };
-    Ok((line, explain(alloc, fault, text)?))
+    match fault {
+        Error::NotJson => stop_of(alloc, text),
+        _ => Ok((0, explain_under(alloc, task, fault, text)?)),
+    }
+}
+
+// At which line the text stops to be JSON, and where.
+fn stop_of(alloc: Global, text: &[u8]) -> Result<(u64, String), AllocError>
+    ensures { IfOk result (λ at. IsStop text.now (string_bytes at.1)) }
+{
+    let stop = stop::Stop::of(alloc, text)?;
+    Ok((stop.line(text) as u64, stop.message(alloc, text)?))
 }
