@@ -1,6 +1,6 @@
 //! That encoding and decoding undo each other, told from the public contracts of `bson`,
 //! `bson_codec` and `bson_run` alone.
-ghost use Rattle.std.specs.Prelude.{◌≡◌, IfOk, IfErr, IsUtf8, string_bytes};
+ghost use Rattle.std.specs.Prelude.{◌≡◌, IfOk, IfErr, string_bytes};
 ghost use Rattle.bson.specs.Doubles.TheVariants.{Finite};
 ghost use Rattle.bson.specs.Form.TheVariants.{Canonical};
 ghost use Rattle.bson.specs.Texts.{IsTextInOrder};
@@ -55,15 +55,15 @@ pub fn decode_bytes(alloc: Global, bytes: &[u8], depth: usize) -> Result<String,
 }
 
 /// A text to bytes, and those to a text.
-pub fn text_again(alloc: Global, text: &[u8], depth: usize) -> Result<String, NotAgain>
+pub fn text_again(alloc: Global, text: &str, depth: usize) -> Result<String, NotAgain>
     // The canonical text of a document, its keys in order, comes back.
     ensures same { (ps : Pairs) → IsTextInOrder Finite Canonical (document ps) text.now → ComesBack ps → Nests depth ps
         → IfOk result (λ again. string_bytes again ≡ text.now) }
     // Where the document has bytes, memory alone is wanting.
-    ensures only { (ps : Pairs) → IsUtf8 text.now → IsTextInOrder Finite Canonical (document ps) text.now
-        → ComesBack ps → Nests depth ps → FitsDocument ps → IfErr result (λ e. IsWant e) }
+    ensures only { (ps : Pairs) → IsTextInOrder Finite Canonical (document ps) text.now → ComesBack ps → Nests depth ps
+        → FitsDocument ps → IfErr result (λ e. IsWant e) }
 {
-    let bytes = match encode_in_order(alloc, options(), text) {
+    let bytes = match encode_in_order(alloc, options(), text.as_bytes()) {
         Ok(bytes) => bytes,
         Err(fault) => return Err(NotAgain::NoBytes(fault)),
     };

@@ -1,5 +1,7 @@
 -- The layout of tokens, a token at a time, and that it has the tokens that it was made of.
 use Rattle.std.proofs.Common.{◌≡◌, ◌+◌, ◌-◌, ℕ, zero, suc, max, List, [], ◌∷◌, ◌++◌, length, map, take, replicate, Bool, true, false, Some, inl, inr, refl, sym, ap, ◌∙◌, subst, arith, append_assoc, append-nil}
+use Rattle.std.proofs.Common.{◌&&◌, cond, IsUtf8}
+use Rattle.std.proofs.lemmas.Str.{IsUtf8-append, IsUtf8-nil}
 use Rattle.std.proofs.lemmas.List.{replicate-append-replicate, take-replicate, length-replicate}
 use Rattle.json.specs.Json.{Json, value as json_value}
 use Rattle.json.specs.Layout.{Last, nothing, bracket, name, value, is_value, after}
@@ -10,6 +12,7 @@ use Rattle.json.specs.Token.{Token, begin_object, end_object, begin_array, end_a
 use Rattle.json.specs.Tree.{json_tokens}
 use Rattle.json.proofs.Numbered.{ArePrintableOrBad-tokens, value-HasNumbers}
 use Rattle.json.proofs.Printed.Tokens.{tokens-print_spaced}
+use Rattle.json.proofs.Printed.Utf8.{IsUtf8-are_ascii}
 use Rattle.json.proofs.Printed.Trees.{ArePrintable-json_tokens}
 use Rattle.json.proofs.Unique.Spelling.{value-json_tokens_back}
 use Rattle.bson_run.specs.Indent.{line, gap, stands, leaves, spaced, indented, HasSameTokens, last_of, Lays, IsWhole}
@@ -75,6 +78,38 @@ all_laid n all left s e w =
     sym (append-nil s.out.items)
     ∙ ap (λ ts. s.out.items ++ print_spaced (is_value (last_of s.before)) (spaced n (last_of s.before) w.indent ts)) (sym e)
     ∙ w.whole
+
+-- ---- UTF-8
+
+spaces_utf8 : (n : ℕ) → IsUtf8 (replicate n 32)
+spaces_utf8 zero = IsUtf8-nil
+spaces_utf8 (suc n) = IsUtf8-append (32 ∷ []) (replicate n 32) (IsUtf8-are_ascii (32 ∷ []) refl) (spaces_utf8 n)
+
+line_utf8 : (indent : ℕ) → IsUtf8 (line indent)
+line_utf8 indent = IsUtf8-append (10 ∷ []) (replicate indent 32) (IsUtf8-are_ascii (10 ∷ []) refl) (spaces_utf8 indent)
+
+gap_utf8 : (last : Last) (begins : Bool) (indent : ℕ) → IsUtf8 (gap last begins indent)
+gap_utf8 nothing begins indent = IsUtf8-nil
+gap_utf8 bracket true indent = line_utf8 indent
+gap_utf8 bracket false indent = IsUtf8-nil
+gap_utf8 name begins indent = IsUtf8-are_ascii (32 ∷ []) refl
+gap_utf8 value begins indent = line_utf8 indent
+
+comma_utf8 : (due : Bool) → IsUtf8 (cond due (44 ∷ []) [])
+comma_utf8 true = IsUtf8-are_ascii (44 ∷ []) refl
+comma_utf8 false = IsUtf8-nil
+
+-- a token more
+pub utf8_more : (n indent : ℕ) (s u : Layout) (t : Token) → Lays n indent s u t → IsUtf8 (token_text t)
+    → IsUtf8 s.out.items → IsUtf8 u.out.items
+utf8_more n indent s u t l text before =
+    let last = last_of s.before in
+    let comma = separator (is_value last) t in
+    let between = gap last (begins t) (stands n t indent) in
+    subst IsUtf8 (sym l.out)
+    (IsUtf8-append s.out.items (comma ++ (between ++ token_text t)) before
+    (IsUtf8-append comma (between ++ token_text t) (comma_utf8 (is_value last && begins t))
+    (IsUtf8-append between (token_text t) (gap_utf8 last (begins t) (stands n t indent)) text)))
 
 pub joined : (out comma between text : List ℕ) → ((out ++ comma) ++ between) ++ text ≡ out ++ (comma ++ (between ++ text))
 joined out comma between text = simp append_assoc

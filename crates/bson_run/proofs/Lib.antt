@@ -1,7 +1,6 @@
 pub mod AcceptedTexts
 pub mod EncodeLaws
 mod Explaining
-mod IndentedTexts
 mod Indenting
 pub mod LinesLaws
 pub mod LinesRuns

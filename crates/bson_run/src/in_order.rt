@@ -1,5 +1,5 @@
 //! One text to another in the order of its keys: from bytes to bytes.
-ghost use Rattle.std.specs.Prelude.{◌≡◌, IfOk, IfErr, IfSome, ℕ, List, true, string_bytes};
+ghost use Rattle.std.specs.Prelude.{◌≡◌, IfOk, IfErr, IfSome, IsUtf8, ℕ, List, true, string_bytes};
 ghost use Rattle.serde_json.specs.Data.{Data};
 ghost use Rattle.bson_model.specs.Means.{MeansIn};
 ghost use Rattle.bson_model.specs.Normal.{writable_in};
@@ -37,6 +37,7 @@ pub fn convert_in_order(
     bytes: &[u8],
 ) -> Result<Vec<u8>, Error>
     ensures ok { IfOk result (λ output. ConvertsInOrder options mode bytes.now output.items) }
+    ensures utf8 { IfOk result (λ output. IsUtf8 output.items) }
     ensures one { IfOk result (λ output. (other : List ℕ) → ConvertsInOrder options mode bytes.now other
         → other ≡ output.items) }
     ensures accepts { (tree : Data) (value : model.Value) → IsTextOf bytes.now tree
@@ -55,6 +56,7 @@ pub(crate) fn convert_whole_in_order(
     text: String,
 ) -> Result<Vec<u8>, Error>
     ensures ok { IfOk result (λ output. ConvertsInOrder options mode (string_bytes text) output.items) }
+    ensures utf8 { IfOk result (λ output. IsUtf8 output.items) }
     ensures accepts { (tree : Data) (value : model.Value) → IsTextOf (string_bytes text) tree
         → MeansIn options.doubles tree value → IfErr result (λ fault. fault ≡ Error.OutOfMemory) }
 {
@@ -75,6 +77,7 @@ pub(crate) fn text_in_order(
     bytes: &[u8],
 ) -> Result<Vec<u8>, Error>
     ensures ok { IfOk result (λ text. IsConvertedTextInOrder options mode bytes.now text.items) }
+    ensures utf8 { IfOk result (λ text. IsUtf8 text.items) }
     ensures accepts { (tree : Data) (value : model.Value) → IsTextOf bytes.now tree
         → MeansIn options.doubles tree value → IfErr result (λ fault. fault ≡ Error.OutOfMemory) }
     ensures fault { IfErr result (λ fault. IsRefusedIn options fault bytes.now) }
@@ -92,6 +95,7 @@ pub(crate) fn text_in_order(
 // each key once.
 fn arranged_text(alloc: Global, options: Options, mode: Mode, text: &str) -> Result<Vec<u8>, Error>
     ensures ok { IfOk result (λ written. IsConvertedTextInOrder options mode text.now written.items) }
+    ensures utf8 { IfOk result (λ written. IsUtf8 written.items) }
     ensures fault { IfErr result (λ fault. IsRefusedIn options fault text.now) }
 {
     let arranged = arrange(alloc, Arrangement::FirstPlaces, text)?;
@@ -107,6 +111,7 @@ fn text_of_distinct(
     text: &str,
 ) -> Result<Vec<u8>, Error>
     ensures ok { IfOk result (λ written. IsConvertedTextInOrder options mode text.now written.items) }
+    ensures utf8 { IfOk result (λ written. IsUtf8 written.items) }
     ensures fault { IfErr result (λ fault. IsRefusedIn options fault text.now) }
 {
     match filter_once(alloc, options, mode, text)? {
@@ -127,6 +132,7 @@ pub(crate) fn filter_once(
 ) -> Result<Option<Vec<u8>>, Error>
     ensures ok { IfOk result
         (λ found. IfSome found (λ written. IsConvertedTextInOrder options mode text.now written.items)) }
+    ensures utf8 { IfOk result (λ found. IfSome found (λ written. IsUtf8 written.items)) }
     ensures fault { IfErr result (λ fault. fault ≡ Error.OutOfMemory) }
 {
     match filter(alloc, options, mode, text) {
@@ -138,7 +144,8 @@ pub(crate) fn filter_once(
 
 // The text that the mode asks for of the value that the text means in order.
 fn filter(alloc: Global, options: Options, mode: Mode, text: &str) -> Result<Vec<u8>, json::Error>
-    ensures { IfOk result (λ written. IsConvertedTextInOrder options mode text.now written.items) }
+    ensures ok { IfOk result (λ written. IsConvertedTextInOrder options mode text.now written.items) }
+    ensures utf8 { IfOk result (λ written. IsUtf8 written.items) }
 {
     match mode {
         Mode::Canonical => filter_text(alloc, options.doubles, Form::Canonical, text),
@@ -150,6 +157,7 @@ fn filter(alloc: Global, options: Options, mode: Mode, text: &str) -> Result<Vec
 // The text of the value, which is read whole.
 fn whole_text(alloc: Global, options: Options, mode: Mode, bytes: &[u8]) -> Result<Vec<u8>, Error>
     ensures ok { IfOk result (λ text. IsConvertedTextInOrder options mode bytes.now text.items) }
+    ensures utf8 { IfOk result (λ text. IsUtf8 text.items) }
     ensures fault { IfErr result (λ fault. IsRefusedIn options fault bytes.now) }
 {
     match Bson::try_from_text_in_order(alloc, options, bytes) {
@@ -162,6 +170,7 @@ fn whole_text(alloc: Global, options: Options, mode: Mode, bytes: &[u8]) -> Resu
 fn value_text(alloc: Global, options: Options, mode: Mode, value: Bson) -> Result<Vec<u8>, Error>
     requires { writable_in options.doubles (bson_view value) ≡ true }
     ensures ok { IfOk result (λ text. IsTextInOrderFor options mode (bson_view value) text.items) }
+    ensures utf8 { IfOk result (λ text. IsUtf8 text.items) }
     ensures fault { IfErr result (λ fault. fault ≡ Error.OutOfMemory) }
 {
     let text = match mode {

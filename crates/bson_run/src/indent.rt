@@ -1,5 +1,5 @@
 //! A JSON text over several lines.
-ghost use Rattle.std.specs.Prelude.{◌≡◌, ◌≢◌, ◌++◌, ◌+◌, ◌-◌, ◌&&◌, ◌∷◌, [], ℕ, IfOk, OnOk};
+ghost use Rattle.std.specs.Prelude.{◌≡◌, ◌≢◌, ◌++◌, ◌+◌, ◌-◌, ◌&&◌, ◌∷◌, [], ℕ, IfOk, IsUtf8, OnOk};
 ghost use Rattle.std.specs.Prelude.{cond, if◌then◌else◌, length, replicate};
 ghost use Rattle.json.specs.Layout.{after, is_value};
 ghost use Rattle.json.specs.Lex.{tokens};
@@ -30,6 +30,7 @@ use std::alloc::{AllocError, Global};
 /// ```
 pub fn indent_text(alloc: Global, spaces: usize, text: &str) -> Result<Vec<u8>, AllocError>
     ensures layout { IfOk result (λ laid. laid.items ≡ indented spaces (tokens text.now)) }
+    ensures utf8 { IfOk result (λ laid. IsUtf8 laid.items) }
     ensures same { IfOk result (λ laid. HasSameTokens text.now laid.items) }
 {
     let mut scratch = Scratch::new(alloc);
@@ -80,8 +81,9 @@ impl Layout {
     // Writes the token, and before it what stands between it and the one before.
     fn put(&mut self, token: Token<'_>) -> Result<(), AllocError>
         requires { token ≢ Token.Bad → IsPrintable (token_of token) }
-        ensures { (n indent : ℕ) → IsAt n indent self.old
+        ensures laid { (n indent : ℕ) → IsAt n indent self.old
             → OnOk result (Lays n indent self.old self.new (token_of token.entry)) }
+        ensures utf8 { OnOk result (IsUtf8 (token_text (token_of token.entry))) }
     {
         let begins = begins(token);
         step_out(&mut self.start, begins, &self.step);
@@ -179,7 +181,8 @@ fn put_gap(out: &mut Vec<u8>, before: Before, begins: bool, start: &[u8]) -> Res
 #[tactic(auto, using(crate::proofs::Indenting::print_one))]
 fn put_text(alloc: Global, out: &mut Vec<u8>, token: Token<'_>) -> Result<(), AllocError>
     requires { token ≢ Token.Bad → IsPrintable (token_of token) }
-    ensures { OnOk result (out.new.items ≡ out.old.items ++ token_text (token_of token.entry)) }
+    ensures text { OnOk result (out.new.items ≡ out.old.items ++ token_text (token_of token.entry)) }
+    ensures utf8 { OnOk result (IsUtf8 (token_text (token_of token.entry))) }
 {
     if matches!(token, Token::Bad) {
         return Ok(());

@@ -1,5 +1,5 @@
 //! One text to another over several lines: from bytes to bytes.
-ghost use Rattle.std.specs.Prelude.{◌≡◌, IfOk, IfErr, string_bytes};
+ghost use Rattle.std.specs.Prelude.{◌≡◌, IfOk, IfErr, IsUtf8, string_bytes};
 ghost use Rattle.serde_json.specs.Data.{Data};
 ghost use Rattle.bson_model.specs.Means.{MeansIn};
 ghost use Rattle.bson_model.specs.Value as model;
@@ -10,9 +10,8 @@ ghost use Rattle.bson_run.specs.Indent.{mode_of, ConvertsIndented, ConvertsInOrd
 
 use crate::in_order::text_in_order;
 use crate::indent::indent_text;
-use bson::Bson;
-use bson::extjson::{Form, Options, WriteError};
-use bson_convert::convert::{end_line, error_of, text_with};
+use bson::extjson::{Form, Options};
+use bson_convert::convert::{end_line, text_with};
 use bson_convert::error::Error;
 use bson_convert::mode::Mode;
 use std::alloc::Global;
@@ -41,6 +40,7 @@ pub fn convert_indented(
     bytes: &[u8],
 ) -> Result<Vec<u8>, Error>
     ensures ok { IfOk result (λ output. ConvertsIndented options form spaces bytes.now output.items) }
+    ensures utf8 { IfOk result (λ output. IsUtf8 output.items) }
     ensures accepts { (tree : Data) (value : model.Value) → IsTextOf bytes.now tree
         → MeansIn options.doubles tree value → IfErr result (λ fault. fault ≡ Error.OutOfMemory) }
     ensures fault { IfErr result (λ fault. IsRefusedIn options fault bytes.now) }
@@ -71,6 +71,7 @@ pub fn convert_in_order_indented(
     bytes: &[u8],
 ) -> Result<Vec<u8>, Error>
     ensures ok { IfOk result (λ output. ConvertsInOrderIndented options form spaces bytes.now output.items) }
+    ensures utf8 { IfOk result (λ output. IsUtf8 output.items) }
     ensures accepts { (tree : Data) (value : model.Value) → IsTextOf bytes.now tree
         → MeansIn options.doubles tree value → IfErr result (λ fault. fault ≡ Error.OutOfMemory) }
     ensures fault { IfErr result (λ fault. IsRefusedIn options fault bytes.now) }
@@ -92,25 +93,11 @@ fn mode_of(form: Form) -> Mode
 // The text in the form of the value that the bytes mean.
 fn text_of(alloc: Global, options: Options, form: Form, bytes: &[u8]) -> Result<String, Error>
     ensures ok { IfOk result (λ text. IsConvertedText options (mode_of form) bytes.now (string_bytes text)) }
+    ensures accepts { (tree : Data) (value : model.Value) → IsTextOf bytes.now tree
+        → MeansIn options.doubles tree value → IfErr result (λ fault. fault ≡ Error.OutOfMemory) }
     ensures fault { IfErr result (λ fault. IsRefusedIn options fault bytes.now) }
 {
-    let text = text_with(alloc, options, mode_of(form), bytes)?;
-    match String::from_utf8(text) {
-        Ok(text) => Ok(text),
-        // (that what is written is UTF-8 no contract says)
-        Err(_) => whole_text(alloc, options, form, bytes),
-    }
-}
-
-// The same of the value that is read whole.
-fn whole_text(alloc: Global, options: Options, form: Form, bytes: &[u8]) -> Result<String, Error>
-    ensures ok { IfOk result (λ text. IsConvertedText options (mode_of form) bytes.now (string_bytes text)) }
-    ensures fault { IfErr result (λ fault. IsRefusedIn options fault bytes.now) }
-{
-    match Bson::try_from_text_with(alloc, options, bytes) {
-        Ok(value) => written_text(value.into_text_with(alloc, options, form)),
-        Err(error) => Err(error_of(error)),
-    }
+    Ok(into_string(text_with(alloc, options, mode_of(form), bytes)?))
 }
 
 // The text in the form of the value that the bytes mean in the order of their keys, in that order.
@@ -125,47 +112,24 @@ fn text_of_ordered(
         → MeansIn options.doubles tree value → IfErr result (λ fault. fault ≡ Error.OutOfMemory) }
     ensures fault { IfErr result (λ fault. IsRefusedIn options fault bytes.now) }
 {
-    let text = text_in_order(alloc, options, mode_of(form), bytes)?;
+    Ok(into_string(text_in_order(alloc, options, mode_of(form), bytes)?))
+}
+
+// The text as a string.
+fn into_string(text: Vec<u8>) -> String
+    requires { IsUtf8 text.items }
+    ensures { string_bytes result ≡ text.items }
+{
     match String::from_utf8(text) {
-        Ok(text) => Ok(text),
-        Err(_) => whole_text_in_order(alloc, options, form, bytes),
-    }
-}
-
-// The same of the value that is read whole.
-fn whole_text_in_order(
-    alloc: Global,
-    options: Options,
-    form: Form,
-    bytes: &[u8],
-) -> Result<String, Error>
-    ensures ok { IfOk result (λ text. IsConvertedTextInOrder options (mode_of form) bytes.now (string_bytes text)) }
-    ensures accepts { (tree : Data) (value : model.Value) → IsTextOf bytes.now tree
-        → MeansIn options.doubles tree value → IfErr result (λ fault. fault ≡ Error.OutOfMemory) }
-    ensures fault { IfErr result (λ fault. IsRefusedIn options fault bytes.now) }
-{
-    match Bson::try_from_text_in_order(alloc, options, bytes) {
-        Ok(value) => written_text(value.into_text_in_order(alloc, options, form)),
-        Err(error) => Err(error_of(error)),
-    }
-}
-
-// The text that was written of a value that was read, which can be written.
-fn written_text(text: Result<String, WriteError>) -> Result<String, Error>
-    requires { text ≡ Err WriteError.FiniteDouble → ⊥ }
-    ensures ok { IfOk result (λ written. text ≡ Ok written) }
-    ensures fault { IfErr result (λ fault. fault ≡ Error.OutOfMemory) }
-{
-    match text {
-        Ok(text) => Ok(text),
-        Err(WriteError::FiniteDouble) => unreachable!(),
-        Err(WriteError::OutOfMemory) => Err(Error::OutOfMemory),
+        Ok(text) => text,
+        Err(_) => unreachable!(),
     }
 }
 
 // The layout of the text, and a newline.
 fn lay_out(alloc: Global, spaces: usize, text: &str) -> Result<Vec<u8>, Error>
     ensures ok { IfOk result (λ output. IsLaidOut spaces text.now output.items) }
+    ensures utf8 { IfOk result (λ output. IsUtf8 output.items) }
     ensures fault { IfErr result (λ fault. fault ≡ Error.OutOfMemory) }
 {
     match indent_text(alloc, spaces, text) {

@@ -5,6 +5,7 @@ use Rattle.bson.specs.Form.TheVariants.{Canonical}
 use Rattle.bson.specs.Texts.{IsTextInOrder}
 use Rattle.bson.specs.Value.{document}
 use Rattle.bson_codec.specs.Laws.{IsRead}
+use Rattle.bson_run.specs.Encode.{EncodesInOrder}
 use Rattle.bson_pairs.proofs.ComingBack.{decoded_again, text_one}
 use Rattle.bson_pairs.proofs.again.text_again.Goals as goal
 
@@ -12,8 +13,8 @@ pub returns-clause-same : goal.returns-clause-same
 returns-clause-same c = λ ps is back nests.
     let text = c.args.text.now in
     let read =
-    decoded_again ps text is back c.options.result c.in-Ok.bytes.items c.args.depth c.options.ensures c.in-Ok.ensures.ok
-    nests in
+    decoded_again ps text is back c.options.result c.in-Ok.bytes.items c.args.depth c.options.ensures
+    (subst (λ l. EncodesInOrder c.options.result l c.in-Ok.bytes.items) c.as_bytes.ensures.value c.in-Ok.ensures.ok) nests in
     IfOk-weaker c.decode_bytes.result (λ again. IsTextInOrder Finite Canonical (document ps) (string_bytes again))
     (λ again. string_bytes again ≡ text)
     (λ again it. text_one Finite Canonical (document ps) (string_bytes again) text it is)

@@ -21,6 +21,7 @@ returns c =
     record {
       ok = if_ok c.text_of_distinct.result c.text_of_distinct.ensures.ok
           (λ written x. converted_alike o c.args.mode text arranged written.items utf8 is x);
+      utf8 = c.text_of_distinct.ensures.utf8;
       fault = if_err c.text_of_distinct.result c.text_of_distinct.ensures.fault
           (λ f x. refused_alike o text arranged utf8 same f valid x);
     }

@@ -6,16 +6,16 @@ use Rattle.bson_run.specs.InOrder.{IsConvertedTextInOrder}
 use Rattle.bson_run.proofs.Ordered.{filtered}
 use Rattle.bson_run.proofs.in_order.filter.Goals as goal
 
-pub returns-in-Canonical : goal.returns-in-Canonical
-returns-in-Canonical c =
+pub returns-in-Canonical-clause-ok : goal.returns-in-Canonical-clause-ok
+returns-in-Canonical-clause-ok c =
     let o = c.args.options in
     let text = c.args.text.now in
     let utf8 : IsUtf8 text = grind arith in
     subst (λ m. IfOk c.filter_text.result (λ w. IsConvertedTextInOrder o m text w.items)) (sym c.in-Canonical.is)
     (if_ok c.filter_text.result c.filter_text.ensures.ok (λ w x. filtered o form.Canonical text w.items utf8 x))
 
-pub returns-in-Relaxed : goal.returns-in-Relaxed
-returns-in-Relaxed c =
+pub returns-in-Relaxed-clause-ok : goal.returns-in-Relaxed-clause-ok
+returns-in-Relaxed-clause-ok c =
     let o = c.args.options in
     let text = c.args.text.now in
     let utf8 : IsUtf8 text = grind arith in

@@ -1,21 +1,25 @@
 use Rattle.json.specs.Lex.{tokens}
 use Rattle.json.specs.Reads.{token_of}
-use Rattle.bson_run.proofs.Indenting.{one_more, all_laid, same_tokens}
+use Rattle.bson_run.proofs.Indenting.{one_more, all_laid, same_tokens, utf8_more}
 use Rattle.bson_run.proofs.indent.indent_text.Goals as goal
 
 pub loop-token-preserved : goal.loop-token-preserved
 loop-token-preserved c =
-    let w = c.loop-token.invariant in
-    one_more c.args.spaces (tokens c.args.text.now) c.loop-token.reader c.next.new.self (token_of c.in-Some.token)
-    c.loop-token.layout c.put.new.self c.in-Some.ensures.value w (c.in_ok-put.ensures c.args.spaces w.indent w.at)
+    let (w, utf8) = c.loop-token.invariant in
+    let laid = c.in_ok-put.ensures.laid c.args.spaces w.indent w.at in (
+      one_more c.args.spaces (tokens c.args.text.now) c.loop-token.reader c.next.new.self (token_of c.in-Some.token)
+          c.loop-token.layout c.put.new.self c.in-Some.ensures.value w laid,
+      utf8_more c.args.spaces w.indent c.loop-token.layout c.put.new.self (token_of c.in-Some.token) laid
+          c.in_ok-put.ensures.utf8 utf8,
+    )
 
 pub returns-clause-layout : goal.returns-clause-layout
 returns-clause-layout c =
     all_laid c.args.spaces (tokens c.args.text.now) c.loop-token.reader c.loop-token.layout c.in_default.ensures.value.0
-    c.loop-token.invariant
+    c.loop-token.invariant.0
 
 pub returns-clause-same : goal.returns-clause-same
 returns-clause-same c =
     same_tokens c.args.spaces c.args.text.now c.loop-token.layout.out.items
     (all_laid c.args.spaces (tokens c.args.text.now) c.loop-token.reader c.loop-token.layout c.in_default.ensures.value.0
-    c.loop-token.invariant)
+    c.loop-token.invariant.0)

@@ -8,8 +8,8 @@ use Rattle.bson_run.proofs.Indenting.{joined}
 use Rattle.bson_run.proofs.LinesLaws.{oks}
 use Rattle.bson_run.proofs.indent.Layout.put.Goals as goal
 
-pub returns : goal.returns
-returns c = λ n indent at.
+pub returns-clause-laid : goal.returns-clause-laid
+returns-clause-laid c = λ n indent at.
     let s = c.args.self.now in
     let t = token_of c.args.token in
     let b = c.begins-begins.ensures in
@@ -28,7 +28,7 @@ returns c = λ n indent at.
         start = more ∙ (λ i. line (if c.opens.ensures i then (stands n t indent + n) else (stands n t indent)));
       };
       before = c.before_next-self.ensures;
-      out = c.in_ok-put_text.ensures ∙ ap (λ o. o ++ token_text t) between
+      out = c.in_ok-put_text.ensures.text ∙ ap (λ o. o ++ token_text t) between
           ∙ ap (λ o. (o ++ gap before (begins t) (stands n t indent)) ++ token_text t) comma
           ∙ joined s.out.items (separator (is_value before) t) (gap before (begins t) (stands n t indent)) (token_text t);
     })
