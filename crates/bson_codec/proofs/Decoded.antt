@@ -1,16 +1,23 @@
 -- The text that the source wrote is that of the document in its own order, and so is a line of a dump.
-use Rattle.std.proofs.Common.{◌≡◌, ◌++◌, ℕ, List, true, Ok, String, string_bytes, refl, sym, ap, subst, ◌∙◌}
+use Rattle.std.proofs.Common.{◌≡◌, ◌++◌, ℕ, List, true, Result, Ok, Err, String, string_bytes, refl, sym, ap, subst, ◌∙◌}
 use Rattle.std.specs.Prelude.{is_ok}
 use Rattle.std.specs.declared.alloc.Global.{Global}
-use Rattle.serde_json.specs.Data.{object}
+use Rattle.serde_json.specs.Data.{Data, object}
+use Rattle.bson_scalar.specs.Written.{Refusal}
 use Rattle.bson_scalar.specs.declared.form.Doubles.TheVariants.{Finite}
 use Rattle.bson_scalar.specs.declared.form.Form.{Form}
-use Rattle.bson_model.specs.Normal.{writable_in}
+use Rattle.bson_scalar.proofs.Offered.{text_is}
+use Rattle.bson_model.specs.Laws.{IsTreeOfIn}
+use Rattle.bson_model.specs.Normal.{writable_in, normal_form, InRange}
 use Rattle.bson_model.specs.Value.{Value, Pairs, document}
+use Rattle.bson_model.specs.Writing.{writes_in}
+use Rattle.bson_model.proofs.Offered.{tree_is_in, writable_is_in}
+use Rattle.bson_order.specs.Kept.{unordered}
 use Rattle.bson_order.specs.Writing.{writes_in_order}
+use Rattle.bson_order.specs.Written.{WrittenInOrder}
+use Rattle.bson_order.proofs.Offered.{default_written, has_no_float, one_written, ordered_text, written_from}
 use Rattle.bson_order.proofs.Offered.{writable_is, written_to}
 use Rattle.bson.specs.Texts.{IsTextInOrder}
-use Rattle.bson.proofs.Offered.{as_given_is, ordered_is}
 use Rattle.bson_source.specs.Printed.{IsPrinted}
 use Rattle.bson_codec.specs.Documents.{IsLine, WritesLine}
 use Rattle.bson_codec.specs.Texts.{IsTextOf}
@@ -18,11 +25,33 @@ use Rattle.bson_codec.specs.Told.{newline}
 use Rattle.bson_codec.specs.declared.documents.Line.TheVariants.{TextInOrder}
 use Rattle.bson_codec.specs.declared.documents.Run.{Run}
 
+written_tree : (r : Result Data Refusal) → is_ok r ≡ true → (u : Data) × (r ≡ Ok u)
+written_tree (Ok u) ok = (u, refl)
+written_tree (Err e) ok = cc
+
+-- with the order forgotten the tree is that of the writers by default
+default_tree : (f : Form) (v : Value) (t : Data) → WrittenInOrder Finite f (normal_form v) t → writable_in Finite v ≡ true
+    → InRange v → IsTreeOfIn Finite f v (unordered t)
+default_tree f v t h w ranged =
+    let it = written_tree (writes_in Finite f v) (writable_is_in Finite f v ∙ w) in
+    let is = tree_is_in Finite f v it.0 it.1 ranged in
+    subst (IsTreeOfIn Finite f v) (sym (is.one (unordered t) (default_written Finite f v t h ranged))) is
+
 pub printed_is : (f : Form) (ps : Pairs) (s : String Global) → IsPrinted f ps (string_bytes s)
     → IsTextInOrder Finite f (document ps) (string_bytes s)
 printed_is f ps s (us, (w, r, d), text) =
-    let writes : writes_in_order Finite f (document ps) ≡ Ok (object us) = rw w refl in
-    ordered_is Finite f (document ps) (Ok s) (object us, as_given_is Finite f (document ps) ∙ writes, text) r d
+    let v = document ps in
+    let t = object us in
+    let writes : writes_in_order Finite f v ≡ Ok t = rw w refl in
+    let h = written_from Finite f v t writes in
+    record {
+      tree = t;
+      written = h;
+      one = λ u other. one_written Finite f v t u h other;
+      ordered = λ plain. ordered_text Finite f v t h plain r d;
+      by_default = default_tree f v t h (sym (writable_is Finite f v) ∙ ap is_ok writes) r;
+      compact = text ∙ sym (text_is Finite f t (has_no_float Finite f v t h));
+    }
 
 -- what has a text in its own order is written
 text_written : (f : Form) (v : Value) (text : List ℕ) → IsTextInOrder Finite f v text → writable_in Finite v ≡ true

@@ -19,8 +19,12 @@ use std::alloc::Global;
 /// Extended JSON v2). Each document has its keys in their own order, and finite doubles are written.
 ///
 /// The text is written while the bytes are read. No value is made in memory, unless some document may
-/// have a duplicate key. If a key is duplicated, its last value wins, at its first position. An error
-/// has the first fault of the bytes and its offset.
+/// have a duplicate key. If a key is duplicated, its last value wins, at its first position.
+///
+/// # Errors
+///
+/// - `Error::Malformed` has the first fault of the bytes and its offset.
+/// - `Error::OutOfMemory`: an allocation failed.
 ///
 /// ```
 /// let bytes = b"\x0c\0\0\0\x10n\0\x05\0\0\0\0";

@@ -40,7 +40,11 @@ pub fn explain(alloc: Global, fault: &Error, text: &[u8]) -> Result<String, Allo
 }
 
 /// [`explain`] of a text that a task refused. If another text was read in its place, the path leads
-/// into that text, and the value there is told only if the first has it at that path, too.
+/// into that text. The value there is quoted only if the first text has it at that path, too.
+///
+/// # Errors
+///
+/// `AllocError` if an allocation fails.
 pub fn explain_under(
     alloc: Global,
     task: Task,

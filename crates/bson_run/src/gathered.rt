@@ -181,7 +181,11 @@ impl Gathered {
         }
     }
 
-    /// Where the fault of the line that is being gathered lies, in the words of `explain_under`.
+    /// Returns where the line that is being read is wrong, in the words of `explain_under`.
+    ///
+    /// # Errors
+    ///
+    /// `AllocError` if an allocation fails.
     pub fn place(&self, alloc: Global, task: Task, fault: &Error) -> Result<String, AllocError>
         ensures { IfOk result (λ place. IsWhere (text_held self.now) fault.now (string_bytes place)) }
     {

@@ -120,7 +120,11 @@ impl LineRun {
         self.gathered.lines.saturating_add(1)
     }
 
-    /// Where the fault lies in the line at which the run stopped, in the words of `explain_under`.
+    /// Returns where the line at which the run stopped is wrong, in the words of `explain_under`.
+    ///
+    /// # Errors
+    ///
+    /// `AllocError` if an allocation fails.
     pub fn place(&self, alloc: Global, fault: &Error) -> Result<String, AllocError>
         ensures { IfOk result (λ place. IsWhere (text_held self.now.gathered) fault.now (string_bytes place)) }
     {

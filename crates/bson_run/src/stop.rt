@@ -61,7 +61,11 @@ impl Stop {
         1 + line.take_while(|byte| **byte != b'\n').count()
     }
 
-    /// What a program says of it: the column and the rule, to be put behind the words for the error.
+    /// Returns what a program reports after the words for the error: the column and the rule.
+    ///
+    /// # Errors
+    ///
+    /// `AllocError` if an allocation fails.
     pub fn message(self, alloc: Global, bytes: &[u8]) -> Result<String, AllocError>
         ensures { IfOk result (λ words. string_bytes words ≡ at_column (column_at self.offset bytes.now) self.rule) }
     {

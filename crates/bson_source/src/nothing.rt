@@ -105,8 +105,12 @@ impl ValueSink for Nothing {
     }
 }
 
-/// Returns `Ok` if all of the bytes are a document, and otherwise their first fault. Documents, arrays
-/// and scopes may nest at most `depth` deep, counting the document itself. It allocates nothing.
+/// Checks that all of the bytes are a document (BSON 1.1). Documents, arrays and scopes may nest at most
+/// `depth` deep, counting the document itself. It allocates nothing.
+///
+/// # Errors
+///
+/// The first fault of the bytes, and its offset.
 pub fn is_document(bytes: &[u8], depth: usize) -> Result<(), Fault>
     // The bytes are read as a document.
     ensures ok { OnOk result ((ps : Pairs) × (reads depth bytes.now ≡ Ok ps)) }

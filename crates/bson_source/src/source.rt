@@ -18,6 +18,10 @@ use bson_bytes::parts::{byte_at, kind_of, size_at, text_at};
 use bson_types::spec::ElementType;
 
 /// Reads all of the bytes as a document, and writes it to the sink.
+///
+/// # Errors
+///
+/// `Stop::Fault` has the first fault of the bytes. Any other stop is the sink's own.
 #[tactic(auto, unfolding(bson_bytes::specs::Reading::reads_in))]
 pub fn read_document<S: ValueSink>(
     bytes: &[u8],
@@ -35,6 +39,10 @@ pub fn read_document<S: ValueSink>(
 
 /// Reads a document at the front of the bytes, writes it to the sink, and returns the bytes after it.
 /// Documents, arrays and scopes may nest at most `depth` deep.
+///
+/// # Errors
+///
+/// `Stop::Fault` has the first fault of the bytes. Any other stop is the sink's own.
 #[cycle(source)]
 pub fn document_at<'a, S: ValueSink>(
     bytes: &'a [u8],

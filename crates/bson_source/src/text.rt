@@ -45,7 +45,11 @@ pub struct TextSink {
 /// Reads all of the bytes as a document, and returns its compact text in the form, each document's
 /// keys in their own order. The text is written while the bytes are read, without a value in memory.
 ///
-/// It returns `PossibleDuplicate` if some document may have a duplicate key.
+/// # Errors
+///
+/// - `Stop::Fault` has the first fault of the bytes.
+/// - `Stop::PossibleDuplicate`: some document may have a duplicate key.
+/// - `Stop::OutOfMemory`: an allocation failed.
 pub fn document_text(alloc: Global, form: Form, bytes: &[u8], depth: usize) -> Result<String, Stop>
     ensures { ReadsAllTo (λ e. Unit {0}) (λ ps s. IsPrinted form ps (string_bytes s)) result (reads depth bytes.now) }
 {
