@@ -1,9 +1,9 @@
+pub mod Buffer
 pub mod Convert
 pub mod Documents
 pub mod Dumps
 pub mod Explain
 pub mod Lines
 pub mod Reading
-pub mod Room
 pub mod Text
 pub mod Values
