@@ -11,9 +11,9 @@ import subprocess
 import sources
 
 LINE = re.compile(r"(?m)^    (?:\$ )?(.+)$")
-PART = re.compile(r"\||;|&&|\(|\bthen\b|<")
+PART = re.compile(r"\s\|\s|;|&&|\(|\bthen\b|<")
 SCRIPT = re.compile(r"(?:\.\./)*(?:\./(?:bson|vbson|test)|(?:tests|tools)/[\w/.]+|bson)")
-OPTION = re.compile(r"(?<=\s)--[a-z][a-z-]*")
+OPTION = re.compile(r"(?<=[\s\[|,])--[a-z][a-z-]*")
 
 
 @functools.cache
