@@ -91,6 +91,17 @@ def sums_of(rtlib, crates):
     return found
 
 
+def sum_of_files(folder):
+    """A sum of the names and the bytes of all files of a folder."""
+    found = hashlib.sha256()
+    for below, folders, names in os.walk(folder):
+        folders.sort()
+        for name in sorted(names):
+            with open(f"{below}/{name}", "rb") as file:
+                found.update(repr((os.path.relpath(f"{below}/{name}", folder), hashlib.file_digest(file, "sha256").digest())).encode())
+    return found.hexdigest()
+
+
 class Step:
     """The build of one crate."""
 
@@ -102,7 +113,9 @@ class Step:
         self.made = f"{crate.folder}/out/{self.name}" if crate.is_program else f"{crate.folder}/out/lib{self.name}.a"
         self.made = crate.rlib if crate.makes_rlib() else self.made
         self.log = f"{OUT}/build/{self.name}"
-        self.process, self.jobs, self.began, self.used, self.proved = None, 0, 0.0, None, ""
+        self.process, self.jobs, self.began, self.used = None, 0, 0.0, None
+        # The last line of its proof, and where it was proved, if not here.
+        self.proved, self.origin = "", ""
 
     def minutes(self, jobs):
         return self.minutes_serial + (self.minutes_alone - self.minutes_serial) / jobs
@@ -112,20 +125,20 @@ class Step:
         return self.memory * (1 + 0.4 * (jobs - 1))
 
     def sum_of_made(self):
-        """A sum of the program, or nothing for a library's folder, which no one else writes."""
-        return "" if os.path.isdir(self.made) else self.rtlib.sum_of(self.made)
+        """A sum of the program, or of the files of the library."""
+        return sum_of_files(self.made) if os.path.isdir(self.made) else self.rtlib.sum_of(self.made)
 
     def is_built(self):
-        """Whether a build before has proved and kept it, as it stands."""
+        """Whether a build has proved and kept it, and neither its sources nor what was made have changed."""
         kept = (self.rtlib.text_of(f"{self.kept}/stamp") or "").split("\n")
-        if len(kept) != 3 or not os.path.exists(self.made):
+        if len(kept) != 4 or not os.path.exists(self.made):
             return False
-        self.proved = kept[2]
+        self.proved, self.origin = kept[2:]
         return kept[:2] == [self.of_sources, self.sum_of_made()] and bool(PROVED.fullmatch(self.proved))
 
     def keep(self):
         with open(f"{self.kept}/stamp", "w", encoding="utf-8") as it:
-            it.write("\n".join([self.of_sources, self.sum_of_made(), self.proved]))
+            it.write("\n".join([self.of_sources, self.sum_of_made(), self.proved, self.origin]))
 
     def start(self, jobs):
         shutil.rmtree(self.kept, ignore_errors=True)
@@ -357,7 +370,7 @@ def main():
         said = rt.rtlib.text_of(failed.log).splitlines()
         stop(f"{failed.name} is not proved, so {PROGRAM} is not built; {LOG} has all, and ends for it:\n" + "\n".join(said[-5:]))
     with open(f"{OUT}/proved", "w", encoding="utf-8") as it:
-        it.writelines(f"{step.name}: {step.proved}\n" for step in steps.values())
+        it.writelines(f"{step.name}: {step.proved}{step.origin and f' ({step.origin})'}\n" for step in steps.values())
     shutil.rmtree(f"{OUT}/build")
     os.replace(f"{OUT}/built_from.new", f"{OUT}/built_from")
     return 0
