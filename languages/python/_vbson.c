@@ -1,7 +1,6 @@
-/* What vbson.py does by ctypes and struct, sooner: calls of libvbson.so that leave bytes or a text, and values of Python
- * for the bytes that it writes. vbson.py needs it nowhere, and hands it the addresses of the calls, so that it is linked
- * with nothing; it is built for the stable ABI, one file for every CPython from 3.9 on (./vbson build does so where
- * Python.h is). No read leaves the bytes, whatever they are. */
+/* What the package vbson does by ctypes and struct, faster. The package needs it nowhere, and hands it the addresses of the
+ * calls of libvbson.so, so it is linked with nothing. It is built for the stable ABI, for every CPython from 3.9 on. No read
+ * leaves the bytes, whatever they are. */
 #define PY_SSIZE_T_CLEAN
 #define Py_LIMITED_API 0x03090000
 #include <Python.h>
@@ -15,6 +14,7 @@ typedef struct {
 } text;
 
 typedef uint32_t flags_call(uint32_t flags, const uint8_t *given, size_t len, text *out);
+typedef uint32_t check_call(const uint8_t *bytes, size_t len);
 typedef uint32_t mode_call(uint32_t mode, uint32_t flags, const uint8_t *given, size_t len, text *out);
 
 /* ---- values */
@@ -297,7 +297,8 @@ static PyObject *printed(PyObject *self, PyObject *arguments) {
     return status != 0 ? PyLong_FromUnsignedLong(status) : PyUnicode_DecodeUTF8((const char *)buffer, (Py_ssize_t)len, NULL);
 }
 
-static PyObject *status_of(uint32_t status) { return PyLong_FromUnsignedLong(status); }
+/* The answer to a status that is not 0: the error of Python, if there is one. */
+static PyObject *refused(uint32_t status) { return PyErr_Occurred() ? NULL : PyLong_FromUnsignedLong(status); }
 
 static uint32_t left_by(PyObject *call, unsigned mode, unsigned flags, int has_mode, PyObject *given, text *out) {
     void *address = PyLong_AsVoidPtr(call);
@@ -319,8 +320,7 @@ static PyObject *text_by(PyObject *self, PyObject *arguments) {
     text out = {(uint8_t *)"", 0, 0};
     if (!PyArg_ParseTuple(arguments, "OIIO", &call, &mode, &flags, &given)) return NULL;
     uint32_t status = left_by(call, mode, flags, 1, given, &out);
-    if (PyErr_Occurred()) return NULL;
-    if (status != 0) return status_of(status);
+    if (status != 0) return refused(status);
     PyObject *made = PyUnicode_DecodeUTF8((const char *)out.bytes, (Py_ssize_t)out.len, NULL);
     free(out.bytes);
     return made;
@@ -333,8 +333,7 @@ static PyObject *bytes_by(PyObject *self, PyObject *arguments) {
     text out = {(uint8_t *)"", 0, 0};
     if (!PyArg_ParseTuple(arguments, "OIO", &call, &flags, &given)) return NULL;
     uint32_t status = left_by(call, 0, flags, 0, given, &out);
-    if (PyErr_Occurred()) return NULL;
-    if (status != 0) return status_of(status);
+    if (status != 0) return refused(status);
     PyObject *made = bytes_of(out.bytes, out.len);
     free(out.bytes);
     return made;
@@ -347,8 +346,7 @@ static PyObject *value_by(PyObject *self, PyObject *arguments) {
     text out = {(uint8_t *)"", 0, 0};
     if (!PyArg_ParseTuple(arguments, "OIOO!", &call, &flags, &given, &PyTuple_Type, &types)) return NULL;
     uint32_t status = left_by(call, 0, flags, 0, given, &out);
-    if (PyErr_Occurred()) return NULL;
-    if (status != 0) return status_of(status);
+    if (status != 0) return refused(status);
     PyObject *made = only_value(out.bytes, out.len, types);
     free(out.bytes);
     return made;
@@ -359,34 +357,42 @@ static PyObject *value_of(PyObject *self, PyObject *arguments) {
     PyObject *given, *types;
     char *bytes;
     Py_ssize_t len;
-    if (!PyArg_ParseTuple(arguments, "OO!", &given, &PyTuple_Type, &types)) return NULL;
-    if (PyBytes_AsStringAndSize(given, &bytes, &len) != 0) return NULL;
+    if (!PyArg_ParseTuple(arguments, "OO!", &given, &PyTuple_Type, &types) || PyBytes_AsStringAndSize(given, &bytes, &len) != 0) return NULL;
     return only_value((const uint8_t *)bytes, (size_t)len, types);
 }
 
-/* values_of(documents, types): a list of the values of documents, one behind the other. */
-static PyObject *values_of(PyObject *self, PyObject *arguments) {
-    PyObject *given, *types;
+/* Whether the bytes go on with a whole document that the call accepts; without a call they go on with one, or end. */
+static int goes_on(const reader *in, check_call *is_document) {
+    if (is_document == NULL) return in->at < in->end;
+    size_t size = has(in, 5) ? number_at(in->at) : 0;
+    return size >= 5 && has(in, size) && is_document(in->at, size) == 0;
+}
+
+/* documents_of(address, block, types): the values of the documents at the beginning of a block that the call at the address
+ * accepts, in a list, and how many bytes they have. The address is 0 for a block that the library has written. */
+static PyObject *documents_of(PyObject *self, PyObject *arguments) {
+    PyObject *call, *given, *types;
     char *bytes;
     Py_ssize_t len;
-    if (!PyArg_ParseTuple(arguments, "OO!", &given, &PyTuple_Type, &types)) return NULL;
-    if (PyBytes_AsStringAndSize(given, &bytes, &len) != 0) return NULL;
+    if (!PyArg_ParseTuple(arguments, "OOO!", &call, &given, &PyTuple_Type, &types)) return NULL;
+    check_call *is_document = (check_call *)PyLong_AsVoidPtr(call);
+    if (PyErr_Occurred() || PyBytes_AsStringAndSize(given, &bytes, &len) != 0) return NULL;
     reader in = {.at = (const uint8_t *)bytes, .end = (const uint8_t *)bytes + len};
     if (!takes_types(&in, types)) return NULL;
     PyObject *found = PyList_New(0);
-    while (found != NULL && in.at < in.end) {
+    while (found != NULL && goes_on(&in, is_document)) {
         PyObject *made = document(&in);
         if (made == NULL || PyList_Append(found, made) != 0) Py_CLEAR(found);
         Py_XDECREF(made);
     }
     forget(&in);
-    return found;
+    return found == NULL ? NULL : Py_BuildValue("Nn", found, (Py_ssize_t)(in.at - (const uint8_t *)bytes));
 }
 
 static PyMethodDef methods[] = {
     {"text_by", text_by, METH_VARARGS, NULL}, {"bytes_by", bytes_by, METH_VARARGS, NULL},
     {"value_by", value_by, METH_VARARGS, NULL}, {"value_of", value_of, METH_VARARGS, NULL},
-    {"values_of", values_of, METH_VARARGS, NULL}, {"printed", printed, METH_VARARGS, NULL}, {NULL, NULL, 0, NULL},
+    {"documents_of", documents_of, METH_VARARGS, NULL}, {"printed", printed, METH_VARARGS, NULL}, {NULL, NULL, 0, NULL},
 };
 
 static struct PyModuleDef module = {PyModuleDef_HEAD_INIT, "_vbson", NULL, 0, methods, NULL, NULL, NULL, NULL};
