@@ -41,7 +41,7 @@ def _in_order(values):
 
 def _of_numpy(numpy, value):
     if isinstance(value, numpy.ndarray):
-        return [*value] if value.ndim else value[()]
+        return [*value] if value.ndim else _of_numpy(numpy, value[()])
     if isinstance(value, numpy.datetime64):
         return _of_datetime64(numpy, value)
     if isinstance(value, (numpy.bool_, numpy.integer, numpy.floating)) and not isinstance(value, (numpy.timedelta64, numpy.longdouble)):

@@ -12,8 +12,8 @@ _DOCUMENT, _ARRAY, _SCOPED = 0x03, 0x04, 0x0F
 
 
 def joined(path):
-    """Returns the keys and indexes, joined by points."""
-    return ".".join(map(str, path))
+    """Returns the keys and indexes, joined by points, as the library writes a path."""
+    return ".".join(_shown(str(it)) for it in path)
 
 
 def _shown(key):
@@ -46,15 +46,15 @@ def _paths(value, words):
 
 
 def _value_end(data, tag, at):
-    """Returns where the value of this tag ends; the end of the data if it can't be followed."""
-    end = len(data)
+    """Returns where the value of this tag ends; after the data if it can't be followed or is cut off."""
+    end = len(data) + 1
     if tag in _SIZES:
         return at + _SIZES[tag]
     if tag == 0x0B:
         options = data.find(0, at) + 1
-        return data.find(0, options) + 1 or end if options else end
+        return (data.find(0, options) + 1 or end) if options else end
     length = int.from_bytes(data[at:at + 4], "little", signed=True)
-    return at + length + _SIZES_AFTER_LENGTH[tag] if tag in _SIZES_AFTER_LENGTH and 0 <= length <= end - at else end
+    return at + length + _SIZES_AFTER_LENGTH[tag] if tag in _SIZES_AFTER_LENGTH and 0 <= length < end - at else end
 
 
 def _elements(data, at, is_array):

@@ -9,8 +9,8 @@ from typing import Any, Optional
 from . import _calls, _foreign, errors, scalars
 from ._paths import joined
 from ._reading import LENGTH, LONG, READERS, object_id, read_document
-from ._writing import Writer, unsupported
-from .errors import Error, IntegerTooLarge, NotADocument, NotEncodable, NoValue, UnsupportedType
+from ._writing import Writer, exact_decimal, unsupported
+from .errors import Error, IntegerTooLarge, NotADocument, NotEncodable, NotRepresentable, NoValue, UnsupportedType
 from .values import Int64
 
 KEY = "v"
@@ -131,7 +131,7 @@ class Bson(Types):
             if default is None:
                 raise unsupported(value)
             found = default(value)
-        return self._decimal.from_bid(scalars.decimal128(found)) if isinstance(found, decimal.Decimal) else found
+        return self._decimal.from_bid(exact_decimal(found)) if isinstance(found, decimal.Decimal) else found
 
     def _other(self, tag, content):
         """Returns the value of a tag and the bytes after its key."""
@@ -156,14 +156,19 @@ class Bson(Types):
             return self._bson.encode({KEY: value}, codec_options=options)
         except Error as error:
             raise _placed(error, self._path(value, options))
-        except (self._errors.InvalidDocument, OverflowError, UnicodeError) as error:
-            raise _placed(self._error(error), self._path(value, options)) from error
+        except (self._errors.InvalidDocument, OverflowError, ValueError) as error:
+            if (found := self._error(error)) is None:
+                raise
+            raise _placed(found, self._path(value, options)) from error
 
     def _error(self, error):
+        """Returns the error of an exception of bson; None for an exception of somebody's function."""
         if isinstance(error, OverflowError):
             return IntegerTooLarge(str(error))
         if isinstance(error, UnicodeError):
             return NotEncodable("a string has a lone surrogate", code=errors.INVALID_STRING)
+        if not isinstance(error, self._errors.InvalidDocument):
+            return NotRepresentable("NaT is not a date") if "NaTType" in str(error) else None
         if re.search("must not contain (a|the) NUL", str(error)):
             return NotEncodable(str(error), code=errors.ZERO_IN_KEY)
         return UnsupportedType(str(error))
@@ -175,7 +180,7 @@ class Bson(Types):
         for key, name, it in parts:
             try:
                 self._bson.encode({key: it}, codec_options=options)
-            except (Error, self._errors.InvalidDocument, OverflowError, UnicodeError):
+            except (self._errors.InvalidDocument, OverflowError, ValueError):
                 return [name, *self._path(it, options)]
         return []
 

@@ -126,9 +126,10 @@ def _date(_, value):
     return (b"\x09", LONG.pack(scalars.date_time(value))) if value == value else (b"\x0a", b"")
 
 
-def _decimal(_, value):
+def exact_decimal(value):
+    """Returns the 16 bytes of a decimal.Decimal."""
     try:
-        return b"\x13", scalars.decimal128(value)
+        return scalars.decimal128(value)
     except InvalidString:
         raise InvalidString("a decimal would be rounded") from None
 
@@ -159,6 +160,6 @@ _WRITERS = {
     DatetimeMS: lambda _, it: (b"\x09", _int64(_, it)[1]), type(None): lambda _, it: (b"\x0a", b""),
     Regex: lambda _, it: _regex(it.pattern, it.options), re.Pattern: _pattern, Code: Writer.code,
     DBPointer: lambda _, it: (b"\x0c", _text(it.namespace) + _id(it.id)), Symbol: lambda _, it: (b"\x0e", _text(it)),
-    int: _int, Timestamp: _stamp, Int64: _int64, decimal.Decimal: _decimal,
+    int: _int, Timestamp: _stamp, Int64: _int64, decimal.Decimal: lambda _, it: (b"\x13", exact_decimal(it)),
     MaxKey: lambda _, it: (b"\x7f", b""), MinKey: lambda _, it: (b"\xff", b""),
 }

@@ -199,6 +199,13 @@ def of_documents(diagnostics, block):
     return refused
 
 
+def of_value(error, number):
+    """Returns the error of the value of this number, from 0, among several."""
+    error.path.insert(0, number)
+    error.args = (f"document {number + 1}: {error}",)
+    return error
+
+
 def in_dump(error, number, start):
     """Returns the error of the document of this number, from 0, as one of the dump in which it begins at an offset."""
     at_byte = "" if error.offset is None else f" at its byte {error.offset}"

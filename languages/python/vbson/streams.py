@@ -128,12 +128,12 @@ def dump_documents(values: Iterable[Any], file: IO[bytes], types: str = "plain",
             made = kinds.document_of(value, default)
             document = made[7:-1]
             if made[4] != 3:
-                raise errors.NotADocument(f"no document ({type(value).__name__} is not written as one)")
+                reason = f"a document is needed, and not {type(value).__name__}"
+                raise errors.NotADocument(f"no document ({reason})", reason)
             if not documents.is_document(document):
                 raise documents.of_bytes(document)
         except Error as error:
-            error.path.insert(0, count)
-            raise
+            raise errors.of_value(error, count)
         file.write(document)
         count += 1
     return count
