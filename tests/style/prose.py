@@ -12,9 +12,14 @@ THEOREM = (
 # Words of the project's former dialect, each with the plain words for it.
 BANNED = (
     (r"\bbehind\b", "after, following"),
-    (r"\b(?:stands|stood)\b(?! for)", "is, occurs"),
+    (r"\b(?:stands?|stood|standing)\b(?! for)", "is, occurs"),
     (r"\b(?:tells|told)\b", "reports, says"),
     (r"\btakes\b", "accepts, needs"),
+    (r"\b(?:take|taking|taken|took) (?:the |no |so much )?(?:memory|allocator|time)\b", "allocate, need"),
+    (r"\bcomes? back\b", "reads back"),
+    (r"\bbeside\b", "next to, compared with"),
+    (r"\bthe (?:gate|book)\b", "./test; the specification"),
+    (r"\bwanting\b", "missing"),
     (r"\b[Ss]uch\b(?! as\b)", "this, these"),
     (r"^(?:\W*)Of (?!course)|[:;] of ", "For X, .. or X's .."),
     (r"\btwice in its object\b", "a duplicate key"),

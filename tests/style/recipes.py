@@ -1,6 +1,10 @@
-"""Runs the recipes of docs/guide.md, and by messages.py the rows of docs/errors.md. The commands of the recipes run in one
-folder, in their order, and their output must be what is below them. Blocks of Python must print what their comments say. What
-is not built or installed is not tried, which is said. A command that ends in a backslash goes on in the next line.
+"""Runs the commands of PAGES, and by messages.py the rows of docs/errors.md. The commands of a page run in one folder, in their
+order, and their output must be what is below them. Blocks of Python must print what their comments say. What is not built or
+installed is not tried, and that is reported. A command that ends in a backslash goes on in the next line.
+
+Other tests run the commands of the other pages: tests/program those of README and docs/PROGRAMS.md, tests/vbson those of
+docs/c.md, docs/rust.md and docs/python.md, tests/examples those of crates/NAME/README.md. A command of any page must name
+scripts and options that exist (commands.py).
 """
 import os
 import re
@@ -12,11 +16,11 @@ import tempfile
 import messages
 import sources
 
-GUIDE = "docs/guide.md"
+PAGES = ("docs/guide.md", "docs/SCALE.md")
 PROGRAMS = ("bson_cli", "bson_lines")
 LIBRARY = f"{sources.TOP}/languages/out/lib/libvbson.so"
 # The commands that a recipe may need beside those that each test needs, and the module of Python.
-TOOLS, MODULES = ("jq", "sqlite3"), ("pandas",)
+TOOLS, MODULES = ("jq", "sqlite3"), ("pandas", "distributed")
 COMMAND = "    $ "
 
 
@@ -55,7 +59,7 @@ def lacks(heading, kind, code, of_section):
     if kind == "Python":
         if not os.path.exists(LIBRARY):
             return "the library for Python is not built"
-        needed = [it for it in MODULES if re.search(rf"\bimport {it}\b", code)]
+        needed = [it for it in MODULES if re.search(rf"\b(?:import|from) {it}\b", code)]
         missing = [it for it in needed if subprocess.run([sys.executable, "-c", f"import {it}"], capture_output=True).returncode]
         return f"there is no module {missing[0]}" if missing else ""
     missing = [it for it in TOOLS if re.search(rf"\b{it}\b", of_section) and not shutil.which(it)]
@@ -71,21 +75,27 @@ def ran(kind, code, room):
 
 def checks(program=f"{sources.TOP}/bson"):
     """What is wrong with each part that was tried."""
-    text = sources.read(GUIDE)
-    found = parts(text)
-    yield [] if any(kind == "command" for _, kind, *_ in found) else [f"{GUIDE} has no commands"]
+    found = {page: parts(sources.read(page)) for page in PAGES}
+    for page, made in found.items():
+        yield [] if any(kind == "command" for _, kind, *_ in made) else [f"{page} has no commands"]
     if program == f"{sources.TOP}/bson" and not all(map(is_built, PROGRAMS)):
-        print(f"not tried: the recipes of {GUIDE} and the rows of {messages.ERRORS}, since the programs are not built")
+        print(f"not tried: the commands of {', '.join(PAGES)} and the rows of {messages.ERRORS}, since the programs are not built")
         return
     yield from messages.checks(program)
+    for page, made in found.items():
+        yield from page_checks(page, made, program)
+
+
+def page_checks(page, found, program):
+    """What is wrong with each part of a page that was tried."""
     with tempfile.TemporaryDirectory() as room:
         os.mkdir(f"{room}/bin")
         os.symlink(program, f"{room}/bin/bson")
         for heading, kind, code, wanted in found:
             of_section = "\n".join(it[2] for it in found if it[0] == heading and it[1] == "command")
             if why := lacks(heading, kind, code, of_section):
-                print(f"not tried: a part of the recipe '{heading}', since {why}")
+                print(f"not tried: a part of {page}, '{heading}', since {why}")
                 continue
             answer = ran(kind, code, room)
             is_right = (answer.returncode, answer.stdout) == (0, wanted)
-            yield [] if is_right else [f"{GUIDE}, '{heading}': {code}\n{answer.stdout}{answer.stderr}"]
+            yield [] if is_right else [f"{page}, '{heading}': {code}\n{answer.stdout}{answer.stderr}"]

@@ -1,10 +1,13 @@
-"""What the tests of the library share: counts of what passed, programs that are run, and the examples of languages/README.md."""
+"""What the tests of the library share: counts of what passed, programs that are run, and the examples of the pages."""
 import re
 import shutil
 import subprocess
 from pathlib import Path
 
-LANGUAGES = Path(__file__).resolve().parents[2] / "languages"
+ROOT = Path(__file__).resolve().parents[2]
+LANGUAGES = ROOT / "languages"
+# The page for the programmers of each language.
+PAGES = {it: ROOT / f"docs/{it}.md" for it in ("c", "rust", "python")}
 
 
 class Tally:
@@ -58,7 +61,7 @@ def blocks(file, language):
 
 
 def example(language):
-    return blocks(LANGUAGES / "README.md", language)[0]
+    return "".join(blocks(PAGES[language], language))
 
 
 def printed_by(block, mark):

@@ -1,0 +1,55 @@
+"""Checks that each command of a document that is a script of the repository names one that exists, with options that it has.
+
+A command is an indented line, after '$ ' or alone, and each of its parts after '|', ';', '&&' or '('. The options of the
+installed `bson` are those of `./bson --help`, which builds nothing, and those of another script are in its text.
+"""
+import functools
+import os
+import re
+import subprocess
+
+import sources
+
+LINE = re.compile(r"(?m)^    (?:\$ )?(.+)$")
+PART = re.compile(r"\s\|\s|;|&&|\(|\bthen\b|<")
+SCRIPT = re.compile(r"(?:\.\./)*(?:\./(?:bson|vbson|test)|(?:tests|tools)/[\w/.]+|bson)")
+OPTION = re.compile(r"(?<=[\s\[|,])--[a-z][a-z-]*")
+
+
+@functools.cache
+def words_of(script):
+    """The text that has the options of a script, or None if there is no such script."""
+    if script in ("bson", "./bson"):
+        return subprocess.run([f"{sources.TOP}/bson", "--help"], capture_output=True, text=True, timeout=60).stdout
+    path = f"{sources.TOP}/{re.sub(r'^[./]+', '', script)}"
+    if not os.access(path, os.X_OK) or os.path.isdir(path):
+        return None
+    with open(path, encoding="utf-8") as file:
+        return file.read()
+
+
+def commands(text):
+    """Each command of a document: its script and the rest of it. (Blocks of code between fences are programs.)"""
+    for line in LINE.findall(re.sub(r"(?ms)^```.*?^```$", "", text)):
+        for part in PART.split(re.sub(r"'[^']*'|\"[^\"]*\"|\s#.*", " ", line)):
+            words = part.split()
+            if words and SCRIPT.fullmatch(words[0]):
+                yield words[0], part
+
+
+def faults(path, script, part):
+    text = words_of(script)
+    if text is None:
+        yield f"{path} has the command '{part.strip()}', and there is no script {script}"
+        return
+    for option in OPTION.findall(part):
+        if not re.search(rf"{option}\b", text):
+            yield f"{path} has the command '{part.strip()}', and {script} has no option {option}"
+
+
+def checks(documents):
+    """What is wrong with each command."""
+    found = [(path, *it) for path in documents for it in commands(sources.read(path))]
+    yield [] if len(found) > 50 else [f"only {len(found)} commands were found in the documents"]
+    for it in found:
+        yield list(faults(*it))
