@@ -17,11 +17,13 @@ import csv
 import io
 import os
 import uuid
+from typing import Any, List, Tuple, Union
 
 import fsspec
 import vbson
 from fsspec.implementations.local import LocalFileSystem
 
+Urls, Mode = Union[str, List[str]], Union[int, str]
 # As much of a dump as is read at once to find where its documents begin.
 _CHUNK = 1 << 22
 
@@ -30,10 +32,10 @@ def _put(files, path, content):
     if not isinstance(files, LocalFileSystem):
         files.pipe_file(path, content)
         return
-    # (what an object store takes is there whole or not at all; a file has to be renamed)
-    beside = f"{os.path.dirname(path)}/.{os.path.basename(path)}.{uuid.uuid4().hex}"
-    files.pipe_file(beside, content)
-    os.replace(beside, path)
+    # (an object store has an object whole or not at all; a file has to be renamed)
+    unfinished = f"{os.path.dirname(path)}/.{os.path.basename(path)}.{uuid.uuid4().hex}"
+    files.pipe_file(unfinished, content)
+    os.replace(unfinished, path)
 
 
 def _convert(source, path, start, size, how, target, part):
@@ -49,8 +51,8 @@ def _convert(source, path, start, size, how, target, part):
 def _begins(source, path, block_size):
     """The beginning of each block of a dump, with the number of documents before it; and those of the end.
 
-    A length that can't be one, or that goes beyond the end, leaves no way to what is behind: the rest is of one block, and
-    counts as one document.
+    After a length that can't be one, or that goes beyond the end, no document can be found. The rest is one block, and counts
+    as one document.
     """
     size, at, number, blocks = source.info(path)["size"], 0, 0, []
     chunk, begins = b"", 0
@@ -104,7 +106,8 @@ def _end(target, folder, table):
     _put(target, f"{folder}/refused.csv", text.getvalue().encode())
 
 
-def convert_files(client, urls, folder, mode=vbson.CANONICAL, block_size=1 << 25, **options):
+def convert_files(client: Any, urls: Urls, folder: str, mode: Mode = vbson.CANONICAL, block_size: int = 1 << 25,
+                  **options: bool) -> Tuple[int, int]:
     """Converts the lines of all files into parts in a folder that is empty or not there.
 
     The mode and the options are those of `vbson.convert_lines`. Blank lines have no output and count, and a byte order mark at
@@ -124,13 +127,14 @@ def convert_files(client, urls, folder, mode=vbson.CANONICAL, block_size=1 << 25
     return sum(before), len(table)
 
 
-def decode_files(client, urls, folder, mode=vbson.CANONICAL, block_size=1 << 25, **options):
+def decode_files(client: Any, urls: Urls, folder: str, mode: Mode = vbson.CANONICAL, block_size: int = 1 << 25,
+                 **options: bool) -> Tuple[int, int]:
     """Writes the documents of dumps as lines of text, into parts in a folder that is empty or not there.
 
     Each file is BSON documents, one after the other, as mongodump writes them. The mode and the options are those of
-    `vbson.decode_documents`. A worker reads each file once more to find where its documents begin. After a rejected document the next
-    one begins where its length says; without such a length the rest of the file is one rejected document. Returns the
-    number of documents, and how many of them were rejected. Raises as `convert_files` does.
+    `vbson.decode_documents`. A worker reads each file once more to find where its documents begin. After a rejected document
+    the next one begins where its length says; without a valid length the rest of the file is one rejected document. Returns
+    the number of documents, and how many of them were rejected. Raises as `convert_files` does.
     """
     how = mode, options
     source, paths, target, folder = _opened(urls, folder, vbson.decode_documents, how)

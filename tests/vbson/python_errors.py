@@ -115,7 +115,7 @@ def try_options():
     document = vbson.encode("{}")
     calls = [(it, "{}") for it in (vbson.convert, vbson.explain, vbson.hash_of, vbson.encode, vbson.loads, vbson.convert_lines, vbson.encode_lines,
                                    vbson.loads_lines, lambda given, **options: vbson.same(given, given, **options))]
-    calls += [(it, document) for it in (vbson.decode, vbson.decode_documents, vbson.is_document, vbson.hash_of_document, vbson.loads_documents)]
+    calls += [(it, document) for it in (vbson.decode, vbson.decode_documents, vbson.is_document, vbson.explain_document, vbson.hash_of_document, vbson.loads_documents)]
     for call, given in calls:
         want(f"{call} with its defaults", call(given, doubles=True, keep_order=True, reject_duplicate_keys=False, legacy=False), call(given))
         raises(f"{call} with another option", TypeError, call, given, sorted=True)
@@ -132,7 +132,10 @@ def try_options():
     doubled = b"\x13\0\0\0\x10b\0\5\0\0\0\x10b\0\6\0\0\0\0"
     for call in (vbson.decode, vbson.hash_of_document):
         want(f"{call} with a duplicate key", refusal(call, doubled, reject_duplicate_keys=True)[::2], ("no document (a duplicate key)", "a duplicate key"))
-    want("is_document with a duplicate key", (vbson.is_document(doubled), vbson.is_document(doubled, reject_duplicate_keys=True)), (True, False))
+    strict = {"reject_duplicate_keys": True}
+    want("is_document with a duplicate key", (vbson.is_document(doubled), vbson.is_document(doubled, **strict)), (True, False))
+    want("a duplicate key explained", (vbson.explain_document(doubled), vbson.explain_document(doubled, **strict)), ("", "no document (a duplicate key)"))
+    want("no duplicate key explained", vbson.explain_document(document, **strict), "")
     want("the specification's options", vbson.convert('{"b":1,"a":2}', "relaxed", **vbson.SPECIFIED), '{"a":2,"b":1}')
 
 

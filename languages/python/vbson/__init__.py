@@ -14,7 +14,7 @@
 
 Each call has the same options, as keywords: `Options` describes them. Errors are data: `Error` describes their fields.
 
-The library is searched in the variable VBSON_LIBRARY (its path), beside this package, in ../../out/lib (where ./vbson build
+The library is searched in the variable VBSON_LIBRARY (its path), in this package, in ../../out/lib (where ./vbson build
 puts it), in ../../.. (where it is installed) and where the system keeps libraries. It runs on x86-64 Linux with glibc, on a
 processor with SSE4.2 and POPCNT, which is checked if the machine has /proc/cpuinfo. The extension module _vbson, which is
 built if there is a Python.h, returns the same faster; the variable VBSON_EXTENSION has its path, or is empty for none.

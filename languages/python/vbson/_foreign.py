@@ -44,9 +44,9 @@ def _of_numpy(numpy, value):
         return [*value] if value.ndim else _of_numpy(numpy, value[()])
     if isinstance(value, numpy.datetime64):
         return _of_datetime64(numpy, value)
-    if isinstance(value, (numpy.bool_, numpy.integer, numpy.floating)) and not isinstance(value, (numpy.timedelta64, numpy.longdouble)):
-        return value.item()
-    return NOTHING
+    is_inexact = isinstance(value, (numpy.timedelta64, numpy.longdouble))
+    is_number = isinstance(value, (numpy.bool_, numpy.integer, numpy.floating))
+    return value.item() if is_number and not is_inexact else NOTHING
 
 
 def _of_datetime64(numpy, value):

@@ -7,8 +7,8 @@ import uuid
 from . import _foreign, scalars
 from ._options import of_size
 from ._reading import DOUBLE, LENGTH, LONG, STAMP
-from .errors import (INVALID_STRING, TOO_LONG, ZERO_IN_KEY, ZERO_IN_REGEX, Error, IntegerTooLarge, InvalidString, NotEncodable, UnsupportedType,
-                     of_status)
+from .errors import (INVALID_STRING, TOO_LONG, ZERO_IN_KEY, ZERO_IN_REGEX, Error, IntegerTooLarge, InvalidString, NotEncodable,
+                     UnsupportedType, of_status)
 from .values import Binary, Code, DatetimeMS, DBPointer, Int64, MaxKey, MinKey, ObjectId, Regex, Symbol, Timestamp, Undefined
 
 

@@ -42,16 +42,16 @@ def is_document(document: Bytes, **options: bool) -> bool:
     return _calls.library.vbson_is_document(given, len(given)) == errors.OK
 
 
-def explain_document(document: Bytes) -> str:
+def explain_document(document: Bytes, **options: bool) -> str:
     """Returns why, and where, the bytes are not a document, as one line; empty if they are one. Raises MemoryError.
 
     >>> explain_document(b"\\x05\\0\\0\\0")
     'no document at byte 4 (ends too early)'
     """
-    given = document_bytes(document)
+    flags, given = flags_of(options, REJECT_DUPLICATE_KEYS, NO_CHANGE), document_bytes(document)
     status, words = _calls.text_of(_calls.library.vbson_explain_document, given, len(given))
     errors.expect_ok(status)
-    return words
+    return words if words or not flags or is_document(given, reject_duplicate_keys=True) else str(of_bytes(given))
 
 
 def same_documents(a: Bytes, b: Bytes, **options: bool) -> bool:

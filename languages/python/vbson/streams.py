@@ -2,7 +2,8 @@
 from typing import IO, Any, Callable, Iterable, Iterator, List, Optional, Tuple, Union
 
 from . import documents, errors
-from ._options import CANONICAL, DOUBLES, KEEP_ORDER, LEGACY, REJECT_DUPLICATE_KEYS, Bytes, Given, Mode, document_bytes, flags_of, text_bytes
+from ._options import (CANONICAL, DOUBLES, KEEP_ORDER, LEGACY, REJECT_DUPLICATE_KEYS, Bytes, Given, Mode, document_bytes, flags_of,
+                       text_bytes)
 from ._types import types_of
 from .errors import Error
 from .objects import hooked
@@ -141,7 +142,8 @@ def dump_documents(values: Iterable[Any], file: IO[bytes], types: str = "plain",
 
 # ---- lines, for programs and for engines that cut files into parts
 
-def convert_block(block: Given, mode: Mode = CANONICAL, is_first: bool = True, **options: bool) -> Tuple[bytes, List[Tuple[int, Error]]]:
+def convert_block(block: Given, mode: Mode = CANONICAL, is_first: bool = True,
+                  **options: bool) -> Tuple[bytes, List[Tuple[int, Error]]]:
     """Converts a block of a file as `convert_lines` does. Only the first block of a file may begin with a byte order mark."""
     given = text_bytes(block)
     before = int(not is_first and given.startswith(_MARK))
