@@ -54,9 +54,9 @@ class Writer:
 
     def content(self, value):
         """Returns the tag and the bytes of a value."""
-        for kind in type(value).__mro__:
-            if kind in _WRITERS:
-                return _WRITERS[kind](self, value)
+        write = _WRITERS.get(type(value)) or next((_WRITERS[it] for it in type(value).__mro__ if it in _WRITERS), None)
+        if write is not None:
+            return write(self, value)
         found = _foreign.converted(value)
         if found is _foreign.NOTHING:
             if self.default is None:
@@ -64,31 +64,28 @@ class Writer:
             found = self.default(value)
         return self.content(found)
 
-    def element(self, key, value):
-        """Returns the bytes of a value with its key."""
-        tag, content = self.content(value)
-        return tag + _name(key, ZERO_IN_KEY) + content
-
     def pairs(self, pairs):
         """Returns the bytes of a document of keys with their values."""
-        parts = []
-        for key, value in pairs:
-            try:
-                parts.append(self.element(key, value))
-            except Error as error:
-                error.path.insert(0, key)
-                raise
+        parts, key = [], None
+        try:
+            for key, value in pairs:
+                tag, content = self.content(value)
+                parts += tag, _name(key, ZERO_IN_KEY), content
+        except Error as error:
+            error.path.insert(0, key)
+            raise
         return _sized(b"".join(parts) + b"\0", 4)
 
     def array(self, values):
         """Returns the tag and the bytes of an array."""
-        parts = []
-        for index, value in enumerate(values):
-            try:
-                parts.append(self.element(str(index), value))
-            except Error as error:
-                error.path.insert(0, index)
-                raise
+        parts, index = [], 0
+        try:
+            for index, value in enumerate(values):
+                tag, content = self.content(value)
+                parts += tag, b"%d\0" % index, content
+        except Error as error:
+            error.path.insert(0, index)
+            raise
         return b"\x04", _sized(b"".join(parts) + b"\0", 4)
 
     def code(self, value):
