@@ -44,7 +44,7 @@ static PyObject *cut_short(void) {
 
 static int has(const reader *in, size_t count) { return (size_t)(in->end - in->at) >= count; }
 
-/* The bytes at the place, which are passed over; NULL where there are fewer. */
+/* The bytes at the reader, which are skipped; NULL if there are fewer. */
 static const uint8_t *take(reader *in, size_t count) {
     if (!has(in, count)) return NULL;
     const uint8_t *found = in->at;
@@ -82,7 +82,7 @@ static PyObject *name_of(reader *in, const uint8_t *key, size_t len) {
 
 static PyObject *bytes_of(const uint8_t *at, size_t len) { return PyBytes_FromStringAndSize((const char *)at, (Py_ssize_t)len); }
 
-/* What the type makes of a value, which is let go. */
+/* What the type makes of a value, whose reference is released. */
 static PyObject *made_by(PyObject *type, PyObject *value) {
     if (value == NULL) return NULL;
     PyObject *made = PyObject_CallFunctionObjArgs(type, value, NULL);
@@ -90,22 +90,22 @@ static PyObject *made_by(PyObject *type, PyObject *value) {
     return made;
 }
 
-/* The inside of a document, behind its length, which the reader then stands behind. */
-static int enter(reader *in, const uint8_t **start, const uint8_t **behind, const uint8_t **outer) {
+/* Moves the reader into a document, after its length. */
+static int enter(reader *in, const uint8_t **start, const uint8_t **end, const uint8_t **outer) {
     if (!has(in, 5) || in->depth == DEEPEST) return 0;
     size_t size = number_at(in->at);
     if (size < 5 || !has(in, size)) return 0;
     *start = in->at;
-    *behind = in->at + size;
+    *end = in->at + size;
     *outer = in->end;
-    in->end = *behind - 1;
+    in->end = *end - 1;
     in->at += 4;
     in->depth++;
     return 1;
 }
 
-static void leave(reader *in, const uint8_t *behind, const uint8_t *outer) {
-    in->at = behind;
+static void leave(reader *in, const uint8_t *end, const uint8_t *outer) {
+    in->at = end;
     in->end = outer;
     in->depth--;
 }
@@ -127,21 +127,21 @@ static int add_to_document(reader *in, PyObject *found, int *is_reference) {
 }
 
 static PyObject *document(reader *in) {
-    const uint8_t *start, *behind, *outer;
-    if (!enter(in, &start, &behind, &outer)) return cut_short();
+    const uint8_t *start, *end, *outer;
+    if (!enter(in, &start, &end, &outer)) return cut_short();
     PyObject *found = PyDict_New();
     int is_reference = 0;
     while (found != NULL && in->at < in->end)
         if (!add_to_document(in, found, &is_reference)) Py_CLEAR(found);
-    leave(in, behind, outer);
+    leave(in, end, outer);
     if (found == NULL || !is_reference || in->reference == Py_None) return found;
     Py_DECREF(found);
-    return made_by(in->reference, bytes_of(start, (size_t)(behind - start)));
+    return made_by(in->reference, bytes_of(start, (size_t)(end - start)));
 }
 
 static PyObject *array(reader *in) {
-    const uint8_t *start, *behind, *outer;
-    if (!enter(in, &start, &behind, &outer)) return cut_short();
+    const uint8_t *start, *end, *outer;
+    if (!enter(in, &start, &end, &outer)) return cut_short();
     PyObject *found = PyList_New(0);
     while (found != NULL && in->at < in->end) {
         unsigned tag = *in->at++;
@@ -150,11 +150,11 @@ static PyObject *array(reader *in) {
         if (made == NULL || PyList_Append(found, made) != 0) Py_CLEAR(found);
         Py_XDECREF(made);
     }
-    leave(in, behind, outer);
+    leave(in, end, outer);
     return found;
 }
 
-/* How many bytes a value has that is left to Python; more than there are, where it has no such number. */
+/* How many bytes a value has that Python reads; more than there are, if the value has no valid number. */
 static size_t size_of(const reader *in, unsigned tag) {
     size_t left = (size_t)(in->end - in->at), length = has(in, 4) ? number_at(in->at) : left;
     const uint8_t *zero;
@@ -259,13 +259,13 @@ static void forget(reader *in) {
     for (size_t i = 0; i < KEYS; i++) Py_XDECREF(in->keys[i].name);
 }
 
-/* The value under the one key of a document, in a tuple; None where it has not one key. */
+/* The value under the one key of a document, in a tuple; None if it has not one key. */
 static PyObject *only_value(const uint8_t *bytes, size_t len, PyObject *types) {
     reader in = {.at = bytes, .end = bytes + len};
     if (!takes_types(&in, types)) return NULL;
-    const uint8_t *start, *behind, *outer;
+    const uint8_t *start, *end, *outer;
     size_t name;
-    if (!enter(&in, &start, &behind, &outer)) return cut_short();
+    if (!enter(&in, &start, &end, &outer)) return cut_short();
     if (in.at == in.end) Py_RETURN_NONE;
     unsigned tag = *in.at++;
     PyObject *found = take_name(&in, &name) == NULL ? cut_short() : value(&in, tag), *made = NULL;
@@ -352,7 +352,7 @@ static PyObject *value_by(PyObject *self, PyObject *arguments) {
     return made;
 }
 
-/* value_of(document, types): the value under the one key of a document, in a tuple; None where it has not one key. */
+/* value_of(document, types): the value under the one key of a document, in a tuple; None if it has not one key. */
 static PyObject *value_of(PyObject *self, PyObject *arguments) {
     PyObject *given, *types;
     char *bytes;
