@@ -9,7 +9,7 @@ import sys
 import uuid
 
 import vbson
-from python_check import end, raises, want
+from python_check import end, fields, raises, want
 from vbson import _calls, _types
 from vbson.values import Binary, Code, DBPointer, DatetimeMS, Int64, MaxKey, MinKey, ObjectId, Regex, Symbol, Timestamp, Undefined
 
@@ -133,6 +133,12 @@ def try_bson():
         want(f"{moment!r} alone", vbson.dumps(moment, types="bson"), vbson.dumps([moment], types="bson")[1:-1])
         want(f"{moment!r} as bson has it", bson.decode(vbson.encode('{"v":%s}' % vbson.dumps(moment, types="bson")))["v"], bson.decode(bson.encode({"v": moment}))["v"])
     raises("a UUID of one byte", vbson.NoValue, vbson.loads, '{"$binary":{"base64":"AA==","subType":"04"}}', "bson")
+    text = '{"a":[1,{"b":{"$binary":{"base64":"AA==","subType":"04"}}}]}'
+    want("its path", fields(vbson.loads, text, "bson")[::2][:2], (vbson.NoValue, ["a", 1, "b"]))
+    want("its path in lines", fields(vbson.loads_lines, '{}\n' + text, "bson")[2], [1, "a", 1, "b"])
+    dump = vbson.encode("{}") * 3 + vbson.encode(text)
+    want("its path in a dump", fields(vbson.loads_documents, dump, "bson")[2], [3, "a", 1, "b"])
+    want("its path in a stream", fields(lambda: [*vbson.iter_documents([dump[:12], dump[12:]], "bson")])[2], [3, "a", 1, "b"])
 
 
 def try_damaged(types):

@@ -42,5 +42,7 @@ __all__ = [
     "decimal128", "decimal128_text", "decimal_of", "object_id", "object_id_text", "date_time", "date_time_text", "datetime_of",
     "version", "Error", "NotJson", "BadObjectId", "NotExtendedJson", "InvalidString", "NotRepresentable", "NotADocument",
     "NotEncodable", "UnsupportedType", "IntegerTooLarge", "NoValue",
+    "OK", "INVALID_ARGUMENT", "NOT_JSON", "BAD_OBJECT_ID", "NOT_EXTENDED_JSON", "OUT_OF_MEMORY", "INVALID_STRING", "NOT_REPRESENTABLE",
+    "BUFFER_TOO_SMALL", "DIFFERENT", "NOT_A_DOCUMENT", "ZERO_IN_KEY", "ZERO_IN_REGEX", "TOO_LONG",
     "Binary", "Code", "DBPointer", "DatetimeMS", "Int64", "MaxKey", "MinKey", "ObjectId", "Regex", "Symbol", "Timestamp", "Undefined",
 ]

@@ -57,7 +57,7 @@ def _value_end(data, tag, at):
     return at + length + _SIZES_AFTER_LENGTH[tag] if tag in _SIZES_AFTER_LENGTH and 0 <= length < end - at else end
 
 
-def _elements(data, at, is_array):
+def elements(data, at, is_array):
     """Yields the key or index, the tag, and where the value begins and ends, of each element that can be followed."""
     at, index = at + 4, 0
     while at < len(data) and data[at] != 0:
@@ -69,7 +69,7 @@ def _elements(data, at, is_array):
         at, index = end, index + 1
 
 
-def _inside(data, tag, at):
+def inside_of(data, tag, at):
     """Returns where the document inside a value begins, and the keys on the way to it; None if there is no document."""
     if tag in (_DOCUMENT, _ARRAY):
         return at, []
@@ -82,24 +82,24 @@ def at_offset(data, offset):
     """Returns the path to the innermost value whose bytes, with its key, contain an offset."""
     path, inside, is_array = [], (0, []), False
     while inside is not None and inside[0] + 4 <= offset:
-        found = next((it for it in _elements(data, inside[0], is_array) if it[3] > offset), None)
+        found = next((it for it in elements(data, inside[0], is_array) if it[3] > offset), None)
         path += inside[1]
         if found is None:
             break
         key, tag, start, _ = found
         path.append(key)
-        inside, is_array = _inside(data, tag, start), tag == _ARRAY
+        inside, is_array = inside_of(data, tag, start), tag == _ARRAY
     return path
 
 
 def of_finite_double(data, at=0, is_array=False):
     """Returns the path to the first finite double other than zero; None if there is none."""
-    for key, tag, start, end in _elements(data, at, is_array):
+    for key, tag, start, end in elements(data, at, is_array):
         if tag == 0x01 and end <= len(data):
             number = _DOUBLE.unpack_from(data, start)[0]
             if math.isfinite(number) and number != 0:
                 return [key]
-        inside = _inside(data, tag, start)
+        inside = inside_of(data, tag, start)
         found = of_finite_double(data, inside[0], tag == _ARRAY) if inside else None
         if found is not None:
             return [key, *inside[1], *found]

@@ -6,21 +6,13 @@ import re
 from collections.abc import Mapping
 from typing import Any, Optional
 
-from . import _calls, _foreign, errors, scalars
-from ._paths import joined
+from . import _calls, _foreign, _paths, errors, scalars
 from ._reading import LENGTH, LONG, READERS, object_id, read_document
 from ._writing import Writer, exact_decimal, unsupported
 from .errors import Error, IntegerTooLarge, NotADocument, NotEncodable, NotRepresentable, NoValue, UnsupportedType
 from .values import Int64
 
 KEY = "v"
-
-
-def _placed(error, path):
-    """Returns an error of a value, with the path to the value."""
-    error.path = [*path]
-    error.args = (f"not BSON{f' at {joined(path)}' if path else ''} ({error.reason})",)
-    return error
 
 
 class Types:
@@ -39,11 +31,28 @@ class Types:
 
     def value_of(self, document: bytes) -> Any:
         """Returns the value under the one key of a document that the library has written."""
-        found = _calls.extension.value_of(document, self._made) if _calls.extension is not None else self._only(document)
-        return found[0]
+        try:
+            return (_calls.extension.value_of(document, self._made) if _calls.extension is not None else self._only(document))[0]
+        except NoValue as error:
+            raise errors.placed(error, self._unreadable(document)[1:], "no value")
 
     def values_of(self, documents: bytes) -> list:
-        """Returns the values of concatenated documents that the library has written."""
+        """Returns the values of concatenated documents that the library has written or checked."""
+        try:
+            return self._documents_of(documents)
+        except NoValue as error:
+            raise errors.placed(error, self._unreadable_of(documents), "no value")
+
+    def _unreadable_of(self, documents):
+        """Returns the path to the first value in concatenated documents that has no value of these types."""
+        at, paths = 0, []
+        while at < len(documents) and not (paths and paths[-1]):
+            end = at + LENGTH.unpack_from(documents, at)[0]
+            paths.append(self._unreadable(documents[at:end]))
+            at = end
+        return [len(paths) - 1, *paths[-1]]
+
+    def _documents_of(self, documents):
         if _calls.extension is not None:
             return _calls.extension.documents_of(0, documents, self._made)[0]
         parts, at = [], 0
@@ -57,7 +66,10 @@ class Types:
     def checked_values_of(self, block: bytes) -> tuple:
         """Returns the values of the documents at the beginning of a block that the library accepts, and their bytes' number."""
         if _calls.extension is not None:
-            return _calls.extension.documents_of(_calls.ADDRESSES["is_document"], block, self._made)
+            try:
+                return _calls.extension.documents_of(_calls.ADDRESSES["is_document"], block, self._made)
+            except NoValue as error:
+                raise errors.placed(error, self._unreadable_of(block), "no value")
         at, call = 0, _calls.library.vbson_is_document
         while len(block) - at >= 5:
             length = LENGTH.unpack_from(block, at)[0]
@@ -99,7 +111,7 @@ class Plain(Types):
         except RecursionError:
             raise NotADocument("no document (nests too deep)", "nests too deep") from None
         except Error as error:
-            raise _placed(error, error.path[1:])
+            raise errors.placed(error, error.path[1:])
 
 
 class Bson(Types):
@@ -142,8 +154,18 @@ class Bson(Types):
         try:
             found = self._bson.decode(document, self._reading)
         except self._errors.InvalidBSON as error:
-            raise NoValue(f"the package bson has no value for this: {error}") from error
+            raise NoValue("no value", f"the package bson can't represent it: {error}") from error
         return tuple(found.values()) if isinstance(found, dict) and len(found) == 1 else None
+
+    def _unreadable(self, data, at=0, is_array=False):
+        """Returns the path to the first value in a document that bson can't represent; empty if there is none."""
+        for key, tag, start, end in _paths.elements(data, at, is_array):
+            try:
+                self._other(tag, data[start:end])
+            except NoValue:
+                inside = _paths.inside_of(data, tag, start)
+                return [key] if inside is None else [key, *inside[1], *self._unreadable(data, inside[0], tag == 0x04)]
+        return []
 
     def document_of(self, value: Any, default=None) -> bytes:
         """Returns the document that has the value under a key."""
@@ -155,11 +177,11 @@ class Bson(Types):
         try:
             return self._bson.encode({KEY: value}, codec_options=options)
         except Error as error:
-            raise _placed(error, self._path(value, options))
+            raise errors.placed(error, self._path(value, options))
         except (self._errors.InvalidDocument, OverflowError, ValueError) as error:
             if (found := self._error(error)) is None:
                 raise
-            raise _placed(found, self._path(value, options)) from error
+            raise errors.placed(found, self._path(value, options)) from error
 
     def _error(self, error):
         """Returns the error of an exception of bson; None for an exception of somebody's function."""

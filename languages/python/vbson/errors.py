@@ -199,6 +199,13 @@ def of_documents(diagnostics, block):
     return refused
 
 
+def placed(error, path, kind="not BSON"):
+    """Returns an error of a value of Python, with the path to the value."""
+    error.path = [*path]
+    error.args = (f"{kind}{f' at {_paths.joined(path)}' if path else ''} ({error.reason})",)
+    return error
+
+
 def of_value(error, number):
     """Returns the error of the value of this number, from 0, among several."""
     error.path.insert(0, number)

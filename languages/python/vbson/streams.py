@@ -35,7 +35,10 @@ def _is_cut(block, at=0):
 def _checked(kinds, is_strict, block, number, start):
     """Returns the values of the whole documents at the beginning of a block, how many bytes they have, and the error of the
     next document, or None if the block has no more or cuts it. The first has this number, from 0, and this place in the dump."""
-    found, used = kinds.checked_values_of(block)
+    try:
+        found, used = kinds.checked_values_of(block)
+    except errors.NoValue as error:
+        raise errors.placed(error, [number + error.path[0], *error.path[1:]], "no value")
     at = 0
     for index in range(len(found) if is_strict else 0):
         end = at + _length(block[at:at + 4])
