@@ -1,7 +1,8 @@
 """Checks that each command of a document that is a script of the repository names one that exists, with options that it has.
 
 A command is an indented line, after '$ ' or alone, and each of its parts after '|', ';', '&&' or '('. The options of the
-installed `bson` are those of `./bson --help`, which builds nothing, and those of another script are in its text.
+installed `bson` are those of `./bson --help`, which builds nothing, and those of another script are in its text. The page of
+the program has each form of the command, and each option, that `./bson --help` has.
 """
 import functools
 import os
@@ -12,6 +13,7 @@ import sources
 
 LINE = re.compile(r"(?m)^    (?:\$ )?(.+)$")
 PART = re.compile(r"\s\|\s|;|&&|\(|\bthen\b|<")
+PAGE = "docs/PROGRAMS.md"
 SCRIPT = re.compile(r"(?:\.\./)*(?:\./(?:bson|vbson|test)|(?:tests|tools)/[\w/.]+|bson)")
 OPTION = re.compile(r"(?<=[\s\[|,])--[a-z][a-z-]*")
 
@@ -47,8 +49,25 @@ def faults(path, script, part):
             yield f"{path} has the command '{part.strip()}', and {script} has no option {option}"
 
 
+def usage():
+    """Each form of the command in the first paragraph of `./bson --help`."""
+    first = words_of("./bson").partition("\n\n")[0].removeprefix("usage:")
+    forms = [" ".join(it.split()) for it in re.split(r"\./bson ", first)[1:]]
+    return [f"./bson {it}" for form in forms for it in form.split(" | ")]
+
+
+def page_checks():
+    """Whether the page of the program has each form of the command, and each option."""
+    page = sources.read(PAGE)
+    for form in usage():
+        yield [] if form in page else [f"{PAGE} lacks '{form}', which ./bson --help has"]
+    for option in sorted(set(OPTION.findall(words_of("./bson")))):
+        yield [] if option in page else [f"{PAGE} lacks {option}, which ./bson --help has"]
+
+
 def checks(documents):
-    """What is wrong with each command."""
+    """What is wrong with each command, and with the page of the program."""
+    yield from page_checks()
     found = [(path, *it) for path in documents for it in commands(sources.read(path))]
     yield [] if len(found) > 50 else [f"only {len(found)} commands were found in the documents"]
     for it in found:
