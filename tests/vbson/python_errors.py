@@ -77,7 +77,7 @@ def try_reads():
 def try_texts():
     """An error of JSON has the line and the column, and one of Extended JSON the path as the input has it."""
     json, extended = (vbson.NotJson, vbson.NOT_JSON), (vbson.NotExtendedJson, vbson.NOT_EXTENDED_JSON)
-    for text, wanted in (("[1, 2", (*json, [], 1, 5, 4)), ('{"a": [1,\n 2}', (*json, [], 2, 3, 12)), ('"\u00e9\u00e9\n', (*json, [], 1, 1, 0)),
+    for text, wanted in (("[1, 2", (*json, [], 1, 5, 4)), ('{"a": [1,\n 2}', (*json, [], 2, 3, 12)), ('["\u00e9", x]', (*json, [], 1, 8, 7)),
                          ("[\n[\n\u00e9]]", (*json, [], 3, 1, 4)), ('{"a.b":{"0":[{"c":1.5}]}}', (*extended, ["a.b", "0", 0, "c"], None, None, None)),
                          ('{"a":{"b":1},"a.b":1.5}', (*extended, ["a", "b"], None, None, None)), ('[[],[],{"":[1.5]}]', (*extended, [2, "", 0], None, None, None)),
                          ('{"a":1,"b":{"$oid":"5"}}', (vbson.BadObjectId, vbson.BAD_OBJECT_ID, ["b", "$oid"], None, None, None))):
@@ -86,6 +86,8 @@ def try_texts():
     wanted = [(3, False, [], 3), (4, False, ["a.b", 1], 4), (5, False, [], 5)]
     found = [(number, False, it.path, it.line) for number, it in vbson.convert_lines(block, **STRICT)[1]]
     want("errors of lines", found, wanted)
+    marked = vbson.convert_lines(b'\xef\xbb\xbf[x]\n{"a":x}')[1]
+    want("places after a byte order mark", [(it.line, it.column, it.offset) for _, it in marked], [(1, 2, 4), (2, 6, 12)])
     places = [(it.offset, it.column) for _, it in vbson.encode_lines(block, **STRICT)[1] if it.code == vbson.NOT_JSON]
     want("offsets in a block", [at - block.rfind(b"\n", 0, at) for at, _ in places], [column for _, column in places])
 

@@ -104,6 +104,8 @@ _ERRORS = {INVALID_ARGUMENT: (ValueError, "no such mode or flag"), NOT_JSON: (No
            NOT_REPRESENTABLE: (NotRepresentable, "no text"), NOT_A_DOCUMENT: (NotADocument, "no document"),
            ZERO_IN_KEY: (NotEncodable, "a key has a 0 byte in it"),
            ZERO_IN_REGEX: (NotEncodable, "a regular expression has a 0 byte in it"), TOO_LONG: (NotEncodable, "a part is too long for BSON")}
+# A byte order mark, which is skipped at the start of a block of lines.
+MARK = b"\xef\xbb\xbf"
 _OF_TEXTS = (NOT_JSON, BAD_OBJECT_ID, NOT_EXTENDED_JSON)
 _STATUSES = {words: status for status, (_, words) in _ERRORS.items()}
 
@@ -158,7 +160,8 @@ def of_text(status, words, text):
 
 def of_lines(diagnostics, block):
     """Returns the number and the error of each rejected line of a block, from its diagnostic."""
-    refused, number, start = [], 1, 0
+    # (the columns of the first line count from after a byte order mark)
+    refused, number, start = [], 1, len(MARK) if block.startswith(MARK) else 0
     for diagnostic in diagnostics:
         found = _OF_LINE.fullmatch(diagnostic)
         while number < int(found[1]):

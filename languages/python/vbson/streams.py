@@ -10,7 +10,6 @@ from .objects import hooked
 from .texts import convert_lines
 
 _Hook = Optional[Callable[[dict], Any]]
-_MARK = b"\xef\xbb\xbf"
 
 
 def _is_strict(options):
@@ -149,7 +148,7 @@ def convert_block(block: Given, mode: Mode = CANONICAL, is_first: bool = True,
                   **options: bool) -> Tuple[bytes, List[Tuple[int, Error]]]:
     """Converts a block of a file as `convert_lines` does. Only the first block of a file may begin with a byte order mark."""
     given = text_bytes(block)
-    before = int(not is_first and given.startswith(_MARK))
+    before = int(not is_first and given.startswith(errors.MARK))
     made, refused = convert_lines(b"\n" * before + given, mode, **options)
     return made, [(number - before, error) for number, error in refused]
 
