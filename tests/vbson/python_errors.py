@@ -119,21 +119,21 @@ def try_options():
                                    vbson.loads_lines, lambda given, **options: vbson.same(given, given, **options))]
     calls += [(it, document) for it in (vbson.decode, vbson.decode_documents, vbson.is_document, vbson.explain_document, vbson.hash_of_document, vbson.loads_documents)]
     for call, given in calls:
-        want(f"{call} with its defaults", call(given, doubles=True, keep_order=True, reject_duplicate_keys=False, legacy=False), call(given))
-        raises(f"{call} with another option", TypeError, call, given, sorted=True)
+        want(f"{call.__name__} with its defaults", call(given, doubles=True, keep_order=True, reject_duplicate_keys=False, legacy=False), call(given))
+        raises(f"{call.__name__} with another option", TypeError, call, given, sorted=True)
         for name in vbson.Options.__annotations__:
-            raises(f"{call} with {name} that is no bool", TypeError, call, given, **{name: 1})
+            raises(f"{call.__name__} with {name} that is no bool", TypeError, call, given, **{name: 1})
     for call in (vbson.convert, vbson.encode, vbson.loads, vbson.convert_lines):
-        raises(f"{call} of v1", ValueError, call, "{}", legacy=True)
+        raises(f"{call.__name__} of v1", ValueError, call, "{}", legacy=True)
     for call in (vbson.convert_lines, vbson.encode_lines, vbson.loads_lines):
-        raises(f"{call} without duplicate keys", ValueError, call, "{}", reject_duplicate_keys=True)
+        raises(f"{call.__name__} without duplicate keys", ValueError, call, "{}", reject_duplicate_keys=True)
     for call in (vbson.convert, vbson.encode, vbson.loads, vbson.hash_of):
         found = fields(call, '{"a":[{"b":1,"b":2}]}', reject_duplicate_keys=True)
-        want(f"{call} with a duplicate key", found[:3], (vbson.NotExtendedJson, vbson.NOT_EXTENDED_JSON, ["a", 0, "b"]))
-        want(f"{call} without one", call('{"a":[{"b":1}]}', reject_duplicate_keys=True), call('{"a":[{"b":1}]}'))
+        want(f"{call.__name__} with a duplicate key", found[:3], (vbson.NotExtendedJson, vbson.NOT_EXTENDED_JSON, ["a", 0, "b"]))
+        want(f"{call.__name__} without one", call('{"a":[{"b":1}]}', reject_duplicate_keys=True), call('{"a":[{"b":1}]}'))
     doubled = b"\x13\0\0\0\x10b\0\5\0\0\0\x10b\0\6\0\0\0\0"
     for call in (vbson.decode, vbson.hash_of_document):
-        want(f"{call} with a duplicate key", refusal(call, doubled, reject_duplicate_keys=True)[::2], ("no document (a duplicate key)", "a duplicate key"))
+        want(f"{call.__name__} with a duplicate key", refusal(call, doubled, reject_duplicate_keys=True)[::2], ("no document (a duplicate key)", "a duplicate key"))
     strict = {"reject_duplicate_keys": True}
     want("is_document with a duplicate key", (vbson.is_document(doubled), vbson.is_document(doubled, **strict)), (True, False))
     want("a duplicate key explained", (vbson.explain_document(doubled), vbson.explain_document(doubled, **strict)), ("", "no document (a duplicate key)"))
