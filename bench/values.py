@@ -37,7 +37,7 @@ os.environ.setdefault("VBSON_LIBRARY", f"{TOP}/languages/out/lib/libvbson.so")
 
 import bson
 import vbson
-import vbson_values
+from vbson import _calls, _options, _types, objects
 from bson import raw_bson
 from run import binary, decimal, small_document
 
@@ -113,29 +113,29 @@ def hook(found):
 
 def without_extension(call):
     def called():
-        extension, vbson._sooner = vbson._sooner, None
+        extension, _calls.extension = _calls.extension, None
         try:
             return call()
         finally:
-            vbson._sooner = extension
+            _calls.extension = extension
     return called
 
 
 def ways(texts, block):
-    types, flags = vbson_values.types_of("bson"), 3
+    types, flags = _types.types_of("bson"), 3
     given = [it.encode() for it in texts]
-    under = [vbson._under_a_key(flags, it) for it in given]
+    under = [objects.under_a_key(flags, it) for it in given]
     found = {
         "`json_util`": lambda: [json_util.loads(it, json_options=OPTIONS) for it in texts],
         "`json.loads` alone": lambda: [json.loads(it) for it in texts],
         "`json.loads`, hook": lambda: [json.loads(it, object_hook=hook) for it in texts],
-        "the library's bytes": lambda: [vbson._encoded(flags, b'{"~":' + it + b"}") for it in given],
+        "the library's bytes": lambda: [_calls.encoded(flags, b'{"~":' + it + b"}") for it in given],
         "bytes by PyMongo": lambda: [types._only(it)[0] for it in under],
-        "text read twice, PyMongo": without_extension(lambda: [types._only(vbson._under_a_key(flags, vbson._bytes(it)))[0] for it in texts]),
-        "raw documents": lambda: [raw_bson.RawBSONDocument(vbson._under_a_key(flags, it)) for it in given],
-        "raw, each read": lambda: [raw_bson.RawBSONDocument(vbson._under_a_key(flags, it), types._reading.with_options(
+        "text read twice, PyMongo": without_extension(lambda: [types._only(objects.under_a_key(flags, _options.text_bytes(it)))[0] for it in texts]),
+        "raw documents": lambda: [raw_bson.RawBSONDocument(objects.under_a_key(flags, it)) for it in given],
+        "raw, each read": lambda: [raw_bson.RawBSONDocument(objects.under_a_key(flags, it), types._reading.with_options(
             document_class=raw_bson.RawBSONDocument)).items() for it in given],
-        "canonical text, hook": lambda: [json.loads(vbson.convert(it, 0, True, True), object_hook=hook) for it in texts],
+        "canonical text, hook": lambda: [json.loads(vbson.convert(it), object_hook=hook) for it in texts],
         "`loads`, ctypes": without_extension(lambda: [vbson.loads(it, types="bson") for it in texts]),
         "`loads`, plain, ctypes": without_extension(lambda: [vbson.loads(it, types="plain") for it in texts]),
         "`loads`, `_vbson`": lambda: [vbson.loads(it, types="bson") for it in texts],

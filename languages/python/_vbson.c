@@ -1,7 +1,6 @@
-/* What vbson.py does by ctypes and struct, sooner: calls of libvbson.so that leave bytes or a text, and values of Python
- * for the bytes that it writes. vbson.py needs it nowhere, and hands it the addresses of the calls, so that it is linked
- * with nothing; it is built for the stable ABI, one file for every CPython from 3.9 on (./vbson build does so where
- * Python.h is). No read leaves the bytes, whatever they are. */
+/* What the package vbson does by ctypes and struct, faster. The package needs it nowhere, and hands it the addresses of the
+ * calls of libvbson.so, so it is linked with nothing. It is built for the stable ABI, for every CPython from 3.9 on. No read
+ * leaves the bytes, whatever they are. */
 #define PY_SSIZE_T_CLEAN
 #define Py_LIMITED_API 0x03090000
 #include <Python.h>
@@ -15,6 +14,7 @@ typedef struct {
 } text;
 
 typedef uint32_t flags_call(uint32_t flags, const uint8_t *given, size_t len, text *out);
+typedef uint32_t check_call(const uint8_t *bytes, size_t len);
 typedef uint32_t mode_call(uint32_t mode, uint32_t flags, const uint8_t *given, size_t len, text *out);
 
 /* ---- values */
@@ -44,7 +44,7 @@ static PyObject *cut_short(void) {
 
 static int has(const reader *in, size_t count) { return (size_t)(in->end - in->at) >= count; }
 
-/* The bytes at the place, which are passed over; NULL where there are fewer. */
+/* The bytes at the reader, which are skipped; NULL if there are fewer. */
 static const uint8_t *take(reader *in, size_t count) {
     if (!has(in, count)) return NULL;
     const uint8_t *found = in->at;
@@ -82,7 +82,7 @@ static PyObject *name_of(reader *in, const uint8_t *key, size_t len) {
 
 static PyObject *bytes_of(const uint8_t *at, size_t len) { return PyBytes_FromStringAndSize((const char *)at, (Py_ssize_t)len); }
 
-/* What the type makes of a value, which is let go. */
+/* What the type makes of a value, whose reference is released. */
 static PyObject *made_by(PyObject *type, PyObject *value) {
     if (value == NULL) return NULL;
     PyObject *made = PyObject_CallFunctionObjArgs(type, value, NULL);
@@ -90,22 +90,22 @@ static PyObject *made_by(PyObject *type, PyObject *value) {
     return made;
 }
 
-/* The inside of a document, behind its length, which the reader then stands behind. */
-static int enter(reader *in, const uint8_t **start, const uint8_t **behind, const uint8_t **outer) {
+/* Moves the reader into a document, after its length. */
+static int enter(reader *in, const uint8_t **start, const uint8_t **end, const uint8_t **outer) {
     if (!has(in, 5) || in->depth == DEEPEST) return 0;
     size_t size = number_at(in->at);
     if (size < 5 || !has(in, size)) return 0;
     *start = in->at;
-    *behind = in->at + size;
+    *end = in->at + size;
     *outer = in->end;
-    in->end = *behind - 1;
+    in->end = *end - 1;
     in->at += 4;
     in->depth++;
     return 1;
 }
 
-static void leave(reader *in, const uint8_t *behind, const uint8_t *outer) {
-    in->at = behind;
+static void leave(reader *in, const uint8_t *end, const uint8_t *outer) {
+    in->at = end;
     in->end = outer;
     in->depth--;
 }
@@ -127,21 +127,21 @@ static int add_to_document(reader *in, PyObject *found, int *is_reference) {
 }
 
 static PyObject *document(reader *in) {
-    const uint8_t *start, *behind, *outer;
-    if (!enter(in, &start, &behind, &outer)) return cut_short();
+    const uint8_t *start, *end, *outer;
+    if (!enter(in, &start, &end, &outer)) return cut_short();
     PyObject *found = PyDict_New();
     int is_reference = 0;
     while (found != NULL && in->at < in->end)
         if (!add_to_document(in, found, &is_reference)) Py_CLEAR(found);
-    leave(in, behind, outer);
+    leave(in, end, outer);
     if (found == NULL || !is_reference || in->reference == Py_None) return found;
     Py_DECREF(found);
-    return made_by(in->reference, bytes_of(start, (size_t)(behind - start)));
+    return made_by(in->reference, bytes_of(start, (size_t)(end - start)));
 }
 
 static PyObject *array(reader *in) {
-    const uint8_t *start, *behind, *outer;
-    if (!enter(in, &start, &behind, &outer)) return cut_short();
+    const uint8_t *start, *end, *outer;
+    if (!enter(in, &start, &end, &outer)) return cut_short();
     PyObject *found = PyList_New(0);
     while (found != NULL && in->at < in->end) {
         unsigned tag = *in->at++;
@@ -150,11 +150,11 @@ static PyObject *array(reader *in) {
         if (made == NULL || PyList_Append(found, made) != 0) Py_CLEAR(found);
         Py_XDECREF(made);
     }
-    leave(in, behind, outer);
+    leave(in, end, outer);
     return found;
 }
 
-/* How many bytes a value has that is left to Python; more than there are, where it has no such number. */
+/* How many bytes a value has that Python reads; more than there are, if the value has no valid number. */
 static size_t size_of(const reader *in, unsigned tag) {
     size_t left = (size_t)(in->end - in->at), length = has(in, 4) ? number_at(in->at) : left;
     const uint8_t *zero;
@@ -259,13 +259,13 @@ static void forget(reader *in) {
     for (size_t i = 0; i < KEYS; i++) Py_XDECREF(in->keys[i].name);
 }
 
-/* The value under the one key of a document, in a tuple; None where it has not one key. */
+/* The value under the one key of a document, in a tuple; None if it has not one key. */
 static PyObject *only_value(const uint8_t *bytes, size_t len, PyObject *types) {
     reader in = {.at = bytes, .end = bytes + len};
     if (!takes_types(&in, types)) return NULL;
-    const uint8_t *start, *behind, *outer;
+    const uint8_t *start, *end, *outer;
     size_t name;
-    if (!enter(&in, &start, &behind, &outer)) return cut_short();
+    if (!enter(&in, &start, &end, &outer)) return cut_short();
     if (in.at == in.end) Py_RETURN_NONE;
     unsigned tag = *in.at++;
     PyObject *found = take_name(&in, &name) == NULL ? cut_short() : value(&in, tag), *made = NULL;
@@ -297,7 +297,8 @@ static PyObject *printed(PyObject *self, PyObject *arguments) {
     return status != 0 ? PyLong_FromUnsignedLong(status) : PyUnicode_DecodeUTF8((const char *)buffer, (Py_ssize_t)len, NULL);
 }
 
-static PyObject *status_of(uint32_t status) { return PyLong_FromUnsignedLong(status); }
+/* The answer to a status that is not 0: the error of Python, if there is one. */
+static PyObject *refused(uint32_t status) { return PyErr_Occurred() ? NULL : PyLong_FromUnsignedLong(status); }
 
 static uint32_t left_by(PyObject *call, unsigned mode, unsigned flags, int has_mode, PyObject *given, text *out) {
     void *address = PyLong_AsVoidPtr(call);
@@ -319,8 +320,7 @@ static PyObject *text_by(PyObject *self, PyObject *arguments) {
     text out = {(uint8_t *)"", 0, 0};
     if (!PyArg_ParseTuple(arguments, "OIIO", &call, &mode, &flags, &given)) return NULL;
     uint32_t status = left_by(call, mode, flags, 1, given, &out);
-    if (PyErr_Occurred()) return NULL;
-    if (status != 0) return status_of(status);
+    if (status != 0) return refused(status);
     PyObject *made = PyUnicode_DecodeUTF8((const char *)out.bytes, (Py_ssize_t)out.len, NULL);
     free(out.bytes);
     return made;
@@ -333,8 +333,7 @@ static PyObject *bytes_by(PyObject *self, PyObject *arguments) {
     text out = {(uint8_t *)"", 0, 0};
     if (!PyArg_ParseTuple(arguments, "OIO", &call, &flags, &given)) return NULL;
     uint32_t status = left_by(call, 0, flags, 0, given, &out);
-    if (PyErr_Occurred()) return NULL;
-    if (status != 0) return status_of(status);
+    if (status != 0) return refused(status);
     PyObject *made = bytes_of(out.bytes, out.len);
     free(out.bytes);
     return made;
@@ -347,46 +346,53 @@ static PyObject *value_by(PyObject *self, PyObject *arguments) {
     text out = {(uint8_t *)"", 0, 0};
     if (!PyArg_ParseTuple(arguments, "OIOO!", &call, &flags, &given, &PyTuple_Type, &types)) return NULL;
     uint32_t status = left_by(call, 0, flags, 0, given, &out);
-    if (PyErr_Occurred()) return NULL;
-    if (status != 0) return status_of(status);
+    if (status != 0) return refused(status);
     PyObject *made = only_value(out.bytes, out.len, types);
     free(out.bytes);
     return made;
 }
 
-/* value_of(document, types): the value under the one key of a document, in a tuple; None where it has not one key. */
+/* value_of(document, types): the value under the one key of a document, in a tuple; None if it has not one key. */
 static PyObject *value_of(PyObject *self, PyObject *arguments) {
     PyObject *given, *types;
     char *bytes;
     Py_ssize_t len;
-    if (!PyArg_ParseTuple(arguments, "OO!", &given, &PyTuple_Type, &types)) return NULL;
-    if (PyBytes_AsStringAndSize(given, &bytes, &len) != 0) return NULL;
+    if (!PyArg_ParseTuple(arguments, "OO!", &given, &PyTuple_Type, &types) || PyBytes_AsStringAndSize(given, &bytes, &len) != 0) return NULL;
     return only_value((const uint8_t *)bytes, (size_t)len, types);
 }
 
-/* values_of(documents, types): a list of the values of documents, one behind the other. */
-static PyObject *values_of(PyObject *self, PyObject *arguments) {
-    PyObject *given, *types;
+/* Whether the bytes go on with a whole document that the call accepts; without a call they go on with one, or end. */
+static int goes_on(const reader *in, check_call *is_document) {
+    if (is_document == NULL) return in->at < in->end;
+    size_t size = has(in, 5) ? number_at(in->at) : 0;
+    return size >= 5 && has(in, size) && is_document(in->at, size) == 0;
+}
+
+/* documents_of(address, block, types): the values of the documents at the beginning of a block that the call at the address
+ * accepts, in a list, and how many bytes they have. The address is 0 for a block that the library has written. */
+static PyObject *documents_of(PyObject *self, PyObject *arguments) {
+    PyObject *call, *given, *types;
     char *bytes;
     Py_ssize_t len;
-    if (!PyArg_ParseTuple(arguments, "OO!", &given, &PyTuple_Type, &types)) return NULL;
-    if (PyBytes_AsStringAndSize(given, &bytes, &len) != 0) return NULL;
+    if (!PyArg_ParseTuple(arguments, "OOO!", &call, &given, &PyTuple_Type, &types)) return NULL;
+    check_call *is_document = (check_call *)PyLong_AsVoidPtr(call);
+    if (PyErr_Occurred() || PyBytes_AsStringAndSize(given, &bytes, &len) != 0) return NULL;
     reader in = {.at = (const uint8_t *)bytes, .end = (const uint8_t *)bytes + len};
     if (!takes_types(&in, types)) return NULL;
     PyObject *found = PyList_New(0);
-    while (found != NULL && in.at < in.end) {
+    while (found != NULL && goes_on(&in, is_document)) {
         PyObject *made = document(&in);
         if (made == NULL || PyList_Append(found, made) != 0) Py_CLEAR(found);
         Py_XDECREF(made);
     }
     forget(&in);
-    return found;
+    return found == NULL ? NULL : Py_BuildValue("Nn", found, (Py_ssize_t)(in.at - (const uint8_t *)bytes));
 }
 
 static PyMethodDef methods[] = {
     {"text_by", text_by, METH_VARARGS, NULL}, {"bytes_by", bytes_by, METH_VARARGS, NULL},
     {"value_by", value_by, METH_VARARGS, NULL}, {"value_of", value_of, METH_VARARGS, NULL},
-    {"values_of", values_of, METH_VARARGS, NULL}, {"printed", printed, METH_VARARGS, NULL}, {NULL, NULL, 0, NULL},
+    {"documents_of", documents_of, METH_VARARGS, NULL}, {"printed", printed, METH_VARARGS, NULL}, {NULL, NULL, 0, NULL},
 };
 
 static struct PyModuleDef module = {PyModuleDef_HEAD_INIT, "_vbson", NULL, 0, methods, NULL, NULL, NULL, NULL};

@@ -1,9 +1,9 @@
 """Files of a document a line, and dumps of BSON documents, converted by the workers of a Dask cluster.
 
     >>> from distributed import Client
-    >>> convert_files(Client("scheduler:8786"), "s3://exports/*.jsonl", "s3://converted", "relaxed", doubles=True)
+    >>> convert_files(Client("scheduler:8786"), "s3://exports/*.jsonl", "s3://converted", "relaxed")
     (1000000, 2)
-    >>> decode_files(Client("scheduler:8786"), "s3://dumps/*.bson", "s3://decoded", "relaxed", doubles=True)
+    >>> decode_files(Client("scheduler:8786"), "s3://dumps/*.bson", "s3://decoded", "relaxed")
     (1000000, 0)
 
 Every worker has this module, vbson and the library. Files and folders are paths, or URLs of what fsspec knows. The files
@@ -17,12 +17,13 @@ import csv
 import io
 import os
 import uuid
+from typing import Any, List, Tuple, Union
 
 import fsspec
 import vbson
 from fsspec.implementations.local import LocalFileSystem
 
-_MARK = b"\xef\xbb\xbf"
+Urls, Mode = Union[str, List[str]], Union[int, str]
 # As much of a dump as is read at once to find where its documents begin.
 _CHUNK = 1 << 22
 
@@ -31,29 +32,27 @@ def _put(files, path, content):
     if not isinstance(files, LocalFileSystem):
         files.pipe_file(path, content)
         return
-    # (what an object store takes is there whole or not at all; a file has to be renamed)
-    beside = f"{os.path.dirname(path)}/.{os.path.basename(path)}.{uuid.uuid4().hex}"
-    files.pipe_file(beside, content)
-    os.replace(beside, path)
+    # (an object store has an object whole or not at all; a file has to be renamed)
+    unfinished = f"{os.path.dirname(path)}/.{os.path.basename(path)}.{uuid.uuid4().hex}"
+    files.pipe_file(unfinished, content)
+    os.replace(unfinished, path)
 
 
-def _convert(source, path, start, size, options, target, part):
-    """Writes the part of one block of lines; returns the number of lines, and the number and the fault of each rejected one."""
+def _convert(source, path, start, size, how, target, part):
+    """Writes the part of one block of lines; returns the number of lines, and the number and the error of each rejected one."""
     with source.open(path) as file:
         block = fsspec.utils.read_block(file, start, size, b"\n")
     lines = block.count(b"\n") + (not block.endswith(b"\n") and block != b"")
-    # (a byte order mark is passed over at the start of a file alone: before any other a blank line is put)
-    before = int(start > 0 and block.startswith(_MARK))
-    text, refused = vbson.convert_lines(b"\n" * before + block, *options)
+    text, refused = vbson.convert_block(block, how[0], start == 0, **how[1])
     _put(target, part, text)
-    return lines, [(number - before, str(error)) for number, error in refused]
+    return lines, [(number, str(error)) for number, error in refused]
 
 
 def _begins(source, path, block_size):
     """The beginning of each block of a dump, with the number of documents before it; and those of the end.
 
-    A length that can't be one, or that goes beyond the end, leaves no way to what is behind: the rest is of one block, and
-    counts as one document.
+    After a length that can't be one, or that goes beyond the end, no document can be found. The rest is one block, and counts
+    as one document.
     """
     size, at, number, blocks = source.info(path)["size"], 0, 0, []
     chunk, begins = b"", 0
@@ -69,20 +68,20 @@ def _begins(source, path, block_size):
     return [*blocks, (size, number)]
 
 
-def _decode(source, path, start, size, options, target, part):
-    """Writes the part of one block of documents; returns the number, the bytes before it and the fault of each rejected one."""
+def _decode(source, path, start, size, how, target, part):
+    """Writes the part of one block of documents; returns the number, the offset and the error of each rejected one."""
     with source.open(path) as file:
         file.seek(start)
         block = file.read(size)
-    text, refused = vbson.decode_documents(block, *options)
+    text, refused = vbson.decode_documents(block, how[0], **how[1])
     _put(target, part, text)
     return [(number, begins, str(error)) for number, begins, error in refused]
 
 
-def _opened(urls, folder, options):
+def _opened(urls, folder, call, how):
     """The files to read, with where they are, and the empty folder, with where it is."""
-    # (raises at options that are none, before a folder is made)
-    vbson.convert("{}", *options)
+    # (raises if an option is not one of the call, before a folder is made)
+    call(b"", how[0], **how[1])
     source, _, paths = fsspec.core.get_fs_token_paths(urls)
     target, folder = fsspec.core.url_to_fs(folder)
     target.makedirs(folder, exist_ok=True)
@@ -91,10 +90,10 @@ def _opened(urls, folder, options):
     return source, paths, target, folder
 
 
-def _run(client, work, source, blocks, options, target, folder):
+def _run(client, work, source, blocks, how, target, folder):
     """What the work on each block gives, in their order: its part is written."""
     digits = len(str(len(blocks)))
-    works = [client.submit(work, source, path, start, size, options, target, f"{folder}/part-{part:0{digits}}.jsonl",
+    works = [client.submit(work, source, path, start, size, how, target, f"{folder}/part-{part:0{digits}}.jsonl",
                            pure=False, retries=2) for part, (path, start, size) in enumerate(blocks)]
     return client.gather(works)
 
@@ -107,43 +106,45 @@ def _end(target, folder, table):
     _put(target, f"{folder}/refused.csv", text.getvalue().encode())
 
 
-def convert_files(client, urls, folder, mode=vbson.CANONICAL, block_size=1 << 25, doubles=False, keep_order=False):
+def convert_files(client: Any, urls: Urls, folder: str, mode: Mode = vbson.CANONICAL, block_size: int = 1 << 25,
+                  **options: bool) -> Tuple[int, int]:
     """Converts the lines of all files into parts in a folder that is empty or not there.
 
-    The mode and the options are those of `vbson.convert`. Blank lines give nothing and count, and a byte order mark at the
-    start of a file is passed over. Returns the number of lines, and how many of them were rejected. Raises FileExistsError,
+    The mode and the options are those of `vbson.convert_lines`. Blank lines have no output and count, and a byte order mark at
+    the start of a file is skipped. Returns the number of lines, and how many of them were rejected. Raises FileExistsError,
     ValueError or TypeError if the mode or an option is not valid, what a worker raised three times over (MemoryError,
     OSError), and KilledWorker where one block took several with it.
     """
-    options = (mode, doubles, keep_order)
-    source, paths, target, folder = _opened(urls, folder, options)
+    how = mode, options
+    source, paths, target, folder = _opened(urls, folder, vbson.convert_lines, how)
     cuts = [(at, start) for at, path in enumerate(paths) for start in range(0, source.info(path)["size"], block_size)]
     blocks = [(paths[at], start, block_size) for at, start in cuts]
     before, table = [0] * len(paths), []
-    for (at, _), (lines, refused) in zip(cuts, _run(client, _convert, source, blocks, options, target, folder)):
+    for (at, _), (lines, refused) in zip(cuts, _run(client, _convert, source, blocks, how, target, folder)):
         table += [(paths[at], before[at] + number, why) for number, why in refused]
         before[at] += lines
     _end(target, folder, [("file", "line", "fault"), *table])
     return sum(before), len(table)
 
 
-def decode_files(client, urls, folder, mode=vbson.CANONICAL, block_size=1 << 25, doubles=False, keep_order=False):
+def decode_files(client: Any, urls: Urls, folder: str, mode: Mode = vbson.CANONICAL, block_size: int = 1 << 25,
+                 **options: bool) -> Tuple[int, int]:
     """Writes the documents of dumps as lines of text, into parts in a folder that is empty or not there.
 
     Each file is BSON documents, one after the other, as mongodump writes them. The mode and the options are those of
-    `vbson.decode`. A worker reads each file once more to find where its documents begin. After a rejected document the next
-    one begins where its length says; without such a length the rest of the file is one rejected document. Returns the
-    number of documents, and how many of them were rejected. Raises as `convert_files` does.
+    `vbson.decode_documents`. A worker reads each file once more to find where its documents begin. After a rejected document
+    the next one begins where its length says; without a valid length the rest of the file is one rejected document. Returns
+    the number of documents, and how many of them were rejected. Raises as `convert_files` does.
     """
-    options = (mode, doubles, keep_order)
-    source, paths, target, folder = _opened(urls, folder, options)
+    how = mode, options
+    source, paths, target, folder = _opened(urls, folder, vbson.decode_documents, how)
     works = [client.submit(_begins, source, path, block_size, pure=False, retries=2) for path in paths]
     begins = client.gather(works)
     cuts = [(path, start, before, end - start) for path, its in zip(paths, begins)
             for (start, before), (end, _) in zip(its, its[1:])]
     blocks = [(path, start, size) for path, start, _, size in cuts]
     table = [(path, before + number, start + at, why)
-             for (path, start, before, _), refused in zip(cuts, _run(client, _decode, source, blocks, options, target, folder))
+             for (path, start, before, _), refused in zip(cuts, _run(client, _decode, source, blocks, how, target, folder))
              for number, at, why in refused]
     _end(target, folder, [("file", "document", "byte", "fault"), *table])
     return sum(its[-1][1] for its in begins), len(table)

@@ -76,7 +76,7 @@ CAUSES = {"a key has a 0 byte in it": vbson.ZERO_IN_KEY, "a regular expression h
 
 
 def by_python(line):
-    """The answer of vbson.py."""
+    """The answer of the package vbson."""
     call, _, digits = line.partition(" ")
     given = bytes.fromhex(digits)
     try:
@@ -85,12 +85,12 @@ def by_python(line):
         if call == "explain":
             return f"0 {vbson.explain_document(given).encode().hex()}"
         if call == "encode":
-            return f"0 {vbson.encode(given, doubles=True).hex()}"
-        return f"0 {vbson.decode(given, call, doubles=True).encode().hex()}"
+            return f"0 {vbson.encode(given, keep_order=False).hex()}"
+        return f"0 {vbson.decode(given, call, keep_order=False).encode().hex()}"
     except vbson.NotADocument as error:
         words = vbson.explain_document(given) if call != "encode" else "no document"
-        # (the error is made of those words, and place and reason are all of them)
-        is_whole = str(error) == words == f"no document at {error.path} ({error.reason})" or call == "encode"
+        # (the error is made of those words, and offset and reason are all of them)
+        is_whole = str(error) == words == f"no document at byte {error.offset} ({error.reason})" or call == "encode"
         return f"{vbson.NOT_A_DOCUMENT if is_whole else -1} "
     except vbson.NotEncodable as error:
         return f"{CAUSES[str(error)]} "
@@ -102,13 +102,13 @@ def round_trips():
     """Of each document of the rows, what is wrong with its text and the bytes of that text, or None."""
     for name, line, answer in cases():
         if line.startswith("is ") and answer == "0 ":
-            text = vbson.decode(bytes.fromhex(line[3:]), doubles=True)
+            text = vbson.decode(bytes.fromhex(line[3:]), keep_order=False)
             try:
-                written = vbson.encode(text, doubles=True)
+                written = vbson.encode(text, keep_order=False)
             except (vbson.NotExtendedJson, vbson.BadObjectId):
                 # (a document whose keys are those of a wrapper)
                 continue
-            again = vbson.encode(vbson.decode(written, doubles=True), doubles=True)
+            again = vbson.encode(vbson.decode(written, keep_order=False), keep_order=False)
             yield f"{name}, and back", None if vbson.is_document(written) and again == written else f"{written.hex()} and {again.hex()}"
 
 
@@ -117,18 +117,18 @@ def hashes():
     for name, line, answer in cases():
         if line.startswith("encode ") and answer.startswith("0 "):
             text = bytes.fromhex(line[7:])
-            ascending, in_order = (vbson.encode(text, True, keep_order) for keep_order in (False, True))
-            number = vbson.hash_of(text, doubles=True)
+            ascending, in_order = (vbson.encode(text, keep_order=keep_order) for keep_order in (False, True))
+            number = vbson.hash_of(text)
             found = vbson.hash_of_document(ascending), vbson.hash_of_document(in_order)
             yield f"{name}, hashed", None if found == (number, number) else f"{found} and not {number}"
             are_same = vbson.same_documents(ascending, in_order), vbson.same_documents(in_order, b"\5\0\0\0\0")
             yield f"{name}, compared", None if are_same == (True, len(in_order) == 5) else f"{are_same}"
 
 
-def alone(call, given, *how):
-    """What a call gives of one text or document, or its error."""
+def alone(call, given, *mode, **options):
+    """What a call returns of one text or document, or its error."""
     try:
-        return call(given, *how), None
+        return call(given, *mode, **options), None
     except vbson.Error as error:
         return b"", (type(error), str(error), error.path, error.reason)
 
@@ -149,15 +149,15 @@ def blocks():
                 yield f"a block that ends early, {number}, {mode}", block_fault([b"\5\0\0\0\0", it], mode)
     texts = [it for _, line, _ in cases() if line.startswith("encode ") for it in [bytes.fromhex(line[7:])] if b"\n" not in it and it.strip()]
     for keep_order in (False, True):
-        left, refused = vbson.encode_lines(b"\n".join(texts), True, keep_order)
-        made = [alone(vbson.encode, it, True, keep_order) for it in texts]
+        left, refused = vbson.encode_lines(b"\n".join(texts), keep_order=keep_order)
+        made = [alone(vbson.encode, it, keep_order=keep_order) for it in texts]
         wanted = b"".join(it for it, _ in made), [(number, error) for number, (_, error) in enumerate(made, 1) if error]
         yield f"a block of lines, {keep_order}", None if (left, told_alike(refused)) == wanted else f"{left.hex()} {refused}"
 
 
 def block_fault(parts, mode):
-    left, refused = vbson.decode_documents(b"".join(parts), mode, True, True)
-    made = [alone(vbson.decode, it, mode, True, True) for it in parts]
+    left, refused = vbson.decode_documents(b"".join(parts), mode)
+    made = [alone(vbson.decode, it, mode) for it in parts]
     starts = [sum(map(len, parts[:at])) for at in range(len(parts))]
     wanted = "".join(f"{it}\n" for it, error in made if not error).encode()
     faults = [(number, start, error) for number, (start, (_, error)) in enumerate(zip(starts, made), 1) if error]

@@ -1,35 +1,16 @@
-"""Each call of vbson.py, and each error. The last line is 'N passed, M failed'."""
+"""Each call of the package vbson on texts, bytes and scalars. The last line is 'N passed, M failed'."""
 import datetime
 import decimal
-import pickle
 import struct
-import sys
 import tempfile
 import threading
 import typing
 
 import signatures
 import vbson
+from python_check import end, raises, refusal, want
 
-passed = failed = 0
-
-
-def want(name, found, wanted):
-    global passed, failed
-    if found == wanted:
-        passed += 1
-    else:
-        failed += 1
-        print(f"FAILED: {name}: {found!r} and not {wanted!r}")
-
-
-def raises(name, error, call, *arguments):
-    try:
-        found = call(*arguments)
-    except Exception as it:
-        found = type(it)
-    want(name, found, error)
-
+SORTED, SPECIFIED = {"keep_order": False}, vbson.SPECIFIED
 
 def sip13(data):
     """SipHash-1-3 under the key 0 (Aumasson and Bernstein)."""
@@ -61,7 +42,7 @@ def sip13(data):
 
 
 def try_texts():
-    want("canonical", vbson.convert('{"b":2147483648,"a":-5}'),
+    want("canonical", vbson.convert('{"b":2147483648,"a":-5}', **SORTED),
          '{"a":{"$numberInt":"-5"},"b":{"$numberLong":"2147483648"}}')
     want("relaxed", vbson.convert(b'{"$numberLong":"5"}', vbson.RELAXED), "5")
     want("shown", vbson.convert('{"$code":""}', vbson.SHOW), "")
@@ -85,7 +66,7 @@ def try_texts():
     except TypeError as it:
         want("the words for a dict", str(it), "a text is str or bytes, and not dict")
     raises("a bad id", vbson.BadObjectId, vbson.convert, '{"$oid":"5"}')
-    raises("a double", vbson.NotExtendedJson, vbson.convert, "1.5")
+    raises("a double", vbson.NotExtendedJson, vbson.convert, "1.5", **SPECIFIED)
     want("same", vbson.same('{"a":1,"b":2}', '{"b":2,"a":1}'), True)
     want("different", vbson.same("[1,2]", "[2,1]"), False)
     # (where the output means another value, as the docs say, and beside it where not)
@@ -94,120 +75,47 @@ def try_texts():
                                 ('{"$numberLong":"5"}', "canonical", True), ('{"$numberLong":"2147483648"}', "relaxed", True),
                                 ('{"$numberDouble":"-NaN"}', "relaxed", True), ('{"$numberDecimal":"0E+7000"}', "relaxed", True)):
         want(f"{text} and its {mode} form", vbson.same(text, vbson.convert(text, mode)), is_same)
-    raises("the first fault", vbson.NotJson, vbson.same, "", "1.5")
+    raises("the first error", vbson.NotJson, vbson.same, "", '{"$oid":"5"}')
 
 
 def try_doubles():
     canonical, relaxed = '{"a":{"$numberDouble":"100.0"},"b":{"$numberDouble":"1.5"}}', '{"a":100.0,"b":1.5}'
     for mode, written in (("canonical", canonical), ("relaxed", relaxed)):
-        want(f"doubles in the {mode} form", vbson.convert('{"b":1.5,"a":1e2}', mode, True), written)
+        want(f"doubles in the {mode} form", vbson.convert('{"b":1.5,"a":1e2}', mode, **SORTED), written)
         want(f"none in the {mode} form", vbson.convert("[5]", mode, doubles=False), vbson.convert("[5]", mode))
-        raises(f"a double in the {mode} form", vbson.NotExtendedJson, vbson.convert, "1.5", mode, False)
+        raises(f"a double in the {mode} form", vbson.NotExtendedJson, vbson.convert, "1.5", mode, doubles=False)
     for text in ("12.5", "1.0", "-0.0", "0.0", "5e-324", "1e16", "1.7976931348623157e308"):
         wrapped = f'{{"$numberDouble":"{text}"}}'
-        want(f"{text} in the relaxed form", vbson.convert(wrapped, "relaxed", True), text)
-        want(f"{text} in the canonical form", vbson.convert(text, "canonical", True), wrapped)
+        want(f"{text} in the relaxed form", vbson.convert(wrapped, "relaxed"), text)
+        want(f"{text} in the canonical form", vbson.convert(text, "canonical"), wrapped)
     for text in ("NaN", "-NaN", "Infinity", "-Infinity"):
         wrapped = f'{{"$numberDouble":"{text}"}}'
-        want(f"{text} in the relaxed form", vbson.convert(wrapped, "relaxed", True), wrapped)
-    want("a zero without", vbson.convert('{"$numberDouble":"-0.0"}', "relaxed"), '{"$numberDouble":"-0.0"}')
-    raises("a double that is not finite", vbson.NotExtendedJson, vbson.convert, '{"$numberDouble":"1e400"}', 0, True)
+        want(f"{text} in the relaxed form", vbson.convert(wrapped, "relaxed"), wrapped)
+    want("a zero without", vbson.convert('{"$numberDouble":"-0.0"}', "relaxed", doubles=False), '{"$numberDouble":"-0.0"}')
+    raises("a double that is not finite", vbson.NotExtendedJson, vbson.convert, '{"$numberDouble":"1e400"}')
     for it in (1, 0, None, "yes", 2):
-        raises(f"doubles {it!r}", TypeError, vbson.convert, "{}", 0, it)
-        raises(f"doubles {it!r} explained", TypeError, vbson.explain, "{}", it)
+        raises(f"doubles {it!r}", TypeError, vbson.convert, "{}", doubles=it)
+        raises(f"doubles {it!r} explained", TypeError, vbson.explain, "{}", doubles=it)
 
 
 def try_order():
     text, twice = '{"b":{"d":1,"c":2},"a":3}', '{"b":1,"a":1.5,"b":2}'
-    want("keys in order", vbson.convert(text, "relaxed", keep_order=True), text)
+    want("keys in order", vbson.convert(text, "relaxed"), text)
     want("keys sorted", vbson.convert(text, "relaxed", keep_order=False), '{"a":3,"b":{"c":2,"d":1}}')
-    want("keys in order shown", vbson.convert('{"b":1,"a":2}', "show", False, True), '{ "b": 1, "a": 2 }')
-    want("a key twice", vbson.convert(twice, "relaxed", True, True), '{"b":2,"a":1.5}')
-    raises("a double in order", vbson.NotExtendedJson, vbson.convert, twice, "relaxed", False, True)
-    want("lines in order", vbson.convert_lines('{"b":1,"a":2}\n[1.5]\n', "relaxed", keep_order=True)[0], b'{"b":1,"a":2}\n')
-    document = vbson.encode(twice, doubles=True, keep_order=True)
+    want("keys in order shown", vbson.convert('{"b":1,"a":2}', "show", doubles=False), '{ "b": 1, "a": 2 }')
+    want("a key twice", vbson.convert(twice, "relaxed"), '{"b":2,"a":1.5}')
+    raises("a double in order", vbson.NotExtendedJson, vbson.convert, twice, "relaxed", doubles=False)
+    want("lines in order", vbson.convert_lines('{"b":1,"a":2}\n[1.5]\n', "relaxed", doubles=False)[0], b'{"b":1,"a":2}\n')
+    document = vbson.encode(twice)
     want("bytes in order", document.hex(), "170000001062000200000001610000000000" + "0000f83f00")
-    want("bytes sorted", vbson.encode('{"b":null,"a":null}').hex(), "0b0000000a61000a620000")
-    want("decoded in order", vbson.decode(document, "relaxed", True, True), '{"b":2,"a":1.5}')
-    want("decoded and sorted", vbson.decode(document, "relaxed", True), '{"a":1.5,"b":2}')
+    want("bytes sorted", vbson.encode('{"b":null,"a":null}', **SORTED).hex(), "0b0000000a61000a620000")
+    want("decoded in order", vbson.decode(document, "relaxed"), '{"b":2,"a":1.5}')
+    want("decoded and sorted", vbson.decode(document, "relaxed", **SORTED), '{"a":1.5,"b":2}')
     for it in (1, 0, None, "yes"):
-        raises(f"keep_order {it!r}", TypeError, vbson.convert, "{}", 0, False, it)
-        raises(f"keep_order {it!r} of bytes", TypeError, vbson.decode, document, 0, False, it)
-        raises(f"keep_order {it!r} of lines", TypeError, vbson.convert_lines, b"", 0, False, it)
-        raises(f"keep_order {it!r} to bytes", TypeError, vbson.encode, "{}", False, it)
-
-
-def refusal(call, *arguments):
-    """The words, the place and the reason of an error, and its class."""
-    try:
-        return call(*arguments)
-    except vbson.Error as it:
-        return str(it), it.path, it.reason, type(it)
-
-
-def try_places():
-    number = "a number is no whole number of 64 bits; found 1.5"
-    date = "`$date` holds `$numberLong`, an RFC 3339 text or a whole number"
-    digits = 'an object id has 24 digits, but "53e3" has 4'
-    no_digit = "the character '%s' at %d in \"%s\" is no hexadecimal digit"
-    blank, letter = no_digit % (" ", 1, "5 (xy)"), no_digit % ("z", 0, "zz (a)")
-    early, quotes = "the text ends before its value is whole", "a key or a text stands in double quotes"
-    both = vbson.NotExtendedJson, vbson.BadObjectId
-    # (of a path and of a message 300 characters are told)
-    long, cut = "a" * 1000, "a" * 300 + ".."
-    for text, words, place, why, error in (
-            ("[1, 2", f"not JSON at column 5 ({early})", "column 5", early, vbson.NotJson),
-            ("{'a':1}", f"not JSON at column 2 ({quotes})", "column 2", quotes, vbson.NotJson),
-            ("", f"not JSON at column 1 ({early})", "column 1", early, vbson.NotJson),
-            ("[1e400]", "not JSON at column 2 (a number is out of range)", "column 2", "a number is out of range", vbson.NotJson),
-            ('{"a (":[{"b)":1.5}]}', f"not Extended JSON at a (.0.b) ({number})", "a (.0.b)", number, both[0]),
-            ("1.5", f"not Extended JSON ({number})", "", number, both[0]),
-            ('{"a (":{"$date":" (a)"}}', f'not Extended JSON at a (.$date ({date}; found " (a)")', "a (.$date", f'{date}; found " (a)"', both[0]),
-            ('{"":1.5}', f"not Extended JSON ({number})", "", number, both[0]),
-            ('{"\u00e9":1.5}', f"not Extended JSON at \u00e9 ({number})", "\u00e9", number, both[0]),
-            ('{"a":{"$oid":"53e3"}}', f"bad object id at a.$oid ({digits})", "a.$oid", digits, both[1]),
-            ('{"$oid":"5 (xy)"}', f"bad object id at $oid ({blank})", "$oid", blank, both[1]),
-            ('[{"$dbPointer":{"$ref":"a","$id":{"$oid":"zz (a)"}}}]', f"bad object id at 0.$dbPointer ({letter})",
-             "0.$dbPointer", letter, both[1]),
-            ('{"a\\u0007\\u2028":1.5}', f"not Extended JSON at a\\u0007\\u2028 ({number})", "a\\u0007\\u2028", number, both[0]),
-            ('{"%s":{"$oid":"zz (a)"}}' % long, f"bad object id at {cut} ({letter})", cut, letter, both[1]),
-            ('{"$oid":"%s"}' % long, f"bad object id at $oid ({digits[:33]}{cut[:267]}..)", "$oid", f"{digits[:33]}{cut[:267]}..", both[1])):
-        wanted = words, place, why, error
-        want(f"{text} explained", vbson.explain(text), words)
-        want(f"{text} converted", refusal(vbson.convert, text), wanted)
-        want(f"{text} beside another", refusal(vbson.same, text, "!"), wanted)
-        want(f"{text} behind another", refusal(vbson.same, "1", text), wanted)
-        want(f"the hash of {text}", refusal(vbson.hash_of, text), wanted)
-    want("nothing to explain", (vbson.explain("{}"), vbson.explain("1.5", True)), ("", ""))
-    want("the place with doubles", refusal(vbson.convert, '[1.5,{"$numberInt":""}]', 0, True)[1], "1.$numberInt")
-    want("no place", refusal(vbson.object_id, "53e3"), ("no such text", "", "no such text", vbson.InvalidString))
-    try:
-        vbson.convert("[1.5]")
-    except vbson.Error as it:
-        copied = pickle.loads(pickle.dumps(it))
-        want("an error that was pickled", (str(copied), copied.path, copied.reason), (str(it), "0", number))
-        want("the class of an error that was pickled", type(copied), vbson.NotExtendedJson)
-
-
-def try_reads():
-    """A text that is accepted is read once, and one that is refused twice. (Calls by _vbson are not seen here.)"""
-    if vbson._sooner is not None:
-        return
-    calls = []
-
-    class Counted:
-        def __getattr__(self, name):
-            calls.append(name)
-            return getattr(library, name)
-
-    library, vbson._library = vbson._library, Counted()
-    try:
-        vbson.convert("[1]")
-        want("reads of what is accepted", len(calls), 1)
-        refusal(vbson.convert, "[1")
-        want("reads of what is refused", len(calls), 3)
-    finally:
-        vbson._library = library
+        raises(f"keep_order {it!r}", TypeError, vbson.convert, "{}", keep_order=it)
+        raises(f"keep_order {it!r} of bytes", TypeError, vbson.decode, document, keep_order=it)
+        raises(f"keep_order {it!r} of lines", TypeError, vbson.convert_lines, b"", keep_order=it)
+        raises(f"keep_order {it!r} to bytes", TypeError, vbson.encode, "{}", keep_order=it)
 
 
 def try_hashes():
@@ -224,12 +132,12 @@ def try_reading():
     price, other = '{"a":1,"price":12.5}', '{"price":{"$numberDouble":"12.50"},"a":1}'
     twice, v1 = '{"a":[{"b":1,"b":2}]}', '{"$binary":"AQI=","$type":"00"}'
     v2 = '{"$binary":{"base64":"AQI=","subType":"00"}}'
-    want("prices", (vbson.same(price, other, True), vbson.same(price, "{}", doubles=True)), (True, False))
+    want("prices", (vbson.same(price, other), vbson.same(price, "{}", doubles=True)), (True, False))
     want("the hash of a price", vbson.hash_of("12.5", doubles=True), sip13(struct.pack("<d", 12.5)))
-    raises("a price without doubles", vbson.NotExtendedJson, vbson.same, price, other)
-    raises("the hash of a price without doubles", vbson.NotExtendedJson, vbson.hash_of, price)
+    raises("a price without doubles", vbson.NotExtendedJson, vbson.same, price, other, doubles=False)
+    raises("the hash of a price without doubles", vbson.NotExtendedJson, vbson.hash_of, price, doubles=False)
     words = "not Extended JSON at a.0.b (a key that stands twice in its object)"
-    wanted = words, "a.0.b", "a key that stands twice in its object", vbson.NotExtendedJson
+    wanted = words, ["a", 0, "b"], "a key that stands twice in its object", vbson.NotExtendedJson
     strict = {"reject_duplicate_keys": True}
     want("a duplicate key", refusal(lambda it: vbson.same("1", it, **strict), twice), wanted)
     want("the hash of a duplicate key", refusal(lambda it: vbson.hash_of(it, **strict), twice), wanted)
@@ -241,13 +149,13 @@ def try_reading():
     for call in (vbson.hash_of, vbson.explain, lambda it, **options: vbson.same(it, it, **options)):
         for name in ("doubles", "reject_duplicate_keys", "legacy"):
             raises(f"{name} that is no bool", TypeError, lambda it: call("1", **{it: 1}), name)
-    document, turned = vbson.encode(price, True), vbson.encode(other, True, True)
+    document, turned = vbson.encode(price, **SORTED), vbson.encode(other)
     want("documents", (document != turned, vbson.same_documents(document, turned)), (True, True))
     want("other documents", vbson.same_documents(document, vbson.encode("{}")), False)
     want("the hash of a document", vbson.hash_of_document(memoryview(turned)), vbson.hash_of(price, doubles=True))
     doubled = b"\x13\0\0\0\x10b\0\5\0\0\0\x10b\0\6\0\0\0\0"
     want("the last value of a document", vbson.same_documents(doubled, vbson.encode('{"b":6}')), True)
-    wanted = "no document (a duplicate key)", "", "a duplicate key", vbson.NotADocument
+    wanted = "no document (a duplicate key)", [], "a duplicate key", vbson.NotADocument
     want("a duplicate key of a document", refusal(lambda it: vbson.hash_of_document(it, **strict), doubled), wanted)
     want("the first of two documents", refusal(lambda it: vbson.same_documents(it, b"", **strict), doubled), wanted)
     want("the second of two", refusal(lambda it: vbson.same_documents(document, it, **strict), doubled), wanted)
@@ -259,26 +167,26 @@ def try_reading():
 
 def try_machine():
     """Without /proc the processor is not known, and is trusted; with it the instructions are looked for."""
-    want("no /proc", vbson._has_needed_instructions("/proc/none"), True)
+    want("no /proc", vbson._calls.has_needed_instructions("/proc/none"), True)
     with tempfile.NamedTemporaryFile("w") as file:
         for flags, has_both in (("sse4_2 popcnt", True), ("sse4_2", False), ("popcnt", False), ("", False)):
             file.seek(0)
             file.truncate()
             file.write(f"processor : 0\nflags : fpu {flags}\n")
             file.flush()
-            want(f"a processor with {flags}", vbson._has_needed_instructions(file.name), has_both)
+            want(f"a processor with {flags}", vbson._calls.has_needed_instructions(file.name), has_both)
 
 
 def try_lines():
     want("lines", vbson.convert_lines("[ 1 ]\n\n{}", "relaxed"), (b"[1]\n{}\n", []))
     want("no lines", vbson.convert_lines(b""), (b"", []))
-    text, refused = vbson.convert_lines(b'[1]\n{"a":[1.5]}\n[\n{"$oid":"5"}\n[2]\n', vbson.RELAXED)
+    text, refused = vbson.convert_lines(b'[1]\n{"a":[1.5]}\n[\n{"$oid":"5"}\n[2]\n', vbson.RELAXED, **SPECIFIED)
     want("lines that are left", text, b"[1]\n[2]\n")
     want("lines that are refused", [number for number, _ in refused], [2, 3, 4])
     for _, error in refused:
         line = {vbson.NotExtendedJson: '{"a":[1.5]}', vbson.NotJson: "[", vbson.BadObjectId: '{"$oid":"5"}'}[type(error)]
-        want(f"{line} among lines", (str(error), error.path, error.reason, type(error)), refusal(vbson.convert, line))
-    want("lines of doubles", vbson.convert_lines("[1.5]\n", "relaxed", True), (b"[1.5]\n", []))
+        want(f"{line} among lines", (str(error), error.path, error.reason, type(error)), refusal(vbson.convert, line, **SPECIFIED))
+    want("lines of doubles", vbson.convert_lines("[1.5]\n", "relaxed"), (b"[1.5]\n", []))
     raises("lines in no mode", ValueError, vbson.convert_lines, b"", 3)
     raises("lines of a list", TypeError, vbson.convert_lines, ["1"])
 
@@ -293,18 +201,18 @@ def try_blocks():
     text, refused = vbson.decode_documents(five + b"\6\0\0\0", vbson.SHOW)
     want("a block that ends early", (text, [it[:2] for it in refused]), (b'{ "n": 5 }\n', [(2, 12)]))
     want("no documents", vbson.decode_documents(b""), (b"", []))
-    double = vbson.encode('{"b":1.5,"a":2}', True, True)
-    want("documents with doubles", vbson.decode_documents(double, "relaxed", True, True), (b'{"b":1.5,"a":2}\n', []))
-    error = vbson.decode_documents(double)[1][0][2]
-    want("a double among documents", (str(error), error.path, error.reason, type(error)), refusal(vbson.decode, double))
+    double = vbson.encode('{"b":1.5,"a":2}')
+    want("documents with doubles", vbson.decode_documents(double, "relaxed"), (b'{"b":1.5,"a":2}\n', []))
+    error = vbson.decode_documents(double, **SPECIFIED)[1][0][2]
+    want("a double among documents", (str(error), error.path, error.reason, type(error)), refusal(vbson.decode, double, **SPECIFIED))
     raises("documents in no mode", ValueError, vbson.decode_documents, b"", 3)
     raises("documents of a text", TypeError, vbson.decode_documents, "")
-    given, refused = vbson.encode_lines('{"n": 5}\n[1]\n\n{"a":[1.5]}\n{"a\\u0000":1}\n{"n": 5}')
+    given, refused = vbson.encode_lines('{"n": 5}\n[1]\n\n{"a":[1.5]}\n{"a\\u0000":1}\n{"n": 5}', **SPECIFIED)
     want("lines that are encoded", given, five + five)
     want("lines that are not encoded", [it[0] for it in refused], [2, 4, 5])
     for (_, error), line in zip(refused, ("[1]", '{"a":[1.5]}', '{"a\\u0000":1}')):
-        want(f"{line} among encoded lines", (str(error), error.path, error.reason, type(error)), refusal(vbson.encode, line))
-    want("lines that are encoded in order", vbson.encode_lines('{"b":1.5,"a":2}', True, True), (double, []))
+        want(f"{line} among encoded lines", (str(error), error.path, error.reason, type(error)), refusal(vbson.encode, line, **SPECIFIED))
+    want("lines that are encoded in order", vbson.encode_lines('{"b":1.5,"a":2}'), (double, []))
     raises("encoded lines of a list", TypeError, vbson.encode_lines, ["1"])
 
 
@@ -316,23 +224,23 @@ def try_documents():
         want(f"decoded, {mode}", vbson.decode(bytearray(five), mode), text)
     want("encoded", vbson.encode('{"n": 5}'), five)
     want("encoded bytes", vbson.encode(b'{"n": 5}'), five)
-    want("keys ascend", vbson.encode('{"b":null,"a":null}'), bytes.fromhex("0b0000000a61000a620000"))
+    want("keys ascend", vbson.encode('{"b":null,"a":null}', **SORTED), bytes.fromhex("0b0000000a61000a620000"))
     want("a document", vbson.is_document(memoryview(five)), True)
     want("no document", [vbson.is_document(five[:n]) for n in range(12)], [False] * 12)
     want("a double", vbson.decode(double, doubles=True), '{"a":{"$numberDouble":"1.5"}}')
     want("a double, relaxed", vbson.decode(double, "relaxed", doubles=True), '{"a":1.5}')
     want("a double shown", vbson.decode(double, "show"), '{ "a": Double(0x3ff8000000000000) }')
     want("a double there", vbson.encode('{"a":1.5}', doubles=True), double)
-    raises("a double without", vbson.NotRepresentable, vbson.decode, double)
-    raises("a double there without", vbson.NotExtendedJson, vbson.encode, '{"a":1.5}')
-    want("no double there", refusal(vbson.encode, '{"a":1.5}')[1:3], ("a", "a number is no whole number of 64 bits; found 1.5"))
-    for given, place, why in ((b"", "byte 0", "ends too early"), (five + b"\0", "byte 12", "bytes behind the document"),
-                              (bytes.fromhex("090000000861000200"), "byte 7", "a boolean is neither 0 nor 1")):
-        words = f"no document at {place} ({why})"
+    raises("a double without", vbson.NotRepresentable, vbson.decode, double, doubles=False)
+    raises("a double there without", vbson.NotExtendedJson, vbson.encode, '{"a":1.5}', doubles=False)
+    want("no double there", refusal(vbson.encode, '{"a":1.5}', doubles=False)[1:3], (["a"], "a number is no whole number of 64 bits; found 1.5"))
+    for given, offset, path, why in ((b"", 0, [], "ends too early"), (five + b"\0", 12, [], "bytes behind the document"),
+                                     (bytes.fromhex("090000000861000200"), 7, ["a"], "a boolean is neither 0 nor 1")):
+        words = f"no document at byte {offset} ({why})"
         want(f"{given.hex()} explained", vbson.explain_document(given), words)
-        want(f"{given.hex()} decoded", refusal(vbson.decode, given), (words, place, why, vbson.NotADocument))
+        want(f"{given.hex()} decoded", refusal(vbson.decode, given), (words, path, why, vbson.NotADocument))
     want("nothing to explain", vbson.explain_document(five), "")
-    want("another value", refusal(vbson.encode, "[1]"), ("no document", "", "no document", vbson.NotADocument))
+    want("another value", refusal(vbson.encode, "[1]"), ("no document", [], "no document", vbson.NotADocument))
     want("a 0 byte", refusal(vbson.encode, '{"a\\u0000":1}')[::3], ("a key has a 0 byte in it", vbson.NotEncodable))
     raises("an id", vbson.BadObjectId, vbson.encode, '{"a":{"$oid":"5"}}')
     for it in ("{}", 5, None, [12], 1.5):
@@ -340,7 +248,7 @@ def try_documents():
             raises(f"{call.__name__} of {it!r}", TypeError, call, it)
     raises("encode of a dict", TypeError, vbson.encode, {"a": 1})
     raises("no mode", ValueError, vbson.decode, five, 3)
-    raises("no truth value", TypeError, vbson.decode, five, 0, 1)
+    raises("no truth value", TypeError, vbson.decode, five, doubles=1)
 
 
 def try_small_values():
@@ -391,8 +299,8 @@ def try_datetimes():
         want(f"{moment} and back", vbson.datetime_of(millis), moment)
         want(f"{moment} in UTC", vbson.datetime_of(millis).utcoffset(), datetime.timedelta(0))
         want(f"{moment} by its text", vbson.date_time(vbson.date_time_text(millis)), millis)
-    raises("no time zone", ValueError, vbson.date_time, datetime.datetime(2020, 1, 1))
-    raises("a microsecond", ValueError, vbson.date_time, datetime.datetime(2020, 1, 1, 0, 0, 0, 1, utc))
+    raises("no time zone", vbson.NotRepresentable, vbson.date_time, datetime.datetime(2020, 1, 1))
+    raises("a microsecond", vbson.NotRepresentable, vbson.date_time, datetime.datetime(2020, 1, 1, 0, 0, 0, 1, utc))
     raises("a date", TypeError, vbson.date_time, datetime.date(2020, 1, 1))
     for millis in (-62135596800001, 253402300800000, 2**63, -2**80):
         raises(f"no datetime at {millis}", OverflowError, vbson.datetime_of, millis)
@@ -401,8 +309,8 @@ def try_datetimes():
 def try_types():
     for name in vbson.__all__:
         call = getattr(vbson, name)
-        if not isinstance(call, (int, type)):
-            count = call.__code__.co_argcount
+        if not isinstance(call, (int, type, dict)):
+            count = call.__code__.co_argcount + bool(call.__code__.co_flags & 8)
             want(f"the types of {name}", len(typing.get_type_hints(call)), count + 1)
 
 
@@ -426,8 +334,6 @@ want("version", vbson.version(), signatures.version())
 try_texts()
 try_doubles()
 try_order()
-try_places()
-try_reads()
 try_hashes()
 try_reading()
 try_machine()
@@ -439,5 +345,4 @@ try_decimals()
 try_datetimes()
 try_types()
 try_threads()
-print(f"{passed} passed, {failed} failed")
-sys.exit(1 if failed else 0)
+end()

@@ -2,7 +2,6 @@
 'N passed, M failed'."""
 import datetime
 import decimal
-import doctest
 import pickle
 import re
 import struct
@@ -10,30 +9,11 @@ import sys
 import uuid
 
 import vbson
-import vbson_values
-from vbson_values import Binary, Code, DBPointer, DatetimeMS, Int64, MaxKey, MinKey, ObjectId, Regex, Symbol, Timestamp, Undefined
+from python_check import end, fields, raises, want
+from vbson import _calls, _types
+from vbson.values import Binary, Code, DBPointer, DatetimeMS, Int64, MaxKey, MinKey, ObjectId, Regex, Symbol, Timestamp, Undefined
 
 UTC = datetime.timezone.utc
-passed = failed = 0
-
-
-def want(name, found, wanted):
-    global passed, failed
-    if type(found) is type(wanted) and found == wanted:
-        passed += 1
-    else:
-        failed += 1
-        print(f"FAILED: {name}: {found!r} and not {wanted!r}")
-
-
-def raises(name, error, call, *arguments, **named):
-    try:
-        found = call(*arguments, **named)
-    except Exception as it:
-        found = type(it)
-    want(name, found, error)
-
-
 ID = bytes.fromhex("53e37d08776f724e42000000")
 TEXTS = (
     ('{"$numberInt":"5"}', 5), ('{"$numberLong":"5"}', Int64(5)), ('{"$numberDouble":"1.5"}', 1.5), ('"a\\u0000é"', "a\0é"),
@@ -74,10 +54,10 @@ def try_plain():
                         (memoryview(b"a"), '{"$binary":{"base64":"YQ==","subType":"00"}}'), (Int64(1), "1"),
                         (re.compile("a", re.I | re.X), '{"$regularExpression":{"options":"ix","pattern":"a"}}')):
         want(f"{value!r} in the relaxed form", vbson.dumps(value, "relaxed", types="plain"), text)
-    for value, error in ((object(), TypeError), ({1: 2}, TypeError), ([{1, 2}], TypeError), (datetime.date(2020, 1, 1), TypeError),
-                         (2**63, OverflowError), (-2**63 - 1, OverflowError), ({"a\0": 1}, vbson.NotEncodable), (Regex("\0"), vbson.NotEncodable),
-                         (datetime.datetime(2020, 1, 1), ValueError), (decimal.Decimal("1E+7000"), vbson.InvalidString),
-                         ("\ud800", UnicodeEncodeError), (ObjectId(b"1"), ValueError)):
+    for value, error in ((object(), vbson.UnsupportedType), ({1: 2}, vbson.UnsupportedType), ([datetime.time()], vbson.UnsupportedType),
+                         (2**63, vbson.IntegerTooLarge), (-2**63 - 1, vbson.IntegerTooLarge), ({"a\0": 1}, vbson.NotEncodable), (Regex("\0"), vbson.NotEncodable),
+                         (datetime.datetime(2020, 1, 1), vbson.NotRepresentable), (decimal.Decimal("1E+7000"), vbson.InvalidString),
+                         ("\ud800", vbson.NotEncodable)):
         raises(f"{value!r}", error, vbson.dumps, value, types="plain")
 
 
@@ -87,10 +67,10 @@ def try_both(types):
     value = {"_id": 1, "b": 1.5, "a": [{"d": True, "c": None}]}
     want("a document", vbson.loads(text, types=types), value)
     want("its keys", list(vbson.loads('{"b":1,"a":2,"_id":3,"b":4}', types=types).items()), [("b", 4), ("a", 2), ("_id", 3)])
-    want("its keys sorted", list(vbson.loads('{"b":1,"a":2}', True, False, types)), ["a", "b"])
+    want("its keys sorted", list(vbson.loads('{"b":1,"a":2}', types, keep_order=False)), ["a", "b"])
     want("its text", vbson.dumps(value, types=types), text)
     want("its text with an id behind", vbson.dumps({"b": 1, "_id": 2}, "relaxed", types=types), '{"b":1,"_id":2}')
-    want("its text sorted", vbson.dumps({"b": 1, "a": 2}, vbson.RELAXED, True, False, types), '{"a":2,"b":1}')
+    want("its text sorted", vbson.dumps({"b": 1, "a": 2}, vbson.RELAXED, types, keep_order=False), '{"a":2,"b":1}')
     want("bytes and a relaxed text", vbson.loads(b'{"n": 5, "at": {"$date": "1970-01-01T00:00:00Z"}}', types=types),
          {"n": 5, "at": datetime.datetime(1970, 1, 1, tzinfo=UTC)})
     want("a relaxed text with doubles", vbson.dumps(value, "relaxed", types=types), '{"_id":1,"b":1.5,"a":[{"d":true,"c":null}]}')
@@ -102,12 +82,12 @@ def try_both(types):
     for given in ("", "[1", '1,"w":2', '5}, {"v":6', "1 2", "nul"):
         raises(f"no text {given!r}", vbson.NotJson, vbson.loads, given, types=types)
     raises("no Extended JSON", vbson.NotExtendedJson, vbson.loads, '[{"$numberInt":"x"}]', types=types)
-    raises("a double", vbson.NotExtendedJson, vbson.loads, "[1.5]", False, types=types)
-    raises("a double's text", vbson.NotRepresentable, vbson.dumps, [1.5], "relaxed", False, types=types)
+    raises("a double", vbson.NotExtendedJson, vbson.loads, "[1.5]", types, doubles=False)
+    raises("a double's text", vbson.NotRepresentable, vbson.dumps, [1.5], "relaxed", types, doubles=False)
     raises("an id", vbson.BadObjectId, vbson.loads, '{"$oid":"5"}', types=types)
     raises("a 0 byte in a key", vbson.NotEncodable, vbson.loads, '{"a\\u0000":1}', types=types)
     raises("a 0 byte in a key there", vbson.NotEncodable, vbson.dumps, {"a\0": 1}, types=types)
-    raises("no value", TypeError, vbson.dumps, object(), types=types)
+    raises("no value", vbson.UnsupportedType, vbson.dumps, object(), types=types)
     raises("no text", TypeError, vbson.loads, 5, types=types)
     values, refused = vbson.loads_lines('{"b":1,"a":[{"$ref":"x","$id":1}]}\n[1]\n{"$oid":"5"}\n\n{"b":1.5}\n', types=types)
     want("values of lines", values, [vbson.loads('{"b":1,"a":[{"$ref":"x","$id":1}]}', types=types), {"b": 1.5}])
@@ -121,8 +101,8 @@ def try_both(types):
         raises(f"no text {given!r}", vbson.NotJson, vbson.loads, given, types=types)
     raises("no form", ValueError, vbson.dumps, 5, "show", types=types)
     raises("no form by number", ValueError, vbson.dumps, 5, 3, types=types)
-    raises("a long int", OverflowError, vbson.dumps, [2**64], types=types)
-    raises("no truth value", TypeError, vbson.loads, "{}", 1, types=types)
+    raises("a long int", vbson.IntegerTooLarge, vbson.dumps, [2**64], types=types)
+    raises("no truth value", TypeError, vbson.loads, "{}", types, doubles=1)
     deep = "[" * 126 + "]" * 126
     raises("nested 127 deep", vbson.NotJson, vbson.loads, f"[{deep}]", types=types)
     nested = []
@@ -144,32 +124,38 @@ def try_bson():
                         ('{"$timestamp":{"i":2,"t":1}}', TheirTimestamp(1, 2)), ('{"$code":"f","$scope":{"x":null}}', TheirCode("f", {"x": None})),
                         ('{"$minKey":1}', TheirMinKey()), ('{"$ref":"n","$id":{"$numberInt":"1"}}', DBRef("n", 1)),
                         ('[{"$ref":"n","$id":{"$numberInt":"1"}}]', [DBRef("n", 1)])):
-        want(f"{text} there, bson", vbson.loads(text), value)
-        want(f"{text} and back, bson", vbson.dumps(value), text)
+        want(f"{text} there, bson", vbson.loads(text, "bson"), value)
+        want(f"{text} and back, bson", vbson.dumps(value, types="bson"), text)
     import bson
     zone = datetime.timezone(datetime.timedelta(hours=-5, minutes=-30))
     for moment in (datetime.datetime(2020, 1, 1), datetime.datetime(1969, 12, 31, 23, 59, 59, 999999), datetime.datetime(1, 1, 1, 0, 0, 0, 1),
                    datetime.datetime(9999, 12, 31, 23, 59, 59, 999999, UTC), datetime.datetime(1960, 2, 29, 1, 2, 3, 4567, zone)):
-        want(f"{moment!r} alone", vbson.dumps(moment), vbson.dumps([moment])[1:-1])
-        want(f"{moment!r} as bson has it", bson.decode(vbson.encode('{"v":%s}' % vbson.dumps(moment)))["v"], bson.decode(bson.encode({"v": moment}))["v"])
-    want("the types, where none are named", type(vbson.loads("[1,2]", types=None)), list)
-    raises("a UUID of one byte", vbson.NoValue, vbson.loads, '{"$binary":{"base64":"AA==","subType":"04"}}')
+        want(f"{moment!r} alone", vbson.dumps(moment, types="bson"), vbson.dumps([moment], types="bson")[1:-1])
+        want(f"{moment!r} as bson has it", bson.decode(vbson.encode('{"v":%s}' % vbson.dumps(moment, types="bson")))["v"], bson.decode(bson.encode({"v": moment}))["v"])
+    raises("a UUID of one byte", vbson.NoValue, vbson.loads, '{"$binary":{"base64":"AA==","subType":"04"}}', "bson")
+    text = '{"a":[1,{"b":{"$binary":{"base64":"AA==","subType":"04"}}}]}'
+    want("its path", fields(vbson.loads, text, "bson")[::2][:2], (vbson.NoValue, ["a", 1, "b"]))
+    want("its path in lines", fields(vbson.loads_lines, '{}\n' + text, "bson")[2], [1, "a", 1, "b"])
+    dump = vbson.encode("{}") * 3 + vbson.encode(text)
+    want("its path in a dump", fields(vbson.loads_documents, dump, "bson")[2], [3, "a", 1, "b"])
+    want("its path in a stream", fields(lambda: [*vbson.iter_documents([dump[:12], dump[12:]], "bson")])[2], [3, "a", 1, "b"])
 
 
 def try_damaged(types):
     """What the compiled module reads of damaged bytes: whatever it is, it stays in them, and whole ones are read as without."""
-    if vbson._sooner is None:
+    if _calls.extension is None:
         return
-    kinds, seen = vbson._types(types), 0
+    kinds, seen = _types.types_of(types), 0
     for text, _ in TEXTS:
-        document = vbson.encode(f'{{"a":{text},"b":[{text}]}}', True, True)
-        for given in (document, vbson.encode(f'{{"v":{text}}}', True, True), vbson.encode(f'{{"v":{{"a":1,"$ref":"b","c":[{text}]}}}}', True, True)):
-            want(f"{given.hex()} as without", outcome(vbson._sooner.value_of, given, kinds._made), outcome(kinds._only, given))
+        document = vbson.encode(f'{{"a":{text},"b":[{text}]}}')
+        for given in (document, vbson.encode(f'{{"v":{text}}}'), vbson.encode(f'{{"v":{{"a":1,"$ref":"b","c":[{text}]}}}}')):
+            want(f"{given.hex()} as without", outcome(_calls.extension.value_of, given, kinds._made), outcome(kinds._only, given))
         whole = [document[:at] for at in range(len(document))]
         whole += [document[:at // 8] + bytes([document[at // 8] ^ 1 << at % 8]) + document[at // 8 + 1:] for at in range(8 * len(document))]
         for given in whole:
-            outcome(vbson._sooner.value_of, given, kinds._made)
-            outcome(vbson._sooner.values_of, given, kinds._made)
+            outcome(_calls.extension.value_of, given, kinds._made)
+            outcome(_calls.extension.documents_of, 0, given, kinds._made)
+            outcome(_calls.extension.documents_of, _calls.ADDRESSES["is_document"], given, kinds._made)
             seen += 1
     want("damaged bytes", seen > 10000, True)
 
@@ -192,15 +178,14 @@ def has_bson():
 try_plain()
 try_both("plain")
 try_damaged("plain")
-for name in ("other", "Bson", 5):
+for name in ("other", "Bson", 5, None):
     raises(f"no types {name!r}", ValueError, vbson.loads, "5", types=name)
 if has_bson():
     try_bson()
 else:
-    want("plain types without bson", vbson.loads('{"$minKey":1}'), MinKey())
     raises("types of bson", ModuleNotFoundError, vbson.loads, "5", types="bson")
-    for module in (vbson, vbson_values):
-        done = doctest.testmod(module)
-        want(f"the examples of {module.__name__}", (done.failed, done.attempted > 0), (0, True))
-print(f"{passed} passed, {failed} failed")
-sys.exit(1 if failed else 0)
+want("the types by default", vbson.loads('{"$minKey":1}'), MinKey())
+want("an id's repr", (repr(ObjectId(ID)), ObjectId(ID.hex()), eval(repr(ObjectId(ID)))), (f"ObjectId('{ID.hex()}')", ObjectId(ID), ObjectId(ID)))
+raises("an id of one byte", ValueError, ObjectId, b"1")
+raises("an id of 23 digits", vbson.InvalidString, ObjectId, "0" * 23)
+end()

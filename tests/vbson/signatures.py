@@ -7,6 +7,7 @@ ROOT = Path(__file__).resolve().parents[2]
 SOURCES = ROOT / "crates/vbson/src"
 LANGUAGES = ROOT / "languages"
 HEADER = LANGUAGES / "c/vbson.h"
+PACKAGE = LANGUAGES / "python/vbson"
 NUMBERS = {"u32": "uint32_t", "i64": "int64_t", "u64": "uint64_t", "usize": "size_t"}
 STRUCTS = {"Text<'static>": "vbson_buffer", "Lines<'static>": "vbson_lines", "Documents<'static>": "vbson_documents"}
 EXPORT = re.compile(
@@ -143,9 +144,10 @@ def status_faults():
     kinds = {"vbson.h": {name: int(number) for name, number in enum.items()}}
     rust = re.findall(r"(?m)^const (\w+): u32 = (\d+);$", (LANGUAGES / "rust/src/call.rs").read_text())
     kinds["call.rs"] = {name: int(number) for name, number in rust}
-    kinds["vbson.py"] = {}
-    for names, values in re.findall(r"(?m)^([A-Z_, ]+) = ([\d, ]+)$", (LANGUAGES / "python/vbson.py").read_text()):
-        kinds["vbson.py"] |= dict(zip(names.split(", "), map(int, values.split(", "))))
+    sources = (PACKAGE / "errors.py").read_text() + (PACKAGE / "_options.py").read_text()
+    kinds["Python"] = {}
+    for names, values in re.findall(r"(?m)^([A-Z_, ]+) = ([\d, ]+)$", sources):
+        kinds["Python"] |= dict(zip(names.split(", "), map(int, values.split(", "))))
     modes = {"CANONICAL": 0, "RELAXED": 1, "SHOW": 2}
     bits = flags()
     for file, found in kinds.items():
@@ -154,10 +156,10 @@ def status_faults():
     for name in numbers:
         yield f"words for {name}", None if f"case VBSON_{name}: return" in text else "vbson_status_text has none"
     for name, number in modes.items():
-        is_right = f"VBSON_{name} = {number}" in text and kinds["vbson.py"].get(name) == number
+        is_right = f"VBSON_{name} = {number}" in text and kinds["Python"].get(name) == number
         yield f"the mode {name}", None if is_right else "other numbers"
     for name, number in bits.items():
-        is_right = f"VBSON_{name} = {number}" in text and kinds["vbson.py"].get(name) == number
+        is_right = f"VBSON_{name} = {number}" in text and kinds["Python"].get(name) == number
         is_right = is_right and f"\npub const {name}: u32 = {number};\n" in (LANGUAGES / "rust/src/call.rs").read_text()
         yield f"the flag {name}", None if is_right else "other numbers"
 
@@ -166,7 +168,7 @@ def length_faults():
     """The greatest length of each kind is that of the contract, and no wrapper has a smaller buffer."""
     text = HEADER.read_text()
     rust = int(re.search(r"(?m)^pub const MAX_LENGTH: usize = (\d+);$", (LANGUAGES / "rust/src/call.rs").read_text())[1])
-    python = int(re.search(r"buffer, size = ctypes.create_string_buffer\((\d+)\)", (LANGUAGES / "python/vbson.py").read_text())[1])
+    python = int(re.search(r"buffer, size = ctypes.create_string_buffer\((\d+)\)", (PACKAGE / "scalars.py").read_text())[1])
     for name, (_, _, contract) in exports().items():
         fits = re.search(r"ensures fits \{ (\d+) ≤ length buffer.old → result ≢ 8 \}", contract)
         if name.endswith("_print"):
@@ -211,6 +213,7 @@ def version_faults():
         "VBSON_VERSION_TEXT": f'#define VBSON_VERSION_TEXT "{words}"\n' in text,
         "vbson_version": f"ensures {{ result ≡ {number} }}" in (SOURCES / "version.rt").read_text(),
         "Cargo.toml": f'\nversion = "{words}"\n' in (LANGUAGES / "rust/Cargo.toml").read_text(),
+        "pyproject.toml": f'\nversion = "{words}"\n' in (LANGUAGES / "python/pyproject.toml").read_text(),
     }
     for name, is_right in places.items():
         yield f"the version of {name}", None if is_right else f"it is not that of ./bson, {words}"

@@ -1,0 +1,105 @@
+"""What the calls accept: inputs, modes, and options, which are the same keywords everywhere."""
+from typing import TypedDict, Union
+
+
+Bytes = Union[bytes, bytearray, memoryview]
+Given = Union[str, bytes, bytearray, memoryview]
+
+# What `convert` writes: the canonical form, the relaxed form, or a form for people to read.
+CANONICAL, RELAXED, SHOW = 0, 1, 2
+Mode = Union[int, str]
+_MODES = {"canonical": CANONICAL, "relaxed": RELAXED, "show": SHOW}
+DOUBLES, KEEP_ORDER, REJECT_DUPLICATE_KEYS, LEGACY = 1, 2, 4, 8
+_FLAGS = {"doubles": DOUBLES, "keep_order": KEEP_ORDER, "reject_duplicate_keys": REJECT_DUPLICATE_KEYS, "legacy": LEGACY}
+_DEFAULT = DOUBLES | KEEP_ORDER
+
+
+class Options(TypedDict, total=False):
+    """The options that each call accepts as keywords.
+
+    doubles                 accept and write finite doubles, such as 1.5 (True by default)
+    keep_order              keep the order of keys; False sorts them (True by default)
+    reject_duplicate_keys   reject input in which an object or a document has a duplicate key; without it the last value
+                            wins, at the position of the first (False by default)
+    legacy                  accept Extended JSON v1 too (False by default)
+
+    A call that only compares, hashes or checks has no order of keys to keep, and BSON bytes have their doubles and no v1:
+    the option changes nothing there. A call that can't do what an option asks for raises ValueError.
+    """
+
+    doubles: bool
+    keep_order: bool
+    reject_duplicate_keys: bool
+    legacy: bool
+
+
+# The options of the specification, which rejects finite doubles and sorts keys: convert(text, **SPECIFIED)
+SPECIFIED: Options = {"doubles": False, "keep_order": False}
+
+
+def flags_of(options, accepted, ignored=0):
+    """Returns the flags of the library for the options: those that the call accepts, without those that change nothing."""
+    flags = _DEFAULT
+    for name, value in options.items():
+        if name not in _FLAGS:
+            raise TypeError(f"no such option: {name!r}; the options are {', '.join(_FLAGS)}")
+        if type(value) is not bool:
+            raise TypeError(f"{name} is True or False, and not {type(value).__name__}")
+        flags = flags & ~_FLAGS[name] | _FLAGS[name] * value
+    wrong = next((name for name, flag in _FLAGS.items() if flags & flag & ~accepted & ~ignored), None)
+    if wrong is not None:
+        raise ValueError(f"this call has no option {wrong}; `explain`, `same` and `hash_of` check it")
+    return flags & accepted
+
+
+# The flags of the calls that write, and of those that only read.
+WRITING, READING = DOUBLES | KEEP_ORDER, DOUBLES | REJECT_DUPLICATE_KEYS | LEGACY
+
+
+def mode_of(mode):
+    """Returns the number of a mode, which is given by its number or its name."""
+    if type(mode) is int and 0 <= mode <= SHOW:
+        return mode
+    if isinstance(mode, str):
+        mode = _MODES.get(mode, -1)
+    if number(mode, "a mode is CANONICAL, RELAXED, SHOW or its name") not in _MODES.values():
+        raise ValueError("no such mode: it is CANONICAL, RELAXED, SHOW, or 'canonical', 'relaxed', 'show'")
+    return int(mode)
+
+
+def number(value, what):
+    """Returns an int, which is not a bool."""
+    if isinstance(value, bool) or not isinstance(value, int):
+        raise TypeError(f"{what}, and not {type(value).__name__}")
+    return value
+
+
+def lent(value, what):
+    """Returns the bytes of an object with a buffer."""
+    if type(value) is bytes:
+        return value
+    try:
+        return bytes(memoryview(value))
+    except TypeError:
+        raise TypeError(f"{what}, and not {type(value).__name__}") from None
+
+
+def text_bytes(text):
+    """Returns the UTF-8 of a str, or the bytes of an object with a buffer."""
+    if isinstance(text, str):
+        # (a lone surrogate is not UTF-8, and is rejected as any other bytes that are not)
+        return text.encode("utf-8", "surrogatepass")
+    return lent(text, "a text is str or bytes")
+
+
+def document_bytes(value):
+    """Returns the bytes of a document."""
+    return lent(value, "a document is bytes")
+
+
+def of_size(value, size, what):
+    """Returns bytes of one size."""
+    value = lent(value, f"{what} is {size} bytes")
+    if len(value) != size:
+        raise ValueError(f"{what} is {size} bytes, and not {len(value)}")
+    return value

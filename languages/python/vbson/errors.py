@@ -1,0 +1,224 @@
+"""The errors of the library, as data. Only this module reads the library's messages."""
+import re
+from typing import List, Optional, Union
+
+from . import _paths
+
+OK, INVALID_ARGUMENT, NOT_JSON, BAD_OBJECT_ID, NOT_EXTENDED_JSON = 0, 1, 2, 3, 4
+OUT_OF_MEMORY, INVALID_STRING, NOT_REPRESENTABLE, BUFFER_TOO_SMALL, DIFFERENT = 5, 6, 7, 8, 9
+NOT_A_DOCUMENT, ZERO_IN_KEY, ZERO_IN_REGEX, TOO_LONG = 10, 11, 12, 13
+
+
+class Error(ValueError):
+    """The library rejected its input. str() is the message.
+
+    code     the status of the C library, for example NOT_EXTENDED_JSON
+    reason   what is wrong: 'a number is no whole number of 64 bits; found 1.5'. Without a longer one it is the message
+    path     the keys and indexes that lead to the wrong value, for example ['orders', 3, 'price']. It is empty if the error
+             is that of the whole value, or if the input is not JSON. The library joins them by points; if several values
+             of the input have the same joined path, this is the path to the first of them
+    offset   the bytes of the input before the error, if the input is not JSON or not a document; otherwise None
+    line, column    the same for JSON: the line, and the byte in that line, both from 1. An error of a block of lines always
+             has the line. For other errors they are None
+    """
+
+    code: Optional[int] = None
+    reason: str
+    path: List[Union[str, int]]
+    line: Optional[int]
+    column: Optional[int]
+    offset: Optional[int]
+
+    def __init__(self, message: str = "", reason: str = "", path=(), *, code: Optional[int] = None,
+                 offset: Optional[int] = None):
+        super().__init__(message)
+        self.reason, self.path, self.offset, self.line, self.column = reason or message, [*path], offset, None, None
+        if code is not None:
+            self.code = code
+
+    @property
+    def message(self) -> str:
+        """The message of the class, and after it the path and the reason."""
+        return str(self)
+
+
+class NotJson(Error):
+    """The input is not UTF-8, is not one JSON text, or nests deeper than 127."""
+
+    code = NOT_JSON
+
+
+class BadObjectId(Error):
+    """The first error is an invalid object id."""
+
+    code = BAD_OBJECT_ID
+
+
+class NotExtendedJson(Error):
+    """The first error is any other: the JSON is not valid Extended JSON v2."""
+
+    code = NOT_EXTENDED_JSON
+
+
+class InvalidString(Error):
+    """The string does not have the format that the call parses."""
+
+    code = INVALID_STRING
+
+
+class NotRepresentable(Error):
+    """The value has no output of the requested format: a finite double, without `doubles`, or a date without a time zone."""
+
+    code = NOT_REPRESENTABLE
+
+
+class NotADocument(Error):
+    """The bytes are not a BSON document, or the value of the input is not a document."""
+
+    code = NOT_A_DOCUMENT
+
+
+class NotEncodable(Error):
+    """The document has no bytes: a key or a regular expression contains a 0 byte, or a part is too long."""
+
+
+class UnsupportedType(NotEncodable, TypeError):
+    """A value of Python is of a type that BSON has no type for, or a key is not a str."""
+
+    code = NOT_REPRESENTABLE
+
+
+class IntegerTooLarge(NotEncodable, OverflowError):
+    """An int has more than 64 bits."""
+
+    code = NOT_REPRESENTABLE
+
+
+class NoValue(Error):
+    """A value can't be represented in the requested types."""
+
+
+_ERRORS = {INVALID_ARGUMENT: (ValueError, "no such mode or flag"), NOT_JSON: (NotJson, "not JSON"),
+           BAD_OBJECT_ID: (BadObjectId, "bad object id"), NOT_EXTENDED_JSON: (NotExtendedJson, "not Extended JSON"),
+           OUT_OF_MEMORY: (MemoryError, "out of memory"), INVALID_STRING: (InvalidString, "no such text"),
+           NOT_REPRESENTABLE: (NotRepresentable, "no text"), NOT_A_DOCUMENT: (NotADocument, "no document"),
+           ZERO_IN_KEY: (NotEncodable, "a key has a 0 byte in it"),
+           ZERO_IN_REGEX: (NotEncodable, "a regular expression has a 0 byte in it"), TOO_LONG: (NotEncodable, "a part is too long for BSON")}
+# A byte order mark, which is skipped at the start of a block of lines.
+MARK = b"\xef\xbb\xbf"
+_OF_TEXTS = (NOT_JSON, BAD_OBJECT_ID, NOT_EXTENDED_JSON)
+_STATUSES = {words: status for status, (_, words) in _ERRORS.items()}
+
+
+def of_status(status):
+    """Returns the error of a status, which has its message alone."""
+    error, words = _ERRORS.get(status, (Error, f"status {status}"))
+    return error(words, code=status) if issubclass(error, Error) else error(words)
+
+
+def expect_ok(status):
+    """Raises the error of a status that is not OK."""
+    if status != OK:
+        raise of_status(status)
+
+
+# What follows the message of the class: a column or a path, and a reason. The reason of a bad object id may have any
+# characters, but its path ends in a wrapper's key, or in two points if it is cut off. No other reason has a bracket
+# before the value that it quotes.
+_ON_ID = r" \(((?:the character '|an object id has ).*)\)"
+_OF_ID = re.compile(r" at (.*?\$(?:oid|dbPointer))" + _ON_ID, re.S)
+_OF_LONG = re.compile(r" at (.*?\.\.)" + _ON_ID, re.S)
+_OF_SHAPE = re.compile(r"(?: at (.*?))? \(([^(]*?(?:; found .*)?)\)", re.S)
+_OF_JSON = re.compile(r" at column (\d+) \((.*)\)", re.S)
+_OF_BYTES = re.compile(r" at byte (\d+) \((.*)\)")
+_OF_LINE = re.compile(rf"bson_lines: line (\d+): ({'|'.join(_STATUSES)})(.*)", re.S)
+_OF_DOCUMENT = re.compile(r"document (\d+) at byte (\d+): (.*?)(?: at its byte (\d+))?")
+
+
+def is_of_text(status):
+    """Returns whether `explain` has more words for a text with this status."""
+    return status in _OF_TEXTS
+
+
+def of_text(status, words, text):
+    """Returns the error of a rejected text, from the words of `explain`, which are empty if memory ran out."""
+    kind = _ERRORS[status][1]
+    rest = words.removeprefix(kind)
+    found = _OF_JSON.fullmatch(rest) if status == NOT_JSON else None
+    if found:
+        error = NotJson(words, found[2], offset=int(found[1]) - 1)
+        error.line = text.count(b"\n", 0, error.offset) + 1
+        error.column = error.offset - text.rfind(b"\n", 0, error.offset)
+        return error
+    if status == BAD_OBJECT_ID:
+        found = _OF_ID.fullmatch(rest) or _OF_LONG.fullmatch(rest)
+    elif is_of_text(status):
+        found = _OF_SHAPE.fullmatch(rest)
+    path = _paths.in_text(text, found[1] or "") if found else ()
+    return _ERRORS[status][0](words or kind, found[2] if found else kind, path, code=status)
+
+
+def of_lines(diagnostics, block):
+    """Returns the number and the error of each rejected line of a block, from its diagnostic."""
+    # (the columns of the first line count from after a byte order mark)
+    refused, number, start = [], 1, len(MARK) if block.startswith(MARK) else 0
+    for diagnostic in diagnostics:
+        found = _OF_LINE.fullmatch(diagnostic)
+        while number < int(found[1]):
+            start, number = block.index(b"\n", start) + 1, number + 1
+        end = block.find(b"\n", start)
+        error = of_text(_STATUSES[found[2]], found[2] + found[3], block[start:end if end >= 0 else len(block)])
+        error.line = number
+        if error.offset is not None:
+            error.offset += start
+        refused.append((number, error))
+    return refused
+
+
+def of_bytes(words, document):
+    """Returns the error of bytes that are not a document, from the words of `explain_document`."""
+    found = _OF_BYTES.fullmatch(words.removeprefix("no document"))
+    if not found:
+        return NotADocument(words)
+    return NotADocument(words, found[2], _paths.at_offset(document, int(found[1])), offset=int(found[1]))
+
+
+def of_double(document, hidden=0):
+    """Returns the error of a document with a finite double, which has no text without `doubles`. Its path lacks the first keys,
+    which are hidden."""
+    path, reason = (_paths.of_finite_double(document) or [])[hidden:], "a finite double"
+    return NotRepresentable(f"no text{f' at {_paths.joined(path)}' if path else ''} ({reason})", reason, path)
+
+
+def of_documents(diagnostics, block):
+    """Returns the number, the offset and the error of each rejected document of a block, from its diagnostic."""
+    refused = []
+    for diagnostic in diagnostics:
+        number, start, reason, offset = _OF_DOCUMENT.fullmatch(diagnostic).groups()
+        length = int.from_bytes(block[int(start):int(start) + 4], "little")
+        document = block[int(start):int(start) + length]
+        error = of_double(document) if offset is None else of_bytes(f"no document at byte {offset} ({reason})", document)
+        refused.append((int(number), int(start), error))
+    return refused
+
+
+def placed(error, path, kind="not BSON"):
+    """Returns an error of a value of Python, with the path to the value."""
+    error.path = [*path]
+    error.args = (f"{kind}{f' at {_paths.joined(path)}' if path else ''} ({error.reason})",)
+    return error
+
+
+def of_value(error, number):
+    """Returns the error of the value of this number, from 0, among several."""
+    error.path.insert(0, number)
+    error.args = (f"document {number + 1}: {error}",)
+    return error
+
+
+def in_dump(error, number, start):
+    """Returns the error of the document of this number, from 0, as one of the dump in which it begins at an offset."""
+    at_byte = "" if error.offset is None else f" at its byte {error.offset}"
+    found = type(error)(f"document {number + 1} at byte {start}: {error.reason}{at_byte}", error.reason, [number, *error.path],
+                        code=error.code, offset=start + (error.offset or 0))
+    return found

@@ -1,0 +1,149 @@
+"""The errors of the package vbson: messages, paths, places and the options of its calls. The last line is 'N passed, M failed'."""
+import pickle
+import struct
+
+import vbson
+from python_check import end, fields, raises, refusal, want
+from vbson import _calls, _paths
+
+STRICT = {"doubles": False}
+
+
+def try_places():
+    number = "a number is no whole number of 64 bits; found 1.5"
+    date = "`$date` holds `$numberLong`, an RFC 3339 text or a whole number"
+    digits = 'an object id has 24 digits, but "53e3" has 4'
+    no_digit = "the character '%s' at %d in \"%s\" is no hexadecimal digit"
+    blank, letter = no_digit % (" ", 1, "5 (xy)"), no_digit % ("z", 0, "zz (a)")
+    early, quotes = "the text ends before its value is whole", "a key or a text stands in double quotes"
+    both = vbson.NotExtendedJson, vbson.BadObjectId
+    # (of a path and of a message 300 characters are told)
+    long, cut = "a" * 1000, "a" * 300 + ".."
+    for text, words, path, why, error in (
+            ("[1, 2", f"not JSON at column 5 ({early})", [], early, vbson.NotJson),
+            ("{'a':1}", f"not JSON at column 2 ({quotes})", [], quotes, vbson.NotJson),
+            ("", f"not JSON at column 1 ({early})", [], early, vbson.NotJson),
+            ("[1e400]", "not JSON at column 2 (a number is out of range)", [], "a number is out of range", vbson.NotJson),
+            ('{"a (":[{"b)":1.5}]}', f"not Extended JSON at a (.0.b) ({number})", ["a (", 0, "b)"], number, both[0]),
+            ("1.5", f"not Extended JSON ({number})", [], number, both[0]),
+            ('{"a (":{"$date":" (a)"}}', f'not Extended JSON at a (.$date ({date}; found " (a)")', ["a (", "$date"], f'{date}; found " (a)"', both[0]),
+            ('{"":1.5}', f"not Extended JSON ({number})", [], number, both[0]),
+            ('{"\u00e9":1.5}', f"not Extended JSON at \u00e9 ({number})", ["\u00e9"], number, both[0]),
+            ('{"a":{"$oid":"53e3"}}', f"bad object id at a.$oid ({digits})", ["a", "$oid"], digits, both[1]),
+            ('{"$oid":"5 (xy)"}', f"bad object id at $oid ({blank})", ["$oid"], blank, both[1]),
+            ('[{"$dbPointer":{"$ref":"a","$id":{"$oid":"zz (a)"}}}]', f"bad object id at 0.$dbPointer ({letter})",
+             [0, "$dbPointer"], letter, both[1]),
+            ('{"a\\u0007\\u2028":1.5}', f"not Extended JSON at a\\u0007\\u2028 ({number})", ["a\a\u2028"], number, both[0]),
+            ('{"%s":{"$oid":"zz (a)"}}' % long, f"bad object id at {cut} ({letter})", [*cut.split(".")], letter, both[1]),
+            ('{"$oid":"%s"}' % long, f"bad object id at $oid ({digits[:33]}{cut[:267]}..)", ["$oid"], f"{digits[:33]}{cut[:267]}..", both[1])):
+        wanted = words, path, why, error
+        want(f"{text} explained", vbson.explain(text, **STRICT), words)
+        want(f"{text} converted", refusal(vbson.convert, text, **STRICT), wanted)
+        want(f"{text} beside another", refusal(vbson.same, text, "!", **STRICT), wanted)
+        want(f"{text} behind another", refusal(vbson.same, "1", text, **STRICT), wanted)
+        want(f"the hash of {text}", refusal(vbson.hash_of, text, **STRICT), wanted)
+    want("nothing to explain", (vbson.explain("{}"), vbson.explain("1.5")), ("", ""))
+    want("the path with doubles", refusal(vbson.convert, '[1.5,{"$numberInt":""}]')[1], [1, "$numberInt"])
+    want("no path", refusal(vbson.object_id, "53e3"), ("no such text", [], "no such text", vbson.InvalidString))
+    try:
+        vbson.convert("[1.5]", doubles=False)
+    except vbson.Error as it:
+        copied = pickle.loads(pickle.dumps(it))
+        want("an error that was pickled", (str(copied), copied.path, copied.reason, copied.code), (str(it), [0], number, vbson.NOT_EXTENDED_JSON))
+        want("the class of an error that was pickled", type(copied), vbson.NotExtendedJson)
+
+
+def try_reads():
+    """A text that is accepted is read once, and one that is refused twice. (Calls by _vbson are not seen here.)"""
+    if _calls.extension is not None:
+        return
+    calls = []
+
+    class Counted:
+        def __getattr__(self, name):
+            calls.append(name)
+            return getattr(library, name)
+
+    library, _calls.library = _calls.library, Counted()
+    try:
+        vbson.convert("[1]")
+        want("reads of what is accepted", len(calls), 1)
+        refusal(vbson.convert, "[1")
+        want("reads of what is refused", len(calls), 3)
+    finally:
+        _calls.library = library
+
+
+def try_texts():
+    """An error of JSON has the line and the column, and one of Extended JSON the path as the input has it."""
+    json, extended = (vbson.NotJson, vbson.NOT_JSON), (vbson.NotExtendedJson, vbson.NOT_EXTENDED_JSON)
+    for text, wanted in (("[1, 2", (*json, [], 1, 5, 4)), ('{"a": [1,\n 2}', (*json, [], 2, 3, 12)), ('["\u00e9", x]', (*json, [], 1, 8, 7)),
+                         ("[\n[\n\u00e9]]", (*json, [], 3, 1, 4)), ('{"a.b":{"0":[{"c":1.5}]}}', (*extended, ["a.b", "0", 0, "c"], None, None, None)),
+                         ('{"a":{"b":1},"a.b":1.5}', (*extended, ["a", "b"], None, None, None)), ('[[],[],{"":[1.5]}]', (*extended, [2, "", 0], None, None, None)),
+                         ('{"a":1,"b":{"$oid":"5"}}', (vbson.BadObjectId, vbson.BAD_OBJECT_ID, ["b", "$oid"], None, None, None))):
+        want(f"{text} and its fields", fields(vbson.convert, text, **STRICT), wanted)
+    block = b'\xef\xbb\xbf[1]\n\n{"a":\n{"a.b":[1,1.5]}\n[1'
+    wanted = [(3, False, [], 3), (4, False, ["a.b", 1], 4), (5, False, [], 5)]
+    found = [(number, False, it.path, it.line) for number, it in vbson.convert_lines(block, **STRICT)[1]]
+    want("errors of lines", found, wanted)
+    marked = vbson.convert_lines(b'\xef\xbb\xbf[x]\n{"a":x}')[1]
+    want("places after a byte order mark", [(it.line, it.column, it.offset) for _, it in marked], [(1, 2, 4), (2, 6, 12)])
+    places = [(it.offset, it.column) for _, it in vbson.encode_lines(block, **STRICT)[1] if it.code == vbson.NOT_JSON]
+    want("offsets in a block", [at - block.rfind(b"\n", 0, at) for at, _ in places], [column for _, column in places])
+
+
+def try_documents():
+    """An error of bytes has the offset, and the path to the value that has no text or is cut off."""
+    document = vbson.encode('{"x":[1,{"d":{"$code":"f","$scope":{"p":1.5}}}],"s":"abc"}')
+    double = vbson.NotRepresentable, vbson.NOT_REPRESENTABLE, ["x", 1, "d", "$scope", "p"], None, None, None
+    want("a double", fields(vbson.decode, document, **STRICT), double)
+    want("a double's message", refusal(vbson.decode, document, **STRICT)[::2], ("no text at x.1.d.$scope.p (a finite double)", "a finite double"))
+    damaged = document.replace(struct.pack("<d", 1.5), b"\0" * 8).replace(b"abc", b"a\xff\xff")
+    found = fields(vbson.decode, damaged)
+    want("damaged bytes", found[:3], (vbson.NotADocument, vbson.NOT_A_DOCUMENT, ["s"]))
+    want("their offset", damaged[found[5]:found[5] + 2] in (b"\xff\xff", b"a\xff", b"\4\0"), True)
+    for length in range(5, len(document)):
+        given = length.to_bytes(4, "little") + document[4:length]
+        path = fields(vbson.decode, given)[2]
+        want(f"the path in {length} bytes", (path or ["x"])[0] in ("x", "s"), True)
+    number, start, error = vbson.decode_documents(vbson.encode("{}") + document, "relaxed", **STRICT)[1][0]
+    want("a double among documents", (number, start, error.path), (2, 5, double[2]))
+    for name, path, offset in (("x", ["x"], 6), ("1", ["x", 1], 20), ("d", ["x", 1, "d"], 28), ("s", ["s"], len(document) - 4), ("the end", [], len(document))):
+        want(f"the path to {name}", _paths.at_offset(document, offset), path)
+
+
+def try_options():
+    """Each call accepts the same options, and says what it can't do."""
+    document = vbson.encode("{}")
+    calls = [(it, "{}") for it in (vbson.convert, vbson.explain, vbson.hash_of, vbson.encode, vbson.loads, vbson.convert_lines, vbson.encode_lines,
+                                   vbson.loads_lines, lambda given, **options: vbson.same(given, given, **options))]
+    calls += [(it, document) for it in (vbson.decode, vbson.decode_documents, vbson.is_document, vbson.explain_document, vbson.hash_of_document, vbson.loads_documents)]
+    for call, given in calls:
+        want(f"{call.__name__} with its defaults", call(given, doubles=True, keep_order=True, reject_duplicate_keys=False, legacy=False), call(given))
+        raises(f"{call.__name__} with another option", TypeError, call, given, sorted=True)
+        for name in vbson.Options.__annotations__:
+            raises(f"{call.__name__} with {name} that is no bool", TypeError, call, given, **{name: 1})
+    for call in (vbson.convert, vbson.encode, vbson.loads, vbson.convert_lines):
+        raises(f"{call.__name__} of v1", ValueError, call, "{}", legacy=True)
+    for call in (vbson.convert_lines, vbson.encode_lines, vbson.loads_lines):
+        raises(f"{call.__name__} without duplicate keys", ValueError, call, "{}", reject_duplicate_keys=True)
+    for call in (vbson.convert, vbson.encode, vbson.loads, vbson.hash_of):
+        found = fields(call, '{"a":[{"b":1,"b":2}]}', reject_duplicate_keys=True)
+        want(f"{call.__name__} with a duplicate key", found[:3], (vbson.NotExtendedJson, vbson.NOT_EXTENDED_JSON, ["a", 0, "b"]))
+        want(f"{call.__name__} without one", call('{"a":[{"b":1}]}', reject_duplicate_keys=True), call('{"a":[{"b":1}]}'))
+    doubled = b"\x13\0\0\0\x10b\0\5\0\0\0\x10b\0\6\0\0\0\0"
+    for call in (vbson.decode, vbson.hash_of_document):
+        want(f"{call.__name__} with a duplicate key", refusal(call, doubled, reject_duplicate_keys=True)[::2], ("no document (a duplicate key)", "a duplicate key"))
+    strict = {"reject_duplicate_keys": True}
+    want("is_document with a duplicate key", (vbson.is_document(doubled), vbson.is_document(doubled, **strict)), (True, False))
+    want("a duplicate key explained", (vbson.explain_document(doubled), vbson.explain_document(doubled, **strict)), ("", "no document (a duplicate key)"))
+    want("no duplicate key explained", vbson.explain_document(document, **strict), "")
+    want("the specification's options", vbson.convert('{"b":1,"a":2}', "relaxed", **vbson.SPECIFIED), '{"a":2,"b":1}')
+
+
+try_places()
+try_reads()
+try_texts()
+try_documents()
+try_options()
+end()
