@@ -58,14 +58,17 @@ def try_change(given):
 def try_duplicates(given):
     lines = [json_util.dumps(it, json_options=CANONICAL) for it in given]
     for number in range(7, 500, 70):
-        lines.append(json_util.dumps(dict(reversed(given[number].items())), json_options=json_util.RELAXED_JSON_OPTIONS))
+        # (in the relaxed form the 64-bit int is a 32-bit one, which is another value)
+        for form in (CANONICAL, json_util.RELAXED_JSON_OPTIONS):
+            lines.append(json_util.dumps(dict(reversed(given[number].items())), json_options=form))
     path = written("orders.jsonl", "".join(f"{it}\n" for it in lines).encode())
-    values, wanted = [json_util.loads(it, json_options=CANONICAL) for it in lines], ""
-    # (a 64-bit int of the relaxed form is read as a 32-bit one, so those lines have another value, except without ints)
-    for number, it in enumerate(values):
-        first = next((at for at in range(number) if values[at] == it and lines[at].count("$numberLong") == lines[number].count("$numberLong")), None)
-        if first is not None:
-            wanted += f"line {number + 1} has the value of line {first + 1}\n"
+    seen, wanted = {}, ""
+    for number, it in enumerate(lines, 1):
+        key = json_util.dumps(json_util.loads(it, json_options=CANONICAL), json_options=CANONICAL, sort_keys=True)
+        first = seen.setdefault(key, number)
+        if first < number:
+            wanted += f"line {number} has the value of line {first}\n"
+    want("the number of duplicates", wanted.count("\n"), 8)
     want("duplicates", run("duplicates", path), (0, wanted, ""))
 
 

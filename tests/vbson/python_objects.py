@@ -6,6 +6,7 @@ import datetime
 import decimal
 import doctest
 import enum
+import functools
 import importlib
 import io
 import json
@@ -22,6 +23,7 @@ VALUES = [{"n": 1, "a": [{"b": 1.5}]}, {"r": "x", "s": "abc"}]
 DOUBLED = b"\x13\0\0\0\x10b\0\5\0\0\0\x10b\0\6\0\0\0\0"
 
 
+@functools.lru_cache(None)
 def has(name):
     try:
         return importlib.import_module(name)
