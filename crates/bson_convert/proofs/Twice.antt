@@ -1,20 +1,19 @@
 -- What is written in a form is read as a tree that is written so.
-use Rattle.std.proofs.Common.{◌≡◌, ◌≤◌, ◌++◌, ℕ, List, Vec, Global, IfOk, true, Some, Result, Ok, Err, refl, sym, ap, ◌∙◌, subst}
+use Rattle.std.proofs.Common.{◌≡◌, ◌++◌, ℕ, List, Vec, Global, IfOk, true, Result, Ok, Err, refl, sym, ap, ◌∙◌, subst}
 use Rattle.std.specs.Prelude.{is_ok, IsUtf8}
-use Rattle.serde_json.specs.Data.{Data, depth}
-use Rattle.serde_json.specs.Read.{max_depth, read}
+use Rattle.serde_json.specs.Data.{Data}
+use Rattle.serde_json.specs.Read.{read}
 use Rattle.bson_scalar.specs.TreeText.{HasNoFloatIn}
 use Rattle.bson_scalar.specs.Written.{Refusal}
 use Rattle.bson_scalar.specs.declared.form.Form.{Form}
 use Rattle.bson_scalar.specs.declared.form.Form.TheVariants as form
 use Rattle.bson_model.specs.Laws.{HasMeaningIn, IsTreeOfIn}
-use Rattle.bson_model.specs.Means.{MeansIn}
 use Rattle.bson_model.specs.Normal.{normal_form, InRange, writable_in}
 use Rattle.bson_model.specs.Texts.{HasTextIn, IsTree}
 use Rattle.bson_model.specs.Value.{Value}
 use Rattle.bson_model.specs.Writing.{writes_in}
 use Rattle.bson_model.specs.Written.{WrittenIn}
-use Rattle.bson_model.proofs.Offered.{canon_from_in, has_text_in, in_range_in, means_to_in, read_tree, tree_is_in}
+use Rattle.bson_model.proofs.Offered.{has_text_in, in_range_in, means_to_in, read_tree, tree_is_in}
 use Rattle.bson_model.proofs.Offered.{value_read_in, writable_is_in}
 use Rattle.bson.specs.TextMeaning.{IsTextOf}
 use Rattle.bson.specs.declared.extjson.options.Options.{Options}

@@ -1,6 +1,6 @@
 -- What is written in the order of keys is read as a value that is written so.
-use Rattle.std.proofs.Common.{◌≡◌, ◌≤◌, ◌++◌, ℕ, List, true, Some, Vec, Global, Result, Ok, Err, IfOk, option_and_then, refl, sym, ap, ◌∙◌, subst}
-use Rattle.std.specs.Prelude.{is_ok, IsUtf8}
+use Rattle.std.proofs.Common.{◌≡◌, ◌≤◌, ◌++◌, ℕ, List, Some, Vec, Global, Result, Ok, Err, IfOk, option_and_then, refl, sym, ap, ◌∙◌}
+use Rattle.std.specs.Prelude.{IsUtf8}
 use Rattle.json.specs.Json as json
 use Rattle.serde_json.specs.Data.{Data, depth}
 use Rattle.serde_json.specs.Read.{max_depth}
@@ -10,12 +10,9 @@ use Rattle.bson_scalar.specs.Written.{writes_scalar_in}
 use Rattle.bson_scalar.specs.declared.form.Form.{Form}
 use Rattle.bson_scalar.specs.declared.form.Form.TheVariants as form
 use Rattle.bson_scalar.proofs.Offered as scalars
-use Rattle.bson_model.specs.Laws.{IsTreeOfIn}
-use Rattle.bson_model.specs.Normal.{InRange, as_read, map_scalars, map_scalars_of_items, map_scalars_of_pairs, normal_form}
-use Rattle.bson_model.specs.Normal.{writable_in}
+use Rattle.bson_model.specs.Normal.{as_read, map_scalars, map_scalars_of_items, map_scalars_of_pairs, normal_form}
 use Rattle.bson_model.specs.Value.{Value, scalar, code_scope, array, document, Values, no_values, value, Pairs, no_pairs, pair}
-use Rattle.bson_model.specs.Writing.{writes_in}
-use Rattle.bson_model.proofs.Offered.{as_read_each, tree_is_in, writable_is_in}
+use Rattle.bson_model.proofs.Offered.{as_read_each}
 use Rattle.bson_order.specs.Kept.{kept, read_kept, unordered}
 use Rattle.bson_order.specs.Texts.{HasMeaningInOrder, IsOrderedTextOf}
 use Rattle.bson_order.specs.Writing.{writes_in_order, values_in_order, pairs_in_order}
