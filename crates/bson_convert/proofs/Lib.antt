@@ -1,5 +1,8 @@
 mod Again
 mod Arranged
 mod Converting
+mod Deep
+mod Newline
 pub mod Offered
 mod Rows
+mod Twice

@@ -61,6 +61,20 @@ pub record ConvertsIn (o : Options) (mode : Mode) (bytes output : List ℕ) : Ty
   pub meaning : HasMeaningIn o.doubles tree value
   pub is_output : IsOutputIn o mode value output
 
+-- a line of a tree in a form; where the tree nests no deeper than a text may the line is converted to itself, and else
+-- it is no text
+pub record ConvertsToItself (o : Options) (f : Form) (mode : Mode) (output : List ℕ) : Type 0 where
+  pub tree : Data
+  pub text : output ≡ tree_text o.doubles f tree ++ newline
+  pub again : depth tree ≤ max_depth → ConvertsIn o mode output output
+  pub only : (other : Data) → IsTextOf output other → depth tree ≤ max_depth
+
+-- an output in a form is that
+abbrev pub IsKeptIn : Options → Mode → List ℕ → Type 0
+IsKeptIn o Canonical output = ConvertsToItself o form.Canonical Canonical output
+IsKeptIn o Relaxed output = ConvertsToItself o form.Relaxed Relaxed output
+IsKeptIn o Show output = Unit {0}
+
 -- what each fault says of the bytes
 abbrev pub IsRefusedIn : Options → Error → List ℕ → Type 0
 IsRefusedIn o NotJson bytes = IsNoText bytes
@@ -80,6 +94,9 @@ IsOutput = IsOutputIn default_options
 
 abbrev pub Converts : Mode → List ℕ → List ℕ → Type 0
 Converts = ConvertsIn default_options
+
+abbrev pub IsKept : Mode → List ℕ → Type 0
+IsKept = IsKeptIn default_options
 
 abbrev pub IsRefused : Error → List ℕ → Type 0
 IsRefused = IsRefusedIn default_options

@@ -1,5 +1,5 @@
 -- What a run does to the bytes that a reader has left and to those that a writer holds, where these are known.
-use Rattle.std.specs.Prelude.{◌≡◌, ℕ, ◌<◌, List, length, Option, Some}
+use Rattle.std.specs.Prelude.{◌≡◌, ℕ, ◌<◌, List, length, Option, Some, IsUtf8}
 use Rattle.std.specs.Io.{StartsWith}
 use Rattle.std.specs.Io.KnownBytes.{Keeps, Appends, Consumes, IsAtEnd}
 use Rattle.bson.specs.declared.extjson.options.Options.{Options}
@@ -33,6 +33,7 @@ pub record AcceptsIn (o : Options) (mode : Mode) (before after : Option (List �
   pub bytes : List ℕ
   pub all : ReadsAll before after bytes
   pub converts : ConvertsIn o mode bytes output
+  pub utf8 : IsUtf8 output
 
 -- the input was accepted, and the output written
 pub record DoneIn (o : Options) (mode : Mode) (before after had holds : Option (List ℕ)) : Type 0 where

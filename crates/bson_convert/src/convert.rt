@@ -6,7 +6,7 @@ ghost use Rattle.bson_model.specs.Displayed.{display_text};
 ghost use Rattle.bson_model.specs.Value as model;
 ghost use Rattle.bson_model.specs.Laws.{IsReadFormIn};
 ghost use Rattle.bson.specs.View.{bson_view};
-ghost use Rattle.bson_convert.specs.Convert.{Converts, ConvertsIn, IsRefused, IsRefusedIn};
+ghost use Rattle.bson_convert.specs.Convert.{Converts, ConvertsIn, IsKept, IsKeptIn, IsRefused, IsRefusedIn};
 ghost use Rattle.bson.specs.declared.extjson.options.Options.{Options};
 ghost use Rattle.bson_convert.specs.Convert.{default_options, IsConvertedText, IsTextFor, IsTried, IsUtf8Tried, newline};
 ghost use Rattle.bson.specs.TextMeaning.{IsTextOf, HasTextMeaningIn, IsTextFaultIn};
@@ -28,6 +28,9 @@ use std::alloc::Global;
 /// the first fault of its tree where that has no meaning. `CannotRead` and `CannotWrite` are never
 /// answered.
 ///
+/// The output is UTF-8. In a form it is accepted again, and its own output is the same bytes, unless
+/// it nests deeper than 127. An output can nest deeper than its input.
+///
 /// ```
 /// if let Ok(line) = convert(alloc, Mode::Relaxed, br#"{"$numberLong": "5"}"#) {
 ///     rt.print(str::from_utf8(&line)?)?; // 5
@@ -36,6 +39,7 @@ use std::alloc::Global;
 pub fn convert(alloc: Global, mode: Mode, bytes: &[u8]) -> Result<Vec<u8>, Error>
     ensures ok { IfOk result (λ output. Converts mode bytes.now output.items) }
     ensures utf8 { IfOk result (λ output. IsUtf8 output.items) }
+    ensures again { IfOk result (λ output. IsKept mode output.items) }
     ensures one { IfOk result (λ output. (other : List ℕ) → Converts mode bytes.now other → other ≡ output.items) }
     ensures accepts { (tree : Data) (value : model.Value) → IsTextOf bytes.now tree → Means tree value
         → IfErr result (λ fault. fault ≡ Error.OutOfMemory) }
@@ -60,6 +64,7 @@ pub fn convert_with(
 ) -> Result<Vec<u8>, Error>
     ensures ok { IfOk result (λ output. ConvertsIn options mode bytes.now output.items) }
     ensures utf8 { IfOk result (λ output. IsUtf8 output.items) }
+    ensures again { IfOk result (λ output. IsKeptIn options mode output.items) }
     ensures one { IfOk result (λ output. (other : List ℕ) → ConvertsIn options mode bytes.now other
         → other ≡ output.items) }
     ensures accepts { (tree : Data) (value : model.Value) → IsTextOf bytes.now tree
@@ -80,6 +85,7 @@ pub fn convert_whole(
 ) -> Result<Vec<u8>, Error>
     ensures ok { IfOk result (λ output. ConvertsIn options mode bytes.items output.items) }
     ensures utf8 { IfOk result (λ output. IsUtf8 output.items) }
+    ensures again { IfOk result (λ output. IsKeptIn options mode output.items) }
     ensures accepts { (tree : Data) (value : model.Value) → IsTextOf bytes.items tree
         → MeansIn options.doubles tree value → IfErr result (λ fault. fault ≡ Error.OutOfMemory) }
     ensures fault { IfErr result (λ fault. IsRefusedIn options fault bytes.items) }

@@ -1,11 +1,12 @@
 -- What a run over one text does: all bytes of the input, behind a mark, are the text.
-use Rattle.std.specs.Prelude.{◌≡◌, ◌⊎◌, ℕ, List, [], Option, None, Some, drop, length, nat_eq, if◌then◌else◌, string_bytes}
+use Rattle.std.specs.Prelude.{◌≡◌, ◌⊎◌, ℕ, List, [], Option, None, Some, IsUtf8, drop, length, nat_eq, if◌then◌else◌, string_bytes}
 use Rattle.std.specs.List.{starts_with}
 use Rattle.std.specs.Io.KnownBytes.{Appends, Keeps}
 use Rattle.bson.specs.declared.extjson.options.Options.{Options}
 use Rattle.bson_convert.specs.Convert.{ConvertsIn, IsRefusedIn}
 use Rattle.bson_run.specs.Encode.{EncodesIn, EncodesInOrder, IsUnencodedIn, IsUnencodedInOrder}
 use Rattle.bson_run.specs.InOrder.{ConvertsInOrder}
+use Rattle.bson_run.specs.Lines.{WritesText}
 use Rattle.bson_run.specs.Indent.{mode_of, ConvertsIndented, ConvertsInOrderIndented}
 use Rattle.bson_convert.specs.Run.{ReadsAll}
 use Rattle.bson_run.specs.Place.{IsWhere}
@@ -81,6 +82,7 @@ pub record WholeDone (order : Order) (mark : List ℕ) (before after had holds :
   pub output : List ℕ
   pub all : ReadsAll before after bytes
   pub gives : Gives order order.task (behind mark bytes) output
+  pub utf8 : WritesText order.task → IsUtf8 output
   pub written : Appends had holds output
 
 -- all was read, the text is refused, and nothing was written; this is where the fault lies, in words
@@ -98,6 +100,7 @@ pub record WholeUnwritten (order : Order) (mark : List ℕ) (before after : Opti
   pub output : List ℕ
   pub all : ReadsAll before after bytes
   pub gives : Gives order order.task (behind mark bytes) output
+  pub utf8 : WritesText order.task → IsUtf8 output
 
 -- what each fault of a text says of the bytes
 abbrev pub WholeFails : Order → Error → (place mark : List ℕ) → (before after had holds : Option (List ℕ)) → Type 0

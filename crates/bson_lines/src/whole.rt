@@ -1,8 +1,9 @@
 //! A run over one text, on any number of lines.
 ghost use Rattle.std.specs.Prelude.{◌≡◌, ◌≢◌, ◌⊎◌, IfOk, IfErr, IfSome, None, OnOk, string_bytes};
 ghost use Rattle.bson_convert.specs.Convert.{IsRefusedIn};
-ghost use Rattle.bson_run.specs.Accepted.{HasOutput};
+ghost use Rattle.bson_run.specs.Accepted.{HasOutput, IsUtf8Accepted};
 ghost use Rattle.bson_run.specs.Indent.{mode_of};
+ghost use Rattle.bson_run.specs.Lines.{WritesText};
 ghost use Rattle.bson_run.specs.Place.{IsStop, IsWhere};
 ghost use Rattle.bson_lines.specs.Whole.{behind, Checks, Gives, IsUngiven, Lays, LaysInOrder, WholeDone};
 ghost use Rattle.bson_lines.specs.Whole.{WholeStops, Works};
@@ -82,6 +83,7 @@ fn strip_mark<'a>(mark: &[u8], bytes: &'a [u8]) -> &'a [u8]
 // What the text gives.
 fn accept(alloc: Global, order: &Order, bytes: &[u8]) -> Result<Accepted, Error>
     ensures ok { IfOk result (HasOutput order.now.options (Gives order.now order.now.task bytes.now)) }
+    ensures utf8 { WritesText order.now.task → IfOk result IsUtf8Accepted }
     ensures fault { IfErr result (λ fault. IsUngiven order.now.options order.now.task fault bytes.now) }
 {
     match order.task {
@@ -108,6 +110,7 @@ fn accept_modern(
     modern: String,
 ) -> Result<Accepted, Error>
     ensures ok { IfOk result (HasOutput order.now.options (Works order.now work (string_bytes modern))) }
+    ensures utf8 { IfOk result IsUtf8Accepted }
     ensures fault { IfErr result (λ fault. IsRefusedIn order.now.options fault (string_bytes modern)) }
 {
     if modern.len() < LONG || order.indent.is_some() {
@@ -124,6 +127,7 @@ fn accept_modern(
 // What a text gives that was taken.
 fn accept_taken(alloc: Global, order: &Order, work: Work, bytes: &[u8]) -> Result<Accepted, Error>
     ensures ok { IfOk result (HasOutput order.now.options (Works order.now work bytes.now)) }
+    ensures utf8 { IfOk result IsUtf8Accepted }
     ensures fault { IfErr result (λ fault. IsRefusedIn order.now.options fault bytes.now) }
 {
     match work {
@@ -136,6 +140,7 @@ fn accept_taken(alloc: Global, order: &Order, work: Work, bytes: &[u8]) -> Resul
 // The output in the mode, over several lines where that is asked for.
 fn accept_text(alloc: Global, order: &Order, mode: Mode, bytes: &[u8]) -> Result<Accepted, Error>
     ensures ok { IfOk result (HasOutput order.now.options (Lays order.now.options order.now.indent mode bytes.now)) }
+    ensures utf8 { IfOk result IsUtf8Accepted }
     ensures fault { IfErr result (λ fault. IsRefusedIn order.now.options fault bytes.now) }
 {
     let options = order.options;
@@ -155,6 +160,7 @@ fn accept_in_order(
     bytes: &[u8],
 ) -> Result<Accepted, Error>
     ensures ok { IfOk result (HasOutput order.now.options (LaysInOrder order.now.options order.now.indent mode bytes.now)) }
+    ensures utf8 { IfOk result IsUtf8Accepted }
     ensures fault { IfErr result (λ fault. IsRefusedIn order.now.options fault bytes.now) }
 {
     let options = order.options;
@@ -169,6 +175,7 @@ fn accept_in_order(
 // Nothing, of a text that means a value.
 fn check(alloc: Global, order: &Order, bytes: &[u8]) -> Result<Accepted, Error>
     ensures ok { IfOk result (HasOutput order.now.options (Checks order.now.options bytes.now)) }
+    ensures utf8 { IfOk result IsUtf8Accepted }
     ensures fault { IfErr result (λ fault. IsRefusedIn order.now.options fault bytes.now) }
 {
     convert_with(alloc, order.options, Mode::Canonical, bytes)?;

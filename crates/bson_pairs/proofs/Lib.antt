@@ -1,3 +1,4 @@
 pub mod ComingBack
 pub mod Texts
+mod OnceMore
 pub mod Seen

@@ -1,5 +1,6 @@
-//! Whether two values have one text, told from the public contracts of `bson` alone, and BSON bytes
-//! and texts of each other: an example of callers whose contracts are proved.
+//! Whether two values have one text, told from the public contracts of `bson` alone, BSON bytes and
+//! texts of each other, and a text that is converted twice: an example of callers whose contracts
+//! are proved.
 #![tactic(auto)]
 
 ghost use Rattle.std.specs.Prelude.{◌≡◌, ◌↔◌, IfOk, Err, true};
@@ -11,6 +12,7 @@ ghost use Rattle.bson.specs.WriteError.{WriteError};
 
 pub mod again;
 pub mod bytes;
+pub mod twice;
 
 use bson::Bson;
 use bson::extjson::{Form, Options, WriteError};

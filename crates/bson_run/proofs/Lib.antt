@@ -14,3 +14,5 @@ mod Rows
 mod Rules
 mod RunsInside
 pub mod TakenLines
+mod TwiceInOrder
+mod TwiceIndented

@@ -5,7 +5,9 @@ use Rattle.std.proofs.Common.{add-one, take-append-drop, Result, Ok, Err, IfOk, 
 use Rattle.std.proofs.Math.Seq.{drop-cons}
 use Rattle.std.proofs.lemmas.List.{take_rest}
 use Rattle.std.proofs.lemmas.List.Elements.{All-append, All-head, All-tail}
-use Rattle.bson_run.specs.Lines.{lines, onto_first, text_held, text_of, Tells, IsBlank, IsBadLineIn, WritesIn, OutcomesIn}
+use Rattle.std.proofs.lemmas.Str.{IsUtf8-append}
+use Rattle.std.specs.Prelude.{IsUtf8}
+use Rattle.bson_run.specs.Lines.{lines, onto_first, text_held, text_of, Tells, IsBlank, IsBadLineIn, WritesIn, WritesText, GivesIn}
 use Rattle.bson_run.specs.Lines.{blank, written, passed_over, IsStoppedIn, IsStoppedAtIn}
 use Rattle.bson_run.specs.LinesSteps.{Options, IsOpen, IsJudged, IsTold, HaveSameOutcomes, TakesLine}
 use Rattle.bson_run.specs.LinesSteps.{Progress, Takes, Ends, Reached, Stopped, StopsWithin, StopsLast}
@@ -126,19 +128,26 @@ module _ {o : Options} {task : Task} {on_refusal : OnRefusal} where
     line = line;
     lines = number;
     outcomes =
-        λ before written verdicts e p. rw (output, told, refused)
-        (blank s.line.items p (subst (λ n. IsBlank (text_of n s.line.items)) e h));
+        λ before written verdicts e p. rw (output, told, refused) (record {
+          outcomes = blank s.line.items p.outcomes (subst (λ n. IsBlank (text_of n s.line.items)) e h);
+          utf8 = p.utf8;
+          told_utf8 = p.told_utf8;
+        });
   }
 
   pub written_taken : (s t : Gathered) (more : List ℕ) → t.line.items ≡ [] → t.lines ≡ s.lines + 1
       → t.output.items ≡ s.output.items ++ more → t.told.items ≡ s.told.items → t.refused ≡ s.refused
-      → WritesIn o task (text_of s.lines s.line.items) more → TakesLine o task on_refusal s t
-  written_taken s t more line number grown told refused h = record {
+      → WritesIn o task (text_of s.lines s.line.items) more → (WritesText task → IsUtf8 more)
+      → TakesLine o task on_refusal s t
+  written_taken s t more line number grown told refused h utf8 = record {
     line = line;
     lines = number;
     outcomes =
-        λ before output verdicts e p. rw (grown, told, refused, ← append_assoc output s.output.items more)
-        (written s.line.items more p (subst (λ n. WritesIn o task (text_of n s.line.items) more) e h));
+        λ before output verdicts e p. rw (grown, told, refused, ← append_assoc output s.output.items more) (record {
+          outcomes = written s.line.items more p.outcomes (subst (λ n. WritesIn o task (text_of n s.line.items) more) e h);
+          utf8 = λ w. IsUtf8-append (output ++ s.output.items) more (p.utf8 w) (utf8 w);
+          told_utf8 = p.told_utf8;
+        });
   }
 
   pub told_taken : (s t : Gathered) (fault : Error) → t.line.items ≡ [] → t.lines ≡ s.lines + 1
@@ -150,9 +159,13 @@ module _ {o : Options} {task : Task} {on_refusal : OnRefusal} where
     line = line;
     lines = number;
     outcomes = λ before written verdicts e p.
-        rw (output, told.2, refused, ← append_assoc verdicts s.told.items told.0)
-        (passed_over s.line.items fault told.0 p goes (subst (λ n. IsBadLineIn o task fault (text_of n s.line.items)) e h)
-        (subst (λ n. Tells (n + 1) fault (text_of n s.line.items) told.0) e (told.1 h)));
+        rw (output, told.2, refused, ← append_assoc verdicts s.told.items told.0) (record {
+          outcomes = passed_over s.line.items fault told.0 p.outcomes goes
+              (subst (λ n. IsBadLineIn o task fault (text_of n s.line.items)) e h)
+              (subst (λ n. Tells (n + 1) fault (text_of n s.line.items) told.0) e (told.1 h));
+          utf8 = p.utf8;
+          told_utf8 = IsUtf8-append (verdicts ++ s.told.items) told.0 p.told_utf8 told.3;
+        });
   }
 
   -- ---- taking bytes
@@ -258,7 +271,7 @@ module _ {o : Options} {task : Task} {on_refusal : OnRefusal} where
       record {
         counted = p.counted ∙ ap length (sym all);
         outcomes =
-            subst (λ l. OutcomesIn o task on_refusal l (output ++ s.output.items) (told ++ s.told.items) s.refused)
+            subst (λ l. GivesIn o task on_refusal l (output ++ s.output.items) (told ++ s.told.items) s.refused)
             (sym all) p.outcomes;
       }
 
@@ -271,7 +284,7 @@ module _ {o : Options} {task : Task} {on_refusal : OnRefusal} where
         counted = taken.lines ∙ ap (λ n. n + 1) p.counted ∙ sym (length-append p.done (s.line.items ∷ []))
             ∙ ap length (sym all);
         outcomes =
-            subst (λ l. OutcomesIn o task on_refusal l (output ++ t.output.items) (told ++ t.told.items) t.refused)
+            subst (λ l. GivesIn o task on_refusal l (output ++ t.output.items) (told ++ t.told.items) t.refused)
             (sym all) (taken.outcomes p.done output told p.counted p.outcomes);
       }
 

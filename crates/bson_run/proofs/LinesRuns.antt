@@ -3,6 +3,7 @@ use Rattle.std.proofs.Common.{◌≡◌, ◌<◌, ◌+◌, ℕ, List, [], ◌∷
 use Rattle.std.proofs.Common.{IfErr, OnOk, refl, ap, sym, subst, ◌∙◌, append-nil, inl, inr, length-append, arith}
 use Rattle.std.specs.Io.{StartsWith}
 use Rattle.std.specs.Io.KnownBytes.{Keeps, Appends, Consumes, IsAtEnd}
+use Rattle.std.proofs.lemmas.Str.{IsUtf8-nil}
 use Rattle.std.proofs.KnownBytes.{Appends-kept, Appends-nil, Appends-trans, Consumes-nil, Consumes-trans, Consumes-kept}
 use Rattle.bson_run.specs.Lines.{lines, left_of, none, text_held, text_of, DoneLinesIn, FailsAtIn, IsStoppedAtIn, StopsAtIn}
 use Rattle.bson_run.specs.Lines.{CutShortAtIn, CutsShort}
@@ -154,7 +155,8 @@ module _ {o : Options} {task : Task} {on_refusal : OnRefusal} where
       whole = λ more. ap (λ l. lines (l ++ more)) (sym p.line);
       unbroken = subst IsOpen (sym p.line) open_nil;
       counted = p.lines;
-      outcomes = rw (p.output, p.told, p.refused) none;
+      outcomes = rw (p.output, p.told, p.refused)
+          (record { outcomes = none; utf8 = λ w. IsUtf8-nil; told_utf8 = IsUtf8-nil });
     };
   }
 

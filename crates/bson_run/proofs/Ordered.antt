@@ -6,8 +6,10 @@ use Rattle.serde_json.specs.Data.{Data}
 use Rattle.bson_scalar.specs.Written.{Refusal}
 use Rattle.bson_scalar.specs.declared.form.Form.{Form}
 use Rattle.bson_model.specs.Laws.{IsTreeOfIn}
+use Rattle.bson_model.specs.Normal.{InRange, normal_form, writable_in}
 use Rattle.bson_model.specs.Value.{Value}
 use Rattle.bson_model.specs.Writing.{writes_in}
+use Rattle.bson_model.specs.Written.{WrittenIn}
 use Rattle.bson_model.proofs.Offered.{tree_is_in, writable_is_in}
 use Rattle.bson_order.specs.Kept.{unordered}
 use Rattle.bson_order.specs.Texts.{HasMeaningInOrder}
@@ -27,19 +29,24 @@ module _ (o : Options) where
   written_by_default (Ok u) h = (u, refl)
   written_by_default (Err e) h = cc
 
+  -- the tree of a value that was read is the one that is written
+  pub default_tree : (f : Form) (v : Value) (t : Data) → writable_in o.doubles v ≡ true → InRange v
+      → WrittenIn o.doubles f (normal_form v) t → IsTreeOfIn o.doubles f v t
+  default_tree f v t writable ranged w =
+      let D = o.doubles in
+      let it = written_by_default (writes_in D f v) (writable_is_in D f v ∙ writable) in
+      let is = tree_is_in D f v it.0 it.1 ranged in
+      subst (IsTreeOfIn D f v) (sym (is.one t w)) is
+
   pub text_in_order : (f : Form) (text written : List ℕ) (x : IsFilteredText o.doubles f text written)
       → IsTextInOrder o.doubles f x.value written
   text_in_order f text written x =
-      let D = o.doubles in
-      let v = x.value in
-      let it = written_by_default (writes_in D f v) (writable_is_in D f v ∙ x.meaning.read_form.1) in
-      let is = tree_is_in D f v it.0 it.1 x.meaning.ranged in
       record {
         tree = x.tree;
         written = x.is_tree.written;
         one = x.is_tree.one;
         ordered = λ plain. x.is_tree;
-        by_default = subst (IsTreeOfIn D f v) (sym (is.one (unordered x.tree) x.is_tree.by_default)) is;
+        by_default = default_tree f x.value (unordered x.tree) x.meaning.read_form.1 x.meaning.ranged x.is_tree.by_default;
         compact = x.compact;
       }
 

@@ -1,11 +1,13 @@
 -- What a run over known bytes gives is of their lines.
 use Rattle.std.proofs.Common.{◌≡◌, ℕ, List, [], ◌∷◌, ◌++◌, length, Option, None, Some, refl, ap, subst, sym, ◌∙◌, append-nil}
+use Rattle.std.specs.Prelude.{IsUtf8}
 use Rattle.std.specs.Io.KnownBytes.{Appends, Consumes, IsAtEnd}
 use Rattle.bson.specs.declared.extjson.options.Options.{Options}
 use Rattle.bson_convert.specs.declared.error.Error.{Error}
 use Rattle.bson_convert.specs.declared.error.Error.TheVariants.{CannotRead, NotJson, NotExtendedJson, NoBytes, OutOfMemory}
 use Rattle.bson_convert.specs.declared.error.Error.TheVariants.{CannotWrite}
-use Rattle.bson_run.specs.Lines.{lines, left_of, text_of, DoneLinesIn, FailsAtIn, IsBadLineIn, IsStoppedAtIn, OutcomesIn, StopsAtIn}
+use Rattle.bson_run.specs.Lines.{lines, left_of, text_of, DoneLinesIn, FailsAtIn, GivesIn, IsBadLineIn, IsStoppedAtIn, StopsAtIn}
+use Rattle.bson_run.specs.Lines.{WritesText}
 use Rattle.bson_run.specs.Outcomes.{IsOfText, StopsInside}
 use Rattle.bson_run.specs.declared.order.OnRefusal.{OnRefusal}
 use Rattle.bson_run.specs.declared.order.OnRefusal.TheVariants.{Stop}
@@ -23,7 +25,7 @@ module _ (o : Options) (task : Task) (on_refusal : OnRefusal) where
   pub done_inside : (all : List ℕ) (after had holds told tells : Option (List ℕ)) (number refused : ℕ)
       → DoneLinesIn o task on_refusal (Some all) after had holds told tells number refused
       → (number ≡ length (lines all)) × ((output : List ℕ) × (verdicts : List ℕ)
-      × OutcomesIn o task on_refusal (lines all) output verdicts refused × Appends had holds output
+      × GivesIn o task on_refusal (lines all) output verdicts refused × Appends had holds output
       × Appends told tells verdicts)
   done_inside all after had holds told tells number refused h =
       let same = all_given all h.bytes after h.all.given h.all.at_end in (
@@ -31,7 +33,7 @@ module _ (o : Options) (task : Task) (on_refusal : OnRefusal) where
         (
           h.output,
           h.verdicts,
-          subst (λ (l : List ℕ). OutcomesIn o task on_refusal (lines l) h.output h.verdicts refused) (sym same) h.outcomes,
+          subst (λ (l : List ℕ). GivesIn o task on_refusal (lines l) h.output h.verdicts refused) (sym same) h.outcomes,
           h.written,
           h.reported,
         ),
@@ -77,8 +79,8 @@ module _ (o : Options) (task : Task) (on_refusal : OnRefusal) where
 
   abbrev Inside : List ℕ → (had holds told tells : Option (List ℕ)) → Error → ℕ → Type 0
   Inside all had holds told tells fault number = (output : List ℕ) × (verdicts : List ℕ)
-      × StopsInside o task on_refusal (lines all) output verdicts fault number × Appends had holds output
-      × Appends told tells verdicts
+      × StopsInside o task on_refusal (lines all) output verdicts fault number
+      × (WritesText task → IsUtf8 output) × IsUtf8 verdicts × Appends had holds output × Appends told tells verdicts
 
   inside : (all : List ℕ) (after had holds told tells : Option (List ℕ)) (fault : Error) (number : ℕ) (held : List ℕ)
       → IsOfText fault
@@ -93,12 +95,12 @@ module _ (o : Options) (task : Task) (on_refusal : OnRefusal) where
         others = at.others;
         refused = h.reaches.refused;
         parts = ap lines whole ∙ h.reaches.whole ∙ ap (λ l. h.done ++ l) at.parts;
-        outcomes = h.reaches.outcomes;
+        outcomes = h.reaches.outcomes.outcomes;
         counted = h.counted;
         stops = at.stops;
         reason = at.reason;
       } in
-      (h.output, h.verdicts, stopped, h.written.0, h.written.1)
+      (h.output, h.verdicts, stopped, h.reaches.outcomes.utf8, h.reaches.outcomes.told_utf8, h.written.0, h.written.1)
 
   pub stops_inside : (all : List ℕ) (after had holds told tells : Option (List ℕ)) (fault : Error) (number : ℕ)
       (held : List ℕ) → FailsAtIn o fault task on_refusal (Some all) after had holds told tells number held

@@ -1,5 +1,5 @@
 -- What a text gives that was accepted.
-use Rattle.std.specs.Prelude.{◌≡◌, ℕ, List, string_bytes}
+use Rattle.std.specs.Prelude.{◌≡◌, ℕ, List, IsUtf8, string_bytes}
 use Rattle.bson.specs.declared.extjson.options.Options.{Options}
 use Rattle.bson_convert.specs.Convert.{ConvertsIn, IsAccepted}
 use Rattle.bson_run.specs.InOrder.{ConvertsInOrder}
@@ -17,6 +17,11 @@ abbrev pub IsSure : Options → Accepted → Type 0
 IsSure o (Output bytes) = Unit {0}
 IsSure o (Arranged mode text) = IsAccepted o (string_bytes text)
 IsSure o (ArrangedInOrder mode text) = IsAccepted o (string_bytes text)
+
+-- an output that it has is UTF-8; the texts are by their type
+abbrev pub IsUtf8Accepted : Accepted → Type 0
+IsUtf8Accepted (Output bytes) = IsUtf8 bytes.items
+IsUtf8Accepted other = Unit {0}
 
 -- it has an output, and each that it has is one of these
 pub record HasOutput (o : Options) (gives : List ℕ → Type 0) (accepted : Accepted) : Type 0 where

@@ -1,5 +1,8 @@
 -- What converting makes of bytes in the order of their keys.
-use Rattle.std.specs.Prelude.{◌≡◌, ℕ, List, ◌++◌, IsUtf8}
+use Rattle.std.specs.Prelude.{◌≡◌, ◌≤◌, ℕ, List, ◌++◌, IsUtf8}
+use Rattle.serde_json.specs.Data.{Data, depth}
+use Rattle.serde_json.specs.Read.{max_depth}
+use Rattle.bson_scalar.specs.TreeText.{tree_text}
 use Rattle.bson_scalar.specs.declared.form.Doubles.{Doubles}
 use Rattle.bson_scalar.specs.declared.form.Form.{Form}
 use Rattle.bson_scalar.specs.declared.form.Form.TheVariants as form
@@ -30,6 +33,18 @@ pub record ConvertsInOrder (o : Options) (mode : Mode) (bytes output : List ℕ)
   pub utf8 : IsUtf8 bytes
   pub meaning : HasMeaningInOrder o.doubles bytes value
   pub is_output : IsOutputInOrder o mode value output
+
+-- a line of a tree in a form; unless the tree nests deeper than a text may, the line is converted to itself
+pub record ConvertsToItselfInOrder (o : Options) (f : Form) (mode : Mode) (output : List ℕ) : Type 0 where
+  pub tree : Data
+  pub text : output ≡ tree_text o.doubles f tree ++ newline
+  pub again : depth tree ≤ max_depth → ConvertsInOrder o mode output output
+
+-- an output in a form is that
+abbrev pub IsKeptInOrder : Options → Mode → List ℕ → Type 0
+IsKeptInOrder o Canonical output = ConvertsToItselfInOrder o form.Canonical Canonical output
+IsKeptInOrder o Relaxed output = ConvertsToItselfInOrder o form.Relaxed Relaxed output
+IsKeptInOrder o Show output = Unit {0}
 
 -- ---- for private clauses
 

@@ -1,6 +1,6 @@
 -- A JSON text over several lines: each member and each element on a line of its own, further in by some spaces for each
 -- bracket that it stands in.
-use Rattle.std.specs.Prelude.{◌≡◌, ◌+◌, ◌-◌, ℕ, List, [], ◌∷◌, ◌++◌, Bool, false, if◌then◌else◌, replicate, Some}
+use Rattle.std.specs.Prelude.{◌≡◌, ◌≤◌, ◌+◌, ◌-◌, ℕ, List, [], ◌∷◌, ◌++◌, Bool, false, if◌then◌else◌, replicate, Some}
 use Rattle.json.specs.Json.{Json, value as json_value}
 use Rattle.json.specs.Layout.{Last, nothing, bracket, name, value, is_value, after}
 use Rattle.json.specs.Lex.{tokens}
@@ -8,6 +8,9 @@ use Rattle.json.specs.Print.{token_text, separator, begins}
 use Rattle.json.specs.Reads.{opens}
 use Rattle.json.specs.Spaced.{print_spaced}
 use Rattle.json.specs.Token.{Token}
+use Rattle.serde_json.specs.Data.{Data, depth}
+use Rattle.serde_json.specs.Read.{max_depth}
+use Rattle.bson_scalar.specs.TreeText.{tree_text}
 use Rattle.bson.specs.declared.extjson.options.Options.{Options}
 use Rattle.bson_scalar.specs.declared.form.Form.{Form}
 use Rattle.bson_scalar.specs.declared.form.Form.TheVariants as form
@@ -81,6 +84,18 @@ pub record ConvertsInOrderIndented (o : Options) (f : Form) (n : ℕ) (bytes out
   pub text : List ℕ
   pub converts : ConvertsInOrder o (mode_of f) bytes (text ++ newline)
   pub is_output : IsLaidOut n text output
+
+-- the layout of a tree's text; unless the tree nests deeper than a text may, the layout is converted to itself
+pub record IsKeptIndented (o : Options) (f : Form) (n : ℕ) (output : List ℕ) : Type 0 where
+  pub tree : Data
+  pub laid : IsLaidOut n (tree_text o.doubles f tree) output
+  pub again : depth tree ≤ max_depth → ConvertsIndented o f n output output
+
+-- the same in the order of the keys
+pub record IsKeptInOrderIndented (o : Options) (f : Form) (n : ℕ) (output : List ℕ) : Type 0 where
+  pub tree : Data
+  pub laid : IsLaidOut n (tree_text o.doubles f tree) output
+  pub again : depth tree ≤ max_depth → ConvertsInOrderIndented o f n output output
 
 -- ---- for private clauses
 

@@ -1,6 +1,6 @@
 -- What a run over lines does: each line of the input is a text of its own.
 use Rattle.std.specs.Prelude.{◌≡◌, ◌≢◌, ◌⊎◌, ◌+◌, ◌==◌, ◌&&◌, ℕ, List, [], ◌∷◌, ◌++◌, Option, None, Some, length, drop}
-use Rattle.std.specs.Prelude.{codes, All, if◌then◌else◌, min, ◌-◌, ◌^◌}
+use Rattle.std.specs.Prelude.{codes, All, IsUtf8, if◌then◌else◌, min, ◌-◌, ◌^◌}
 use Rattle.std.specs.Fmt.{decimal}
 use Rattle.std.specs.List.{starts_with}
 use Rattle.std.specs.Io.KnownBytes.{Appends, Consumes}
@@ -72,6 +72,12 @@ WritesIn o EncodeInOrder text output = EncodesInOrder o text output
 WritesIn o (Taken taking work) text output =
     (taken : List ℕ) × IsTakenAs taking text taken × WorksIn o work taken output
 
+-- the task writes texts, and no bytes of documents
+abbrev pub WritesText : Task → Type 0
+WritesText Encode = ⊥
+WritesText EncodeInOrder = ⊥
+WritesText task = Unit {0}
+
 -- the text has no meaning for the fault; one that is blank is not refused
 abbrev pub IsBadTextIn : Options → Error → List ℕ → Type 0
 IsBadTextIn o NotJson text = IsRefusedIn o NotJson text × (IsBlank text → ⊥)
@@ -129,6 +135,13 @@ pub data OutcomesIn (o : Options) (task : Task) (on_refusal : OnRefusal)
       → IsBadLineIn o task fault (text_of (length before) line) → Tells (length before + 1) fault (text_of (length before) line) more
       → OutcomesIn o task on_refusal (before ++ line ∷ []) output (told ++ more) (refused + 1)
 
+-- the same, and texts that are written are UTF-8, as is what is told
+pub record GivesIn (o : Options) (task : Task) (on_refusal : OnRefusal) (all : List (List ℕ)) (output told : List ℕ)
+    (refused : ℕ) : Type 0 where
+  pub outcomes : OutcomesIn o task on_refusal all output told refused
+  pub utf8 : WritesText task → IsUtf8 output
+  pub told_utf8 : IsUtf8 told
+
 -- ---- a run
 --
 -- Of a run, before and after are the bytes that the reader had left and has left, had and holds what the writer held
@@ -147,7 +160,7 @@ pub record DoneLinesIn (o : Options) (task : Task) (on_refusal : OnRefusal)
   pub verdicts : List ℕ
   pub all : ReadsAll before after bytes
   pub counted : number ≡ length (lines bytes)
-  pub outcomes : OutcomesIn o task on_refusal (lines bytes) output verdicts refused
+  pub outcomes : GivesIn o task on_refusal (lines bytes) output verdicts refused
   pub written : Appends had holds output
   pub reported : Appends told tells verdicts
 
@@ -158,7 +171,7 @@ pub record ReachesIn (o : Options) (task : Task) (on_refusal : OnRefusal) (befor
   pub refused : ℕ
   pub given : Consumes before after bytes
   pub whole : lines (bytes ++ left_of after) ≡ done ++ others
-  pub outcomes : OutcomesIn o task on_refusal done output verdicts refused
+  pub outcomes : GivesIn o task on_refusal done output verdicts refused
 
 -- the output and the verdicts were written and told
 abbrev pub WritesBoth : (had holds told tells : Option (List ℕ)) → (output verdicts : List ℕ) → Type 0

@@ -1,7 +1,7 @@
 -- For private clauses: how far a run over lines has come.
-use Rattle.std.specs.Prelude.{◌≡◌, ◌≢◌, ◌⊎◌, ◌<◌, ◌≤◌, ◌+◌, ◌-◌, ◌^◌, ℕ, List, [], ◌∷◌, ◌++◌, Option, length, All}
+use Rattle.std.specs.Prelude.{◌≡◌, ◌≢◌, ◌⊎◌, ◌<◌, ◌≤◌, ◌+◌, ◌-◌, ◌^◌, ℕ, List, [], ◌∷◌, ◌++◌, Option, length, All, IsUtf8}
 use Rattle.std.specs.Io.KnownBytes.{Appends, Consumes, Keeps}
-use Rattle.bson_run.specs.Lines.{lines, text_held, OutcomesIn, IsBadLineIn, IsStoppedAtIn, Tells}
+use Rattle.bson_run.specs.Lines.{lines, text_held, GivesIn, IsBadLineIn, IsStoppedAtIn, Tells}
 use Rattle.bson_convert.specs.Run.{WritesPart}
 -- the types that the steps speak of, for the proofs too
 pub use Rattle.bson.specs.declared.extjson.options.Options.{Options}
@@ -33,7 +33,7 @@ IsJudged o task fault text = IsBadLineIn o task fault text
 -- the verdict on a text was added to what was told
 abbrev pub IsTold : Options → Task → ℕ → Error → List ℕ → List ℕ → List ℕ → Type 0
 IsTold o task number fault text before after =
-    (more : List ℕ) × (IsBadLineIn o task fault text → Tells number fault text more) × (after ≡ before ++ more)
+    (more : List ℕ) × (IsBadLineIn o task fault text → Tells number fault text more) × (after ≡ before ++ more) × IsUtf8 more
 
 -- nothing was gathered
 pub record IsStart (s : Gathered) : Type 0 where
@@ -55,8 +55,8 @@ pub record TakesLine (o : Options) (task : Task) (on_refusal : OnRefusal) (s t :
   pub line : t.line.items ≡ []
   pub lines : t.lines ≡ s.lines + 1
   pub outcomes : (before : List (List ℕ)) (output told : List ℕ) → s.lines ≡ length before
-      → OutcomesIn o task on_refusal before (output ++ s.output.items) (told ++ s.told.items) s.refused
-      → OutcomesIn o task on_refusal (before ++ s.line.items ∷ []) (output ++ t.output.items) (told
+      → GivesIn o task on_refusal before (output ++ s.output.items) (told ++ s.told.items) s.refused
+      → GivesIn o task on_refusal (before ++ s.line.items ∷ []) (output ++ t.output.items) (told
       ++ t.told.items) t.refused
 
 -- the bytes are the lines that are done and what has come of the next; what was written and told is what the lines
@@ -67,7 +67,7 @@ pub record Progress (o : Options) (task : Task) (on_refusal : OnRefusal) (bytes 
   pub whole : (more : List ℕ) → lines (bytes ++ more) ≡ done ++ lines (s.line.items ++ more)
   pub unbroken : IsOpen s.line.items
   pub counted : s.lines ≡ length done
-  pub outcomes : OutcomesIn o task on_refusal done (output ++ s.output.items) (told ++ s.told.items) s.refused
+  pub outcomes : GivesIn o task on_refusal done (output ++ s.output.items) (told ++ s.told.items) s.refused
 
 -- the bytes came after any others
 abbrev pub Takes : Options → Task → OnRefusal → List ℕ → Gathered → Gathered → Type 0
@@ -78,7 +78,7 @@ Takes o task on_refusal bytes s t = (before output told : List ℕ) → Progress
 pub record Complete (o : Options) (task : Task) (on_refusal : OnRefusal) (bytes output told : List ℕ)
     (s : Gathered) : Type 0 where
   pub counted : s.lines ≡ length (lines bytes)
-  pub outcomes : OutcomesIn o task on_refusal (lines bytes) (output ++ s.output.items) (told ++ s.told.items) s.refused
+  pub outcomes : GivesIn o task on_refusal (lines bytes) (output ++ s.output.items) (told ++ s.told.items) s.refused
 
 abbrev pub Ends : Options → Task → OnRefusal → Gathered → Gathered → Type 0
 Ends o task on_refusal s t = (before output told : List ℕ) → Progress o task on_refusal before output told s
@@ -91,7 +91,7 @@ pub record Reached (o : Options) (task : Task) (on_refusal : OnRefusal) (input o
   pub others : List (List ℕ)
   pub whole : lines input ≡ done ++ others
   pub counted : s.lines ≡ length done
-  pub outcomes : OutcomesIn o task on_refusal done (output ++ s.output.items) (told ++ s.told.items) s.refused
+  pub outcomes : GivesIn o task on_refusal done (output ++ s.output.items) (told ++ s.told.items) s.refused
 
 -- the next line stops the run
 pub record Stopped (o : Options) (task : Task) (on_refusal : OnRefusal) (input output told : List ℕ) (fault : Error)

@@ -1,7 +1,7 @@
 //! A text that is let go once it was accepted, before its output is made.
-ghost use Rattle.std.specs.Prelude.{◌≡◌, IfOk, IfErr};
+ghost use Rattle.std.specs.Prelude.{◌≡◌, IfOk, IfErr, IsUtf8};
 ghost use Rattle.bson_convert.specs.Convert.{ConvertsIn, IsRefusedIn};
-ghost use Rattle.bson_run.specs.Accepted.{IsSure, Outputs, HasOutput};
+ghost use Rattle.bson_run.specs.Accepted.{HasOutput, IsSure, IsUtf8Accepted, Outputs};
 ghost use Rattle.bson_run.specs.InOrder.{ConvertsInOrder};
 
 use crate::in_order::{convert_whole_in_order, filter_once};
@@ -42,6 +42,7 @@ impl Accepted {
     /// read are looked at for a fault at once, which takes one more walk over their tokens.
     pub fn of(alloc: Global, options: Options, mode: Mode, bytes: &[u8]) -> Result<Accepted, Error>
         ensures ok { IfOk result (HasOutput options (ConvertsIn options mode bytes.now)) }
+        ensures utf8 { IfOk result IsUtf8Accepted }
         ensures fault { IfErr result (λ fault. IsRefusedIn options fault bytes.now) }
     {
         match try_text(alloc, options, mode, bytes)? {
@@ -72,6 +73,7 @@ impl Accepted {
         bytes: &[u8],
     ) -> Result<Accepted, Error>
         ensures ok { IfOk result (HasOutput options (ConvertsInOrder options mode bytes.now)) }
+        ensures utf8 { IfOk result IsUtf8Accepted }
         ensures fault { IfErr result (λ fault. IsRefusedIn options fault bytes.now) }
     {
         let Ok(text) = simdutf8::compat::from_utf8(bytes) else {
@@ -90,6 +92,7 @@ impl Accepted {
     /// The output. Of what was accepted with the same options only memory can be wanting for it.
     pub fn output(self, alloc: Global, options: Options) -> Result<Vec<u8>, Error>
         ensures ok { IfOk result (λ output. Outputs options self output.items) }
+        ensures utf8 { IsUtf8Accepted self → IfOk result (λ output. IsUtf8 output.items) }
         ensures fault { IsSure options self → IfErr result (λ fault. fault ≡ Error.OutOfMemory) }
     {
         match self {

@@ -1,10 +1,10 @@
 //! The line that is being gathered, and what the lines before it gave.
 ghost use Rattle.std.specs.Prelude.{◌≡◌, ◌⊎◌, ◌++◌, ◌+◌, [], ◌∷◌, ◌<◌, length, IfOk, IfErr, take};
 ghost use Rattle.std.specs.Prelude.{OnOk, OnErr, None, Ok, IsTrue, ◌↔◌, string_bytes};
-ghost use Rattle.std.specs.Prelude.{MatchOption, IfSome, ◌≢◌, slice_index};
+ghost use Rattle.std.specs.Prelude.{MatchOption, IfSome, IsUtf8, ◌≢◌, slice_index};
 ghost use Rattle.bson_run.specs.Lines.{IsBlank, IsBadLineIn, IsStoppedIn, Tells, WritesIn};
 ghost use Rattle.bson_convert.specs.Convert.{IsRefusedIn};
-ghost use Rattle.bson_run.specs.Lines.{told_at, text_held, text_of, WorksIn};
+ghost use Rattle.bson_run.specs.Lines.{told_at, text_held, text_of, WorksIn, WritesText};
 ghost use Rattle.bson_run.specs.LinesSteps.{Ends, HasRoom, HaveSameOutcomes, IsCountedOut};
 ghost use Rattle.bson_run.specs.LinesSteps.{IsJudged, IsOpen, IsStart, IsTold, StopsLast, StopsWithin};
 ghost use Rattle.bson_run.specs.LinesSteps.{Takes, TakesLine};
@@ -84,6 +84,7 @@ fn is_blank(text: &[u8]) -> bool
 fn judge(alloc: Global, asked: Asked, text: &[u8]) -> Result<Option<Vec<u8>>, Error>
     ensures blank { result ≡ Ok None → IsBlank text.now }
     ensures ok { IfOk result (λ some. IfSome some (λ output. WritesIn asked.options asked.task text.now output.items)) }
+    ensures utf8 { WritesText asked.task → IfOk result (λ some. IfSome some (λ output. IsUtf8 output.items)) }
     ensures fault { IfErr result (λ fault. IsJudged asked.options asked.task fault text.now) }
 {
     if is_blank(text) {
@@ -113,6 +114,7 @@ fn judge_taken(
 ) -> Result<Vec<u8>, Error>
     requires { ¬ IsBlank text.now }
     ensures ok { IfOk result (λ output. WritesIn options (Taken taking work) text.now output.items) }
+    ensures utf8 { IfOk result (λ output. IsUtf8 output.items) }
     ensures fault { IfErr result (λ fault. IsJudged options (Taken taking work) fault text.now) }
 {
     match take_as(alloc, taking, text)? {
@@ -123,6 +125,7 @@ fn judge_taken(
 
 fn work_on(alloc: Global, options: Options, work: Work, text: &[u8]) -> Result<Vec<u8>, Error>
     ensures ok { IfOk result (λ output. WorksIn options work text.now output.items) }
+    ensures utf8 { IfOk result (λ output. IsUtf8 output.items) }
     ensures fault { IfErr result (λ fault. IsRefusedIn options fault text.now) }
 {
     match work {

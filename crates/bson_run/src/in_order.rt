@@ -7,7 +7,7 @@ ghost use Rattle.bson_model.specs.Value as model;
 ghost use Rattle.bson.specs.View.{bson_view};
 ghost use Rattle.bson.specs.TextMeaning.{IsTextOf};
 ghost use Rattle.bson_convert.specs.Convert.{IsRefusedIn};
-ghost use Rattle.bson_run.specs.InOrder.{ConvertsInOrder, IsConvertedTextInOrder, IsTextInOrderFor};
+ghost use Rattle.bson_run.specs.InOrder.{ConvertsInOrder, IsConvertedTextInOrder, IsKeptInOrder, IsTextInOrderFor};
 
 use bson::Bson;
 use bson::extjson::{Form, Options, WriteError};
@@ -38,6 +38,7 @@ pub fn convert_in_order(
 ) -> Result<Vec<u8>, Error>
     ensures ok { IfOk result (λ output. ConvertsInOrder options mode bytes.now output.items) }
     ensures utf8 { IfOk result (λ output. IsUtf8 output.items) }
+    ensures again { IfOk result (λ output. IsKeptInOrder options mode output.items) }
     ensures one { IfOk result (λ output. (other : List ℕ) → ConvertsInOrder options mode bytes.now other
         → other ≡ output.items) }
     ensures accepts { (tree : Data) (value : model.Value) → IsTextOf bytes.now tree

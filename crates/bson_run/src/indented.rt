@@ -6,7 +6,8 @@ ghost use Rattle.bson_model.specs.Value as model;
 ghost use Rattle.bson.specs.TextMeaning.{IsTextOf};
 ghost use Rattle.bson_convert.specs.Convert.{IsConvertedText, IsRefusedIn};
 ghost use Rattle.bson_run.specs.InOrder.{IsConvertedTextInOrder};
-ghost use Rattle.bson_run.specs.Indent.{mode_of, ConvertsIndented, ConvertsInOrderIndented, IsLaidOut};
+ghost use Rattle.bson_run.specs.Indent.{mode_of, ConvertsIndented, ConvertsInOrderIndented, IsKeptIndented};
+ghost use Rattle.bson_run.specs.Indent.{IsKeptInOrderIndented, IsLaidOut};
 
 use crate::in_order::text_in_order;
 use crate::indent::indent_text;
@@ -41,6 +42,7 @@ pub fn convert_indented(
 ) -> Result<Vec<u8>, Error>
     ensures ok { IfOk result (λ output. ConvertsIndented options form spaces bytes.now output.items) }
     ensures utf8 { IfOk result (λ output. IsUtf8 output.items) }
+    ensures again { IfOk result (λ output. IsKeptIndented options form spaces output.items) }
     ensures accepts { (tree : Data) (value : model.Value) → IsTextOf bytes.now tree
         → MeansIn options.doubles tree value → IfErr result (λ fault. fault ≡ Error.OutOfMemory) }
     ensures fault { IfErr result (λ fault. IsRefusedIn options fault bytes.now) }
@@ -72,6 +74,7 @@ pub fn convert_in_order_indented(
 ) -> Result<Vec<u8>, Error>
     ensures ok { IfOk result (λ output. ConvertsInOrderIndented options form spaces bytes.now output.items) }
     ensures utf8 { IfOk result (λ output. IsUtf8 output.items) }
+    ensures again { IfOk result (λ output. IsKeptInOrderIndented options form spaces output.items) }
     ensures accepts { (tree : Data) (value : model.Value) → IsTextOf bytes.now tree
         → MeansIn options.doubles tree value → IfErr result (λ fault. fault ≡ Error.OutOfMemory) }
     ensures fault { IfErr result (λ fault. IsRefusedIn options fault bytes.now) }

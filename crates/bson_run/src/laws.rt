@@ -1,9 +1,15 @@
 //! Laws of the definitions.
-ghost use Rattle.std.specs.Prelude.{◌≡◌, ℕ, List, Option, Some, length};
+ghost use Rattle.std.specs.Prelude.{◌≡◌, ℕ, List, Option, Some, IsUtf8, length};
 ghost use Rattle.std.specs.Io.KnownBytes.{Appends};
 ghost use Rattle.bson.specs.declared.extjson.options.Options.{Options};
+ghost use Rattle.bson_scalar.specs.declared.form.Form.{Form};
+ghost use Rattle.bson_convert.specs.Convert.{ConvertsIn, IsKeptIn};
 ghost use Rattle.bson_convert.specs.declared.error.Error.{Error};
-ghost use Rattle.bson_run.specs.Lines.{lines, DoneLinesIn, FailsAtIn, OutcomesIn};
+ghost use Rattle.bson_convert.specs.declared.mode.Mode.{Mode};
+ghost use Rattle.bson_run.specs.InOrder.{ConvertsInOrder, IsKeptInOrder};
+ghost use Rattle.bson_run.specs.Indent.{ConvertsIndented, ConvertsInOrderIndented};
+ghost use Rattle.bson_run.specs.Indent.{IsKeptIndented, IsKeptInOrderIndented};
+ghost use Rattle.bson_run.specs.Lines.{lines, DoneLinesIn, FailsAtIn, GivesIn, OutcomesIn, WritesText};
 ghost use Rattle.bson_run.specs.Outcomes.{AreAlike, IsOfText, IsSameFault, StopsInside};
 ghost use Rattle.bson_run.specs.declared.order.OnRefusal.{OnRefusal};
 ghost use Rattle.bson_run.specs.declared.order.Task.{Task};
@@ -42,6 +48,21 @@ pub fn one_stop()
     first_cause_is_one();
 }
 
+/// An output in a form is accepted again: its own output is the same bytes, unless it nests deeper
+/// than texts may. A layout is laid out again as it is.
+pub fn outputs_are_kept()
+    ensures ascending { (options : Options) (mode : Mode) (bytes output : List ℕ)
+        → ConvertsIn options mode bytes output → IsUtf8 output → IsKeptIn options mode output }
+    ensures in_order { (options : Options) (mode : Mode) (bytes output : List ℕ)
+        → ConvertsInOrder options mode bytes output → IsUtf8 output → IsKeptInOrder options mode output }
+    ensures indented { (options : Options) (form : Form) (spaces : ℕ) (bytes output : List ℕ)
+        → ConvertsIndented options form spaces bytes output → IsUtf8 output
+        → IsKeptIndented options form spaces output }
+    ensures in_order_indented { (options : Options) (form : Form) (spaces : ℕ) (bytes output : List ℕ)
+        → ConvertsInOrderIndented options form spaces bytes output → IsUtf8 output
+        → IsKeptInOrderIndented options form spaces output }
+{}
+
 /// A run over known bytes that is done has done all of their lines. One that stops for a fault of a
 /// text stops inside them. What it wrote and told is what the lines before gave.
 pub fn runs_are_inside()
@@ -49,12 +70,13 @@ pub fn runs_are_inside()
         (after had holds told tells : Option (List ℕ)) (number refused : ℕ)
         → DoneLinesIn options task on_refusal (Some all) after had holds told tells number refused
         → (number ≡ length (lines all)) × ((output : List ℕ) × (verdicts : List ℕ)
-        × OutcomesIn options task on_refusal (lines all) output verdicts refused
+        × GivesIn options task on_refusal (lines all) output verdicts refused
         × Appends had holds output × Appends told tells verdicts) }
     ensures stops { (options : Options) (task : Task) (on_refusal : OnRefusal) (all : List ℕ)
         (after had holds told tells : Option (List ℕ)) (fault : Error) (number : ℕ) (held : List ℕ)
         → FailsAtIn options fault task on_refusal (Some all) after had holds told tells number held → IsOfText fault
         → (output : List ℕ) × (verdicts : List ℕ)
         × StopsInside options task on_refusal (lines all) output verdicts fault number
+        × (WritesText task → IsUtf8 output) × IsUtf8 verdicts
         × Appends had holds output × Appends told tells verdicts }
 {}

@@ -1,5 +1,5 @@
 -- What a conversion leaves, and which number stands for which mode, for which options and for which order of keys.
-use Rattle.std.specs.Prelude.{◌≡◌, ◌==◌, ℕ, ◌/◌, ◌%◌, List, ◌++◌, Option, Some, None, if◌then◌else◌}
+use Rattle.std.specs.Prelude.{◌≡◌, ◌==◌, ℕ, ◌/◌, ◌%◌, List, ◌++◌, IsUtf8, Option, Some, None, if◌then◌else◌}
 use Rattle.serde_json.specs.Data.{Data}
 use Rattle.bson_place.specs.Faults.{Fault as TreeFault, wrong_shape, wrong_id}
 use Rattle.bson_model.specs.Fault.{MeansNothingIn, fault_of_in}
@@ -38,12 +38,13 @@ abbrev pub ConvertsBy : KeyOrder → Options → Mode → List ℕ → List ℕ 
 ConvertsBy Ascending o mode input output = ConvertsIn o mode input output
 ConvertsBy AsGiven o mode input output = ConvertsInOrder o mode input output
 
--- the line that the input is converted to in the mode of the number, with a NUL in its newline's place
+-- the line that the input is converted to in the mode of the number, which is UTF-8, with a NUL in its newline's place
 pub record IsConvertedBy (k : KeyOrder) (o : Options) (number : ℕ) (input : List ℕ) (out : Text) : Type 0 where
   pub mode : Mode
   pub named : mode_at number ≡ Some mode
   pub text : List ℕ
   pub converts : ConvertsBy k o mode input (text ++ newline)
+  pub utf8 : IsUtf8 (text ++ newline)
   pub is_text : IsText text out
 
 -- the text of an object id alone is wrong

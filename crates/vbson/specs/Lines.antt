@@ -1,7 +1,7 @@
 -- A block of lines, each a text of its own.
 use Rattle.std.specs.Prelude.{◌≡◌, ℕ, List, Some, length}
 use Rattle.bson.specs.declared.extjson.options.Options.{Options}
-use Rattle.bson_run.specs.Lines.{OutcomesIn, lines as lines_of}
+use Rattle.bson_run.specs.Lines.{GivesIn, lines as lines_of}
 use Rattle.bson_convert.specs.declared.mode.Mode.{Mode}
 use Rattle.bson_run.specs.declared.order.OnRefusal.TheVariants.{KeepGoing}
 use Rattle.bson_run.specs.declared.order.Task.{Task}
@@ -23,9 +23,9 @@ encoding_of Ascending = Encode
 encoding_of AsGiven = EncodeInOrder
 
 -- the lines of the block give this output by the task, the verdicts tell of those that are refused, and so many lines
--- there are, of which so many are refused
+-- there are, of which so many are refused; texts and verdicts are UTF-8
 pub record GivesLines (o : Options) (task : Task) (block output verdicts : List ℕ) (count refused : ℕ) : Type 0 where
-  pub outcomes : OutcomesIn o task KeepGoing (lines_of block) output verdicts refused
+  pub outcomes : GivesIn o task KeepGoing (lines_of block) output verdicts refused
   pub counted : count ≡ length (lines_of block)
 
 -- what is left is the output and the verdicts of the lines by the task, and these counts

@@ -1,5 +1,5 @@
 //! One text to another.
-ghost use Rattle.std.specs.Prelude.{◌≡◌, ◌↔◌, ◌⊎◌, ◌<◌, ◌≤◌, ◌++◌, List, ℕ, Some, IfOk, IfErr};
+ghost use Rattle.std.specs.Prelude.{◌≡◌, ◌↔◌, ◌⊎◌, ◌<◌, ◌≤◌, ◌++◌, List, ℕ, Some, IfOk, IfErr, IsUtf8};
 ghost use Rattle.serde_json.specs.Data.{Data};
 ghost use Rattle.bson.specs.declared.extjson.options.Options.{Options};
 ghost use Rattle.bson_model.specs.Means.{Means, MeansIn};
@@ -99,6 +99,7 @@ fn convert_text(
     text: &[u8],
 ) -> Result<Vec<u8>, Error>
     ensures ok { IfOk result (λ line. ConvertsBy order options mode text.now line.items) }
+    ensures utf8 { IfOk result (λ line. IsUtf8 line.items) }
     ensures one { IfOk result (λ line. (other : List ℕ) → ConvertsBy order options mode text.now other
         → other ≡ line.items) }
     ensures accepts { (tree : Data) (value : model.Value) → IsTextOf text.now tree → MeansIn options.doubles tree value

@@ -4,6 +4,7 @@ use Rattle.bson_tokens.proofs.Offered.{if_ok}
 use Rattle.bson_convert.proofs.Arranged.{accepted}
 use Rattle.bson_convert.specs.Convert.{IsConvertedText, IsRefusedIn}
 use Rattle.bson_convert.proofs.Converting.{text_converts}
+use Rattle.bson_convert.proofs.Twice.{kept_ok}
 use Rattle.bson_convert.specs.declared.error.Error.{Error}
 use Rattle.bson_convert.proofs.convert.convert_whole.Goals as goal
 
@@ -16,6 +17,14 @@ returns-clause-ok c =
     let is = subst (λ b. IsConvertedText o mode b text) c.deref.ensures.value
     (c.in_ok-text.ensures.ok c.deref.result.now c.in_ok-tried.ensures.ok) in
     if_ok c.end_line.result c.end_line.ensures.ok (λ output line. text_converts o mode bytes text output.items is line)
+
+pub returns-clause-again : goal.returns-clause-again
+returns-clause-again c =
+    let o = c.args.options in
+    let mode = c.args.mode in
+    let text = c.in_ok-text.text.items in
+    kept_ok o mode c.deref.result.now text c.end_line.result (c.in_ok-text.ensures.ok c.deref.result.now c.in_ok-tried.ensures.ok)
+    (c.in_ok-text.ensures.utf8 c.in_ok-tried.ensures.utf8) c.end_line.ensures.ok c.end_line.ensures.utf8
 
 pub returns-in_err-text-clause-accepts : goal.returns-in_err-text-clause-accepts
 returns-in_err-text-clause-accepts c = λ t v is means.

@@ -1,6 +1,6 @@
 use Rattle.std.proofs.Common.{subst}
 use Rattle.bson_convert.proofs.Offered.{text_converts}
-use Rattle.bson_convert.specs.Convert.{ConvertsIn, IsTried}
+use Rattle.bson_convert.specs.Convert.{ConvertsIn, IsTried, IsUtf8Tried}
 use Rattle.bson_run.proofs.AcceptedTexts.{at_once}
 use Rattle.bson_run.proofs.accepted.Accepted.of.Goals as goal
 
@@ -13,3 +13,7 @@ returns-in_ok-end_line-in-Written-clause-ok c =
     let written = subst (IsTried o mode bytes) c.in-Written.is c.in_ok-text.ensures.ok in
     at_once o (ConvertsIn o mode bytes) output
     (text_converts o mode bytes c.in-Written.text.items output.items written c.in_ok-end_line-in-Written.ensures.ok)
+
+pub returns-in_ok-end_line-in-Written-clause-utf8 : goal.returns-in_ok-end_line-in-Written-clause-utf8
+returns-in_ok-end_line-in-Written-clause-utf8 c =
+    c.in_ok-end_line-in-Written.ensures.utf8 (subst IsUtf8Tried c.in-Written.is c.in_ok-text.ensures.utf8)

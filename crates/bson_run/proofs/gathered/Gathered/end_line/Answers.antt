@@ -1,4 +1,4 @@
-use Rattle.std.proofs.Common.{◌≡◌, ℕ, Vec, Global, IfSome, ◌+◌, ◌++◌, Ok, ap, sym, ◌∙◌, subst}
+use Rattle.std.proofs.Common.{◌≡◌, ℕ, Vec, Global, IfSome, IsUtf8, ◌+◌, ◌++◌, Ok, ap, sym, ◌∙◌, subst}
 use Rattle.bson_run.specs.Lines.{text_of, IsBlank, WritesIn}
 use Rattle.bson_run.specs.LinesSteps.{IsJudged, IsTold}
 use Rattle.bson_run.specs.declared.gathered.Gathered.{Gathered}
@@ -29,6 +29,8 @@ returns-clause-ok c =
           (subst (λ x. WritesIn c.args.asked.options c.args.asked.task x w.in-Ok-Some.output.items) text
           (subst (λ some. IfSome some (λ output. WritesIn c.args.asked.options c.args.asked.task c.text.result.now output.items))
           w.in-Ok-Some.field-0-is w.in-Ok-Some.ensures.ok))
+          (λ writes. subst (λ some. IfSome some (λ output. IsUtf8 output.items)) w.in-Ok-Some.field-0-is
+          (w.in-Ok-Some.ensures.utf8 writes))
       | in-Err+in_ok-refuse-in-Err w ↦
           let refused = w.in_ok-refuse-in-Err.ensures in
           told_taken self _ w.in-Err.fault c.clear.ensures.items

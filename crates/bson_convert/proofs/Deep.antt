@@ -1,0 +1,95 @@
+-- A text is read only if its tree nests no deeper than a text may.
+use Rattle.std.proofs.Common.{◌≡◌, ◌≤◌, ℕ, suc, max, pos, negsuc, List, [], ◌∷◌, ◌++◌, Option, None, Some, option_and_then, option_map, refl, sym, ap, ap₂, ◌∙◌, arith, append-nil}
+use Rattle.std.specs.Prelude.{unwrap_or}
+use Rattle.json.specs.Json.{Json, if_last, value}
+use Rattle.json.specs.Lex.{tokens}
+use Rattle.json.specs.Print.{print}
+use Rattle.json.specs.Token.{Token}
+use Rattle.json.specs.Tree as parsed
+use Rattle.json.proofs.Nesting.{value-depth}
+use Rattle.json.proofs.Printed.Decimals.{IsNumber-decimal, IsNumber-signed_decimal}
+use Rattle.json.proofs.Printed.Tokens.{tokens-print}
+use Rattle.json.proofs.Printed.Trees.{ArePrintable-json_tokens, value-json_tokens}
+use Rattle.json.proofs.Unique.Spelling.{value-json_tokens_back}
+use Rattle.serde_json.specs.Data.{unsigned, negative, float, Data, Items, no_items, item, Members, no_members, member}
+use Rattle.serde_json.specs.Data.{depth, items_depth, members_depth}
+use Rattle.serde_json.specs.Data as tree
+use Rattle.serde_json.specs.Read.{max_depth, of_json, read}
+use Rattle.bson_scalar.specs.TreeText.{HasNoFloatIn, outline, items_outline, members_outline, text_of, tree_text}
+use Rattle.bson_scalar.specs.declared.form.Doubles.{Doubles}
+use Rattle.bson_scalar.specs.declared.form.Form.{Form}
+use Rattle.bson_scalar.proofs.Offered.{float_is_number, text_is}
+use Rattle.bson_model.specs.Texts.{IsTree, ItemsAreTrees, MembersAreTrees}
+
+mutual
+  numbers : (d : Data) → IsTree d → parsed.HasNumbers (outline d)
+  numbers tree.null t = tt
+  numbers (tree.boolean b) t = tt
+  numbers (tree.number (unsigned n)) t = IsNumber-decimal n t
+  numbers (tree.number (negative (pos n))) t = absurd t
+  numbers (tree.number (negative (negsuc n))) t = IsNumber-signed_decimal (negsuc n) t
+  numbers (tree.number (float x)) t = float_is_number x t
+  numbers (tree.string s) t = tt
+  numbers (tree.array ds) t = items_numbers ds t
+  numbers (tree.object ms) t = members_numbers ms t.1
+
+  items_numbers : (ds : Items) → ItemsAreTrees ds → parsed.ItemsHaveNumbers (items_outline ds)
+  items_numbers no_items t = tt
+  items_numbers (item d ds) t = (numbers d t.0, items_numbers ds t.1)
+
+  members_numbers : (ms : Members) → MembersAreTrees ms → parsed.MembersHaveNumbers (members_outline ms)
+  members_numbers no_members t = tt
+  members_numbers (member k d ms) t = (numbers d t.0, members_numbers ms t.1)
+
+mutual
+  same_depth : (d : Data) → parsed.depth (outline d) ≡ depth d
+  same_depth tree.null = refl
+  same_depth (tree.boolean b) = refl
+  same_depth (tree.number n) = refl
+  same_depth (tree.string s) = refl
+  same_depth (tree.array ds) = ap suc (items_same_depth ds)
+  same_depth (tree.object ms) = ap suc (members_same_depth ms)
+
+  items_same_depth : (ds : Items) → parsed.items_depth (items_outline ds) ≡ items_depth ds
+  items_same_depth no_items = refl
+  items_same_depth (item d ds) = ap₂ max (same_depth d) (items_same_depth ds)
+
+  members_same_depth : (ms : Members) → parsed.members_depth (members_outline ms) ≡ members_depth ms
+  members_same_depth no_members = refl
+  members_same_depth (member k d ms) = ap₂ max (same_depth d) (members_same_depth ms)
+
+one_value : (i j : Json) → parsed.json_tokens i ≡ parsed.json_tokens j → i ≡ j
+one_value i j same =
+    let n = max (parsed.depth i) (parsed.depth j) in
+    let read : value n (parsed.json_tokens i ++ []) ≡ Some (i, []) = value-json_tokens i n [] (omega arith) in
+    let also : value n (parsed.json_tokens j ++ []) ≡ Some (j, []) = value-json_tokens j n [] (omega arith) in
+    ap (λ r. unwrap_or (option_map (λ p. p.0) r) i) (sym read ∙ ap (λ ts. value n (ts ++ [])) same ∙ also)
+
+-- ---- what is read of a text
+
+abbrev pub whole : Option (Json × List Token) → Option Json
+whole r = option_and_then (λ p. if_last p.0 p.1) r
+
+-- it is one value, and nothing behind it
+pub parsed_whole : {A : Type 0} (of : Json → Option A) (r : Option (Json × List Token)) (t : A)
+    → option_and_then of (whole r) ≡ Some t → (j : Json) × (r ≡ Some (j, []))
+parsed_whole of None t h = absurd cc
+parsed_whole of (Some (j, [])) t h = (j, refl)
+parsed_whole of (Some (j, x ∷ xs)) t h = absurd cc
+
+nests_within : (n : ℕ) (d : Data) (j : Json) → parsed.HasNumbers (outline d) → value n (tokens (text_of d)) ≡ Some (j, [])
+    → depth d ≤ n
+nests_within n d j fit h =
+    let ts = parsed.json_tokens (outline d) in
+    let printed : tokens (print ts) ≡ ts = tokens-print ts (ArePrintable-json_tokens (outline d) fit) in
+    let spelled : tokens (text_of d) ≡ parsed.json_tokens j ++ [] = value-json_tokens_back n (tokens (text_of d)) [] j h in
+    let same : j ≡ outline d =
+    one_value j (outline d) (sym (append-nil (parsed.json_tokens j)) ∙ sym spelled ∙ printed) in
+    omega (arith, value-depth n (tokens (text_of d)) [] j h, ap parsed.depth same, same_depth d)
+
+pub shallow : (D : Doubles) (f : Form) (d t : Data) → HasNoFloatIn D f d → IsTree d → read (tree_text D f d) ≡ Some t
+    → depth d ≤ max_depth
+shallow D f d t no_float is h =
+    let text = text_is D f d no_float in
+    let it = parsed_whole of_json (value max_depth (tokens (text_of d))) t (ap read (sym text) ∙ h) in
+    nests_within max_depth d it.0 (numbers d is) it.1

@@ -1,0 +1,103 @@
+-- What is written in a form is read as a tree that is written so.
+use Rattle.std.proofs.Common.{◌≡◌, ◌++◌, ℕ, List, Vec, Global, IfOk, true, Result, Ok, Err, refl, sym, ap, ◌∙◌, subst}
+use Rattle.std.specs.Prelude.{is_ok, IsUtf8}
+use Rattle.serde_json.specs.Data.{Data}
+use Rattle.serde_json.specs.Read.{read}
+use Rattle.bson_scalar.specs.TreeText.{HasNoFloatIn}
+use Rattle.bson_scalar.specs.Written.{Refusal}
+use Rattle.bson_scalar.specs.declared.form.Form.{Form}
+use Rattle.bson_scalar.specs.declared.form.Form.TheVariants as form
+use Rattle.bson_model.specs.Laws.{HasMeaningIn, IsTreeOfIn}
+use Rattle.bson_model.specs.Normal.{normal_form, InRange, writable_in}
+use Rattle.bson_model.specs.Texts.{HasTextIn, IsTree}
+use Rattle.bson_model.specs.Value.{Value}
+use Rattle.bson_model.specs.Writing.{writes_in}
+use Rattle.bson_model.specs.Written.{WrittenIn}
+use Rattle.bson_model.proofs.Offered.{has_text_in, in_range_in, means_to_in, read_tree, tree_is_in}
+use Rattle.bson_model.proofs.Offered.{value_read_in, writable_is_in}
+use Rattle.bson.specs.TextMeaning.{IsTextOf}
+use Rattle.bson.specs.declared.extjson.options.Options.{Options}
+use Rattle.bson_convert.specs.Convert.{ConvertsIn, ConvertsToItself, IsConvertedText, IsKeptIn, IsOutputIn, IsWrittenIn, newline}
+use Rattle.bson_convert.specs.declared.error.Error.{Error}
+use Rattle.bson_convert.specs.declared.mode.Mode.{Mode}
+use Rattle.bson_convert.specs.declared.mode.Mode.TheVariants.{Canonical, Relaxed, Show}
+use Rattle.bson_convert.proofs.Converting.{text_converts}
+use Rattle.bson_convert.proofs.Deep.{shallow}
+use Rattle.bson_convert.proofs.Newline.{read_then}
+
+some_tree : (r : Result Data Refusal) → is_ok r ≡ true → (u : Data) × (r ≡ Ok u)
+some_tree (Ok u) h = (u, refl)
+some_tree (Err e) h = cc
+
+module _ (o : Options) (f : Form) where
+  -- a value that was read is written as its tree in the form
+  written_as : (v : Value) (u : Data) → InRange v → writable_in o.doubles v ≡ true
+      → WrittenIn o.doubles f (normal_form v) u → (writes_in o.doubles f v ≡ Ok u) × IsTreeOfIn o.doubles f v u
+  written_as v u ranged writable w =
+      let D = o.doubles in
+      let it = some_tree (writes_in D f v) (writable_is_in D f v ∙ writable) in
+      let is = tree_is_in D f v it.0 it.1 ranged in
+      let same : u ≡ it.0 = is.one u w in
+      (it.1 ∙ ap Ok (sym same), subst (IsTreeOfIn D f v) (sym same) is)
+
+  -- the tree of a value that was read means a value that has the output too
+  pub record Again (u : Data) (output : List ℕ) : Type 0 where
+    pub value : Value
+    pub fits : IsTree u
+    pub no_float : HasNoFloatIn o.doubles f u
+    pub meaning : HasMeaningIn o.doubles u value
+    pub is_written : IsWrittenIn o f value output
+
+  pub again : (bytes output : List ℕ) (t : Data) (v : Value) → IsTextOf bytes t → HasMeaningIn o.doubles t v
+      → (w : IsWrittenIn o f v output) → Again w.tree output
+  again bytes output t v is m w =
+      let D = o.doubles in
+      let u = w.tree in
+      let ranged = in_range_in D m.means (read_tree bytes t is.tree_read) in
+      let first = written_as v u ranged m.read_form.1 w.is_tree.written in
+      let has : HasTextIn D f v u = has_text_in D f v u first.0 m.read_form.0 ranged in
+      let x = has.means.0 in
+      let meaning : HasMeaningIn D u x = (value_read_in D (λ (y : Value). y) u (Ok x) (means_to_in D has.means.1)).ok in
+      let second = written_as x u (in_range_in D has.means.1 has.is_tree) meaning.read_form.1 has.means.3 in
+      record {
+        value = x;
+        fits = has.is_tree;
+        no_float = w.is_tree.no_float;
+        meaning = meaning;
+        is_written = record { tree = u; is_tree = second.1; line = w.line; again = w.again };
+      }
+
+  kept : (mode : Mode) (bytes output : List ℕ) (t : Data) (v : Value) → IsTextOf bytes t → HasMeaningIn o.doubles t v
+      → IsUtf8 output → (w : IsWrittenIn o f v output) → ((v : Value) → IsWrittenIn o f v output → IsOutputIn o mode v output)
+      → ConvertsToItself o f mode output
+  kept mode bytes output t v is m utf8 w of =
+      let a = again bytes output t v is m w in
+      record {
+        tree = w.tree;
+        text = w.line.text;
+        again = λ shallow. record {
+          tree = w.tree;
+          value = a.value;
+          text = record { utf8 = utf8; tree_read = ap read w.line.text ∙ read_then _ ∙ w.line.read_again shallow };
+          meaning = a.meaning;
+          is_output = of a.value a.is_written;
+        };
+        only = λ other is_text. shallow o.doubles f w.tree other a.no_float a.fits
+            (sym (read_then _) ∙ ap read (sym w.line.text) ∙ is_text.tree_read);
+      }
+
+pub output_kept : (o : Options) (mode : Mode) (bytes output : List ℕ) → ConvertsIn o mode bytes output → IsUtf8 output
+    → IsKeptIn o mode output
+output_kept o Canonical bytes output x utf8 =
+    kept o form.Canonical Canonical bytes output x.tree x.value x.text x.meaning utf8 x.is_output (λ v w. w)
+output_kept o Relaxed bytes output x utf8 =
+    kept o form.Relaxed Relaxed bytes output x.tree x.value x.text x.meaning utf8 x.is_output (λ v w. w)
+output_kept o Show bytes output x utf8 = tt
+
+-- the same of a text that is ended
+pub kept_ok : (o : Options) (mode : Mode) (bytes text : List ℕ) (r : Result (Vec ℕ Global) Error)
+    → IsConvertedText o mode bytes text → IsUtf8 text → IfOk r (λ ended. ended.items ≡ text ++ newline)
+    → (IsUtf8 text → IfOk r (λ ended. IsUtf8 ended.items)) → IfOk r (λ ended. IsKeptIn o mode ended.items)
+kept_ok o mode bytes text (Ok ended) is utf8 line valid =
+    output_kept o mode bytes ended.items (text_converts o mode bytes text ended.items is line) (valid utf8)
+kept_ok o mode bytes text (Err e) is utf8 line valid = tt

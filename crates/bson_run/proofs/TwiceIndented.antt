@@ -1,0 +1,122 @@
+-- A layout is read as the text is of which it is one.
+use Rattle.std.proofs.Common.{◌≡◌, ◌++◌, ℕ, List, Vec, Global, Option, Some, Result, Ok, Err, IfOk, option_and_then, refl, sym, ap, ◌∙◌, subst}
+use Rattle.std.specs.Prelude.{IsUtf8}
+use Rattle.std.proofs.lemmas.List.{append_cancel_right}
+use Rattle.json.specs.Json.{Json, value as json_value}
+use Rattle.json.specs.Lex.{tokens}
+use Rattle.serde_json.specs.Read.{max_depth, of_json, read}
+use Rattle.bson_order.specs.Kept.{kept, read_kept}
+use Rattle.bson_scalar.specs.TreeText.{tree_text}
+use Rattle.bson_scalar.specs.declared.form.Form.{Form}
+use Rattle.bson_scalar.specs.declared.form.Form.TheVariants.{Canonical, Relaxed}
+use Rattle.bson_model.specs.Value.{Value}
+use Rattle.bson.specs.declared.extjson.options.Options.{Options}
+use Rattle.bson_convert.specs.Convert.{IsConvertedText, IsOutputIn, IsWrittenIn, newline}
+use Rattle.bson_convert.specs.declared.error.Error.{Error}
+use Rattle.bson_convert.proofs.Offered.{again, parsed_whole, read_then, text_converts, tokens_then, whole}
+use Rattle.bson_run.specs.InOrder.{IsConvertedTextInOrder, IsLineInOrder, IsOutputInOrder}
+use Rattle.bson_run.specs.Indent.{mode_of, ConvertsIndented, ConvertsInOrderIndented, IsLaidOut, IsKeptIndented}
+use Rattle.bson_run.specs.Indent.{IsKeptInOrderIndented}
+use Rattle.bson_run.proofs.Ordered.{text_converts as converts_in_order}
+use Rattle.bson_run.proofs.TwiceInOrder.{again_in_order, line_read}
+
+module _ (n : ℕ) (text output : List ℕ) (is : IsLaidOut n text output) where
+  -- where the text is read, the layout has its tokens
+  tokens_alike : {A : Type 0} (of : Json → Option A) (t : A)
+      → option_and_then of (whole (json_value max_depth (tokens text))) ≡ Some t → tokens output ≡ tokens text
+  tokens_alike of t h =
+      let j = parsed_whole of (json_value max_depth (tokens text)) t h in
+      ap tokens is.line ∙ tokens_then is.laid ∙ is.same max_depth j.0 j.1
+
+  alike : {A : Type 0} (of : Json → Option A) (t : A)
+      → option_and_then of (whole (json_value max_depth (tokens text))) ≡ Some t
+      → option_and_then of (whole (json_value max_depth (tokens output))) ≡ Some t
+  alike of t h = ap (λ ts. option_and_then of (whole (json_value max_depth ts))) (tokens_alike of t h) ∙ h
+
+module _ (o : Options) (f : Form) (n : ℕ) (bytes output : List ℕ) (utf8 : IsUtf8 output) where
+  laid_again : (x : ConvertsIndented o f n bytes output) → IsWrittenIn o f x.converts.value (x.text ++ newline)
+      → ((v : Value) → IsWrittenIn o f v (x.text ++ newline) → IsOutputIn o (mode_of f) v (x.text ++ newline))
+      → IsKeptIndented o f n output
+  laid_again x w of =
+      let a = again o f bytes (x.text ++ newline) x.converts.tree x.converts.value x.converts.text x.converts.meaning w in
+      record {
+        tree = w.tree;
+        laid = subst (λ s. IsLaidOut n s output) (append_cancel_right x.text (tree_text o.doubles f w.tree) newline w.line.text)
+            x.is_output;
+        again = λ shallow.
+            let read_text = sym (read_then x.text) ∙ ap read w.line.text ∙ read_then (tree_text o.doubles f w.tree)
+            ∙ w.line.read_again shallow in
+            record {
+              text = x.text;
+              converts = record {
+                tree = w.tree;
+                value = a.value;
+                text = record { utf8 = utf8; tree_read = alike n x.text output x.is_output of_json w.tree read_text };
+                meaning = a.meaning;
+                is_output = of a.value a.is_written;
+              };
+              is_output = x.is_output;
+            };
+      }
+
+pub laid_kept : (o : Options) (f : Form) (n : ℕ) (bytes output : List ℕ) → ConvertsIndented o f n bytes output
+    → IsUtf8 output → IsKeptIndented o f n output
+laid_kept o Canonical n bytes output x utf8 = laid_again o Canonical n bytes output utf8 x x.converts.is_output (λ v w. w)
+laid_kept o Relaxed n bytes output x utf8 = laid_again o Relaxed n bytes output utf8 x x.converts.is_output (λ v w. w)
+
+module _ (o : Options) (f : Form) (n : ℕ) (bytes text : List ℕ) (is : IsConvertedText o (mode_of f) bytes text) where
+  pub indented : (output : List ℕ) → IsLaidOut n text output → ConvertsIndented o f n bytes output
+  indented output laid = record {
+    text = text;
+    converts = text_converts o (mode_of f) bytes text (text ++ newline) is refl;
+    is_output = laid;
+  }
+
+  pub indented_kept : (r : Result (Vec ℕ Global) Error) → IfOk r (λ output. IsLaidOut n text output.items)
+      → IfOk r (λ output. IsUtf8 output.items) → IfOk r (λ output. IsKeptIndented o f n output.items)
+  indented_kept (Ok output) laid utf8 = laid_kept o f n bytes output.items (indented output.items laid) utf8
+  indented_kept (Err e) laid utf8 = tt
+
+-- ---- in the order of the keys
+
+module _ (o : Options) (f : Form) (n : ℕ) (bytes output : List ℕ) (utf8 : IsUtf8 output) where
+  laid_again_in_order : (x : ConvertsInOrderIndented o f n bytes output)
+      → (line : IsLineInOrder o.doubles f x.converts.value (x.text ++ newline))
+      → ((v : Value) → IsLineInOrder o.doubles f v (x.text ++ newline) → IsOutputInOrder o (mode_of f) v (x.text ++ newline))
+      → IsKeptInOrderIndented o f n output
+  laid_again_in_order x line of =
+      let texts : x.text ≡ line.text = append_cancel_right x.text line.text newline line.line in
+      record {
+        tree = line.is_text.tree;
+        laid = subst (λ s. IsLaidOut n s output) (texts ∙ line.is_text.compact) x.is_output;
+        again = λ shallow.
+            let read_text = ap read_kept texts ∙ line_read o f bytes (x.text ++ newline) x.converts.value x.converts.meaning
+            line shallow in
+            record {
+              text = x.text;
+              converts = again_in_order o f (mode_of f) bytes (x.text ++ newline) output x.converts.value x.converts.meaning line
+                  of utf8 (alike n x.text output x.is_output kept line.is_text.tree read_text);
+              is_output = x.is_output;
+            };
+      }
+
+pub laid_kept_in_order : (o : Options) (f : Form) (n : ℕ) (bytes output : List ℕ)
+    → ConvertsInOrderIndented o f n bytes output → IsUtf8 output → IsKeptInOrderIndented o f n output
+laid_kept_in_order o Canonical n bytes output x utf8 =
+    laid_again_in_order o Canonical n bytes output utf8 x x.converts.is_output (λ v line. line)
+laid_kept_in_order o Relaxed n bytes output x utf8 =
+    laid_again_in_order o Relaxed n bytes output utf8 x x.converts.is_output (λ v line. line)
+
+module _ (o : Options) (f : Form) (n : ℕ) (bytes text : List ℕ) (is : IsConvertedTextInOrder o (mode_of f) bytes text) where
+  pub indented_in_order : (output : List ℕ) → IsLaidOut n text output → ConvertsInOrderIndented o f n bytes output
+  indented_in_order output laid = record {
+    text = text;
+    converts = converts_in_order o (mode_of f) bytes text (text ++ newline) is refl;
+    is_output = laid;
+  }
+
+  pub in_order_kept : (r : Result (Vec ℕ Global) Error) → IfOk r (λ output. IsLaidOut n text output.items)
+      → IfOk r (λ output. IsUtf8 output.items) → IfOk r (λ output. IsKeptInOrderIndented o f n output.items)
+  in_order_kept (Ok output) laid utf8 =
+      laid_kept_in_order o f n bytes output.items (indented_in_order output.items laid) utf8
+  in_order_kept (Err e) laid utf8 = tt
