@@ -7,6 +7,7 @@ pub mod Offered
 pub mod Once
 pub mod PartTexts
 pub mod PiecesInOrder
+pub mod Placing
 pub mod Sending
 pub mod ShownInOrder
 pub mod ShownMembers

@@ -4,15 +4,14 @@ use Rattle.std.proofs.Common.{Option, Some, None, Result, Ok, Err, Less, Equal, 
 use Rattle.std.proofs.Common.{refl, sym, ap, ◌∙◌, subst, append_assoc}
 use Rattle.std.proofs.lemmas.Cmp.{nat_list_cmp_total, tied_itself}
 use Rattle.std.proofs.lemmas.List.Elements.{All-head, All-tail, All-cons}
-use Rattle.std.proofs.lemmas.List.Sorted.{All-permutation, IsPermutation-refl, IsPermutation-trans}
+use Rattle.std.proofs.lemmas.List.Sorted.{All-permutation, IsPermutation-refl}
 use Rattle.std.proofs.lemmas.Slice.Eq.{bytes_eq-Decides}
 use Rattle.std.specs.Prelude.{IfSome, IfOk}
 use Rattle.std.specs.Cmp.Lexicographic.{slice_cmp}
 use Rattle.std.specs.List.{All}
-use Rattle.std.specs.List.Sorted.{IsPermutation}
 use Rattle.serde_json.specs.Written.{comma_if}
 use Rattle.bson_model.specs.Sorted.{put_pair, IsLeast, KeysAscend}
-use Rattle.bson_model.specs.Stable.{IsStableByKey, put_each, pairs_of}
+use Rattle.bson_model.specs.Stable.{put_each, pairs_of}
 use Rattle.bson_model.specs.Value.{Value, Pairs, no_pairs}
 use Rattle.bson_model.proofs.Offered.{turned, put_ascending}
 use Rattle.bson_filter.specs.Pieces.{piece_key, piece_text, open_text, members_text, object_text, Ascend, Follows, InOrder}
@@ -136,12 +135,6 @@ last_of_ascending : (last : Option (List ℕ)) (ps : List Piece) → Ascend last
 last_of_ascending last [] up = refl
 last_of_ascending last (p ∷ ps) up =
     rw (stands_once (piece_key p) ps up.1) (ap (λ l. p ∷ l) (last_of_ascending (Some (piece_key p)) ps up.1))
-
--- pieces that a stable sort gives may be put in order first
-pub in_order_again : (ps qs : List Piece) (texts written : List ℕ) → IsStableByKey piece_key ps qs → IsPermutation ps qs
-    → InOrder qs texts written → InOrder ps texts written
-in_order_again ps qs texts written stable same o =
-    (o.0, λ p. o.1 p ∙ stable p, IsPermutation-trans ps qs o.0 same o.2, o.3, o.4)
 
 pub closed : (texts : List ℕ) (behind : Bool) (ps : List Piece)
     → open_text texts behind ps ++ 125 ∷ [] ≡ members_text texts behind ps

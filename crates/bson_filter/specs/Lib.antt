@@ -1,5 +1,6 @@
 pub mod Digest
 pub mod Filtered
+pub mod Heads
 pub mod Pieces
 pub mod ShownWritten
 pub mod SortedWritten

@@ -1,8 +1,9 @@
 -- The texts of members, and the text of an object that they give. For private clauses.
 use Rattle.std.specs.Prelude.{◌≡◌, ◌<◌, ◌≤◌, ◌-◌, ℕ, Bool, true, false, if◌then◌else◌}
-use Rattle.std.specs.Prelude.{List, [], ◌∷◌, ◌++◌, length, slice_range, Option, Some, None, Ok}
+use Rattle.std.specs.Prelude.{List, [], ◌∷◌, ◌++◌, length, map, slice_index_or, slice_range, Option, Some, None, Ok}
 use Rattle.std.specs.Borrow.{Bor}
 use Rattle.std.specs.Cmp.Lexicographic.{slice_cmp}
+use Rattle.std.specs.List.{range_with_len}
 use Rattle.std.specs.List.Sorted.{IsPermutation}
 use Rattle.std.specs.Ordering.{nat_cmp}
 use Rattle.std.specs.Str.{bytes_eq, is_utf8}
@@ -53,6 +54,32 @@ abbrev pub Ascend : Option (List ℕ) → List Piece → Type 0
 Ascend last [] = Unit {0}
 Ascend last (p ∷ ps) = Follows last (piece_key p) × Ascend (Some (piece_key p)) ps
 
+-- ---- places
+
+abbrev pub no_piece : Piece
+no_piece = record { key = record { ref_ptr = (0, 0); now = [] }; start = 0; end = 0 }
+
+-- the piece at a place, and the key
+abbrev pub piece_or : List Piece → ℕ → Piece
+piece_or ps n = slice_index_or ps n no_piece
+
+abbrev pub key_or : List (Bor (List ℕ)) → ℕ → List ℕ
+key_or ks n = slice_index_or (map (λ k. k.now) ks) n []
+
+-- the pieces at the places
+abbrev pub picked : List Piece → List ℕ → List Piece
+picked ps places = map (piece_or ps) places
+
+-- the first of the places has the key
+abbrev pub has_first : List (Bor (List ℕ)) → List ℕ → List ℕ → Bool
+has_first ks k [] = false
+has_first ks k (n ∷ places) = bytes_eq (key_or ks n) k
+
+-- all places of the keys, those of one key in their turns
+abbrev pub ArePlaced : List (Bor (List ℕ)) → List ℕ → Type 0
+ArePlaced ks places = IsPermutation (range_with_len 0 (length ks)) places
+    × IsStableByKey (key_or ks) (range_with_len 0 (length ks)) places
+
 -- ---- joined
 
 -- the texts with commas between them
@@ -81,6 +108,10 @@ stands_again k (p ∷ ps) = bytes_eq (piece_key p) k
 abbrev pub last_ones : List Piece → List Piece
 last_ones [] = []
 last_ones (p ∷ ps) = if stands_again (piece_key p) ps then last_ones ps else p ∷ last_ones ps
+
+-- the object's text was written, each key's last piece in its turn
+abbrev pub IsJoined : List Piece → List ℕ → List ℕ → Type 0
+IsJoined ps texts written = Ascend None (last_ones ps) × (written ≡ object_text texts (last_ones ps))
 
 -- the object's text by ascending key, of each key the last piece
 abbrev pub InOrder : List Piece → List ℕ → List ℕ → Type 0

@@ -2,22 +2,29 @@
 ghost use Rattle.std.specs.Prelude.{◌≡◌, ◌<◌, ◌++◌, drop, length, map, None, option_map, suc, take, true};
 ghost use Rattle.std.specs.Prelude.{IfOk, IfSome, OnOk};
 ghost use Rattle.std.specs.Str.{is_utf8};
-ghost use Rattle.std.specs.List.{All};
+ghost use Rattle.std.specs.Cmp.Lexicographic.{slice_cmp};
+ghost use Rattle.std.specs.List.{All, range_with_len};
 ghost use Rattle.std.specs.List.Sorted.{IsPermutation};
-ghost use Rattle.bson_filter.specs.Pieces.{end_before, pieces_from, piece_key, object_text, last_ones, stands_again, Ascend};
-ghost use Rattle.bson_filter.specs.Pieces.{Follows, InOrder, IsBraced, IsEnded, IsOpen, IsWithin, KeysAscend};
+ghost use Rattle.std.specs.Ordering.{nat_cmp};
+ghost use Rattle.bson_filter.specs.Heads.{head, head_start};
+ghost use Rattle.bson_filter.specs.Pieces.{end_before, pieces_from, piece_or, key_or, picked, has_first};
+ghost use Rattle.bson_filter.specs.Pieces.{ArePlaced, Follows, InOrder, IsBraced, IsEnded, IsJoined, IsOpen, IsWithin, KeysAscend};
 ghost use Rattle.bson_model.specs.Stable.{IsStableByKey};
 ghost use Rattle.serde_json.specs.Written.{comma_if};
 
-use bson_tokens::prefix::prefix_of;
 use json::Error;
 use std::alloc::{AllocError, Global};
+use std::cmp::Ordering;
 
-// So many members or fewer are sorted with no memory.
+// So many members or fewer are sorted by their keys at once.
 const FEW: usize = 20;
 
-// What sorting takes for a member: its key and start, a piece, and its prefix.
-const PER_MEMBER: usize = 96;
+// The bytes of memory for a member while texts are joined: its key, its start and its place.
+const JOINED: usize = 32;
+
+// The further bytes while members are sorted: the head of its key and its place, once more in the
+// sort's buffer.
+const SORTED: usize = 32;
 
 // The key of a member, and the place of its text, as in `"a":1`.
 #[derive(Clone, Copy, Drop)]
@@ -55,8 +62,7 @@ pub(crate) fn end_object(
     if memory_for(keys.len(), text.len()) > most {
         return Err(Error::Invalid);
     }
-    let pieces = pieces_of(alloc, keys, starts, text.len())?;
-    let written = in_order(alloc, pieces, start, text)?.ok_or(Error::Invalid)?;
+    let written = in_order(alloc, keys, starts, text)?.ok_or(Error::Invalid)?;
     text.truncate(start);
     text.extend_from_slice(&written)?;
     Ok(())
@@ -68,11 +74,14 @@ pub(crate) fn memory_allowed(length: usize) -> usize {
     length.saturating_mul(9).saturating_add(8 << 20)
 }
 
-// So many members of a text of this length take, which is held twice.
+// The most bytes of memory for so many members of a text of this length. Sorting needs room beside
+// one text, and joining needs a second text.
 fn memory_for(members: usize, length: usize) -> usize {
+    let beside = length.max(members.saturating_mul(SORTED));
     members
-        .saturating_mul(PER_MEMBER)
-        .saturating_add(length.saturating_mul(2))
+        .saturating_mul(JOINED)
+        .saturating_add(length)
+        .saturating_add(beside)
 }
 
 fn ascend(keys: &[&str]) -> bool
@@ -99,120 +108,168 @@ fn follows(last: Option<&str>, key: &str) -> bool
     }
 }
 
-fn pieces_of<'a>(
-    alloc: Global,
-    keys: &[&'a str],
-    starts: &[usize],
-    end: usize,
-) -> Result<Vec<Piece<'a>>, AllocError>
-    requires { length keys.now ≡ length starts.now }
-    ensures { IfOk result (λ pieces. pieces.items ≡ pieces_from keys.now starts.now end) }
-{
-    let mut pieces = Vec::with_capacity(alloc, keys.len())?;
-    'keys: for at in 0..keys.len() {
-        let end = end_of(starts, at, end);
-        pieces.push(Piece {
-            key: keys[at],
-            start: starts[at],
-            end,
-        })?;
-    }
-    Ok(pieces)
-}
-
-// A member ends right before the comma in front of the next, the last one at the end of the text.
-fn end_of(starts: &[usize], at: usize, end: usize) -> usize
-    requires { at < length starts.now }
-    ensures { result ≡ end_before (drop (suc at) starts.now) end }
-{
-    match starts.get(at + 1) {
-        Some(next) => next.saturating_sub(1),
-        None => end,
-    }
-}
-
-// The text of the object that begins at the start. None never comes.
+// The text of the object, its members in order. None never comes.
 fn in_order(
     alloc: Global,
-    pieces: Vec<Piece<'_>>,
-    start: usize,
+    keys: &[&str],
+    starts: &[usize],
     texts: &Vec<u8>,
 ) -> Result<Option<Vec<u8>>, AllocError>
-    requires { All (IsWithin texts.now.items) pieces.items }
-    ensures { IfOk result (λ s. IfSome s (λ written. InOrder pieces.entry.items texts.now.items written.items)) }
+    requires paired { length keys.now ≡ length starts.now }
+    requires within { All (IsWithin texts.now.items) (pieces_from keys.now starts.now (length texts.now.items)) }
+    ensures { IfOk result (λ s. IfSome s (λ written. InOrder (pieces_from keys.now starts.now (length texts.now.items))
+        texts.now.items written.items)) }
 {
-    if pieces.len() > FEW {
-        many_in_order(alloc, pieces, start, texts)
+    let places = places_of(alloc, keys.len())?;
+    if places.len() > FEW {
+        many_in_order(alloc, keys, starts, places, texts)
     } else {
-        few_in_order(alloc, pieces, start, texts)
+        few_in_order(alloc, keys, starts, places, texts)
     }
 }
 
-// The first bytes of the keys tell most of them apart.
+// The heads of the keys differ for most of them.
 fn many_in_order(
     alloc: Global,
-    mut pieces: Vec<Piece<'_>>,
-    start: usize,
+    keys: &[&str],
+    starts: &[usize],
+    mut places: Vec<usize>,
     texts: &Vec<u8>,
 ) -> Result<Option<Vec<u8>>, AllocError>
-    requires { All (IsWithin texts.now.items) pieces.items }
-    ensures { IfOk result (λ s. IfSome s (λ written. InOrder pieces.entry.items texts.now.items written.items)) }
+    requires paired { length keys.now ≡ length starts.now }
+    requires within { All (IsWithin texts.now.items) (pieces_from keys.now starts.now (length texts.now.items)) }
+    requires placed { ArePlaced keys.now places.items }
+    ensures { IfOk result (λ s. IfSome s (λ written. InOrder (pieces_from keys.now starts.now (length texts.now.items))
+        texts.now.items written.items)) }
 {
-    sort_by_prefix(&mut pieces)?;
-    if let Some(written) = join_pieces(alloc, &pieces, start, texts)? {
+    sort_by_head(keys, &mut places)?;
+    if let Some(written) = join_pieces(alloc, keys, starts, &places, texts)? {
         return Ok(Some(written));
     }
-    few_in_order(alloc, pieces, start, texts)
+    few_in_order(alloc, keys, starts, places, texts)
 }
 
 fn few_in_order(
     alloc: Global,
-    mut pieces: Vec<Piece<'_>>,
-    start: usize,
+    keys: &[&str],
+    starts: &[usize],
+    mut places: Vec<usize>,
     texts: &Vec<u8>,
 ) -> Result<Option<Vec<u8>>, AllocError>
-    requires { All (IsWithin texts.now.items) pieces.items }
-    ensures { IfOk result (λ s. IfSome s (λ written. InOrder pieces.entry.items texts.now.items written.items)) }
+    requires paired { length keys.now ≡ length starts.now }
+    requires within { All (IsWithin texts.now.items) (pieces_from keys.now starts.now (length texts.now.items)) }
+    requires placed { ArePlaced keys.now places.items }
+    ensures { IfOk result (λ s. IfSome s (λ written. InOrder (pieces_from keys.now starts.now (length texts.now.items))
+        texts.now.items written.items)) }
 {
-    sort_by_key(&mut pieces)?;
-    join_pieces(alloc, &pieces, start, texts)
+    sort_by_key(keys, &mut places)?;
+    join_pieces(alloc, keys, starts, &places, texts)
 }
 
-fn sort_by_prefix(pieces: &mut Vec<Piece<'_>>) -> Result<(), AllocError>
-    ensures stable { OnOk result (IsStableByKey piece_key pieces.old.items pieces.new.items) }
-    ensures same { IsPermutation pieces.old.items pieces.new.items }
+// The places from 0 on, so many.
+fn places_of(alloc: Global, count: usize) -> Result<Vec<usize>, AllocError>
+    ensures { IfOk result (λ places. places.items ≡ range_with_len 0 count) }
 {
-    pieces.sort_by_cached_key(|piece| prefix_of(piece.key.as_bytes()))?;
+    let mut places = Vec::with_capacity(alloc, count)?;
+    for place in 0..count {
+        places.push(place)?;
+    }
+    Ok(places)
+}
+
+fn sort_by_head(keys: &[&str], places: &mut Vec<usize>) -> Result<(), AllocError>
+    ensures stable { OnOk result (IsStableByKey (key_or keys.now) places.old.items places.new.items) }
+    ensures same { IsPermutation places.old.items places.new.items }
+{
+    let front = common_front(keys);
+    places.sort_by_cached_key(|place| head_of(key_at(keys, *place), front))?;
     Ok(())
 }
 
-fn sort_by_key(pieces: &mut Vec<Piece<'_>>) -> Result<(), AllocError>
-    ensures stable { OnOk result (IsStableByKey piece_key pieces.old.items pieces.new.items) }
-    ensures same { IsPermutation pieces.old.items pieces.new.items }
+fn sort_by_key(keys: &[&str], places: &mut Vec<usize>) -> Result<(), AllocError>
+    ensures stable { OnOk result (IsStableByKey (key_or keys.now) places.old.items places.new.items) }
+    ensures same { IsPermutation places.old.items places.new.items }
 {
-    pieces.sort_by(|one, other| one.key.cmp(other.key))?;
+    places.sort_by(|one, other| by_key(keys, *one, *other))?;
     Ok(())
 }
 
-// The texts in the order of the pieces, as an object, of those of one key that stand side by side
+fn by_key(keys: &[&str], one: usize, other: usize) -> Ordering
+    ensures { result ≡ slice_cmp nat_cmp (key_or keys.now one) (key_or keys.now other) }
+{
+    key_at(keys, one).cmp(key_at(keys, other))
+}
+
+// The key at the place, or the empty one behind all of them.
+fn key_at<'a>(keys: &[&'a str], at: usize) -> &'a str
+    ensures { result.now ≡ key_or keys.now at }
+{
+    match keys.get(at) {
+        Some(key) => key,
+        None => "",
+    }
+}
+
+// So many bytes all keys have in common at their front.
+fn common_front(keys: &[&str]) -> usize {
+    let first = key_at(keys, 0).as_bytes();
+    let mut front = first.len();
+    for at in 1..keys.len() {
+        front = common_bytes(first, keys[at].as_bytes(), front);
+    }
+    front
+}
+
+// So many bytes both have in common at their front, of the first ones.
+fn common_bytes(one: &[u8], other: &[u8], most: usize) -> usize {
+    for at in 0..most {
+        if one.get(at).copied() != other.get(at).copied() {
+            return at;
+        }
+    }
+    most
+}
+
+// Eight bytes of the key behind its front as one number, with zeros for those that are missing.
+fn head_of(key: &str, front: usize) -> u64
+    ensures { result ≡ head key.now (head_start front key.now) 8 }
+{
+    let bytes = key.as_bytes();
+    let start = front.min(bytes.len());
+    let mut head: u64 = 0;
+    'bytes: for at in 0..8 {
+        let byte = bytes.get(start + at).copied().unwrap_or(0);
+        head = head << 8 | byte as u64;
+    }
+    head
+}
+
+// The texts of the pieces at the places, as an object, of those of one key that stand side by side
 // the last; none where the keys do not ascend.
 fn join_pieces(
     alloc: Global,
-    pieces: &Vec<Piece<'_>>,
-    start: usize,
+    keys: &[&str],
+    starts: &[usize],
+    places: &Vec<usize>,
     texts: &Vec<u8>,
 ) -> Result<Option<Vec<u8>>, AllocError>
-    requires { All (IsWithin texts.now.items) pieces.now.items }
-    ensures { IfOk result (λ s. IfSome s (λ written. Ascend None (last_ones pieces.now.items)
-        × (written.items ≡ object_text texts.now.items (last_ones pieces.now.items)))) }
+    requires paired { length keys.now ≡ length starts.now }
+    requires within { All (IsWithin texts.now.items) (pieces_from keys.now starts.now (length texts.now.items)) }
+    requires places { All (λ n. n < length keys.now) places.now.items }
+    ensures { IfOk result (λ s. IfSome s (λ written. IsJoined
+        (picked (pieces_from keys.now starts.now (length texts.now.items)) places.now.items)
+        texts.now.items written.items)) }
 {
-    let room = texts.len().saturating_sub(start).saturating_add(1);
+    let room = texts
+        .len()
+        .saturating_sub(first_start(starts))
+        .saturating_add(2);
     let mut out = Vec::with_capacity(alloc, room)?;
     out.push(b'{')?;
     let mut last: Option<&str> = None;
-    for at in 0..pieces.len() {
-        let Piece { key, start, end } = pieces[at];
-        if has_next(pieces, at, key) {
+    for at in 0..places.len() {
+        let Piece { key, start, end } = piece_at(keys, starts, texts.len(), places[at]);
+        if has_next(keys, places, at, key) {
             continue;
         }
         if !follows(last, key) {
@@ -226,13 +283,41 @@ fn join_pieces(
     Ok(Some(out))
 }
 
-// The piece behind the place has the key too.
-fn has_next(pieces: &Vec<Piece<'_>>, at: usize, key: &str) -> bool
-    requires { at < length pieces.now.items }
-    ensures { result ≡ stands_again key.now (drop (suc at) pieces.now.items) }
+// Where the text of the first member begins, a byte behind the start of the object.
+fn first_start(starts: &[usize]) -> usize {
+    starts.first().copied().unwrap_or(0)
+}
+
+fn piece_at<'a>(keys: &[&'a str], starts: &[usize], end: usize, at: usize) -> Piece<'a>
+    requires paired { length keys.now ≡ length starts.now }
+    requires within { at < length keys.now }
+    ensures { result ≡ piece_or (pieces_from keys.now starts.now end) at }
 {
-    match pieces.get(at + 1) {
-        Some(next) => next.key == key,
+    Piece {
+        key: keys[at],
+        start: starts[at],
+        end: end_of(starts, at, end),
+    }
+}
+
+// A member ends right before the comma in front of the next, the last one at the end of the text.
+fn end_of(starts: &[usize], at: usize, end: usize) -> usize
+    requires { at < length starts.now }
+    ensures { result ≡ end_before (drop (suc at) starts.now) end }
+{
+    match starts.get(at + 1) {
+        Some(next) => next.saturating_sub(1),
+        None => end,
+    }
+}
+
+// The member at the next of the places has the key too.
+fn has_next(keys: &[&str], places: &Vec<usize>, at: usize, key: &str) -> bool
+    requires { at < length places.now.items }
+    ensures { result ≡ has_first keys.now key.now (drop (suc at) places.now.items) }
+{
+    match places.get(at + 1) {
+        Some(next) => key_at(keys, *next) == key,
         None => false,
     }
 }

@@ -1,7 +1,6 @@
-use Rattle.std.proofs.Common.{◌≡◌, arith, ◌++◌, length, None, take, sym, ap, ◌∙◌, subst}
+use Rattle.std.proofs.Common.{◌++◌, length, None, take, ap, ◌∙◌, subst}
 use Rattle.std.specs.Prelude.{IfSome}
-use Rattle.std.specs.List.{All}
-use Rattle.bson_filter.specs.Pieces.{pieces_from, InOrder, IsBraced, IsEnded, IsWithin}
+use Rattle.bson_filter.specs.Pieces.{pieces_from, InOrder, IsBraced, IsEnded}
 use Rattle.bson_filter.proofs.PiecesInOrder.{ended_in_place, pieces_ascend}
 use Rattle.std.proofs.lemmas.Str.{is_utf8-from_IsUtf8}
 use Rattle.std.specs.Str.{is_utf8}
@@ -23,14 +22,6 @@ returns-then-ascend c =
       utf8 = braced_utf8 c.extend_from_slice.new.self.items braced;
     }
 
-pub in_order-requires : goal.in_order-requires
-in_order-requires c =
-    let texts = c.args.text.now.items in
-    let long : c.len-2.result ≡ length texts = grind arith in
-    let whole = c.in_ok-pieces.ensures
-    ∙ ap (pieces_from c.args.keys.now c.args.starts.now) long in
-    subst (All (IsWithin texts)) (sym whole) c.requires.within
-
 -- what stands before the object is left
 pub returns-in_err-extend_from_slice-2-clause-utf8 : goal.returns-in_err-extend_from_slice-2-clause-utf8
 returns-in_err-extend_from_slice-2-clause-utf8 c =
@@ -43,17 +34,13 @@ returns-in_err-extend_from_slice-2-clause-utf8 c =
 pub returns : goal.returns
 returns c =
     let texts = c.args.text.now.items in
-    let long : c.len-2.result ≡ length texts = grind arith in
     let written = c.in_ok-written.written.items in
-    let whole = c.in_ok-pieces.ensures ∙ ap (pieces_from c.args.keys.now c.args.starts.now) long in
     let before = take c.args.start texts in
     let new = c.extend_from_slice-2.new.self.items in
     let pieces = pieces_from c.args.keys.now c.args.starts.now (length texts) in
     let ended : IsEnded pieces before texts new = (
       written,
-      subst (λ ps. InOrder ps texts written) whole
-          (subst (λ s. IfSome s (λ t. InOrder c.in_ok-pieces.pieces.items texts t.items)) c.in_ok-written.ensures.ok_part
-          c.in_ok-in_order.ensures),
+      subst (λ s. IfSome s (λ t. InOrder pieces texts t.items)) c.in_ok-written.ensures.ok_part c.in_ok-in_order.ensures,
       c.in_ok-extend_from_slice-2.ensures.items ∙ ap (λ l. l ++ c.deref.result.now) c.truncate.ensures.items
           ∙ ap (λ l. before ++ l) c.deref.ensures.value,
     ) in

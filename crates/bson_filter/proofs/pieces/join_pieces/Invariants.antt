@@ -1,13 +1,14 @@
-use Rattle.std.proofs.Common.{◌≡◌, ◌++◌, drop, None, option_map}
+use Rattle.std.proofs.Common.{◌≡◌, ◌++◌, drop, length, None, option_map}
 use Rattle.std.specs.Prelude.{is_some}
-use Rattle.bson_filter.specs.Pieces.{members_text, object_text, last_ones, Ascend}
+use Rattle.bson_filter.specs.Pieces.{members_text, object_text, last_ones, pieces_from, picked, Ascend}
 use Rattle.bson_filter.proofs.pieces.join_pieces.Given as goal
 
--- what the pieces from here on give gives all of them
+-- what the places from here on give gives all of them
 abbrev pub invariant-loop-at : goal.invariant-loop-at
 invariant-loop-at l =
-    let left = last_ones (drop l.at l.pieces.items) in
-    let all = last_ones l.pieces.items in
+    let ps = pieces_from l.keys l.starts (length l.texts.items) in
+    let left = last_ones (picked ps (drop l.at l.places.items)) in
+    let all = last_ones (picked ps l.places.items) in
     record {
       text : l.out.items ++ members_text l.texts.items (is_some l.last) left ≡ object_text l.texts.items all;
       ascend : Ascend (option_map (λ s. s.now) l.last) left → Ascend None all;

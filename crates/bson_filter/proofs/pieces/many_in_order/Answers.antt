@@ -1,36 +1,30 @@
-use Rattle.std.proofs.Common.{◌≡◌, None, subst}
+use Rattle.std.proofs.Common.{length, subst}
 use Rattle.std.specs.Prelude.{IfSome}
-use Rattle.std.proofs.lemmas.List.Sorted.{All-permutation}
-use Rattle.bson_filter.specs.Pieces.{object_text, last_ones, Ascend, IsWithin, InOrder}
-use Rattle.bson_filter.proofs.PiecesInOrder.{ok_more, in_order_again}
+use Rattle.bson_filter.specs.Pieces.{pieces_from, picked, IsJoined}
+use Rattle.bson_filter.proofs.Placing.{all_below, placed_again, placed_in_order}
 use Rattle.bson_filter.proofs.pieces.many_in_order.Goals as goal
 
-pub join_pieces-requires : goal.join_pieces-requires
-join_pieces-requires c =
-    All-permutation (IsWithin c.args.texts.now.items) c.args.pieces.items c.sort_by_prefix.new.pieces.items
-    c.in_ok-sort_by_prefix.ensures.same c.requires
+pub join_pieces-requires-clause-places : goal.join_pieces-requires-clause-places
+join_pieces-requires-clause-places c =
+    let ks = c.args.keys.now in
+    let sorted = c.in_ok-sort_by_head.ensures in
+    all_below ks c.sort_by_head.new.places.items
+    (placed_again ks c.args.places.items c.sort_by_head.new.places.items sorted.stable sorted.same c.requires.placed)
 
-pub few_in_order-requires : goal.few_in_order-requires
-few_in_order-requires c =
-    All-permutation (IsWithin c.args.texts.now.items) c.args.pieces.items c.sort_by_prefix.new.pieces.items
-    c.in_ok-sort_by_prefix.ensures.same c.requires
+pub few_in_order-requires-clause-placed : goal.few_in_order-requires-clause-placed
+few_in_order-requires-clause-placed c =
+    let sorted = c.in_ok-sort_by_head.ensures in
+    placed_again c.args.keys.now c.args.places.items c.sort_by_head.new.places.items sorted.stable sorted.same
+    c.requires.placed
 
 pub returns-in-Some : goal.returns-in-Some
 returns-in-Some c =
+    let ks = c.args.keys.now in
     let texts = c.args.texts.now.items in
-    let pieces = c.sort_by_prefix.new.pieces.items in
-    let sorted = c.in_ok-sort_by_prefix.ensures in
-    let joined = subst
-    (λ s. IfSome s (λ written. Ascend None (last_ones pieces) × (written.items ≡ object_text texts (last_ones pieces))))
-    c.in-Some.is c.in_ok-written.ensures in
-    (pieces, sorted.stable, sorted.same, joined.0, joined.1)
-
-pub returns : goal.returns
-returns c =
-    let texts = c.args.texts.now.items in
-    let old = c.args.pieces.items in
-    let mid = c.sort_by_prefix.new.pieces.items in
-    let sorted = c.in_ok-sort_by_prefix.ensures in
-    ok_more (λ written. InOrder mid texts written.items) (λ written. InOrder old texts written.items)
-    (λ written. in_order_again old mid texts written.items sorted.stable sorted.same)
-    c.few_in_order.result c.few_in_order.ensures
+    let ps = pieces_from ks c.args.starts.now (length texts) in
+    let new = c.sort_by_head.new.places.items in
+    let sorted = c.in_ok-sort_by_head.ensures in
+    let placed = placed_again ks c.args.places.items new sorted.stable sorted.same c.requires.placed in
+    let joined = subst (λ s. IfSome s (λ written. IsJoined (picked ps new) texts written.items)) c.in-Some.is
+    c.in_ok-written.ensures in
+    placed_in_order ks c.args.starts.now (length texts) new texts c.in-Some.written.items c.requires.paired placed joined
