@@ -1,0 +1,2 @@
+use Rattle.bson_json.proofs.Unescaped
+use Rattle.bson_json.proofs.Lexemes

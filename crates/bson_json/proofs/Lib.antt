@@ -1,0 +1,7 @@
+pub mod Lexing
+pub mod Strings
+pub mod Unescaped
+pub mod Numbers
+pub mod Forward
+pub mod Lexemes
+pub mod Back

@@ -1,0 +1,4 @@
+//! JSON as a relation.
+#![tactic(auto)]
+
+pub mod laws;
