@@ -26,21 +26,21 @@ pub lex-null : (r : List ℕ) → ends_word r ≡ true → lex between (110 ∷ 
 unfolding lex word
 lex-null r e = ap₂ (λ b l. token (cond b Token.null Token.bad) ∷ l) e (in_word-ended r e)
 
-at_null : (p : Place) (ls : List Lexeme) → may_begin p ≡ true → punctuate p (token Token.null ∷ ls) ≡ Token.null ∷ punctuate after_value ls
+pub at_null : (p : Place) (ls : List Lexeme) → may_begin p ≡ true → punctuate p (token Token.null ∷ ls) ≡ Token.null ∷ punctuate after_value ls
 unfolding punctuate
 at_null fresh ls may = refl
 at_null after_value ls may = absurd (false≢true may)
 at_null after_comma ls may = refl
 at_null after_key ls may = absurd (false≢true may)
 
-at_boolean : (p : Place) (ls : List Lexeme) (b : Bool) → may_begin p ≡ true → punctuate p (token (Token.boolean b) ∷ ls) ≡ Token.boolean b ∷ punctuate after_value ls
+pub at_boolean : (p : Place) (ls : List Lexeme) (b : Bool) → may_begin p ≡ true → punctuate p (token (Token.boolean b) ∷ ls) ≡ Token.boolean b ∷ punctuate after_value ls
 unfolding punctuate
 at_boolean fresh ls b may = refl
 at_boolean after_value ls b may = absurd (false≢true may)
 at_boolean after_comma ls b may = refl
 at_boolean after_key ls b may = absurd (false≢true may)
 
-at_number : (p : Place) (ls : List Lexeme) (s : List ℕ) → may_begin p ≡ true → punctuate p (token (Token.number s) ∷ ls) ≡ Token.number s ∷ punctuate after_value ls
+pub at_number : (p : Place) (ls : List Lexeme) (s : List ℕ) → may_begin p ≡ true → punctuate p (token (Token.number s) ∷ ls) ≡ Token.number s ∷ punctuate after_value ls
 unfolding punctuate
 at_number fresh ls s may = refl
 at_number after_value ls s may = absurd (false≢true may)
@@ -61,21 +61,21 @@ at_key after_value ls s may = absurd (false≢true may)
 at_key after_comma ls s may = refl
 at_key after_key ls s may = absurd (false≢true may)
 
-at_array : (p : Place) (ls : List Lexeme) → may_begin p ≡ true → punctuate p (token Token.begin_array ∷ ls) ≡ Token.begin_array ∷ punctuate fresh ls
+pub at_array : (p : Place) (ls : List Lexeme) → may_begin p ≡ true → punctuate p (token Token.begin_array ∷ ls) ≡ Token.begin_array ∷ punctuate fresh ls
 unfolding punctuate
 at_array fresh ls may = refl
 at_array after_value ls may = absurd (false≢true may)
 at_array after_comma ls may = refl
 at_array after_key ls may = absurd (false≢true may)
 
-at_object : (p : Place) (ls : List Lexeme) → may_begin p ≡ true → punctuate p (token Token.begin_object ∷ ls) ≡ Token.begin_object ∷ punctuate fresh ls
+pub at_object : (p : Place) (ls : List Lexeme) → may_begin p ≡ true → punctuate p (token Token.begin_object ∷ ls) ≡ Token.begin_object ∷ punctuate fresh ls
 unfolding punctuate
 at_object fresh ls may = refl
 at_object after_value ls may = absurd (false≢true may)
 at_object after_comma ls may = refl
 at_object after_key ls may = absurd (false≢true may)
 
-three : (a t b r : List ℕ) → (a ++ (t ++ b)) ++ r ≡ a ++ (t ++ (b ++ r))
+pub three : (a t b r : List ℕ) → (a ++ (t ++ b)) ++ r ≡ a ++ (t ++ (b ++ r))
 three a t b r = append_assoc a (t ++ b) r ∙ ap (λ l. a ++ l) (append_assoc t b r)
 
 -- the text r follows s, which closes an array or an object

@@ -4,4 +4,5 @@ pub mod Unescaped
 pub mod Numbers
 pub mod Forward
 pub mod Lexemes
+pub mod Firsts
 pub mod Back
