@@ -6,3 +6,4 @@ pub mod Forward
 pub mod Lexemes
 pub mod Firsts
 pub mod Back
+pub mod Reading

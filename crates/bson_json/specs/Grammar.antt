@@ -1,9 +1,12 @@
 -- Which bytes are which value: JSON (RFC 8259), a production a line, over the bytes of the text in UTF-8. A key and a
 -- string are given unescaped, as bytes, and a number as its text. Quoted before each family is its rule of the RFC.
-use Rattle.std.specs.Prelude.{◌≡◌, ℕ, ◌+◌, ◌-◌, ◌*◌, ◌<◌, ◌≤◌, ◌≢◌, List, [], ◌∷◌, ◌++◌, codes, true, false}
+use Rattle.std.specs.Prelude.{◌≡◌, ℕ, ◌+◌, ◌-◌, ◌*◌, ◌<◌, ◌≤◌, ◌≢◌, List, [], ◌∷◌, ◌++◌, codes, true, false, Some}
 use Rattle.std.specs.Char.{encode_utf8}
 use Rattle.json.specs.Json.{Json, Items, no_items, item, Members, no_members, member}
 use Rattle.json.specs.Json as json
+use Rattle.json.specs.Tree.{depth}
+use Rattle.serde_json.specs.Data.{Data}
+use Rattle.serde_json.specs.Read.{of_json, max_depth}
 
 -- ---- section 2: white space and structural characters
 
@@ -181,3 +184,13 @@ mutual
 -- JSON-text = ws value ws
 pub data IsJson : List ℕ → Json → Type 0 where
   text : {a t b : List ℕ} {j : Json} → IsWs a → IsValue t j → IsWs b → IsJson (a ++ (t ++ b)) j
+
+-- ---- texts of a bounded depth (section 9: an implementation may bound how deep texts nest)
+
+-- the text is JSON, of at most 127 levels
+abbrev pub IsJsonText : List ℕ → Type 0
+IsJsonText t = (j : Json) × IsJson t j × (depth j ≤ max_depth)
+
+-- the text is JSON of at most 127 levels, and this its tree: in objects the last value of each key, and numbers in range
+abbrev pub IsJsonOf : List ℕ → Data → Type 0
+IsJsonOf t tree = (j : Json) × IsJson t j × (depth j ≤ max_depth) × (of_json j ≡ Some tree)
