@@ -7,3 +7,4 @@ pub mod Lexemes
 pub mod Firsts
 pub mod Back
 pub mod Reading
+pub mod Corners

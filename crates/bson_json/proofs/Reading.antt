@@ -1,5 +1,5 @@
 -- What is read of a text is what the grammar gives it.
-use Rattle.std.proofs.Common.{◌≡◌, ◌≢◌, ◌≤◌, ℕ, max, List, [], ◌∷◌, Option, Some, None, is_some, true≢false, option_and_then, option_map, refl, sym, ap, ◌∙◌, subst, append-nil, arith}
+use Rattle.std.proofs.Common.{◌≡◌, ◌≢◌, ◌≤◌, ℕ, max, Bool, true, false, List, [], ◌∷◌, Option, Some, None, is_some, true≢false, option_and_then, option_map, refl, sym, ap, ◌∙◌, subst, append-nil, arith}
 use Rattle.json.specs.Json.{Json, value, if_last, skip_value}
 use Rattle.json.specs.Lex.{tokens}
 use Rattle.json.specs.Token.{Token}
@@ -73,3 +73,18 @@ not_passed text e h = none_some [] (sym e ∙ passed_from text h)
 
 pub not_ended : (text : List ℕ) (r : List Token) → skip_value max_depth (tokens text) ≡ Some r → r ≢ [] → ¬ (IsJsonText text)
 not_ended text r e ne h = ne (some_inj r [] (sym e ∙ passed_from text h))
+
+pub some_token : (t : Token) (ts : List Token) → t ∷ ts ≢ []
+some_token t ts e = absurd (true≢false (ap is_more e))
+  where
+    is_more : List Token → Bool
+    is_more [] = false
+    is_more (t ∷ ts) = true
+
+-- ---- by computing
+
+pub accepted : (text : List ℕ) (j : Json) → json_of text ≡ Some j → IsJson text j
+accepted text j e = (json_to text j e).0
+
+pub refused : (text : List ℕ) → json_of text ≡ None → ¬ (IsJsonText text)
+refused text e h = none_some h.0 (sym e ∙ json_from text h.0 h.1 h.2)

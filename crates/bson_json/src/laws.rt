@@ -9,6 +9,7 @@ ghost use Rattle.bson_model.specs.Laws.{HasMeaningIn};
 ghost use Rattle.bson_model.specs.Value.{Value};
 ghost use Rattle.bson_order.specs.Texts.{MeansByDefault};
 ghost use Rattle.bson_distinct.specs.Double.{json_of};
+ghost use Rattle.bson_json.specs.Corners.{Accepts, Refuses};
 ghost use Rattle.bson_json.specs.Grammar.{IsJson, IsJsonOf};
 
 /// The kit's reader finds a value in a text if and only if the grammar gives the text that value, and
@@ -25,4 +26,11 @@ pub fn texts_mean_by_the_grammar()
     ensures read { (text : List ℕ) (t : Data) → (read text ≡ Some t) ↔ IsJsonOf text t }
     ensures means { (D : Doubles) (text : List ℕ) (v : Value)
         → MeansByDefault D text v ↔ ((t : Data) × IsJsonOf text t × HasMeaningIn D t v) }
+{}
+
+/// The texts at the edges of the grammar have a value or have none, as `Accepts` and `Refuses` list
+/// them.
+pub fn corner_cases()
+    ensures accepts { Accepts }
+    ensures refuses { Refuses }
 {}

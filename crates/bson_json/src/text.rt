@@ -9,7 +9,7 @@ use std::alloc::{AllocError, Global};
 /// Returns whether a text is JSON as RFC 8259 has it, with arrays and objects at most 127 deep.
 ///
 /// An escaped surrogate must be in a pair. A key may be duplicated, and a number may be of any size.
-/// Memory is that of the longest string with an escape.
+/// Memory is that of the text at most.
 ///
 /// # Errors
 ///
@@ -24,8 +24,11 @@ pub fn is_json(alloc: Global, text: &str) -> Result<bool, AllocError>
 {
     let mut scratch = Scratch::new(alloc);
     let mut reader = Reader::new(text, &mut scratch)?;
-    if reader.skip_value(MAX_DEPTH).is_err() {
-        return Ok(false);
+    match reader.skip_value(MAX_DEPTH) {
+        Ok(()) => match reader.next() {
+            None => Ok(true),
+            Some(_) => Ok(false),
+        },
+        Err(_) => Ok(false),
     }
-    Ok(reader.next().is_none())
 }
