@@ -5,7 +5,7 @@ use Rattle.json.specs.Json as json
 use Rattle.json.specs.Lex.{token, lex, between, Place, fresh, after_value, after_comma, may_begin, punctuate, tokens}
 use Rattle.json.specs.Token.{Token}
 use Rattle.json.specs.Tree.{json_tokens, items_tokens, members_tokens}
-use Rattle.bson_json.specs.Grammar.{IsWs, no_ws, space, tab, line_feed, carriage_return, IsMark, mark, IsNumber, IsString}
+use Rattle.bson_json.specs.Grammar.{IsWs, no_ws, IsMark, mark}
 use Rattle.bson_json.specs.Grammar.{IsValue, false_name, null_name, true_name, an_object, an_array, a_number, a_string, AreValues, no_values, values, MoreValues, no_more_values, next_value}
 use Rattle.bson_json.specs.Grammar.{AreMembers, no_pairs, pairs, MoreMembers, no_more_pairs, next_pair, IsMember, pair, IsJson, text}
 use Rattle.bson_json.proofs.Firsts.{Read, seen_as, IsKey, First, first, Comma, After, after, comma_before}

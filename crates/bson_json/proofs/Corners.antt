@@ -1,7 +1,7 @@
 -- The texts at the edges: each is read as its value, or not at all, by computing.
-use Rattle.std.proofs.Common.{◌≡◌, List, [], ◌∷◌, Option, Some, None, refl}
+use Rattle.std.proofs.Common.{refl}
 use lib.Utf8.{encode}
-use Rattle.json.specs.Json.{Json, value, items, members}
+use Rattle.json.specs.Json.{value, items, members}
 use Rattle.json.specs.Lex.{lex, punctuate}
 use Rattle.json.specs.Text.{content, code_unit, short_escape}
 use Rattle.json.specs.Word.{after_number, word}

@@ -3,10 +3,10 @@ use Rattle.std.proofs.Common.{◌≡◌, ℕ, Bool, true, false, List, [], ◌�
 use Rattle.std.proofs.lemmas.Bool.{false≢true}
 use Rattle.json.specs.Json.{Json}
 use Rattle.json.specs.Json as json
-use Rattle.json.specs.Lex.{Lexeme, token, comma, colon, lex, between, begins_colon, Place, fresh, after_value, after_comma, after_key, may_begin, if_allowed, place_token, punctuate}
+use Rattle.json.specs.Lex.{Lexeme, token, comma, colon, lex, between, begins_colon, Place, fresh, after_value, after_comma, after_key, may_begin, place_token, punctuate}
 use Rattle.json.specs.Token.{Token}
 use Rattle.json.specs.Tree.{json_tokens}
-use Rattle.bson_json.specs.Grammar.{IsWs, IsNumber, IsString}
+use Rattle.bson_json.specs.Grammar.{IsWs, IsString}
 use Rattle.bson_json.proofs.Lexemes.{IsLexeme, Front, blank, lexeme, fault, front}
 
 -- white space and then bytes that are P stand before a rest, of which the tokens are read from a place on

@@ -1,9 +1,8 @@
 -- From the grammar to the reader: the tokens of a text of the grammar are those of its value.
 use Rattle.std.proofs.Common.{◌≡◌, ℕ, Bool, true, false, cond, List, [], ◌∷◌, ◌++◌, refl, sym, ap, ap₂, ◌∙◌, subst, append_assoc, append-nil}
 use Rattle.std.proofs.lemmas.Bool.{false≢true}
-use Rattle.json.specs.Json.{Json, Items, no_items, item, Members, no_members, member}
-use Rattle.json.specs.Json as json
-use Rattle.json.specs.Lex.{Lexeme, token, comma, colon, lex, between, begins_colon, Place, fresh, after_value, after_comma, after_key, may_begin, punctuate, tokens}
+use Rattle.json.specs.Json.{Json, Items, Members}
+use Rattle.json.specs.Lex.{Lexeme, token, colon, lex, between, begins_colon, Place, fresh, after_value, after_comma, after_key, may_begin, punctuate, tokens}
 use Rattle.json.specs.Token.{Token}
 use Rattle.json.specs.Tree.{json_tokens, items_tokens, members_tokens}
 use Rattle.json.specs.Word.{ends_word, word}

@@ -1,10 +1,10 @@
 -- From the reader to the grammar: what stands at the front of a text that is lexed.
-use Rattle.std.proofs.Common.{◌≡◌, ℕ, suc, ◌+◌, ◌-◌, ◌<◌, ◌≤◌, Bool, true, false, cond, ◌&&◌, ◌||◌, ◌==◌, nat_eq, List, [], ◌∷◌, ◌++◌, length, take, drop, Option, Some, None, option_and_then, refl, sym, ap, ap₂, ◌∙◌, subst, append_assoc, arith, inl, inr, ◌⊎◌, ⊎_elim, ◌≢◌, length-append}
-use Rattle.std.proofs.lemmas.Bool.{cond_both, cases_eq, ne_eqb, and_parts, eqb-true}
+use Rattle.std.proofs.Common.{◌≡◌, ℕ, suc, ◌+◌, ◌-◌, true, false, ◌&&◌, ◌==◌, nat_eq, List, [], ◌∷◌, ◌++◌, length, take, drop, Option, Some, None, refl, sym, ap, ◌∙◌, subst, append_assoc, arith, inl, inr, ◌⊎◌, ⊎_elim, length-append}
+use Rattle.std.proofs.lemmas.Bool.{cond_both, cases_eq, ne_eqb, and_parts}
 use Rattle.std.proofs.lemmas.List.{take-append-drop}
 use Rattle.std.specs.Cmp.Lexicographic.{same_text}
 use Rattle.std.specs.List.{starts_with}
-use Rattle.json.specs.Lex.{Lexeme, token, comma, colon, Class, quote, backslash, operator, space, other, class, lex_byte, lex, between, in_word, in_string, string_token, operator_lexeme}
+use Rattle.json.specs.Lex.{Lexeme, token, comma, colon, operator, other, class, lex_byte, lex, between, in_word, in_string, string_token, operator_lexeme}
 use Rattle.json.specs.Text.{content, plain}
 use Rattle.json.specs.Token.{Token}
 use Rattle.json.specs.Word.{head, ends_word, word, literal, number_before, after_number}
@@ -110,8 +110,8 @@ a_number t None h = inl refl
 a_number t (Some r) (s, e, h) =
     cond_both (ends_word r) (Token.number (take (length t - length r) t)) Token.bad (Word t)
     (λ ended.
-      let same : take (length t - length r) t ≡ s = ap (λ l. take (length l - length r) l) e ∙ take-front s r in
-      subst (λ n. Word t (Token.number n)) (sym same) (inr (s, r, e, (refl, h), ap (lex between) e ∙ lex-number s r (is_read h) ended)))
+    let same : take (length t - length r) t ≡ s = ap (λ l. take (length l - length r) l) e ∙ take-front s r in
+    subst (λ n. Word t (Token.number n)) (sym same) (inr (s, r, e, (refl, h), ap (lex between) e ∙ lex-number s r (is_read h) ended)))
     (λ e. inl refl)
 
 a_word : (t : List ℕ) → Word t (word t)

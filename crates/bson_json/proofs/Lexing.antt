@@ -1,6 +1,6 @@
 -- How white space and the structural characters are lexed.
-use Rattle.std.proofs.Common.{◌≡◌, ℕ, Bool, true, false, cond, List, [], ◌∷◌, ◌++◌, refl, sym, ap, ◌∙◌, subst, append_assoc}
-use Rattle.json.specs.Word.{is_operator, ends_word}
+use Rattle.std.proofs.Common.{◌≡◌, ℕ, true, false, List, [], ◌∷◌, ◌++◌, refl, ap, ◌∙◌, append_assoc}
+use Rattle.json.specs.Word.{ends_word}
 use Rattle.json.specs.Lex.{Lexeme, lex, lex_byte, class, operator, between, operator_lexeme, begins_colon}
 use Rattle.bson_json.specs.Grammar.{IsWs, no_ws, space, tab, line_feed, carriage_return, IsMark, mark}
 

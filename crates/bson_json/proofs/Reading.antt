@@ -1,5 +1,5 @@
 -- What is read of a text is what the grammar gives it.
-use Rattle.std.proofs.Common.{◌≡◌, ◌≢◌, ◌≤◌, ℕ, max, Bool, true, false, List, [], ◌∷◌, Option, Some, None, is_some, true≢false, option_and_then, option_map, refl, sym, ap, ◌∙◌, subst, append-nil, arith}
+use Rattle.std.proofs.Common.{◌≡◌, ◌≢◌, ◌≤◌, ℕ, max, Bool, true, false, List, [], ◌∷◌, Option, Some, None, is_some, true≢false, option_and_then, option_map, refl, sym, ap, ◌∙◌, append-nil, arith}
 use Rattle.json.specs.Json.{Json, value, if_last, skip_value}
 use Rattle.json.specs.Lex.{tokens}
 use Rattle.json.specs.Token.{Token}

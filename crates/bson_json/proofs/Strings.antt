@@ -1,12 +1,12 @@
 -- Strings: what is read and passed over of each character, and the character that was read.
-use Rattle.std.proofs.Common.{◌≡◌, ℕ, zero, suc, ◌+◌, ◌-◌, ◌*◌, ◌<◌, ◌≤◌, Bool, true, false, cond, not, ◌&&◌, ◌==◌, nat_lt, nat_le, List, [], ◌∷◌, ◌++◌, Option, Some, None, option_and_then, refl, sym, ap, ap₂, ◌∙◌, subst, append_assoc, arith, inl, inr, ◌⊎◌, ◌≢◌}
-use Rattle.std.proofs.lemmas.Bool.{ne_eqb, le-ltb, and_from, lt-ltb, le-leb, lt-leb, false_from_ne_true, and_parts, ltb-true, leb-true, cases_lt}
+use Rattle.std.proofs.Common.{◌≡◌, ℕ, ◌+◌, ◌*◌, ◌<◌, Bool, true, false, cond, ◌&&◌, nat_lt, List, [], ◌∷◌, ◌++◌, Option, Some, None, option_and_then, refl, ap, ap₂, ◌∙◌, append_assoc, arith, ◌≢◌}
+use Rattle.std.proofs.lemmas.Bool.{ne_eqb, le-ltb, and_from, lt-ltb, le-leb, false_from_ne_true, and_parts, ltb-true, leb-true}
 use Rattle.std.specs.Char.{is_digit, digit_value, encode_utf8}
-use Rattle.json.specs.Text.{content, plain, after_backslash, after_u, after_high, prepend, code_unit, short_escape, is_high_surrogate, is_low_surrogate, surrogate_pair}
+use Rattle.json.specs.Text.{content, plain, after_u, after_high, prepend, code_unit, short_escape, is_high_surrogate, is_low_surrogate, surrogate_pair}
 use Rattle.json.specs.Word.{is_operator, is_space}
-use Rattle.json.specs.Lex.{Lexeme, Mode, lex, lex_byte, between, in_string, in_escape, operator, space, other, class, token, string_token}
+use Rattle.json.specs.Lex.{Lexeme, Mode, lex, lex_byte, between, in_string, operator, space, other, token, string_token}
 use Rattle.json.specs.Token.{Token}
-use Rattle.bson_json.specs.Grammar.{IsHex, hex_digit, hex_upper, hex_lower, IsCode, code, IsHighSurrogate, IsLowSurrogate, IsUnescaped}
+use Rattle.bson_json.specs.Grammar.{IsHex, hex_digit, hex_upper, hex_lower, IsCode, code, IsHighSurrogate, IsLowSurrogate}
 use Rattle.bson_json.specs.Grammar.{IsChar, unescaped, quotation_mark, reverse_solidus, solidus, escaped_b, escaped_f, escaped_n, escaped_r, escaped_t, escaped_u, surrogates}
 use Rattle.bson_json.specs.Grammar.{AreChars, no_chars, char, IsString, string}
 

@@ -1,7 +1,7 @@
 -- Texts at the edges of the grammar, each with its value or without one. A byte of a control character is written as its
 -- number.
-use Rattle.std.specs.Prelude.{List, [], ◌∷◌, ◌++◌, codes}
-use Rattle.json.specs.Json.{Json, null, boolean, number, string, array, object, no_items, item, no_members, member}
+use Rattle.std.specs.Prelude.{[], ◌∷◌, ◌++◌, codes}
+use Rattle.json.specs.Json.{Json, null, number, string, array, object, no_items, item, no_members, member}
 use Rattle.bson_json.specs.Grammar.{IsJson, IsJsonText}
 
 -- a number of one digit, as it is written
