@@ -62,7 +62,7 @@ beside P Q R c t us ts f r e = record {
   left = e.left;
 }
 
--- a comma, and then what stands after it
+-- a comma, and then what follows it
 after_one : (P R : List ℕ → Type 0) (c : ℕ) (t : List ℕ) (us ts : List Token) → ((m u : List ℕ) → IsMark 0x2C m → P u → R (m ++ u)) → (q : Comma t us) → Closed P c q.rest ts → Ends R c t ts
 after_one P R c t us ts f q e = record {
   part = (q.gap ++ 0x2C ∷ e.white) ++ e.part;
@@ -75,7 +75,7 @@ after_one P R c t us ts f q e = record {
   left = e.left;
 }
 
--- an opening character, what stands inside, and the closing one
+-- an opening character, what is inside, and the closing one
 around : (P R : List ℕ → Type 0) (o c : ℕ) (t : List ℕ) (us ts : List Token) → ((a b d : List ℕ) → IsMark o a → P b → IsMark c d → R (a ++ (b ++ d))) → (r : Read (λ b. b ≡ o ∷ []) t us fresh) → Closed P c r.rest ts
     → Read R t ts after_value
 around P R o c t us ts f r e = record {

@@ -1,4 +1,4 @@
--- From the reader to the grammar: what stands at the front of a text that is lexed.
+-- From the reader to the grammar: what is at the front of a text that is lexed.
 use Rattle.std.proofs.Common.{◌≡◌, ℕ, suc, ◌+◌, ◌-◌, true, false, ◌&&◌, ◌==◌, nat_eq, List, [], ◌∷◌, ◌++◌, length, take, drop, Option, Some, None, refl, sym, ap, ◌∙◌, subst, append_assoc, arith, inl, inr, ◌⊎◌, ⊎_elim, length-append}
 use Rattle.std.proofs.lemmas.Bool.{cond_both, cases_eq, ne_eqb, and_parts}
 use Rattle.std.proofs.lemmas.List.{take-append-drop}

@@ -21,7 +21,7 @@ pub fn reading_is_the_grammar()
 {}
 
 /// `serde_json` reads a tree of a text if and only if the grammar gives the text a value with that
-/// tree. A text means the values that such a tree means.
+/// tree. A text means the values that this tree means.
 pub fn texts_mean_by_the_grammar()
     ensures read { (text : List ℕ) (t : Data) → (read text ≡ Some t) ↔ IsJsonOf text t }
     ensures means { (D : Doubles) (text : List ℕ) (v : Value)

@@ -18,7 +18,7 @@ returns-in-Ok c =
     let more = c.in-Some.ensures.value in
     record { ok = (λ z. absurd (false≢true z), λ h. absurd (not_ended c.args.text.now _ passed (λ e. some_token _ _ (sym more ∙ e)) h)) }
 
--- no value stands at the front
+-- no value is at the front
 pub returns : goal.returns
 returns c =
     let refused = ap (skip_value max_depth) (sym c.in_ok-reader.ensures.ok) ∙ c.in-Err.ensures.value in
