@@ -1,10 +1,10 @@
 -- Strings: what is read and passed over of each character, and the character that was read.
-use Rattle.std.proofs.Common.{◌≡◌, ℕ, ◌+◌, ◌*◌, ◌<◌, Bool, true, false, cond, ◌&&◌, nat_lt, List, [], ◌∷◌, ◌++◌, Option, Some, None, option_and_then, refl, ap, ap₂, ◌∙◌, append_assoc, arith, ◌≢◌}
-use Rattle.std.proofs.lemmas.Bool.{ne_eqb, le-ltb, and_from, lt-ltb, le-leb, false_from_ne_true, and_parts, ltb-true, leb-true}
+use Rattle.std.proofs.Common.{◌≡◌, ℕ, ◌+◌, ◌*◌, ◌<◌, Bool, true, false, cond, ◌&&◌, ◌==◌, nat_lt, List, [], ◌∷◌, ◌++◌, Option, Some, None, option_and_then, refl, ap, ap₂, ◌∙◌, append_assoc, arith, ◌≢◌}
+use Rattle.std.proofs.lemmas.Bool.{cond_both, eqb-true, ne_eqb, le-ltb, and_from, lt-ltb, le-leb, false_from_ne_true, and_parts, ltb-true, leb-true}
 use Rattle.std.specs.Char.{is_digit, digit_value, encode_utf8}
 use Rattle.json.specs.Text.{content, plain, after_u, after_high, prepend, code_unit, short_escape, is_high_surrogate, is_low_surrogate, surrogate_pair}
 use Rattle.json.specs.Word.{is_operator, is_space}
-use Rattle.json.specs.Lex.{Lexeme, Mode, lex, lex_byte, between, in_string, operator, space, other, token, string_token}
+use Rattle.json.specs.Lex.{Class, quote, backslash, operator, space, other, lex, lex_byte, between, in_string, token, string_token}
 use Rattle.json.specs.Token.{Token}
 use Rattle.bson_json.specs.Grammar.{IsHex, hex_digit, hex_upper, hex_lower, IsCode, code, IsHighSurrogate, IsLowSurrogate}
 use Rattle.bson_json.specs.Grammar.{IsChar, unescaped, quotation_mark, reverse_solidus, solidus, escaped_b, escaped_f, escaped_n, escaped_r, escaped_t, escaped_u, surrogates}
@@ -35,14 +35,16 @@ code_unit-code {a = a} {b = b} {c = c} {d = d} {w = w} {x = x} {y = y} {z = z} h
 
 -- ---- a character
 
-stays_inside : (o s : Bool) (x : ℕ) (r : List ℕ) (k : Mode → List Lexeme) → lex_byte in_string (cond o operator (cond s space other)) x r k ≡ k in_string
-stays_inside true s x r k = refl
-stays_inside false true x r k = refl
-stays_inside false false x r k = refl
+-- a byte of this class leaves the lexer in the string
+abbrev Stays : ℕ → List ℕ → Class → Type 0
+Stays x r k = lex_byte in_string k x r (λ m. lex m r) ≡ lex in_string r
 
 pub unescaped_stays : (x : ℕ) (r : List ℕ) → x ≢ 0x22 → x ≢ 0x5C → lex in_string (x ∷ r) ≡ lex in_string r
 unfolding lex
-unescaped_stays x r q b = rw (ne_eqb x 34 q, ne_eqb x 92 b) (stays_inside (is_operator x) (is_space x) x r (λ m. lex m r))
+unescaped_stays x r q b =
+    cond_both (x == 34) quote _ (Stays x r) (λ e. absurd (q (eqb-true x 34 e))) (λ e.
+    cond_both (x == 92) backslash _ (Stays x r) (λ f. absurd (b (eqb-true x 92 f))) (λ f.
+    cond_both (is_operator x) operator _ (Stays x r) (λ g. refl) (λ g. cond_both (is_space x) space other (Stays x r) (λ h. refl) (λ h. refl))))
 
 hex_stays : {x n : ℕ} (r : List ℕ) → IsHex x n → lex in_string (x ∷ r) ≡ lex in_string r
 hex_stays r (hex_digit {n = n} h) = unescaped_stays (48 + n) r (λ e. omega arith) (λ e. omega arith)
