@@ -1,0 +1,10 @@
+pub mod Lexing
+pub mod Strings
+pub mod Unescaped
+pub mod Numbers
+pub mod Forward
+pub mod Lexemes
+pub mod Firsts
+pub mod Back
+pub mod Reading
+pub mod Corners

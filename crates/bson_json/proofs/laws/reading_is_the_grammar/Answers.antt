@@ -1,0 +1,8 @@
+use Rattle.bson_json.proofs.Reading.{json_from, json_to, one_value}
+use Rattle.bson_json.proofs.laws.reading_is_the_grammar.Goals as goal
+
+pub returns-clause-tree : goal.returns-clause-tree
+returns-clause-tree c = λ text j. (json_to text j, λ h. json_from text j h.0 h.1)
+
+pub returns-clause-one : goal.returns-clause-one
+returns-clause-one c = λ text j k h i. one_value text j k h i
