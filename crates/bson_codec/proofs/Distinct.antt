@@ -1,28 +1,24 @@
--- Elements one after the other, as a loop reads them into a document in which no key may stand twice.
-use Rattle.std.proofs.Common.{◌≡◌, ℕ, ◌<◌, ◌≤◌, Bool, true, false, cond, List, [], ◌∷◌, length, Result, Ok, Err, refl, sym}
-use Rattle.std.proofs.Common.{ap, ◌∙◌, Option, Some, None, arith}
+-- A document in which no key may stand twice, as pairs are put to it.
+use Rattle.std.proofs.Common.{◌≡◌, ℕ, Bool, true, false, cond, List, [], ◌∷◌, Option, Some, None, Ok, Err, refl, sym, ap}
+use Rattle.std.proofs.Common.{◌∙◌, subst}
 use Rattle.std.specs.Prelude.{is_some}
 use Rattle.std.specs.Str.{bytes_eq}
 use Rattle.std.proofs.lemmas.Slice.Eq.{bytes_eq-Decides}
-use Rattle.bson_types.specs.declared.spec.ElementType.{ElementType}
-use Rattle.bson_model.specs.Value.{Value, Pairs, no_pairs}
+use Rattle.bson_model.specs.Value.{Value, Pairs, no_pairs, pair}
 use Rattle.bson_bytes.specs.declared.fault.Fault.{Fault}
 use Rattle.bson_bytes.specs.declared.fault.FaultKind.TheVariants.{DuplicateKey}
-use Rattle.bson_bytes.specs.declared.keys.DuplicateKeys.TheVariants.{Refuse}
-use Rattle.bson_bytes.specs.Fault.{at, ◌>>=◌}
-use Rattle.bson_bytes.specs.Grammar.{insert_value}
-use Rattle.bson_bytes.specs.Reading.{byte_at, name_at, key_at, is_new, settled, value_with, document_in}
-use Rattle.bson_bytes.specs.Tags.{kind_of}
-use Rattle.bson_bytes.proofs.Offered.{Read, elements, then_pairs, no_more, one_more}
+use Rattle.bson_bytes.specs.Fault.{at}
+use Rattle.bson_bytes.specs.Grammar.{insert_value, settle, one_each}
+use Rattle.bson_bytes.specs.Reading.{name_at, key_at, is_new}
 use Rattle.bson.specs.Pairs.{get, insert_pair}
 use Rattle.bson.specs.View.{bson_view, document_view, pairs_view, contents}
 use Rattle.bson.specs.declared.bson.Bson.{Bson}
 use Rattle.bson.specs.declared.document.Document.{Document}
-use Rattle.bson_codec.proofs.Loop.{pairs_view-put}
+use Rattle.bson_source.specs.Source.{keys_back, with_pair}
+use Rattle.bson_source.proofs.Offered.{keys_back_more}
+use Rattle.bson_codec.proofs.Listed.{pairs_view-put}
 use Rattle.bson_codec.proofs.Seen.{document_view-pairs}
-use Rattle.bson_codec.specs.Reading.{Stops, AreKeys}
-use Rattle.bson_codec.specs.declared.stopped.Stopped.{Stopped}
-use Rattle.bson_codec.specs.declared.stopped.Stopped.TheVariants as stopped
+use Rattle.bson_codec.specs.Reading.{AreKeys}
 
 -- ---- its keys once a pair is put
 
@@ -66,67 +62,28 @@ keys_more ks ps qs k v h is = λ q.
     ap (λ (x : List (List ℕ × Bson)). is_some (get q x)) is ∙ keys_put q k v ps
     ∙ ap (λ (b : Bool). cond (bytes_eq q k) true b) (h q) ∙ known_by (bytes_eq q k) (is_new q ks)
 
--- ---- elements
+-- ---- the pairs that it holds
 
--- what is read behind a document, and put to it, is the whole
-pub record DistinctLeft (d : ℕ) (found : Document) (rest : List ℕ) (total : Read) : Type 0 where
-  pub before : List (List ℕ)
-  pub are_keys : AreKeys before (contents found)
-  pub turns : ℕ
-  pub enough : length rest ≤ turns
-  pub read : settled (document_view found) (elements Refuse d (Some before) turns rest) ≡ total
+-- the document is that of the pairs, and has their keys
+abbrev pub Distinct : Pairs → Document → Type 0
+Distinct ps d = (document_view d ≡ one_each ps) × AreKeys (keys_back ps []) (contents d)
 
-pub distinct_start : (d : ℕ) (found : Document) (bytes : List ℕ) → contents found ≡ []
-    → DistinctLeft d found bytes (settled no_pairs (elements Refuse d (Some []) (length bytes) bytes))
-distinct_start d found bytes none = record {
-  before = [];
-  are_keys = λ q. ap (λ (x : List (List ℕ × Bson)). is_some (get q x)) none;
-  turns = length bytes;
-  enough = omega arith;
-  read = ap (λ (ps : Pairs). settled ps (elements Refuse d (Some []) (length bytes) bytes))
-      (document_view-pairs found ∙ ap pairs_view none);
-}
+settle_more : (done ps : Pairs) (k : List ℕ) (v : Value) → settle done (with_pair ps k v) ≡ insert_value k v (settle done ps)
+settle_more done no_pairs k v = refl
+settle_more done (pair l w ps) k v = settle_more (insert_value l w done) ps k v
 
-pub distinct_fault : (d : ℕ) (found : Document) (rest : List ℕ) (total : Read) (i : DistinctLeft d found rest total)
-    (f : Fault) → elements Refuse d (Some i.before) i.turns rest ≡ Err f → total ≡ Err f
-distinct_fault d found rest total i f h = sym i.read ∙ ap (settled (document_view found)) h
+pub distinct_none : (d : Document) → contents d ≡ [] → Distinct no_pairs d
+distinct_none d none =
+    (document_view-pairs d ∙ ap pairs_view none, λ q. ap (λ (x : List (List ℕ × Bson)). is_some (get q x)) none)
 
-pub distinct_fail : {A : Type 0} (e : Stopped) (part : Result A Fault) (d : ℕ) (found : Document) (rest : List ℕ)
-    (total : Read) (i : DistinctLeft d found rest total)
-    → ((f : Fault) → part ≡ Err f → elements Refuse d (Some i.before) i.turns rest ≡ Err f) → Stops e part
-    → Stops e total
-distinct_fail stopped.OutOfMemory part d found rest total i g h = tt
-distinct_fail (stopped.Fault f) part d found rest total i g h = distinct_fault d found rest total i f (g f h)
-
-pub distinct_end : (d : ℕ) (found : Document) (rest : List ℕ) (total : Read) (t : ℕ) (a : List ℕ)
-    → DistinctLeft d found rest total → byte_at rest ≡ Ok (t, a) → t ≡ 0 → total ≡ Ok (document_view found, a)
-distinct_end d found rest total t a i e z =
-    sym i.read ∙ ap (settled (document_view found)) (no_more Refuse d (Some i.before) i.turns rest t a i.enough e z)
-
-settled-then : (done : Pairs) (s : List ℕ) (v : Value) (r : Read)
-    → settled done (r >>= then_pairs s v) ≡ settled (insert_value s v done) r
-settled-then done s v (Ok x) = refl
-settled-then done s v (Err f) = refl
-
-pub distinct_more : (d : ℕ) (found new : Document) (rest : List ℕ) (total : Read) (t : ℕ) (a : List ℕ) (k : ElementType)
-    (s b : List ℕ) (v : Bson) (c : List ℕ) (i : DistinctLeft d found rest total) → length c < length rest
-    → byte_at rest ≡ Ok (t, a) → (t ≡ 0 → ⊥) → kind_of t ≡ Some k → key_at (Some i.before) a ≡ Ok (s, b)
-    → value_with Refuse (document_in Refuse d) k b ≡ Ok (bson_view v, c)
-    → contents new ≡ insert_pair s v (contents found) → DistinctLeft d new c total
-distinct_more d found new rest total t a k s b v c i lt e n k-is h w put =
-    let g = one_more Refuse d (Some i.before) i.turns rest t a k s b (bson_view v) c i.enough lt e n k-is h w in
-    let seen : document_view new ≡ insert_value s (bson_view v) (document_view found) =
-    document_view-pairs new ∙ ap pairs_view put ∙ pairs_view-put s v (contents found)
-    ∙ ap (insert_value s (bson_view v)) (sym (document_view-pairs found)) in
-    record {
-      before = s ∷ i.before;
-      are_keys = keys_more i.before (contents found) (contents new) s v i.are_keys put;
-      turns = g.turns;
-      enough = g.enough;
-      read = ap (λ (ps : Pairs). settled ps (elements Refuse d (Some (s ∷ i.before)) g.turns c)) seen
-          ∙ sym (settled-then (document_view found) s (bson_view v) (elements Refuse d (Some (s ∷ i.before)) g.turns c))
-          ∙ ap (settled (document_view found)) (sym g.read) ∙ i.read;
-    }
+pub distinct_more : (ps : Pairs) (d new : Document) (k : List ℕ) (v : Bson) → contents new ≡ insert_pair k v (contents d)
+    → Distinct ps d → Distinct (with_pair ps k (bson_view v)) new
+distinct_more ps d new k v put (seen, keys) = (
+  document_view-pairs new ∙ ap pairs_view put ∙ pairs_view-put k v (contents d)
+      ∙ ap (insert_value k (bson_view v)) (sym (document_view-pairs d) ∙ seen) ∙ sym (settle_more no_pairs ps k (bson_view v)),
+  subst (λ ks. AreKeys ks (contents new)) (sym (keys_back_more ps [] k (bson_view v)))
+      (keys_more (keys_back ps []) (contents d) (contents new) k v keys put),
+)
 
 -- ---- its keys
 

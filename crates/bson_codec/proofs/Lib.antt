@@ -1,5 +1,5 @@
 pub mod Seen
-pub mod Loop
+pub mod Listed
 pub mod Distinct
 pub mod Ends
 pub mod Elements

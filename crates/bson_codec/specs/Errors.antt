@@ -2,8 +2,8 @@
 use Rattle.std.specs.Prelude.{◌≡◌, ◌≤◌, ℕ, ◌+◌, ◌-◌, List, length, Result, Err}
 use Rattle.bson_bytes.specs.declared.fault.Fault.{Fault}
 use Rattle.bson_bytes.specs.declared.fault.FaultKind.{FaultKind}
-use Rattle.bson_codec.specs.declared.stopped.Stopped.{Stopped}
-use Rattle.bson_codec.specs.declared.stopped.Stopped.TheVariants as stopped
+use Rattle.bson_source.specs.declared.stop.Stop.{Stop}
+use Rattle.bson_source.specs.declared.stop.Stop.TheVariants as stops
 use Rattle.bson_codec.specs.declared.de.Error.{Error}
 use Rattle.bson_codec.specs.declared.de.Error.TheVariants as errors
 
@@ -23,12 +23,13 @@ IsFaultAlone (errors.Malformed k n) bytes read = IsPlacedFault k n bytes read
 
 -- ---- for private clauses
 
--- a fault stands in the bytes, or at their end
-abbrev pub StandsIn : Stopped → List ℕ → Type 0
-StandsIn stopped.OutOfMemory bytes = Unit {0}
-StandsIn (stopped.Fault f) bytes = f.left ≤ length bytes
+-- a fault stands in the bytes, or at their end, and no document may be doubtful
+abbrev pub StandsIn : Stop → List ℕ → Type 0
+StandsIn (stops.Fault f) bytes = f.left ≤ length bytes
+StandsIn stops.PossibleDuplicate bytes = ⊥
+StandsIn stops.OutOfMemory bytes = Unit {0}
 
 -- the error with its place from the front of the bytes
-abbrev pub located : Stopped → List ℕ → Error
-located (stopped.Fault f) bytes = errors.Malformed f.kind (length bytes - f.left)
-located stopped.OutOfMemory bytes = errors.OutOfMemory
+abbrev pub located : Stop → List ℕ → Error
+located (stops.Fault f) bytes = errors.Malformed f.kind (length bytes - f.left)
+located e bytes = errors.OutOfMemory

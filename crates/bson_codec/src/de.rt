@@ -7,17 +7,16 @@ ghost use Rattle.bson_bytes.specs.declared.error.Error.TheVariants as causes;
 ghost use Rattle.bson_bytes.specs.declared.keys.DuplicateKeys.TheVariants.{Replace};
 ghost use Rattle.bson.specs.View.{document_view};
 ghost use Rattle.bson_codec.specs.Errors.{IsFaultOf, IsFaultAlone, StandsIn, located};
-ghost use Rattle.bson_codec.specs.Reading.{Reads};
 ghost use Rattle.bson_codec.specs.declared.de.Error.TheVariants as errors;
 
-use crate::read::document_at;
+use crate::read::{document_at, read_document};
 use crate::ser;
 use crate::ser::to_vec;
-use crate::stopped::{Stopped, fault_at};
 use bson::Document;
 pub use bson_bytes::fault::FaultKind;
 pub use bson_bytes::keys::DuplicateKeys;
 use bson_source::nothing;
+use bson_source::stop::Stop;
 use std::alloc::{AllocError, Global};
 
 /// How deep documents, arrays and scopes may nest where a caller has no limit of its own: the limit
@@ -120,9 +119,9 @@ pub fn from_slice_with(alloc: Global, options: ReadOptions, bytes: &[u8]) -> Res
     ensures fault { IfErr result
         (λ e. IsFaultOf e bytes.now (reads_in options.duplicate_keys options.depth bytes.now)) }
 {
-    match read_whole(alloc, bytes, options.depth, options.duplicate_keys) {
+    match read_document(alloc, bytes, options.depth, options.duplicate_keys) {
         Ok(document) => Ok(document),
-        Err(stopped) => Err(locate(stopped, bytes)),
+        Err(stop) => Err(locate(stop, bytes)),
     }
 }
 
@@ -159,7 +158,7 @@ pub fn front_with(alloc: Global, options: ReadOptions, bytes: &[u8]) -> Result<(
 {
     match document_at(alloc, bytes, options.depth, options.duplicate_keys) {
         Ok((document, rest)) => Ok((document, rest)),
-        Err(stopped) => Err(locate(stopped, bytes)),
+        Err(stop) => Err(locate(stop, bytes)),
     }
 }
 
@@ -180,7 +179,7 @@ pub fn is_document(bytes: &[u8], depth: usize) -> Result<()>
 {
     match nothing::is_document(bytes, depth) {
         Ok(()) => Ok(()),
-        Err(fault) => Err(locate(Stopped::Fault(fault), bytes)),
+        Err(fault) => Err(locate(Stop::Fault(fault), bytes)),
     }
 }
 
@@ -212,32 +211,17 @@ fn is_unwritable(error: ser::Error) -> Result<bool, AllocError>
     }
 }
 
-#[tactic(auto, unfolding(bson_bytes::specs::Reading::reads_in))]
-fn read_whole(
-    alloc: Global,
-    bytes: &[u8],
-    depth: usize,
-    keys: DuplicateKeys,
-) -> Result<Document, Stopped>
-    ensures { Reads document_view result (reads_in keys depth bytes.now) }
-{
-    let (document, rest) = document_at(alloc, bytes, depth, keys)?;
-    if !rest.is_empty() {
-        return Err(fault_at(FaultKind::Trailing, rest));
-    }
-    Ok(document)
-}
-
 // The error with its place from the front of the bytes.
-pub(crate) fn locate(stopped: Stopped, bytes: &[u8]) -> Error
-    requires { StandsIn stopped bytes.now }
-    ensures { result ≡ located stopped bytes.now }
+pub(crate) fn locate(stop: Stop, bytes: &[u8]) -> Error
+    requires { StandsIn stop bytes.now }
+    ensures { result ≡ located stop bytes.now }
 {
-    match stopped {
-        Stopped::Fault(fault) => Error::Malformed {
+    match stop {
+        Stop::Fault(fault) => Error::Malformed {
             kind: fault.kind,
             offset: bytes.len() - fault.left,
         },
-        Stopped::OutOfMemory => Error::OutOfMemory,
+        Stop::PossibleDuplicate => unreachable!(),
+        Stop::OutOfMemory => Error::OutOfMemory,
     }
 }

@@ -5,13 +5,13 @@
 pub mod de;
 pub mod documents;
 pub mod laws;
+mod pair_list;
 mod read;
 pub mod run_end;
-mod scalars;
 pub mod ser;
-mod stopped;
 pub mod stream;
 pub mod text;
+mod values;
 mod write;
 
 pub use de::{

@@ -8,7 +8,6 @@ ghost use Rattle.bson_codec.specs.declared.de.Error.TheVariants as errors;
 ghost use Rattle.bson_model.specs.Value.{Pairs};
 
 use crate::de::{Error, from_slice, locate};
-use crate::stopped::Stopped;
 use bson::Bson;
 use bson::extjson::{Doubles, Form, Options, WriteError};
 use bson_source::stop::Stop;
@@ -40,7 +39,7 @@ pub fn decode_text(alloc: Global, form: Form, bytes: &[u8], depth: usize) -> Res
 {
     match document_text(alloc, form, bytes, depth) {
         Ok(text) => Ok(text),
-        Err(Stop::Fault(fault)) => Err(locate(Stopped::Fault(fault), bytes)),
+        Err(Stop::Fault(fault)) => Err(locate(Stop::Fault(fault), bytes)),
         Err(Stop::OutOfMemory) => Err(Error::OutOfMemory),
         Err(Stop::PossibleDuplicate) => decode_by_value(alloc, form, bytes, depth),
     }

@@ -1,6 +1,7 @@
 //! A sink that keeps nothing.
 ghost use Rattle.std.specs.Prelude.{◌≡◌, IfErr, OnOk, Ok, Err};
 ghost use Rattle.bson_bytes.specs.Reading.{reads};
+ghost use Rattle.bson_bytes.specs.declared.keys.DuplicateKeys.TheVariants.{Replace};
 ghost use Rattle.bson_model.specs.Value.{Pairs};
 
 use crate::fixed::FixedScalar;
@@ -25,6 +26,8 @@ impl ValueSink for Nothing {
     type Document = ();
 
     type Code = ();
+
+    ghost keys = { Replace };
 
     ghost may = { λ e. ⊥ };
 
@@ -70,7 +73,12 @@ impl ValueSink for Nothing {
         Ok(())
     }
 
-    fn name<'b>(&mut self, _is_document: bool, bytes: &'b [u8]) -> Result<((), &'b [u8]), Stop> {
+    fn name<'b>(
+        &mut self,
+        _is_document: bool,
+        _list: &(),
+        bytes: &'b [u8],
+    ) -> Result<((), &'b [u8]), Stop> {
         Ok(((), behind_name(bytes)?))
     }
 

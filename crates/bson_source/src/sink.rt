@@ -3,12 +3,13 @@ ghost use Rattle.std.specs.Prelude.{◌≤◌, Bool, true, false, List, ℕ, len
 ghost use Rattle.bson_scalar.specs.Scalar as kind;
 ghost use Rattle.bson_types.specs.Subtype.{subtype_of};
 ghost use Rattle.bson_bytes.specs.Grammar.{one_each, values};
-ghost use Rattle.bson_bytes.specs.Reading.{name_at};
+ghost use Rattle.bson_bytes.specs.Reading.{key_at};
+ghost use Rattle.bson_bytes.specs.declared.keys.DuplicateKeys.{DuplicateKeys};
 ghost use Rattle.bson_model.specs.Value.{Value, Pairs, no_pairs, scalar, code_scope, array, document};
 ghost use Rattle.bson_source.specs.declared.stop.Stop.{Stop};
 ghost use Rattle.bson_source.specs.declared.stop.Stop.TheVariants as stops;
 ghost use Rattle.bson_source.specs.Fixed.{fixed_view};
-ghost use Rattle.bson_source.specs.Source.{ReadsTo, IsNoFault, with_pair};
+ghost use Rattle.bson_source.specs.Source.{ReadsTo, IsNoFault, keys_before, with_pair};
 
 use crate::fixed::FixedScalar;
 use crate::stop::Stop;
@@ -31,6 +32,9 @@ pub trait ValueSink {
 
     /// Code that was begun, whose scope comes next.
     type Code: Drop;
+
+    // Whether documents may have duplicate keys.
+    ghost keys: { DuplicateKeys };
 
     // The sink may stop for this reason.
     ghost may: { Stop → Type 0 };
@@ -90,15 +94,18 @@ pub trait ValueSink {
         ensures given { IfOk result (λ o. begun is_document self.old no_pairs o self.new) }
         ensures stop { IfErr result (λ e. may stops.OutOfMemory) };
 
-    /// Reads the name at the front of the bytes, and writes it as that of the next element. An array
-    /// may have any names.
+    /// Reads the name at the front of the bytes, and writes it as that of the next element of the list.
+    /// An array may have any names. If duplicate keys are refused, a key that the document has already
+    /// is a fault of the bytes.
     fn name<'b>(
         &mut self,
         is_document: bool,
+        list: &Self::Open,
         bytes: &'b [u8],
     ) -> Result<(Self::Name, &'b [u8]), Stop>
-        ensures given { ReadsTo may (λ x. x.1.now) (λ s x. named is_document self.old s x.0 self.new) result
-            (name_at bytes.now) }
+        ensures given { (start : Self) (ps : Pairs) → begun is_document start ps list.now self.old
+            → ReadsTo may (λ x. x.1.now) (λ s x. named is_document self.old s x.0 self.new) result
+            (key_at (keys_before keys is_document ps) bytes.now) }
         ensures shorter { IfOk result (λ x. length x.1.now ≤ length bytes.now) };
 
     /// Adds the value with this name to the document or array.

@@ -1,10 +1,9 @@
 //! The one loop over the elements of a document.
-ghost use Rattle.std.specs.Prelude.{◌≤◌, length, IfOk, None};
-ghost use Rattle.bson_bytes.specs.Reading.{scope_at, value_with, list_at, document_in, document_at, settled, reads};
-ghost use Rattle.bson_bytes.specs.declared.keys.DuplicateKeys.TheVariants.{Replace};
+ghost use Rattle.std.specs.Prelude.{◌≤◌, length, IfOk};
+ghost use Rattle.bson_bytes.specs.Reading.{scope_at, value_with, list_at, document_in, none_before, settled, reads_in};
 ghost use Rattle.bson_types.specs.declared.spec.ElementType.TheVariants as tag;
 ghost use Rattle.bson_model.specs.Value.{no_pairs};
-ghost use Rattle.bson_source.specs.Source.{ReadsTo, ReadsAllTo};
+ghost use Rattle.bson_source.specs.Source.{ReadsTo, ReadsAllTo, keys_before};
 
 use crate::fixed::FixedScalar;
 use crate::leaves::{
@@ -28,7 +27,8 @@ pub fn read_document<S: ValueSink>(
     depth: usize,
     out: &mut S,
 ) -> Result<S::Document, Stop>
-    ensures { ReadsAllTo S.may (λ ps x. S.framed out.old ps x out.new) result (reads depth bytes.now) }
+    ensures { ReadsAllTo S.may (λ ps x. S.framed out.old ps x out.new) result
+        (reads_in S.keys depth bytes.now) }
 {
     let (given, rest) = document_at(bytes, depth, out)?;
     if !rest.is_empty() {
@@ -50,7 +50,7 @@ pub fn document_at<'a, S: ValueSink>(
     out: &mut S,
 ) -> Result<(S::Document, &'a [u8]), Stop>
     ensures given { ReadsTo S.may (λ x. x.1.now) (λ ps x. S.framed out.old ps x.0 out.new) result
-        (settled no_pairs (document_at depth bytes.now)) }
+        (settled no_pairs (document_in S.keys depth (none_before S.keys) bytes.now)) }
     ensures shorter { IfOk result (λ x. length x.1.now ≤ length bytes.now) }
 {
     let (list, rest) = sized_at(true, bytes, depth, out)?;
@@ -67,7 +67,7 @@ fn array_at<'a, S: ValueSink>(
     out: &mut S,
 ) -> Result<(S::Value, &'a [u8]), Stop>
     ensures given { ReadsTo S.may (λ x. x.1.now) (λ v x. S.wrote out.old v x.0 out.new) result
-        (value_with Replace (document_in Replace depth) tag.Array bytes.now) }
+        (value_with S.keys (document_in S.keys depth) tag.Array bytes.now) }
     ensures shorter { IfOk result (λ x. length x.1.now ≤ length bytes.now) }
 {
     let (list, rest) = sized_at(false, bytes, depth, out)?;
@@ -84,7 +84,7 @@ fn embedded_at<'a, S: ValueSink>(
     out: &mut S,
 ) -> Result<(S::Value, &'a [u8]), Stop>
     ensures given { ReadsTo S.may (λ x. x.1.now) (λ v x. S.wrote out.old v x.0 out.new) result
-        (value_with Replace (document_in Replace depth) tag.EmbeddedDocument bytes.now) }
+        (value_with S.keys (document_in S.keys depth) tag.EmbeddedDocument bytes.now) }
     ensures shorter { IfOk result (λ x. length x.1.now ≤ length bytes.now) }
 {
     let (given, rest) = document_at(bytes, depth, out)?;
@@ -101,7 +101,7 @@ fn scope_at<'a, S: ValueSink>(
     out: &mut S,
 ) -> Result<(S::Value, &'a [u8]), Stop>
     ensures given { ReadsTo S.may (λ x. x.1.now) (λ v x. S.wrote out.old v x.0 out.new) result
-        (scope_at (document_at depth) bytes.now) }
+        (scope_at (document_in S.keys depth (none_before S.keys)) bytes.now) }
     ensures shorter { IfOk result (λ x. length x.1.now ≤ length bytes.now) }
 {
     let (size, rest) = size_at(bytes)?;
@@ -124,7 +124,7 @@ fn sized_at<'a, S: ValueSink>(
     out: &mut S,
 ) -> Result<(S::Open, &'a [u8]), Stop>
     ensures given { ReadsTo S.may (λ x. x.1.now) (λ ps x. S.begun is_document out.old ps x.0 out.new) result
-        (document_at depth bytes.now) }
+        (document_in S.keys depth (keys_before S.keys is_document no_pairs) bytes.now) }
     ensures shorter { IfOk result (λ x. length x.1.now ≤ length bytes.now) }
 {
     if depth == 0 {
@@ -147,7 +147,8 @@ fn list_at<'a, S: ValueSink>(
     out: &mut S,
 ) -> Result<(S::Open, &'a [u8]), Stop>
     ensures given { ReadsTo S.may (λ x. x.1.now) (λ ps x. S.begun is_document out.old ps x.0 out.new) result
-        (list_at (value_with Replace (document_in Replace depth)) None (length bytes.now) bytes.now) }
+        (list_at (value_with S.keys (document_in S.keys depth)) (keys_before S.keys is_document no_pairs)
+        (length bytes.now) bytes.now) }
     ensures shorter { IfOk result (λ x. length x.1.now ≤ length bytes.now) }
 {
     let mut list = out.begin(is_document)?;
@@ -160,7 +161,7 @@ fn list_at<'a, S: ValueSink>(
         let Some(kind) = kind_of(tag) else {
             return Err(fault_at(FaultKind::Tag, rest));
         };
-        let (name, after) = out.name(is_document, after)?;
+        let (name, after) = out.name(is_document, &list, after)?;
         let (value, after) = value_at(kind, after, depth, out)?;
         out.element(is_document, &mut list, name, value)?;
         rest = after;
@@ -176,7 +177,7 @@ fn value_at<'a, S: ValueSink>(
     out: &mut S,
 ) -> Result<(S::Value, &'a [u8]), Stop>
     ensures given { ReadsTo S.may (λ x. x.1.now) (λ v x. S.wrote out.old v x.0 out.new) result
-        (value_with Replace (document_in Replace depth) kind bytes.now) }
+        (value_with S.keys (document_in S.keys depth) kind bytes.now) }
     ensures shorter { IfOk result (λ x. length x.1.now ≤ length bytes.now) }
 {
     match kind {

@@ -3,6 +3,7 @@ ghost use Rattle.std.specs.Prelude.{◌≡◌, ◌≢◌, ◌≤◌, true, [], l
 ghost use Rattle.std.specs.List.{AllPairs};
 ghost use Rattle.std.specs.List.Sorted.{IsStrictlyIncreasing};
 ghost use Rattle.bson_bytes.specs.Reading.{reads};
+ghost use Rattle.bson_bytes.specs.declared.keys.DuplicateKeys.TheVariants.{Replace};
 ghost use Rattle.json.specs.Print.{print as print_tokens};
 ghost use Rattle.bson_scalar.specs.Normal.{writable_scalar_in};
 ghost use Rattle.bson_scalar.specs.View.{scalar_view};
@@ -112,6 +113,8 @@ impl ValueSink for TextSink {
 
     ghost use Rattle.bson_source.specs.TextWritten.{ValueSent, PairsSent, Begun, Named, Coded};
 
+    ghost keys = { Replace };
+
     ghost may = { λ e. Unit {0} };
 
     ghost wrote = { λ old v x new. ValueSent old v new };
@@ -167,7 +170,12 @@ impl ValueSink for TextSink {
         Ok(self.digests.len())
     }
 
-    fn name<'b>(&mut self, is_document: bool, bytes: &'b [u8]) -> Result<((), &'b [u8]), Stop> {
+    fn name<'b>(
+        &mut self,
+        is_document: bool,
+        _list: &usize,
+        bytes: &'b [u8],
+    ) -> Result<((), &'b [u8]), Stop> {
         let (name, rest) = name_at(bytes)?;
         if !is_document {
             return Ok(((), rest));

@@ -1,7 +1,7 @@
-use Rattle.std.proofs.Common.{◌≤◌, length, None, ◌+◌, ◌*◌}
-use Rattle.bson_bytes.specs.declared.keys.DuplicateKeys.TheVariants.{Replace}
+use Rattle.std.proofs.Common.{◌≤◌, length, ◌+◌, ◌*◌}
 use Rattle.bson_bytes.proofs.Offered.{elements}
-use Rattle.bson_model.specs.Value.{Pairs}
+use Rattle.bson_model.specs.Value.{Pairs, no_pairs}
+use Rattle.bson_source.specs.Source.{keys_before}
 use Rattle.bson_source.proofs.Loop.{ListLeft, Given}
 use Rattle.bson_source.proofs.source.+source.Given as goal
 
@@ -28,7 +28,8 @@ decreases-list_at g l = 5 * l.depth + 4
 
 abbrev pub invariant-list_at-elements : goal.invariant-list_at-elements
 invariant-list_at-elements g l = (ps : Pairs)
-    × ListLeft l.depth ps l.rest (elements Replace l.depth None (length l.bytes) l.bytes)
+    × ListLeft g.S.ValueSink.keys l.is_document l.depth ps l.rest (elements g.S.ValueSink.keys l.depth
+    (keys_before g.S.ValueSink.keys l.is_document no_pairs) (length l.bytes) l.bytes)
     × Given (g.S.ValueSink.begun l.is_document) ps l.initial.list l.initial.out l.list l.out
     × (length l.rest ≤ length l.bytes)
 

@@ -1,0 +1,108 @@
+-- Values and pairs that are read one after another.
+use Rattle.std.proofs.Common.{◌≡◌, ℕ, Bool, true, false, cond, List, [], ◌∷◌, ◌++◌, Result, refl, sym, ap}
+use Rattle.std.proofs.Common.{◌∙◌, subst, string_bytes}
+use Rattle.std.specs.Str.{bytes_eq}
+use Rattle.bson_store.specs.declared.small.Pair.{Pair}
+use Rattle.bson_model.specs.Value.{Value, Values, no_values, value, Pairs, no_pairs, pair}
+use Rattle.bson_bytes.specs.Grammar.{values, insert_value, settle, one_each}
+use Rattle.bson_bytes.specs.Reading.{key_at, name_at}
+use Rattle.bson_bytes.specs.declared.keys.DuplicateKeys.{DuplicateKeys}
+use Rattle.bson_bytes.specs.declared.keys.DuplicateKeys.TheVariants.{Replace, Refuse}
+use Rattle.bson.specs.Pairs.{insert_pair}
+use Rattle.bson.specs.Put.{put_entries}
+use Rattle.bson.specs.View.{bson_view, document_view, values_view, pairs_view, contents}
+use Rattle.bson.specs.declared.bson.Bson.{Bson}
+use Rattle.bson.specs.declared.document.Document.{Document}
+use Rattle.bson_source.specs.Source.{ReadsTo, keys_before, with_pair}
+use Rattle.bson_source.specs.declared.stop.Stop.{Stop}
+use Rattle.bson_codec.proofs.Seen.{document_view-pairs}
+use Rattle.bson_codec.specs.Reading.{OfKind, entries_view}
+
+-- ---- a document of entries
+
+put_view_by : (b : Bool) (k : List ℕ) (v : Bson) (p : List ℕ × Bson) (ps more : List (List ℕ × Bson)) (rest : Pairs) → pairs_view more ≡ rest
+    → pairs_view (cond b ((p.0, v) ∷ ps) (p ∷ more)) ≡ cond b (pair p.0 (bson_view v) (pairs_view ps)) (pair p.0 (bson_view p.1) rest)
+put_view_by true k v p ps more rest e = refl
+put_view_by false k v p ps more rest e = ap (λ (q : Pairs). pair p.0 (bson_view p.1) q) e
+
+pub pairs_view-put : (k : List ℕ) (v : Bson) (ps : List (List ℕ × Bson)) → pairs_view (insert_pair k v ps) ≡ insert_value k (bson_view v) (pairs_view ps)
+pairs_view-put k v [] = refl
+pairs_view-put k v (p ∷ ps) = put_view_by (bytes_eq k p.0) k v p ps (insert_pair k v ps) (insert_value k (bson_view v) (pairs_view ps)) (pairs_view-put k v ps)
+
+view-put_entries : (es : List (Pair Bson)) (ps : List (List ℕ × Bson))
+    → pairs_view (put_entries es ps) ≡ settle (pairs_view ps) (entries_view es)
+view-put_entries [] ps = refl
+view-put_entries (e ∷ es) ps =
+    view-put_entries es (insert_pair (string_bytes e.key) e.value ps)
+    ∙ ap (λ (q : Pairs). settle q (entries_view es)) (pairs_view-put (string_bytes e.key) e.value ps)
+
+pub document_is : (d : Document) (es : List (Pair Bson)) (ps : Pairs) → contents d ≡ put_entries es []
+    → entries_view es ≡ ps → document_view d ≡ one_each ps
+document_is d es ps h made = document_view-pairs d ∙ ap pairs_view h ∙ view-put_entries es [] ∙ ap one_each made
+
+-- ---- one more
+
+entries_last : (es : List (Pair Bson)) (e : Pair Bson)
+    → entries_view (es ++ e ∷ []) ≡ with_pair (entries_view es) (string_bytes e.key) (bson_view e.value)
+entries_last [] e = refl
+entries_last (x ∷ es) e = ap (pair (string_bytes x.key) (bson_view x.value)) (entries_last es e)
+
+pub entries_more : (es : List (Pair Bson)) (e : Pair Bson) (ps : Pairs) → entries_view es ≡ ps
+    → entries_view (es ++ e ∷ []) ≡ with_pair ps (string_bytes e.key) (bson_view e.value)
+entries_more es e ps is = entries_last es e ∙ ap (λ (q : Pairs). with_pair q (string_bytes e.key) (bson_view e.value)) is
+
+abbrev value_last : Values → Value → Values
+value_last no_values v = value v no_values
+value_last (value w vs) v = value w (value_last vs v)
+
+values_last : (xs : List Bson) (x : Bson) → values_view (xs ++ x ∷ []) ≡ value_last (values_view xs) (bson_view x)
+values_last [] x = refl
+values_last (y ∷ xs) x = ap (value (bson_view y)) (values_last xs x)
+
+items_last : (ps : Pairs) (k : List ℕ) (v : Value) → values (with_pair ps k v) ≡ value_last (values ps) v
+items_last no_pairs k v = refl
+items_last (pair l w ps) k v = ap (value w) (items_last ps k v)
+
+pub items_more : (xs : List Bson) (x : Bson) (ps : Pairs) (k : List ℕ) → values_view xs ≡ values ps
+    → values_view (xs ++ x ∷ []) ≡ values (with_pair ps k (bson_view x))
+items_more xs x ps k is =
+    values_last xs x ∙ ap (λ (q : Values). value_last q (bson_view x)) is ∙ sym (items_last ps k (bson_view x))
+
+-- ---- a document or an array
+
+pub of_document : (b : Bool) (D A : Type 0) → b ≡ true → OfKind b D A → D
+of_document true D A t h = h
+of_document false D A t h = absurd cc
+
+pub either_kind : (b : Bool) (D A : Type 0) → D → A → OfKind b D A
+either_kind true D A d a = d
+either_kind false D A d a = a
+
+pub pair_put : {P : Type 0} (Holds : Pairs → P → Type 0) (b : Bool) (A B : Type 0) (old new : P) (key : List ℕ) (x : Value)
+    (ps : Pairs) (k : List ℕ) (v : Value) → b ≡ true → (Holds ps old → Holds (with_pair ps key x) new)
+    → OfKind b (Holds ps old) A → OfKind b (key ≡ k) (Unit {0}) → x ≡ v → OfKind b (Holds (with_pair ps k v) new) B
+pair_put Holds true A B old new key x ps k v t put list name is =
+    subst (λ q. Holds (with_pair ps q v) new) name (subst (λ w. Holds (with_pair ps key w) new) is (put list))
+pair_put Holds false A B old new key x ps k v t put list name is = absurd cc
+
+pub item_put : (b : Bool) (D E : Type 0) (old new : List Bson) (x : Bson) (ps : Pairs) (k : List ℕ) (v : Value) → b ≡ false
+    → (values_view old ≡ values ps → values_view new ≡ values (with_pair ps k (bson_view x)))
+    → OfKind b D (values_view old ≡ values ps) → bson_view x ≡ v → OfKind b E (values_view new ≡ values (with_pair ps k v))
+item_put true D E old new x ps k v t put list is = absurd cc
+item_put false D E old new x ps k v t put list is = put list ∙ ap (λ w. values (with_pair ps k w)) is
+
+-- ---- names
+
+pub named_key : {X : Type 0} (May : Stop → Type 0) (rest name : X → List ℕ) (b : Bool) (keys : DuplicateKeys) (ps : Pairs)
+    (bytes : List ℕ) (r : Result X Stop) → b ≡ true
+    → ReadsTo May rest (λ s x. name x ≡ s) r (key_at (keys_before keys true ps) bytes)
+    → ReadsTo May rest (λ s x. OfKind b (name x ≡ s) (Unit {0})) r (key_at (keys_before keys b ps) bytes)
+named_key May rest name true keys ps bytes r t h = h
+named_key May rest name false keys ps bytes r t h = absurd cc
+
+pub named_free : {X : Type 0} (May : Stop → Type 0) (rest name : X → List ℕ) (b : Bool) (keys : DuplicateKeys) (ps : Pairs)
+    (bytes : List ℕ) (r : Result X Stop) → b ≡ false → ReadsTo May rest (λ s x. Unit {0}) r (name_at bytes)
+    → ReadsTo May rest (λ s x. OfKind b (name x ≡ s) (Unit {0})) r (key_at (keys_before keys b ps) bytes)
+named_free May rest name true keys ps bytes r t h = absurd cc
+named_free May rest name false Replace ps bytes r t h = h
+named_free May rest name false Refuse ps bytes r t h = h
