@@ -145,7 +145,7 @@ uint32_t vbson_convert_with(uint32_t mode, uint32_t flags, const uint8_t *text, 
 /* Writes why, and where, vbson_convert_with, vbson_same and vbson_hash reject the input under these flags, as one line
  * without a newline. The output is empty if they accept it. VBSON_KEEP_ORDER changes nothing here, and neither does the
  * mode. The line is the message of the status, followed by
- *     " at column N (RULE)"     if the input is not JSON: N is the byte at which it stops to be JSON, counted from 1. RULE
+ *     " at column N (RULE)"     if the input is not JSON: it stops to be JSON at the byte N of a line, counted from 1. RULE
  *                               is the broken rule, for example "a comma or a bracket is missing". It is "a number is out
  *                               of range" if the grammar holds, and a number is too large for a double
  *     " at PATH (MESSAGE)"      for any other error: the path to the first one, its keys and array indexes (from 0) joined
