@@ -29,7 +29,7 @@ loop-at-preserved c =
     record {
       text = next_joined texts behind p (last_ones rest) (last_ones (drop at ps)) old mid new kept comma text ∙ c.loop-at.invariant.text;
       ascend = λ up. c.loop-at.invariant.ascend
-          (next_ascends last p (last_ones rest) (last_ones (drop at ps)) kept (c.follows.ensures c.if-not-follows.false) up);
+          (next_ascends last p (last_ones rest) (last_ones (drop at ps)) kept (c.follows.ensures.0 c.if-not-follows.false) up);
     }
 
 -- one that stands again is passed over
