@@ -18,7 +18,7 @@ use Rattle.bson_scalar.specs.Faults.{Fault, wrong_shape, ◌>>=◌}
 use Rattle.bson_scalar.proofs.Offered.{scalar_form, scalar_from}
 use Rattle.bson_scalar.specs.Normal.{writable_scalar_in}
 use Rattle.bson_scalar.specs.Reading.{number_read_in, single_at_in, single_in}
-use Rattle.bson_scalar.specs.Scalar.{Scalar}
+use Rattle.bson_scalar.specs.Scalar.{Scalar, code}
 use Rattle.bson_scalar.specs.Table.{wrapper_of, has_wrapper}
 use Rattle.bson_scalar.specs.declared.form.Doubles.{Doubles}
 use Rattle.bson_scalar.specs.declared.wrapper.Wrapper.{Wrapper}
@@ -70,6 +70,10 @@ scalar_stops_in Leaves x stop.OutOfMemory D written h = h
 scalar_stops_in Leaves x stop.DuplicateKey D written h = h
 scalar_stops_in Leaves x stop.GaveUp D written h = h D written
 scalar_stops_in Leaves x stop.Fault D written h = h
+
+pub code_stops_in : (Leaves : Doubles → Type 0) (s t : List ℕ) (e : Stop) (D : Doubles) → s ≡ t
+    → MayStopAt Leaves (code s) e → IsWriters (Leaves D) e
+code_stops_in Leaves s t e D same h = scalar_stops_in Leaves (code s) e D refl h
 
 pub ends_in : (Leaves : Doubles → Type 0) (Sorts : Type 0) (ks : List (List ℕ)) (e : Stop) (D : Doubles)
     → MayStopAtEnd Leaves Sorts ks e → EndsBy (Leaves D) Sorts ks e
@@ -306,7 +310,7 @@ module _ (D : Doubles) (L S : Type 0) where
         more.1,
         denied e (MembersStay L S (json.member k j ns)) (Once (json.member k j ns)) (MembersMeanSome D b (json.member k j ns))
             (MembersStay L S ns) (Once ns) (MembersMeanSome D b ns)
-            (λ p. (p.0, λ sorts. later_ascend k (keys ns) (p.1.0 sorts), p.1.1.1)) (once_behind k j ns) (λ u m. (member_means D b k j ns m).1)
+            (λ p. (p.0, (λ sorts. later_ascend k (keys ns) (p.1.0 sorts), p.1.1.1))) (once_behind k j ns) (λ u m. (member_means D b k j ns m).1)
             (subst (λ is. Denied e (MembersStay L S is) (Once is) (MembersMeanSome D b is)) more.2 g.2),
       )
 

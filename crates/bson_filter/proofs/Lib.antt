@@ -8,6 +8,7 @@ pub mod ObjectDenials
 pub mod Objects
 pub mod Offered
 pub mod Once
+pub mod Parsed
 pub mod PartTexts
 pub mod PiecesInOrder
 pub mod Sending

@@ -1,3 +1,4 @@
+use Rattle.bson_filter.proofs.Parsed.{same_parse}
 -- Whole texts.
 use Rattle.std.proofs.Common.{◌≡◌, ℕ, List, [], Option, Some, option_and_then, sym, ap, ◌∙◌}
 use Rattle.json.specs.Json as json
@@ -15,7 +16,6 @@ use Rattle.bson_filter.specs.Exact.{Means, TextDenied}
 use Rattle.bson_filter.specs.Refused.{IsJsonOf, CodeFirst, IsRefusedText}
 use Rattle.bson_filter.specs.declared.stop.Stop.{Stop}
 use Rattle.bson_filter.specs.declared.stop.Stop.TheVariants as stop
-use Rattle.bson_filter.proofs.CodeDenials.{same_parse}
 
 -- more stands behind the value
 pub more_behind : (o : Option (json.Json × List Token)) (t : Data) (rest : List Token) (j : json.Json)

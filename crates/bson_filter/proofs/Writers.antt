@@ -16,7 +16,6 @@ use Rattle.bson_scalar.specs.declared.write_error.WriteError.TheVariants.{Finite
 use Rattle.bson_filter.specs.Stops.{MayStopAt, MayStopAtEnd, write_stop}
 use Rattle.bson_filter.specs.declared.stop.Stop.{Stop}
 use Rattle.bson_filter.specs.declared.stop.Stop.TheVariants as stop
-use Rattle.bson_filter.proofs.CodeDenials.{was_err}
 
 -- what has a text in the mode `Special` has one in each mode
 wider : (D : Doubles) (x : Scalar) → writable_scalar_in Special x ≡ true → writable_scalar_in D x ≡ true
@@ -40,6 +39,14 @@ pub scalar_stops : (D : Doubles) (f : Form) (x : Scalar) (cause : WriteError) (e
     → Puts (Err cause) (writes_scalar_in D f x) old new → e ≡ write_stop cause → MayStopAt (λ E. E ≡ Finite) x e
 scalar_stops D f x cause e old new put is =
     subst (MayStopAt (λ E. E ≡ Finite) x) (sym is) (stops_at D f x cause old new put)
+
+pub mapped_scalar : (D : Doubles) (f : Form) (x : Scalar) (r : Result (Unit {0}) WriteError) (q : Result (Unit {0}) Stop)
+    (old new : List Token) → MatchResult r (λ y. q ≡ Ok y) (λ e. IsErrAnd q (λ s. s ≡ write_stop e))
+    → Puts r (writes_scalar_in D f x) old new → IfErr q (MayStopAt (λ E. E ≡ Finite) x)
+mapped_scalar D f x (Ok u) (Ok v) old new is put = tt
+mapped_scalar D f x (Ok u) (Err s) old new is put = cc
+mapped_scalar D f x (Err e) (Ok v) old new is put = absurd is
+mapped_scalar D f x (Err e) (Err s) old new is put = scalar_stops D f x e s old new put is
 
 pub sorting_stops : (Leaves : Doubles → Type 0) (ks : List (List ℕ)) (e : Stop) → MayStopAtEnd (λ D. ⊥) ⊤ ks e
     → MayStopAtEnd Leaves ⊤ ks e

@@ -40,7 +40,7 @@ abbrev pub ItemsStay : Type 0 → Type 0 → json.Items → Type 0
 ItemsStay Leaves Sorts js = (Leaves → ⊥) × ItemsStream Sorts js
 
 abbrev pub MembersStay : Type 0 → Type 0 → json.Members → Type 0
-MembersStay Leaves Sorts ms = (Leaves → ⊥) × (Sorts → KeysAscend None (keys ms)) × MembersStream Sorts ms
+MembersStay Leaves Sorts ms = (Leaves → ⊥) × ((Sorts → KeysAscend None (keys ms)) × MembersStream Sorts ms)
 
 module _ (D : Doubles) where
   -- it means a value in its order
