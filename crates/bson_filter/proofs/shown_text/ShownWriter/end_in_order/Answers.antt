@@ -22,6 +22,3 @@ returns-clause-written c = λ start mid ps begun written keys.
     let apart = subst AreDistinct (sym keys) (c.are_distinct.ensures.0 (grind arith)) in
     document_added start mid now kept new c.args.begun ps c.requires.first_places begun written apart refl refl
     c.truncate.ensures.items (subst (λ s. Added kept s true new) c.brace_behind-brace.ensures c.in_ok-add.ensures)
-
-pub returns-then-not-are_distinct-clause-stops : goal.returns-then-not-are_distinct-clause-stops
-returns-then-not-are_distinct-clause-stops c = λ apart. let yes = c.are_distinct.ensures.1 apart in grind (arith, yes)

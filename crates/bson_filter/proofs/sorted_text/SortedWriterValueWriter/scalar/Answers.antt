@@ -2,9 +2,6 @@ use Rattle.std.proofs.Common.{true, sym, ap, ◌∙◌, subst}
 use Rattle.bson_scalar.specs.Tokens.{tokens_of, Puts}
 use Rattle.bson_scalar.specs.View.{scalar_view}
 use Rattle.bson_scalar.specs.Written.{writes_scalar_in}
-use Rattle.std.proofs.lemmas.Result.{err_from_is_err_and}
-use Rattle.bson_filter.proofs.Parsed.{was_err}
-use Rattle.bson_filter.proofs.Writers.{scalar_stops}
 use Rattle.bson_filter.proofs.Sorting.{part_added, printed, was_ok}
 use Rattle.bson_filter.proofs.sorted_text.SortedWriterValueWriter.scalar.Goals as goal
 
@@ -26,16 +23,3 @@ returns-clause-written c =
           c.print_scalar_in.new.out.tokens (tokens_of t) comma c.in_ok-add_part.ensures
           c.in_ok-part.ensures.empty.1 tokens,
     )
-
-pub returns-in_err-map_err-clause-stops : goal.returns-in_err-map_err-clause-stops
-returns-in_err-map_err-clause-stops c =
-    let near = c.begin_part.new.self in
-    let x = scalar_view c.args.value in
-    let back = c.from_residual-in_err-map_err in
-    let p = err_from_is_err_and back.result back.ensures.1 in
-    let f = was_err _ c.print_scalar_in.result c.map_err.result c.in_err-map_err.field-0.0 c.map_err.ensures.cases
-    c.in_err-map_err.was in
-    let old = c.in_ok-part.part.tokens in
-    let new = c.print_scalar_in.new.out.tokens in
-    rw (p.1, p.2) (scalar_stops near.doubles near.form x f.0 c.in_err-map_err.field-0.0 old new
-    (subst (λ r. Puts r (writes_scalar_in near.doubles near.form x) old new) f.1 c.print_scalar_in.ensures.printed) f.2)

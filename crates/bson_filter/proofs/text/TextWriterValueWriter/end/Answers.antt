@@ -11,6 +11,3 @@ returns-clause-written c = λ start mid ps begun written keys.
     let new = with_out c.args.self.now c.end_object.new.self in
     subst (λ qs. PairsSent start qs new) (sym (once_is ps apart)) (document_sent ps start mid c.args.self.now new begun written
     (refl, refl, c.end_object.ensures.room.0, c.in_ok-end_object.ensures.ok))
-
-pub returns-then-not-are_distinct-clause-stops : goal.returns-then-not-are_distinct-clause-stops
-returns-then-not-are_distinct-clause-stops c = λ apart. let yes = c.are_distinct.ensures.1 apart in grind (arith, yes)
