@@ -17,6 +17,7 @@ use bson::extjson::{Form, Options};
 use bson_distinct::arrange::arrange_text;
 use bson_distinct::arrangement::Arrangement;
 use bson_filter::filter::{show_text, sort_text};
+use bson_filter::stop::Stop;
 use bson_tokens::walk::first_fault_in;
 use std::alloc::Global;
 
@@ -48,10 +49,8 @@ pub fn try_text(alloc: Global, options: Options, mode: Mode, bytes: &[u8]) -> Re
     };
     match stream_text(alloc, options, mode, text) {
         Ok(written) => Ok(Tried::Written(written)),
-        Err(json::Error::Invalid) => {
-            Ok(Tried::Arranged(arrange(alloc, Arrangement::Ascending, text)?))
-        }
-        Err(_) => Err(Error::OutOfMemory),
+        Err(Stop::OutOfMemory) => Err(Error::OutOfMemory),
+        Err(_) => Ok(Tried::Arranged(arrange(alloc, Arrangement::Ascending, text)?)),
     }
 }
 
@@ -68,22 +67,17 @@ pub(crate) fn read_arranged(
 {
     match stream_text(alloc, options, mode, arranged) {
         Ok(written) => Ok(written),
-        Err(json::Error::Invalid) => {
+        Err(Stop::OutOfMemory) => Err(Error::OutOfMemory),
+        Err(_) => {
             refuse_arranged(alloc, options, arranged)?;
             let value = meaning(alloc, options, arranged.as_bytes())?;
             value_text(alloc, options, mode, value)
         }
-        Err(_) => Err(Error::OutOfMemory),
     }
 }
 
 // The text that the mode asks for of the value that the text means.
-fn stream_text(
-    alloc: Global,
-    options: Options,
-    mode: Mode,
-    text: &str,
-) -> Result<Vec<u8>, json::Error>
+fn stream_text(alloc: Global, options: Options, mode: Mode, text: &str) -> Result<Vec<u8>, Stop>
     ensures ok { IfOk result (λ written. IsConvertedText options mode text.now written.items) }
     ensures utf8 { IfOk result (λ written. IsUtf8 written.items) }
 {

@@ -1,10 +1,14 @@
+pub mod CodeDenials
+pub mod Denials
 pub mod Differ
 pub mod Digests
 pub mod Keys
 pub mod Members
+pub mod ObjectDenials
 pub mod Objects
 pub mod Offered
 pub mod Once
+pub mod Parsed
 pub mod PartTexts
 pub mod PiecesInOrder
 pub mod Placing
@@ -16,6 +20,8 @@ pub mod SortedMembers
 pub mod SortedPairs
 pub mod Sorting
 pub mod Standing
+pub mod TextDenials
 pub mod Utf8Texts
 pub mod Walking
 pub mod Wrappers
+pub mod Writers

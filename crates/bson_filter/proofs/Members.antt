@@ -10,12 +10,8 @@ use Rattle.bson_scalar.specs.declared.form.Doubles.{Doubles}
 use Rattle.bson_model.specs.Value.{Value, Pairs, no_pairs, pair}
 use Rattle.bson_order.specs.Kept.{kept, kept_members, put_kept}
 use Rattle.bson_order.specs.Reading.{reads_in_order, members_in_order}
+use Rattle.bson_filter.specs.Exact.{as_they_stand}
 use Rattle.bson_filter.specs.Walked.{set_pair, set_each}
-
--- the members as they stand
-abbrev pub as_they_stand : json.Members → Option Members
-as_they_stand json.no_members = Some no_members
-as_they_stand (json.member k j ms) = option_and_then (λ d. option_map (member k d) (as_they_stand ms)) (kept j)
 
 -- the members after each in turn is put
 abbrev pub put_each : Members → Members → Members

@@ -20,7 +20,8 @@ use Rattle.bson_order.specs.Reading.{items_in_order, members_in_order}
 use Rattle.bson_tokens.proofs.Offered.{was_read}
 use Rattle.bson_filter.specs.Walked.{ItemsWritten, PairsWritten, keys_of, once, TreeMeans, ItemsMean, ObjectMeans}
 use Rattle.bson_filter.specs.Walked.{MembersMean, kept_object, inside, from_key}
-use Rattle.bson_filter.proofs.Members.{as_they_stand, put_each, kept_each, free_each, reads_each}
+use Rattle.bson_filter.specs.Exact.{as_they_stand}
+use Rattle.bson_filter.proofs.Members.{put_each, kept_each, free_each, reads_each}
 use Rattle.bson_filter.proofs.Objects.{Key, texts, append_none, texts_more, step_more, begins, object_of, array_of}
 
 module _ {S : Type 0} (D : Doubles) (wrote : S → List ℕ → Value → S → Type 0) where

@@ -1,16 +1,19 @@
 //! From text to text, token by token.
-ghost use Rattle.std.specs.Prelude.{IfOk, IsUtf8};
+ghost use Rattle.std.specs.Prelude.{◌≡◌, IfOk, IfErr, IsUtf8, ⊤};
 ghost use Rattle.bson_filter.specs.Filtered.{IsFilteredText, IsShownText, IsShownTextBy, IsShownTextInOrder};
 ghost use Rattle.bson_filter.specs.Filtered.{IsSortedText};
+ghost use Rattle.bson_filter.specs.Refused.{IsRefusedText};
+ghost use Rattle.bson_scalar.specs.declared.form.Doubles.TheVariants.{Finite};
 
 use crate::pieces::memory_allowed;
 use crate::shown_text::ShownWriter;
 use crate::sorted_text::SortedWriter;
+use crate::stop::Stop;
 use crate::text::TextWriter;
 use crate::walk::write_text;
 use bson_distinct::arrangement::Arrangement;
 use bson_scalar::form::{Doubles, Form};
-use json::{Error, Writer};
+use json::Writer;
 use std::alloc::Global;
 
 // The room of a part, which most values fit, and that of the starts of members: a short text needs
@@ -23,19 +26,18 @@ const FIRST_STARTS: usize = 16;
 /// in the order of the text, at every depth. It is written as the text is read, with no value in
 /// memory.
 ///
-/// `Invalid` says nothing of the text. It comes where the text is no JSON text of at most 127
-/// levels, means nothing, or has a key twice in an object or a value that a later one takes the
-/// place of; not for the last two in the text that
-/// [`arrange_text`](bson_distinct::arrange::arrange_text) gives by first places, which means the
-/// same.
-pub fn filter_text(
-    alloc: Global,
-    doubles: Doubles,
-    form: Form,
-    text: &str,
-) -> Result<Vec<u8>, Error>
+/// # Errors
+///
+/// - `OutOfMemory`: a request for memory was refused.
+/// - `DuplicateKey`: an object has two equal keys. The text that
+///   [`arrange_text`](bson_distinct::arrange::arrange_text) returns by first places has none, and
+///   means the same.
+/// - `GaveUp`: an object begins with `$scope`, or the mode is `Finite` and a double has no text.
+/// - `Fault`: the text is not JSON of at most 127 levels, or does not mean a value.
+pub fn filter_text(alloc: Global, doubles: Doubles, form: Form, text: &str) -> Result<Vec<u8>, Stop>
     ensures ok { IfOk result (λ written. IsFilteredText doubles form text.now written.items) }
     ensures utf8 { IfOk result (λ written. IsUtf8 written.items) }
+    ensures accepts { IfErr result (IsRefusedText doubles (doubles ≡ Finite) ⊥ text.now) }
 {
     let mut writer = TextWriter {
         alloc,
@@ -50,12 +52,15 @@ pub fn filter_text(
 /// [`filter_text`] with each document's keys in ascending order of bytes, and of a key that stands
 /// twice the last value.
 ///
-/// `Invalid` comes too where a value means nothing that a later one takes the place of, or where it
-/// would take more than some nine times the text to put members in order: not in the text that
-/// [`arrange_text`](bson_distinct::arrange::arrange_text) gives by ascending keys.
-pub fn sort_text(alloc: Global, doubles: Doubles, form: Form, text: &str) -> Result<Vec<u8>, Error>
+/// # Errors
+///
+/// The errors of [`filter_text`], except `DuplicateKey`. `GaveUp` is also the error if keys do not
+/// ascend and need more memory to be sorted than some nine times the text: not in the text that
+/// [`arrange_text`](bson_distinct::arrange::arrange_text) returns by ascending keys.
+pub fn sort_text(alloc: Global, doubles: Doubles, form: Form, text: &str) -> Result<Vec<u8>, Stop>
     ensures ok { IfOk result (λ written. IsSortedText doubles form text.now written.items) }
     ensures utf8 { IfOk result (λ written. IsUtf8 written.items) }
+    ensures accepts { IfErr result (IsRefusedText doubles (doubles ≡ Finite) ⊤ text.now) }
 {
     let mut writer = SortedWriter {
         alloc,
@@ -74,19 +79,26 @@ pub fn sort_text(alloc: Global, doubles: Doubles, form: Form, text: &str) -> Res
 /// The bytes of the text that shows the value that the text means by default, each document's keys
 /// in ascending order of bytes: it is written as the text is read, with no value in memory.
 ///
-/// `Invalid` says nothing of the text, and comes where it comes from [`sort_text`].
-pub fn show_text(alloc: Global, doubles: Doubles, text: &str) -> Result<Vec<u8>, Error>
+/// # Errors
+///
+/// The errors of [`sort_text`].
+pub fn show_text(alloc: Global, doubles: Doubles, text: &str) -> Result<Vec<u8>, Stop>
     ensures ok { IfOk result (λ written. IsShownText doubles text.now written.items) }
     ensures utf8 { IfOk result (λ written. IsUtf8 written.items) }
+    ensures accepts { IfErr result (IsRefusedText doubles ⊥ ⊤ text.now) }
 {
     show_by(alloc, doubles, Arrangement::Ascending, text)
 }
 
-/// [`show_text`] with each document's keys in the order of the text. `Invalid` comes where it comes
-/// from [`filter_text`].
-pub fn show_text_in_order(alloc: Global, doubles: Doubles, text: &str) -> Result<Vec<u8>, Error>
+/// [`show_text`] with each document's keys in the order of the text.
+///
+/// # Errors
+///
+/// The errors of [`filter_text`].
+pub fn show_text_in_order(alloc: Global, doubles: Doubles, text: &str) -> Result<Vec<u8>, Stop>
     ensures ok { IfOk result (λ written. IsShownTextInOrder doubles text.now written.items) }
     ensures utf8 { IfOk result (λ written. IsUtf8 written.items) }
+    ensures accepts { IfErr result (IsRefusedText doubles ⊥ ⊤ text.now) }
 {
     show_by(alloc, doubles, Arrangement::FirstPlaces, text)
 }
@@ -96,9 +108,10 @@ fn show_by(
     doubles: Doubles,
     arrangement: Arrangement,
     text: &str,
-) -> Result<Vec<u8>, Error>
+) -> Result<Vec<u8>, Stop>
     ensures ok { IfOk result (λ written. IsShownTextBy doubles arrangement text.now written.items) }
     ensures utf8 { IfOk result (λ written. IsUtf8 written.items) }
+    ensures accepts { IfErr result (IsRefusedText doubles ⊥ ⊤ text.now) }
 {
     let mut writer = ShownWriter {
         alloc,

@@ -1,6 +1,6 @@
 //! The texts of an object's members, put in order where their keys do not ascend.
-ghost use Rattle.std.specs.Prelude.{◌≡◌, ◌<◌, ◌++◌, drop, length, map, None, option_map, suc, take, true};
-ghost use Rattle.std.specs.Prelude.{IfOk, IfSome, OnOk};
+ghost use Rattle.std.specs.Prelude.{◌≡◌, ◌↔◌, ◌<◌, ◌++◌, drop, length, map, None, option_map, suc, take, true};
+ghost use Rattle.std.specs.Prelude.{IfOk, IfErr, IfSome, OnOk, ⊤};
 ghost use Rattle.std.specs.Str.{is_utf8};
 ghost use Rattle.std.specs.Cmp.Lexicographic.{slice_cmp};
 ghost use Rattle.std.specs.List.{All, range_with_len};
@@ -9,10 +9,11 @@ ghost use Rattle.std.specs.Ordering.{nat_cmp};
 ghost use Rattle.bson_filter.specs.Heads.{head, head_start};
 ghost use Rattle.bson_filter.specs.Pieces.{end_before, pieces_from, piece_or, key_or, picked, has_first};
 ghost use Rattle.bson_filter.specs.Pieces.{ArePlaced, Follows, InOrder, IsBraced, IsEnded, IsJoined, IsOpen, IsWithin, KeysAscend};
+ghost use Rattle.bson_filter.specs.Stops.{MayStopAtEnd};
 ghost use Rattle.bson_model.specs.Stable.{IsStableByKey};
 ghost use Rattle.serde_json.specs.Written.{comma_if};
 
-use json::Error;
+use crate::stop::Stop;
 use std::alloc::{AllocError, Global};
 use std::cmp::Ordering;
 
@@ -44,7 +45,7 @@ pub(crate) fn end_object(
     start: usize,
     most: usize,
     text: &mut Vec<u8>,
-) -> Result<(), Error>
+) -> Result<(), Stop>
     requires paired { length keys.now ≡ length starts.now }
     requires within { All (IsWithin text.old.items) (pieces_from keys.now starts.now (length text.old.items)) }
     requires opened { IsOpen (take start text.old.items) text.old.items
@@ -54,15 +55,16 @@ pub(crate) fn end_object(
         (take start text.old.items) text.old.items text.new.items) }
     ensures braced { OnOk result (IsBraced text.new.items) }
     ensures utf8 { is_utf8 text.new.items ≡ true }
+    ensures stops { IfErr result (MayStopAtEnd (λ D. ⊥) ⊤ (map (λ k. k.now) keys.now)) }
 {
     if ascend(keys) {
         text.extend_from_slice(b"}")?;
         return Ok(());
     }
     if memory_for(keys.len(), text.len()) > most {
-        return Err(Error::Invalid);
+        return Err(Stop::GaveUp);
     }
-    let written = in_order(alloc, keys, starts, text)?.ok_or(Error::Invalid)?;
+    let written = in_order(alloc, keys, starts, text)?.ok_or(Stop::GaveUp)?;
     text.truncate(start);
     text.extend_from_slice(&written)?;
     Ok(())
@@ -85,7 +87,7 @@ fn memory_for(members: usize, length: usize) -> usize {
 }
 
 fn ascend(keys: &[&str]) -> bool
-    ensures { result ≡ true → KeysAscend None (map (λ k. k.now) keys.now) }
+    ensures { (result ≡ true) ↔ KeysAscend None (map (λ k. k.now) keys.now) }
 {
     let mut last: Option<&str> = None;
     for at in 0..keys.len() {
@@ -100,7 +102,7 @@ fn ascend(keys: &[&str]) -> bool
 
 // The key is greater than the last one, by bytes.
 fn follows(last: Option<&str>, key: &str) -> bool
-    ensures { result ≡ true → Follows (option_map (λ s. s.now) last.entry) key.now }
+    ensures { (result ≡ true) ↔ Follows (option_map (λ s. s.now) last.entry) key.now }
 {
     match last {
         Some(last) => last.cmp(key).is_lt(),

@@ -1,6 +1,6 @@
 //! The text that shows values, each document's keys in ascending order or in the order in which they
 //! came.
-ghost use Rattle.std.specs.Prelude.{◌≡◌, ◌-◌, ◌∷◌, ◌++◌, [], length, map, take, true, false, codes, OnOk};
+ghost use Rattle.std.specs.Prelude.{◌≡◌, ◌-◌, ◌∷◌, ◌++◌, [], length, map, take, true, false, codes, OnOk, IfErr, ⊤};
 ghost use Rattle.std.specs.Prelude.{if◌then◌else◌};
 ghost use Rattle.std.specs.Str.{is_utf8};
 ghost use Rattle.bson_scalar.specs.Displayed.{scalar_text};
@@ -8,17 +8,18 @@ ghost use Rattle.bson_scalar.specs.View.{scalar_of, scalar_view};
 ghost use Rattle.bson_model.specs.Value.{Pairs};
 ghost use Rattle.bson_distinct.specs.declared.arrangement.Arrangement.TheVariants as arrangement;
 ghost use Rattle.bson_filter.specs.Pieces.{IsBraced};
+ghost use Rattle.bson_filter.specs.Stops.{MayStopAtEnd};
 ghost use Rattle.bson_filter.specs.Walked.{PairsWritten, keys_of, once};
 
 use crate::distinct::are_distinct;
 use crate::pieces::{end_object, put_comma};
 use crate::sorted_text::Begun;
+use crate::stop::Stop;
 use crate::writer::ValueWriter;
 use bson_distinct::arrangement::Arrangement;
 use bson_scalar::scalar::Scalar;
 use bson_scalar::scalar_ref::ScalarRef;
 use itoa::Buffer;
-use json::Error;
 use std::alloc::{AllocError, Global};
 
 /// The text of values on one line, as people read it. The members of an open document stand in it
@@ -86,14 +87,15 @@ impl ShownWriter {
     }
 
     // Ends a document, whose members are put by ascending key.
-    fn end_sorted(&mut self, begun: Begun, keys: &[&str]) -> Result<(), Error>
+    fn end_sorted(&mut self, begun: Begun, keys: &[&str]) -> Result<(), Stop>
         requires stands { (start : ShownWriter) × (mid : ShownWriter) × (ps : Pairs) × IsBegun start begun mid
             × PairsWritten (λ a k v b. ValueAdded a v b) KeyAdded ps mid self.old
             × (keys_of ps ≡ map (λ k. k.now) keys.now) }
         requires ascending { self.old.arrangement ≡ arrangement.Ascending }
-        ensures { OnOk result ((start : ShownWriter) (mid : ShownWriter) (ps : Pairs) → IsBegun start begun mid
+        ensures written { OnOk result ((start : ShownWriter) (mid : ShownWriter) (ps : Pairs) → IsBegun start begun mid
             → PairsWritten (λ a k v b. ValueAdded a v b) KeyAdded ps mid self.old
             → keys_of ps ≡ map (λ k. k.now) keys.now → PairsAdded start (once ps) self.new) }
+        ensures stops { IfErr result (MayStopAtEnd (λ D. ⊥) ⊤ (map (λ k. k.now) keys.now)) }
     {
         let starts = &self.starts[begun.held..];
         end_object(
@@ -111,15 +113,16 @@ impl ShownWriter {
     }
 
     // Ends a document, whose members stay as they came. It is refused where a key came twice.
-    fn end_in_order(&mut self, begun: Begun, keys: &mut [&str]) -> Result<(), Error>
+    fn end_in_order(&mut self, begun: Begun, keys: &mut [&str]) -> Result<(), Stop>
         requires first_places { self.old.arrangement ≡ arrangement.FirstPlaces }
-        ensures { OnOk result ((start : ShownWriter) (mid : ShownWriter) (ps : Pairs) → IsBegun start begun mid
+        ensures written { OnOk result ((start : ShownWriter) (mid : ShownWriter) (ps : Pairs) → IsBegun start begun mid
             → PairsWritten (λ a k v b. ValueAdded a v b) KeyAdded ps mid self.old
             → keys_of ps ≡ map (λ k. k.now) keys.old → PairsAdded start (once ps) self.new) }
+        ensures stops { IfErr result (MayStopAtEnd (λ D. ⊥) ⊤ (map (λ k. k.now) keys.old)) }
     {
         let brace = ShownWriter::brace_behind(self.behind);
         if !are_distinct(self.alloc, keys) {
-            return Err(Error::Invalid);
+            return Err(Stop::DuplicateKey);
         }
         self.starts.truncate(begun.held);
         Ok(self.add(brace, true)?)
@@ -139,6 +142,10 @@ impl ValueWriter for ShownWriter {
 
     ghost use Rattle.bson_filter.specs.ShownWritten.{IsBegun, IsCodeBegun, KeyAdded, Next, PairsAdded, ValueAdded};
 
+    ghost leaves = { λ D. ⊥ };
+
+    ghost sorts = { ⊤ };
+
     ghost name_of = { λ n. [] };
 
     ghost wrote = { λ old k v new. ValueAdded old v new };
@@ -153,22 +160,22 @@ impl ValueWriter for ShownWriter {
 
     ghost coded = { λ old k s begun new. IsCodeBegun old s begun new };
 
-    fn string(&mut self, _name: &str, text: &str) -> Result<(), Error> {
+    fn string(&mut self, _name: &str, text: &str) -> Result<(), Stop> {
         self.add_separator()?;
         self.add("\"", false)?;
         self.add(text, false)?;
         Ok(self.add("\"", true)?)
     }
 
-    fn boolean(&mut self, _name: &str, truth: bool) -> Result<(), Error> {
+    fn boolean(&mut self, _name: &str, truth: bool) -> Result<(), Stop> {
         Ok(self.add_scalar(Scalar::Boolean(truth))?)
     }
 
-    fn null(&mut self, _name: &str) -> Result<(), Error> {
+    fn null(&mut self, _name: &str) -> Result<(), Stop> {
         Ok(self.add_scalar(Scalar::Null)?)
     }
 
-    fn scalar(&mut self, _name: &str, value: Scalar) -> Result<(), Error> {
+    fn scalar(&mut self, _name: &str, value: Scalar) -> Result<(), Stop> {
         Ok(self.add_scalar(value)?)
     }
 
@@ -176,39 +183,39 @@ impl ValueWriter for ShownWriter {
         ""
     }
 
-    fn begin_array(&mut self, _name: &str) -> Result<Begun, Error> {
+    fn begin_array(&mut self, _name: &str) -> Result<Begun, Stop> {
         self.add_separator()?;
         let begun = self.position();
         self.add("[", false)?;
         Ok(begun)
     }
 
-    fn end_array(&mut self, _begun: Begun) -> Result<(), Error> {
+    fn end_array(&mut self, _begun: Begun) -> Result<(), Stop> {
         Ok(self.add("]", true)?)
     }
 
-    fn embed(&mut self, _name: &str) -> Result<(), Error> {
+    fn embed(&mut self, _name: &str) -> Result<(), Stop> {
         Ok(())
     }
 
-    fn begin(&mut self) -> Result<Begun, Error> {
+    fn begin(&mut self) -> Result<Begun, Stop> {
         self.add_separator()?;
         let begun = self.position();
         self.add("{", false)?;
         Ok(begun)
     }
 
-    fn key(&mut self, name: &str) -> Result<(), Error> {
+    fn key(&mut self, name: &str) -> Result<(), Stop> {
         put_comma(self.behind, &mut self.text)?;
         let Ok(()) = self.starts.push(self.text.len()) else {
-            return Err(Error::OutOfMemory);
+            return Err(Stop::OutOfMemory);
         };
         self.add(" \"", false)?;
         self.add(name, false)?;
         Ok(self.add("\": ", false)?)
     }
 
-    fn end(&mut self, begun: Begun, keys: &mut [&str]) -> Result<(), Error> {
+    fn end(&mut self, begun: Begun, keys: &mut [&str]) -> Result<(), Stop> {
         match self.arrangement {
             Arrangement::FirstPlaces => self.end_in_order(begun, keys),
             Arrangement::Ascending => self.end_sorted(begun, keys),
@@ -216,13 +223,13 @@ impl ValueWriter for ShownWriter {
     }
 
     // What is begun is the scope, which is not shown.
-    fn begin_code(&mut self, _name: &str, code: &str) -> Result<Begun, Error> {
+    fn begin_code(&mut self, _name: &str, code: &str) -> Result<Begun, Stop> {
         self.add_separator()?;
         self.add(code, false)?;
         Ok(self.position())
     }
 
-    fn end_code(&mut self, scope: Begun) -> Result<(), Error> {
+    fn end_code(&mut self, scope: Begun) -> Result<(), Stop> {
         self.text.truncate(scope.start);
         self.behind = true;
         Ok(())

@@ -1,17 +1,18 @@
 //! A text of Extended JSON that values are written to, each document's keys in ascending order.
-ghost use Rattle.std.specs.Prelude.{◌≡◌, ◌<◌, ◌∷◌, [], length, true, false, OnOk, IfOk};
+ghost use Rattle.std.specs.Prelude.{◌≡◌, ◌<◌, ◌∷◌, [], length, true, false, OnOk, IfOk, ⊤};
 ghost use Rattle.std.specs.Str.{is_utf8};
 ghost use Rattle.json.specs.Print.{print};
 ghost use Rattle.serde_json.specs.Written.{comma_if};
 
 use crate::pieces::{end_object, put_comma};
-use crate::writer::{ValueWriter, write_error};
+use crate::stop::{Stop, write_error};
+use crate::writer::ValueWriter;
 use bson_scalar::code::put_code;
 use bson_scalar::form::{Doubles, Form};
 use bson_scalar::scalar::Scalar;
 use bson_scalar::write::print_scalar_in;
 use itoa::Buffer;
-use json::{Error, Writer};
+use json::Writer;
 use std::alloc::{AllocError, Global};
 use std::mem::replace;
 
@@ -98,7 +99,12 @@ impl ValueWriter for SortedWriter {
     type Open = Begun;
 
     ghost use Rattle.bson_scalar.specs.Tokens.{code_tokens};
+    ghost use Rattle.bson_scalar.specs.declared.form.Doubles.TheVariants.{Finite};
     ghost use Rattle.bson_filter.specs.SortedWritten.{Next, ValueAdded, PairsAdded, IsBegun, KeyAdded};
+
+    ghost leaves = { λ D. D ≡ Finite };
+
+    ghost sorts = { ⊤ };
 
     ghost name_of = { λ n. [] };
 
@@ -114,25 +120,25 @@ impl ValueWriter for SortedWriter {
 
     ghost coded = { λ old k s begun new. Next old (print (code_tokens s)) false new };
 
-    fn string(&mut self, _name: &str, text: &str) -> Result<(), Error> {
+    fn string(&mut self, _name: &str, text: &str) -> Result<(), Stop> {
         let mut part = self.begin_part()?;
         part.string(text)?;
         Ok(self.add_part(part, true)?)
     }
 
-    fn boolean(&mut self, _name: &str, truth: bool) -> Result<(), Error> {
+    fn boolean(&mut self, _name: &str, truth: bool) -> Result<(), Stop> {
         let mut part = self.begin_part()?;
         part.boolean(truth)?;
         Ok(self.add_part(part, true)?)
     }
 
-    fn null(&mut self, _name: &str) -> Result<(), Error> {
+    fn null(&mut self, _name: &str) -> Result<(), Stop> {
         let mut part = self.begin_part()?;
         part.null()?;
         Ok(self.add_part(part, true)?)
     }
 
-    fn scalar(&mut self, _name: &str, value: Scalar) -> Result<(), Error> {
+    fn scalar(&mut self, _name: &str, value: Scalar) -> Result<(), Stop> {
         let mut part = self.begin_part()?;
         print_scalar_in(self.alloc, self.doubles, self.form, value, &mut part).map_err(
             write_error,
@@ -144,38 +150,38 @@ impl ValueWriter for SortedWriter {
         ""
     }
 
-    fn begin_array(&mut self, _name: &str) -> Result<Begun, Error> {
+    fn begin_array(&mut self, _name: &str) -> Result<Begun, Stop> {
         self.add_comma()?;
         let begun = self.position();
         self.add_byte(b'[', false)?;
         Ok(begun)
     }
 
-    fn end_array(&mut self, _begun: Begun) -> Result<(), Error> {
+    fn end_array(&mut self, _begun: Begun) -> Result<(), Stop> {
         Ok(self.add_byte(b']', true)?)
     }
 
-    fn embed(&mut self, _name: &str) -> Result<(), Error> {
+    fn embed(&mut self, _name: &str) -> Result<(), Stop> {
         Ok(())
     }
 
-    fn begin(&mut self) -> Result<Begun, Error> {
+    fn begin(&mut self) -> Result<Begun, Stop> {
         self.add_comma()?;
         let begun = self.position();
         self.add_byte(b'{', false)?;
         Ok(begun)
     }
 
-    fn key(&mut self, name: &str) -> Result<(), Error> {
+    fn key(&mut self, name: &str) -> Result<(), Stop> {
         let mut part = self.begin_part()?;
         let Ok(()) = self.starts.push(self.text.len()) else {
-            return Err(Error::OutOfMemory);
+            return Err(Stop::OutOfMemory);
         };
         part.key(name)?;
         Ok(self.add_part(part, false)?)
     }
 
-    fn end(&mut self, begun: Begun, keys: &mut [&str]) -> Result<(), Error> {
+    fn end(&mut self, begun: Begun, keys: &mut [&str]) -> Result<(), Stop> {
         let starts = &self.starts[begun.held..];
         end_object(
             self.alloc,
@@ -190,7 +196,7 @@ impl ValueWriter for SortedWriter {
         Ok(())
     }
 
-    fn begin_code(&mut self, _name: &str, code: &str) -> Result<Begun, Error> {
+    fn begin_code(&mut self, _name: &str, code: &str) -> Result<Begun, Stop> {
         let mut part = self.begin_part()?;
         let begun = self.position();
         put_code(code, &mut part)?;
@@ -198,7 +204,7 @@ impl ValueWriter for SortedWriter {
         Ok(begun)
     }
 
-    fn end_code(&mut self, _begun: Begun) -> Result<(), Error> {
+    fn end_code(&mut self, _begun: Begun) -> Result<(), Stop> {
         Ok(self.add_byte(b'}', true)?)
     }
 }

@@ -1,9 +1,7 @@
 //! The walk over the tokens of a text, which writes each value as it is read.
-ghost use Rattle.std.specs.Prelude.{◌≡◌, ◌↔◌, ◌<◌, ◌≤◌, ◌&&◌, [], length, ◌∷◌, Some, codes, is_some, option_map, OnOk, IfOk, Ok};
+ghost use Rattle.std.specs.Prelude.{◌≡◌, ◌<◌, ◌≤◌, ◌&&◌, [], length, ◌∷◌, Some, codes, is_some, option_map, OnOk, IfOk, IfErr, Ok};
 ghost use Rattle.json.specs.Json.{value, items, read_key};
 ghost use Rattle.json.specs.Token as token;
-ghost use Rattle.json.specs.declared.error.Error.TheVariants as json_error;
-ghost use Rattle.bson_scalar.specs.declared.error.Error.TheVariants as read_errors;
 ghost use Rattle.serde_json.specs.Read.{converted, number_of};
 ghost use Rattle.bson_scalar.specs.Reading.{number_read_in};
 ghost use Rattle.serde_json.specs.Data.{Num};
@@ -14,12 +12,16 @@ ghost use Rattle.bson_order.specs.Kept.{kept, kept_items};
 ghost use Rattle.bson_order.specs.Texts.{HasMeaningInOrder};
 ghost use Rattle.bson_filter.specs.Walked.{TreeMeans, ItemsMean, ObjectMeans, MembersMean, ScopeMeans};
 ghost use Rattle.bson_filter.specs.Walked.{CodeMeans, CodeEnds, kept_object, inside, from_key};
+ghost use Rattle.bson_filter.specs.Exact.{TextDenied, ValueDenied, ItemsDenied, ObjectDenied, MembersDenied};
+ghost use Rattle.bson_filter.specs.Exact.{CodeDenied, ScopeDenied, EndDenied, NumberDenied};
+ghost use Rattle.bson_filter.specs.declared.stop.Stop.TheVariants.{Fault};
 
 use crate::ahead::Ahead;
+use crate::parts::{Scope, read_scope, text_of};
+use crate::stop::{Stop, behind, read_error};
 use crate::writer::ValueWriter;
 use bson_scalar::code::is_code_with_scope;
 use bson_scalar::doubles::read_number;
-use bson_scalar::error;
 use bson_scalar::form::Doubles;
 use bson_scalar::read::read_wrapper;
 use bson_scalar::scalar::Scalar;
@@ -28,8 +30,7 @@ use bson_tokens::MAX_DEPTH;
 use bson_tokens::held::read_held;
 use bson_tokens::number::number;
 use itoa::Buffer;
-use json::{Error, Reader, Scratch, Token};
-use serde_json::Value;
+use json::{Reader, Scratch, Token};
 use std::alloc::Global;
 
 /// Writes the value of the whole text, under no name.
@@ -38,8 +39,9 @@ pub(crate) fn write_text<W: ValueWriter>(
     doubles: Doubles,
     text: &str,
     out: &mut W,
-) -> Result<(), Error>
-    ensures { OnOk result ((v : Meaning) × HasMeaningInOrder doubles text.now v × W.wrote out.old [] v out.new) }
+) -> Result<(), Stop>
+    ensures ok { OnOk result ((v : Meaning) × HasMeaningInOrder doubles text.now v × W.wrote out.old [] v out.new) }
+    ensures stops { IfErr result (λ e. TextDenied doubles (W.leaves doubles) W.sorts e text.now) }
 {
     let mut scratch = Scratch::new(alloc);
     let mut reader = Reader::new(text, &mut scratch)?;
@@ -56,15 +58,15 @@ pub(crate) fn write_text<W: ValueWriter>(
         out,
     )?;
     if reader.next().is_some() {
-        return Err(Error::Invalid);
+        return Err(Stop::Fault);
     }
     Ok(())
 }
 
 /// Writes the value that stands next under the name.
 ///
-/// `Invalid` says nothing of the text: it is to be read whole. It comes where the text breaks the
-/// grammar, nests deeper, means nothing, or has in some object a key twice.
+/// Each error but `OutOfMemory` denies something of what was to be read: that it means a value, that
+/// its keys are unique, or that the writer and the walk can write it.
 ///
 /// The keys of the objects that are open are held, each object's behind those around it; of code
 /// behind its scope what the text has ahead.
@@ -78,28 +80,29 @@ pub fn write_value<'a, W: ValueWriter>(
     keys: &mut Vec<&'a str>,
     ahead: &mut Ahead<'_>,
     out: &mut W,
-) -> Result<(), Error>
+) -> Result<(), Stop>
     ensures ok { OnOk result (TreeMeans doubles (converted kept (value depth reader.old)) reader.new
         (λ v. W.wrote out.old name.now v out.new)) }
     ensures keys { OnOk result (keys.new.items ≡ keys.old.items) }
     ensures shorter { OnOk result (length reader.new < length reader.old) }
+    ensures stops { IfErr result (λ e. ValueDenied doubles (W.leaves doubles) W.sorts e (value depth reader.old)) }
 {
-    let token = reader.next().ok_or(Error::Invalid)?;
+    let token = reader.next().ok_or(Stop::Fault)?;
     match token {
         Token::String(text) => out.string(name, text),
         Token::Number(text) => out.scalar(name, read_token(doubles, text)?),
         Token::Bool(truth) => out.boolean(name, truth),
         Token::Null => out.null(name),
-        Token::EndObject | Token::EndArray | Token::Key(_) | Token::Bad => Err(Error::Invalid),
+        Token::EndObject | Token::EndArray | Token::Key(_) | Token::Bad => Err(Stop::Fault),
         Token::BeginArray => {
             if depth == 0 {
-                return Err(Error::Invalid);
+                return Err(Stop::Fault);
             }
             write_array(alloc, doubles, reader, depth - 1, name, keys, ahead, out)
         }
         Token::BeginObject => {
             if depth == 0 {
-                return Err(Error::Invalid);
+                return Err(Stop::Fault);
             }
             write_object(alloc, doubles, reader, depth - 1, name, keys, ahead, out)
         }
@@ -107,11 +110,12 @@ pub fn write_value<'a, W: ValueWriter>(
 }
 
 // The number of a token.
-fn read_token(doubles: Doubles, text: &str) -> Result<Scalar, Error>
-    ensures { IfOk result (λ x. (n : Num) × (number_of text.now ≡ Some n)
+fn read_token(doubles: Doubles, text: &str) -> Result<Scalar, Stop>
+    ensures ok { IfOk result (λ x. (n : Num) × (number_of text.now ≡ Some n)
         × (number_read_in doubles n ≡ Ok (scalar_view x))) }
+    ensures stops { IfErr result (λ e. NumberDenied doubles e text.now) }
 {
-    let n = number(text).ok_or(Error::Invalid)?;
+    let n = number(text).ok_or(Stop::Fault)?;
     read_number(doubles, &n).map_err(read_error)
 }
 
@@ -126,12 +130,13 @@ fn write_array<'a, W: ValueWriter>(
     keys: &mut Vec<&'a str>,
     ahead: &mut Ahead<'_>,
     out: &mut W,
-) -> Result<(), Error>
+) -> Result<(), Stop>
     ensures ok { OnOk result
         (ItemsMean doubles (converted kept_items (items (value depth) (length reader.old) reader.old)) reader.new
         (λ vs. W.wrote out.old name.now (array vs) out.new)) }
     ensures keys { OnOk result (keys.new.items ≡ keys.old.items) }
     ensures shorter { OnOk result (length reader.new < length reader.old) }
+    ensures stops { IfErr result (λ e. ItemsDenied doubles (W.leaves doubles) W.sorts e (items (value depth) (length reader.old) reader.old)) }
 {
     let begun = out.begin_array(name)?;
     let mut place: usize = 0;
@@ -139,7 +144,7 @@ fn write_array<'a, W: ValueWriter>(
         let mut buffer = Buffer::new();
         let name = W::item_name(&mut buffer, place);
         write_value(alloc, doubles, reader, depth, name, keys, ahead, out)?;
-        place = place.checked_add(1).ok_or(Error::Invalid)?;
+        place = place.checked_add(1).ok_or(Stop::OutOfMemory)?;
     }
     out.end_array(begun)
 }
@@ -155,17 +160,22 @@ fn write_object<'a, W: ValueWriter>(
     keys: &mut Vec<&'a str>,
     ahead: &mut Ahead<'_>,
     out: &mut W,
-) -> Result<(), Error>
+) -> Result<(), Stop>
     ensures ok { OnOk result (ObjectMeans doubles (kept_object (inside depth reader.old)) reader.new
         (λ v. W.wrote out.old name.now v out.new)) }
     ensures keys { OnOk result (keys.new.items ≡ keys.old.items) }
     ensures shorter { OnOk result (length reader.new < length reader.old) }
+    ensures stops { IfErr result (λ e. ObjectDenied doubles (W.leaves doubles) W.sorts e (inside depth reader.old)) }
 {
     let first = reader.next_key()?;
     if let Some(code) = ahead.code_behind(first, reader.offset())? {
-        return write_code(
+        let written = write_code(
             alloc, doubles, reader, depth, &code, true, name, keys, ahead, out,
         );
+        return match written {
+            Ok(()) => Ok(()),
+            Err(stop) => Err(behind(stop)),
+        };
     }
     if let Some(key) = first {
         if let Some(wrapper) = wrapper_named(key) {
@@ -191,22 +201,24 @@ pub fn write_document<'a, W: ValueWriter>(
     keys: &mut Vec<&'a str>,
     ahead: &mut Ahead<'_>,
     out: &mut W,
-) -> Result<(), Error>
+) -> Result<(), Stop>
     ensures ok { OnOk result (MembersMean doubles is_document
         (kept_object (from_key depth (option_map (λ k. k.now) first.entry) reader.old)) reader.new
         (λ ps. W.framed out.old ps out.new)) }
     ensures keys { OnOk result (keys.new.items ≡ keys.old.items) }
     ensures shorter { OnOk result (length reader.new ≤ length reader.old) }
+    ensures stops { IfErr result (λ e. MembersDenied doubles (W.leaves doubles) W.sorts e is_document
+        (from_key depth (option_map (λ k. k.now) first.entry) reader.old)) }
 {
     let held = keys.len();
     let begun = out.begin()?;
     let mut next = first;
     'members: while let Some(key) = next {
         if is_misplaced(is_document, key) {
-            return Err(Error::Invalid);
+            return Err(Stop::Fault);
         }
         let Ok(()) = keys.push(key) else {
-            return Err(Error::OutOfMemory);
+            return Err(Stop::OutOfMemory);
         };
         out.key(key)?;
         write_value(alloc, doubles, reader, depth, key, keys, ahead, out)?;
@@ -238,12 +250,13 @@ fn write_wrapper<'a, W: ValueWriter>(
     keys: &mut Vec<&'a str>,
     ahead: &mut Ahead<'_>,
     out: &mut W,
-) -> Result<(), Error>
+) -> Result<(), Stop>
     requires { wrapper_of key.now ≡ Some wrapper }
     ensures ok { OnOk result (ObjectMeans doubles (kept_object (from_key depth (Some key.now) reader.old)) reader.new
         (λ v. W.wrote out.old name.now v out.new)) }
     ensures keys { OnOk result (keys.new.items ≡ keys.old.items) }
     ensures shorter { OnOk result (length reader.new < length reader.old) }
+    ensures stops { IfErr result (λ e. ObjectDenied doubles (W.leaves doubles) W.sorts e (from_key depth (Some key.now) reader.old)) }
 {
     let held = read_held(alloc, reader, depth)?;
     let Some(other) = reader.next_key()? else {
@@ -251,24 +264,12 @@ fn write_wrapper<'a, W: ValueWriter>(
         return out.scalar(name, value);
     };
     if !is_code_with_scope(key, other) {
-        return Err(Error::Invalid);
+        return Err(Stop::Fault);
     }
-    let Value::String(code) = held else {
-        return Err(Error::Invalid);
-    };
+    let code = text_of(held)?;
     write_code(
         alloc, doubles, reader, depth, &code, false, name, keys, ahead, out,
     )
-}
-
-// What stands in a wrapper means nothing, or memory is wanting to read it.
-fn read_error(cause: error::Error) -> Error
-    ensures { (result ≡ json_error.OutOfMemory) ↔ (cause ≡ read_errors.OutOfMemory) }
-{
-    match cause {
-        error::Error::OutOfMemory => Error::OutOfMemory,
-        _ => Error::Invalid,
-    }
 }
 
 // Code from the value of its scope on, to the end of their object. Where it stands behind the scope
@@ -286,24 +287,25 @@ fn write_code<'a, W: ValueWriter>(
     keys: &mut Vec<&'a str>,
     ahead: &mut Ahead<'_>,
     out: &mut W,
-) -> Result<(), Error>
+) -> Result<(), Stop>
     ensures ok { OnOk result (CodeMeans doubles depth code.now is_behind reader.old reader.new
         (λ v. W.wrote out.old name.now v out.new)) }
     ensures keys { OnOk result (keys.new.items ≡ keys.old.items) }
     ensures shorter { OnOk result (length reader.new < length reader.old) }
+    ensures stops { IfErr result (λ e. CodeDenied doubles (W.leaves doubles) W.sorts e is_behind (value depth reader.old)) }
 {
-    match reader.next() {
-        Some(Token::Null) => {
+    let scope = read_scope(reader)?;
+    match scope {
+        Scope::Null => {
             end_object(reader, code, is_behind)?;
             out.scalar(name, Scalar::JavaScriptCode(String::from_str(alloc, code)?))
         }
-        Some(Token::BeginObject) => {
+        Scope::Object => {
             let begun = out.begin_code(name, code)?;
             write_scope(alloc, doubles, reader, depth, keys, ahead, out)?;
             end_object(reader, code, is_behind)?;
             out.end_code(begun)
         }
-        _ => Err(Error::Invalid),
     }
 }
 
@@ -317,13 +319,14 @@ fn write_scope<'a, W: ValueWriter>(
     keys: &mut Vec<&'a str>,
     ahead: &mut Ahead<'_>,
     out: &mut W,
-) -> Result<(), Error>
+) -> Result<(), Stop>
     ensures ok { OnOk result (ScopeMeans doubles depth reader.old reader.new (λ ps. W.framed out.old ps out.new)) }
     ensures keys { OnOk result (keys.new.items ≡ keys.old.items) }
     ensures shorter { OnOk result (length reader.new < length reader.old) }
+    ensures stops { IfErr result (λ e. ScopeDenied doubles (W.leaves doubles) W.sorts e depth reader.old) }
 {
     if depth == 0 {
-        return Err(Error::Invalid);
+        return Err(Stop::Fault);
     }
     let first = reader.next_key()?;
     write_document(
@@ -340,34 +343,36 @@ fn write_scope<'a, W: ValueWriter>(
 }
 
 // The end of the object of code and its scope. Where the code is behind, it is to stand there.
-fn end_object(reader: &mut Reader<'_>, code: &str, is_behind: bool) -> Result<(), Error>
+fn end_object(reader: &mut Reader<'_>, code: &str, is_behind: bool) -> Result<(), Stop>
     ensures ok { OnOk result (CodeEnds code.now is_behind reader.old reader.new) }
     ensures shorter { OnOk result (length reader.new < length reader.old) }
+    ensures stops { IfErr result (λ e. EndDenied e is_behind reader.old) }
 {
     if is_behind {
         pass_code(reader, code)?;
     }
     if reader.next_key()?.is_some() {
-        return Err(Error::Invalid);
+        return Err(Stop::Fault);
     }
     Ok(())
 }
 
 // The key of code, and then this text.
-fn pass_code(reader: &mut Reader<'_>, code: &str) -> Result<(), Error>
-    ensures { OnOk result (read_key reader.old ≡ Some (Some (codes "$code"), token.string code.now ∷ reader.new)) }
+fn pass_code(reader: &mut Reader<'_>, code: &str) -> Result<(), Stop>
+    ensures ok { OnOk result (read_key reader.old ≡ Some (Some (codes "$code"), token.string code.now ∷ reader.new)) }
+    ensures fault { IfErr result (λ e. e ≡ Fault) }
 {
     let Some(key) = reader.next_key()? else {
-        return Err(Error::Invalid);
+        return Err(Stop::Fault);
     };
     if key != "$code" {
-        return Err(Error::Invalid);
+        return Err(Stop::Fault);
     }
     let Some(Token::String(text)) = reader.next() else {
-        return Err(Error::Invalid);
+        return Err(Stop::Fault);
     };
     if text != code {
-        return Err(Error::Invalid);
+        return Err(Stop::Fault);
     }
     Ok(())
 }

@@ -1,13 +1,15 @@
 //! BSON elements that values are written to.
-ghost use Rattle.std.specs.Prelude.{◌≡◌, true};
+ghost use Rattle.std.specs.Prelude.{◌≡◌, true, ⊤};
 ghost use Rattle.std.specs.Str.{is_utf8};
 ghost use Rattle.bson_bytes.specs.Putting.{is_free};
+ghost use Rattle.bson_filter.specs.Stops.{MayStop};
 
 use crate::scalars::{put_scalar, type_of};
 use bson_bytes::error::Error;
 use bson_bytes::parts::is_free;
 use bson_bytes::put::{put_end, put_length, put_name, put_room, put_text};
 use bson_filter::distinct::are_distinct;
+use bson_filter::stop::Stop;
 use bson_filter::writer::ValueWriter;
 use bson_scalar::scalar::Scalar;
 use bson_types::spec::ElementType;
@@ -26,6 +28,10 @@ impl ValueWriter for ElementWriter {
     ghost use Rattle.std.specs.Prelude.{decimal};
     ghost use Rattle.bson_pack.specs.Packed.{PutUnder, PutFramed, HasRoom, ArrayUnder, CodeUnder};
 
+    ghost leaves = { λ D. ⊤ };
+
+    ghost sorts = { ⊥ };
+
     ghost name_of = { λ n. decimal n };
 
     ghost wrote = { λ old k v new. PutUnder k v old.bytes.items new.bytes.items };
@@ -40,21 +46,21 @@ impl ValueWriter for ElementWriter {
 
     ghost coded = { λ old k s begun new. CodeUnder k s begun old.bytes.items new.bytes.items };
 
-    fn string(&mut self, name: &str, text: &str) -> Result<(), json::Error> {
+    fn string(&mut self, name: &str, text: &str) -> Result<(), Stop> {
         put_name(&mut self.bytes, ElementType::String, name)?;
         put_text(&mut self.bytes, text).map_err(refused)
     }
 
-    fn boolean(&mut self, name: &str, truth: bool) -> Result<(), json::Error> {
+    fn boolean(&mut self, name: &str, truth: bool) -> Result<(), Stop> {
         put_name(&mut self.bytes, ElementType::Boolean, name)?;
         Ok(self.bytes.extend_from_slice(&[u8::from(truth)])?)
     }
 
-    fn null(&mut self, name: &str) -> Result<(), json::Error> {
+    fn null(&mut self, name: &str) -> Result<(), Stop> {
         Ok(put_name(&mut self.bytes, ElementType::Null, name)?)
     }
 
-    fn scalar(&mut self, name: &str, value: Scalar) -> Result<(), json::Error> {
+    fn scalar(&mut self, name: &str, value: Scalar) -> Result<(), Stop> {
         put_name(&mut self.bytes, type_of(&value), name)?;
         put_scalar(&mut self.bytes, &value).map_err(refused)
     }
@@ -63,55 +69,57 @@ impl ValueWriter for ElementWriter {
         buffer.format(place)
     }
 
-    fn begin_array(&mut self, name: &str) -> Result<usize, json::Error> {
+    fn begin_array(&mut self, name: &str) -> Result<usize, Stop> {
         put_name(&mut self.bytes, ElementType::Array, name)?;
         self.begin()
     }
 
-    fn end_array(&mut self, start: usize) -> Result<(), json::Error> {
+    fn end_array(&mut self, start: usize) -> Result<(), Stop> {
         put_end(&mut self.bytes, start).map_err(refused)
     }
 
-    fn embed(&mut self, name: &str) -> Result<(), json::Error> {
+    fn embed(&mut self, name: &str) -> Result<(), Stop> {
         Ok(put_name(&mut self.bytes, ElementType::EmbeddedDocument, name)?)
     }
 
-    fn begin(&mut self) -> Result<usize, json::Error> {
+    fn begin(&mut self) -> Result<usize, Stop> {
         let start = self.bytes.len();
         put_room(&mut self.bytes)?;
         Ok(start)
     }
 
-    fn key(&mut self, name: &str) -> Result<(), json::Error> {
+    fn key(&mut self, name: &str) -> Result<(), Stop> {
         if !is_free(name.as_bytes()) {
-            return Err(json::Error::Invalid);
+            return Err(Stop::GaveUp);
         }
         Ok(())
     }
 
-    fn end(&mut self, start: usize, keys: &mut [&str]) -> Result<(), json::Error> {
+    fn end(&mut self, start: usize, keys: &mut [&str]) -> Result<(), Stop> {
         if !are_distinct(*self.bytes.allocator(), keys) {
-            return Err(json::Error::Invalid);
+            return Err(Stop::DuplicateKey);
         }
         put_end(&mut self.bytes, start).map_err(refused)
     }
 
-    fn begin_code(&mut self, name: &str, code: &str) -> Result<usize, json::Error> {
+    fn begin_code(&mut self, name: &str, code: &str) -> Result<usize, Stop> {
         put_name(&mut self.bytes, ElementType::JavaScriptCodeWithScope, name)?;
         let start = self.begin()?;
         put_text(&mut self.bytes, code).map_err(refused)?;
         Ok(start)
     }
 
-    fn end_code(&mut self, start: usize) -> Result<(), json::Error> {
+    fn end_code(&mut self, start: usize) -> Result<(), Stop> {
         put_length(&mut self.bytes, start).map_err(refused)
     }
 }
 
 // A text whose document has no bytes is read whole.
-fn refused(error: Error) -> json::Error {
+fn refused(error: Error) -> Stop
+    ensures { MayStop (λ D. ⊤) result }
+{
     match error {
-        Error::OutOfMemory => json::Error::OutOfMemory,
-        _ => json::Error::Invalid,
+        Error::OutOfMemory => Stop::OutOfMemory,
+        _ => Stop::GaveUp,
     }
 }

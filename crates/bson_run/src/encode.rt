@@ -19,6 +19,7 @@ use bson_codec::{ser, to_vec};
 use bson_convert::convert::error_of;
 use bson_convert::error::Error;
 use bson_convert::no_bytes::NoBytes;
+use bson_filter::stop::Stop;
 use bson_pack::pack::pack_text;
 use std::alloc::Global;
 
@@ -83,8 +84,8 @@ fn pack_document(alloc: Global, options: Options, bytes: &[u8]) -> Result<Option
     };
     match pack_text(alloc, options.doubles, text) {
         Ok(document) => Ok(Some(document)),
-        Err(json::Error::Invalid) => Ok(None),
-        Err(_) => Err(Error::OutOfMemory),
+        Err(Stop::OutOfMemory) => Err(Error::OutOfMemory),
+        Err(_) => Ok(None),
     }
 }
 

@@ -17,6 +17,7 @@ use bson_convert::error::Error;
 use bson_convert::mode::Mode;
 use bson_distinct::arrangement::Arrangement;
 use bson_filter::filter::{filter_text, show_text_in_order};
+use bson_filter::stop::Stop;
 use std::alloc::Global;
 
 /// [`convert_with`](bson_convert::convert::convert_with) where each document of the text has its keys in
@@ -138,13 +139,13 @@ pub(crate) fn filter_once(
 {
     match filter(alloc, options, mode, text) {
         Ok(written) => Ok(Some(written)),
-        Err(json::Error::Invalid) => Ok(None),
-        Err(_) => Err(Error::OutOfMemory),
+        Err(Stop::OutOfMemory) => Err(Error::OutOfMemory),
+        Err(_) => Ok(None),
     }
 }
 
 // The text that the mode asks for of the value that the text means in order.
-fn filter(alloc: Global, options: Options, mode: Mode, text: &str) -> Result<Vec<u8>, json::Error>
+fn filter(alloc: Global, options: Options, mode: Mode, text: &str) -> Result<Vec<u8>, Stop>
     ensures ok { IfOk result (λ written. IsConvertedTextInOrder options mode text.now written.items) }
     ensures utf8 { IfOk result (λ written. IsUtf8 written.items) }
 {

@@ -1,3 +1,6 @@
+use Rattle.std.specs.Prelude.{⊤}
+use Rattle.std.proofs.lemmas.Result.{err_from_is_err_and}
+use Rattle.bson_filter.proofs.TextDenials.{refused}
 use Rattle.std.proofs.Common.{false, refl}
 use Rattle.std.proofs.lemmas.Str.{IsUtf8-from_is_utf8}
 use Rattle.bson_filter.specs.declared.shown_text.ShownWriter.{ShownWriter}
@@ -22,6 +25,12 @@ returns c =
     } in
     record {
       ok = text_shown c.args.doubles c.args.arrangement c.args.text.now old c.write_text.new.out
-          c.in_ok-write_text.ensures refl refl c.in_ok-with_capacity.ensures.items;
+          c.in_ok-write_text.ensures.ok refl refl c.in_ok-with_capacity.ensures.items;
       utf8 = IsUtf8-from_is_utf8 c.write_text.new.out.text.items c.write_text.new.out.utf8;
+      accepts = tt;
     }
+
+pub returns-in_err-write_text-clause-accepts : goal.returns-in_err-write_text-clause-accepts
+returns-in_err-write_text-clause-accepts c =
+    let p = err_from_is_err_and c.from_residual-in_err-write_text.result c.from_residual-in_err-write_text.ensures.1 in
+    rw (p.1, p.2) (refused c.args.doubles ⊥ ⊤ c.args.text.now _ c.in_err-write_text.ensures.stops)

@@ -1,4 +1,8 @@
-use Rattle.std.proofs.Common.{false, refl}
+use Rattle.std.specs.Prelude.{⊤}
+use Rattle.bson_scalar.specs.declared.form.Doubles.TheVariants.{Finite}
+use Rattle.std.proofs.lemmas.Result.{err_from_is_err_and}
+use Rattle.bson_filter.proofs.TextDenials.{refused}
+use Rattle.std.proofs.Common.{◌≡◌, false, refl}
 use Rattle.std.proofs.lemmas.Str.{IsUtf8-from_is_utf8}
 use Rattle.bson_filter.specs.declared.sorted_text.SortedWriter.{SortedWriter}
 use Rattle.bson_filter.proofs.Sorting.{text_sorted}
@@ -24,7 +28,13 @@ returns c =
       utf8 = nothing_utf8 _ c.in_ok-with_capacity.ensures.items;
     } in
     record {
-      ok = text_sorted D f c.args.text.now old c.write_text.new.out c.in_ok-write_text.ensures refl refl refl
+      ok = text_sorted D f c.args.text.now old c.write_text.new.out c.in_ok-write_text.ensures.ok refl refl refl
           c.in_ok-with_capacity.ensures.items;
       utf8 = IsUtf8-from_is_utf8 c.write_text.new.out.text.items c.write_text.new.out.utf8;
+      accepts = tt;
     }
+
+pub returns-in_err-write_text-clause-accepts : goal.returns-in_err-write_text-clause-accepts
+returns-in_err-write_text-clause-accepts c =
+    let p = err_from_is_err_and c.from_residual-in_err-write_text.result c.from_residual-in_err-write_text.ensures.1 in
+    rw (p.1, p.2) (refused c.args.doubles (c.args.doubles ≡ Finite) ⊤ c.args.text.now _ c.in_err-write_text.ensures.stops)

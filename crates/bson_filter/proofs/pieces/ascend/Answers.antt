@@ -1,4 +1,4 @@
-use Rattle.std.proofs.Common.{◌≡◌, suc, ◌∷◌, [], drop, get_or, map, option_map, sym, subst, arith, add-one}
+use Rattle.std.proofs.Common.{◌≡◌, suc, ◌∷◌, [], drop, get_or, map, option_map, false, sym, subst, arith, add-one, refl}
 use Rattle.std.proofs.Math.Seq.{drop-cons}
 use Rattle.std.proofs.lemmas.List.{drop_all}
 use Rattle.bson_filter.specs.Pieces.{KeysAscend}
@@ -12,13 +12,30 @@ loop-at-preserved c =
     let rest = drop (suc at) ks in
     let last = option_map (λ s. s.now) c.loop-at.last in
     let left : drop at ks ≡ k ∷ rest = drop-cons ks at _ (grind arith) in
-    rw (add-one at)
-    (λ up. c.loop-at.invariant
-    (subst (λ l. KeysAscend last (map (λ s. s.now) l)) (sym left) (c.follows.ensures c.if-not-follows.false, up)))
+    rw (add-one at) (
+      λ up. c.loop-at.invariant.0
+          (subst (λ l. KeysAscend last (map (λ s. s.now) l)) (sym left) (c.follows.ensures.0 c.if-not-follows.false, up)),
+      λ all. (subst (λ l. KeysAscend last (map (λ s. s.now) l)) left (c.loop-at.invariant.1 all)).1,
+    )
+
+pub returns-then-not-follows : goal.returns-then-not-follows
+returns-then-not-follows c =
+    let ks = c.args.keys.now in
+    let at = c.loop-at.at in
+    let k = get_or ks at (record { ref_ptr = (0, 0); now = [] }) in
+    let last = option_map (λ s. s.now) c.loop-at.last in
+    let left : drop at ks ≡ k ∷ drop (suc at) ks = drop-cons ks at _ (grind arith) in (
+      λ never. cc,
+      λ all.
+          let next = (subst (λ l. KeysAscend last (map (λ s. s.now) l)) left (c.loop-at.invariant.1 all)).0 in
+          let yes = c.follows.ensures.1 next in grind arith,
+    )
 
 pub returns : goal.returns
-returns c = λ is.
+returns c =
     let ks = c.args.keys.now in
     let last = option_map (λ s. s.now) c.loop-at.last in
-    let none : drop c.loop-at.at ks ≡ [] = drop_all c.loop-at.at ks (grind arith) in
-    c.loop-at.invariant (subst (λ l. KeysAscend last (map (λ s. s.now) l)) (sym none) tt)
+    let none : drop c.loop-at.at ks ≡ [] = drop_all c.loop-at.at ks (grind arith) in (
+      λ is. c.loop-at.invariant.0 (subst (λ l. KeysAscend last (map (λ s. s.now) l)) (sym none) tt),
+      λ all. refl,
+    )

@@ -16,10 +16,11 @@ returns-then-ascend c =
     record {
       ended = ended_in_place (take c.args.start texts) texts c.extend_from_slice.new.self.items
           (pieces_from c.args.keys.now c.args.starts.now end) c.requires.opened
-          (pieces_ascend None c.args.keys.now c.args.starts.now end (c.ascend.ensures c.if-ascend.true))
+          (pieces_ascend None c.args.keys.now c.args.starts.now end (c.ascend.ensures.0 c.if-ascend.true))
           c.in_ok-extend_from_slice.ensures.items;
       braced = braced;
       utf8 = braced_utf8 c.extend_from_slice.new.self.items braced;
+      stops = tt;
     }
 
 -- what stands before the object is left
@@ -45,4 +46,4 @@ returns c =
           ∙ ap (λ l. before ++ l) c.deref.ensures.value,
     ) in
     let braced = ended_utf8 before texts new pieces c.requires.opened c.requires.utf8 ended in
-    record { ended = ended; braced = braced; utf8 = braced_utf8 new braced }
+    record { ended = ended; braced = braced; utf8 = braced_utf8 new braced; stops = tt }

@@ -44,7 +44,7 @@ loop-at-preserved c =
           ∙ c.loop-at.invariant.text;
       ascend = λ up. c.loop-at.invariant.ascend
           (next_ascends last p (last_ones rest) (last_ones (picked ps (drop at places))) kept
-          (c.follows.ensures c.if-not-follows.false) up);
+          (c.follows.ensures.0 c.if-not-follows.false) up);
     }
 
 -- one that stands again is passed over

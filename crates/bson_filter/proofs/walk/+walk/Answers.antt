@@ -1,6 +1,6 @@
-use Rattle.std.proofs.Common.{◌≡◌, ◌-◌, ◌+◌, ◌<◌, ◌++◌, [], ◌∷◌, length, option_map, Some, None, sym, ap, ◌∙◌, arith}
-use Rattle.std.proofs.Common.{append_assoc, subst, take, drop, take_all, rules, length-drop, codes, ◌&&◌, true, bytes_eq}
-use Rattle.std.proofs.Common.{string_bytes, List, ℕ, refl}
+use Rattle.std.proofs.Common.{◌≡◌, ◌-◌, ◌+◌, ◌<◌, ◌++◌, [], ◌∷◌, length, option_map, Some, sym, ap, ◌∙◌, arith}
+use Rattle.std.proofs.Common.{append_assoc, subst, codes, ◌&&◌, true, bytes_eq, None}
+use Rattle.std.proofs.Common.{List, ℕ, refl}
 use Rattle.std.proofs.lemmas.Result.{on_ok_weaker}
 use Rattle.json.specs.Token.{Token}
 use Rattle.json.specs.Json.{after_end_array, read_key, value}
@@ -9,7 +9,6 @@ use Rattle.json.specs.Reads.{token_of}
 use Rattle.serde_json.specs.Data as tree
 use Rattle.serde_json.specs.Read.{converted}
 use Rattle.serde_json.specs.View.{view}
-use Rattle.serde_json.specs.declared.value.Value.{String, the_lemmas}
 use Rattle.bson_scalar.specs.Table.{wrapper_of}
 use Rattle.bson_scalar.specs.Faults.{Gives}
 use Rattle.bson_scalar.specs.Reading.{single_in}
@@ -22,10 +21,19 @@ use Rattle.bson_filter.proofs.Sorting.{was_ok}
 use Rattle.bson_filter.proofs.Walking.{items_begun, item_passed, items_passed, members_begun}
 use Rattle.bson_filter.proofs.Walking.{member_passed, members_written, members_passed, array_means, object_means}
 use Rattle.bson_filter.proofs.Walking.{document_means}
-use Rattle.bson_filter.proofs.Objects.{Key, append_none, placed, pushed, texts, begins}
+use Rattle.bson_filter.proofs.Objects.{append_none, placed, begins}
 use Rattle.bson_filter.proofs.Wrappers.{token_means, number_means, single_means, scope_means, code_means, code_alone}
 use Rattle.bson_filter.proofs.Wrappers.{code_scoped, behind_means}
+use Rattle.json.specs.Json.{items}
+use Rattle.bson_tokens.proofs.Offered.{was_read as from_tree}
+use Rattle.bson_filter.proofs.Denials.{items_still, item_still, members_still}
+use Rattle.bson_filter.proofs.Denials.{member_still}
+use Rattle.bson_filter.specs.Parts.{scope_token}
+use Rattle.bson_filter.proofs.walk.+walk.Goals.{write_object-in-Ok, write_object-in-Err}
 use Rattle.bson_filter.proofs.walk.+walk.Goals as goal
+mod Stops
+use Rattle.bson_filter.proofs.walk.+walk.Answers.Stops as stops
+use Rattle.bson_filter.proofs.walk.+walk.Answers.Stops.{own_keys}
 
 -- ---- arrays
 
@@ -33,7 +41,7 @@ pub write_array-items-init : goal.write_array-items-init
 write_array-items-init g t c =
     let W = g.W.ValueWriter in
     let begun = items_begun _ W.wrote W.name_of _ c.begin_array.new.self in
-    (omega arith, refl, length c.args.reader.now, omega arith, begun)
+    (omega arith, refl, length c.args.reader.now, omega arith, begun, items_still _ _ _ _)
 
 pub write_array-items-preserved : goal.write_array-items-preserved
 write_array-items-preserved g t c =
@@ -47,6 +55,7 @@ write_array-items-preserved g t c =
     let Read : List ℕ → Type 0 = λ k. TreeMeans c.args.doubles (converted kept (value c.args.depth l.reader)) r
     (λ v. W.wrote l.out k v new) in
     let read : Read c.item_name-name.result.now = rw (← going.1) c.in_ok-write_value.ensures.ok in
+    let j = from_tree kept (value c.args.depth l.reader) read.0 r read.2 in
     let more : c.in_ok-place.place ≡ l.place + 1 = grind arith in (
       omega (arith, fewer, l.invariant.0),
       c.in_ok-write_value.ensures.keys ∙ l.invariant.1,
@@ -54,6 +63,8 @@ write_array-items-preserved g t c =
       omega (arith, fewer, l.invariant.3),
       rw more (item_passed _ W.wrote W.name_of _ _ n l.place _ _ c.begin_array.new.self l.out new
           (omega (arith, fewer, l.invariant.3)) going.0 (subst Read c.item_name-name.ensures read) l.invariant.4),
+      item_still c.args.doubles (g.W.ValueWriter.leaves c.args.doubles) g.W.ValueWriter.sorts _ (value c.args.depth) n l.reader r j.0 (omega (arith, fewer, l.invariant.3)) going.0 j.1
+          l.invariant.5,
     )
 
 pub write_array-end_array-requires : goal.write_array-end_array-requires
@@ -64,7 +75,7 @@ write_array-end_array-requires g t c =
     let closed : after_end_array l.reader ≡ Some c.take_end_array.new.self = grind arith in
     let all = items_passed _ W.wrote W.name_of _ _ _ l.place _ _ begun l.out
     (λ vs. ItemsWritten W.wrote W.name_of 0 vs begun l.out) l.invariant.3 closed l.invariant.4 (λ vs written. written) in
-    (c.args.out.now, begun, c.args.name.now, all.1, c.in_ok-begun.ensures, all.4)
+    (c.args.out.now, begun, c.args.name.now, all.1, c.in_ok-begun.ensures.written, all.4)
 
 pub write_array-returns-clause-ok : goal.write_array-returns-clause-ok
 write_array-returns-clause-ok g t c =
@@ -74,7 +85,7 @@ write_array-returns-clause-ok g t c =
     let closed : after_end_array l.reader ≡ Some c.take_end_array.new.self = grind arith in
     on_ok_weaker c.end_array.result
     (λ ended. items_passed _ W.wrote W.name_of _ _ _ l.place _ _ begun l.out _ l.invariant.3 closed l.invariant.4
-    (λ vs written. ended c.args.out.now begun c.args.name.now vs c.in_ok-begun.ensures written)) c.end_array.ensures
+    (λ vs written. ended c.args.out.now begun c.args.name.now vs c.in_ok-begun.ensures.written written)) c.end_array.ensures.written
 
 -- ---- documents
 
@@ -86,6 +97,7 @@ write_document-members-init g t c = (
   length c.args.reader.now,
   omega arith,
   members_begun _ _ _ _ _ _,
+  members_still _ _ _ _ _,
 )
 
 pub write_document-members-preserved : goal.write_document-members-preserved
@@ -100,6 +112,8 @@ write_document-members-preserved g t c =
     let shorter = read_key-shorter r _ s key in
     let fewer = c.in_ok-write_value.ensures.shorter in
     let plain = placed c.args.is_document (wrapper_of k.now) (grind arith) in
+    let read = c.in_ok-write_value.ensures.ok in
+    let j = from_tree kept (value c.args.depth l.reader) read.0 r read.2 in
     let is : l.next ≡ Some k = grind arith in (
       omega (arith, shorter, fewer, l.invariant.0),
       ks ++ k ∷ [],
@@ -108,15 +122,10 @@ write_document-members-preserved g t c =
       n - 1,
       omega (arith, shorter, fewer, l.invariant.4),
       member_passed _ _ _ _ _ _ _ _ _ _ _ _ _ _ _ _ _ (omega (arith, fewer, l.invariant.4)) plain
-          c.in_ok-key.ensures c.in_ok-write_value.ensures.ok key (rw is at l.invariant.5),
+          c.in_ok-key.ensures.written c.in_ok-write_value.ensures.ok key (rw is at l.invariant.5),
+      member_still c.args.doubles (g.W.ValueWriter.leaves c.args.doubles) g.W.ValueWriter.sorts c.args.is_document _ (value c.args.depth) n k.now l.reader r s _ j.0
+          (omega (arith, fewer, l.invariant.4)) j.1 key (rw is at l.invariant.6),
     )
-
--- the keys of the document that ends
-own_keys : (old ks all : List Key) (held : ℕ) → all ≡ old ++ ks → held ≡ length old
-    → texts (take (length all - held) (drop held all)) ≡ texts ks
-own_keys old ks all held is at =
-    ap texts (take_all _ (drop held all) (omega (arith, length-drop held all)) ∙ ap (λ n. drop n all) at)
-    ∙ pushed old ks all is
 
 pub write_document-end-requires : goal.write_document-end-requires
 write_document-end-requires g t c =
@@ -127,7 +136,7 @@ write_document-end-requires g t c =
     let all = members_written _ W.wrote W.keyed _ _ _ l.invariant.1 begun l.out (rw is at l.invariant.5) in
     let own = own_keys c.args.keys.now.items l.invariant.1 c.as_mut_slice.result.now c.len-held.result
     (c.as_mut_slice.ensures.value ∙ l.invariant.2) (grind arith) in
-    (c.args.out.now, begun, all.0, c.in_ok-begun.ensures, all.1, all.2 ∙ sym own)
+    (c.args.out.now, begun, all.0, c.in_ok-begun.ensures.written, all.1, all.2 ∙ sym own)
 
 pub write_document-returns-clause-ok : goal.write_document-returns-clause-ok
 write_document-returns-clause-ok g t c =
@@ -137,7 +146,7 @@ write_document-returns-clause-ok g t c =
     let own = own_keys c.args.keys.now.items l.invariant.1 c.as_mut_slice.result.now c.len-held.result
     (c.as_mut_slice.ensures.value ∙ l.invariant.2) (grind arith) in
     members_passed _ W.wrote W.keyed _ _ _ l.invariant.1 c.begin.new.self l.out _ (rw is at l.invariant.5)
-    (λ ps written keys. c.in_ok-end.ensures c.args.out.now c.begin.new.self ps c.in_ok-begun.ensures written
+    (λ ps written keys. c.in_ok-end.ensures.written c.args.out.now c.begin.new.self ps c.in_ok-begun.ensures.written written
     (keys ∙ sym own))
 
 -- ---- objects
@@ -145,7 +154,11 @@ write_document-returns-clause-ok g t c =
 pub write_object-returns-in-Some-clause-ok : goal.write_object-returns-in-Some-clause-ok
 write_object-returns-in-Some-clause-ok g t c =
     let scope = rw c.in-Some.is at c.in_ok-code.ensures in
-    on_ok_weaker c.write_code.result (behind_means _ _ _ _ _ _ _ _ c.in_ok-first.ensures.value scope) c.write_code.ensures.ok
+    elim c.match-written.branch [
+      | write_object-in-Ok w ↦
+          rw w.result-is (behind_means _ _ _ _ _ _ _ _ c.in_ok-first.ensures.value scope w.in-Ok.ensures.ok)
+      | write_object-in-Err w ↦ rw w.result-is tt
+    ]
 
 pub write_object-returns-in-Some-wrapper_named-clause-ok : goal.write_object-returns-in-Some-wrapper_named-clause-ok
 write_object-returns-in-Some-wrapper_named-clause-ok g t c =
@@ -156,7 +169,7 @@ pub write_object-returns-clause-ok : goal.write_object-returns-clause-ok
 write_object-returns-clause-ok g t c =
     on_ok_weaker c.write_document.result
     (document_means _ _ _ _ _ _ _ _ c.in_ok-first.ensures.value
-    (λ ps. c.in_ok-embed.ensures ps c.write_document.new.out)) c.write_document.ensures.ok
+    (λ ps. c.in_ok-embed.ensures.written ps c.write_document.new.out)) c.write_document.ensures.ok
 
 -- ---- values
 
@@ -166,7 +179,7 @@ write_value-returns-in-String-clause-ok g t c =
     let s = c.in-String.text.now in
     let is : c.args.reader.now ≡ Token.string s ∷ c.next.new.self = grind (arith, first) in
     on_ok_weaker c.string.result
-    (token_means _ _ _ _ _ (tree.string s) _ _ is (ap (converted kept) (value_is c.args.depth _)) refl) c.string.ensures
+    (token_means _ _ _ _ _ (tree.string s) _ _ is (ap (converted kept) (value_is c.args.depth _)) refl) c.string.ensures.written
 
 pub write_value-returns-in-Bool-clause-ok : goal.write_value-returns-in-Bool-clause-ok
 write_value-returns-in-Bool-clause-ok g t c =
@@ -174,21 +187,21 @@ write_value-returns-in-Bool-clause-ok g t c =
     let b = c.in-Bool.truth in
     let is : c.args.reader.now ≡ Token.boolean b ∷ c.next.new.self = grind (arith, first) in
     on_ok_weaker c.boolean.result
-    (token_means _ _ _ _ _ (tree.boolean b) _ _ is (ap (converted kept) (value_is c.args.depth _)) refl) c.boolean.ensures
+    (token_means _ _ _ _ _ (tree.boolean b) _ _ is (ap (converted kept) (value_is c.args.depth _)) refl) c.boolean.ensures.written
 
 pub write_value-returns-in-Null-clause-ok : goal.write_value-returns-in-Null-clause-ok
 write_value-returns-in-Null-clause-ok g t c =
     let first : c.args.reader.now ≡ token_of c.in_ok-token.token ∷ c.next.new.self = grind arith in
     let is : c.args.reader.now ≡ Token.null ∷ c.next.new.self = grind (arith, first) in
     on_ok_weaker c.null.result
-    (token_means _ _ _ _ _ tree.null _ _ is (ap (converted kept) (value_is c.args.depth _)) refl) c.null.ensures
+    (token_means _ _ _ _ _ tree.null _ _ is (ap (converted kept) (value_is c.args.depth _)) refl) c.null.ensures.written
 
 pub write_value-returns-in_ok-read_token-in-Number-clause-ok : goal.write_value-returns-in_ok-read_token-in-Number-clause-ok
 write_value-returns-in_ok-read_token-in-Number-clause-ok g t c =
     let first : c.args.reader.now ≡ token_of c.in_ok-token.token ∷ c.next.new.self = grind arith in
     let is : c.args.reader.now ≡ Token.number c.in-Number.text.now ∷ c.next.new.self = grind (arith, first) in
-    let read = c.in_ok-read_token-in-Number.ensures in
-    on_ok_weaker c.scalar.result (number_means _ _ _ _ _ _ _ _ is read.1 read.2) c.scalar.ensures
+    let read = c.in_ok-read_token-in-Number.ensures.ok in
+    on_ok_weaker c.scalar.result (number_means _ _ _ _ _ _ _ _ is read.1 read.2) c.scalar.ensures.written
 
 pub write_value-returns-else-depth-eq0-clause-ok : goal.write_value-returns-else-depth-eq0-clause-ok
 write_value-returns-else-depth-eq0-clause-ok g t c =
@@ -211,25 +224,27 @@ write_scope-returns-clause-ok g t c =
     on_ok_weaker c.write_document.result
     (scope_means _ _ _ _ _ _ _ (omega arith) c.in_ok-first.ensures.value) c.write_document.ensures.ok
 
-pub write_code-returns-in_ok-from_str-in-Some-Null-clause-ok : goal.write_code-returns-in_ok-from_str-in-Some-Null-clause-ok
-write_code-returns-in_ok-from_str-in-Some-Null-clause-ok g t c =
-    let is : c.args.reader.now ≡ Token.null ∷ c.next.new.self = grind arith in
-    let text = c.in_ok-from_str-in-Some-Null.ensures.ok in
+pub write_code-returns-in_ok-from_str-in-Null-clause-ok : goal.write_code-returns-in_ok-from_str-in-Null-clause-ok
+write_code-returns-in_ok-from_str-in-Null-clause-ok g t c =
+    let is : c.args.reader.now ≡ Token.null ∷ c.read_scope.new.reader =
+    c.in_ok-scope.ensures.ok ∙ ap (λ k. scope_token k ∷ c.read_scope.new.reader) c.in-Null.is in
+    let text = c.in_ok-from_str-in-Null.ensures.ok in
     let Wrote : Value → Type 0 = λ v. g.W.ValueWriter.wrote c.args.out.now c.args.name.now v c.scalar.new.self in
     on_ok_weaker c.scalar.result
-    (λ wrote. code_alone _ _ _ _ _ _ _ Wrote is c.in_ok-end_object-in-Some-Null.ensures.ok
-    (subst (λ s. Wrote (scalar (code s))) text wrote)) c.scalar.ensures
+    (λ wrote. code_alone _ _ _ _ _ _ _ Wrote is c.in_ok-end_object-in-Null.ensures.ok
+    (subst (λ s. Wrote (scalar (code s))) text wrote)) c.scalar.ensures.written
 
-pub write_code-returns-in_ok-end_object-in-Some-BeginObject-clause-ok : goal.write_code-returns-in_ok-end_object-in-Some-BeginObject-clause-ok
-write_code-returns-in_ok-end_object-in-Some-BeginObject-clause-ok g t c =
-    let is : c.args.reader.now ≡ Token.begin_object ∷ c.next.new.self = grind arith in
-    let scope = c.in_ok-write_scope-in-Some-BeginObject.ensures in
-    let begun = c.in_ok-begun-in-Some-BeginObject.ensures in
+pub write_code-returns-in_ok-end_object-in-Object-clause-ok : goal.write_code-returns-in_ok-end_object-in-Object-clause-ok
+write_code-returns-in_ok-end_object-in-Object-clause-ok g t c =
+    let is : c.args.reader.now ≡ Token.begin_object ∷ c.read_scope.new.reader =
+    c.in_ok-scope.ensures.ok ∙ ap (λ k. scope_token k ∷ c.read_scope.new.reader) c.in-Object.is in
+    let scope = c.in_ok-write_scope-in-Object.ensures in
+    let begun = c.in_ok-begun-in-Object.ensures.written in
     on_ok_weaker c.end_code.result
     (λ ended. code_scoped _ _ _ _ _ _ _ _ _
     (λ v. g.W.ValueWriter.wrote c.args.out.now c.args.name.now v c.end_code.new.self) is scope.ok scope.shorter
-    c.in_ok-end_object-in-Some-BeginObject.ensures.ok
-    (λ ps. ended c.args.out.now c.begin_code.new.self c.args.name.now c.args.code.now ps begun)) c.end_code.ensures
+    c.in_ok-end_object-in-Object.ensures.ok
+    (λ ps. ended c.args.out.now c.begin_code.new.self c.args.name.now c.args.code.now ps begun)) c.end_code.ensures.written
 
 pub write_wrapper-returns-in_default-clause-ok : goal.write_wrapper-returns-in_default-clause-ok
 write_wrapper-returns-in_default-clause-ok g t c =
@@ -240,7 +255,7 @@ write_wrapper-returns-in_default-clause-ok g t c =
     c.read_wrapper.ensures in
     on_ok_weaker c.scalar.result
     (single_means _ _ _ _ _ _ _ _ _ _ named c.in_ok-held.ensures.ok c.in_ok-held.ensures.shorter ended read)
-    c.scalar.ensures
+    c.scalar.ensures.written
 
 pub write_wrapper-returns-clause-ok : goal.write_wrapper-returns-clause-ok
 write_wrapper-returns-clause-ok g t c =
@@ -248,7 +263,134 @@ write_wrapper-returns-clause-ok g t c =
     let l = c.in-Some.other.now in
     let named : read_key c.read_held.new.reader ≡ Some (Some l, c.next_key.new.self) = grind arith in
     let are : (bytes_eq k (codes "$code") && bytes_eq l (codes "$scope")) ≡ true = grind arith in
-    let seen : view (String c.in-String.code) ≡ tree.string (string_bytes c.in-String.code) = search (rules, the_lemmas) in
     on_ok_weaker c.write_code.result
     (code_means _ _ _ _ _ _ _ _ _ _ _ c.in_ok-held.ensures.ok c.in_ok-held.ensures.shorter named are
-    (ap view c.in-String.is ∙ seen ∙ ap tree.string (sym c.deref.ensures))) c.write_code.ensures.ok
+    (c.in_ok-code.ensures.ok ∙ ap tree.string (sym c.deref.ensures))) c.write_code.ensures.ok
+
+-- ---- where it stops
+
+pub write_array-returns-in_err-write_value-clause-stops : goal.write_array-returns-in_err-write_value-clause-stops
+write_array-returns-in_err-write_value-clause-stops = stops.write_array-returns-in_err-write_value-clause-stops
+
+pub write_array-returns-in_err-place-clause-stops : goal.write_array-returns-in_err-place-clause-stops
+write_array-returns-in_err-place-clause-stops = stops.write_array-returns-in_err-place-clause-stops
+
+pub write_code-returns-in_err-end_object-in-Null-clause-stops : goal.write_code-returns-in_err-end_object-in-Null-clause-stops
+write_code-returns-in_err-end_object-in-Null-clause-stops = stops.write_code-returns-in_err-end_object-in-Null-clause-stops
+
+pub write_code-returns-in_err-write_scope-in-Object-clause-stops : goal.write_code-returns-in_err-write_scope-in-Object-clause-stops
+write_code-returns-in_err-write_scope-in-Object-clause-stops = stops.write_code-returns-in_err-write_scope-in-Object-clause-stops
+
+pub write_code-returns-in_err-end_object-in-Object-clause-stops : goal.write_code-returns-in_err-end_object-in-Object-clause-stops
+write_code-returns-in_err-end_object-in-Object-clause-stops = stops.write_code-returns-in_err-end_object-in-Object-clause-stops
+
+pub write_document-returns-then-is_misplaced-clause-stops : goal.write_document-returns-then-is_misplaced-clause-stops
+write_document-returns-then-is_misplaced-clause-stops = stops.write_document-returns-then-is_misplaced-clause-stops
+
+pub write_document-returns-in_err-write_value-clause-stops : goal.write_document-returns-in_err-write_value-clause-stops
+write_document-returns-in_err-write_value-clause-stops = stops.write_document-returns-in_err-write_value-clause-stops
+
+pub write_document-returns-in_err-next-clause-stops : goal.write_document-returns-in_err-next-clause-stops
+write_document-returns-in_err-next-clause-stops = stops.write_document-returns-in_err-next-clause-stops
+
+pub write_document-returns-in_err-end-clause-stops : goal.write_document-returns-in_err-end-clause-stops
+write_document-returns-in_err-end-clause-stops = stops.write_document-returns-in_err-end-clause-stops
+
+pub write_object-returns-in_err-first-clause-stops : goal.write_object-returns-in_err-first-clause-stops
+write_object-returns-in_err-first-clause-stops = stops.write_object-returns-in_err-first-clause-stops
+
+pub write_object-returns-in-Some-clause-stops : goal.write_object-returns-in-Some-clause-stops
+write_object-returns-in-Some-clause-stops = stops.write_object-returns-in-Some-clause-stops
+
+pub write_object-returns-in-Some-wrapper_named-clause-stops : goal.write_object-returns-in-Some-wrapper_named-clause-stops
+write_object-returns-in-Some-wrapper_named-clause-stops = stops.write_object-returns-in-Some-wrapper_named-clause-stops
+
+pub write_object-returns-clause-stops : goal.write_object-returns-clause-stops
+write_object-returns-clause-stops = stops.write_object-returns-clause-stops
+
+pub write_scope-returns-in_err-first-clause-stops : goal.write_scope-returns-in_err-first-clause-stops
+write_scope-returns-in_err-first-clause-stops = stops.write_scope-returns-in_err-first-clause-stops
+
+pub write_scope-returns-clause-stops : goal.write_scope-returns-clause-stops
+write_scope-returns-clause-stops = stops.write_scope-returns-clause-stops
+
+pub write_value-returns-in_err-token-clause-stops : goal.write_value-returns-in_err-token-clause-stops
+write_value-returns-in_err-token-clause-stops = stops.write_value-returns-in_err-token-clause-stops
+
+pub write_value-returns-in_err-read_token-in-Number-clause-stops : goal.write_value-returns-in_err-read_token-in-Number-clause-stops
+write_value-returns-in_err-read_token-in-Number-clause-stops = stops.write_value-returns-in_err-read_token-in-Number-clause-stops
+
+pub write_value-returns-in-EndObject-clause-stops : goal.write_value-returns-in-EndObject-clause-stops
+write_value-returns-in-EndObject-clause-stops = stops.write_value-returns-in-EndObject-clause-stops
+
+pub write_value-returns-then-depth-eq0-clause-stops : goal.write_value-returns-then-depth-eq0-clause-stops
+write_value-returns-then-depth-eq0-clause-stops = stops.write_value-returns-then-depth-eq0-clause-stops
+
+pub write_value-returns-then-depth-eq0-2-clause-stops : goal.write_value-returns-then-depth-eq0-2-clause-stops
+write_value-returns-then-depth-eq0-2-clause-stops = stops.write_value-returns-then-depth-eq0-2-clause-stops
+
+pub write_value-returns-else-depth-eq0-clause-stops : goal.write_value-returns-else-depth-eq0-clause-stops
+write_value-returns-else-depth-eq0-clause-stops = stops.write_value-returns-else-depth-eq0-clause-stops
+
+pub write_value-returns-else-depth-eq0-2-clause-stops : goal.write_value-returns-else-depth-eq0-2-clause-stops
+write_value-returns-else-depth-eq0-2-clause-stops = stops.write_value-returns-else-depth-eq0-2-clause-stops
+
+pub write_wrapper-returns-in_err-held-clause-stops : goal.write_wrapper-returns-in_err-held-clause-stops
+write_wrapper-returns-in_err-held-clause-stops = stops.write_wrapper-returns-in_err-held-clause-stops
+
+pub write_wrapper-returns-in_err-other-clause-stops : goal.write_wrapper-returns-in_err-other-clause-stops
+write_wrapper-returns-in_err-other-clause-stops = stops.write_wrapper-returns-in_err-other-clause-stops
+
+pub write_wrapper-returns-in_err-value-clause-stops : goal.write_wrapper-returns-in_err-value-clause-stops
+write_wrapper-returns-in_err-value-clause-stops = stops.write_wrapper-returns-in_err-value-clause-stops
+
+pub write_wrapper-returns-then-not-is_code_with_scope-clause-stops : goal.write_wrapper-returns-then-not-is_code_with_scope-clause-stops
+write_wrapper-returns-then-not-is_code_with_scope-clause-stops = stops.write_wrapper-returns-then-not-is_code_with_scope-clause-stops
+
+pub write_wrapper-returns-clause-stops : goal.write_wrapper-returns-clause-stops
+write_wrapper-returns-clause-stops = stops.write_wrapper-returns-clause-stops
+
+pub write_code-returns-in_err-scope-clause-stops : goal.write_code-returns-in_err-scope-clause-stops
+write_code-returns-in_err-scope-clause-stops = stops.write_code-returns-in_err-scope-clause-stops
+
+pub write_wrapper-returns-in_err-code-clause-stops : goal.write_wrapper-returns-in_err-code-clause-stops
+write_wrapper-returns-in_err-code-clause-stops = stops.write_wrapper-returns-in_err-code-clause-stops
+
+pub write_value-returns-in-String-clause-stops : goal.write_value-returns-in-String-clause-stops
+write_value-returns-in-String-clause-stops = stops.write_value-returns-in-String-clause-stops
+
+pub write_value-returns-in_ok-read_token-in-Number-clause-stops : goal.write_value-returns-in_ok-read_token-in-Number-clause-stops
+write_value-returns-in_ok-read_token-in-Number-clause-stops = stops.write_value-returns-in_ok-read_token-in-Number-clause-stops
+
+pub write_value-returns-in-Bool-clause-stops : goal.write_value-returns-in-Bool-clause-stops
+write_value-returns-in-Bool-clause-stops = stops.write_value-returns-in-Bool-clause-stops
+
+pub write_value-returns-in-Null-clause-stops : goal.write_value-returns-in-Null-clause-stops
+write_value-returns-in-Null-clause-stops = stops.write_value-returns-in-Null-clause-stops
+
+pub write_array-returns-in_err-begun-clause-stops : goal.write_array-returns-in_err-begun-clause-stops
+write_array-returns-in_err-begun-clause-stops = stops.write_array-returns-in_err-begun-clause-stops
+
+pub write_array-returns-clause-stops : goal.write_array-returns-clause-stops
+write_array-returns-clause-stops = stops.write_array-returns-clause-stops
+
+pub write_document-returns-in_err-begun-clause-stops : goal.write_document-returns-in_err-begun-clause-stops
+write_document-returns-in_err-begun-clause-stops = stops.write_document-returns-in_err-begun-clause-stops
+
+pub write_document-returns-in_err-key-clause-stops : goal.write_document-returns-in_err-key-clause-stops
+write_document-returns-in_err-key-clause-stops = stops.write_document-returns-in_err-key-clause-stops
+
+pub write_object-returns-in_err-embed-clause-stops : goal.write_object-returns-in_err-embed-clause-stops
+write_object-returns-in_err-embed-clause-stops = stops.write_object-returns-in_err-embed-clause-stops
+
+pub write_wrapper-returns-in_default-clause-stops : goal.write_wrapper-returns-in_default-clause-stops
+write_wrapper-returns-in_default-clause-stops = stops.write_wrapper-returns-in_default-clause-stops
+
+pub write_code-returns-in_ok-from_str-in-Null-clause-stops : goal.write_code-returns-in_ok-from_str-in-Null-clause-stops
+write_code-returns-in_ok-from_str-in-Null-clause-stops = stops.write_code-returns-in_ok-from_str-in-Null-clause-stops
+
+pub write_code-returns-in_err-begun-in-Object-clause-stops : goal.write_code-returns-in_err-begun-in-Object-clause-stops
+write_code-returns-in_err-begun-in-Object-clause-stops = stops.write_code-returns-in_err-begun-in-Object-clause-stops
+
+pub write_code-returns-in_ok-end_object-in-Object-clause-stops : goal.write_code-returns-in_ok-end_object-in-Object-clause-stops
+write_code-returns-in_ok-end_object-in-Object-clause-stops = stops.write_code-returns-in_ok-end_object-in-Object-clause-stops

@@ -3,6 +3,7 @@ use Rattle.json.specs.Json.{value, items, members, members_step}
 use Rattle.bson_filter.specs.Walked.{from_key}
 use Rattle.bson_filter.proofs.Objects.{Key}
 use Rattle.bson_filter.proofs.Walking.{ItemsToGo, ToGo}
+use Rattle.bson_filter.proofs.Denials.{ItemsStill, MembersStill}
 use Rattle.bson_filter.proofs.walk.+walk.Given as goal
 
 abbrev pub decreases-write_value : goal.decreases-write_value
@@ -33,6 +34,8 @@ invariant-write_array-items g l = (length l.reader ≤ length l.initial.reader)
     × ItemsToGo l.doubles g.W.ValueWriter.wrote g.W.ValueWriter.name_of
     (items (value l.depth) (length l.initial.reader) l.initial.reader) (items (value l.depth) n l.reader) l.place
     l.initial.out l.out
+    × ItemsStill l.doubles (g.W.ValueWriter.leaves l.doubles) g.W.ValueWriter.sorts (items (value l.depth) (length l.initial.reader) l.initial.reader)
+    (items (value l.depth) n l.reader)
 
 abbrev pub decreases-write_array-items : goal.decreases-write_array-items
 decreases-write_array-items g l = length l.reader
@@ -45,6 +48,9 @@ invariant-write_document-members g l = (length l.reader ≤ length l.initial.rea
     (from_key l.depth (option_map (λ s. s.now) l.first) l.initial.reader)
     (members_step (value l.depth) (members (value l.depth) n) (option_map (λ s. s.now) l.next) l.reader)
     ks l.initial.out l.out
+    × MembersStill l.doubles (g.W.ValueWriter.leaves l.doubles) g.W.ValueWriter.sorts l.is_document
+    (from_key l.depth (option_map (λ s. s.now) l.first) l.initial.reader)
+    (members_step (value l.depth) (members (value l.depth) n) (option_map (λ s. s.now) l.next) l.reader)
 
 abbrev pub decreases-write_document-members : goal.decreases-write_document-members
 decreases-write_document-members g l = length l.reader

@@ -5,8 +5,8 @@ use Rattle.bson_filter.specs.declared.shown_text.ShownWriter.{ShownWriter}
 use Rattle.bson_filter.proofs.ShownInOrder.{document_added}
 use Rattle.bson_filter.proofs.shown_text.ShownWriter.end_in_order.Goals as goal
 
-pub returns : goal.returns
-returns c = λ start mid ps begun written keys.
+pub returns-clause-written : goal.returns-clause-written
+returns-clause-written c = λ start mid ps begun written keys.
     let now = c.args.self.now in
     let new = c.add.new.self in
     let kept : ShownWriter = record {

@@ -53,8 +53,8 @@ end_object-requires-clause-opened c =
     subst (λ starts. IsOpen (take c.args.begun.start texts) texts (pieces_from c.args.keys.now starts (length texts)))
     (sym (own_starts d c.deref.result.now c.deref.ensures.value)) (stands_open d)
 
-pub returns : goal.returns
-returns c = λ start mid ps begun written named.
+pub returns-clause-written : goal.returns-clause-written
+returns-clause-written c = λ start mid ps begun written named.
     let d = document_stands start mid c.args.self.now c.args.begun ps c.args.keys.now begun written named c.requires.ascending in
     let ks = c.args.keys.now in
     let texts = c.args.self.now.text.items in

@@ -4,8 +4,8 @@ use Rattle.bson_scalar.specs.Tokens.{tokens_of}
 use Rattle.bson_filter.proofs.Sorting.{part_added}
 use Rattle.bson_filter.proofs.sorted_text.SortedWriterValueWriter.boolean.Goals as goal
 
-pub returns : goal.returns
-returns c =
+pub returns-clause-written : goal.returns-clause-written
+returns-clause-written c =
     let t = boolean c.args.truth in (
       t,
       refl,

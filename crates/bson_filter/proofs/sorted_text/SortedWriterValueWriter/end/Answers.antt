@@ -1,4 +1,7 @@
-use Rattle.std.proofs.Common.{length, take, refl, sym, ap, ◌∙◌, subst, arith}
+use Rattle.std.proofs.lemmas.Result.{err_from_is_err_and}
+use Rattle.bson_scalar.specs.declared.form.Doubles.TheVariants.{Finite}
+use Rattle.bson_filter.proofs.Writers.{sorting_stops}
+use Rattle.std.proofs.Common.{◌≡◌, map, length, take, refl, sym, ap, ◌∙◌, subst, arith}
 use Rattle.std.specs.List.{All}
 use Rattle.bson_model.specs.Sorted.{sorted_pairs}
 use Rattle.bson_filter.specs.Pieces.{pieces_from, IsEnded, IsOpen, IsWithin}
@@ -48,8 +51,8 @@ end_object-requires-clause-opened c =
     subst (λ starts. IsOpen (take c.args.begun.start texts) texts (pieces_from c.args.keys.now starts (length texts)))
     (sym (own_starts d c.deref.result.now c.deref.ensures.value)) (stands_open d)
 
-pub returns : goal.returns
-returns c = λ start mid ps begun written named.
+pub returns-clause-written : goal.returns-clause-written
+returns-clause-written c = λ start mid ps begun written named.
     let (mode, form, d) = document_stands start mid c.args.self.now c.args.begun ps c.args.keys.now begun written named in
     let ks = c.args.keys.now in
     let texts = c.args.self.now.text.items in
@@ -59,3 +62,9 @@ returns c = λ start mid ps begun written named.
     (subst (λ starts. IsEnded (pieces_from ks starts (length texts)) (take c.args.begun.start texts) texts new)
     (own_starts d c.deref.result.now c.deref.ensures.value) c.in_ok-end_object.ensures.ended)) in
     (ms, is, (mode, form, refl, c.truncate.ensures.items ∙ others_held d, text))
+
+pub returns-in_err-end_object-clause-stops : goal.returns-in_err-end_object-clause-stops
+returns-in_err-end_object-clause-stops c =
+    let p = err_from_is_err_and c.from_residual.result c.from_residual.ensures.1 in
+    rw (p.1, p.2) (sorting_stops (λ D. D ≡ Finite) (map (λ k. k.now) c.args.keys.now) c.in_err-end_object.field-0.0
+    c.in_err-end_object.ensures.stops)

@@ -5,8 +5,8 @@ use Rattle.bson_filter.specs.SortedWritten.{next_text}
 use Rattle.bson_filter.proofs.PartTexts.{key_alone}
 use Rattle.bson_filter.proofs.sorted_text.SortedWriterValueWriter.key.Goals as goal
 
-pub returns : goal.returns
-returns c =
+pub returns-clause-written : goal.returns-clause-written
+returns-clause-written c =
     let k = c.args.name.now in
     let near = c.begin_part.new.self in
     let (mode, form, same, kept, comma) = c.in_ok-part.ensures.comma in

@@ -5,8 +5,8 @@ use Rattle.bson_scalar.specs.Written.{writes_scalar_in}
 use Rattle.bson_filter.proofs.Sorting.{part_added, printed, was_ok}
 use Rattle.bson_filter.proofs.sorted_text.SortedWriterValueWriter.scalar.Goals as goal
 
-pub returns : goal.returns
-returns c =
+pub returns-clause-written : goal.returns-clause-written
+returns-clause-written c =
     let near = c.begin_part.new.self in
     let x = scalar_view c.args.value in
     let comma = c.in_ok-part.ensures.comma in

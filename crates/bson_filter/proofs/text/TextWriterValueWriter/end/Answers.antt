@@ -5,8 +5,8 @@ use Rattle.bson_filter.proofs.Once.{once_is}
 use Rattle.bson_filter.proofs.Sending.{document_sent, with_out}
 use Rattle.bson_filter.proofs.text.TextWriterValueWriter.end.Goals as goal
 
-pub returns : goal.returns
-returns c = λ start mid ps begun written keys.
+pub returns-clause-written : goal.returns-clause-written
+returns-clause-written c = λ start mid ps begun written keys.
     let apart = subst AreDistinct (sym keys) (c.are_distinct.ensures.0 (grind arith)) in
     let new = with_out c.args.self.now c.end_object.new.self in
     subst (λ qs. PairsSent start qs new) (sym (once_is ps apart)) (document_sent ps start mid c.args.self.now new begun written

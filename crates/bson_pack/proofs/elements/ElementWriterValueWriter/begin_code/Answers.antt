@@ -6,14 +6,14 @@ use Rattle.bson_bytes.specs.Writing.{name_bytes}
 use Rattle.bson_pack.proofs.Put.{turned, room}
 use Rattle.bson_pack.proofs.elements.ElementWriterValueWriter.begin_code.Goals as goal
 
-pub returns : goal.returns
-returns c =
+pub returns-clause-written : goal.returns-clause-written
+returns-clause-written c =
     let s = c.args.code.now in
     let named = c.put_name.new.out.items in
     let begun = c.begin.new.self.bytes.items in
     let new = c.put_text.new.out.items in
     let name = c.in_ok-put_name.ensures.put in
-    let begins = c.in_ok-start.ensures in
+    let begins = c.in_ok-start.ensures.written in
     let told = rw c.in_ok-map_err.was at (turned {P = (put_text s begun ≡ Ok new) × (length begun ≤ length new)}
     c.put_text.result c.map_err.result new (put_text s begun) c.map_err.ensures.variant c.put_text.ensures.put
     c.put_text.ensures.grows (λ put grows. (put, grows))) in

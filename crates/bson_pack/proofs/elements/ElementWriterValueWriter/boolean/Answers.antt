@@ -5,8 +5,8 @@ use Rattle.bson_bytes.specs.Writing.{bool_byte}
 use Rattle.bson_pack.proofs.Put.{scalar_put}
 use Rattle.bson_pack.proofs.elements.ElementWriterValueWriter.boolean.Goals as goal
 
-pub returns : goal.returns
-returns c =
+pub returns-clause-written : goal.returns-clause-written
+returns-clause-written c =
     let b = c.args.truth in
     let named = c.put_name.new.out.items in
     let put : c.extend_from_slice.new.self.items ≡ named ++ bool_byte b ∷ [] = grind arith in

@@ -9,8 +9,8 @@ put_end-requires c =
     let here = array_room h.2 c.args.start h.3 h.0 h.1 c.args.self.now h.4 h.5 in
     omega (arith, here, c.args.self.now.bytes.ok)
 
-pub returns : goal.returns
-returns c =
+pub returns-clause-written : goal.returns-clause-written
+returns-clause-written c =
     let now = c.args.self.now in
     let new = c.put_end.new.out.items in
     turned c.put_end.result c.map_err.result new (put_end c.args.start now.bytes.items) c.map_err.ensures.variant

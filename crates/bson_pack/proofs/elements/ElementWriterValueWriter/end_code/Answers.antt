@@ -8,8 +8,8 @@ put_length-requires c =
     let h = c.requires in
     omega (arith, h.5.4, h.6.2, c.args.self.now.bytes.ok)
 
-pub returns : goal.returns
-returns c =
+pub returns-clause-written : goal.returns-clause-written
+returns-clause-written c =
     let now = c.args.self.now in
     let new = c.put_length.new.out.items in
     turned c.put_length.result c.map_err.result new (put_length c.args.start now.bytes.items) c.map_err.ensures.variant

@@ -2,5 +2,5 @@ use Rattle.std.proofs.Common.{refl, arith}
 use Rattle.std.proofs.lemmas.Str.{is_utf8-from_IsUtf8}
 use Rattle.bson_pack.proofs.elements.ElementWriterValueWriter.key.Goals as goal
 
-pub returns : goal.returns
-returns c = (refl, grind arith, is_utf8-from_IsUtf8 c.args.name.now c.utf8.name)
+pub returns-clause-written : goal.returns-clause-written
+returns-clause-written c = (refl, grind arith, is_utf8-from_IsUtf8 c.args.name.now c.utf8.name)

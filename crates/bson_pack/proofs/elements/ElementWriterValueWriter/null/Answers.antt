@@ -4,8 +4,8 @@ use Rattle.bson_scalar.specs.Scalar.{null}
 use Rattle.bson_pack.proofs.Put.{scalar_put}
 use Rattle.bson_pack.proofs.elements.ElementWriterValueWriter.null.Goals as goal
 
-pub returns : goal.returns
-returns c =
+pub returns-clause-written : goal.returns-clause-written
+returns-clause-written c =
     let named = c.put_name.new.out.items in
     scalar_put null tag.Null c.args.name.now c.args.self.now.bytes.items named named refl c.in_ok-put_name.ensures.put tt
     (ap Ok (append-nil named)) (omega arith)

@@ -6,8 +6,8 @@ use Rattle.bson_bytes.specs.Putting.{put_text}
 use Rattle.bson_pack.proofs.Put.{turned, scalar_put}
 use Rattle.bson_pack.proofs.elements.ElementWriterValueWriter.string.Goals as goal
 
-pub returns : goal.returns
-returns c =
+pub returns-clause-written : goal.returns-clause-written
+returns-clause-written c =
     let s = c.args.text.now in
     let named = c.put_name.new.out.items in
     let new = c.put_text.new.out.items in

@@ -1,0 +1,82 @@
+-- Why a walk stops, and what is then not so of the text.
+use Rattle.std.specs.Prelude.{◌≡◌, ℕ, List, Option, None, Some, true}
+use Rattle.json.specs.Strict.{AreDistinct}
+use Rattle.json.specs.Token.{Token}
+use Rattle.json.specs.declared.error.Error.{Error}
+use Rattle.json.specs.declared.error.Error.TheVariants as json_error
+use Rattle.bson_scalar.specs.Normal.{writable_scalar_in}
+use Rattle.bson_scalar.specs.Scalar.{Scalar}
+use Rattle.bson_scalar.specs.declared.error.Error.{Error as ReadError}
+use Rattle.bson_scalar.specs.declared.error.Error.TheVariants as read_error
+use Rattle.bson_scalar.specs.declared.form.Doubles.{Doubles}
+use Rattle.bson_scalar.specs.declared.write_error.WriteError.{WriteError}
+use Rattle.bson_scalar.specs.declared.write_error.WriteError.TheVariants as write_error
+use Rattle.bson_filter.specs.Pieces.{KeysAscend}
+use Rattle.bson_filter.specs.declared.stop.Stop.{Stop}
+use Rattle.bson_filter.specs.declared.stop.Stop.TheVariants.{OutOfMemory, DuplicateKey, GaveUp, Fault}
+
+abbrev pub stop_of : Error → Stop
+stop_of json_error.Invalid = Fault
+stop_of _ = OutOfMemory
+
+abbrev pub read_stop : ReadError → Stop
+read_stop read_error.OutOfMemory = OutOfMemory
+read_stop _ = Fault
+
+abbrev pub write_stop : WriteError → Stop
+write_stop write_error.OutOfMemory = OutOfMemory
+write_stop write_error.FiniteDouble = GaveUp
+
+-- A writer may stop for want of memory. It may give up a text that is read in a mode of doubles in which it gives up some.
+abbrev pub MayStop : (Doubles → Type 0) → Stop → Type 0
+MayStop Leaves OutOfMemory = Unit {0}
+MayStop Leaves DuplicateKey = ⊥
+MayStop Leaves GaveUp = (D : Doubles) → Leaves D
+MayStop Leaves Fault = ⊥
+
+-- At a scalar it may do so also if the scalar is not one that has a text in the mode.
+abbrev pub MayStopAt : (Doubles → Type 0) → Scalar → Stop → Type 0
+MayStopAt Leaves x OutOfMemory = Unit {0}
+MayStopAt Leaves x DuplicateKey = ⊥
+MayStopAt Leaves x GaveUp = (D : Doubles) → writable_scalar_in D x ≡ true → Leaves D
+MayStopAt Leaves x Fault = ⊥
+
+-- At the end of a document of these keys it may report that two of them are equal. A writer that sorts may give up keys
+-- that do not ascend.
+abbrev pub MayStopAtEnd : (Doubles → Type 0) → Type 0 → List (List ℕ) → Stop → Type 0
+MayStopAtEnd Leaves Sorts keys OutOfMemory = Unit {0}
+MayStopAtEnd Leaves Sorts keys DuplicateKey = AreDistinct keys → ⊥
+MayStopAtEnd Leaves Sorts keys GaveUp = (Sorts → KeysAscend None keys) → (D : Doubles) → Leaves D
+MayStopAtEnd Leaves Sorts keys Fault = ⊥
+
+-- the same in one mode
+abbrev pub IsWriters : Type 0 → Stop → Type 0
+IsWriters Leaves OutOfMemory = Unit {0}
+IsWriters Leaves DuplicateKey = ⊥
+IsWriters Leaves GaveUp = Leaves
+IsWriters Leaves Fault = ⊥
+
+abbrev pub EndsBy : Type 0 → Type 0 → List (List ℕ) → Stop → Type 0
+EndsBy Leaves Sorts keys OutOfMemory = Unit {0}
+EndsBy Leaves Sorts keys DuplicateKey = AreDistinct keys → ⊥
+EndsBy Leaves Sorts keys GaveUp = (Sorts → KeysAscend None keys) → Leaves
+EndsBy Leaves Sorts keys Fault = ⊥
+
+-- a fault becomes none
+abbrev pub IsBehind : Stop → Stop → Type 0
+IsBehind OutOfMemory e = e ≡ OutOfMemory
+IsBehind DuplicateKey e = e ≡ DuplicateKey
+IsBehind GaveUp e = e ≡ GaveUp
+IsBehind Fault e = e ≡ GaveUp
+
+-- what a stop denies: a text that is left, that it is one that stays; a key twice, that each key stands once; a fault,
+-- that each does and that there is a meaning; want of memory nothing
+abbrev pub Denied : Stop → Type 0 → Type 0 → Type 0 → Type 0
+Denied OutOfMemory Stays Once Means = ⊥
+Denied DuplicateKey Stays Once Means = Once
+Denied GaveUp Stays Once Means = Stays
+Denied Fault Stays Once Means = Once × Means
+
+-- nothing of the kind was parsed
+abbrev pub Lacks : {X : Type 0} → Option (X × List Token) → (X → List Token → Type 0) → Type 0
+Lacks {X} parsed Is = (x : X) (rest : List Token) → parsed ≡ Some (x, rest) → Is x rest → ⊥
