@@ -1,0 +1,4 @@
+pub mod Skips
+pub mod Steps
+pub mod Found
+pub mod Finding

@@ -1,0 +1,4 @@
+pub mod Raw
+pub mod Contents
+pub mod View
+pub mod Skip

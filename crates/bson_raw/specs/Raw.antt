@@ -1,0 +1,37 @@
+-- What is read in the bytes of a document.
+use Rattle.std.specs.Prelude.{◌≡◌, ℕ, List, length, Option, None, Some, Result, Ok, Err, cond}
+use Rattle.std.specs.Str.{bytes_eq}
+use Rattle.std.specs.Borrow.{Bor}
+use Rattle.bson_types.specs.declared.spec.ElementType.{ElementType}
+use Rattle.bson_model.specs.Value.{Value, Pairs, no_pairs, pair}
+use Rattle.bson_bytes.specs.Fault.{◌>>=◌}
+use Rattle.bson_bytes.specs.Reading.{list_at, value_with, document_in}
+use Rattle.bson_bytes.specs.declared.fault.Fault.{Fault}
+use Rattle.bson_bytes.specs.declared.keys.DuplicateKeys.TheVariants.{Replace}
+
+-- the pairs that were read, or none if reading fails
+abbrev pub pairs_read : Result (Pairs × List ℕ) Fault → Pairs
+pairs_read (Ok x) = x.0
+pairs_read (Err f) = no_pairs
+
+-- what was read, without the bytes after it
+abbrev pub value_read : {A : Type 0} → Result (A × List ℕ) Fault → Result A Fault
+value_read read = read >>= λ x. Ok x.0
+
+-- the elements at the front of the bytes, to the byte 0
+abbrev pub elements_at : ℕ → List ℕ → Result (Pairs × List ℕ) Fault
+elements_at d bytes = list_at (value_with Replace (document_in Replace d)) None (length bytes) bytes
+
+-- the value of the last pair with the key, or this one if there is no such pair
+abbrev pub last_of : List ℕ → Option Value → Pairs → Option Value
+last_of k o no_pairs = o
+last_of k o (pair l v ps) = last_of k (cond (bytes_eq k l) (Some v) o) ps
+
+-- the value is read as one of this type at the front of the bytes
+abbrev pub BeginsWith : ℕ → ElementType → List ℕ → Value → Type 0
+BeginsWith d kind bytes v = (rest : List ℕ) × (value_with Replace (document_in Replace d) kind bytes ≡ Ok (v, rest))
+
+-- the value's type and the bytes that begin with it, if there is a value
+abbrev pub IsAt : ℕ → Option (ElementType × Bor (List ℕ)) → Option Value → Type 0
+IsAt d None o = o ≡ None
+IsAt d (Some r) o = (v : Value) × (o ≡ Some v) × BeginsWith d r.0 r.1.now v
