@@ -7,7 +7,7 @@ use Rattle.std.specs.Result.{is_ok}
 use Rattle.std.specs.Str.{bytes_eq}
 use Rattle.std.proofs.lemmas.Bool.{le-ltb}
 use Rattle.bson_types.specs.declared.spec.ElementType.{ElementType}
-use Rattle.bson_model.specs.Value.{Value, Pairs, no_pairs, pair, get}
+use Rattle.bson_model.specs.Value.{Value, Pairs, no_pairs, get}
 use Rattle.bson_bytes.specs.declared.fault.Fault.{Fault}
 use Rattle.bson_bytes.specs.declared.keys.DuplicateKeys.TheVariants.{Replace}
 use Rattle.bson_bytes.specs.Grammar.{one_each}

@@ -10,19 +10,17 @@ use Rattle.bson_types.specs.declared.spec.ElementType.{ElementType}
 use Rattle.bson_types.specs.declared.spec.ElementType.TheVariants as tag
 use Rattle.bson_types.specs.Subtype.{subtype_of}
 use Rattle.bson_scalar.specs.Scalar as kind
-use Rattle.bson_model.specs.Value.{Value, Pairs, no_pairs, pair, scalar, code_scope, array, document}
+use Rattle.bson_model.specs.Value.{Value, Pairs, no_pairs, scalar, code_scope, array, document}
 use Rattle.bson_bytes.specs.declared.fault.Fault.{Fault}
 use Rattle.bson_bytes.specs.declared.fault.FaultKind.{FaultKind}
-use Rattle.bson_bytes.specs.declared.fault.FaultKind.TheVariants.{Short, Length, Tag, Utf8, Boolean}
+use Rattle.bson_bytes.specs.declared.fault.FaultKind.TheVariants.{Short, Length, Utf8, Boolean}
 use Rattle.bson_bytes.specs.declared.keys.DuplicateKeys.TheVariants.{Replace}
 use Rattle.bson_bytes.specs.Fault.{at, ◌>>=◌, or_fault}
 use Rattle.bson_bytes.specs.Grammar.{values, settle}
 use Rattle.bson_bytes.specs.Reading.{byte_at, bytes_at, number_at, size_at, zero_at, split_zero, behind, utf8_at, name_at}
 use Rattle.bson_bytes.specs.Reading.{text_at, old_binary_at, plain_binary_at, binary_at, boolean_at, regex_at, pointer_at}
-use Rattle.bson_bytes.specs.Reading.{timestamp_at, mapped, settled, scope_at, value_with, list_at, sized, document_in}
-use Rattle.bson_bytes.specs.Tags.{kind_of}
-use Rattle.bson_bytes.proofs.Offered.{elements}
-use Rattle.bson_raw.specs.Skip.{skip, length_at, skip_sized, skip_name, skip_regex, skip_value}
+use Rattle.bson_bytes.specs.Reading.{timestamp_at, mapped, settled, scope_at, value_with, document_in}
+use Rattle.bson_raw.specs.Skip.{skip, length_at, skip_sized, skip_regex, skip_value}
 
 -- ---- steps
 

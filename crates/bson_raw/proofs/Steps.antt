@@ -1,7 +1,6 @@
 -- The elements of a valid document, one at a time.
 use Rattle.std.proofs.Common.{◌≡◌, ℕ, zero, suc, ◌+◌, ◌-◌, ◌≤◌, Bool, true, false, cond, eqb, List, [], ◌∷◌, length}
-use Rattle.std.proofs.Common.{Option, Some, None, Result, Ok, Err, refl, sym, ap, ◌∙◌, subst, arith, inl, inr, ◌⊎◌}
-use Rattle.std.specs.Prelude.{option_map, option_and_then}
+use Rattle.std.proofs.Common.{Option, Some, None, Result, Ok, refl, sym, ap, ◌∙◌, subst, arith, inl, inr, ◌⊎◌}
 use Rattle.std.specs.Str.{is_utf8}
 use Rattle.std.proofs.Math.Numerals.{sub-one}
 use Rattle.std.proofs.lemmas.Bool.{eqb-true}
@@ -14,9 +13,9 @@ use Rattle.bson_bytes.specs.Fault.{at, ◌>>=◌, or_fault}
 use Rattle.bson_bytes.specs.Reading.{byte_at, size_at, split_zero, name_at, value_with, list_at, sized, document_in}
 use Rattle.bson_bytes.specs.Tags.{kind_of}
 use Rattle.bson_bytes.proofs.Offered.{elements}
-use Rattle.bson_raw.specs.Skip.{element_at, length_at, skip_value}
+use Rattle.bson_raw.specs.Skip.{element_at, skip_value}
 use Rattle.bson_raw.proofs.Skips.{bind_ok, ok_is, if_ok, or_fault_ok, first_is, rest_is, Follows, follows_then, follows_length}
-use Rattle.bson_raw.proofs.Skips.{Ahead, ahead_then, byte_follows, name_split, Skips, Sized, DocumentSkips, value_skips}
+use Rattle.bson_raw.proofs.Skips.{Ahead, ahead_then, byte_follows, name_split, Skips, DocumentSkips, value_skips}
 use Rattle.bson_raw.proofs.Skips.{size_follows, same_length}
 
 -- no element is left

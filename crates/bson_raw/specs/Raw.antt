@@ -22,7 +22,7 @@ value_read read = read >>= λ x. Ok x.0
 abbrev pub elements_at : ℕ → List ℕ → Result (Pairs × List ℕ) Fault
 elements_at d bytes = list_at (value_with Replace (document_in Replace d)) None (length bytes) bytes
 
--- the value of the last pair with the key, or this one if there is no such pair
+-- the value of the last pair with the key, or this one if no pair has the key
 abbrev pub last_of : List ℕ → Option Value → Pairs → Option Value
 last_of k o no_pairs = o
 last_of k o (pair l v ps) = last_of k (cond (bytes_eq k l) (Some v) o) ps

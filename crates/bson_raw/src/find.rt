@@ -13,7 +13,7 @@ use crate::value::RawBsonRef;
 use bson_types::spec::ElementType;
 
 impl<'a> RawDocument<'a> {
-    /// Returns the value of the key, or `None` if the document has no such key. If the key is
+    /// Returns the value of the key, or `None` if the document does not contain the key. If the key is
     /// duplicated, its last value wins. It passes the other values by their lengths.
     pub fn get(&self, key: &str) -> Option<RawBsonRef<'a>>
         ensures { option_map raw_view result ≡ get key.now (contents self.now) }

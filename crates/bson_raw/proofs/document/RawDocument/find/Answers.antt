@@ -1,7 +1,7 @@
 use Rattle.std.proofs.Common.{◌≡◌, ◌-◌, Some, None, List, ℕ, drop, arith, sym, subst, ◌∙◌}
 use Rattle.bson_model.specs.Value.{get}
 use Rattle.bson_raw.specs.Contents.{contents}
-use Rattle.bson_raw.specs.Skip.{element_at, skip, skip_value}
+use Rattle.bson_raw.specs.Skip.{skip, skip_value}
 use Rattle.bson_raw.proofs.Finding.{Finds, has_length, finds_first, finds_last, finds_more, took_from}
 use Rattle.bson_raw.proofs.Finding.{some_found, none_found, some_next, none_next}
 use Rattle.bson_raw.proofs.Steps.{some_is}
