@@ -82,6 +82,9 @@ def try_texts():
                          ('{"a":{"b":1},"a.b":1.5}', (*extended, ["a", "b"], None, None, None)), ('[[],[],{"":[1.5]}]', (*extended, [2, "", 0], None, None, None)),
                          ('{"a":1,"b":{"$oid":"5"}}', (vbson.BadObjectId, vbson.BAD_OBJECT_ID, ["b", "$oid"], None, None, None))):
         want(f"{text} and its fields", fields(vbson.convert, text, **STRICT), wanted)
+    for text, wanted in (('{"a":1,\n"b":\n  1e400,\n"c": 5\n}\n', (3, 3, 15)), ("[1,\n\n", (2, 1, 4)), ("[1]\n\n x", (3, 2, 6)), ('["a\nb",\n1]', (1, 2, 1)),
+                         ('[\n1,\n"\\x"\n]', (3, 1, 5)), ("[\n\n1,\n\u00e9\n", (4, 1, 6)), ("", (1, 1, 0))):
+        want(f"the place in {text!r}", fields(vbson.loads, text)[3:], wanted)
     block = b'\xef\xbb\xbf[1]\n\n{"a":\n{"a.b":[1,1.5]}\n[1'
     wanted = [(3, False, [], 3), (4, False, ["a.b", 1], 4), (5, False, [], 5)]
     found = [(number, False, it.path, it.line) for number, it in vbson.convert_lines(block, **STRICT)[1]]

@@ -1,4 +1,5 @@
 """The errors of the library, as data. Only this module reads the library's messages."""
+import math
 import re
 from typing import List, Optional, Union
 
@@ -130,6 +131,7 @@ _OF_ID = re.compile(r" at (.*?\$(?:oid|dbPointer))" + _ON_ID, re.S)
 _OF_LONG = re.compile(r" at (.*?\.\.)" + _ON_ID, re.S)
 _OF_SHAPE = re.compile(r"(?: at (.*?))? \(([^(]*?(?:; found .*)?)\)", re.S)
 _OF_JSON = re.compile(r" at column (\d+) \((.*)\)", re.S)
+_NUMBER = re.compile(rb"-?[0-9]+(?:\.[0-9]+)?(?:[eE][+-]?[0-9]+)?")
 _OF_BYTES = re.compile(r" at byte (\d+) \((.*)\)")
 _OF_LINE = re.compile(rf"bson_lines: line (\d+): ({'|'.join(_STATUSES)})(.*)", re.S)
 _OF_DOCUMENT = re.compile(r"document (\d+) at byte (\d+): (.*?)(?: at its byte (\d+))?")
@@ -140,15 +142,15 @@ def is_of_text(status):
     return status in _OF_TEXTS
 
 
-def of_text(status, words, text):
-    """Returns the error of a rejected text, from the words of `explain`, which are empty if memory ran out."""
+def of_text(status, words, text, start=0):
+    """Returns the error of a rejected text, from the words of `explain`, which are empty if memory ran out. The line whose
+    column they name begins at the start."""
     kind = _ERRORS[status][1]
     rest = words.removeprefix(kind)
     found = _OF_JSON.fullmatch(rest) if status == NOT_JSON else None
     if found:
-        error = NotJson(words, found[2], offset=int(found[1]) - 1)
-        error.line = text.count(b"\n", 0, error.offset) + 1
-        error.column = error.offset - text.rfind(b"\n", 0, error.offset)
+        error = NotJson(words, found[2], offset=start + int(found[1]) - 1)
+        error.line, error.column = text.count(b"\n", 0, start) + 1, int(found[1])
         return error
     if status == BAD_OBJECT_ID:
         found = _OF_ID.fullmatch(rest) or _OF_LONG.fullmatch(rest)
@@ -156,6 +158,23 @@ def of_text(status, words, text):
         found = _OF_SHAPE.fullmatch(rest)
     path = _paths.in_text(text, found[1] or "") if found else ()
     return _ERRORS[status][0](words or kind, found[2] if found else kind, path, code=status)
+
+
+def start_of_line(words, text, explained):
+    """Returns where the line of a text begins whose column the words of `explain` name. explained returns those of a part."""
+    ends = [it.end() for it in re.finditer(b"\n", text)] + [len(text)]
+    found = _OF_JSON.search(words)
+    if found is None or found[2] == "the text ends before its value is whole":
+        return text.rfind(b"\n", 0, max(0, len(text) - 1)) + 1
+    if found[2] == "a number is out of range":
+        numbers = ((start, _NUMBER.match(text, start + int(found[1]) - 1)) for start in [0, *ends])
+        return next((start for start, it in numbers if it and math.isinf(float(it[0]))), 0)
+    low, high = 0, len(ends) - 1
+    while low < high:
+        # (the lines up to that of the error have the same error, and fewer lines end early)
+        middle = (low + high) // 2
+        low, high = (low, middle) if explained(text[:ends[middle]]) == words else (middle + 1, high)
+    return ends[low - 1] if low else 0
 
 
 def of_lines(diagnostics, block):

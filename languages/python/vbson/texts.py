@@ -18,7 +18,8 @@ def expect_accepted(status, flags, *texts):
         # (only a text that was rejected is read again; without memory for the words, the error has no path)
         said = ((it, _calls.text_of(_calls.library.vbson_explain, flags, it, len(it))) for it in texts)
         text, words = next(((it, words) for it, (found, words) in said if words or found != errors.OK), (b"", ""))
-        raise errors.of_text(status, words, text)
+        explained = lambda part: _calls.text_of(_calls.library.vbson_explain, flags, part, len(part))[1]
+        raise errors.of_text(status, words, text, errors.start_of_line(words, text, explained) if status == errors.NOT_JSON else 0)
     errors.expect_ok(status)
 
 
